@@ -1,0 +1,6 @@
+pub mod Accepted
+mod Sums
+mod Exits
+mod Moves
+pub mod Kept
+pub mod Stands

@@ -1,0 +1,26 @@
+//! The rules of the root contract, as definitions: what a log of accepted calls says, the answer to
+//! each further call, and the money of every account. Its laws hold of every list of calls.
+#![tactic(auto)]
+
+mod call;
+mod laws;
+mod log;
+
+pub use call::{Answer, Coin, Exit, Movement, Owner, Refusal, RootCall};
+pub use laws::{balances_are_covered, exits_stand, logs_are_legal, money_is_kept};
+pub use log::RootLog;
+
+/// The bond of an exit.
+pub const EXIT_BOND: u64 = 100;
+
+/// The seconds from an exit's start until it may be finished.
+pub const EXIT_PERIOD: u64 = 907_200;
+
+/// The most money that is ever funded: 2 ^ 62.
+pub const MOST_MONEY: u64 = 4_611_686_018_427_387_904;
+
+/// The last time that the clock can show, in seconds: 2 ^ 40.
+pub const LAST_TIME: u64 = 1_099_511_627_776;
+
+/// The bytes that a public key begins with: LMS type 5 and one-time type 4, each as a u32 (RFC 8554).
+pub const KEY_TYPES: [u8; 8] = [0, 0, 0, 5, 0, 0, 0, 4];
