@@ -1,13 +1,14 @@
 -- Money is neither made nor lost.
-use Rattle.std.proofs.Common.{◌≡◌, ℕ, ◌+◌, ◌<◌, true, false, if◌then◌else◌, List, [], ◌∷◌, refl, arith}
+use Rattle.std.proofs.Common.{Some, ◌≤◌, ◌≡◌, ℕ, ◌+◌, ◌<◌, true, false, if◌then◌else◌, List, [], ◌∷◌, refl, arith}
 use Rattle.root_rules.specs.declared.call.RootCall.{RootCall}
 use Rattle.root_rules.specs.declared.call.RootCall.TheVariants.{Fund, Tick, Deposit, StartDeposit, Finish}
-use Rattle.root_rules.specs.Views.{coins, coin_at, exits, exit_at, is_withdrawn}
-use Rattle.root_rules.specs.Money.{balance_of, funded, sum_below, account_of, AccountsBelow}
+use Rattle.root_rules.specs.declared.call.Exit.{Exit}
+use Rattle.root_rules.specs.Views.{is_withdrawn, coin_at, coins, exits, exit_at}
+use Rattle.root_rules.specs.Money.{finish_pays, amount_of, pays, takes, balance_of, funded, sum_below, account_of, AccountsBelow}
 use Rattle.root_rules.specs.Table.{Rules, answer_to, is_accepted, log_after, log_after_all}
 use Rattle.root_rules.specs.Laws.{IsLegal, IsBalanced, LogsAreLegal, MoneyIsKept, BalancesAreCovered}
 use Rattle.root_rules.proofs.Accepted.{deposit_covered, starts, finishes}
-use Rattle.root_rules.proofs.Sums.{sum_below-zero, sum_below-term, sum_below-balance_of}
+use Rattle.root_rules.proofs.Sums.{total, sum_below-zero, sum_below-term, sum_below-balance_of}
 use Rattle.root_rules.proofs.Moves.{Sound, Moves, moves-Fund, moves-Tick, moves-Deposit, moves-StartDeposit, moves-Finish}
 
 moves : (rules : Rules) (n : ℕ) (log : List RootCall) → Sound n log → (call : RootCall) → account_of call < n → is_accepted (answer_to rules log call) ≡ true → Moves n log call
@@ -87,3 +88,12 @@ pub covered : BalancesAreCovered
 covered rules log account legal =
     let n : ℕ = above account log + 0 in
     omega (arith, (kept rules n log (below-above account 0 log) legal).money, sum_below-term (balance_of log) n account (omega (arith, own-above account log)))
+
+-- what a finish pays, with one balance, is no more than all that was funded
+pub finish-covered : (rules : Rules) (log : List RootCall) (account c e : ℕ) (exit : Exit) → IsLegal rules log → exit_at log c e ≡ Some exit → balance_of log account + total (finish_pays (is_withdrawn log c) (amount_of (coin_at log c)) (Some exit)) ≤ funded log
+unfolding funded pays takes
+finish-covered rules log account c e exit legal there =
+    let n : ℕ = above account log + 0 in
+    let sound = (kept rules n log (below-above account 0 log) legal).sound in
+    let moved = (moves-Finish n log sound 0 c e exit there).held_moves in
+    omega (arith, covered rules log account legal, rw there at moved)

@@ -1,5 +1,5 @@
 pub mod Accepted
-mod Sums
+pub mod Sums
 mod Exits
 mod Moves
 pub mod Kept
