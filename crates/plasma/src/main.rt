@@ -1,0 +1,29 @@
+//! The program: it runs `replay_run::run` on the words of the command line, standard input and
+//! standard output, and ends with the run's status.
+#![tactic(auto)]
+
+use plasma_outside::{StdSink, StdSource};
+use replay_run::{Status, run};
+use std::alloc::AllocError;
+use std::io::writer;
+use std::process::ExitCode;
+use std::env;
+
+fn main(rt: HostRuntime) -> ExitCode {
+    let mut source = StdSource::make(rt.reader());
+    let mut sink = StdSink::make(writer(&rt));
+    let status = match words(&rt) {
+        Ok(words) => run(rt.alloc(), &words, &mut source, &mut sink),
+        Err(AllocError) => Status::NoMemory,
+    };
+    ExitCode::from(status.code())
+}
+
+/// The words after the program's name. Words that aren't text are no form, and neither is no word.
+fn words(rt: &HostRuntime) -> Result<Vec<String>, AllocError> {
+    let alloc = rt.alloc();
+    match env::args(rt) {
+        Ok(words) => words.skip(1).collect(alloc),
+        Err(_) => Ok(Vec::new(alloc)),
+    }
+}

@@ -1,0 +1,43 @@
+-- Inputs and outputs in memory, and what each call of theirs does.
+use Rattle.std.specs.Prelude.{ℕ, ◌+◌, min, Bool, ◌==◌, if◌then◌else◌, List, ◌++◌, length, drop, slice_index_or, Result, Ok, Err}
+use Rattle.std.specs.List.{list_any}
+use Rattle.plasma_outside.specs.Causes.{counted}
+use Rattle.plasma_outside.specs.declared.sink.SinkRefusal.{SinkRefusal}
+use Rattle.plasma_outside.specs.declared.sink.SinkRefusal.TheVariants.{Failed, NoMemory}
+
+-- an input: the bytes that are left, the length of each call's piece, the numbers of the calls that are to fail,
+-- and how many calls and faults there were
+pub record MemInput : Type 0 where
+  pub bytes : List ℕ
+  pub pieces : List ℕ
+  pub fails : List ℕ
+  pub calls : ℕ
+  pub faults : ℕ
+
+-- an output: the bytes that it holds, the numbers of the calls that are to fail, and how many calls and faults there were
+pub record MemOutput : Type 0 where
+  pub bytes : List ℕ
+  pub fails : List ℕ
+  pub calls : ℕ
+  pub faults : ℕ
+
+-- whether the call after so many is to fail: its number, counted from 1, is on the list
+abbrev pub is_to_fail : List ℕ → ℕ → Bool
+is_to_fail fails calls = list_any (λ number. number == calls + 1) fails
+
+-- how many bytes the next take gives: as many as the piece of its number says, or as the room and the rest allow where
+-- that is fewer. Past the last piece it is as many as fit
+abbrev pub bytes_given : MemInput → ℕ → ℕ
+bytes_given input room = min (slice_index_or input.pieces input.calls room) (min room (length input.bytes))
+
+-- the input after a take into so much room
+abbrev pub after_take : MemInput → ℕ → MemInput
+after_take input room =
+    if is_to_fail input.fails input.calls then record input { calls = counted input.calls; faults = counted input.faults }
+    else record input { calls = counted input.calls; bytes = drop (bytes_given input room) input.bytes }
+
+-- the output after a put that was answered so
+abbrev pub after_put : MemOutput → List ℕ → Result Unit SinkRefusal → MemOutput
+after_put output bytes (Ok done) = record output { calls = counted output.calls; bytes = output.bytes ++ bytes }
+after_put output bytes (Err Failed) = record output { calls = counted output.calls; faults = counted output.faults }
+after_put output bytes (Err NoMemory) = record output { calls = counted output.calls }

@@ -1,0 +1,169 @@
+ghost use Rattle.std.specs.Prelude.{◌≡◌, ◌≤◌, ◌<◌, ◌+◌, ◌↔◌, ℕ, List, [], length, slice_index_or, Some, IsTrue, IsErr, IsErrOf, IfOk};
+ghost use Rattle.std.specs.List.{All};
+ghost use Rattle.std.specs.Io.{ReadsAtMost};
+ghost use Rattle.plasma_outside.specs.Causes.{HasCause, HasSinkCause};
+ghost use Rattle.plasma_outside.specs.Outside.{Takes, Puts};
+ghost use Rattle.plasma_outside.specs.Memory.{is_to_fail, bytes_given, after_take, after_put};
+
+use super::sink::{Sink, SinkRefusal};
+use super::source::{Source, SourceFailed};
+use std::alloc::Global;
+use std::marker::Model;
+
+// Whether the call after so many is on the list. The number after `u64::MAX` is on none.
+fn is_on_list(fails: &[u64], calls: u64) -> bool
+    ensures { result ≡ is_to_fail fails.now calls }
+{
+    let number = u128::from(calls) + 1;
+    fails.iter().any(|fail| u128::from(*fail) == number)
+}
+
+// The length of the piece at a place, or what there is room for where there is none.
+fn piece_at(pieces: &[u64], place: u64, room: usize) -> usize
+    ensures { result ≡ slice_index_or pieces.now place room }
+{
+    match pieces.get(place as usize) {
+        Some(piece) => *piece as usize,
+        None => room,
+    }
+}
+
+/// A source in memory that hands its bytes out in pieces, and fails at the calls on a list.
+#[derive(Drop)]
+pub struct MemSource {
+    bytes: Vec<u8>,
+    place: usize,
+    pieces: Vec<u64>,
+    fails: Vec<u64>,
+    calls: u64,
+    faults: u64,
+}
+
+impl Model for MemSource {
+    ghost use Rattle.std.specs.Prelude.{◌≤◌, drop, length};
+    ghost use Rattle.std.specs.List.{All};
+    ghost use Rattle.plasma_outside.specs.Memory.{MemInput};
+
+    ghost Value = { MemInput };
+
+    ghost view = { λ s. record {
+      bytes = drop s.place s.bytes.items;
+      pieces = s.pieces.items;
+      fails = s.fails.items;
+      calls = s.calls;
+      faults = s.faults;
+    } };
+
+    ghost invariant = { λ s. (s.place ≤ length s.bytes.items) × All (λ piece. 1 ≤ piece) s.pieces.items };
+}
+
+impl MemSource {
+    /// A source of these bytes. Its calls are counted from 1: the k-th call of `take` gives as many
+    /// bytes as the k-th piece says, and fails where k is in `fails`. A call that fails gives none of
+    /// its piece, and the next call has the next piece.
+    pub fn make(bytes: Vec<u8>, pieces: Vec<u64>, fails: Vec<u64>) -> MemSource
+        requires { All (λ piece. 1 ≤ piece) pieces.items }
+        ensures { result ≡ record { bytes = bytes.items; pieces = pieces.items; fails = fails.items; calls = 0; faults = 0 } }
+    {
+        MemSource {
+            bytes,
+            place: 0,
+            pieces,
+            fails,
+            calls: 0,
+            faults: 0,
+        }
+    }
+}
+
+impl Source for MemSource {
+    ghost left = { λ input. Some input.bytes };
+
+    ghost faults = { λ input. input.faults };
+
+    fn take(&mut self, room: &mut [u8]) -> Result<usize, SourceFailed>
+        requires { 0 < length room.old }
+        ensures bound { ReadsAtMost result room.new }
+        ensures bytes { Takes (Some self.old.bytes) (Some self.new.bytes) result room.new }
+        ensures cause { HasCause self.old.faults self.new.faults result }
+        ensures fails { IsErr result ↔ IsTrue (is_to_fail self.old.fails self.old.calls) }
+        ensures count { IfOk result (λ n. n ≡ bytes_given self.old (length room.old)) }
+        ensures after { self.new ≡ after_take self.old (length room.old) }
+    {
+        let piece = piece_at(&self.pieces, self.calls, room.len());
+        let fails = is_on_list(&self.fails, self.calls);
+        self.calls = self.calls.saturating_add(1);
+        if fails {
+            self.faults = self.faults.saturating_add(1);
+            return Err(SourceFailed);
+        }
+        let rest = &self.bytes[self.place..];
+        let count = piece.min(room.len().min(rest.len()));
+        room[..count].copy_from_slice(&rest[..count]);
+        self.place += count;
+        Ok(count)
+    }
+}
+
+/// A sink in memory that fails at the calls on a list.
+#[derive(Drop)]
+pub struct MemSink {
+    bytes: Vec<u8>,
+    fails: Vec<u64>,
+    calls: u64,
+    faults: u64,
+}
+
+impl Model for MemSink {
+    ghost use Rattle.plasma_outside.specs.Memory.{MemOutput};
+
+    ghost Value = { MemOutput };
+
+    ghost view = { λ s. record { bytes = s.bytes.items; fails = s.fails.items; calls = s.calls; faults = s.faults } };
+}
+
+impl MemSink {
+    /// A sink that holds nothing. Its calls are counted from 1: the k-th call of `put_all` fails where
+    /// k is in `fails`.
+    pub fn make(alloc: Global, fails: Vec<u64>) -> MemSink
+        ensures { result ≡ record { bytes = []; fails = fails.items; calls = 0; faults = 0 } }
+    {
+        MemSink {
+            bytes: Vec::new(alloc),
+            fails,
+            calls: 0,
+            faults: 0,
+        }
+    }
+
+    /// The bytes that the sink holds, lent.
+    pub fn bytes(&self) -> &[u8]
+        ensures { result.now ≡ self.now.bytes }
+    {
+        self.bytes.as_slice()
+    }
+}
+
+impl Sink for MemSink {
+    ghost held = { λ output. Some output.bytes };
+
+    ghost faults = { λ output. output.faults };
+
+    /// A call that fails, or finds no memory, puts nothing; one that finds no memory isn't counted as
+    /// a fault.
+    fn put_all(&mut self, bytes: &[u8]) -> Result<(), SinkRefusal>
+        ensures bytes { Puts (Some self.old.bytes) (Some self.new.bytes) result bytes.now }
+        ensures cause { HasSinkCause self.old.faults self.new.faults result }
+        ensures fails { IsErrOf result SinkRefusal.Failed ↔ IsTrue (is_to_fail self.old.fails self.old.calls) }
+        ensures after { self.new ≡ after_put self.old bytes.now result }
+    {
+        let fails = is_on_list(&self.fails, self.calls);
+        self.calls = self.calls.saturating_add(1);
+        if fails {
+            self.faults = self.faults.saturating_add(1);
+            return Err(SinkRefusal::Failed);
+        }
+        self.bytes.extend_from_slice(bytes)?;
+        Ok(())
+    }
+}

@@ -1,0 +1,29 @@
+ghost use Rattle.std.specs.Prelude.{◌<◌, ℕ, List, length, Option};
+ghost use Rattle.std.specs.Io.{ReadsAtMost};
+ghost use Rattle.plasma_outside.specs.Causes.{HasCause};
+ghost use Rattle.plasma_outside.specs.Outside.{Takes};
+
+use thiserror::Error;
+
+/// A source failed, and counted it.
+#[derive(Debug, Clone, Copy, PartialEq, Eq, Error)]
+#[error("the source failed")]
+pub struct SourceFailed;
+
+/// An input that is read from the front.
+pub trait Source {
+    /// The bytes that are left, where the source tells them.
+    ghost left: { Self → Option (List ℕ) };
+
+    /// How often the source has failed; it stops at `u64::MAX`.
+    ghost faults: { Self → ℕ };
+
+    /// Takes the next bytes into a beginning of `room`, which isn't empty, and answers how many: 0
+    /// only at the end of the input. `SourceFailed` comes only where the count of faults rose, and
+    /// takes nothing.
+    fn take(&mut self, room: &mut [u8]) -> Result<usize, SourceFailed>
+        requires { 0 < length room.old }
+        ensures bound { ReadsAtMost result room.new }
+        ensures bytes { Takes (left self.old) (left self.new) result room.new }
+        ensures cause { HasCause (faults self.old) (faults self.new) result };
+}

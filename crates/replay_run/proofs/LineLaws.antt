@@ -1,0 +1,59 @@
+-- The first line of an input ends at the first line feed.
+use Rattle.std.proofs.Common.{◌≡◌, ℕ, zero, suc, ◌+◌, ◌-◌, ◌<◌, ◌≤◌, ◌==◌, Bool, true, false, cond, not, if◌then◌else◌, List, [], ◌∷◌, ◌++◌, length, take, drop, refl, sym, ap, ◌∙◌, arith, add-one}
+use Rattle.std.proofs.Math.Numerals.{one-add}
+use Rattle.std.specs.List.{position_or_len}
+use Rattle.std.specs.Prelude.{slice_index}
+use Rattle.std.proofs.Common.{position, Some, None}
+use Rattle.std.proofs.lemmas.Bool.{true≢false}
+use Rattle.std.proofs.lemmas.List.{length-take, length-drop}
+use Rattle.root_contract.proofs.Places.{position-is, position-none}
+use Rattle.replay_run.specs.Lines.{lines_in, is_feed, is_whole, before_lines, CutsLine}
+
+-- with a line feed, the first line ends behind it
+pub lines_in-cut : (bytes : List ℕ) → position_or_len is_feed bytes < length bytes → lines_in bytes ≡ take (position_or_len is_feed bytes + 1) bytes ∷ lines_in (drop (position_or_len is_feed bytes + 1) bytes)
+unfolding lines_in
+lines_in-cut [] below = absurd (omega arith)
+lines_in-cut (b ∷ bs) below =
+    (elim (b == 10) as (λ t. cond (not t) (1 + position_or_len is_feed bs) 0 < length (b ∷ bs) → (if t then (b ∷ []) ∷ lines_in bs else before_lines b (lines_in bs)) ≡ take (cond (not t) (1 + position_or_len is_feed bs) 0 + 1) (b ∷ bs) ∷ lines_in (drop (cond (not t) (1 + position_or_len is_feed bs) 0 + 1) (b ∷ bs))) [
+      | true ↦ λ h. refl
+      | false ↦ λ h. let again = rw add-one at (lines_in-cut bs (omega arith)) in rw (one-add, add-one) (ap (before_lines b) again)
+    ]) below
+
+-- without one, there is one line
+pub lines_in-whole : (b : ℕ) (bytes : List ℕ) → length (b ∷ bytes) ≤ position_or_len is_feed (b ∷ bytes) → lines_in (b ∷ bytes) ≡ (b ∷ bytes) ∷ []
+unfolding lines_in
+lines_in-whole b [] above =
+    (elim (b == 10) as (λ t. length (b ∷ []) ≤ cond (not t) (1 + position_or_len is_feed []) 0 → (if t then (b ∷ []) ∷ [] else (b ∷ []) ∷ []) ≡ (b ∷ []) ∷ []) [ true ↦ λ h. refl | false ↦ λ h. refl ]) above
+lines_in-whole b (c ∷ cs) above =
+    (elim (b == 10) as (λ t. length (b ∷ c ∷ cs) ≤ cond (not t) (1 + position_or_len is_feed (c ∷ cs)) 0 → (if t then (b ∷ []) ∷ lines_in (c ∷ cs) else before_lines b (lines_in (c ∷ cs))) ≡ (b ∷ c ∷ cs) ∷ []) [
+      | true ↦ λ h. absurd (omega arith)
+      | false ↦ λ h. ap (before_lines b) (lines_in-whole c cs (omega arith))
+    ]) above
+
+whole-cons : (b : ℕ) (line : List ℕ) → 0 < length line → is_whole (b ∷ line) ≡ is_whole line
+whole-cons b [] some = absurd (omega arith)
+whole-cons b (x ∷ xs) some =
+    let long : length (b ∷ x ∷ xs) - 1 ≡ suc (length xs) = omega arith in
+    let short : length (x ∷ xs) - 1 ≡ length xs = omega arith in
+    ap (λ n. is_feed (slice_index (b ∷ x ∷ xs) n)) long ∙ ap (λ n. is_feed (slice_index (x ∷ xs) n)) (sym short)
+
+-- the line that is cut off behind a line feed is whole
+whole-cut : (bytes : List ℕ) → position_or_len is_feed bytes < length bytes → is_whole (take (position_or_len is_feed bytes + 1) bytes) ≡ true
+whole-cut [] below = absurd (omega arith)
+whole-cut (b ∷ bs) below =
+    (elim (b == 10) as (λ t. (b == 10) ≡ t → cond (not t) (1 + position_or_len is_feed bs) 0 < length (b ∷ bs) → is_whole (take (cond (not t) (1 + position_or_len is_feed bs) 0 + 1) (b ∷ bs)) ≡ true) [
+      | true ↦ λ is h. is
+      | false ↦ λ is h.
+        let within : 0 < length (take (suc (position_or_len is_feed bs)) bs) = omega (arith, length-take (suc (position_or_len is_feed bs)) bs) in
+        rw (one-add, add-one) (whole-cons b (take (suc (position_or_len is_feed bs)) bs) within ∙ rw add-one at (whole-cut bs (omega arith)))
+    ]) refl below
+
+pub cut-none : (bytes : List ℕ) → (length bytes == 0) ≡ false → position is_feed bytes ≡ None → CutsLine bytes bytes []
+unfolding lines_in
+cut-none [] some none = absurd (true≢false some)
+cut-none (b ∷ bs) some none = record { lines = lines_in-whole b bs (position-none is_feed (b ∷ bs) none); sizes = omega arith; some = omega arith; last = λ unended. refl }
+
+pub cut-some : (bytes : List ℕ) (i : ℕ) → i < length bytes → position is_feed bytes ≡ Some i → CutsLine bytes (take (i + 1) bytes) (drop (i + 1) bytes)
+cut-some bytes i below found =
+    let at : position_or_len is_feed bytes ≡ i = position-is is_feed bytes i found in
+    record { lines = rw at at (lines_in-cut bytes (omega arith)); sizes = omega (arith, length-take (i + 1) bytes, length-drop (i + 1) bytes); some = omega (arith, length-take (i + 1) bytes); last = λ unended. absurd (true≢false (sym (rw at at (whole-cut bytes (omega arith))) ∙ unended)) }

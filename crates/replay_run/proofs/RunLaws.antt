@@ -1,0 +1,230 @@
+-- What sources give and sinks hold, from call to call.
+use Rattle.std.proofs.Common.{◌≡◌, ℕ, ◌+◌, ◌-◌, ◌≤◌, Bool, true, false, if◌then◌else◌, List, [], ◌∷◌, ◌++◌, length, take, drop, Option, Some, None, Result, Ok, Err, refl, sym, ap, ◌∙◌, subst, arith, append_assoc}
+use Rattle.std.specs.Prelude.{option_map, IfSome, OnErr}
+use Rattle.std.specs.List.{flat_map}
+use Rattle.std.proofs.lemmas.Bool.{false≢true}
+use Rattle.std.proofs.lemmas.List.{take-append-drop, append-nil}
+use Rattle.plasma_outside.specs.Outside.{Puts, Takes, Took}
+use Rattle.root_rules.specs.Chain.{Chain}
+use Rattle.replay_run.specs.declared.reply.Reply.{Reply}
+use Rattle.replay_run.specs.declared.reply.Ending.{Ending}
+use Rattle.replay_run.specs.declared.reply.Ending.TheVariants.{Complete, BadLine, ReadFault, TooLong}
+use Rattle.replay_run.specs.declared.status.Status.{Status}
+use Rattle.replay_run.specs.declared.status.Status.TheVariants.{Usage, WriteFault, NoMemory}
+use Rattle.replay_run.specs.Output.{is_replay, status_of, usage_text, replay_output, output_of}
+use Rattle.replay_run.specs.Lines.{lines_in, CutsLine}
+use Rattle.replay_run.specs.Steps.{AnswersLine}
+use Rattle.replay_run.specs.Trace.{Stepped, Trace, onward, line_step, trace_from, trace_of}
+use Rattle.replay_run.specs.Text.{trace_line_text, ending_text, trace_text}
+use Rattle.replay_run.specs.Runs.{Gave, Wrote, WroteFront, Answered, EndsAs, Ran}
+
+some_same : {A : Type 0} (x y : A) → Some x ≡ Some y → x ≡ y
+some_same x y e = cc
+
+-- ---- what a source gave
+
+pub gave-none : (before : Option (List ℕ)) → Gave before before [] false
+gave-none None = record { given = refl; end = λ wrong. absurd (false≢true wrong) }
+gave-none (Some left) = record { given = refl; end = λ wrong. absurd (false≢true wrong) }
+
+pub gave-more : (a b c : Option (List ℕ)) (bytes room : List ℕ) (n : ℕ) (E : Type 0) → Gave a b bytes false → Takes {E = E} b c (Ok n) room → Gave a c (bytes ++ take n room) false
+gave-more a None c bytes room n E gave takes =
+    record { given = gave.given ∙ ap (option_map (λ left. (bytes ++ take n room) ++ left)) (sym takes); end = λ wrong. absurd (false≢true wrong) }
+gave-more a (Some left) c bytes room n E gave takes =
+    let same : Some (bytes ++ left) ≡ Some ((bytes ++ take n room) ++ drop n left) =
+        ap Some (sym (append_assoc bytes (take n room) (drop n left) ∙ ap (λ front. bytes ++ (front ++ drop n left)) takes.given ∙ ap (λ all. bytes ++ all) (take-append-drop n left)))
+    in record { given = gave.given ∙ same ∙ ap (option_map (λ rest. (bytes ++ take n room) ++ rest)) (sym takes.rest); end = λ wrong. absurd (false≢true wrong) }
+
+pub gave-end : (a b c : Option (List ℕ)) (bytes room : List ℕ) (E : Type 0) → Gave a b bytes false → Takes {E = E} b c (Ok 0) room → Gave a c bytes true
+gave-end a None c bytes room E gave takes =
+    record { given = gave.given ∙ ap (option_map (λ left. bytes ++ left)) (sym takes); end = λ is. subst (λ o. IfSome o (λ left. left ≡ [])) (sym takes) tt }
+gave-end a (Some left) c bytes room E gave takes =
+    record {
+      given = gave.given ∙ ap (option_map (λ rest. bytes ++ rest)) (sym takes.rest);
+      end = λ is. subst (λ o. IfSome o (λ rest. rest ≡ [])) (sym takes.rest) (takes.end.0 refl);
+    }
+
+pub gave-error : (a b c : Option (List ℕ)) (bytes room : List ℕ) (E : Type 0) (e : E) → Gave a b bytes false → Takes {E = E} b c (Err e) room → Gave a c bytes false
+gave-error a None c bytes room E e gave takes = record { given = gave.given ∙ ap (option_map (λ left. bytes ++ left)) (sym takes); end = gave-never }
+  where
+    gave-never : false ≡ true → IfSome c (λ left. left ≡ [])
+    gave-never wrong = absurd (false≢true wrong)
+gave-error a (Some left) c bytes room E e gave takes = record { given = gave.given ∙ ap (option_map (λ rest. bytes ++ rest)) (sym takes); end = λ wrong. absurd (false≢true wrong) }
+
+-- ---- what a sink holds
+
+pub wrote-none : (before : Option (List ℕ)) → Wrote before before []
+wrote-none None = refl
+wrote-none (Some held) = ap Some (sym (append-nil held))
+
+pub wrote-more : (a b c : Option (List ℕ)) (s t : List ℕ) → Wrote a b s → Wrote b c t → Wrote a c (s ++ t)
+wrote-more None b c s t first second = second ∙ ap (option_map (λ held. held ++ t)) first
+wrote-more (Some held) b c s t first second = second ∙ ap (option_map (λ held. held ++ t)) first ∙ ap Some (append_assoc held s t)
+
+pub wrote-put : (before after : Option (List ℕ)) (bytes : List ℕ) (T E : Type 0) (done : T) → Puts {T = T} {E = E} before after (Ok done) bytes → Wrote before after bytes
+wrote-put None after bytes T E done puts = puts
+wrote-put (Some held) after bytes T E done puts = puts
+
+pub front-put : (before after : Option (List ℕ)) (bytes : List ℕ) (T E : Type 0) (e : E) → Puts {T = T} {E = E} before after (Err e) bytes → WroteFront before after bytes
+front-put None after bytes T E e puts = record { front = []; back = bytes; whole = refl; wrote = puts }
+front-put (Some held) after bytes T E e puts = record { front = take puts.0 bytes; back = drop puts.0 bytes; whole = take-append-drop puts.0 bytes; wrote = puts.1 }
+
+-- a text was written, and a beginning of the next one
+pub front-more : (a b c : Option (List ℕ)) (s t rest : List ℕ) → Wrote a b s → WroteFront b c t → WroteFront a c (s ++ (t ++ rest))
+front-more a b c s t rest first second =
+    record {
+      front = s ++ second.front;
+      back = second.back ++ rest;
+      whole = append_assoc s second.front (second.back ++ rest) ∙ ap (λ x. s ++ x) (sym (append_assoc second.front second.back rest) ∙ ap (λ x. x ++ rest) second.whole);
+      wrote = wrote-more a b c s second.front first second.wrote;
+    }
+
+-- ---- a trace in progress
+
+-- the sink and the gathered text have the answers before those of `here`, which is the rest of all
+pub record Going (before after : Option (List ℕ)) (text : List ℕ) (here all : Trace) : Type 0 where
+  pub put : List ℕ
+  pub wrote : Wrote before after put
+  pub lines : put ++ (text ++ flat_map trace_line_text here.lines) ≡ flat_map trace_line_text all.lines
+  pub ends : here.ending ≡ all.ending
+
+pub going-first : (before : Option (List ℕ)) (all : Trace) → Going before before [] all all
+going-first before all = record { put = []; wrote = wrote-none before; lines = refl; ends = refl }
+
+-- the trace at a line whose step is known
+at-line : (ended : Bool) (n start : ℕ) (state : Option Chain) (line : List ℕ) (lines : List (List ℕ)) (stepped : Result Stepped Ending) → line_step ended n start state line ≡ stepped → trace_from ended n start state (line ∷ lines) ≡ onward n stepped (λ chain. trace_from ended (n + 1) (start + length line) (Some chain) lines)
+unfolding trace_from
+at-line ended n start state line lines stepped is = ap (λ s. onward n s (λ chain. trace_from ended (n + 1) (start + length line) (Some chain) lines)) is
+
+pub going-on : (before after : Option (List ℕ)) (text : List ℕ) (ended : Bool) (n start : ℕ) (state : Option Chain) (line : List ℕ) (lines : List (List ℕ)) (all : Trace) (chain : Chain) (reply : Reply) → Going before after text (trace_from ended n start state (line ∷ lines)) all → line_step ended n start state line ≡ Ok (record { chain = chain; reply = reply }) → Going before after (text ++ trace_line_text (record { line = n; reply = reply })) (trace_from ended (n + 1) (start + length line) (Some chain) lines) all
+going-on before after text ended n start state line lines all chain reply going is =
+    let next : Trace = trace_from ended (n + 1) (start + length line) (Some chain) lines in
+    let own : List ℕ = trace_line_text (record { line = n; reply = reply }) in
+    let here : Trace = record { lines = record { line = n; reply = reply } ∷ next.lines; ending = next.ending } in
+    let old : Going before after text here all = subst (λ t. Going before after text t all) (at-line ended n start state line lines (Ok (record { chain = chain; reply = reply })) is) going in
+    record {
+      put = old.put;
+      wrote = old.wrote;
+      lines = ap (λ x. old.put ++ x) (append_assoc text own (flat_map trace_line_text next.lines)) ∙ old.lines;
+      ends = old.ends;
+    }
+
+pub going-ends : (before after : Option (List ℕ)) (text : List ℕ) (ended : Bool) (n start : ℕ) (state : Option Chain) (line : List ℕ) (lines : List (List ℕ)) (all : Trace) (ending : Ending) → Going before after text (trace_from ended n start state (line ∷ lines)) all → line_step ended n start state line ≡ Err ending → Answered before after text all ending
+going-ends before after text ended n start state line lines all ending going is =
+    let old : Going before after text (record { lines = []; ending = ending }) all = subst (λ t. Going before after text t all) (at-line ended n start state line lines (Err ending) is) going in
+    record { ends = old.ends; put = old.put; wrote = old.wrote; whole = ap (λ x. old.put ++ x) (sym (append-nil text)) ∙ old.lines }
+
+pub going-out : (before after : Option (List ℕ)) (text : List ℕ) (ended : Bool) (n start : ℕ) (state : Option Chain) (all : Trace) → Going before after text (trace_from ended n start state []) all → Answered before after text all (if ended then Complete else ReadFault)
+unfolding trace_from
+going-out before after text ended n start state all going =
+    record { ends = going.ends; put = going.put; wrote = going.wrote; whole = ap (λ x. going.put ++ x) (sym (append-nil text)) ∙ going.lines }
+
+-- what was put is a beginning of the whole text, and so it is with a beginning of what was gathered
+pub going-stops : (before after last : Option (List ℕ)) (text : List ℕ) (here all : Trace) → Going before after text here all → WroteFront after last text → WroteFront before last (trace_text all)
+unfolding trace_text
+going-stops before after last text here all going front =
+    let tail : List ℕ = flat_map trace_line_text here.lines in
+    let whole : going.put ++ (text ++ (tail ++ ending_text all.ending)) ≡ flat_map trace_line_text all.lines ++ ending_text all.ending =
+        ap (λ x. going.put ++ x) (sym (append_assoc text tail (ending_text all.ending))) ∙ sym (append_assoc going.put (text ++ tail) (ending_text all.ending)) ∙ ap (λ x. x ++ ending_text all.ending) going.lines
+    in subst (WroteFront before last) whole (front-more before after last going.put text (tail ++ ending_text all.ending) going.wrote front)
+
+pub front-none : (before : Option (List ℕ)) (text : List ℕ) → WroteFront before before text
+front-none before text = record { front = []; back = text; whole = refl; wrote = wrote-none before }
+
+pub going-put : (before after next : Option (List ℕ)) (text : List ℕ) (here all : Trace) → Going before after text here all → Wrote after next text → Going before next [] here all
+going-put before after next text here all going wrote =
+    record {
+      put = going.put ++ text;
+      wrote = wrote-more before after next going.put text going.wrote wrote;
+      lines = append_assoc going.put text (flat_map trace_line_text here.lines) ∙ going.lines;
+      ends = going.ends;
+    }
+
+-- the last line is put behind the answers
+pub answered-put : (before after last : Option (List ℕ)) (text : List ℕ) (all : Trace) (ending : Ending) → Answered before after text all ending → Wrote after last (text ++ ending_text ending) → Wrote before last (trace_text all)
+unfolding trace_text
+answered-put before after last text all ending answered wrote =
+    subst (Wrote before last)
+    (sym (append_assoc answered.put text (ending_text ending)) ∙ ap (λ x. x ++ ending_text ending) answered.whole ∙ ap (λ e. flat_map trace_line_text all.lines ++ ending_text e) answered.ends)
+    (wrote-more before after last answered.put (text ++ ending_text ending) answered.wrote wrote)
+
+pub answered-stops : (before after last : Option (List ℕ)) (text : List ℕ) (all : Trace) (ending : Ending) → Answered before after text all ending → WroteFront after last (text ++ ending_text ending) → WroteFront before last (trace_text all)
+unfolding trace_text
+answered-stops before after last text all ending answered front =
+    let whole : answered.put ++ ((text ++ ending_text ending) ++ []) ≡ flat_map trace_line_text all.lines ++ ending_text all.ending =
+        ap (λ x. answered.put ++ x) (append-nil (text ++ ending_text ending)) ∙ sym (append_assoc answered.put text (ending_text ending)) ∙ ap (λ x. x ++ ending_text ending) answered.whole ∙ ap (λ e. flat_map trace_line_text all.lines ++ ending_text e) answered.ends
+    in subst (WroteFront before last) whole (front-more before after last answered.put (text ++ ending_text ending) [] answered.wrote front)
+
+-- whatever an error says of a result holds where it holds at all
+pub part-err : {T E : Type 0} (result : Result T E) (P : Type 0) → P → OnErr result P
+part-err (Ok x) P p = tt
+part-err (Err e) P p = p
+
+-- ---- the loop over the lines of an input of so many bytes
+
+module _ (before after : Option (List ℕ)) (text : List ℕ) (ended : Bool) (n size : ℕ) (state : Option Chain) (rest : List ℕ) (all : Trace) (going : Going before after text (trace_from ended n (size - length rest) state (lines_in rest)) all) where
+  pub going-next : (line later : List ℕ) (new : Option Chain) (reply : Reply) → CutsLine rest line later → length rest ≤ size → AnswersLine (line_step ended n (size - length rest) state line) new reply → Going before after (text ++ trace_line_text (record { line = n; reply = reply })) (trace_from ended (n + 1) (size - length later) new (lines_in later)) all
+  going-next line later new reply cut shorter answers =
+      let next = going-on before after text ended n (size - length rest) state line (lines_in later) all answers.0 reply (rw cut.lines at going) answers.2 in
+      let place : size - length rest + length line ≡ size - length later = omega (arith, cut.sizes) in
+      subst (λ (p : ℕ × Option Chain). Going before after (text ++ trace_line_text (record { line = n; reply = reply })) (trace_from ended (n + 1) p.0 p.1 (lines_in later)) all) (λ i. (place i, sym answers.1 i)) next
+
+  pub going-last : (line later : List ℕ) (ending : Ending) → CutsLine rest line later → line_step ended n (size - length rest) state line ≡ Err ending → Answered before after text all ending
+  going-last line later ending cut is = going-ends before after text ended n (size - length rest) state line (lines_in later) all ending (rw cut.lines at going) is
+
+  pub going-over : rest ≡ [] → Answered before after text all (if ended then Complete else ReadFault)
+  unfolding lines_in trace_from
+  going-over none = going-out before after text ended n (size - length rest) state all (rw none at going)
+
+  pub stops-here : WroteFront before after (trace_text all)
+  stops-here = going-stops before after after text (trace_from ended n (size - length rest) state (lines_in rest)) all going (front-none after text)
+
+pub answered-here : (before after : Option (List ℕ)) (text : List ℕ) (all : Trace) (ending : Ending) → Answered before after text all ending → WroteFront before after (trace_text all)
+answered-here before after text all ending answered = answered-stops before after after text all ending answered (front-none after (text ++ ending_text ending))
+
+-- ---- the whole run
+
+-- a run that was stopped
+pub record WritesFront (words : List (List ℕ)) (left later before after : Option (List ℕ)) : Type 0 where
+  pub bytes : List ℕ
+  pub ended : Bool
+  pub gave : Gave left later bytes ended
+  pub front : WroteFront before after (output_of words bytes ended).text
+
+pub ran-usage : (words : List (List ℕ)) (left before after : Option (List ℕ)) → false ≡ is_replay words → Wrote before after usage_text → Ran words left left before after Usage
+unfolding output_of
+ran-usage words left before after other wrote =
+    record { bytes = []; ended = false; gave = gave-none left; ends = subst (λ b. EndsAs (if b then replay_output [] false else record { status = Usage; text = usage_text }) Usage before after) other (refl, wrote) }
+
+pub stops-usage : (words : List (List ℕ)) (left before after : Option (List ℕ)) → false ≡ is_replay words → WroteFront before after usage_text → WritesFront words left left before after
+unfolding output_of
+stops-usage words left before after other front =
+    record { bytes = []; ended = false; gave = gave-none left; front = subst (λ b. WroteFront before after (if b then replay_output [] false else record { status = Usage; text = usage_text }).text) other front }
+
+pub ran-replay : (words : List (List ℕ)) (left later before after : Option (List ℕ)) (bytes : List ℕ) (ended : Bool) (status : Status) → true ≡ is_replay words → Gave left later bytes ended → status ≡ status_of (trace_of bytes ended).ending → Wrote before after (trace_text (trace_of bytes ended)) → Ran words left later before after status
+unfolding output_of
+ran-replay words left later before after bytes ended status form gave is wrote =
+    record {
+      bytes = bytes;
+      ended = ended;
+      gave = gave;
+      ends = subst (λ b. EndsAs (if b then replay_output bytes ended else record { status = Usage; text = usage_text }) status before after) form
+          (subst (λ s. EndsAs (replay_output bytes ended) s before after) (sym is) (ends-so (trace_of bytes ended).ending (trace_text (trace_of bytes ended)) before after wrote));
+    }
+  where
+    ends-so : (ending : Ending) (text : List ℕ) (before after : Option (List ℕ)) → Wrote before after text → EndsAs (record { status = status_of ending; text = text }) (status_of ending) before after
+    ends-so Complete text before after wrote = (refl, wrote)
+    ends-so (BadLine n) text before after wrote = (refl, wrote)
+    ends-so ReadFault text before after wrote = (refl, wrote)
+    ends-so (TooLong n) text before after wrote = (refl, wrote)
+
+pub stops-replay : (words : List (List ℕ)) (left later before after : Option (List ℕ)) (bytes : List ℕ) (ended : Bool) → true ≡ is_replay words → Gave left later bytes ended → WroteFront before after (trace_text (trace_of bytes ended)) → WritesFront words left later before after
+unfolding output_of
+stops-replay words left later before after bytes ended form gave front =
+    record { bytes = bytes; ended = ended; gave = gave; front = subst (λ b. WroteFront before after (if b then replay_output bytes ended else record { status = Usage; text = usage_text }).text) form front }
+
+pub ran-write_fault : (words : List (List ℕ)) (left later before after : Option (List ℕ)) → WritesFront words left later before after → Ran words left later before after WriteFault
+ran-write_fault words left later before after w = record { bytes = w.bytes; ended = w.ended; gave = w.gave; ends = w.front }
+
+pub ran-no_memory : (words : List (List ℕ)) (left later before after : Option (List ℕ)) → WritesFront words left later before after → Ran words left later before after NoMemory
+ran-no_memory words left later before after w = record { bytes = w.bytes; ended = w.ended; gave = w.gave; ends = w.front }

@@ -1,0 +1,106 @@
+-- What the lines of a schedule are answered: the trace.
+use Rattle.std.specs.Prelude.{ℕ, ◌+◌, ◌&&◌, not, Bool, true, false, if◌then◌else◌, List, [], ◌∷◌, ◌++◌, length, replicate, Option, Some, None, Result, Ok, Err, option_and_then}
+use Rattle.std.specs.Int.{w64, to_be_bytes}
+use Rattle.root_rules.specs.declared.call.RootCall.{RootCall}
+use Rattle.root_rules.specs.declared.call.RootCall.TheVariants.{Fund, Tick, Deposit, StartDeposit, Finish}
+use Rattle.root_rules.specs.Chain.{Chain, rules_of, with_log}
+use Rattle.root_rules.specs.Table.{answer_to, log_after}
+use Rattle.root_rules.specs.Money.{balance_of}
+use Rattle.schedule_text.specs.declared.line.Line.{Line}
+use Rattle.schedule_text.specs.declared.line.Line.TheVariants.{Chain as ChainLine, Fund as FundLine, Tick as TickLine, Money as MoneyLine, Call as CallLine}
+use Rattle.schedule_text.specs.declared.line.CallForm.{CallForm}
+use Rattle.schedule_text.specs.declared.line.CallForm.TheVariants.{Deposit as DepositForm, Start as StartForm, Finish as FinishForm}
+use Rattle.schedule_text.specs.Grammar.{line_in}
+use Rattle.replay_run.specs.declared.reply.Reply.{Reply}
+use Rattle.replay_run.specs.declared.reply.Reply.TheVariants.{Chain as ChainReply, Money, Answered}
+use Rattle.replay_run.specs.declared.reply.Ending.{Ending}
+use Rattle.replay_run.specs.declared.reply.Ending.TheVariants.{Complete, BadLine, ReadFault, TooLong}
+use Rattle.replay_run.specs.Lines.{lines_in, is_whole, text_of, is_too_long}
+
+-- the tag that a number stands for: 24 zero bytes and the number's eight
+abbrev pub tag_of : ℕ → List ℕ
+tag_of tag = replicate 24 0 ++ to_be_bytes w64 tag
+
+-- the chain that a `chain` line makes: it has no calls
+abbrev pub new_chain : ℕ → ℕ → ℕ → Chain
+new_chain tag operator most = record { tag = tag_of tag; operator = operator; most_blocks = most; log = [] }
+
+-- the call of an account that a form spells
+abbrev pub call_of : ℕ → CallForm → RootCall
+call_of account (DepositForm amount key) = Deposit account amount key
+call_of account (StartForm coin block) = StartDeposit account coin block
+call_of account (FinishForm coin exit) = Finish account coin exit
+
+-- what an answered line leaves: the chain, and the reply
+pub record Stepped : Type 0 where
+  pub chain : Chain
+  pub reply : Reply
+
+-- a call on the chain: its answer, and the log after it
+abbrev pub called : Option Chain → RootCall → Option Stepped
+called None call = None
+called (Some chain) call =
+    Some (record {
+      chain = with_log chain (log_after (rules_of chain) chain.log call);
+      reply = Answered (answer_to (rules_of chain) chain.log call);
+    })
+
+-- the balance of an account
+abbrev pub asked : Option Chain → ℕ → Option Stepped
+asked None account = None
+asked (Some chain) account = Some (record { chain = chain; reply = Money (balance_of chain.log account) })
+
+-- the first line begins the chain, and no other does
+abbrev pub begun : Option Chain → Chain → Option Stepped
+begun None chain = Some (record { chain = chain; reply = ChainReply })
+begun (Some earlier) chain = None
+
+-- the step of one line; none where the line breaks a rule of declarations
+unfoldable pub step : Option Chain → Line → Option Stepped
+step state (ChainLine tag operator most) = begun state (new_chain tag operator most)
+step state (FundLine account amount) = called state (Fund account amount)
+step state (TickLine time) = called state (Tick time)
+step state (MoneyLine account) = asked state account
+step state (CallLine account form) = called state (call_of account form)
+
+-- the bytes of a line step as the line that they spell
+abbrev pub step_by : Option Chain → List ℕ → Option Stepped
+step_by state text = option_and_then (step state) (line_in text)
+
+abbrev pub stepped_or : Ending → Option Stepped → Result Stepped Ending
+stepped_or ending None = Err ending
+stepped_or ending (Some stepped) = Ok stepped
+
+-- what line n, which begins after so many bytes, does: it is answered, or it ends the run. `ended` says that the
+-- input was read to its end; where it wasn't, a line without its line feed isn't answered
+unfoldable pub line_step : Bool → ℕ → ℕ → Option Chain → List ℕ → Result Stepped Ending
+line_step ended n start state line =
+    if is_too_long n start line then Err (TooLong n)
+    else if not ended && not (is_whole line) then Err ReadFault
+    else stepped_or (BadLine n) (step_by state (text_of line))
+
+-- one line of a trace: its number, and what was answered
+pub record TraceLine : Type 0 where
+  pub line : ℕ
+  pub reply : Reply
+
+-- the answered lines in order, and what ended the run
+pub record Trace : Type 0 where
+  pub lines : List TraceLine
+  pub ending : Ending
+
+-- the answer to line n before the trace of the lines after it; a line that ends the run leaves these unread
+abbrev pub onward : ℕ → Result Stepped Ending → (Chain → Trace) → Trace
+onward n (Err ending) after = record { lines = []; ending = ending }
+onward n (Ok stepped) after =
+    let rest = after stepped.chain in record { lines = record { line = n; reply = stepped.reply } ∷ rest.lines; ending = rest.ending }
+
+-- the trace of the lines from line n on, which begins after so many bytes
+unfoldable pub trace_from : Bool → ℕ → ℕ → Option Chain → List (List ℕ) → Trace
+trace_from ended n start state [] = record { lines = []; ending = if ended then Complete else ReadFault }
+trace_from ended n start state (line ∷ lines) =
+    onward n (line_step ended n start state line) (λ chain. trace_from ended (n + 1) (start + length line) (Some chain) lines)
+
+-- the trace of an input
+unfoldable pub trace_of : List ℕ → Bool → Trace
+trace_of bytes ended = trace_from ended 1 0 None (lines_in bytes)

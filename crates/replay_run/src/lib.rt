@@ -1,0 +1,22 @@
+//! What the program does: a run reads its words and its input, and writes its output.
+#![tactic(auto)]
+
+mod input;
+mod replay;
+mod reply;
+mod top;
+mod status;
+mod steps;
+mod text;
+
+pub use top::run;
+pub use status::Status;
+
+/// The most lines of an input.
+pub const MOST_LINES: u64 = 200_000;
+
+/// The most bytes of a line, without its line feed.
+pub const MOST_LINE_BYTES: u64 = 8_388_608;
+
+/// The most bytes of an input.
+pub const MOST_INPUT_BYTES: u64 = 67_108_864;

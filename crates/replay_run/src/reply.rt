@@ -1,0 +1,36 @@
+use root_contract::Answer;
+
+/// What a line is answered.
+#[derive(Debug, Clone, Copy, PartialEq, Eq)]
+pub enum Reply {
+    Chain,
+    Money { balance: u64 },
+    Answered(Answer),
+}
+
+/// What ends a replay.
+#[derive(Debug, Clone, Copy, PartialEq, Eq)]
+pub enum Ending {
+    /// All lines were answered.
+    Complete,
+    /// This line is the first that isn't in the grammar, or breaks a rule of declarations.
+    BadLine { line: u64 },
+    /// The source failed.
+    ReadFault,
+    /// This line is the first that passes a limit.
+    TooLong { line: u64 },
+}
+
+/// Why a line isn't answered.
+#[derive(Debug, Clone, Copy, PartialEq, Eq)]
+pub enum LineStop {
+    Ends(Ending),
+    NoMemory,
+}
+
+/// Why a step isn't made.
+#[derive(Debug, Clone, Copy, PartialEq, Eq)]
+pub enum StepRefusal {
+    BadLine,
+    NoMemory,
+}

@@ -1,0 +1,185 @@
+ghost use Rattle.std.specs.Prelude.{◌≡◌, ◌+◌, ◌≤◌, length, false, Err, None, IfOk, OnOk, IfErr};
+ghost use Rattle.schedule_text.specs.Grammar.{IsLine, IsCallForm};
+ghost use Rattle.replay_run.specs.Lines.{is_whole, text_of, is_too_long};
+ghost use Rattle.replay_run.specs.Trace.{tag_of, call_of, begun, called, asked, step, line_step};
+ghost use Rattle.replay_run.specs.Steps.{Steps, AnswersLine, EndsLine};
+
+use super::reply::{Ending, LineStop, Reply, StepRefusal};
+use super::{MOST_INPUT_BYTES, MOST_LINE_BYTES, MOST_LINES};
+use plasma_base::Bytes;
+use root_contract::{Answer, Contract, RootCall};
+use schedule_text::{CallForm, Line, LineRefusal, read};
+use std::alloc::Global;
+
+/// Whether a line feed ends the line.
+fn is_whole(line: &[u8]) -> bool
+    ensures { result ≡ is_whole line.now }
+{
+    matches!(line, [.., b'\n'])
+}
+
+/// The line without its line feed.
+fn text_of(line: &[u8]) -> &[u8]
+    ensures { result.now ≡ text_of line.now }
+{
+    if is_whole(line) { &line[..line.len() - 1] } else { line }
+}
+
+/// Whether line `number`, which begins after `start` bytes, passes a limit.
+fn is_too_long(number: u64, start: u64, line: &[u8]) -> bool
+    requires { start ≤ MOST_INPUT_BYTES }
+    ensures { result ≡ is_too_long number start line.now }
+{
+    number > MOST_LINES
+        || text_of(line).len() as u64 > MOST_LINE_BYTES
+        || line.len() as u64 > MOST_INPUT_BYTES - start
+}
+
+fn tag_of(tag: u64) -> [u8; 32]
+    ensures { result ≡ tag_of tag }
+{
+    let mut bytes = [0; 32];
+    bytes[24..].copy_from_slice(&tag.to_be_bytes());
+    bytes
+}
+
+/// The call of an account that a form spells.
+fn call_of(account: u64, form: &CallForm) -> RootCall
+    requires { IsCallForm form.now }
+    ensures { result ≡ call_of account form.now }
+{
+    match form {
+        CallForm::Deposit { amount, key } => RootCall::Deposit {
+            account,
+            amount: *amount,
+            key: key_of(key),
+        },
+        CallForm::Start { coin, block } => RootCall::StartDeposit {
+            account,
+            coin: *coin,
+            block: *block,
+        },
+        CallForm::Finish { coin, exit } => RootCall::Finish {
+            account,
+            coin: *coin,
+            exit: *exit,
+        },
+    }
+}
+
+/// The 56 bytes of a key.
+fn key_of(key: &Bytes) -> [u8; 56]
+    requires { length key.now ≡ 56 }
+    ensures { result ≡ key.now }
+{
+    let mut bytes = [0; 56];
+    bytes.copy_from_slice(key.as_slice());
+    bytes
+}
+
+/// Begins the chain, which only the first line does.
+fn begin(state: &mut Option<Contract>, contract: Contract) -> Result<Reply, StepRefusal>
+    ensures ok { IfOk result (Steps (begun state.old contract) state.new) }
+    ensures bad { result ≡ Err StepRefusal.BadLine → begun state.old contract ≡ None }
+{
+    if state.is_some() {
+        return Err(StepRefusal::BadLine);
+    }
+    *state = Some(contract);
+    Ok(Reply::Chain)
+}
+
+/// Enters a call, for which there has to be a chain.
+fn call(state: &mut Option<Contract>, call: &RootCall) -> Result<Reply, StepRefusal>
+    ensures ok { IfOk result (Steps (called state.old call.now) state.new) }
+    ensures bad { result ≡ Err StepRefusal.BadLine → called state.old call.now ≡ None }
+{
+    let Some(contract) = state else {
+        return Err(StepRefusal::BadLine);
+    };
+    match contract.call(call) {
+        Answer::NoMemory => Err(StepRefusal::NoMemory),
+        answer => Ok(Reply::Answered(answer)),
+    }
+}
+
+/// Asks for a balance, for which there has to be a chain.
+fn ask(state: &Option<Contract>, account: u64) -> Result<Reply, StepRefusal>
+    ensures ok { IfOk result (Steps (asked state.now account) state.now) }
+    ensures bad { result ≡ Err StepRefusal.BadLine → asked state.now account ≡ None }
+{
+    match state {
+        None => Err(StepRefusal::BadLine),
+        Some(contract) => Ok(Reply::Money {
+            balance: contract.balance(account),
+        }),
+    }
+}
+
+/// Takes the step of a line.
+#[tactic(auto, unfolding(crate::specs::Trace::step))]
+fn step(
+    alloc: Global,
+    state: &mut Option<Contract>,
+    line: &Line,
+) -> Result<Reply, StepRefusal>
+    requires { IsLine line.now }
+    ensures ok { IfOk result (Steps (step state.old line.now) state.new) }
+    ensures bad { result ≡ Err StepRefusal.BadLine → step state.old line.now ≡ None }
+{
+    match line {
+        Line::Chain {
+            tag,
+            operator,
+            most,
+        } => begin(
+            state,
+            Contract::make(alloc, tag_of(*tag), *operator, *most),
+        ),
+        Line::Fund { account, amount } => call(
+            state,
+            &RootCall::Fund {
+                account: *account,
+                amount: *amount,
+            },
+        ),
+        Line::Tick { time } => call(state, &RootCall::Tick { now: *time }),
+        Line::Money { account } => ask(state, *account),
+        Line::Call { account, form } => call(state, &call_of(*account, form)),
+    }
+}
+
+/// Answers line `number`, which begins after `start` bytes of the input, or says what ends the run.
+/// `ended` says that the input was read to its end.
+#[tactic(auto, unfolding(crate::specs::Trace::line_step))]
+pub fn answer_line(
+    alloc: Global,
+    state: &mut Option<Contract>,
+    number: u64,
+    start: u64,
+    line: &[u8],
+    ended: bool,
+) -> Result<Reply, LineStop>
+    requires { start ≤ MOST_INPUT_BYTES }
+    ensures answered { IfOk result (AnswersLine (line_step ended number start state.old line.now) state.new) }
+    ensures within { OnOk result ((number ≤ MOST_LINES) × (start + length line.now ≤ MOST_INPUT_BYTES)) }
+    ensures fault { result ≡ Err (LineStop.Ends Ending.ReadFault) → (ended ≡ false) × (is_whole line.now ≡ false) × (start + length line.now ≤ MOST_INPUT_BYTES) }
+    ensures ends { IfErr result (EndsLine (line_step ended number start state.old line.now)) }
+{
+    if is_too_long(number, start, line) {
+        return Err(LineStop::Ends(Ending::TooLong { line: number }));
+    }
+    if !ended && !is_whole(line) {
+        return Err(LineStop::Ends(Ending::ReadFault));
+    }
+    let bad = LineStop::Ends(Ending::BadLine { line: number });
+    match read(alloc, text_of(line)) {
+        Err(LineRefusal::NoMemory) => Err(LineStop::NoMemory),
+        Err(LineRefusal::BadLine) => Err(bad),
+        Ok(line) => match step(alloc, state, &line) {
+            Err(StepRefusal::NoMemory) => Err(LineStop::NoMemory),
+            Err(StepRefusal::BadLine) => Err(bad),
+            Ok(reply) => Ok(reply),
+        },
+    }
+}
