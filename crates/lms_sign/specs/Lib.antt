@@ -1,0 +1,5 @@
+pub mod Types
+pub mod OneTime
+pub mod Tree
+pub mod Valid
+pub mod Kept

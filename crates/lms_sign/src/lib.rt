@@ -1,0 +1,37 @@
+//! LMS signatures with SHA-256 (RFC 8554): keys, signing with a leaf, and the test of a signature.
+#![tactic(auto)]
+
+ghost use Rattle.lms_sign.specs.Tree.{NodesAreTheStandards};
+ghost use Rattle.lms_sign.specs.Valid.{SignaturesAreValid};
+
+mod fields;
+mod hashing;
+mod one_time;
+mod public_key;
+mod secret;
+mod secret_key;
+mod signing;
+mod types;
+mod verifying;
+
+pub use public_key::{BadType, PublicKey};
+pub use secret_key::SecretKey;
+pub use signing::sign;
+pub use types::LmsTypes;
+pub use verifying::verify;
+
+/// Each node of a tree is what RFC 8554, section 5.3, says of its number.
+pub fn nodes_are_the_standards()
+    ensures { NodesAreTheStandards }
+{}
+
+/// Each signature that a leaf of a tree makes is valid under the tree's public key, for every
+/// message.
+pub fn signatures_are_valid()
+    ensures { SignaturesAreValid }
+{}
+
+#[cfg(test)]
+mod tests;
+#[cfg(test)]
+mod vectors;

@@ -1,0 +1,50 @@
+use plasma_outside::{MemSink, MemSource};
+use replay_run::{Status, run};
+use std::alloc::Global;
+use std::test::Fail;
+
+/// A key that reads, as a hex.
+pub const KEY: &str = "0x0000000500000004000000000000000000000000000000000000000000000000000000000000000000000000000000000000000000000000";
+
+/// The deposit and its exit, whose last lines depend on when the exit is finished.
+pub const DEPOSIT_AND_EXIT: &str = "chain 1 9 100
+fund 1 1000
+call 1 deposit 300 0x0000000500000004000000000000000000000000000000000000000000000000000000000000000000000000000000000000000000000000
+money 1
+call 1 start 1 1
+money 1
+tick 907200
+call 1 finish 1 1
+money 1
+";
+
+/// What the deposit and its exit are answered.
+pub const DEPOSIT_AND_EXIT_ANSWERS: &str = "1 chain
+2 funded
+3 deposited 1 1
+4 money 700
+5 started 907200
+6 money 600
+7 ticked
+8 paid
+9 money 1000
+no exhibit
+";
+
+/// The words of a command line.
+pub fn words(alloc: Global, texts: &[&str]) -> Result<Vec<String>, Fail> {
+    let mut words = Vec::new(alloc);
+    for text in texts {
+        words.push(String::from_str(alloc, text)?)?;
+    }
+    Ok(words)
+}
+
+/// Replays a schedule from memory: the status, and the sink after the run.
+pub fn replayed(alloc: Global, schedule: &[u8]) -> Result<(Status, MemSink), Fail> {
+    let words = words(alloc, &["replay"])?;
+    let mut source = MemSource::make(schedule.to_vec(alloc)?, Vec::new(alloc), Vec::new(alloc));
+    let mut sink = MemSink::make(alloc, Vec::new(alloc));
+    let status = run(alloc, &words, &mut source, &mut sink);
+    Ok((status, sink))
+}
