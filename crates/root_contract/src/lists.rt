@@ -5,7 +5,8 @@ ghost use Rattle.root_rules.specs.Views.{is_exit, without};
 ghost use Rattle.root_rules.specs.Table.{is_key};
 ghost use Rattle.root_contract.specs.Lists.{coin_in};
 
-use root_rules::{Coin, Exit, KEY_TYPES};
+use lms_sign::PublicKey;
+use root_rules::{Coin, Exit};
 
 /// Coin `c`, counted from 1.
 pub fn coin_in(coins: &[Coin], c: u64) -> Option<Coin>
@@ -33,11 +34,11 @@ pub fn is_among(coins: &[u64], coin: u64) -> bool
     coins.iter().any(|x| *x == coin)
 }
 
-/// Whether a key reads: it begins with the types of a key that is supported.
+/// Whether a key reads.
 pub fn is_key(key: &[u8; 56]) -> bool
     ensures { result ≡ is_key key.now }
 {
-    key[..8] == KEY_TYPES[..]
+    PublicKey::read(key).is_ok()
 }
 
 /// Takes the exit out.

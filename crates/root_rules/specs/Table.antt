@@ -1,7 +1,8 @@
 -- The answers of the root contract: the first cause in order that holds, else the effect.
-use Rattle.std.specs.Prelude.{ℕ, ◌+◌, ◌==◌, not, Bool, true, false, if◌then◌else◌, nat_lt, nat_le, List, [], ◌∷◌, take, Option, Some, None, is_some}
-use Rattle.std.specs.Str.{bytes_eq}
-use Rattle.root_rules.specs.declared.TheConstants.{EXIT_BOND, EXIT_PERIOD, MOST_MONEY, LAST_TIME, KEY_TYPES}
+use Rattle.std.specs.Prelude.{ℕ, ◌+◌, ◌==◌, not, Bool, true, false, if◌then◌else◌, nat_lt, nat_le, List, [], ◌∷◌, Option, Some, None, is_some}
+use Rattle.lms_sign.specs.Types.{is_supported}
+use Rattle.lms_sign.specs.Valid.{types_of}
+use Rattle.root_rules.specs.declared.TheConstants.{EXIT_BOND, EXIT_PERIOD, MOST_MONEY, LAST_TIME}
 use Rattle.root_rules.specs.declared.call.RootCall.{RootCall}
 use Rattle.root_rules.specs.declared.call.RootCall.TheVariants.{Fund, Tick, Deposit, StartDeposit, Finish}
 use Rattle.root_rules.specs.declared.call.Coin.{Coin}
@@ -27,9 +28,9 @@ decided (cause ∷ causes) effect = if cause.0 then Refused cause.1 else decided
 abbrev pub too_poor : List RootCall → ℕ → ℕ → Bool × Refusal
 too_poor log account needs = (nat_lt (balance_of log account) needs, NoFunds (balance_of log account) needs)
 
--- the key begins with the two types of a key that is supported
+-- the key reads: its two types are a supported pair
 abbrev pub is_key : List ℕ → Bool
-is_key key = bytes_eq (take 8 key) KEY_TYPES
+is_key key = is_supported (types_of key)
 
 abbrev pub fund_causes : List RootCall → ℕ → List (Bool × Refusal)
 fund_causes log amount = (nat_lt MOST_MONEY (funded log + amount), SumTooLarge) ∷ []

@@ -21,6 +21,3 @@ pub const MOST_MONEY: u64 = 4_611_686_018_427_387_904;
 
 /// The last time that the clock can show, in seconds: 2 ^ 40.
 pub const LAST_TIME: u64 = 1_099_511_627_776;
-
-/// The bytes that a public key begins with: LMS type 5 and one-time type 4, each as a u32 (RFC 8554).
-pub const KEY_TYPES: [u8; 8] = [0, 0, 0, 5, 0, 0, 0, 4];
