@@ -10,13 +10,16 @@ use Rattle.replay_run.specs.declared.reply.Reply.{Reply}
 use Rattle.replay_run.specs.declared.reply.Ending.{Ending}
 use Rattle.replay_run.specs.declared.reply.Ending.TheVariants.{Complete, BadLine, ReadFault, TooLong}
 use Rattle.replay_run.specs.declared.status.Status.{Status}
-use Rattle.replay_run.specs.declared.status.Status.TheVariants.{Usage, WriteFault, NoMemory}
-use Rattle.replay_run.specs.Output.{is_replay, status_of, usage_text, replay_output, output_of}
+use Rattle.replay_run.specs.declared.status.Status.TheVariants.{Done, Usage, BadLine as BadLineStatus, ReadFault as ReadFaultStatus, WriteFault, NoMemory, TooLong as TooLongStatus}
+use Rattle.replay_run.specs.declared.form.Form.{Form}
+use Rattle.replay_run.specs.declared.form.Form.TheVariants.{Replay}
+use Rattle.replay_run.specs.Forms.{form_of}
+use Rattle.replay_run.specs.Output.{Output, status_of, replay_output, form_output, output_of}
 use Rattle.replay_run.specs.Lines.{lines_in, CutsLine}
 use Rattle.replay_run.specs.Steps.{AnswersLine}
 use Rattle.replay_run.specs.Trace.{Stepped, Trace, onward, line_step, trace_from, trace_of}
 use Rattle.replay_run.specs.Text.{trace_line_text, ending_text, trace_text}
-use Rattle.replay_run.specs.Runs.{Gave, Wrote, WroteFront, Answered, EndsAs, Ran}
+use Rattle.replay_run.specs.Runs.{Gave, Wrote, WroteFront, Answered, EndsAs, RanOver, Ran}
 
 some_same : {A : Type 0} (x y : A) → Some x ≡ Some y → x ≡ y
 some_same x y e = cc
@@ -184,47 +187,35 @@ answered-here before after text all ending answered = answered-stops before afte
 
 -- ---- the whole run
 
--- a run that was stopped
-pub record WritesFront (words : List (List ℕ)) (left later before after : Option (List ℕ)) : Type 0 where
-  pub bytes : List ℕ
-  pub ended : Bool
-  pub gave : Gave left later bytes ended
-  pub front : WroteFront before after (output_of words bytes ended).text
-
-pub ran-usage : (words : List (List ℕ)) (left before after : Option (List ℕ)) → false ≡ is_replay words → Wrote before after usage_text → Ran words left left before after Usage
-unfolding output_of
-ran-usage words left before after other wrote =
-    record { bytes = []; ended = false; gave = gave-none left; ends = subst (λ b. EndsAs (if b then replay_output [] false else record { status = Usage; text = usage_text }) Usage before after) other (refl, wrote) }
-
-pub stops-usage : (words : List (List ℕ)) (left before after : Option (List ℕ)) → false ≡ is_replay words → WroteFront before after usage_text → WritesFront words left left before after
-unfolding output_of
-stops-usage words left before after other front =
-    record { bytes = []; ended = false; gave = gave-none left; front = subst (λ b. WroteFront before after (if b then replay_output [] false else record { status = Usage; text = usage_text }).text) other front }
-
-pub ran-replay : (words : List (List ℕ)) (left later before after : Option (List ℕ)) (bytes : List ℕ) (ended : Bool) (status : Status) → true ≡ is_replay words → Gave left later bytes ended → status ≡ status_of (trace_of bytes ended).ending → Wrote before after (trace_text (trace_of bytes ended)) → Ran words left later before after status
-unfolding output_of
-ran-replay words left later before after bytes ended status form gave is wrote =
-    record {
-      bytes = bytes;
-      ended = ended;
-      gave = gave;
-      ends = subst (λ b. EndsAs (if b then replay_output bytes ended else record { status = Usage; text = usage_text }) status before after) form
-          (subst (λ s. EndsAs (replay_output bytes ended) s before after) (sym is) (ends-so (trace_of bytes ended).ending (trace_text (trace_of bytes ended)) before after wrote));
-    }
+-- a text that was written whole ends a run with any status but those that stop it
+pub ends-whole : (output : Output) (before after : Option (List ℕ)) → Wrote before after output.text → EndsAs output output.status before after
+ends-whole output before after wrote = by-status output.text output.status before after wrote
   where
-    ends-so : (ending : Ending) (text : List ℕ) (before after : Option (List ℕ)) → Wrote before after text → EndsAs (record { status = status_of ending; text = text }) (status_of ending) before after
-    ends-so Complete text before after wrote = (refl, wrote)
-    ends-so (BadLine n) text before after wrote = (refl, wrote)
-    ends-so ReadFault text before after wrote = (refl, wrote)
-    ends-so (TooLong n) text before after wrote = (refl, wrote)
+    by-status : (text : List ℕ) (status : Status) (before after : Option (List ℕ)) → Wrote before after text → EndsAs (record { status = status; text = text }) status before after
+    by-status text Done before after wrote = (refl, wrote)
+    by-status text Usage before after wrote = (refl, wrote)
+    by-status text BadLineStatus before after wrote = (refl, wrote)
+    by-status text ReadFaultStatus before after wrote = (refl, wrote)
+    by-status text TooLongStatus before after wrote = (refl, wrote)
+    by-status text WriteFault before after wrote = record { front = text; back = []; whole = append-nil text; wrote = wrote }
+    by-status text NoMemory before after wrote = record { front = text; back = []; whole = append-nil text; wrote = wrote }
 
-pub stops-replay : (words : List (List ℕ)) (left later before after : Option (List ℕ)) (bytes : List ℕ) (ended : Bool) → true ≡ is_replay words → Gave left later bytes ended → WroteFront before after (trace_text (trace_of bytes ended)) → WritesFront words left later before after
+pub ran-replay : (left later before after : Option (List ℕ)) (bytes : List ℕ) (ended : Bool) (status : Status) → Gave left later bytes ended → status ≡ status_of (trace_of bytes ended).ending → Wrote before after (trace_text (trace_of bytes ended)) → RanOver replay_output left later before after status
+ran-replay left later before after bytes ended status gave is wrote =
+    record { bytes = bytes; ended = ended; gave = gave; ends = subst (λ s. EndsAs (replay_output bytes ended) s before after) (sym is) (ends-whole (replay_output bytes ended) before after wrote) }
+
+-- a run that took nothing from its source
+pub ran-unread : (words : List (List ℕ)) (left before after : Option (List ℕ)) (form : Option Form) (status : Status) → form ≡ form_of words → EndsAs (form_output form [] false) status before after → Ran words left left before after status
 unfolding output_of
-stops-replay words left later before after bytes ended form gave front =
-    record { bytes = bytes; ended = ended; gave = gave; front = subst (λ b. WroteFront before after (if b then replay_output bytes ended else record { status = Usage; text = usage_text }).text) form front }
+ran-unread words left before after form status is ends =
+    record { bytes = []; ended = false; gave = gave-none left; ends = subst (λ f. EndsAs (form_output f [] false) status before after) is ends }
 
-pub ran-write_fault : (words : List (List ℕ)) (left later before after : Option (List ℕ)) → WritesFront words left later before after → Ran words left later before after WriteFault
-ran-write_fault words left later before after w = record { bytes = w.bytes; ended = w.ended; gave = w.gave; ends = w.front }
+pub ran-form : (words : List (List ℕ)) (left later before after : Option (List ℕ)) (status : Status) → Some Replay ≡ form_of words → RanOver replay_output left later before after status → Ran words left later before after status
+unfolding output_of
+ran-form words left later before after status is ran =
+    record { bytes = ran.bytes; ended = ran.ended; gave = ran.gave; ends = subst (λ f. EndsAs (form_output f ran.bytes ran.ended) status before after) is ran.ends }
 
-pub ran-no_memory : (words : List (List ℕ)) (left later before after : Option (List ℕ)) → WritesFront words left later before after → Ran words left later before after NoMemory
-ran-no_memory words left later before after w = record { bytes = w.bytes; ended = w.ended; gave = w.gave; ends = w.front }
+-- want of memory before anything was done
+pub ran-nothing : (words : List (List ℕ)) (left before : Option (List ℕ)) → Ran words left left before before NoMemory
+ran-nothing words left before = record { bytes = []; ended = false; gave = gave-none left; ends = front-none before (output_of words [] false).text }
+

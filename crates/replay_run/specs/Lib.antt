@@ -1,5 +1,7 @@
+pub mod Forms
 pub mod Lines
 pub mod Trace
+pub mod Endings
 pub mod Text
 pub mod Output
 pub mod Runs

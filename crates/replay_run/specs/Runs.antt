@@ -39,13 +39,16 @@ EndsAs output BadLine before after = (output.status ≡ BadLine) × Wrote before
 EndsAs output ReadFault before after = (output.status ≡ ReadFault) × Wrote before after output.text
 EndsAs output TooLong before after = (output.status ≡ TooLong) × Wrote before after output.text
 
--- A run with these words took some bytes of the source, and what it wrote and its status are the output of the words
--- and these bytes.
-pub record Ran (words : List (List ℕ)) (left_before left_after held_before held_after : Option (List ℕ)) (status : Status) : Type 0 where
+-- A run took some bytes of the source, and what it wrote and its status are the output over these bytes.
+pub record RanOver (output : List ℕ → Bool → Output) (left_before left_after held_before held_after : Option (List ℕ)) (status : Status) : Type 0 where
   pub bytes : List ℕ
   pub ended : Bool
   pub gave : Gave left_before left_after bytes ended
-  pub ends : EndsAs (output_of words bytes ended) status held_before held_after
+  pub ends : EndsAs (output bytes ended) status held_before held_after
+
+-- the same of a run with these words
+abbrev pub Ran : List (List ℕ) → Option (List ℕ) → Option (List ℕ) → Option (List ℕ) → Option (List ℕ) → Status → Type 0
+Ran words left_before left_after held_before held_after status = RanOver (output_of words) left_before left_after held_before held_after status
 
 -- all answers of a trace were given, and what ended it: the sink holds a beginning of their text, and the rest of it
 -- is gathered

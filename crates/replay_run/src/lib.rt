@@ -1,7 +1,9 @@
 //! What the program does: a run reads its words and its input, and writes its output.
 #![tactic(auto)]
 
+mod form;
 mod input;
+mod laws;
 mod replay;
 mod reply;
 mod top;
@@ -10,6 +12,7 @@ mod steps;
 mod text;
 
 pub use top::run;
+pub use laws::endings_have_their_cause;
 pub use status::Status;
 
 /// The most lines of an input.

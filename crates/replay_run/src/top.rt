@@ -1,12 +1,15 @@
-ghost use Rattle.std.specs.Prelude.{◌≡◌, ℕ, List, map, string_bytes, IfOk, OnErr, Err};
+ghost use Rattle.std.specs.Prelude.{◌≡◌, ◌≢◌, map, string_bytes};
 ghost use Rattle.plasma_outside.specs.Causes.{Rose};
-ghost use Rattle.replay_run.specs.Output.{is_replay, usage_text};
-ghost use Rattle.replay_run.specs.Runs.{Ran, Wrote, WroteFront};
+ghost use Rattle.replay_run.specs.Forms.{is_verified};
+ghost use Rattle.replay_run.specs.Output.{replay_output, verify_output};
+ghost use Rattle.replay_run.specs.Runs.{Ran, RanOver, EndsAs};
 
+use super::form::{Form, form_of, is_verified};
 use super::input::take_all;
-use super::replay::{Stop, put_text, replay};
+use super::replay::{Stop, replay};
 use super::status::Status;
-use plasma_outside::{Sink, Source};
+use plasma_base::Bytes;
+use plasma_outside::{Sink, SinkRefusal, Source};
 use std::alloc::Global;
 
 /// The line that names the forms of the program.
@@ -15,8 +18,9 @@ const USAGE: &[u8] =
 
 /// Runs the program: reads the words that stand after its name and the source, and writes to the sink.
 ///
-/// `replay` reads a schedule and writes the text of its trace. Other words are no form: the run ends
-/// as `Usage`, reads nothing and writes the line that names the forms.
+/// `replay` reads a schedule and writes the text of its trace. `verify <key> <message> <signature>`
+/// reads nothing and writes `valid` or `invalid`. Other words are no form: the run ends as `Usage`,
+/// reads nothing and writes the line that names the forms.
 pub fn run<S: Source, K: Sink>(
     alloc: Global,
     words: &[String],
@@ -30,13 +34,36 @@ pub fn run<S: Source, K: Sink>(
     ensures read_fault { result ≡ Status.ReadFault → Rose (S.faults source.old) (S.faults source.new) }
     ensures write_fault { result ≡ Status.WriteFault → Rose (K.faults sink.old) (K.faults sink.new) }
 {
-    if !is_replay(words) {
-        return match write_usage(alloc, sink) {
-            Ok(()) => Status::Usage,
-            Err(Stop::WriteFault) => Status::WriteFault,
-            Err(Stop::NoMemory) => Status::NoMemory,
-        };
+    match form_of(alloc, words) {
+        Err(_) => Status::NoMemory,
+        Ok(None) => put_line(sink, USAGE, Status::Usage),
+        Ok(Some(Form::Replay)) => run_replay(alloc, source, sink),
+        Ok(Some(Form::Verify {
+            key,
+            message,
+            signature,
+        })) => run_verify(&key, &message, &signature, sink),
     }
+}
+
+/// Runs `verify`.
+fn run_verify<K: Sink>(key: &Bytes, message: &Bytes, signature: &Bytes, sink: &mut K) -> Status
+    ensures output { EndsAs (verify_output (is_verified key.now message.now signature.now)) result (K.held sink.old) (K.held sink.new) }
+    ensures read_fault { result ≢ Status.ReadFault }
+    ensures write_fault { result ≡ Status.WriteFault → Rose (K.faults sink.old) (K.faults sink.new) }
+{
+    if is_verified(key.as_slice(), message.as_slice(), signature.as_slice()) {
+        return put_line(sink, b"valid\n", Status::Done);
+    }
+    put_line(sink, b"invalid\n", Status::Done)
+}
+
+/// Runs `replay`.
+fn run_replay<S: Source, K: Sink>(alloc: Global, source: &mut S, sink: &mut K) -> Status
+    ensures output { RanOver replay_output (S.left source.old) (S.left source.new) (K.held sink.old) (K.held sink.new) result }
+    ensures read_fault { result ≡ Status.ReadFault → Rose (S.faults source.old) (S.faults source.new) }
+    ensures write_fault { result ≡ Status.WriteFault → Rose (K.faults sink.old) (K.faults sink.new) }
+{
     let mut input = Vec::new(alloc);
     let Ok(ended) = take_all(source, &mut input) else {
         return Status::NoMemory;
@@ -48,24 +75,17 @@ pub fn run<S: Source, K: Sink>(
     }
 }
 
-/// Whether the words are `replay` alone.
-#[tactic(auto, unfolding(crate::specs::Output::is_replay))]
-fn is_replay(words: &[String]) -> bool
-    ensures { result ≡ is_replay (map string_bytes words.now) }
+/// Puts the one line of a run, which then ends with this status.
+fn put_line<K: Sink>(sink: &mut K, line: &[u8], status: Status) -> Status
+    requires no_read_fault { status ≢ Status.ReadFault }
+    requires no_write_fault { status ≢ Status.WriteFault }
+    ensures output { EndsAs (record { status = status; text = line.now }) result (K.held sink.old) (K.held sink.new) }
+    ensures read_fault { result ≢ Status.ReadFault }
+    ensures write_fault { result ≡ Status.WriteFault → Rose (K.faults sink.old) (K.faults sink.new) }
 {
-    match words {
-        [word] => word.as_str() == "replay",
-        _ => false,
+    match sink.put_all(line) {
+        Ok(()) => status,
+        Err(SinkRefusal::Failed) => Status::WriteFault,
+        Err(SinkRefusal::NoMemory) => Status::NoMemory,
     }
-}
-
-fn write_usage<K: Sink>(alloc: Global, sink: &mut K) -> Result<(), Stop>
-    ensures ok { IfOk result (λ done. Wrote (K.held sink.old) (K.held sink.new) usage_text) }
-    ensures err { OnErr result (WroteFront (K.held sink.old) (K.held sink.new) usage_text) }
-    ensures cause { result ≡ Err Stop.WriteFault → Rose (K.faults sink.old) (K.faults sink.new) }
-{
-    let Ok(mut text) = USAGE.to_vec(alloc) else {
-        return Err(Stop::NoMemory);
-    };
-    put_text(sink, &mut text)
 }

@@ -1,0 +1,45 @@
+-- Why a replay ends, by its lines alone: the limits, the grammar and the rule of declarations.
+use Rattle.std.specs.Prelude.{◌≡◌, ℕ, ◌+◌, ◌==◌, ◌⊎◌, not, Bool, true, false, if◌then◌else◌, List, [], ◌∷◌, length, Option, Some, None}
+use Rattle.schedule_text.specs.declared.line.Line.{Line}
+use Rattle.schedule_text.specs.declared.line.Line.TheVariants.{Chain}
+use Rattle.schedule_text.specs.Grammar.{line_in}
+use Rattle.replay_run.specs.declared.reply.Ending.{Ending}
+use Rattle.replay_run.specs.declared.reply.Ending.TheVariants.{Complete, BadLine, ReadFault, TooLong}
+use Rattle.replay_run.specs.Lines.{lines_in, is_whole, text_of, is_too_long}
+use Rattle.replay_run.specs.Trace.{trace_of}
+
+-- a `chain` line
+abbrev pub is_chain_line : Line → Bool
+is_chain_line (Chain tag operator most) = true
+is_chain_line line = false
+
+-- line n is answered: it passes no limit, and it spells a line, which is a `chain` line exactly where n is 1
+pub record IsAnswered (n start : ℕ) (line : List ℕ) : Type 0 where
+  pub fits : is_too_long n start line ≡ false
+  pub spelled : Line
+  pub spells : line_in (text_of line) ≡ Some spelled
+  pub placed : is_chain_line spelled ≡ (n == 1)
+
+-- line n is bad: it spells no line, or a `chain` line that isn't the first, or another line that is
+abbrev pub IsBad : ℕ → List ℕ → Type 0
+IsBad n line =
+    (line_in (text_of line) ≡ None)
+    ⊎ ((spelled : Line) × (line_in (text_of line) ≡ Some spelled) × (is_chain_line spelled ≡ not (n == 1)))
+
+-- line n, which begins after so many bytes, ends the run so
+abbrev pub EndsAt : Bool → ℕ → ℕ → List ℕ → Ending → Type 0
+EndsAt ended n start line Complete = ⊥
+EndsAt ended n start line (TooLong m) = (m ≡ n) × (is_too_long n start line ≡ true)
+EndsAt ended n start line ReadFault = (is_too_long n start line ≡ false) × (ended ≡ false) × (is_whole line ≡ false)
+EndsAt ended n start line (BadLine m) = (m ≡ n) × (is_too_long n start line ≡ false) × IsBad n line
+
+-- the lines from line n on end so: the first that isn't answered says how, and where all are answered the end of the
+-- input does
+unfoldable pub EndsBy : Bool → ℕ → ℕ → List (List ℕ) → Ending → Type 0
+EndsBy ended n start [] ending = ending ≡ (if ended then Complete else ReadFault)
+EndsBy ended n start (line ∷ lines) ending =
+    EndsAt ended n start line ending ⊎ (IsAnswered n start line × EndsBy ended (n + 1) (start + length line) lines ending)
+
+-- a replay ends for the first cause that its lines have, whatever the contract answers
+abbrev pub EndingsHaveTheirCause : Type 0
+EndingsHaveTheirCause = (bytes : List ℕ) (ended : Bool) → EndsBy ended 1 0 (lines_in bytes) (trace_of bytes ended).ending

@@ -1,0 +1,25 @@
+-- The forms of the program: what its words ask for.
+use Rattle.std.specs.Prelude.{◌≡◌, ℕ, ◌==◌, ◌&&◌, Bool, true, false, if◌then◌else◌, List, [], ◌∷◌, length, codes, Option, Some, None, option_and_then, option_map}
+use Rattle.std.specs.Str.{bytes_eq}
+use Rattle.plasma_base.specs.HexText.{hex_in}
+use Rattle.lms_sign.specs.Valid.{is_valid}
+use Rattle.replay_run.specs.declared.form.Form.{Form}
+use Rattle.replay_run.specs.declared.form.Form.TheVariants.{Replay, Verify}
+
+-- `verify` with three byte words, each `0x` and an even number of lower-case digits
+abbrev pub verify_of : List ℕ → List ℕ → List ℕ → Option Form
+verify_of key message signature =
+    option_and_then (λ k. option_and_then (λ m. option_map (Verify k m) (hex_in signature)) (hex_in message)) (hex_in key)
+
+-- the form that the words spell, if they spell one
+unfoldable pub form_of : List (List ℕ) → Option Form
+form_of [] = None
+form_of (word ∷ []) = if bytes_eq word (codes "replay") then Some Replay else None
+form_of (word ∷ key ∷ []) = None
+form_of (word ∷ key ∷ message ∷ []) = None
+form_of (word ∷ key ∷ message ∷ signature ∷ []) = if bytes_eq word (codes "verify") then verify_of key message signature else None
+form_of (word ∷ key ∷ message ∷ signature ∷ more ∷ words) = None
+
+-- the key has 56 bytes and reads, and the signature of the message is valid under it (RFC 8554)
+unfoldable pub is_verified : List ℕ → List ℕ → List ℕ → Bool
+is_verified key message signature = (length key == 56) && is_valid key message signature
