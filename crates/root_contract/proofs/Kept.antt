@@ -18,7 +18,8 @@ use Rattle.root_rules.proofs.Accepted.{none_holds, deposit_covered, starts, fini
 use Rattle.root_rules.proofs.Kept.{covered, finish-covered}
 use Rattle.root_rules.proofs.Sums.{total}
 use Rattle.root_contract.specs.Keeps.{State, IsStarted, Keeps}
-use Rattle.root_contract.proofs.Places.{coin_in-push, list_any-push, all-push, all-without}
+use Rattle.root_contract.proofs.Places.{coin_in-push, list_any-push, all-push}
+use Rattle.root_rules.proofs.Exits.{all-without, without-none}
 
 abbrev pub Accepted : Chain → RootCall → Type 0
 Accepted chain call = is_accepted (answer_to (rules_of chain) chain.log call) ≡ true
@@ -90,6 +91,11 @@ module _ (chain : Chain) (s : State) (k : Keeps chain s) where
   unfolding answer_to
   bond-le account c block is = omega (arith, k.balances_are account, (starts chain.log account c block (coin_at chain.log c) is).covered)
 
+  -- an exit that is started didn't stand
+  alone : (account c block : ℕ) → Accepted chain (StartDeposit account c block) → without c block (exits chain.log) ≡ exits chain.log
+  unfolding answer_to exit_at
+  alone account c block is = without-none c block (exits chain.log) (starts chain.log account c block (coin_at chain.log c) is).alone
+
   pub exit-stands : (account c e : ℕ) → Accepted chain (Finish account c e) → (exit : Exit) × (exit_at chain.log c e ≡ Some exit)
   unfolding answer_to
   exit-stands account c e is = finishes chain.log c (exit_at chain.log c e) is
@@ -154,6 +160,7 @@ module _ (chain : Chain) (s : State) (k : Keeps chain s) where
   unfolding IsLegal now blocks coins coin_at exits is_withdrawn balance_of pays takes funded
   kept-StartDeposit account c block balances is sets =
       let exit_of : ℕ → Exit = λ start. record { coin = c; block = block; account = account; start = start } in
+      let same : without c block (exits chain.log) ≡ exits chain.log = alone account c block is in
       record {
         legal = (is, k.legal);
         clock = k.clock;
@@ -161,7 +168,7 @@ module _ (chain : Chain) (s : State) (k : Keeps chain s) where
         coin_count = k.coin_count;
         block_count = k.block_count;
         coins_are = k.coins_are;
-        exits_are = λ i. k.exits_are i ++ exit_of (k.clock i) ∷ [];
+        exits_are = (λ i. k.exits_are i ++ exit_of (k.clock i) ∷ []) ∙ ap (λ l. l ++ exit_of (now chain.log) ∷ []) (sym same);
         started = all-push IsStarted s.exits (exit_of s.clock) k.started k.clock_limit;
         paid = k.paid;
         balances_are = taken_from s.balances balances (balance_of chain.log) account EXIT_BOND k.balances_are sets;

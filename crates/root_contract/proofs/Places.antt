@@ -1,13 +1,10 @@
 -- Lists: the first that passes, by its place; one more at the end; what holds of each.
-use Rattle.std.proofs.Common.{◌≡◌, ℕ, zero, suc, ◌+◌, ◌-◌, ◌≤◌, ◌==◌, ◌||◌, Bool, true, false, cond, not, if◌then◌else◌, List, [], ◌∷◌, ◌++◌, length, Some, None, position, find, inl, inr, refl, ap, ◌∙◌, arith}
+use Rattle.std.proofs.Common.{◌≡◌, ℕ, zero, suc, ◌+◌, ◌-◌, ◌≤◌, ◌==◌, ◌||◌, Bool, true, false, cond, if◌then◌else◌, List, [], ◌∷◌, ◌++◌, length, Some, None, position, find, inl, inr, refl, ◌∙◌, arith}
 use Rattle.std.specs.Prelude.{slice_get, IfSome}
-use Rattle.std.specs.List.{AllByRecursion, list_any, position_or_len, remove}
+use Rattle.std.specs.List.{AllByRecursion, list_any, position_or_len}
 use Rattle.std.proofs.lemmas.List.Folds.{list_any-append}
-use Rattle.std.proofs.Math.Numerals.{one-add}
 use Rattle.std.proofs.lemmas.Bool.{cases_lt, cases_eq, eq-eqb, ne_eqb, lt-ltb, le-ltb}
 use Rattle.root_rules.specs.declared.call.Coin.{Coin}
-use Rattle.root_rules.specs.declared.call.Exit.{Exit}
-use Rattle.root_rules.specs.Views.{without, is_exit}
 use Rattle.root_contract.specs.Lists.{coin_in}
 
 pub position-is : {X : Type 0} (p : X → Bool) (xs : List X) (i : ℕ) → position p xs ≡ Some i → position_or_len p xs ≡ i
@@ -32,22 +29,6 @@ position-none p xs found =
   where
     some_none : (x : ℕ) → Some x ≡ None → ⊥
     some_none x e = cc
-
-pub remove-first : (c e : ℕ) (exits : List Exit) → remove exits (position_or_len (is_exit c e) exits) ≡ without c e exits
-remove-first c e [] = refl
-remove-first c e (s ∷ ss) =
-    elim (is_exit c e s) as (λ b. remove (s ∷ ss) (cond (not b) (1 + position_or_len (is_exit c e) ss) 0) ≡ (if b then ss else s ∷ without c e ss)) [
-      | true ↦ refl
-      | false ↦ rw one-add (ap (λ l. s ∷ l) (remove-first c e ss))
-    ]
-
-pub without-none : (c e : ℕ) (exits : List Exit) → length exits ≤ position_or_len (is_exit c e) exits → exits ≡ without c e exits
-without-none c e [] h = refl
-without-none c e (s ∷ ss) h =
-    (elim (is_exit c e s) as (λ b. length (s ∷ ss) ≤ cond (not b) (1 + position_or_len (is_exit c e) ss) 0 → s ∷ ss ≡ (if b then ss else s ∷ without c e ss)) [
-      | true ↦ λ k. absurd (omega arith)
-      | false ↦ λ k. ap (λ l. s ∷ l) (without-none c e ss (omega arith))
-    ]) h
 
 slice_get-push : {X : Type 0} (xs : List X) (x : X) (m : ℕ) → slice_get (xs ++ x ∷ []) m ≡ (if m == length xs then Some x else slice_get xs m)
 slice_get-push [] x zero = refl
@@ -87,8 +68,3 @@ found_if P test (x ∷ xs) h = elim (test x) as (λ b. IfSome (cond b (Some x) (
 pub all-push : {X : Type 0} (P : X → Type 0) (xs : List X) (x : X) → AllByRecursion P xs → P x → AllByRecursion P (xs ++ x ∷ [])
 all-push P [] x h p = (p, tt)
 all-push P (y ∷ ys) x h p = (h.0, all-push P ys x h.1 p)
-
-pub all-without : (P : Exit → Type 0) (c e : ℕ) (exits : List Exit) → AllByRecursion P exits → AllByRecursion P (without c e exits)
-all-without P c e [] h = tt
-all-without P c e (s ∷ ss) h =
-    elim (is_exit c e s) as (λ b. AllByRecursion P (if b then ss else s ∷ without c e ss)) [ true ↦ h.1 | false ↦ (h.0, all-without P c e ss h.1) ]

@@ -3,6 +3,7 @@ ghost use Rattle.root_rules.specs.Views.{now, blocks, coins, coin_at, exit_at, i
 ghost use Rattle.root_rules.specs.Money.{balance_of, funded, finish_pays, amount_of};
 ghost use Rattle.root_rules.specs.Table.{decided, fund_causes, tick_causes, deposit_causes, start_deposit_answer, finish_answer, answer_to, is_accepted, log_after};
 ghost use Rattle.root_rules.specs.Chain.{rules_of, with_log};
+ghost use Rattle.root_rules.specs.Laws.{IsLegal};
 ghost use Rattle.root_contract.specs.Keeps.{IsStarted};
 
 use super::balances::Balances;
@@ -55,9 +56,11 @@ impl Contract {
         }
     }
 
-    /// The accepted calls, and what the contract was made with.
+    /// The accepted calls, and what the contract was made with. Each was accepted after those before
+    /// it, so the laws of `root_rules` on such logs hold of it.
     pub fn log(&self) -> &RootLog
-        ensures { result.now ≡ self.now }
+        ensures chain { result.now ≡ self.now }
+        ensures legal { IsLegal (rules_of self.now) self.now.log }
     {
         &self.log
     }

@@ -1,4 +1,4 @@
-ghost use Rattle.std.specs.Prelude.{◌≡◌, ◌<◌, ◌==◌, ◌++◌, ◌∷◌, [], find, position, vec_len, vec_capacity};
+ghost use Rattle.std.specs.Prelude.{◌≡◌, ◌<◌, ◌==◌, ◌++◌, ◌∷◌, [], find, vec_len, vec_capacity};
 ghost use Rattle.std.specs.Option.{option_copied};
 ghost use Rattle.std.specs.List.{list_any};
 ghost use Rattle.root_rules.specs.Views.{is_exit, without};
@@ -45,17 +45,7 @@ pub fn is_key(key: &[u8; 56]) -> bool
 pub fn remove_exit(exits: &mut Vec<Exit>, coin: u64, block: u64)
     ensures { exits.new.items ≡ without coin block exits.old.items }
 {
-    if let Some(place) = place_of(exits, coin, block) {
-        exits.remove(place);
-    }
-}
-
-fn place_of(exits: &[Exit], coin: u64, block: u64) -> Option<usize>
-    ensures { result ≡ position (is_exit coin block) exits.now }
-{
-    exits
-        .iter()
-        .position(|exit| exit.coin == coin && exit.block == block)
+    exits.retain(|exit| !(exit.coin == coin && exit.block == block));
 }
 
 /// Adds an item for which there is room.

@@ -36,14 +36,18 @@ deposit_covered rules log account amount key is = ltb-false _ _ (none_holds (dep
 pub record Starts (log : List RootCall) (account c block : ℕ) (o : Option Coin) : Type 0 where
   pub coin : Coin
   pub there : o ≡ Some coin
-  pub alone : is_some (exit_at log c block) ≡ false
+  pub alone : exit_at log c block ≡ None
   pub covered : EXIT_BOND ≤ balance_of log account
 
 pub starts : (log : List RootCall) (account c block : ℕ) (o : Option Coin) → is_accepted (start_deposit_answer log account c block o) ≡ true → Starts log account c block o
 starts log account c block None is = absurd (cc)
 starts log account c block (Some coin) is =
     let h = none_holds (start_deposit_causes log account c block coin) (Started (now log + EXIT_PERIOD)) is in
-    record { coin = coin; there = refl; alone = h.1.1.1.0; covered = ltb-false _ _ h.1.1.1.1.0 }
+    record { coin = coin; there = refl; alone = none (exit_at log c block) h.1.1.1.0; covered = ltb-false _ _ h.1.1.1.1.0 }
+  where
+    none : (o : Option Exit) → is_some o ≡ false → o ≡ None
+    none None is_none = refl
+    none (Some exit) wrong = absurd (cc)
 
 -- an accepted finish is of a standing exit
 pub finishes : (log : List RootCall) (c : ℕ) (o : Option Exit) → is_accepted (finish_answer log c o) ≡ true → (exit : Exit) × (o ≡ Some exit)

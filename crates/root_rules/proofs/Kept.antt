@@ -9,6 +9,7 @@ use Rattle.root_rules.specs.Table.{Rules, answer_to, is_accepted, log_after, log
 use Rattle.root_rules.specs.Laws.{IsLegal, IsBalanced, LogsAreLegal, MoneyIsKept, BalancesAreCovered}
 use Rattle.root_rules.proofs.Accepted.{deposit_covered, starts, finishes}
 use Rattle.root_rules.proofs.Sums.{total, sum_below-zero, sum_below-term, sum_below-balance_of}
+use Rattle.root_rules.proofs.Exits.{count, AreDistinct}
 use Rattle.root_rules.proofs.Moves.{Sound, Moves, moves-Fund, moves-Tick, moves-Deposit, moves-StartDeposit, moves-Finish}
 
 moves : (rules : Rules) (n : ℕ) (log : List RootCall) → Sound n log → (call : RootCall) → account_of call < n → is_accepted (answer_to rules log call) ≡ true → Moves n log call
@@ -18,10 +19,14 @@ moves rules n log sound (Tick time) below is = moves-Tick n log sound time
 moves rules n log sound (Deposit account amount key) below is = moves-Deposit n log sound account amount key below (deposit_covered rules log account amount key is)
 moves rules n log sound (StartDeposit account c block) below is =
     let h = starts log account c block (coin_at log c) is in
-    moves-StartDeposit n log sound account c block h.coin below h.there h.covered
+    moves-StartDeposit n log sound account c block h.coin below h.there h.alone h.covered
 moves rules n log sound (Finish account c e) below is =
     let h = finishes log c (exit_at log c e) is in
     moves-Finish n log sound account c e h.0 h.1
+
+distinct-none : AreDistinct []
+unfolding count
+distinct-none c e = omega arith
 
 -- what each log of accepted calls keeps
 record Kept (n : ℕ) (log : List RootCall) : Type 0 where
@@ -30,7 +35,7 @@ record Kept (n : ℕ) (log : List RootCall) : Type 0 where
 
 kept : (rules : Rules) (n : ℕ) (log : List RootCall) → AccountsBelow n log → IsLegal rules log → Kept n log
 unfolding IsLegal exits is_withdrawn coins balance_of funded coin_at sum_below
-kept rules n [] below legal = record { sound = record { exits_in = tt; paid_in = λ c wrong. absurd (cc) }; money = omega (arith, sum_below-zero n) }
+kept rules n [] below legal = record { sound = record { exits_in = tt; paid_in = λ c wrong. absurd (cc); distinct = distinct-none }; money = omega (arith, sum_below-zero n) }
 kept rules n (call ∷ log) below legal =
     let before = kept rules n log below.1 legal.1 in
     let m = moves rules n log before.sound call below.0 legal.0 in

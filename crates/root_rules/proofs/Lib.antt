@@ -1,6 +1,6 @@
 pub mod Accepted
 pub mod Sums
-mod Exits
+pub mod Exits
 mod Moves
 pub mod Kept
 pub mod Stands

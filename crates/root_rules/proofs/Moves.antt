@@ -1,5 +1,5 @@
 -- What each accepted call does to money and to the exits.
-use Rattle.std.proofs.Common.{◌≡◌, ℕ, ◌+◌, ◌*◌, ◌<◌, ◌≤◌, ◌==◌, Bool, true, false, if◌then◌else◌, List, [], ◌∷◌, length, Some, inl, inr, refl, sym, subst, arith, length-append}
+use Rattle.std.proofs.Common.{None, ◌++◌, ap, ◌≡◌, ℕ, ◌+◌, ◌*◌, ◌<◌, ◌≤◌, ◌==◌, Bool, true, false, if◌then◌else◌, List, [], ◌∷◌, length, Some, inl, inr, refl, sym, subst, arith, length-append}
 use Rattle.std.specs.List.{AllByRecursion}
 use Rattle.std.proofs.lemmas.Bool.{cases_eq, eq-eqb, ne_eqb, false_from_ne_true}
 use Rattle.root_rules.specs.declared.TheConstants.{EXIT_BOND}
@@ -10,12 +10,13 @@ use Rattle.root_rules.specs.declared.call.RootCall.TheVariants.{Fund, Tick, Depo
 use Rattle.root_rules.specs.Views.{now, coins, coin_at, without, exits, exit_at, is_withdrawn}
 use Rattle.root_rules.specs.Money.{amount_of, finish_pays, pays, takes, share_of, balance_of, funded, sum_below, unpaid, held}
 use Rattle.root_rules.proofs.Sums.{total, MovedBelow, sum_below-same, sum_below-next, sum_below-at, share_of-le}
-use Rattle.root_rules.proofs.Exits.{ExitIn, all-append, all-weaker, all-without, found, coin-of, length-without}
+use Rattle.root_rules.proofs.Exits.{ExitIn, AreDistinct, all-append, all-weaker, all-without, found, coin-of, without-none, length-taken, distinct-without, distinct-started}
 
 -- what holds of a log of accepted calls of the first n accounts
 pub record Sound (n : ℕ) (log : List RootCall) : Type 0 where
   pub exits_in : AllByRecursion (ExitIn n (coins log)) (exits log)
   pub paid_in : (c : ℕ) → is_withdrawn log c ≡ true → c ≤ coins log
+  pub distinct : AreDistinct (exits log)
 
 -- what one more call does
 pub record Moves (n : ℕ) (log : List RootCall) (call : RootCall) : Type 0 where
@@ -73,12 +74,12 @@ module _ (n : ℕ) (log : List RootCall) (sound : Sound n log) where
   pub moves-Fund : (account amount : ℕ) → account < n → Moves n log (Fund account amount)
   unfolding coins exits is_withdrawn coin_at pays takes funded share_of
   moves-Fund account amount below =
-      record { sound = record { exits_in = sound.exits_in; paid_in = sound.paid_in }; held_moves = omega arith; enough = λ a. omega arith; paid = (below, tt); taken = tt }
+      record { sound = record { exits_in = sound.exits_in; paid_in = sound.paid_in; distinct = sound.distinct }; held_moves = omega arith; enough = λ a. omega arith; paid = (below, tt); taken = tt }
 
   pub moves-Tick : (time : ℕ) → Moves n log (Tick time)
   unfolding coins exits is_withdrawn coin_at pays takes funded share_of
   moves-Tick time =
-      record { sound = record { exits_in = sound.exits_in; paid_in = sound.paid_in }; held_moves = omega arith; enough = λ a. omega arith; paid = tt; taken = tt }
+      record { sound = record { exits_in = sound.exits_in; paid_in = sound.paid_in; distinct = sound.distinct }; held_moves = omega arith; enough = λ a. omega arith; paid = tt; taken = tt }
 
   pub moves-Deposit : (account amount : ℕ) (key : List ℕ) → account < n → amount ≤ balance_of log account → Moves n log (Deposit account amount key)
   unfolding coins exits is_withdrawn coin_at pays takes funded
@@ -87,6 +88,7 @@ module _ (n : ℕ) (log : List RootCall) (sound : Sound n log) where
         sound = record {
           exits_in = all-weaker (ExitIn n (coins log)) (ExitIn n (coins log + 1)) (λ exit old. (omega (arith, old.0), old.1)) (exits log) sound.exits_in;
           paid_in = λ c is. omega (arith, sound.paid_in c is);
+          distinct = sound.distinct;
         };
         held_moves = omega (arith, unpaid-more log account amount key sound.paid_in);
         enough = share_of-le (balance_of log) account amount enough;
@@ -94,13 +96,18 @@ module _ (n : ℕ) (log : List RootCall) (sound : Sound n log) where
         taken = (below, tt);
       }
 
-  pub moves-StartDeposit : (account c block : ℕ) (coin : Coin) → account < n → coin_at log c ≡ Some coin → EXIT_BOND ≤ balance_of log account → Moves n log (StartDeposit account c block)
-  unfolding coins exits is_withdrawn coin_at pays takes funded
-  moves-StartDeposit account c block coin below there enough =
+  pub moves-StartDeposit : (account c block : ℕ) (coin : Coin) → account < n → coin_at log c ≡ Some coin → exit_at log c block ≡ None → EXIT_BOND ≤ balance_of log account → Moves n log (StartDeposit account c block)
+  unfolding coins exits exit_at is_withdrawn coin_at pays takes funded
+  moves-StartDeposit account c block coin below there alone enough =
       let new : Exit = record { coin = c; block = block; account = account; start = now log } in
+      let same : without c block (exits log) ≡ exits log = without-none c block (exits log) alone in
       record {
-        sound = record { exits_in = all-append (ExitIn n (coins log)) (exits log) new sound.exits_in (coin_at-le log c coin there, below); paid_in = sound.paid_in };
-        held_moves = omega (arith, length-append (exits log) (new ∷ []));
+        sound = record {
+          exits_in = all-append (ExitIn n (coins log)) (without c block (exits log)) new (all-without (ExitIn n (coins log)) c block (exits log) sound.exits_in) (coin_at-le log c coin there, below);
+          paid_in = sound.paid_in;
+          distinct = subst (λ l. AreDistinct (l ++ new ∷ [])) (sym same) (distinct-started new (exits log) sound.distinct alone);
+        };
+        held_moves = omega (arith, length-append (without c block (exits log)) (new ∷ []), ap length same);
         enough = share_of-le (balance_of log) account EXIT_BOND enough;
         paid = tt;
         taken = (below, tt);
@@ -115,12 +122,13 @@ module _ (n : ℕ) (log : List RootCall) (sound : Sound n log) where
         sound = record {
           exits_in = all-without (ExitIn n (coins log)) c e (exits log) sound.exits_in;
           paid_in = λ k is. paid_then (coins log) c k (is_withdrawn log k) below (sound.paid_in k) is;
+          distinct = distinct-without c e (exits log) sound.distinct;
         };
         held_moves =
             subst (λ o. sum_below (λ k. if (if c == k then true else is_withdrawn log k) then 0 else amount_of (coin_at log k)) (coins log + 1) + EXIT_BOND * length (without c e (exits log)) + total (finish_pays (is_withdrawn log c) (amount_of (coin_at log c)) o) + funded log ≡ held log + 0 + funded log) (sym there)
             (omega (
               arith,
-              length-without c e (exits log) exit there,
+              length-taken c e (exits log) exit sound.distinct there,
               total-finish_pays (is_withdrawn log c) (amount_of (coin_at log c)) exit,
               unpaid-after (is_withdrawn log) (λ k. amount_of (coin_at log k)) c (coins log + 1) (omega arith),
             ));

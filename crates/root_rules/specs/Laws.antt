@@ -1,8 +1,9 @@
 -- What holds of every list of calls.
-use Rattle.std.specs.Prelude.{◌≡◌, ℕ, ◌+◌, ◌≤◌, ◌==◌, ◌&&◌, Bool, true, false, if◌then◌else◌, is_some, List, [], ◌∷◌}
+use Rattle.std.specs.Prelude.{◌≡◌, ℕ, ◌+◌, ◌≤◌, ◌==◌, ◌&&◌, true, if◌then◌else◌, List, [], ◌∷◌, Option, Some, None}
 use Rattle.root_rules.specs.declared.call.RootCall.{RootCall}
 use Rattle.root_rules.specs.declared.call.RootCall.TheVariants.{StartDeposit, Finish}
-use Rattle.root_rules.specs.Views.{exit_at}
+use Rattle.root_rules.specs.declared.call.Exit.{Exit}
+use Rattle.root_rules.specs.Views.{now, exit_at}
 use Rattle.root_rules.specs.Money.{sum_below, balance_of, held, funded, AccountsBelow}
 use Rattle.root_rules.specs.Table.{Rules, answer_to, is_accepted, log_after_all}
 
@@ -27,21 +28,17 @@ MoneyIsKept = (rules : Rules) (n : ℕ) (calls : List RootCall) → AccountsBelo
 abbrev pub BalancesAreCovered : Type 0
 BalancesAreCovered = (rules : Rules) (log : List RootCall) (account : ℕ) → IsLegal rules log → balance_of log account + held log ≤ funded log
 
--- the call starts the exit of coin c at block e
-abbrev pub begins : ℕ → ℕ → RootCall → Bool
-begins c e (StartDeposit account coin block) = coin == c && block == e
-begins c e call = false
+-- The exit of coin c at block e by the calls that name it: it stands where the last call that starts or finishes it is
+-- a start, and its account and its time are those of that call.
+unfoldable pub last_start : List RootCall → ℕ → ℕ → Option Exit
+last_start [] c e = None
+last_start (StartDeposit account coin block ∷ log) c e =
+    if coin == c && block == e
+    then Some (record { coin = coin; block = block; account = account; start = now log })
+    else last_start log c e
+last_start (Finish account coin exit ∷ log) c e = if coin == c && exit == e then None else last_start log c e
+last_start (call ∷ log) c e = last_start log c e
 
--- the call finishes it
-abbrev pub ends : ℕ → ℕ → RootCall → Bool
-ends c e (Finish account coin exit) = coin == c && exit == e
-ends c e call = false
-
--- the last call that starts or finishes the exit is a start
-unfoldable pub stands : List RootCall → ℕ → ℕ → Bool
-stands [] c e = false
-stands (call ∷ log) c e = if begins c e call then true else (if ends c e call then false else stands log c e)
-
--- an exit stands exactly where the last call that starts or finishes it is a start
+-- the standing exits are those of their last starts, in every list of calls
 abbrev pub ExitsStand : Type 0
-ExitsStand = (rules : Rules) (log : List RootCall) (c e : ℕ) → IsLegal rules log → is_some (exit_at log c e) ≡ stands log c e
+ExitsStand = (log : List RootCall) (c e : ℕ) → exit_at log c e ≡ last_start log c e

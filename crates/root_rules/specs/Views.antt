@@ -1,5 +1,5 @@
 -- What a log of accepted calls says. A log is the list of these calls, the newest first.
-use Rattle.std.specs.Prelude.{ℕ, ◌+◌, ◌==◌, ◌&&◌, Bool, true, false, if◌then◌else◌, List, [], ◌∷◌, ◌++◌, Option, Some, None, find}
+use Rattle.std.specs.Prelude.{ℕ, ◌+◌, ◌==◌, ◌&&◌, not, Bool, true, false, if◌then◌else◌, List, [], ◌∷◌, ◌++◌, Option, Some, None, find, filter}
 use Rattle.root_rules.specs.declared.call.RootCall.{RootCall}
 use Rattle.root_rules.specs.declared.call.RootCall.TheVariants.{Tick, Deposit, StartDeposit, Finish}
 use Rattle.root_rules.specs.declared.call.Coin.{Coin}
@@ -36,15 +36,16 @@ coin_at (call ∷ log) c = coin_at log c
 abbrev pub is_exit : ℕ → ℕ → Exit → Bool
 is_exit c e exit = exit.coin == c && exit.block == e
 
--- the exits without the first one of coin c at block e
+-- the exits without that of coin c at block e
 abbrev pub without : ℕ → ℕ → List Exit → List Exit
-without c e [] = []
-without c e (exit ∷ exits) = if is_exit c e exit then exits else exit ∷ without c e exits
+without c e exits = filter (λ exit. not (is_exit c e exit)) exits
 
--- the standing exits, in the order of their starts
+-- the standing exits, in the order of their starts: a start adds its exit, in place of one of that name, and a finish
+-- takes it out
 unfoldable pub exits : List RootCall → List Exit
 exits [] = []
-exits (StartDeposit account coin block ∷ log) = exits log ++ record { coin = coin; block = block; account = account; start = now log } ∷ []
+exits (StartDeposit account coin block ∷ log) =
+    without coin block (exits log) ++ record { coin = coin; block = block; account = account; start = now log } ∷ []
 exits (Finish account coin exit ∷ log) = without coin exit (exits log)
 exits (call ∷ log) = exits log
 

@@ -11,12 +11,13 @@ pub fn money_is_kept()
     ensures { MoneyIsKept }
 {}
 
-/// A balance, with all that is held, is no more than what was funded.
+/// A balance, with all that is held, is no more than what was funded, over a log of accepted calls.
 pub fn balances_are_covered()
     ensures { BalancesAreCovered }
 {}
 
-/// An exit stands exactly where the last call that starts or finishes it is a start.
+/// An exit stands exactly where the last call that starts or finishes it is a start, whose account and
+/// time it has. So it is in every list of calls, also one that no contract accepted.
 pub fn exits_stand()
     ensures { ExitsStand }
 {}
