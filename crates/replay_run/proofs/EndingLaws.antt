@@ -1,5 +1,5 @@
 -- A replay ends for the first cause that its lines have.
-use Rattle.std.proofs.Common.{◌≡◌, ℕ, ◌+◌, ◌≤◌, ◌==◌, ◌&&◌, ◌⊎◌, not, Bool, true, false, if◌then◌else◌, List, [], ◌∷◌, length, Option, Some, None, Result, Ok, Err, inl, inr, refl, sym, ap, ◌∙◌, subst, arith}
+use Rattle.std.proofs.Common.{◌≡◌, ℕ, ◌+◌, ◌≤◌, ◌==◌, ◌&&◌, ◌||◌, ◌⊎◌, nat_lt, not, Bool, true, false, if◌then◌else◌, List, [], ◌∷◌, length, Option, Some, None, Result, Ok, Err, inl, inr, refl, sym, ap, ◌∙◌, subst, arith}
 use Rattle.std.specs.Prelude.{is_none, option_and_then}
 use Rattle.std.proofs.lemmas.Bool.{ne_eqb, and_parts, not-true}
 use Rattle.root_rules.specs.Chain.{Chain}
@@ -8,9 +8,12 @@ use Rattle.schedule_text.specs.declared.line.Line.TheVariants.{Chain as ChainLin
 use Rattle.schedule_text.specs.Grammar.{line_in}
 use Rattle.replay_run.specs.declared.reply.Ending.{Ending}
 use Rattle.replay_run.specs.declared.reply.Ending.TheVariants.{BadLine, ReadFault, TooLong}
-use Rattle.replay_run.specs.Lines.{is_whole, text_of, is_too_long}
+use Rattle.std.proofs.lemmas.Bool.{true≢false, ltb-false}
+use Rattle.replay_run.specs.declared.TheConstants.{MOST_LINES, MOST_LINE_BYTES, MOST_INPUT_BYTES}
+use Rattle.replay_run.specs.Lines.{lines_in, is_whole, text_of, is_too_long}
+use Rattle.replay_run.proofs.LineLaws.{AreCut, lines-are_cut, size_of, size_of-lines_in}
 use Rattle.replay_run.specs.Trace.{Stepped, Trace, step, stepped_or, line_step, onward, trace_from, trace_of}
-use Rattle.replay_run.specs.Endings.{is_chain_line, IsAnswered, IsBad, EndsAt, EndsBy, EndingsHaveTheirCause}
+use Rattle.replay_run.specs.Endings.{is_chain_line, IsAnswered, EndsAt, EndsBy, EndingsHaveTheirCause}
 
 -- a step is made of a `chain` line where there is no chain yet, and of another line where there is one
 steps-where : (state : Option Chain) (line : Line) (stepped : Stepped) → step state line ≡ Some stepped → is_chain_line line ≡ is_none state
@@ -72,3 +75,28 @@ trace-ends ended n start state (line ∷ lines) low first =
 pub endings_have_causes : EndingsHaveTheirCause
 unfolding trace_of
 endings_have_causes bytes ended = trace-ends ended 1 0 None _ (omega arith) refl
+
+fits_of : (a b c : Bool) → (a || b || c) ≡ false → c ≡ false
+fits_of true b c wrong = absurd (true≢false wrong)
+fits_of false true c wrong = absurd (true≢false wrong)
+fits_of false false c is = is
+
+-- a line that passes no limit ends within the bytes of an input
+within : (n start : ℕ) (line : List ℕ) → is_too_long n start line ≡ false → start + length line ≤ MOST_INPUT_BYTES
+within n start line fits = ltb-false MOST_INPUT_BYTES (start + length line) (fits_of (nat_lt MOST_LINES n) (nat_lt MOST_LINE_BYTES (length (text_of line))) _ fits)
+
+-- a run that ends as a read fault wasn't at its input's end, and the input isn't too long
+fault-within : (ended : Bool) (n start : ℕ) (lines : List (List ℕ)) → AreCut lines → start ≤ MOST_INPUT_BYTES → EndsBy ended n start lines ReadFault → (ended ≡ false) × (start + size_of lines ≤ MOST_INPUT_BYTES)
+unfolding EndsBy size_of
+fault-within true n start [] cut low wrong = absurd (cc)
+fault-within false n start [] cut low is = (refl, omega arith)
+fault-within ended n start (line ∷ lines) cut low ends =
+    elim ends [
+      | inl at ↦ (at.1, let none : size_of lines ≡ 0 = ap size_of (cut.1 at.2) in omega (arith, none, within n start line at.0))
+      | inr on ↦ let rest = fault-within ended (n + 1) (start + length line) lines cut.2 (within n start line on.0.fits) on.1 in (rest.0, omega (arith, rest.1))
+    ]
+
+pub fault-is : (bytes : List ℕ) (ended : Bool) → (trace_of bytes ended).ending ≡ ReadFault → (ended ≡ false) × (length bytes ≤ MOST_INPUT_BYTES)
+fault-is bytes ended is =
+    let h = fault-within ended 1 0 (lines_in bytes) (lines-are_cut bytes) (omega arith) (subst (EndsBy ended 1 0 (lines_in bytes)) is (endings_have_causes bytes ended)) in
+    (h.0, omega (arith, h.1, size_of-lines_in bytes))

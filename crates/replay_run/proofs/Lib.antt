@@ -1,3 +1,3 @@
 mod LineLaws
-mod RunLaws
 mod EndingLaws
+mod RunLaws

@@ -1,5 +1,5 @@
 -- The first line of an input ends at the first line feed.
-use Rattle.std.proofs.Common.{◌≡◌, ℕ, zero, suc, ◌+◌, ◌-◌, ◌<◌, ◌≤◌, ◌==◌, Bool, true, false, cond, not, if◌then◌else◌, List, [], ◌∷◌, ◌++◌, length, take, drop, refl, sym, ap, ◌∙◌, arith, add-one}
+use Rattle.std.proofs.Common.{◌≡◌, ℕ, suc, ◌+◌, ◌-◌, ◌<◌, ◌≤◌, ◌==◌, true, false, cond, not, if◌then◌else◌, List, [], ◌∷◌, length, take, drop, refl, sym, ap, ◌∙◌, arith, add-one}
 use Rattle.std.proofs.Math.Numerals.{one-add}
 use Rattle.std.specs.List.{position_or_len}
 use Rattle.std.specs.Prelude.{slice_index}
@@ -37,23 +37,49 @@ whole-cons b (x ∷ xs) some =
     let short : length (x ∷ xs) - 1 ≡ length xs = omega arith in
     ap (λ n. is_feed (slice_index (b ∷ x ∷ xs) n)) long ∙ ap (λ n. is_feed (slice_index (x ∷ xs) n)) (sym short)
 
--- the line that is cut off behind a line feed is whole
-whole-cut : (bytes : List ℕ) → position_or_len is_feed bytes < length bytes → is_whole (take (position_or_len is_feed bytes + 1) bytes) ≡ true
-whole-cut [] below = absurd (omega arith)
-whole-cut (b ∷ bs) below =
-    (elim (b == 10) as (λ t. (b == 10) ≡ t → cond (not t) (1 + position_or_len is_feed bs) 0 < length (b ∷ bs) → is_whole (take (cond (not t) (1 + position_or_len is_feed bs) 0 + 1) (b ∷ bs)) ≡ true) [
-      | true ↦ λ is h. is
-      | false ↦ λ is h.
-        let within : 0 < length (take (suc (position_or_len is_feed bs)) bs) = omega (arith, length-take (suc (position_or_len is_feed bs)) bs) in
-        rw (one-add, add-one) (whole-cons b (take (suc (position_or_len is_feed bs)) bs) within ∙ rw add-one at (whole-cut bs (omega arith)))
-    ]) refl below
+-- each line has a byte, and one without a line feed is the last
+abbrev pub AreCut : List (List ℕ) → Type 0
+AreCut [] = Unit {0}
+AreCut (line ∷ lines) = (0 < length line) × (is_whole line ≡ false → lines ≡ []) × AreCut lines
+
+cut-before : (b : ℕ) (lines : List (List ℕ)) → AreCut lines → AreCut (before_lines b lines)
+cut-before b [] cut = (omega arith, λ unended. refl, tt)
+cut-before b (line ∷ lines) cut = (omega arith, λ unended. cut.1 (sym (whole-cons b line cut.0) ∙ unended), cut.2)
+
+pub lines-are_cut : (bytes : List ℕ) → AreCut (lines_in bytes)
+unfolding lines_in
+lines-are_cut [] = tt
+lines-are_cut (b ∷ bs) =
+    (elim (b == 10) as (λ t. (b == 10) ≡ t → AreCut (if t then (b ∷ []) ∷ lines_in bs else before_lines b (lines_in bs))) [
+      | true ↦ λ is. (omega arith, λ unended. absurd (true≢false (sym is ∙ unended)), lines-are_cut bs)
+      | false ↦ λ is. cut-before b (lines_in bs) (lines-are_cut bs)
+    ]) refl
+
+-- how many bytes the lines have
+unfoldable pub size_of : List (List ℕ) → ℕ
+size_of [] = 0
+size_of (line ∷ lines) = length line + size_of lines
+
+size-before : (b : ℕ) (lines : List (List ℕ)) → size_of (before_lines b lines) ≡ suc (size_of lines)
+unfolding size_of
+size-before b [] = refl
+size-before b (line ∷ lines) = omega arith
+
+pub size_of-lines_in : (bytes : List ℕ) → size_of (lines_in bytes) ≡ length bytes
+unfolding lines_in size_of
+size_of-lines_in [] = refl
+size_of-lines_in (b ∷ bs) =
+    elim (b == 10) as (λ t. size_of (if t then (b ∷ []) ∷ lines_in bs else before_lines b (lines_in bs)) ≡ length (b ∷ bs)) [
+      | true ↦ omega (arith, size_of-lines_in bs)
+      | false ↦ omega (arith, size-before b (lines_in bs), size_of-lines_in bs)
+    ]
 
 pub cut-none : (bytes : List ℕ) → (length bytes == 0) ≡ false → position is_feed bytes ≡ None → CutsLine bytes bytes []
 unfolding lines_in
 cut-none [] some none = absurd (true≢false some)
-cut-none (b ∷ bs) some none = record { lines = lines_in-whole b bs (position-none is_feed (b ∷ bs) none); sizes = omega arith; some = omega arith; last = λ unended. refl }
+cut-none (b ∷ bs) some none = record { lines = lines_in-whole b bs (position-none is_feed (b ∷ bs) none); sizes = omega arith; some = omega arith }
 
 pub cut-some : (bytes : List ℕ) (i : ℕ) → i < length bytes → position is_feed bytes ≡ Some i → CutsLine bytes (take (i + 1) bytes) (drop (i + 1) bytes)
 cut-some bytes i below found =
     let at : position_or_len is_feed bytes ≡ i = position-is is_feed bytes i found in
-    record { lines = rw at at (lines_in-cut bytes (omega arith)); sizes = omega (arith, length-take (i + 1) bytes, length-drop (i + 1) bytes); some = omega (arith, length-take (i + 1) bytes); last = λ unended. absurd (true≢false (sym (rw at at (whole-cut bytes (omega arith))) ∙ unended)) }
+    record { lines = rw at at (lines_in-cut bytes (omega arith)); sizes = omega (arith, length-take (i + 1) bytes, length-drop (i + 1) bytes); some = omega (arith, length-take (i + 1) bytes) }

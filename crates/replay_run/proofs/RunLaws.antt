@@ -1,10 +1,10 @@
 -- What sources give and sinks hold, from call to call.
-use Rattle.std.proofs.Common.{◌≡◌, ℕ, ◌+◌, ◌-◌, ◌≤◌, Bool, true, false, if◌then◌else◌, List, [], ◌∷◌, ◌++◌, length, take, drop, Option, Some, None, Result, Ok, Err, refl, sym, ap, ◌∙◌, subst, arith, append_assoc}
-use Rattle.std.specs.Prelude.{option_map, IfSome, OnErr}
+use Rattle.std.proofs.Common.{◌≡◌, ℕ, ◌+◌, ◌-◌, ◌<◌, ◌≤◌, ◌⊎◌, inl, inr, Bool, true, false, if◌then◌else◌, List, [], ◌∷◌, ◌++◌, length, take, drop, Option, Some, None, Result, Ok, Err, refl, sym, ap, ◌∙◌, subst, arith, append_assoc}
+use Rattle.std.specs.Prelude.{◌≢◌, option_map, IfSome, OnErr}
 use Rattle.std.specs.List.{flat_map}
 use Rattle.std.proofs.lemmas.Bool.{false≢true}
 use Rattle.std.proofs.lemmas.List.{take-append-drop, append-nil}
-use Rattle.plasma_outside.specs.Outside.{Puts, Takes, Took}
+use Rattle.plasma_outside.specs.Outside.{Puts, Takes}
 use Rattle.root_rules.specs.Chain.{Chain}
 use Rattle.replay_run.specs.declared.reply.Reply.{Reply}
 use Rattle.replay_run.specs.declared.reply.Ending.{Ending}
@@ -18,8 +18,10 @@ use Rattle.replay_run.specs.Output.{Output, status_of, replay_output, form_outpu
 use Rattle.replay_run.specs.Lines.{lines_in, CutsLine}
 use Rattle.replay_run.specs.Steps.{AnswersLine}
 use Rattle.replay_run.specs.Trace.{Stepped, Trace, onward, line_step, trace_from, trace_of}
-use Rattle.replay_run.specs.Text.{trace_line_text, ending_text, trace_text}
-use Rattle.replay_run.specs.Runs.{Gave, Wrote, WroteFront, Answered, EndsAs, RanOver, Ran}
+use Rattle.replay_run.specs.Text.{trace_line_text, ending_text, answers_text}
+use Rattle.replay_run.specs.Runs.{Gave, Wrote, WroteFront, Answered, Stops, EndsAs, RanOver, Ran, whole_text}
+use Rattle.replay_run.specs.declared.TheConstants.{MOST_INPUT_BYTES}
+use Rattle.replay_run.proofs.EndingLaws.{fault-is}
 
 some_same : {A : Type 0} (x y : A) → Some x ≡ Some y → x ≡ y
 some_same x y e = cc
@@ -113,18 +115,19 @@ going-on before after text ended n start state line lines all chain reply going 
     }
 
 pub going-ends : (before after : Option (List ℕ)) (text : List ℕ) (ended : Bool) (n start : ℕ) (state : Option Chain) (line : List ℕ) (lines : List (List ℕ)) (all : Trace) (ending : Ending) → Going before after text (trace_from ended n start state (line ∷ lines)) all → line_step ended n start state line ≡ Err ending → Answered before after text all ending
+unfolding answers_text
 going-ends before after text ended n start state line lines all ending going is =
     let old : Going before after text (record { lines = []; ending = ending }) all = subst (λ t. Going before after text t all) (at-line ended n start state line lines (Err ending) is) going in
     record { ends = old.ends; put = old.put; wrote = old.wrote; whole = ap (λ x. old.put ++ x) (sym (append-nil text)) ∙ old.lines }
 
 pub going-out : (before after : Option (List ℕ)) (text : List ℕ) (ended : Bool) (n start : ℕ) (state : Option Chain) (all : Trace) → Going before after text (trace_from ended n start state []) all → Answered before after text all (if ended then Complete else ReadFault)
-unfolding trace_from
+unfolding trace_from answers_text
 going-out before after text ended n start state all going =
     record { ends = going.ends; put = going.put; wrote = going.wrote; whole = ap (λ x. going.put ++ x) (sym (append-nil text)) ∙ going.lines }
 
 -- what was put is a beginning of the whole text, and so it is with a beginning of what was gathered
-pub going-stops : (before after last : Option (List ℕ)) (text : List ℕ) (here all : Trace) → Going before after text here all → WroteFront after last text → WroteFront before last (trace_text all)
-unfolding trace_text
+pub going-stops : (before after last : Option (List ℕ)) (text : List ℕ) (here all : Trace) → Going before after text here all → WroteFront after last text → WroteFront before last (whole_text all)
+unfolding answers_text
 going-stops before after last text here all going front =
     let tail : List ℕ = flat_map trace_line_text here.lines in
     let whole : going.put ++ (text ++ (tail ++ ending_text all.ending)) ≡ flat_map trace_line_text all.lines ++ ending_text all.ending =
@@ -144,15 +147,15 @@ going-put before after next text here all going wrote =
     }
 
 -- the last line is put behind the answers
-pub answered-put : (before after last : Option (List ℕ)) (text : List ℕ) (all : Trace) (ending : Ending) → Answered before after text all ending → Wrote after last (text ++ ending_text ending) → Wrote before last (trace_text all)
-unfolding trace_text
+pub answered-put : (before after last : Option (List ℕ)) (text : List ℕ) (all : Trace) (ending : Ending) → Answered before after text all ending → Wrote after last (text ++ ending_text ending) → Wrote before last (whole_text all)
+unfolding answers_text
 answered-put before after last text all ending answered wrote =
     subst (Wrote before last)
     (sym (append_assoc answered.put text (ending_text ending)) ∙ ap (λ x. x ++ ending_text ending) answered.whole ∙ ap (λ e. flat_map trace_line_text all.lines ++ ending_text e) answered.ends)
     (wrote-more before after last answered.put (text ++ ending_text ending) answered.wrote wrote)
 
-pub answered-stops : (before after last : Option (List ℕ)) (text : List ℕ) (all : Trace) (ending : Ending) → Answered before after text all ending → WroteFront after last (text ++ ending_text ending) → WroteFront before last (trace_text all)
-unfolding trace_text
+pub answered-stops : (before after last : Option (List ℕ)) (text : List ℕ) (all : Trace) (ending : Ending) → Answered before after text all ending → WroteFront after last (text ++ ending_text ending) → WroteFront before last (whole_text all)
+unfolding answers_text
 answered-stops before after last text all ending answered front =
     let whole : answered.put ++ ((text ++ ending_text ending) ++ []) ≡ flat_map trace_line_text all.lines ++ ending_text all.ending =
         ap (λ x. answered.put ++ x) (append-nil (text ++ ending_text ending)) ∙ sym (append_assoc answered.put text (ending_text ending)) ∙ ap (λ x. x ++ ending_text ending) answered.whole ∙ ap (λ e. flat_map trace_line_text all.lines ++ ending_text e) answered.ends
@@ -179,43 +182,84 @@ module _ (before after : Option (List ℕ)) (text : List ℕ) (ended : Bool) (n 
   unfolding lines_in trace_from
   going-over none = going-out before after text ended n (size - length rest) state all (rw none at going)
 
-  pub stops-here : WroteFront before after (trace_text all)
+  pub stops-here : WroteFront before after (whole_text all)
   stops-here = going-stops before after after text (trace_from ended n (size - length rest) state (lines_in rest)) all going (front-none after text)
 
-pub answered-here : (before after : Option (List ℕ)) (text : List ℕ) (all : Trace) (ending : Ending) → Answered before after text all ending → WroteFront before after (trace_text all)
+pub answered-here : (before after : Option (List ℕ)) (text : List ℕ) (all : Trace) (ending : Ending) → Answered before after text all ending → WroteFront before after (whole_text all)
 answered-here before after text all ending answered = answered-stops before after after text all ending answered (front-none after (text ++ ending_text ending))
 
 -- ---- the whole run
 
--- a text that was written whole ends a run with any status but those that stop it
-pub ends-whole : (output : Output) (before after : Option (List ℕ)) → Wrote before after output.text → EndsAs output output.status before after
-ends-whole output before after wrote = by-status output.text output.status before after wrote
+-- a text that was written whole ends a run with any status but one of a fault
+pub ends-whole : (output : Output) (before after : Option (List ℕ)) (failed : Type 0) → (output.status ≡ ReadFaultStatus → failed) → Wrote before after (output.answers ++ output.last) → EndsAs output output.status before after failed
+ends-whole output before after failed why wrote = by-status output.answers output.last output.status why wrote
   where
-    by-status : (text : List ℕ) (status : Status) (before after : Option (List ℕ)) → Wrote before after text → EndsAs (record { status = status; text = text }) status before after
-    by-status text Done before after wrote = (refl, wrote)
-    by-status text Usage before after wrote = (refl, wrote)
-    by-status text BadLineStatus before after wrote = (refl, wrote)
-    by-status text ReadFaultStatus before after wrote = (refl, wrote)
-    by-status text TooLongStatus before after wrote = (refl, wrote)
-    by-status text WriteFault before after wrote = record { front = text; back = []; whole = append-nil text; wrote = wrote }
-    by-status text NoMemory before after wrote = record { front = text; back = []; whole = append-nil text; wrote = wrote }
+    by-status : (answers last : List ℕ) (status : Status) → (status ≡ ReadFaultStatus → failed) → Wrote before after (answers ++ last) → EndsAs (record { status = status; answers = answers; last = last }) status before after failed
+    by-status answers last Done why wrote = (refl, wrote)
+    by-status answers last Usage why wrote = (refl, wrote)
+    by-status answers last BadLineStatus why wrote = (refl, wrote)
+    by-status answers last ReadFaultStatus why wrote = ((refl, wrote), why refl)
+    by-status answers last TooLongStatus why wrote = (refl, wrote)
+    by-status answers last WriteFault why wrote = record { front = record { front = answers ++ last; back = []; whole = append-nil (answers ++ last); wrote = wrote }; fault = λ wrong. absurd (cc) }
+    by-status answers last NoMemory why wrote = record { front = record { front = answers ++ last; back = []; whole = append-nil (answers ++ last); wrote = wrote }; fault = λ wrong. absurd (cc) }
 
-pub ran-replay : (left later before after : Option (List ℕ)) (bytes : List ℕ) (ended : Bool) (status : Status) → Gave left later bytes ended → status ≡ status_of (trace_of bytes ended).ending → Wrote before after (trace_text (trace_of bytes ended)) → RanOver replay_output left later before after status
-ran-replay left later before after bytes ended status gave is wrote =
-    record { bytes = bytes; ended = ended; gave = gave; ends = subst (λ s. EndsAs (replay_output bytes ended) s before after) (sym is) (ends-whole (replay_output bytes ended) before after wrote) }
+-- why a replay's input failed: it was cut short, and it isn't too long
+pub fault-of : (bytes : List ℕ) (ended : Bool) (failed : Type 0) → (ended ≡ false → failed ⊎ (MOST_INPUT_BYTES < length bytes)) → (replay_output bytes ended).status ≡ ReadFaultStatus → failed
+fault-of bytes ended failed cause is =
+    let why = fault-is bytes ended (by-ending (trace_of bytes ended).ending is) in
+    elim (cause why.0) [ inl yes_failed ↦ yes_failed | inr full ↦ absurd (omega (arith, why.1)) ]
+  where
+    by-ending : (ending : Ending) → status_of ending ≡ ReadFaultStatus → ending ≡ ReadFault
+    by-ending Complete wrong = absurd (cc)
+    by-ending (BadLine n) wrong = absurd (cc)
+    by-ending ReadFault same = refl
+    by-ending (TooLong n) wrong = absurd (cc)
+
+module _ (left later before after : Option (List ℕ)) (bytes : List ℕ) (ended : Bool) (failed : Type 0) (gave : Gave left later bytes ended) (cause : ended ≡ false → failed ⊎ (MOST_INPUT_BYTES < length bytes)) where
+  pub ran-replay : (status : Status) → status ≡ status_of (trace_of bytes ended).ending → Wrote before after (whole_text (trace_of bytes ended)) → RanOver replay_output left later before after failed status
+  ran-replay status is wrote =
+      record { bytes = bytes; ended = ended; gave = gave; ends = subst (λ s. EndsAs (replay_output bytes ended) s before after failed) (sym is) (ends-whole (replay_output bytes ended) before after failed (fault-of bytes ended failed cause) wrote) }
+
+  pub stops-replay : WroteFront before after (whole_text (trace_of bytes ended)) → Stops (replay_output bytes ended) before after failed
+  stops-replay front = record { front = front; fault = λ is. inl (fault-of bytes ended failed cause is) }
+
+-- want of memory before anything was written
+pub stops-unwritten : (output : Output) (before : Option (List ℕ)) (failed : Type 0) → Stops output before before failed
+stops-unwritten output before failed = record { front = front-none before (output.answers ++ output.last); fault = λ is. inr (front-none before output.answers) }
+
+stops-wide : (output : Output) (before after : Option (List ℕ)) (failed : Type 0) → Stops output before after ⊥ → Stops output before after failed
+stops-wide output before after failed stops =
+    record { front = stops.front; fault = λ is. elim (stops.fault is) [ inl never ↦ absurd never | inr answers ↦ inr answers ] }
+
+-- the one line of a run that answers nothing, or a beginning of it
+pub stops-line : (status : Status) (line : List ℕ) (before after : Option (List ℕ)) → status ≢ ReadFaultStatus → WroteFront before after line → Stops (record { status = status; answers = []; last = line }) before after ⊥
+stops-line status line before after no_fault front = record { front = front; fault = λ is. absurd (no_fault is) }
+
+-- a run whose source didn't fail, in the words of one that may have
+ends-wide : (output : Output) (status : Status) (before after : Option (List ℕ)) (failed : Type 0) → EndsAs output status before after ⊥ → EndsAs output status before after failed
+ends-wide output Done before after failed ends = ends
+ends-wide output Usage before after failed ends = ends
+ends-wide output BadLineStatus before after failed ends = ends
+ends-wide output TooLongStatus before after failed ends = ends
+ends-wide output ReadFaultStatus before after failed ends = absurd ends.1
+ends-wide output WriteFault before after failed ends = stops-wide output before after failed ends
+ends-wide output NoMemory before after failed ends = stops-wide output before after failed ends
 
 -- a run that took nothing from its source
-pub ran-unread : (words : List (List ℕ)) (left before after : Option (List ℕ)) (form : Option Form) (status : Status) → form ≡ form_of words → EndsAs (form_output form [] false) status before after → Ran words left left before after status
+pub ran-unread : (words : List (List ℕ)) (left before after : Option (List ℕ)) (failed : Type 0) (form : Option Form) (status : Status) → form ≡ form_of words → EndsAs (form_output form [] false) status before after ⊥ → Ran words left left before after failed status
 unfolding output_of
-ran-unread words left before after form status is ends =
-    record { bytes = []; ended = false; gave = gave-none left; ends = subst (λ f. EndsAs (form_output f [] false) status before after) is ends }
+ran-unread words left before after failed form status is ends =
+    record {
+      bytes = [];
+      ended = false;
+      gave = gave-none left;
+      ends = subst (λ f. EndsAs (form_output f [] false) status before after failed) is (ends-wide (form_output form [] false) status before after failed ends);
+    }
 
-pub ran-form : (words : List (List ℕ)) (left later before after : Option (List ℕ)) (status : Status) → Some Replay ≡ form_of words → RanOver replay_output left later before after status → Ran words left later before after status
+pub ran-form : (words : List (List ℕ)) (left later before after : Option (List ℕ)) (failed : Type 0) (status : Status) → Some Replay ≡ form_of words → RanOver replay_output left later before after failed status → Ran words left later before after failed status
 unfolding output_of
-ran-form words left later before after status is ran =
-    record { bytes = ran.bytes; ended = ran.ended; gave = ran.gave; ends = subst (λ f. EndsAs (form_output f ran.bytes ran.ended) status before after) is ran.ends }
+ran-form words left later before after failed status is ran =
+    record { bytes = ran.bytes; ended = ran.ended; gave = ran.gave; ends = subst (λ f. EndsAs (form_output f ran.bytes ran.ended) status before after failed) is ran.ends }
 
--- want of memory before anything was done
-pub ran-nothing : (words : List (List ℕ)) (left before : Option (List ℕ)) → Ran words left left before before NoMemory
-ran-nothing words left before = record { bytes = []; ended = false; gave = gave-none left; ends = front-none before (output_of words [] false).text }
-
+pub ran-nothing : (words : List (List ℕ)) (left before : Option (List ℕ)) (failed : Type 0) → Ran words left left before before failed NoMemory
+ran-nothing words left before failed = record { bytes = []; ended = false; gave = gave-none left; ends = stops-unwritten (output_of words [] false) before failed }

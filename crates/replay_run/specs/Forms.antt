@@ -1,5 +1,5 @@
 -- The forms of the program: what its words ask for.
-use Rattle.std.specs.Prelude.{◌≡◌, ℕ, ◌==◌, ◌&&◌, Bool, true, false, if◌then◌else◌, List, [], ◌∷◌, length, codes, Option, Some, None, option_and_then, option_map}
+use Rattle.std.specs.Prelude.{ℕ, ◌==◌, ◌&&◌, Bool, true, false, if◌then◌else◌, List, [], ◌∷◌, length, codes, Option, Some, None, option_and_then, option_map}
 use Rattle.std.specs.Str.{bytes_eq}
 use Rattle.plasma_base.specs.HexText.{hex_in}
 use Rattle.lms_sign.specs.Valid.{is_valid}
@@ -23,3 +23,9 @@ form_of (word ∷ key ∷ message ∷ signature ∷ more ∷ words) = None
 -- the key has 56 bytes and reads, and the signature of the message is valid under it (RFC 8554)
 unfoldable pub is_verified : List ℕ → List ℕ → List ℕ → Bool
 is_verified key message signature = (length key == 56) && is_valid key message signature
+
+-- whether a form reads the input
+abbrev pub reads_input : Option Form → Bool
+reads_input None = false
+reads_input (Some Replay) = true
+reads_input (Some (Verify key message signature)) = false

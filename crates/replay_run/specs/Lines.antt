@@ -1,5 +1,5 @@
 -- The lines of an input, and its limits.
-use Rattle.std.specs.Prelude.{◌≡◌, ℕ, ◌+◌, ◌-◌, ◌<◌, ◌==◌, ◌||◌, Bool, false, if◌then◌else◌, nat_lt, List, [], ◌∷◌, length, take, slice_index}
+use Rattle.std.specs.Prelude.{◌≡◌, ℕ, ◌+◌, ◌-◌, ◌<◌, ◌==◌, ◌||◌, Bool, if◌then◌else◌, nat_lt, List, [], ◌∷◌, length, take, slice_index}
 use Rattle.replay_run.specs.declared.TheConstants.{MOST_LINES, MOST_LINE_BYTES, MOST_INPUT_BYTES}
 
 -- the byte before the first of these lines
@@ -30,9 +30,8 @@ abbrev pub is_too_long : ℕ → ℕ → List ℕ → Bool
 is_too_long n start line =
     nat_lt MOST_LINES n || nat_lt MOST_LINE_BYTES (length (text_of line)) || nat_lt MOST_INPUT_BYTES (start + length line)
 
--- the first of these lines and what stands after it; without a line feed it is the last
+-- the first of these lines and what stands after it
 pub record CutsLine (bytes line rest : List ℕ) : Type 0 where
   pub lines : lines_in bytes ≡ line ∷ lines_in rest
   pub sizes : length bytes ≡ length line + length rest
   pub some : 0 < length line
-  pub last : is_whole line ≡ false → rest ≡ []

@@ -1,5 +1,5 @@
 -- What a run writes and how it ends, as a function of the words and of the bytes that were read.
-use Rattle.std.specs.Prelude.{ℕ, Bool, true, false, if◌then◌else◌, List, [], ◌∷◌, ◌++◌, codes, Option, Some, None}
+use Rattle.std.specs.Prelude.{ℕ, Bool, if◌then◌else◌, List, [], ◌∷◌, ◌++◌, codes, Option, Some, None}
 use Rattle.replay_run.specs.declared.status.Status.{Status}
 use Rattle.replay_run.specs.declared.status.Status.TheVariants.{Done, Usage, BadLine as BadLineStatus, ReadFault as ReadFaultStatus, TooLong as TooLongStatus}
 use Rattle.replay_run.specs.declared.reply.Ending.{Ending}
@@ -8,29 +8,32 @@ use Rattle.replay_run.specs.declared.form.Form.{Form}
 use Rattle.replay_run.specs.declared.form.Form.TheVariants.{Replay, Verify}
 use Rattle.replay_run.specs.Forms.{form_of, is_verified}
 use Rattle.replay_run.specs.Trace.{trace_of}
-use Rattle.replay_run.specs.Text.{trace_text}
+use Rattle.replay_run.specs.Text.{answers_text, ending_text}
 
+-- the status of a run, the answers that it writes, and its last line
 pub record Output : Type 0 where
   pub status : Status
-  pub text : List ℕ
+  pub answers : List ℕ
+  pub last : List ℕ
 
 -- words that are no form: the line that names the forms
 abbrev pub usage_output : Output
-usage_output = record { status = Usage; text = codes "usage: plasma replay | brief | wallet | operator | watcher | init | make | verify" ++ 10 ∷ [] }
+usage_output = record { status = Usage; answers = []; last = codes "usage: plasma replay | brief | wallet | operator | watcher | init | make | verify" ++ 10 ∷ [] }
 
+-- the status of what ended a replay
 abbrev pub status_of : Ending → Status
 status_of Complete = Done
 status_of (BadLine n) = BadLineStatus
 status_of ReadFault = ReadFaultStatus
 status_of (TooLong n) = TooLongStatus
 
--- `replay`: the text of the trace of the input, and the status of what ended it
+-- `replay`: the answers of the trace of the input, and the status and the line of what ended it
 abbrev pub replay_output : List ℕ → Bool → Output
-replay_output bytes ended = let trace = trace_of bytes ended in record { status = status_of trace.ending; text = trace_text trace }
+replay_output bytes ended = let trace = trace_of bytes ended in record { status = status_of trace.ending; answers = answers_text trace; last = ending_text trace.ending }
 
 -- `verify`: one word
 abbrev pub verify_output : Bool → Output
-verify_output verified = record { status = Done; text = (if verified then codes "valid" else codes "invalid") ++ 10 ∷ [] }
+verify_output verified = record { status = Done; answers = []; last = (if verified then codes "valid" else codes "invalid") ++ 10 ∷ [] }
 
 -- the output of a form over these bytes; `ended` says that the input was read to its end. `verify` reads nothing
 abbrev pub form_output : Option Form → List ℕ → Bool → Output
@@ -38,6 +41,6 @@ form_output None bytes ended = usage_output
 form_output (Some Replay) bytes ended = replay_output bytes ended
 form_output (Some (Verify key message signature)) bytes ended = verify_output (is_verified key message signature)
 
--- the status and the text of a run with these words over these bytes
+-- the output of a run with these words over these bytes
 unfoldable pub output_of : List (List ℕ) → List ℕ → Bool → Output
 output_of words bytes ended = form_output (form_of words) bytes ended

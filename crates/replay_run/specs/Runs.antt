@@ -1,11 +1,10 @@
 -- What a run does to its source and its sink.
-use Rattle.std.specs.Prelude.{◌≡◌, ℕ, Bool, true, false, List, [], ◌++◌, Option, Some, None, option_map, IfSome}
+use Rattle.std.specs.Prelude.{◌≡◌, ℕ, Bool, true, false, List, [], ◌++◌, ◌⊎◌, Option, option_map, IfSome}
 use Rattle.replay_run.specs.declared.status.Status.{Status}
 use Rattle.replay_run.specs.declared.status.Status.TheVariants.{Done, Usage, BadLine, ReadFault, WriteFault, NoMemory, TooLong}
-use Rattle.std.specs.List.{flat_map}
 use Rattle.replay_run.specs.declared.reply.Ending.{Ending}
 use Rattle.replay_run.specs.Trace.{Trace}
-use Rattle.replay_run.specs.Text.{trace_line_text}
+use Rattle.replay_run.specs.Text.{answers_text, ending_text}
 use Rattle.replay_run.specs.Output.{Output, output_of}
 
 -- where it tells, the source gave these bytes, and these are left; an input that was read to its end has none left
@@ -28,27 +27,36 @@ pub record WroteFront (before after : Option (List ℕ)) (text : List ℕ) : Typ
   pub whole : front ++ back ≡ text
   pub wrote : Wrote before after front
 
--- A run that was stopped by the sink or for want of memory wrote a beginning of the text; any other has the status and
--- wrote the text, all of it.
-abbrev pub EndsAs : Output → Status → Option (List ℕ) → Option (List ℕ) → Type 0
-EndsAs output WriteFault before after = WroteFront before after output.text
-EndsAs output NoMemory before after = WroteFront before after output.text
-EndsAs output Done before after = (output.status ≡ Done) × Wrote before after output.text
-EndsAs output Usage before after = (output.status ≡ Usage) × Wrote before after output.text
-EndsAs output BadLine before after = (output.status ≡ BadLine) × Wrote before after output.text
-EndsAs output ReadFault before after = (output.status ≡ ReadFault) × Wrote before after output.text
-EndsAs output TooLong before after = (output.status ≡ TooLong) × Wrote before after output.text
+-- A run that was stopped by the sink or for want of memory wrote a beginning of its text. Where that text says that
+-- the input failed, the source failed, or a beginning of the answers alone was written.
+pub record Stops (output : Output) (before after : Option (List ℕ)) (failed : Type 0) : Type 0 where
+  pub front : WroteFront before after (output.answers ++ output.last)
+  pub fault : output.status ≡ ReadFault → failed ⊎ WroteFront before after output.answers
+
+-- a run that wasn't stopped has the status of the output, and wrote its text, all of it
+abbrev pub EndsWhole : Output → Status → Option (List ℕ) → Option (List ℕ) → Type 0
+EndsWhole output status before after = (output.status ≡ status) × Wrote before after (output.answers ++ output.last)
+
+-- what a run with this status did; `failed` says that its source failed
+abbrev pub EndsAs : Output → Status → Option (List ℕ) → Option (List ℕ) → Type 0 → Type 0
+EndsAs output WriteFault before after failed = Stops output before after failed
+EndsAs output NoMemory before after failed = Stops output before after failed
+EndsAs output Done before after failed = EndsWhole output Done before after
+EndsAs output Usage before after failed = EndsWhole output Usage before after
+EndsAs output BadLine before after failed = EndsWhole output BadLine before after
+EndsAs output ReadFault before after failed = EndsWhole output ReadFault before after × failed
+EndsAs output TooLong before after failed = EndsWhole output TooLong before after
 
 -- A run took some bytes of the source, and what it wrote and its status are the output over these bytes.
-pub record RanOver (output : List ℕ → Bool → Output) (left_before left_after held_before held_after : Option (List ℕ)) (status : Status) : Type 0 where
+pub record RanOver (output : List ℕ → Bool → Output) (left_before left_after held_before held_after : Option (List ℕ)) (failed : Type 0) (status : Status) : Type 0 where
   pub bytes : List ℕ
   pub ended : Bool
   pub gave : Gave left_before left_after bytes ended
-  pub ends : EndsAs (output bytes ended) status held_before held_after
+  pub ends : EndsAs (output bytes ended) status held_before held_after failed
 
 -- the same of a run with these words
-abbrev pub Ran : List (List ℕ) → Option (List ℕ) → Option (List ℕ) → Option (List ℕ) → Option (List ℕ) → Status → Type 0
-Ran words left_before left_after held_before held_after status = RanOver (output_of words) left_before left_after held_before held_after status
+abbrev pub Ran : List (List ℕ) → Option (List ℕ) → Option (List ℕ) → Option (List ℕ) → Option (List ℕ) → Type 0 → Status → Type 0
+Ran words left_before left_after held_before held_after failed status = RanOver (output_of words) left_before left_after held_before held_after failed status
 
 -- all answers of a trace were given, and what ended it: the sink holds a beginning of their text, and the rest of it
 -- is gathered
@@ -56,4 +64,8 @@ pub record Answered (before after : Option (List ℕ)) (gathered : List ℕ) (tr
   pub ends : ending ≡ trace.ending
   pub put : List ℕ
   pub wrote : Wrote before after put
-  pub whole : put ++ gathered ≡ flat_map trace_line_text trace.lines
+  pub whole : put ++ gathered ≡ answers_text trace
+
+-- the text of a replay: the answers, and the line of what ended it
+abbrev pub whole_text : Trace → List ℕ
+whole_text trace = answers_text trace ++ ending_text trace.ending

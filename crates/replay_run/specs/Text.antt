@@ -65,6 +65,6 @@ ending_text (BadLine n) = phrase (codes "bad line") (n ∷ []) ++ 10 ∷ []
 ending_text ReadFault = codes "read fault" ++ 10 ∷ []
 ending_text (TooLong n) = phrase (codes "too long") (n ∷ []) ++ 10 ∷ []
 
--- the text of a trace: a line for each answer, then the last line
-unfoldable pub trace_text : Trace → List ℕ
-trace_text trace = flat_map trace_line_text trace.lines ++ ending_text trace.ending
+-- the answers of a trace, a line for each
+unfoldable pub answers_text : Trace → List ℕ
+answers_text trace = flat_map trace_line_text trace.lines

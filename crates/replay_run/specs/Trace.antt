@@ -1,5 +1,5 @@
 -- What the lines of a schedule are answered: the trace.
-use Rattle.std.specs.Prelude.{ℕ, ◌+◌, ◌&&◌, not, Bool, true, false, if◌then◌else◌, List, [], ◌∷◌, ◌++◌, length, replicate, Option, Some, None, Result, Ok, Err, option_and_then}
+use Rattle.std.specs.Prelude.{ℕ, ◌+◌, ◌&&◌, not, Bool, if◌then◌else◌, List, [], ◌∷◌, ◌++◌, length, replicate, Option, Some, None, Result, Ok, Err, option_and_then}
 use Rattle.std.specs.Int.{w64, to_be_bytes}
 use Rattle.root_rules.specs.declared.call.RootCall.{RootCall}
 use Rattle.root_rules.specs.declared.call.RootCall.TheVariants.{Fund, Tick, Deposit, StartDeposit, Finish}
@@ -67,6 +67,7 @@ step state (CallLine account form) = called state (call_of account form)
 abbrev pub step_by : Option Chain → List ℕ → Option Stepped
 step_by state text = option_and_then (step state) (line_in text)
 
+-- a step that is made, or the ending where it isn't
 abbrev pub stepped_or : Ending → Option Stepped → Result Stepped Ending
 stepped_or ending None = Err ending
 stepped_or ending (Some stepped) = Ok stepped

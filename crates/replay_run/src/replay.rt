@@ -1,11 +1,9 @@
-ghost use Rattle.std.specs.Prelude.{◌≡◌, ◌≤◌, [], false, Ok, Err, length, IfOk, OnOk, OnErr};
+ghost use Rattle.std.specs.Prelude.{◌≡◌, ◌≤◌, [], Err, IfOk, OnOk, OnErr};
 ghost use Rattle.plasma_outside.specs.Causes.{Rose};
 ghost use Rattle.replay_run.specs.Trace.{trace_of};
-ghost use Rattle.replay_run.specs.Text.{trace_text};
 ghost use Rattle.replay_run.specs.Output.{status_of};
-ghost use Rattle.replay_run.specs.Runs.{Wrote, WroteFront, Answered};
+ghost use Rattle.replay_run.specs.Runs.{Wrote, WroteFront, Answered, whole_text};
 
-use super::MOST_INPUT_BYTES;
 use super::input::next_line;
 use super::reply::{Ending, LineStop};
 use super::status::Status;
@@ -63,9 +61,8 @@ pub fn replay<K: Sink>(
     sink: &mut K,
 ) -> Result<Status, Stop>
     ensures done { IfOk result (λ status. status ≡ status_of (trace_of input.now ended).ending) }
-    ensures wrote { OnOk result (Wrote (K.held sink.old) (K.held sink.new) (trace_text (trace_of input.now ended))) }
-    ensures stopped { OnErr result (WroteFront (K.held sink.old) (K.held sink.new) (trace_text (trace_of input.now ended))) }
-    ensures fault { result ≡ Ok Status.ReadFault → (ended ≡ false) × (length input.now ≤ MOST_INPUT_BYTES) }
+    ensures wrote { OnOk result (Wrote (K.held sink.old) (K.held sink.new) (whole_text (trace_of input.now ended))) }
+    ensures stopped { OnErr result (WroteFront (K.held sink.old) (K.held sink.new) (whole_text (trace_of input.now ended))) }
     ensures cause { result ≡ Err Stop.WriteFault → Rose (K.faults sink.old) (K.faults sink.new) }
     ensures later { K.faults sink.old ≤ K.faults sink.new }
 {
@@ -98,8 +95,7 @@ fn answer_lines<K: Sink>(
 ) -> Result<Ending, Stop>
     requires { text.old.items ≡ [] }
     ensures answered { IfOk result (Answered (K.held sink.old) (K.held sink.new) text.new.items (trace_of input.now ended)) }
-    ensures stopped { OnErr result (WroteFront (K.held sink.old) (K.held sink.new) (trace_text (trace_of input.now ended))) }
-    ensures fault { result ≡ Ok Ending.ReadFault → (ended ≡ false) × (length input.now ≤ MOST_INPUT_BYTES) }
+    ensures stopped { OnErr result (WroteFront (K.held sink.old) (K.held sink.new) (whole_text (trace_of input.now ended))) }
     ensures cause { result ≡ Err Stop.WriteFault → Rose (K.faults sink.old) (K.faults sink.new) }
     ensures later { K.faults sink.old ≤ K.faults sink.new }
 {

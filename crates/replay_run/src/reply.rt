@@ -15,7 +15,7 @@ pub enum Ending {
     Complete,
     /// This line is the first that isn't in the grammar, or breaks a rule of declarations.
     BadLine { line: u64 },
-    /// The source failed.
+    /// The input wasn't read to its end.
     ReadFault,
     /// This line is the first that passes a limit.
     TooLong { line: u64 },

@@ -1,4 +1,4 @@
-ghost use Rattle.std.specs.Prelude.{◌≡◌, ◌+◌, ◌≤◌, length, false, Err, None, IfOk, OnOk, IfErr};
+ghost use Rattle.std.specs.Prelude.{◌≡◌, ◌+◌, ◌≤◌, length, Err, None, IfOk, OnOk, IfErr};
 ghost use Rattle.schedule_text.specs.Grammar.{IsLine, IsCallForm};
 ghost use Rattle.replay_run.specs.Lines.{is_whole, text_of, is_too_long};
 ghost use Rattle.replay_run.specs.Trace.{tag_of, call_of, begun, called, asked, step, line_step};
@@ -163,7 +163,6 @@ pub fn answer_line(
     requires { start ≤ MOST_INPUT_BYTES }
     ensures answered { IfOk result (AnswersLine (line_step ended number start state.old line.now) state.new) }
     ensures within { OnOk result ((number ≤ MOST_LINES) × (start + length line.now ≤ MOST_INPUT_BYTES)) }
-    ensures fault { result ≡ Err (LineStop.Ends Ending.ReadFault) → (ended ≡ false) × (is_whole line.now ≡ false) × (start + length line.now ≤ MOST_INPUT_BYTES) }
     ensures ends { IfErr result (EndsLine (line_step ended number start state.old line.now)) }
 {
     if is_too_long(number, start, line) {

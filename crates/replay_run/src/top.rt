@@ -1,6 +1,6 @@
-ghost use Rattle.std.specs.Prelude.{◌≡◌, ◌≢◌, map, string_bytes};
+ghost use Rattle.std.specs.Prelude.{◌≡◌, ◌≢◌, [], false, map, string_bytes};
 ghost use Rattle.plasma_outside.specs.Causes.{Rose};
-ghost use Rattle.replay_run.specs.Forms.{is_verified};
+ghost use Rattle.replay_run.specs.Forms.{form_of, is_verified, reads_input};
 ghost use Rattle.replay_run.specs.Output.{replay_output, verify_output};
 ghost use Rattle.replay_run.specs.Runs.{Ran, RanOver, EndsAs};
 
@@ -28,7 +28,10 @@ pub fn run<S: Source, K: Sink>(
     sink: &mut K,
 ) -> Status
     // The status and what was written are a function of the words and of the bytes that the source gave.
-    ensures output { Ran (map string_bytes words.now) (S.left source.old) (S.left source.new) (K.held sink.old) (K.held sink.new) result }
+    ensures output { Ran (map string_bytes words.now) (S.left source.old) (S.left source.new) (K.held sink.old) (K.held sink.new) (Rose (S.faults source.old) (S.faults source.new)) result }
+
+    // Only `replay` touches the source.
+    ensures unread { reads_input (form_of (map string_bytes words.now)) ≡ false → source.new ≡ source.old }
 
     // A fault is answered only where its object counted one in this call.
     ensures read_fault { result ≡ Status.ReadFault → Rose (S.faults source.old) (S.faults source.new) }
@@ -48,7 +51,7 @@ pub fn run<S: Source, K: Sink>(
 
 /// Runs `verify`.
 fn run_verify<K: Sink>(key: &Bytes, message: &Bytes, signature: &Bytes, sink: &mut K) -> Status
-    ensures output { EndsAs (verify_output (is_verified key.now message.now signature.now)) result (K.held sink.old) (K.held sink.new) }
+    ensures output { EndsAs (verify_output (is_verified key.now message.now signature.now)) result (K.held sink.old) (K.held sink.new) ⊥ }
     ensures read_fault { result ≢ Status.ReadFault }
     ensures write_fault { result ≡ Status.WriteFault → Rose (K.faults sink.old) (K.faults sink.new) }
 {
@@ -60,7 +63,7 @@ fn run_verify<K: Sink>(key: &Bytes, message: &Bytes, signature: &Bytes, sink: &m
 
 /// Runs `replay`.
 fn run_replay<S: Source, K: Sink>(alloc: Global, source: &mut S, sink: &mut K) -> Status
-    ensures output { RanOver replay_output (S.left source.old) (S.left source.new) (K.held sink.old) (K.held sink.new) result }
+    ensures output { RanOver replay_output (S.left source.old) (S.left source.new) (K.held sink.old) (K.held sink.new) (Rose (S.faults source.old) (S.faults source.new)) result }
     ensures read_fault { result ≡ Status.ReadFault → Rose (S.faults source.old) (S.faults source.new) }
     ensures write_fault { result ≡ Status.WriteFault → Rose (K.faults sink.old) (K.faults sink.new) }
 {
@@ -79,7 +82,7 @@ fn run_replay<S: Source, K: Sink>(alloc: Global, source: &mut S, sink: &mut K) -
 fn put_line<K: Sink>(sink: &mut K, line: &[u8], status: Status) -> Status
     requires no_read_fault { status ≢ Status.ReadFault }
     requires no_write_fault { status ≢ Status.WriteFault }
-    ensures output { EndsAs (record { status = status; text = line.now }) result (K.held sink.old) (K.held sink.new) }
+    ensures output { EndsAs (record { status = status; answers = []; last = line.now }) result (K.held sink.old) (K.held sink.new) ⊥ }
     ensures read_fault { result ≢ Status.ReadFault }
     ensures write_fault { result ≡ Status.WriteFault → Rose (K.faults sink.old) (K.faults sink.new) }
 {

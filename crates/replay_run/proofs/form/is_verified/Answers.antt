@@ -1,4 +1,4 @@
-use Rattle.std.proofs.Common.{◌≡◌, ℕ, ◌==◌, ◌&&◌, Bool, true, false, List, length, refl, sym}
+use Rattle.std.proofs.Common.{◌≡◌, ℕ, ◌==◌, ◌&&◌, true, false, List, length, refl, sym}
 use Rattle.lms_sign.specs.Types.{is_supported}
 use Rattle.lms_sign.specs.Valid.{is_valid, types_of}
 use Rattle.replay_run.specs.Forms.{is_verified}

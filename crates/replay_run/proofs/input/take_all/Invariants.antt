@@ -1,4 +1,4 @@
-use Rattle.std.proofs.Common.{◌≡◌, ◌+◌, ◌-◌, ◌≤◌, false, vec_len}
+use Rattle.std.proofs.Common.{◌+◌, ◌-◌, ◌≤◌, false, vec_len}
 use Rattle.replay_run.specs.declared.TheConstants.{MOST_INPUT_BYTES}
 use Rattle.replay_run.specs.Runs.{Gave}
 use Rattle.replay_run.proofs.input.take_all.Given as goal

@@ -1,4 +1,4 @@
-use Rattle.std.proofs.Common.{◌∙◌, sym, ap, arith, length, List, [], None, ◌-◌, ℕ, Option, ◌≡◌, subst, refl, Bool, if◌then◌else◌}
+use Rattle.std.proofs.Common.{◌∙◌, sym, ap, arith, length, [], None, ◌-◌, ◌≡◌, subst, Bool, if◌then◌else◌}
 use Rattle.replay_run.specs.declared.reply.Ending.TheVariants.{Complete, ReadFault}
 use Rattle.replay_run.specs.Lines.{lines_in}
 use Rattle.replay_run.specs.Runs.{Answered}

@@ -1,4 +1,4 @@
-use Rattle.std.proofs.Common.{◌≡◌, ◌+◌, ◌-◌, ◌≤◌, length}
+use Rattle.std.proofs.Common.{◌+◌, ◌-◌, ◌≤◌, length}
 use Rattle.replay_run.specs.declared.TheConstants.{MOST_INPUT_BYTES, MOST_LINES}
 use Rattle.replay_run.specs.Lines.{lines_in}
 use Rattle.replay_run.specs.Trace.{trace_from, trace_of}
