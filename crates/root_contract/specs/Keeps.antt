@@ -21,6 +21,7 @@ pub record State : Type 0 where
   pub balances : ℕ → ℕ
   pub funded : ℕ
 
+-- the fields of a contract as such
 abbrev pub state_of : Inside → State
 state_of a = record { clock = a.clock; coins = a.coins.items; exits = a.exits.items; withdrawn = a.withdrawn.items; balances = amount_in a.balances; funded = a.funded }
 
@@ -28,6 +29,7 @@ state_of a = record { clock = a.clock; coins = a.coins.items; exits = a.exits.it
 abbrev pub IsStarted : Exit → Type 0
 IsStarted exit = exit.start ≤ LAST_TIME
 
+-- each field is what the log says, and the numbers keep their limits
 pub record Keeps (chain : Chain) (s : State) : Type 0 where
   pub legal : IsLegal (rules_of chain) chain.log
   pub clock : s.clock ≡ now chain.log
@@ -42,5 +44,6 @@ pub record Keeps (chain : Chain) (s : State) : Type 0 where
   pub funded_is : s.funded ≡ funded chain.log
   pub funded_limit : s.funded ≤ MOST_MONEY
 
+-- so it is of a contract
 abbrev pub IsKept : Inside → Type 0
 IsKept a = Keeps a.log (state_of a)

@@ -4,3 +4,4 @@ pub mod Exits
 mod Moves
 pub mod Kept
 pub mod Stands
+pub mod Withdrawn

@@ -10,6 +10,7 @@ pub record Chain : Type 0 where
   -- the accepted calls, the newest first
   pub log : List RootCall
 
+-- what the chain was made with
 abbrev pub rules_of : Chain → Rules
 rules_of chain = record { operator = chain.operator; most_blocks = chain.most_blocks }
 

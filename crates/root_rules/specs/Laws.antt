@@ -1,9 +1,11 @@
 -- What holds of every list of calls.
-use Rattle.std.specs.Prelude.{◌≡◌, ℕ, ◌+◌, ◌≤◌, ◌==◌, ◌&&◌, true, if◌then◌else◌, List, [], ◌∷◌, Option, Some, None}
+use Rattle.std.specs.Prelude.{◌≡◌, ℕ, ◌+◌, ◌≤◌, ◌==◌, ◌&&◌, ◌||◌, Bool, true, false, if◌then◌else◌, List, [], ◌∷◌, Option, Some, None}
 use Rattle.root_rules.specs.declared.call.RootCall.{RootCall}
 use Rattle.root_rules.specs.declared.call.RootCall.TheVariants.{StartDeposit, Finish}
 use Rattle.root_rules.specs.declared.call.Exit.{Exit}
-use Rattle.root_rules.specs.Views.{now, exit_at}
+use Rattle.root_rules.specs.declared.call.Answer.{Answer}
+use Rattle.root_rules.specs.declared.call.Answer.TheVariants.{Paid}
+use Rattle.root_rules.specs.Views.{now, exit_at, is_withdrawn}
 use Rattle.root_rules.specs.Money.{sum_below, balance_of, held, funded, AccountsBelow}
 use Rattle.root_rules.specs.Table.{Rules, answer_to, is_accepted, log_after_all}
 
@@ -42,3 +44,22 @@ last_start (call ∷ log) c e = last_start log c e
 -- the standing exits are those of their last starts, in every list of calls
 abbrev pub ExitsStand : Type 0
 ExitsStand = (log : List RootCall) (c e : ℕ) → exit_at log c e ≡ last_start log c e
+
+-- whether an answer is Paid
+abbrev pub is_paid : Answer → Bool
+is_paid Paid = true
+is_paid answer = false
+
+-- the call, after these calls, is a finish of coin c that is answered Paid
+abbrev pub pays_coin : Rules → List RootCall → ℕ → RootCall → Bool
+pays_coin rules log c (Finish account coin exit) = coin == c && is_paid (answer_to rules log (Finish account coin exit))
+pays_coin rules log c call = false
+
+-- a finish of the coin was answered Paid
+unfoldable pub was_paid : Rules → List RootCall → ℕ → Bool
+was_paid rules [] c = false
+was_paid rules (call ∷ log) c = pays_coin rules log c call || was_paid rules log c
+
+-- in a log of accepted calls, a coin is withdrawn exactly where a finish of it was answered Paid
+abbrev pub WithdrawnIsPaid : Type 0
+WithdrawnIsPaid = (rules : Rules) (log : List RootCall) (c : ℕ) → IsLegal rules log → is_withdrawn log c ≡ was_paid rules log c

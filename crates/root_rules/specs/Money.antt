@@ -9,6 +9,7 @@ use Rattle.root_rules.specs.declared.call.Exit.{Exit}
 use Rattle.root_rules.specs.declared.call.Movement.{Movement}
 use Rattle.root_rules.specs.Views.{coins, coin_at, exits, exit_at, is_withdrawn}
 
+-- the movement of an amount to or from an account
 abbrev pub moved : ℕ → ℕ → Movement
 moved account amount = record { account = account; amount = amount }
 
@@ -64,7 +65,7 @@ unpaid log c = if is_withdrawn log c then 0 else amount_of (coin_at log c)
 abbrev pub held : List RootCall → ℕ
 held log = sum_below (unpaid log) (coins log + 1) + EXIT_BOND * length (exits log)
 
--- the account that makes the call; a Tick has none
+-- the account that makes the call; nobody makes a Tick, which moves no money and counts as account 0
 abbrev pub account_of : RootCall → ℕ
 account_of (Fund account amount) = account
 account_of (Tick time) = 0

@@ -32,12 +32,15 @@ too_poor log account needs = (nat_lt (balance_of log account) needs, NoFunds (ba
 abbrev pub is_key : List ℕ → Bool
 is_key key = is_supported (types_of key)
 
+-- the causes that refuse a Fund
 abbrev pub fund_causes : List RootCall → ℕ → List (Bool × Refusal)
 fund_causes log amount = (nat_lt MOST_MONEY (funded log + amount), SumTooLarge) ∷ []
 
+-- those of a Tick
 abbrev pub tick_causes : List RootCall → ℕ → List (Bool × Refusal)
 tick_causes log time = (nat_lt time (now log), ClockBack (now log)) ∷ (nat_lt LAST_TIME time, ClockTooLarge) ∷ []
 
+-- those of a Deposit
 abbrev pub deposit_causes : Rules → List RootCall → ℕ → ℕ → List ℕ → List (Bool × Refusal)
 deposit_causes rules log account amount key =
     (
@@ -48,6 +51,7 @@ deposit_causes rules log account amount key =
     ∷ []
     )
 
+-- those of the start of a deposit's exit, where there is such a coin
 abbrev pub start_deposit_causes : List RootCall → ℕ → ℕ → ℕ → Coin → List (Bool × Refusal)
 start_deposit_causes log account c block coin =
     (
@@ -59,14 +63,17 @@ start_deposit_causes log account c block coin =
     ∷ []
     )
 
+-- the answer to the start of the exit of a coin that may not be there
 abbrev pub start_deposit_answer : List RootCall → ℕ → ℕ → ℕ → Option Coin → Answer
 start_deposit_answer log account c block None = Refused NoCoin
 start_deposit_answer log account c block (Some coin) =
     decided (start_deposit_causes log account c block coin) (Started (now log + EXIT_PERIOD))
 
+-- those of a Finish of this exit
 abbrev pub finish_causes : List RootCall → Exit → List (Bool × Refusal)
 finish_causes log exit = (nat_lt (now log) (exit.start + EXIT_PERIOD), Early (exit.start + EXIT_PERIOD)) ∷ []
 
+-- the answer to a Finish of coin c: no more than the bond is paid where the coin is withdrawn
 abbrev pub finish_answer : List RootCall → ℕ → Option Exit → Answer
 finish_answer log c None = Refused NoExit
 finish_answer log c (Some exit) = decided (finish_causes log exit) (if is_withdrawn log c then Dropped else Paid)
@@ -80,6 +87,7 @@ answer_to rules log (Deposit account amount key) =
 answer_to rules log (StartDeposit account coin block) = start_deposit_answer log account coin block (coin_at log coin)
 answer_to rules log (Finish account coin exit) = finish_answer log coin (exit_at log coin exit)
 
+-- the call was accepted
 abbrev pub is_accepted : Answer → Bool
 is_accepted (Refused why) = false
 is_accepted NoMemory = false

@@ -53,7 +53,7 @@ exits (call ∷ log) = exits log
 unfoldable pub exit_at : List RootCall → ℕ → ℕ → Option Exit
 exit_at log c e = find (is_exit c e) (exits log)
 
--- a Finish of the coin was paid: the first Finish of the coin was
+-- the coin has a Finish; in a log of accepted calls its first one was paid
 unfoldable pub is_withdrawn : List RootCall → ℕ → Bool
 is_withdrawn [] c = false
 is_withdrawn (Finish account coin exit ∷ log) c = if coin == c then true else is_withdrawn log c

@@ -1,4 +1,4 @@
-ghost use Rattle.root_rules.specs.Laws.{LogsAreLegal, MoneyIsKept, BalancesAreCovered, ExitsStand};
+ghost use Rattle.root_rules.specs.Laws.{LogsAreLegal, MoneyIsKept, BalancesAreCovered, ExitsStand, WithdrawnIsPaid};
 
 /// Whatever calls come, the log is one of accepted calls alone.
 pub fn logs_are_legal()
@@ -20,4 +20,9 @@ pub fn balances_are_covered()
 /// time it has. So it is in every list of calls, also one that no contract accepted.
 pub fn exits_stand()
     ensures { ExitsStand }
+{}
+
+/// A coin is withdrawn exactly where a finish of it was answered Paid, over a log of accepted calls.
+pub fn withdrawn_is_paid()
+    ensures { WithdrawnIsPaid }
 {}

@@ -7,7 +7,9 @@ mod laws;
 mod log;
 
 pub use call::{Answer, Coin, Exit, Movement, Owner, Refusal, RootCall};
-pub use laws::{balances_are_covered, exits_stand, logs_are_legal, money_is_kept};
+pub use laws::{
+    balances_are_covered, exits_stand, logs_are_legal, money_is_kept, withdrawn_is_paid,
+};
 pub use log::RootLog;
 
 /// The bond of an exit.
