@@ -5,9 +5,9 @@
 use plasma_outside::{StdSink, StdSource};
 use replay_run::{Status, run};
 use std::alloc::AllocError;
-use std::io::writer;
-use std::process::ExitCode;
 use std::env;
+use std::io::{ErrorKind, writer};
+use std::process::ExitCode;
 
 fn main(rt: HostRuntime) -> ExitCode {
     let mut source = StdSource::make(rt.reader());
@@ -19,11 +19,13 @@ fn main(rt: HostRuntime) -> ExitCode {
     ExitCode::from(status.code())
 }
 
-/// The words after the program's name. Words that aren't text are no form, and neither is no word.
+/// The words after the program's name. Where one of them, or the name, isn't text, they are no form,
+/// and neither is no word.
 fn words(rt: &HostRuntime) -> Result<Vec<String>, AllocError> {
     let alloc = rt.alloc();
     match env::args(rt) {
         Ok(words) => words.skip(1).collect(alloc),
+        Err(error) if error.kind() == ErrorKind::OutOfMemory => Err(AllocError),
         Err(_) => Ok(Vec::new(alloc)),
     }
 }

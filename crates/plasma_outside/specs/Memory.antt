@@ -40,4 +40,4 @@ after_take input room =
 abbrev pub after_put : MemOutput → List ℕ → Result Unit SinkRefusal → MemOutput
 after_put output bytes (Ok done) = record output { calls = counted output.calls; bytes = output.bytes ++ bytes }
 after_put output bytes (Err Failed) = record output { calls = counted output.calls; faults = counted output.faults }
-after_put output bytes (Err NoMemory) = record output { calls = counted output.calls }
+after_put output bytes (Err NoMemory) = output

@@ -1,7 +1,7 @@
 -- What a take does to the bytes that a source has left, and a put to those that a sink holds, where these are told.
 use Rattle.std.specs.Prelude.{◌≡◌, ◌↔◌, ℕ, ◌≤◌, List, [], ◌++◌, length, take, drop, Option, Some, None, Result, Ok, Err}
 
--- a take gave n of these bytes, at the beginning of the room: as many as the input has, and none only at its end
+-- a take gave n of these bytes, at the beginning of the room: at most as many as there are, and none only at the input's end
 pub record Took (bytes : List ℕ) (left : Option (List ℕ)) (n : ℕ) (room : List ℕ) : Type 0 where
   pub within : n ≤ length bytes
   pub given : take n room ≡ take n bytes

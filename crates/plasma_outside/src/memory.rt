@@ -149,21 +149,20 @@ impl Sink for MemSink {
 
     ghost faults = { λ output. output.faults };
 
-    /// A call that fails, or finds no memory, puts nothing; one that finds no memory isn't counted as
-    /// a fault.
+    /// A call that fails puts nothing; one that finds no memory changes nothing, and isn't counted.
     fn put_all(&mut self, bytes: &[u8]) -> Result<(), SinkRefusal>
         ensures bytes { Puts (Some self.old.bytes) (Some self.new.bytes) result bytes.now }
         ensures cause { HasSinkCause self.old.faults self.new.faults result }
         ensures fails { IsErrOf result SinkRefusal.Failed ↔ IsTrue (is_to_fail self.old.fails self.old.calls) }
         ensures after { self.new ≡ after_put self.old bytes.now result }
     {
-        let fails = is_on_list(&self.fails, self.calls);
-        self.calls = self.calls.saturating_add(1);
-        if fails {
+        if is_on_list(&self.fails, self.calls) {
+            self.calls = self.calls.saturating_add(1);
             self.faults = self.faults.saturating_add(1);
             return Err(SinkRefusal::Failed);
         }
         self.bytes.extend_from_slice(bytes)?;
+        self.calls = self.calls.saturating_add(1);
         Ok(())
     }
 }

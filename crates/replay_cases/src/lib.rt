@@ -11,4 +11,6 @@ mod refusals;
 #[cfg(test)]
 mod runs;
 #[cfg(test)]
+mod verify;
+#[cfg(test)]
 mod worked;

@@ -26,7 +26,19 @@ fn other_words_are_usage(rt: HostRuntime) -> Result<(), Fail> {
     let alloc = rt.alloc();
     let usage = "usage: plasma replay | brief | wallet | operator | watcher | init | make | verify\n";
     let none: &[&str] = &[];
-    let cases = [none, &["replay", "replay"], &["Replay"], &[""], &["--help"]];
+    let cases = [
+        none,
+        &["replay", "replay"],
+        &["Replay"],
+        &[""],
+        &["--help"],
+        &["verify"],
+        &["verify", "0x", "0x"],
+        &["verify", "0x", "0x", "0x", "0x"],
+        &["verify", "0x", "0x", "0"],
+        &["verify", "0x", "0x0", "0x"],
+        &["verify", "0xA0", "0x", "0x"],
+    ];
     for case in cases {
         let words = words(alloc, case)?;
         let mut source = MemSource::make(b"chain 1 9 1\n".to_vec(alloc)?, Vec::new(alloc), Vec::new(alloc));
