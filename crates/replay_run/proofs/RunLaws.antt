@@ -37,7 +37,7 @@ gave-more a None c bytes room n E gave takes =
     record { given = gave.given ∙ ap (option_map (λ left. (bytes ++ take n room) ++ left)) (sym takes); end = λ wrong. absurd (false≢true wrong) }
 gave-more a (Some left) c bytes room n E gave takes =
     let same : Some (bytes ++ left) ≡ Some ((bytes ++ take n room) ++ drop n left) =
-        ap Some (sym (append_assoc bytes (take n room) (drop n left) ∙ ap (λ front. bytes ++ (front ++ drop n left)) takes.given ∙ ap (λ all. bytes ++ all) (take-append-drop n left)))
+    ap Some (sym (append_assoc bytes (take n room) (drop n left) ∙ ap (λ front. bytes ++ (front ++ drop n left)) takes.given ∙ ap (λ all. bytes ++ all) (take-append-drop n left)))
     in record { given = gave.given ∙ same ∙ ap (option_map (λ rest. (bytes ++ take n room) ++ rest)) (sym takes.rest); end = λ wrong. absurd (false≢true wrong) }
 
 pub gave-end : (a b c : Option (List ℕ)) (bytes room : List ℕ) (E : Type 0) → Gave a b bytes false → Takes {E = E} b c (Ok 0) room → Gave a c bytes true
@@ -131,7 +131,7 @@ unfolding answers_text
 going-stops before after last text here all going front =
     let tail : List ℕ = flat_map trace_line_text here.lines in
     let whole : going.put ++ (text ++ (tail ++ ending_text all.ending)) ≡ flat_map trace_line_text all.lines ++ ending_text all.ending =
-        ap (λ x. going.put ++ x) (sym (append_assoc text tail (ending_text all.ending))) ∙ sym (append_assoc going.put (text ++ tail) (ending_text all.ending)) ∙ ap (λ x. x ++ ending_text all.ending) going.lines
+    ap (λ x. going.put ++ x) (sym (append_assoc text tail (ending_text all.ending))) ∙ sym (append_assoc going.put (text ++ tail) (ending_text all.ending)) ∙ ap (λ x. x ++ ending_text all.ending) going.lines
     in subst (WroteFront before last) whole (front-more before after last going.put text (tail ++ ending_text all.ending) going.wrote front)
 
 pub front-none : (before : Option (List ℕ)) (text : List ℕ) → WroteFront before before text
@@ -158,7 +158,7 @@ pub answered-stops : (before after last : Option (List ℕ)) (text : List ℕ) (
 unfolding answers_text
 answered-stops before after last text all ending answered front =
     let whole : answered.put ++ ((text ++ ending_text ending) ++ []) ≡ flat_map trace_line_text all.lines ++ ending_text all.ending =
-        ap (λ x. answered.put ++ x) (append-nil (text ++ ending_text ending)) ∙ sym (append_assoc answered.put text (ending_text ending)) ∙ ap (λ x. x ++ ending_text ending) answered.whole ∙ ap (λ e. flat_map trace_line_text all.lines ++ ending_text e) answered.ends
+    ap (λ x. answered.put ++ x) (append-nil (text ++ ending_text ending)) ∙ sym (append_assoc answered.put text (ending_text ending)) ∙ ap (λ x. x ++ ending_text ending) answered.whole ∙ ap (λ e. flat_map trace_line_text all.lines ++ ending_text e) answered.ends
     in subst (WroteFront before last) whole (front-more before after last answered.put (text ++ ending_text ending) [] answered.wrote front)
 
 -- whatever an error says of a result holds where it holds at all

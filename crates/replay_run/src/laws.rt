@@ -5,5 +5,4 @@ ghost use Rattle.replay_run.specs.Endings.{EndingsHaveTheirCause};
 /// wasn't read to its end, and a replay is complete only where all its lines were answered.
 pub fn endings_have_their_cause()
     ensures { EndingsHaveTheirCause }
-{
-}
+{}

@@ -6,14 +6,14 @@ mod input;
 mod laws;
 mod replay;
 mod reply;
-mod top;
 mod status;
 mod steps;
 mod text;
+mod top;
 
-pub use top::run;
 pub use laws::endings_have_their_cause;
 pub use status::Status;
+pub use top::run;
 
 /// The most lines of an input.
 pub const MOST_LINES: u64 = 200_000;

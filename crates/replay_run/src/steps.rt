@@ -22,7 +22,11 @@ fn is_whole(line: &[u8]) -> bool
 fn text_of(line: &[u8]) -> &[u8]
     ensures { result.now ≡ text_of line.now }
 {
-    if is_whole(line) { &line[..line.len() - 1] } else { line }
+    if is_whole(line) {
+        &line[..line.len() - 1]
+    } else {
+        line
+    }
 }
 
 /// Whether line `number`, which begins after `start` bytes, passes a limit.
@@ -118,11 +122,7 @@ fn ask(state: &Option<Contract>, account: u64) -> Result<Reply, StepRefusal>
 
 /// Takes the step of a line.
 #[tactic(auto, unfolding(crate::specs::Trace::step))]
-fn step(
-    alloc: Global,
-    state: &mut Option<Contract>,
-    line: &Line,
-) -> Result<Reply, StepRefusal>
+fn step(alloc: Global, state: &mut Option<Contract>, line: &Line) -> Result<Reply, StepRefusal>
     requires { IsLine line.now }
     ensures ok { IfOk result (Steps (step state.old line.now) state.new) }
     ensures bad { result ≡ Err StepRefusal.BadLine → step state.old line.now ≡ None }
@@ -132,10 +132,7 @@ fn step(
             tag,
             operator,
             most,
-        } => begin(
-            state,
-            Contract::make(alloc, tag_of(*tag), *operator, *most),
-        ),
+        } => begin(state, Contract::make(alloc, tag_of(*tag), *operator, *most)),
         Line::Fund { account, amount } => call(
             state,
             &RootCall::Fund {

@@ -41,11 +41,15 @@ pub fn run<S: Source, K: Sink>(
         Err(_) => Status::NoMemory,
         Ok(None) => put_line(sink, USAGE, Status::Usage),
         Ok(Some(Form::Replay)) => run_replay(alloc, source, sink),
-        Ok(Some(Form::Verify {
-            key,
-            message,
-            signature,
-        })) => run_verify(&key, &message, &signature, sink),
+        Ok(
+            Some(
+                Form::Verify {
+                    key,
+                    message,
+                    signature,
+                },
+            ),
+        ) => run_verify(&key, &message, &signature, sink),
     }
 }
 

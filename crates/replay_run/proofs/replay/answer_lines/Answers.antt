@@ -60,8 +60,8 @@ pub returns-clause-answered : goal.returns-clause-answered
 returns-clause-answered g c =
     let over = going-over _ _ _ _ _ _ _ _ _ c.loop-line.invariant.going c.in_default.ensures in
     let ending : (if c.args.ended then Complete else ReadFault) ≡ c.if-ended.result =
-        elim c.if-ended.branch [
-          | then-ended w ↦ ap (λ (b : Bool). if b then Complete else ReadFault) w.if-ended.true ∙ sym w.result-is
-          | else-ended w ↦ ap (λ (b : Bool). if b then Complete else ReadFault) w.if-ended.false ∙ sym w.result-is
-        ]
+    elim c.if-ended.branch [
+      | then-ended w ↦ ap (λ (b : Bool). if b then Complete else ReadFault) w.if-ended.true ∙ sym w.result-is
+      | else-ended w ↦ ap (λ (b : Bool). if b then Complete else ReadFault) w.if-ended.false ∙ sym w.result-is
+    ]
     in subst (Answered (g.K.Sink.held c.args.sink.now) (g.K.Sink.held c.loop-line.sink) c.loop-line.text.items (trace_of c.args.input.now c.args.ended)) ending over

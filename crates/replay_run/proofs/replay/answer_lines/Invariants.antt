@@ -7,12 +7,12 @@ use Rattle.replay_run.proofs.replay.answer_lines.Given as goal
 
 abbrev pub invariant-loop-line : goal.invariant-loop-line
 invariant-loop-line g l = record {
-    going : Going (g.K.Sink.held l.fn.sink) (g.K.Sink.held l.sink) l.text.items (trace_from l.ended l.number (length l.input - length l.rest) l.state (lines_in l.rest)) (trace_of l.input l.ended);
-    later : g.K.Sink.faults l.fn.sink ≤ g.K.Sink.faults l.sink;
-    shorter : length l.rest ≤ length l.input;
-    within : length l.input - length l.rest ≤ MOST_INPUT_BYTES;
-    numbered : l.number ≤ MOST_LINES + 1;
-  }
+  going : Going (g.K.Sink.held l.fn.sink) (g.K.Sink.held l.sink) l.text.items (trace_from l.ended l.number (length l.input - length l.rest) l.state (lines_in l.rest)) (trace_of l.input l.ended);
+  later : g.K.Sink.faults l.fn.sink ≤ g.K.Sink.faults l.sink;
+  shorter : length l.rest ≤ length l.input;
+  within : length l.input - length l.rest ≤ MOST_INPUT_BYTES;
+  numbered : l.number ≤ MOST_LINES + 1;
+}
 
 abbrev pub decreases-loop-line : goal.decreases-loop-line
 decreases-loop-line g l = length l.rest
