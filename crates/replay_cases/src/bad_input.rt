@@ -37,9 +37,19 @@ fn bad_lines_end_the_run(rt: HostRuntime) -> Result<(), Fail> {
         schedule.extend_from_slice(b"\nmoney 1\n")?;
         let (status, sink) = replayed(alloc, &schedule)?;
         assert_eq!(rt; status, Status::BadLine, "{line:?}");
-        assert_eq!(rt; sink.bytes(), b"1 chain\n2 funded\nbad line 3\n".as_slice(), "{line:?}");
+        assert_eq!(rt;
+            sink.bytes(),
+            b"1 chain\n2 funded\nbad line 3\n".as_slice(),
+            "{line:?}"
+        );
     }
-    let firsts = ["\n", "fund 1 1\n", "chain 1 9 0\n", "chain 1 9 3001\n", "chain 1 9"];
+    let firsts = [
+        "\n",
+        "fund 1 1\n",
+        "chain 1 9 0\n",
+        "chain 1 9 3001\n",
+        "chain 1 9",
+    ];
     for first in firsts {
         let (status, sink) = replayed(alloc, first.as_bytes())?;
         assert_eq!(rt; status, Status::BadLine, "{first}");
@@ -78,6 +88,9 @@ fn many_lines_end_the_run(rt: HostRuntime) -> Result<(), Fail> {
     schedule.push(b'\n')?;
     let (status, sink) = replayed(alloc, &schedule)?;
     assert_eq!(rt; status, Status::TooLong);
-    assert!(rt; sink.bytes().ends_with(b"\n200000 ticked\ntoo long 200001\n"));
+    assert!(rt;
+        sink.bytes()
+            .ends_with(b"\n200000 ticked\ntoo long 200001\n")
+    );
     Ok(())
 }

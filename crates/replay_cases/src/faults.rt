@@ -5,7 +5,11 @@ use std::alloc::Global;
 use std::test::Fail;
 
 /// The deposit and its exit from a source whose takes give one line each, and where these calls fail.
-fn run_with_faults(alloc: Global, source_fails: &[u64], sink_fails: &[u64]) -> Result<(Status, MemSink), Fail> {
+fn run_with_faults(
+    alloc: Global,
+    source_fails: &[u64],
+    sink_fails: &[u64],
+) -> Result<(Status, MemSink), Fail> {
     let words = words(alloc, &["replay"])?;
     let pieces = vec![in alloc; 14, 12, 132, 8, 17, 8, 12, 18, 8]?;
     let bytes = DEPOSIT_AND_EXIT.as_bytes().to_vec(alloc)?;
@@ -20,7 +24,12 @@ fn faults_end_the_run(rt: HostRuntime) -> Result<(), Fail> {
     let none: &[u64] = &[];
     let cases = [
         (none, none, Status::Done, DEPOSIT_AND_EXIT_ANSWERS),
-        (&[3], none, Status::ReadFault, "1 chain\n2 funded\nread fault\n"),
+        (
+            &[3],
+            none,
+            Status::ReadFault,
+            "1 chain\n2 funded\nread fault\n",
+        ),
         (&[1], none, Status::ReadFault, "read fault\n"),
         (none, &[1], Status::WriteFault, ""),
         (&[3], &[1], Status::WriteFault, ""),
@@ -29,7 +38,11 @@ fn faults_end_the_run(rt: HostRuntime) -> Result<(), Fail> {
     for (source_fails, sink_fails, want, text) in cases {
         let (status, sink) = run_with_faults(rt.alloc(), source_fails, sink_fails)?;
         assert_eq!(rt; status, want, "{source_fails:?} {sink_fails:?}");
-        assert_eq!(rt; sink.bytes(), text.as_bytes(), "{source_fails:?} {sink_fails:?}");
+        assert_eq!(rt;
+            sink.bytes(),
+            text.as_bytes(),
+            "{source_fails:?} {sink_fails:?}"
+        );
     }
     Ok(())
 }
@@ -42,7 +55,10 @@ fn an_unfinished_line_is_dropped_at_a_fault(rt: HostRuntime) -> Result<(), Fail>
     // The whole text comes in three takes, and the fourth fails in place of the end.
     let mut source = MemSource::make(bytes, vec![in alloc; 14, 12, 7]?, vec![in alloc; 4]?);
     let mut sink = MemSink::make(alloc, Vec::new(alloc));
-    assert_eq!(rt; run(alloc, &words, &mut source, &mut sink), Status::ReadFault);
+    assert_eq!(rt;
+        run(alloc, &words, &mut source, &mut sink),
+        Status::ReadFault
+    );
     assert_eq!(rt; sink.bytes(), b"1 chain\n2 funded\nread fault\n".as_slice());
     Ok(())
 }

@@ -1,13 +1,12 @@
-use super::runs::KEY;
-use super::runs::replayed;
+use super::runs::{KEY, replayed};
 use replay_run::Status;
 use root_contract::{Answer, Contract, Refusal, RootCall};
 use std::test::Fail;
 
 /// A key that reads, as bytes.
 const KEY_BYTES: [u8; 56] = [
-    0, 0, 0, 5, 0, 0, 0, 4, 0, 0, 0, 0, 0, 0, 0, 0, 0, 0, 0, 0, 0, 0, 0, 0, 0, 0, 0, 0, 0, 0, 0, 0, 0, 0, 0, 0, 0, 0, 0, 0, 0, 0, 0,
-    0, 0, 0, 0, 0, 0, 0, 0, 0, 0, 0, 0, 0,
+    0, 0, 0, 5, 0, 0, 0, 4, 0, 0, 0, 0, 0, 0, 0, 0, 0, 0, 0, 0, 0, 0, 0, 0, 0, 0, 0, 0, 0, 0, 0, 0,
+    0, 0, 0, 0, 0, 0, 0, 0, 0, 0, 0, 0, 0, 0, 0, 0, 0, 0, 0, 0, 0, 0, 0, 0,
 ];
 
 #[test]
@@ -19,8 +18,14 @@ fn calls_are_refused_in_order(rt: HostRuntime) -> Result<(), Fail> {
         ("tick 50", "4 ticked"),
         ("tick 49", "5 refused clock-back 50"),
         ("tick 1099511627777", "6 refused clock-too-large"),
-        ("call 1 deposit 0 0x0000000500000003000000000000000000000000000000000000000000000000000000000000000000000000000000000000000000000000", "7 refused bad-amount"),
-        ("call 1 deposit 5 0x0000000500000003000000000000000000000000000000000000000000000000000000000000000000000000000000000000000000000000", "8 refused bad-key"),
+        (
+            "call 1 deposit 0 0x0000000500000003000000000000000000000000000000000000000000000000000000000000000000000000000000000000000000000000",
+            "7 refused bad-amount",
+        ),
+        (
+            "call 1 deposit 5 0x0000000500000003000000000000000000000000000000000000000000000000000000000000000000000000000000000000000000000000",
+            "8 refused bad-key",
+        ),
         ("call 2 deposit 5 KEY", "9 refused no-funds 0 5"),
         ("call 1 deposit 5 KEY", "10 deposited 1 1"),
         ("call 1 deposit 5 KEY", "11 refused too-many-blocks"),
@@ -63,15 +68,54 @@ fn calls_are_refused_in_order(rt: HostRuntime) -> Result<(), Fail> {
 fn the_contract_answers_and_keeps_its_log(rt: HostRuntime) -> Result<(), Fail> {
     let mut contract = Contract::make(rt.alloc(), [7; 32], 9, 2);
     let poor = Answer::Refused(Refusal::NoFunds { has: 0, needs: 30 });
-    let deposit = RootCall::Deposit { account: 1, amount: 30, key: KEY_BYTES };
+    let deposit = RootCall::Deposit {
+        account: 1,
+        amount: 30,
+        key: KEY_BYTES,
+    };
     let calls = [
         (deposit, poor, 0, 0),
-        (RootCall::Fund { account: 1, amount: 200 }, Answer::Funded, 200, 1),
+        (
+            RootCall::Fund {
+                account: 1,
+                amount: 200,
+            },
+            Answer::Funded,
+            200,
+            1,
+        ),
         (deposit, Answer::Deposited { coin: 1, block: 1 }, 170, 2),
-        (RootCall::StartDeposit { account: 1, coin: 1, block: 1 }, Answer::Started { opens: 907_200 }, 70, 3),
-        (RootCall::Finish { account: 2, coin: 1, exit: 1 }, Answer::Refused(Refusal::Early { opens: 907_200 }), 70, 3),
+        (
+            RootCall::StartDeposit {
+                account: 1,
+                coin: 1,
+                block: 1,
+            },
+            Answer::Started { opens: 907_200 },
+            70,
+            3,
+        ),
+        (
+            RootCall::Finish {
+                account: 2,
+                coin: 1,
+                exit: 1,
+            },
+            Answer::Refused(Refusal::Early { opens: 907_200 }),
+            70,
+            3,
+        ),
         (RootCall::Tick { now: 907_200 }, Answer::Ticked, 70, 4),
-        (RootCall::Finish { account: 2, coin: 1, exit: 1 }, Answer::Paid, 200, 5),
+        (
+            RootCall::Finish {
+                account: 2,
+                coin: 1,
+                exit: 1,
+            },
+            Answer::Paid,
+            200,
+            5,
+        ),
     ];
     for (call, answer, balance, length) in calls {
         assert_eq!(rt; contract.call(&call), answer);

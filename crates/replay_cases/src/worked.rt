@@ -5,8 +5,10 @@ use std::test::Fail;
 
 #[test]
 fn schedules_are_replayed(rt: HostRuntime) -> Result<(), Fail> {
-    let early = "chain 1 9 100\nfund 1 1000\ncall 1 deposit 300 0x0000000500000004000000000000000000000000000000000000000000000000000000000000000000000000000000000000000000000000\nmoney 1\ncall 1 start 1 1\nmoney 1\ntick 907199\ncall 1 finish 1 1\nmoney 1\n";
-    let early_answers = "1 chain\n2 funded\n3 deposited 1 1\n4 money 700\n5 started 907200\n6 money 600\n7 ticked\n8 refused early 907200\n9 money 600\nno exhibit\n";
+    let early =
+        "chain 1 9 100\nfund 1 1000\ncall 1 deposit 300 0x0000000500000004000000000000000000000000000000000000000000000000000000000000000000000000000000000000000000000000\nmoney 1\ncall 1 start 1 1\nmoney 1\ntick 907199\ncall 1 finish 1 1\nmoney 1\n";
+    let early_answers =
+        "1 chain\n2 funded\n3 deposited 1 1\n4 money 700\n5 started 907200\n6 money 600\n7 ticked\n8 refused early 907200\n9 money 600\nno exhibit\n";
     let cases = [
         ("", "no exhibit\n"),
         (DEPOSIT_AND_EXIT, DEPOSIT_AND_EXIT_ANSWERS),
@@ -24,7 +26,8 @@ fn schedules_are_replayed(rt: HostRuntime) -> Result<(), Fail> {
 #[test]
 fn other_words_are_usage(rt: HostRuntime) -> Result<(), Fail> {
     let alloc = rt.alloc();
-    let usage = "usage: plasma replay | brief | wallet | operator | watcher | init | make | verify\n";
+    let usage =
+        "usage: plasma replay | brief | wallet | operator | watcher | init | make | verify\n";
     let none: &[&str] = &[];
     let cases = [
         none,
@@ -41,7 +44,11 @@ fn other_words_are_usage(rt: HostRuntime) -> Result<(), Fail> {
     ];
     for case in cases {
         let words = words(alloc, case)?;
-        let mut source = MemSource::make(b"chain 1 9 1\n".to_vec(alloc)?, Vec::new(alloc), Vec::new(alloc));
+        let mut source = MemSource::make(
+            b"chain 1 9 1\n".to_vec(alloc)?,
+            Vec::new(alloc),
+            Vec::new(alloc),
+        );
         let mut sink = MemSink::make(alloc, Vec::new(alloc));
         assert_eq!(rt; run(alloc, &words, &mut source, &mut sink), Status::Usage);
         assert_eq!(rt; sink.bytes(), usage.as_bytes());
