@@ -1,0 +1,3 @@
+mod Told
+mod Quiet
+pub mod Images

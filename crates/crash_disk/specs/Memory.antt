@@ -1,0 +1,91 @@
+-- The disk in memory.
+use Rattle.std.specs.Prelude.{ℕ, ◌+◌, ◌-◌, Bool, false, ◌==◌, ◌||◌, true, max, if◌then◌else◌, List, [], ◌∷◌, length, take, drop, Option, Some, None, option_map}
+use Rattle.std.specs.List.{list_any}
+use Rattle.crash_disk.specs.Causes.{counted}
+use Rattle.crash_disk.specs.Disk.{Step, asks_length, reads, writes, syncs, DeviceCall, History, with_call, Room}
+use Rattle.crash_disk.specs.declared.kept.KeptStep.{KeptStep}
+use Rattle.crash_disk.specs.declared.kept.KeptStep.TheVariants.{Length, Read, Write, Sync}
+use Rattle.crash_disk.specs.declared.kept.KeptCall.{KeptCall}
+
+-- what it tells; the numbers of the calls that are to fail, counted from 1 since it was made; how many calls were made;
+-- how many may still pass where there is a fuse; the faults; and the room left
+pub record MemState : Type 0 where
+  pub history : History
+  pub fails : List ℕ
+  pub made : ℕ
+  pub fuse : Option ℕ
+  pub faults : ℕ
+  pub room : Room
+
+-- no call may pass any more
+abbrev pub is_spent : Option ℕ → Bool
+is_spent None = false
+is_spent (Some calls) = calls == 0
+
+-- whether the call after so many fails: the fuse is spent, or its number is on the list
+abbrev pub is_to_fail : List ℕ → ℕ → Option ℕ → Bool
+is_to_fail fails made fuse = is_spent fuse || list_any (λ number. number == made + 1) fails
+
+abbrev pub fails_next : MemState → Bool
+fails_next disk = is_to_fail disk.fails disk.made disk.fuse
+
+-- a count of faults after a call that failed or passed
+abbrev pub faults_after : ℕ → Bool → ℕ
+faults_after faults failed = if failed then counted faults else faults
+
+-- the bytes that a step writes
+abbrev pub bytes_of : Step → List ℕ
+bytes_of (writes place bytes) = bytes
+bytes_of step = []
+
+-- the disk after a device call
+abbrev pub after_call : MemState → Step → MemState
+after_call disk step = record disk {
+  history = with_call step (fails_next disk) disk.history;
+  made = counted disk.made;
+  fuse = option_map (λ calls. calls - 1) disk.fuse;
+  faults = faults_after disk.faults (fails_next disk);
+  room = record { calls = disk.room.calls - 1; bytes = disk.room.bytes - length (bytes_of step) };
+}
+
+-- the disk with a fuse
+abbrev pub with_fuse : ℕ → MemState → MemState
+with_fuse calls disk = record disk { fuse = Some calls }
+
+-- the disk with room for at least so many calls, which write so many bytes
+abbrev pub with_room : ℕ → ℕ → MemState → MemState
+with_room calls bytes disk = record disk { room = record { calls = max calls disk.room.calls; bytes = max bytes disk.room.bytes } }
+
+-- the disk after a crash that left this image: no calls to tell, no fuse and no room
+abbrev pub crashed : List ℕ → MemState → MemState
+crashed image disk =
+    record disk { history = record { began = image; calls = [] }; fuse = None; room = record { calls = 0; bytes = 0 } }
+
+-- the step of a call that is kept with the number of its bytes, which are the first of these
+abbrev pub step_of : KeptStep → List ℕ → Step
+step_of Length bytes = asks_length
+step_of (Read place count) bytes = reads place count
+step_of (Write place count) bytes = writes place (take count bytes)
+step_of Sync bytes = syncs
+
+-- how many bytes it takes
+abbrev pub count_of : KeptStep → ℕ
+count_of (Write place count) = count
+count_of step = 0
+
+-- the calls that are kept, the oldest first, over the bytes that they wrote, before those already told
+abbrev pub told_of : List KeptCall → List ℕ → List DeviceCall → List DeviceCall
+told_of [] bytes told = told
+told_of (call ∷ calls) bytes told =
+    told_of calls (drop (count_of call.step) bytes) (record { step = step_of call.step bytes; failed = call.failed } ∷ told)
+
+-- how many bytes they wrote
+abbrev pub count_written : List KeptCall → ℕ
+count_written [] = 0
+count_written (call ∷ calls) = count_of call.step + count_written calls
+
+-- a step that writes nothing and is no sync
+abbrev pub is_quiet : KeptStep → Bool
+is_quiet (Write place count) = false
+is_quiet Sync = false
+is_quiet step = true

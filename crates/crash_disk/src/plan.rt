@@ -1,0 +1,60 @@
+ghost use Rattle.std.specs.Prelude.{◌≡◌, ◌==◌, ◌+◌, ◌-◌, option_map};
+ghost use Rattle.std.specs.List.{list_any};
+ghost use Rattle.crash_disk.specs.Causes.{counted};
+ghost use Rattle.crash_disk.specs.Memory.{is_spent, is_to_fail, faults_after};
+
+// Which device calls fail: those on a list, counted from 1, and every call once the fuse is spent.
+#[derive(Drop)]
+pub struct Plan {
+    pub fails: Vec<u64>,
+    pub made: u64,
+    pub fuse: Option<u64>,
+    pub faults: u64,
+}
+
+// Whether no call may pass any more.
+fn is_spent(fuse: Option<u64>) -> bool
+    ensures { result ≡ is_spent fuse }
+{
+    match fuse {
+        Some(calls) => calls == 0,
+        None => false,
+    }
+}
+
+// The fuse after one call more.
+fn burnt(fuse: Option<u64>) -> Option<u64>
+    ensures { result ≡ option_map (λ calls. calls - 1) fuse }
+{
+    match fuse {
+        Some(calls) => Some(calls.saturating_sub(1)),
+        None => None,
+    }
+}
+
+// Whether the call after so many is on the list. The number after `u64::MAX` is on none.
+fn is_on_list(fails: &[u64], made: u64) -> bool
+    ensures { result ≡ list_any (λ number. number == made + 1) fails.now }
+{
+    let number = u128::from(made) + 1;
+    fails.iter().any(|fail| u128::from(*fail) == number)
+}
+
+impl Plan {
+    // Counts the next call, and says whether it fails.
+    pub fn next_fails(&mut self) -> bool
+        ensures value { result ≡ is_to_fail self.old.fails.items self.old.made self.old.fuse }
+        ensures fails { self.new.fails.items ≡ self.old.fails.items }
+        ensures made { self.new.made ≡ counted self.old.made }
+        ensures fuse { self.new.fuse ≡ option_map (λ calls. calls - 1) self.old.fuse }
+        ensures faults { self.new.faults ≡ faults_after self.old.faults result }
+    {
+        let failed = is_spent(self.fuse) || is_on_list(&self.fails, self.made);
+        self.made = self.made.saturating_add(1);
+        self.fuse = burnt(self.fuse);
+        if failed {
+            self.faults = self.faults.saturating_add(1);
+        }
+        failed
+    }
+}

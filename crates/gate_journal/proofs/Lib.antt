@@ -1,0 +1,6 @@
+mod Read
+mod Told
+mod Left
+mod Crash
+mod Rest
+mod Making

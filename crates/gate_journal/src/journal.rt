@@ -1,0 +1,233 @@
+ghost use Rattle.std.specs.Prelude.{◌≡◌, ◌≢◌, ◌↔◌, ◌<◌, ◌≤◌, ◌+◌, ◌*◌, ◌||◌, ℕ, true, false, List, [], ◌∷◌, ◌++◌, length, option_map, Some, Err, IsOk, IfOk, IfErr, OnOk, OnErr, IsErrOf};
+ghost use Rattle.crash_disk.specs.Causes.{Rose};
+ghost use Rattle.crash_disk.specs.Disk.{held};
+ghost use Rattle.std.specs.Vec.{vec_capacity};
+ghost use Rattle.gate_journal.specs.Calls.{framed};
+ghost use Rattle.gate_journal.specs.Image.{most, spelled, kept_records};
+ghost use Rattle.gate_journal.specs.Make.{is_made, IsFresh, RefusesMake, FewCalls};
+ghost use Rattle.gate_journal.specs.Journal.{JournalState, Keeps, KeepsWithOrWithout, LeavesOnly, IsSettled, WhereTold, TellsAppend, opened_to, RefusesOpen, IsAppendRefusal, is_fault};
+
+use super::image::{CLOSED_GATE, Found, MOST_BYTES};
+use super::make::make_journal;
+use super::opening::load;
+use super::refusal::{JournalRefusal, Returned};
+use super::steps::write_record;
+use crash_disk::{Disk, DiskFailed};
+use plasma_base::{Bytes, NoMemory};
+use std::alloc::Global;
+use std::marker::Model;
+
+/// A journal on a disk. A device fault closes it until its disk is taken back and opened again.
+#[derive(Drop)]
+pub struct Journal<D: Disk> {
+    disk: D,
+    // The place of the closed gate behind the records.
+    gate: u64,
+    closed: bool,
+    spare_bodies: u64,
+    spare_bytes: usize,
+    // What is written behind the gate.
+    buffer: Vec<u8>,
+}
+
+impl<D: Disk> Model for Journal<D> {
+    ghost use Rattle.gate_journal.specs.Journal.{JournalState};
+
+    ghost Value = { JournalState D };
+
+    ghost use Rattle.std.specs.Vec.{vec_capacity};
+    ghost use Rattle.gate_journal.specs.Sound.{IsSound};
+
+    ghost view = { λ j. record { disk = j.disk; closed = j.closed; spare_bodies = j.spare_bodies; spare_bytes = j.spare_bytes } };
+
+    ghost invariant = { λ j. IsSound (D.told j.disk) (D.left j.disk) j.gate j.closed j.spare_bodies j.spare_bytes (vec_capacity j.buffer) };
+}
+
+impl<D: Disk> Journal<D> {
+    /// Makes an empty journal on a disk that holds none, and syncs: from then on each image that a crash
+    /// may leave is `PGJ1` and a closed gate. At most four device calls: the length, a read where the
+    /// disk holds five bytes, a write and a sync.
+    ///
+    /// `AlreadyMade` comes where the image spells a journal or has more than five bytes.
+    pub fn make(disk: &mut D) -> Result<(), JournalRefusal>
+        ensures new { OnOk result (WhereTold (D.told disk.old) (λ before. is_made (held before) ≡ false)) }
+        ensures made { OnOk result (WhereTold (D.told disk.new) IsFresh) }
+        ensures few { FewCalls (D.told disk.old) (D.told disk.new) }
+        ensures refused { IfErr result (RefusesMake (D.told disk.old) (D.told disk.new)) }
+        ensures fault { IsErrOf result JournalRefusal.DeviceFault → Rose (D.faults disk.old) (D.faults disk.new) }
+        ensures later { D.faults disk.old ≤ D.faults disk.new }
+    {
+        make_journal(disk)
+    }
+
+    /// Opens the journal of a disk, and gives its records in order. From then on each image that a crash
+    /// may leave keeps them. Device calls: a sync, the length and one read of the whole image, ended by
+    /// the first that fails or by want of memory; nothing is written.
+    ///
+    /// `NotJournal` comes where the image spells no records, with the place of the first gate that is
+    /// missing, or whose record runs past the end or is too long; 0 where the image doesn't begin with
+    /// the mark. A refusal hands the disk back.
+    pub fn open(alloc: Global, disk: D) -> Result<(Journal<D>, Vec<Bytes>), Returned<D>>
+        ensures records { IfOk result (λ opened. WhereTold (D.told disk) (λ before. kept_records (held before) ≡ Some opened.1.items)) }
+        ensures settled { IfOk result (λ opened. WhereTold (D.told opened.0.disk) (λ now. IsSettled now opened.1.items)) }
+        ensures fresh { IfOk result (λ opened. (opened.0.closed ≡ false) × (opened.0.spare_bodies ≡ 0) × (opened.0.spare_bytes ≡ 0)) }
+        ensures calls { IfOk result (λ opened. D.told opened.0.disk ≡ option_map (opened_to 3) (D.told disk)) }
+        ensures later { IfOk result (λ opened. D.faults disk ≤ D.faults opened.0.disk) }
+        ensures refused { IfErr result (λ returned. RefusesOpen (D.told disk) (D.told returned.disk) returned.why) }
+        ensures refused_later { IfErr result (λ returned. D.faults disk ≤ D.faults returned.disk) }
+        ensures fault { IfErr result (λ returned. returned.why ≡ JournalRefusal.DeviceFault → Rose (D.faults disk) (D.faults returned.disk)) }
+    {
+        let mut disk = disk;
+        match load(alloc, &mut disk) {
+            Ok(found) => {
+                let Found { records, gate } = found;
+                let journal = Journal {
+                    disk,
+                    gate,
+                    closed: false,
+                    spare_bodies: 0,
+                    spare_bytes: 0,
+                    buffer: Vec::new(alloc),
+                };
+                Ok((journal, records))
+            }
+            Err(why) => Err(Returned { disk, why }),
+        }
+    }
+
+    /// The disk, handed back.
+    pub fn take_disk(self) -> D
+        ensures { result ≡ self.disk }
+    {
+        let Journal { disk, .. } = self;
+        disk
+    }
+
+    /// Makes room, in memory and on the disk, for at least so many further bodies of at most so many
+    /// bytes, or answers `NoMemory` and changes nothing. It makes no device call.
+    pub fn reserve(&mut self, bodies: u64, bytes: usize) -> Result<(), NoMemory>
+        ensures bodies { OnOk result (bodies ≤ self.new.spare_bodies) }
+        ensures bytes { OnOk result (bytes ≤ self.new.spare_bytes) }
+        ensures history { D.told self.new.disk ≡ D.told self.old.disk }
+        ensures faults { D.faults self.new.disk ≡ D.faults self.old.disk }
+        ensures closed { self.new.closed ≡ self.old.closed }
+        ensures err { OnErr result (self.new ≡ self.old) }
+    {
+        let bodies = bodies.max(self.spare_bodies);
+        let bytes = bytes.max(self.spare_bytes);
+        let room = room_of(bodies, bytes)?;
+        self.buffer.reserve(room.framed)?;
+        self.disk.make_room(room.calls, room.bytes)?;
+        self.spare_bodies = bodies;
+        self.spare_bytes = bytes;
+        Ok(())
+    }
+
+    /// Adds a record. At `Ok` it is in every image that a crash may leave from then on; a crash at a
+    /// moment of this call leaves the records with the new one or without. Device calls: a write, a sync,
+    /// a write and a sync, ended by the first that fails; a refusal other than `DeviceFault` makes none.
+    ///
+    /// In this order: `Closed` after a device fault; `RecordTooLong` where the body has more than 2^24
+    /// bytes; `NoMemory`, not where there is room for the body; `DeviceFault`, which closes the journal.
+    pub fn append(&mut self, body: &[u8]) -> Result<(), JournalRefusal>
+        ensures closed { IsErrOf result JournalRefusal.Closed ↔ (self.old.closed ≡ true) }
+        ensures too_long { (count : ℕ) → (IsErrOf result (JournalRefusal.RecordTooLong count)
+            ↔ ((self.old.closed ≡ false) × (most < length body.now) × (count ≡ length body.now))) }
+        ensures memory { 0 < self.old.spare_bodies → length body.now ≤ self.old.spare_bytes → result ≢ Err JournalRefusal.NoMemory }
+        ensures named { IfErr result IsAppendRefusal }
+        ensures fault { IsErrOf result JournalRefusal.DeviceFault → Rose (D.faults self.old.disk) (D.faults self.new.disk) }
+        ensures later { D.faults self.old.disk ≤ D.faults self.new.disk }
+        ensures closes { self.new.closed ≡ (self.old.closed || is_fault result) }
+        ensures unchanged { IfErr result (λ why. why ≢ JournalRefusal.DeviceFault → self.new ≡ self.old) }
+        ensures calls { self.old.closed ≡ false → WhereTold (D.told self.old.disk) (λ before.
+            (records : List (List ℕ)) → Keeps records (held before) → TellsAppend before records body.now result (D.told self.new.disk)) }
+        ensures any_moment { self.old.closed ≡ false → WhereTold (D.told self.old.disk) (λ before.
+            (records : List (List ℕ)) → Keeps records (held before)
+            → WhereTold (D.told self.new.disk) (λ now. LeavesOnly before now (KeepsWithOrWithout records body.now))) }
+        ensures kept { OnOk result (WhereTold (D.told self.old.disk) (λ before.
+            (records : List (List ℕ)) → Keeps records (held before)
+            → WhereTold (D.told self.new.disk) (λ now. IsSettled now (records ++ body.now ∷ [])))) }
+        ensures spare { OnOk result (0 < self.old.spare_bodies → length body.now ≤ self.old.spare_bytes
+            → (self.new.spare_bodies + 1 ≡ self.old.spare_bodies) × (self.new.spare_bytes ≡ self.old.spare_bytes)) }
+    {
+        if self.closed {
+            return Err(JournalRefusal::Closed);
+        }
+        if body.len() > MOST_BYTES {
+            return Err(JournalRefusal::RecordTooLong {
+                length: body.len() as u64,
+            });
+        }
+        self.reserve_one(body.len())?;
+        frame(&mut self.buffer, body);
+        match write_record(&mut self.disk, self.gate, &self.buffer) {
+            Ok(()) => {
+                self.gate += 5 + body.len() as u64;
+                self.spare_bodies -= 1;
+                Ok(())
+            }
+            Err(DiskFailed) => {
+                self.closed = true;
+                Err(JournalRefusal::DeviceFault)
+            }
+        }
+    }
+
+    // Makes room for a body of so many bytes, where there is none.
+    fn reserve_one(&mut self, bytes: usize) -> Result<(), NoMemory>
+        ensures bodies { OnOk result (0 < self.new.spare_bodies) }
+        ensures bytes { OnOk result (bytes ≤ self.new.spare_bytes) }
+        ensures reserved { 0 < self.old.spare_bodies → bytes ≤ self.old.spare_bytes → IsOk result × (self.new ≡ self.old) }
+        ensures history { D.told self.new.disk ≡ D.told self.old.disk }
+        ensures faults { D.faults self.new.disk ≡ D.faults self.old.disk }
+        ensures closed { self.new.closed ≡ self.old.closed }
+        ensures err { OnErr result (self.new ≡ self.old) }
+    {
+        if self.spare_bodies > 0 && bytes <= self.spare_bytes {
+            return Ok(());
+        }
+        let Some(bodies) = self.spare_bodies.checked_add(1) else {
+            return Err(NoMemory);
+        };
+        self.reserve(bodies, bytes)
+    }
+}
+
+// The room that some bodies need.
+#[derive(Clone, Copy)]
+struct RoomOf {
+    framed: usize,
+    calls: u64,
+    bytes: u64,
+}
+
+// The room for so many bodies of at most so many bytes.
+fn room_of(bodies: u64, bytes: usize) -> Result<RoomOf, NoMemory>
+    ensures { IfOk result (λ room. (room.framed ≡ bytes + 5) × (room.calls ≡ bodies * 4) × (room.bytes ≡ bodies * (bytes + 6))) }
+{
+    let Some(framed) = bytes.checked_add(6) else {
+        return Err(NoMemory);
+    };
+    match (bodies.checked_mul(4), bodies.checked_mul(framed as u64)) {
+        (Some(calls), Some(bytes)) => Ok(RoomOf {
+            framed: framed - 1,
+            calls,
+            bytes,
+        }),
+        _ => Err(NoMemory),
+    }
+}
+
+// Fills the buffer with what is written behind the gate. There is room for it.
+fn frame(buffer: &mut Vec<u8>, body: &[u8])
+    requires fits { length body.now + 5 ≤ vec_capacity buffer.old }
+    requires short { length body.now ≤ most }
+    ensures items { buffer.new.items ≡ framed body.now }
+    ensures room { vec_capacity buffer.old ≤ vec_capacity buffer.new }
+{
+    let count = body.len() as u32;
+    buffer.clear();
+    buffer.extend_from_slice(&count.to_be_bytes()).unwrap();
+    buffer.extend_from_slice(body).unwrap();
+    buffer.push(CLOSED_GATE).unwrap();
+}

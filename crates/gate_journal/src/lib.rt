@@ -1,0 +1,17 @@
+//! A journal on a disk: each record is on the disk before it is acknowledged, and a crash at any moment
+//! leaves the records with the one that is being added or without.
+#![tactic(auto)]
+
+mod image;
+mod journal;
+mod laws;
+mod make;
+mod opening;
+mod refusal;
+mod steps;
+#[cfg(test)]
+mod tests;
+
+pub use journal::Journal;
+pub use laws::{read_is_spelled, spelled_is_read, stopped_appends};
+pub use refusal::{InitRefusal, JournalRefusal, Returned};
