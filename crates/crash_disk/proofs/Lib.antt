@@ -1,3 +1,4 @@
 mod Told
 mod Quiet
 pub mod Images
+pub mod Plans

@@ -1,5 +1,7 @@
--- What a disk tells of itself, and from that what it holds, what a crash may leave, and the room that is left.
-use Rattle.std.specs.Prelude.{◌≡◌, ℕ, ◌+◌, ◌≤◌, Bool, true, false, ◌&&◌, ◌||◌, not, nat_le, nat_lt, if◌then◌else◌, List, [], ◌∷◌, ◌++◌, length, take, drop, slice_index, Option, option_map}
+-- What a disk tells of itself, and from that what it holds, what a crash may leave, which calls to come fail, and the room
+-- that is left.
+use Rattle.std.specs.Prelude.{◌≡◌, ℕ, zero, suc, ◌+◌, ◌-◌, ◌≤◌, ◌==◌, Bool, true, false, ◌&&◌, ◌||◌, not, nat_le, nat_lt, if◌then◌else◌, List, [], ◌∷◌, ◌++◌, length, take, drop, slice_index, min, Option, Some, None, option_map}
+use Rattle.std.specs.Option.{option_map_or}
 use Rattle.std.specs.List.{list_any}
 
 -- what a device call asks for: the length; bytes, by place and length; a write, by place and bytes; a sync
@@ -98,6 +100,44 @@ with_call step failed history =
 -- what a disk tells after one more device call; one that tells nothing goes on so
 abbrev pub told_after : Option History → Step → Bool → Option History
 told_after told step failed = option_map (with_call step failed) told
+
+-- which device calls to come fail, where a disk foretells it: the listed ones, counted from 0, and, with a fuse, each one
+-- after so many
+pub record Plan : Type 0 where
+  pub listed : ℕ → Bool
+  pub fuse : Option ℕ
+
+-- no call may pass any more
+abbrev pub is_spent : Option ℕ → Bool
+is_spent None = false
+is_spent (Some calls) = calls == 0
+
+-- the next call fails
+abbrev pub fails_first : Plan → Bool
+fails_first plan = is_spent plan.fuse || plan.listed 0
+
+-- the plan after one call
+abbrev pub after_one : Plan → Plan
+after_one plan = record { listed = λ n. plan.listed (suc n); fuse = option_map (λ calls. calls - 1) plan.fuse }
+
+-- the plan after so many calls
+unfoldable pub after_calls : ℕ → Plan → Plan
+after_calls zero plan = plan
+after_calls (suc count) plan = after_calls count (after_one plan)
+
+-- how many of so many calls pass before one fails
+unfoldable pub passing : ℕ → Plan → ℕ
+passing zero plan = zero
+passing (suc count) plan = if fails_first plan then zero else suc (passing count (after_one plan))
+
+-- with no listed call as many pass as the fuse lets pass, and all where there is no fuse
+abbrev pub PassesByFuse : Type 0
+PassesByFuse = (plan : Plan) (count : ℕ) → ((n : ℕ) → plan.listed n ≡ false) → passing count plan ≡ option_map_or (min count) plan.fuse count
+
+-- a call goes by the plan, where there is one: it fails exactly where the plan says, and the plan goes on
+pub record GoesByPlan (before now : Option Plan) (failed : Bool) : Type 0 where
+  pub fails : (plan : Plan) → before ≡ Some plan → failed ≡ fails_first plan
+  pub goes_on : now ≡ option_map after_one before
 
 -- the room left: for so many device calls, which write so many bytes in all
 pub record Room : Type 0 where

@@ -1,8 +1,8 @@
 -- The disk in memory.
-use Rattle.std.specs.Prelude.{ℕ, ◌+◌, ◌-◌, Bool, false, ◌==◌, ◌||◌, true, max, if◌then◌else◌, List, [], ◌∷◌, length, take, drop, Option, Some, None, option_map}
+use Rattle.std.specs.Prelude.{◌≡◌, ℕ, zero, suc, ◌+◌, ◌-◌, Bool, false, ◌==◌, true, max, if◌then◌else◌, List, [], ◌∷◌, length, take, drop, Option, Some, None}
 use Rattle.std.specs.List.{list_any}
 use Rattle.crash_disk.specs.Causes.{counted}
-use Rattle.crash_disk.specs.Disk.{Step, asks_length, reads, writes, syncs, DeviceCall, History, with_call, Room}
+use Rattle.crash_disk.specs.Disk.{Step, asks_length, reads, writes, syncs, DeviceCall, History, with_call, Plan, fails_first, after_one, Room}
 use Rattle.crash_disk.specs.declared.kept.KeptStep.{KeptStep}
 use Rattle.crash_disk.specs.declared.kept.KeptStep.TheVariants.{Length, Read, Write, Sync}
 use Rattle.crash_disk.specs.declared.kept.KeptCall.{KeptCall}
@@ -17,17 +17,22 @@ pub record MemState : Type 0 where
   pub faults : ℕ
   pub room : Room
 
--- no call may pass any more
-abbrev pub is_spent : Option ℕ → Bool
-is_spent None = false
-is_spent (Some calls) = calls == 0
+-- whether the n-th call to come is on the list, after so many were made
+abbrev pub listed_at : List ℕ → ℕ → ℕ → Bool
+listed_at fails made zero = list_any (λ number. number == made + 1) fails
+listed_at fails made (suc n) = listed_at fails (counted made) n
 
--- whether the call after so many fails: the fuse is spent, or its number is on the list
-abbrev pub is_to_fail : List ℕ → ℕ → Option ℕ → Bool
-is_to_fail fails made fuse = is_spent fuse || list_any (λ number. number == made + 1) fails
+-- the plan of its faults
+abbrev pub plan_of : MemState → Plan
+plan_of disk = record { listed = listed_at disk.fails disk.made; fuse = disk.fuse }
 
+-- none is listed where the list is empty
+abbrev pub NoneListed : Type 0
+NoneListed = (disk : MemState) (n : ℕ) → disk.fails ≡ [] → (plan_of disk).listed n ≡ false
+
+-- the next call fails
 abbrev pub fails_next : MemState → Bool
-fails_next disk = is_to_fail disk.fails disk.made disk.fuse
+fails_next disk = fails_first (plan_of disk)
 
 -- a count of faults after a call that failed or passed
 abbrev pub faults_after : ℕ → Bool → ℕ
@@ -43,7 +48,7 @@ abbrev pub after_call : MemState → Step → MemState
 after_call disk step = record disk {
   history = with_call step (fails_next disk) disk.history;
   made = counted disk.made;
-  fuse = option_map (λ calls. calls - 1) disk.fuse;
+  fuse = (after_one (plan_of disk)).fuse;
   faults = faults_after disk.faults (fails_next disk);
   room = record { calls = disk.room.calls - 1; bytes = disk.room.bytes - length (bytes_of step) };
 }

@@ -1,6 +1,6 @@
 ghost use Rattle.std.specs.Prelude.{◌≡◌, ℕ, ◌+◌, ◌^◌, ◌<◌, ◌≤◌, length, take, drop, Option, Some, is_err, IfOk, OnOk, OnErr};
 ghost use Rattle.crash_disk.specs.Causes.{HasCause};
-ghost use Rattle.crash_disk.specs.Disk.{History, held, told_after, asks_length, reads, writes, syncs, Room, HasRoom, Spends};
+ghost use Rattle.crash_disk.specs.Disk.{History, held, told_after, asks_length, reads, writes, syncs, Plan, GoesByPlan, Room, HasRoom, Spends};
 
 use plasma_base::NoMemory;
 use thiserror::Error;
@@ -15,11 +15,14 @@ pub struct DiskFailed;
 /// the length may be any from the old to the new. A write that failed counts as written.
 ///
 /// A disk that can't say what it holds, as a file, tells no history. What its calls answer is then
-/// known only where they fail.
+/// known only where they fail. One that can't say which of its calls will fail foretells nothing.
 pub trait Disk {
     /// The image that the disk began with and the device calls since, where it tells them. What it
     /// holds and what a crash may leave are functions of these.
     ghost told: { Self → Option History };
+
+    /// Which device calls to come fail, where it foretells them.
+    ghost plan: { Self → Option Plan };
 
     /// How often the disk has failed; it stops at `u64::MAX`.
     ghost faults: { Self → ℕ };
@@ -32,6 +35,7 @@ pub trait Disk {
         requires { HasRoom (left self.old) 0 }
         ensures answer { IfOk result (λ len. (history : History) → told self.old ≡ Some history → len ≡ length (held history)) }
         ensures history { told self.new ≡ told_after (told self.old) asks_length (is_err result) }
+        ensures planned { GoesByPlan (plan self.old) (plan self.new) (is_err result) }
         ensures cause { HasCause (faults self.old) (faults self.new) result }
         ensures spent { Spends (left self.old) (left self.new) 0 };
 
@@ -41,6 +45,7 @@ pub trait Disk {
         requires within { (history : History) → told self.old ≡ Some history → place + length room.old ≤ length (held history) }
         ensures answer { OnOk result ((history : History) → told self.old ≡ Some history → room.new ≡ take (length room.old) (drop place (held history))) }
         ensures history { told self.new ≡ told_after (told self.old) (reads place (length room.old)) (is_err result) }
+        ensures planned { GoesByPlan (plan self.old) (plan self.new) (is_err result) }
         ensures cause { HasCause (faults self.old) (faults self.new) result }
         ensures spent { Spends (left self.old) (left self.new) 0 };
 
@@ -51,6 +56,7 @@ pub trait Disk {
         requires within { (history : History) → told self.old ≡ Some history → place ≤ length (held history) }
         ensures fits { OnOk result (place + length bytes.now < 2 ^ 64) }
         ensures history { told self.new ≡ told_after (told self.old) (writes place bytes.now) (is_err result) }
+        ensures planned { GoesByPlan (plan self.old) (plan self.new) (is_err result) }
         ensures cause { HasCause (faults self.old) (faults self.new) result }
         ensures spent { Spends (left self.old) (left self.new) (length bytes.now) };
 
@@ -58,6 +64,7 @@ pub trait Disk {
     fn sync(&mut self) -> Result<(), DiskFailed>
         requires { HasRoom (left self.old) 0 }
         ensures history { told self.new ≡ told_after (told self.old) syncs (is_err result) }
+        ensures planned { GoesByPlan (plan self.old) (plan self.new) (is_err result) }
         ensures cause { HasCause (faults self.old) (faults self.new) result }
         ensures spent { Spends (left self.old) (left self.new) 0 };
 
@@ -67,6 +74,7 @@ pub trait Disk {
         ensures calls { OnOk result (calls ≤ (left self.new).calls) }
         ensures bytes { OnOk result (bytes ≤ (left self.new).bytes) }
         ensures history { told self.new ≡ told self.old }
+        ensures plan { plan self.new ≡ plan self.old }
         ensures faults { faults self.new ≡ faults self.old }
         ensures err { OnErr result (self.new ≡ self.old) };
 }

@@ -13,6 +13,6 @@ mod plan;
 mod tests;
 
 pub use disk::{Disk, DiskFailed};
-pub use laws::outcomes_may_be_left;
+pub use laws::{none_listed, outcomes_may_be_left, passes_by_fuse};
 pub use memory::MemDisk;
 pub use outcome::Outcome;

@@ -2,7 +2,7 @@ ghost use Rattle.std.specs.Prelude.{◌≡◌, ◌+◌, ◌^◌, ◌<◌, ◌≤
 ghost use Rattle.crash_disk.specs.Causes.{Rose, HasCause};
 ghost use Rattle.crash_disk.specs.Disk.{held, told_after, synced, asks_length, reads, writes, syncs, HasRoom};
 ghost use Rattle.crash_disk.specs.Outcomes.{image_after, HasPattern};
-ghost use Rattle.crash_disk.specs.Memory.{is_quiet, step_of, fails_next, after_call, with_fuse, with_room, crashed};
+ghost use Rattle.crash_disk.specs.Memory.{is_quiet, step_of, plan_of, fails_next, after_call, with_fuse, with_room, crashed};
 
 use super::disk::{Disk, DiskFailed};
 use super::kept::{KeptCall, KeptStep, copy_over, keep, overwrite};
@@ -14,7 +14,7 @@ use std::alloc::Global;
 use std::marker::Model;
 
 /// A disk in memory. It tells its device calls since it was made or last crashed, fails at the calls on
-/// a list and once its fuse is spent, and can crash.
+/// a list and once its fuse is spent, as it foretells, and can crash.
 #[derive(Drop)]
 pub struct MemDisk {
     alloc: Global,
@@ -175,6 +175,8 @@ fn answer(failed: bool) -> Result<(), DiskFailed>
 
 impl Disk for MemDisk {
     ghost told = { λ disk. Some disk.history };
+
+    ghost plan = { λ disk. Some (plan_of disk) };
 
     ghost faults = { λ disk. disk.faults };
 

@@ -1,7 +1,7 @@
-ghost use Rattle.std.specs.Prelude.{◌≡◌, ◌==◌, ◌+◌, ◌-◌, option_map};
-ghost use Rattle.std.specs.List.{list_any};
+ghost use Rattle.std.specs.Prelude.{◌≡◌, ◌-◌, ◌||◌, option_map};
 ghost use Rattle.crash_disk.specs.Causes.{counted};
-ghost use Rattle.crash_disk.specs.Memory.{is_spent, is_to_fail, faults_after};
+ghost use Rattle.crash_disk.specs.Disk.{is_spent};
+ghost use Rattle.crash_disk.specs.Memory.{listed_at, faults_after};
 
 // Which device calls fail: those on a list, counted from 1, and every call once the fuse is spent.
 #[derive(Drop)]
@@ -34,7 +34,7 @@ fn burnt(fuse: Option<u64>) -> Option<u64>
 
 // Whether the call after so many is on the list. The number after `u64::MAX` is on none.
 fn is_on_list(fails: &[u64], made: u64) -> bool
-    ensures { result ≡ list_any (λ number. number == made + 1) fails.now }
+    ensures { result ≡ listed_at fails.now made 0 }
 {
     let number = u128::from(made) + 1;
     fails.iter().any(|fail| u128::from(*fail) == number)
@@ -43,7 +43,7 @@ fn is_on_list(fails: &[u64], made: u64) -> bool
 impl Plan {
     // Counts the next call, and says whether it fails.
     pub fn next_fails(&mut self) -> bool
-        ensures value { result ≡ is_to_fail self.old.fails.items self.old.made self.old.fuse }
+        ensures value { result ≡ (is_spent self.old.fuse || listed_at self.old.fails.items self.old.made 0) }
         ensures fails { self.new.fails.items ≡ self.old.fails.items }
         ensures made { self.new.made ≡ counted self.old.made }
         ensures fuse { self.new.fuse ≡ option_map (λ calls. calls - 1) self.old.fuse }

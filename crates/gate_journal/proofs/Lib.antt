@@ -1,6 +1,6 @@
-mod Read
+pub mod Read
 mod Told
 mod Left
-mod Crash
-mod Rest
+pub mod Crash
+pub mod Rest
 mod Making

@@ -9,7 +9,7 @@ use Rattle.std.proofs.lemmas.List.{take_at, drop_at, append-nil, drop-drop}
 use Rattle.std.proofs.lemmas.List.Elements.{All-nil, All-cons, All-head, All-tail, All-drop}
 use Rattle.std.proofs.lemmas.Nat.{from_be_bytes-to_be_bytes_4}
 use Rattle.plasma_base.specs.Fields.{field_at}
-use Rattle.gate_journal.specs.Image.{is_open, begins_open, most, mark, spelled_record, spelled_records, body_in, joined, records_from, journal_in, kept_records, SpelledIsRead, ReadIsSpelled}
+use Rattle.gate_journal.specs.Image.{is_open, begins_open, most, mark, spelled_record, spelled_records, body_in, joined, records_from, journal_in, kept_records, IsKept, SpelledIsRead, ReadIsSpelled}
 
 abbrev Fits : List (List ℕ) → Type 0
 Fits records = All (λ body. length body ≤ most) records
@@ -145,6 +145,34 @@ head_is (a ∷ b ∷ c ∷ d ∷ bytes) len all =
     let r3 = All-tail P c (d ∷ bytes) r2 in
     four_bytes a b c d (All-head P a (b ∷ c ∷ d ∷ bytes) all) (All-head P b (c ∷ d ∷ bytes) r1) (All-head P c (d ∷ bytes) r2) (All-head P d bytes r3)
 
+-- a length of one byte has one spelling, whatever numbers spell it
+small_head : (bytes : List ℕ) → 4 ≤ length bytes → from_be_bytes w32 (take 4 bytes) < 2 ^ 8 → to_be_bytes w32 (from_be_bytes w32 (take 4 bytes)) ≡ take 4 bytes
+small_head [] len small = absurd (omega (arith, len))
+small_head (a ∷ []) len small = absurd (omega (arith, len))
+small_head (a ∷ b ∷ []) len small = absurd (omega (arith, len))
+small_head (a ∷ b ∷ c ∷ []) len small = absurd (omega (arith, len))
+small_head (a ∷ b ∷ c ∷ d ∷ bytes) len small =
+    let le : a * 256 ^ 3 + b * 256 ^ 2 + c * 256 ^ 1 + d < 2 ^ 8 = small in
+    four_bytes a b c d (omega (arith, le)) (omega (arith, le)) (omega (arith, le)) (omega (arith, le))
+
+-- the numbers are bytes, or the records so short that their lengths are
+abbrev IsPlain : List ℕ → List (List ℕ) → Type 0
+IsPlain bytes records = All (λ byte. byte < 2 ^ 8) bytes ⊎ All (λ body. length body < 2 ^ 8) records
+
+head_of : (bytes body : List ℕ) (records : List (List ℕ)) → IsPlain bytes (body ∷ records) → IsBody bytes body → take 4 bytes ≡ to_be_bytes w32 (length body)
+head_of bytes body records (inl all) part = sym (head_is bytes (omega (arith, part.within)) all) ∙ ap (λ (n : ℕ). to_be_bytes w32 n) part.count
+head_of bytes body records (inr short) part =
+    let one = All-head (λ b. length b < 2 ^ 8) body records short in
+    sym (small_head bytes (omega (arith, part.within)) (omega (arith, part.count, one))) ∙ ap (λ (n : ℕ). to_be_bytes w32 n) part.count
+
+plain_behind : (gate : ℕ) (bytes body : List ℕ) (records : List (List ℕ)) → IsPlain (gate ∷ bytes) (body ∷ records) → IsPlain (drop (4 + length body) bytes) records
+plain_behind gate bytes body records (inl all) = inl (All-drop (λ byte. byte < 2 ^ 8) (4 + length body) bytes (All-tail (λ byte. byte < 2 ^ 8) gate bytes all))
+plain_behind gate bytes body records (inr short) = inr (All-tail (λ b. length b < 2 ^ 8) body records short)
+
+plain_tail : (gate : ℕ) (bytes : List ℕ) (records : List (List ℕ)) → IsPlain (gate ∷ bytes) records → IsPlain bytes records
+plain_tail gate bytes records (inl all) = inl (All-tail (λ byte. byte < 2 ^ 8) gate bytes all)
+plain_tail gate bytes records (inr short) = inr short
+
 -- the bytes from a gate on spell these records, and then stands a closed gate
 record Spells (bytes : List ℕ) (records : List (List ℕ)) : Type 0 where
   pub gate : ℕ
@@ -169,13 +197,13 @@ records_from-zero : (place : ℕ) (bytes : List ℕ) → records_from zero place
 unfolding records_from
 records_from-zero place bytes = refl
 
-spells-record : (bytes body : List ℕ) (records : List (List ℕ)) → All (λ byte. byte < 2 ^ 8) bytes → IsBody bytes body → Spells (drop (4 + length body) bytes) records → Spells (165 ∷ bytes) (body ∷ records)
-spells-record bytes body records all part more = record {
+spells-record : (bytes body : List ℕ) (records : List (List ℕ)) → IsPlain bytes (body ∷ records) → IsBody bytes body → Spells (drop (4 + length body) bytes) records → Spells (165 ∷ bytes) (body ∷ records)
+spells-record bytes body records plain part more = record {
   gate = more.gate;
   rest = more.rest;
   is =
       let head = to_be_bytes w32 (length body) in
-      let head_same : take 4 bytes ≡ head = sym (head_is bytes (omega (arith, part.within)) all) ∙ ap (λ (n : ℕ). to_be_bytes w32 n) part.count in
+      let head_same : take 4 bytes ≡ head = head_of bytes body records plain part in
       let tail : drop 4 bytes ≡ body ++ drop (4 + length body) bytes =
       sym (take-append-drop (length body) (drop 4 bytes)) ∙ (let back = sym part.is in λ i. back i ++ drop-drop (length body) 4 bytes i) in
       let whole : bytes ≡ head ++ (body ++ drop (4 + length body) bytes) = sym (take-append-drop 4 bytes) ∙ (λ i. head_same i ++ tail i) in
@@ -189,25 +217,24 @@ joined-ok : (body : List ℕ) (r : Result (List (List ℕ)) ℕ) (records : List
 joined-ok body (Ok more) records is = (more, refl, cc (is))
 joined-ok body (Err place) records is = absurd (cc (is))
 
-spells : (gates place : ℕ) (bytes : List ℕ) (records : List (List ℕ)) → All (λ byte. byte < 2 ^ 8) bytes → records_from gates place bytes ≡ Ok records → Spells bytes records
-spells gates place [] records all is = absurd (cc (records_from-empty gates place, is))
-spells zero place (gate ∷ bytes) records all is = absurd (cc (records_from-zero place (gate ∷ bytes), is))
-spells (suc gates) place (gate ∷ bytes) records all is = elim (either_way (is_open gate)) [
+spells : (gates place : ℕ) (bytes : List ℕ) (records : List (List ℕ)) → IsPlain bytes records → records_from gates place bytes ≡ Ok records → Spells bytes records
+spells gates place [] records plain is = absurd (cc (records_from-empty gates place, is))
+spells zero place (gate ∷ bytes) records plain is = absurd (cc (records_from-zero place (gate ∷ bytes), is))
+spells (suc gates) place (gate ∷ bytes) records plain is = elim (either_way (is_open gate)) [
   | inr closed ↦
       let none : [] ≡ records = cc (records_from-end gates place gate bytes closed, is) in
       subst (λ (rs : List (List ℕ)). Spells (gate ∷ bytes) rs) none (record { gate = gate; rest = bytes; is = refl; closed = closed; fits = All-nil (λ b. length b ≤ most) })
   | inl open_gate ↦
       let at : gate ≡ 165 = is_165 gate open_gate in
-      let P : ℕ → Type 0 = λ byte. byte < 2 ^ 8 in
-      let rest_all = All-tail P gate bytes all in
       let here : records_from (suc gates) place (165 ∷ bytes) ≡ Ok records = ap (λ (g : ℕ). records_from (suc gates) place (g ∷ bytes)) (sym at) ∙ is in
       elim (or_none (body_in bytes)) [
         | inl none ↦ absurd (cc (records_from-none gates place bytes none, here))
         | inr some ↦
             let body = some.0 in
             let j = joined-ok body _ records (sym (records_from-record gates place bytes body some.1) ∙ here) in
-            let more = spells gates (place + 5 + length body) (drop (4 + length body) bytes) j.0 (All-drop P (4 + length body) bytes rest_all) j.1 in
-            let whole = spells-record bytes body j.0 rest_all (body_in-parts bytes body some.1) more in
+            let here_plain : IsPlain (gate ∷ bytes) (body ∷ j.0) = subst (λ (rs : List (List ℕ)). IsPlain (gate ∷ bytes) rs) j.2 plain in
+            let more = spells gates (place + 5 + length body) (drop (4 + length body) bytes) j.0 (plain_behind gate bytes body j.0 here_plain) j.1 in
+            let whole = spells-record bytes body j.0 (plain_tail gate bytes (body ∷ j.0) here_plain) (body_in-parts bytes body some.1) more in
             let with_gate : Spells (gate ∷ bytes) (body ∷ j.0) = subst (λ (g : ℕ). Spells (g ∷ bytes) (body ∷ j.0)) (sym at) whole in
             subst (λ (rs : List (List ℕ)). Spells (gate ∷ bytes) rs) (sym j.2) with_gate
       ]
@@ -224,19 +251,22 @@ begins-with p g j one is =
     let v = both (eqb p 80) (eqb g 71) u.0 in
     (λ i. eqb-true p 80 v.0 i ∷ eqb-true g 71 v.1 i ∷ eqb-true j 74 u.1 i ∷ eqb-true one 49 t.1 i ∷ [])
 
-pub read_is_spelled : ReadIsSpelled
-read_is_spelled [] records all is = absurd (cc (is))
-read_is_spelled (p ∷ []) records all is = absurd (cc (is))
-read_is_spelled (p ∷ g ∷ []) records all is = absurd (cc (is))
-read_is_spelled (p ∷ g ∷ j ∷ []) records all is = absurd (cc (is))
-read_is_spelled (p ∷ g ∷ j ∷ one ∷ bytes) records all is = elim (either_way (eqb p 80 && eqb g 71 && eqb j 74 && eqb one 49)) [
+plain_after : (p g j one : ℕ) (bytes : List ℕ) (records : List (List ℕ)) → IsPlain (p ∷ g ∷ j ∷ one ∷ bytes) records → IsPlain bytes records
+plain_after p g j one bytes records (inl all) = inl (All-drop (λ byte. byte < 2 ^ 8) 4 (p ∷ g ∷ j ∷ one ∷ bytes) all)
+plain_after p g j one bytes records (inr short) = inr short
+
+plain_is_spelled : (image : List ℕ) (records : List (List ℕ)) → IsPlain image records → kept_records image ≡ Some records → IsKept image records
+plain_is_spelled [] records plain is = absurd (cc (is))
+plain_is_spelled (p ∷ []) records plain is = absurd (cc (is))
+plain_is_spelled (p ∷ g ∷ []) records plain is = absurd (cc (is))
+plain_is_spelled (p ∷ g ∷ j ∷ []) records plain is = absurd (cc (is))
+plain_is_spelled (p ∷ g ∷ j ∷ one ∷ bytes) records plain is = elim (either_way (eqb p 80 && eqb g 71 && eqb j 74 && eqb one 49)) [
   | inr out ↦
       let none : kept_records (p ∷ g ∷ j ∷ one ∷ bytes) ≡ None = rw out refl in
       absurd (cc (none, is))
   | inl begins ↦
       let some : kept_records (p ∷ g ∷ j ∷ one ∷ bytes) ≡ result_ok (records_from (length bytes + 1) 4 bytes) = rw begins refl in
-      let P : ℕ → Type 0 = λ byte. byte < 2 ^ 8 in
-      let s = spells (length bytes + 1) 4 bytes records (All-drop P 4 (p ∷ g ∷ j ∷ one ∷ bytes) all) (ok_of _ _ (sym some ∙ is)) in
+      let s = spells (length bytes + 1) 4 bytes records (plain_after p g j one bytes records plain) (ok_of _ _ (sym some ∙ is)) in
       let front = begins-with p g j one begins in
       record {
         gate = s.gate;
@@ -246,6 +276,13 @@ read_is_spelled (p ∷ g ∷ j ∷ one ∷ bytes) records all is = elim (either_
         fits = s.fits;
       }
 ]
+
+pub read_is_spelled : ReadIsSpelled
+read_is_spelled image records all is = plain_is_spelled image records (inl all) is
+
+-- where the records are short, the numbers needn't be bytes
+pub short_is_spelled : (image : List ℕ) (records : List (List ℕ)) → All (λ body. length body < 2 ^ 8) records → kept_records image ≡ Some records → IsKept image records
+short_is_spelled image records short is = plain_is_spelled image records (inr short) is
 
 pub prefixed-nil : (r : Result (List (List ℕ)) ℕ) → r ≡ prefixed [] r
 prefixed-nil (Ok more) = refl

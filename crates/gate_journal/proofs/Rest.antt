@@ -2,8 +2,8 @@
 use Rattle.std.proofs.Common.{◌≡◌, ◌<◌, ◌≤◌, ◌+◌, ◌-◌, ◌*◌, ℕ, zero, suc, List, [], ◌∷◌, ◌++◌, length, Option, Some, None, refl, sym, ◌∙◌, ap, subst, inl, arith, length-append}
 use Rattle.std.specs.Int.{w32, to_be_bytes}
 use Rattle.std.specs.Option.{option_map}
-use Rattle.crash_disk.specs.Disk.{History, held}
-use Rattle.gate_journal.specs.Calls.{with_made, append_steps}
+use Rattle.crash_disk.specs.Disk.{History, held, Plan, after_calls}
+use Rattle.gate_journal.specs.Calls.{with_made, append_steps, Passes}
 use Rattle.gate_journal.specs.Image.{most, spelled, spelled_record, journal_in, IsKept}
 use Rattle.gate_journal.specs.Journal.{Keeps, KeepsWithOrWithout, LeavesOnly, IsSettled, WhereTold, opened_to, RefusesOpen}
 use Rattle.gate_journal.specs.Read.{IsReadRefusal}
@@ -77,10 +77,11 @@ opened_settled told now image records is read kept = λ history some.
     subst (λ (h : History). IsSettled h records) (sym before.2) here
 
 -- a refusal to read is one to open
-pub refused_read : (told now : Option History) (image : List ℕ) (why : JournalRefusal) → now ≡ option_map (opened_to 3) told → WhereTold told (λ before. image ≡ held before) → IsReadRefusal image why → RefusesOpen told now why
-refused_read told now image (NotJournal place) is read not = (is, λ before some. ap journal_in (sym (read before some)) ∙ not)
-refused_read told now image NoMemory is read not = (3, is)
-refused_read told now image DeviceFault is read not = absurd not
-refused_read told now image (AlreadyMade count) is read not = absurd not
-refused_read told now image (RecordTooLong count) is read not = absurd not
-refused_read told now image Closed is read not = absurd not
+pub refused_read : (told now : Option History) (plan plan_now : Option Plan) (image : List ℕ) (why : JournalRefusal) → now ≡ option_map (opened_to 3) told → Passes plan 3 3 → plan_now ≡ option_map (after_calls 3) plan → WhereTold told (λ before. image ≡ held before) → IsReadRefusal image why
+    → RefusesOpen told plan now plan_now why
+refused_read told now plan plan_now image (NotJournal place) is passes goes_on read not = (is, passes, goes_on, λ before some. ap journal_in (sym (read before some)) ∙ not)
+refused_read told now plan plan_now image NoMemory is passes goes_on read not = (3, omega arith, (λ one. absurd (omega (arith, one))), is, passes, goes_on)
+refused_read told now plan plan_now image DeviceFault is passes goes_on read not = absurd not
+refused_read told now plan plan_now image (AlreadyMade count) is passes goes_on read not = absurd not
+refused_read told now plan plan_now image (RecordTooLong count) is passes goes_on read not = absurd not
+refused_read told now plan plan_now image Closed is passes goes_on read not = absurd not

@@ -1,8 +1,8 @@
-ghost use Rattle.std.specs.Prelude.{◌≡◌, ◌≢◌, ◌↔◌, ◌<◌, ◌≤◌, ◌+◌, ◌*◌, ◌||◌, ℕ, true, false, List, [], ◌∷◌, ◌++◌, length, option_map, Some, Err, IsOk, IfOk, IfErr, OnOk, OnErr, IsErrOf};
+ghost use Rattle.std.specs.Prelude.{◌≡◌, ◌≢◌, ◌↔◌, ◌<◌, ◌≤◌, ◌+◌, ◌*◌, ◌||◌, ℕ, true, false, List, [], ◌∷◌, ◌++◌, length, option_map, Some, None, Err, IsOk, IfOk, IfErr, OnOk, OnErr, IsErrOf};
 ghost use Rattle.crash_disk.specs.Causes.{Rose};
-ghost use Rattle.crash_disk.specs.Disk.{held};
+ghost use Rattle.crash_disk.specs.Disk.{held, after_calls};
 ghost use Rattle.std.specs.Vec.{vec_capacity};
-ghost use Rattle.gate_journal.specs.Calls.{framed};
+ghost use Rattle.gate_journal.specs.Calls.{framed, Passes};
 ghost use Rattle.gate_journal.specs.Image.{most, spelled, kept_records};
 ghost use Rattle.gate_journal.specs.Make.{is_made, IsFresh, RefusesMake, FewCalls};
 ghost use Rattle.gate_journal.specs.Journal.{JournalState, Keeps, KeepsWithOrWithout, LeavesOnly, IsSettled, WhereTold, TellsAppend, opened_to, RefusesOpen, IsAppendRefusal, is_fault};
@@ -72,8 +72,10 @@ impl<D: Disk> Journal<D> {
         ensures settled { IfOk result (λ opened. WhereTold (D.told opened.0.disk) (λ now. IsSettled now opened.1.items)) }
         ensures fresh { IfOk result (λ opened. (opened.0.closed ≡ false) × (opened.0.spare_bodies ≡ 0) × (opened.0.spare_bytes ≡ 0)) }
         ensures calls { IfOk result (λ opened. D.told opened.0.disk ≡ option_map (opened_to 3) (D.told disk)) }
+        ensures passes { IfOk result (λ opened. Passes (D.plan disk) 3 3) }
+        ensures planned { IfOk result (λ opened. D.plan opened.0.disk ≡ option_map (after_calls 3) (D.plan disk)) }
         ensures later { IfOk result (λ opened. D.faults disk ≤ D.faults opened.0.disk) }
-        ensures refused { IfErr result (λ returned. RefusesOpen (D.told disk) (D.told returned.disk) returned.why) }
+        ensures refused { IfErr result (λ returned. RefusesOpen (D.told disk) (D.plan disk) (D.told returned.disk) (D.plan returned.disk) returned.why) }
         ensures refused_later { IfErr result (λ returned. D.faults disk ≤ D.faults returned.disk) }
         ensures fault { IfErr result (λ returned. returned.why ≡ JournalRefusal.DeviceFault → Rose (D.faults disk) (D.faults returned.disk)) }
     {
@@ -95,6 +97,13 @@ impl<D: Disk> Journal<D> {
         }
     }
 
+    /// Whether a device fault closed the journal.
+    pub fn is_closed(&self) -> bool
+        ensures { result ≡ self.now.closed }
+    {
+        self.closed
+    }
+
     /// The disk, handed back.
     pub fn take_disk(self) -> D
         ensures { result ≡ self.disk }
@@ -109,6 +118,7 @@ impl<D: Disk> Journal<D> {
         ensures bodies { OnOk result (bodies ≤ self.new.spare_bodies) }
         ensures bytes { OnOk result (bytes ≤ self.new.spare_bytes) }
         ensures history { D.told self.new.disk ≡ D.told self.old.disk }
+        ensures plan { D.plan self.new.disk ≡ D.plan self.old.disk }
         ensures faults { D.faults self.new.disk ≡ D.faults self.old.disk }
         ensures closed { self.new.closed ≡ self.old.closed }
         ensures err { OnErr result (self.new ≡ self.old) }
@@ -139,8 +149,9 @@ impl<D: Disk> Journal<D> {
         ensures later { D.faults self.old.disk ≤ D.faults self.new.disk }
         ensures closes { self.new.closed ≡ (self.old.closed || is_fault result) }
         ensures unchanged { IfErr result (λ why. why ≢ JournalRefusal.DeviceFault → self.new ≡ self.old) }
-        ensures calls { self.old.closed ≡ false → WhereTold (D.told self.old.disk) (λ before.
-            (records : List (List ℕ)) → Keeps records (held before) → TellsAppend before records body.now result (D.told self.new.disk)) }
+        ensures calls { self.old.closed ≡ false
+            → TellsAppend (D.told self.old.disk) (D.plan self.old.disk) body.now result (D.told self.new.disk) (D.plan self.new.disk) }
+        ensures silent { D.told self.old.disk ≡ None → D.told self.new.disk ≡ None }
         ensures any_moment { self.old.closed ≡ false → WhereTold (D.told self.old.disk) (λ before.
             (records : List (List ℕ)) → Keeps records (held before)
             → WhereTold (D.told self.new.disk) (λ now. LeavesOnly before now (KeepsWithOrWithout records body.now))) }
@@ -179,6 +190,7 @@ impl<D: Disk> Journal<D> {
         ensures bytes { OnOk result (bytes ≤ self.new.spare_bytes) }
         ensures reserved { 0 < self.old.spare_bodies → bytes ≤ self.old.spare_bytes → IsOk result × (self.new ≡ self.old) }
         ensures history { D.told self.new.disk ≡ D.told self.old.disk }
+        ensures plan { D.plan self.new.disk ≡ D.plan self.old.disk }
         ensures faults { D.faults self.new.disk ≡ D.faults self.old.disk }
         ensures closed { self.new.closed ≡ self.old.closed }
         ensures err { OnErr result (self.new ≡ self.old) }

@@ -13,7 +13,7 @@ pub fn write_record<D: Disk>(disk: &mut D, gate: u64, framed: &[u8]) -> Result<(
     requires bytes { length framed.now + 1 ≤ (D.left disk.old).bytes }
     requires place { gate + 1 < 2 ^ 64 }
     requires within { WhereTold (D.told disk.old) (λ history. gate + 1 ≤ length (held history)) }
-    ensures history { TellsSteps (steps_at gate framed.now) (D.told disk.old) result (D.told disk.new) }
+    ensures history { TellsSteps (steps_at gate framed.now) (D.told disk.old) (D.plan disk.old) result (D.told disk.new) (D.plan disk.new) }
     ensures fits { OnOk result (gate + 1 + length framed.now < 2 ^ 64) }
     ensures cause { HasCause (D.faults disk.old) (D.faults disk.new) result }
     ensures calls_left { (D.left disk.old).calls ≤ (D.left disk.new).calls + 4 }

@@ -157,6 +157,13 @@ key-parts lms ots id root small_lms small_ots whole =
     let at_ots : u32_at key 4 ≡ ots = u32_at-field key (u32str lms) (id ++ root) ots 4 small_ots (simp append_assoc) (length-u32str lms) in
     (rw (at_lms, at_ots) refl, field key (u32str lms ++ u32str ots) id root 8 16 (append_assoc _ id root) eight whole, drop_at _ root 24 all)
 
+-- a public key has the types that it was made from
+pub key-types : (secret : Secret) → is_supported secret.types ≡ true → length secret.id ≡ 16 → types_of (public_key_of secret) ≡ secret.types
+unfolding public_key_of
+key-types secret supported whole =
+    let small = supported-small secret.types supported in
+    (key-parts secret.types.lms secret.types.ots secret.id (tree_node secret 1) small.0 small.1 whole).0
+
 -- where the parts of a signature lie
 signature-parts : (q ots lms p : ℕ) (salt strings path : List ℕ) → q < 2 ^ 32 → ots < 2 ^ 32 → lms < 2 ^ 32 → length salt ≡ 32 → length strings ≡ 32 * p
     → let signature = u32str q ++ u32str ots ++ salt ++ strings ++ u32str lms ++ path in

@@ -1,6 +1,7 @@
 ghost use Rattle.std.specs.Prelude.{◌≡◌, true, ◌*◌, ◌+◌, ◌<◌, ◌≤◌, IfOk, length};
 ghost use Rattle.lms_sign.specs.Types.{is_supported, leaf_count, signature_length};
 ghost use Rattle.lms_sign.specs.Tree.{public_key_of, tree_node};
+ghost use Rattle.lms_sign.specs.Valid.{types_of};
 ghost use Rattle.lms_sign.specs.Kept.{AreNodesFrom};
 
 use super::fields::{put, u32str};
@@ -66,9 +67,10 @@ impl SecretKey {
         key
     }
 
-    /// The number of leaves, each of which can sign one message: 2^h.
+    /// The number of leaves, each of which can sign one message: 2^h. The public key tells it too.
     pub fn leaves(&self) -> u32
-        ensures { result ≡ leaf_count self.now.types }
+        ensures value { result ≡ leaf_count self.now.types }
+        ensures of_public { result ≡ leaf_count (types_of (public_key_of self.now)) }
     {
         self.secret.types.leaf_count()
     }

@@ -16,4 +16,4 @@ returns-clause-refused g c =
     let told = g.D.Disk.told in
     let image = c.in_ok-image.image.items in
     let not : IsReadRefusal image c.in-Err.why = subst (λ (b : List ℕ). IsReadRefusal b c.in-Err.why) c.deref.ensures.value c.in-Err.ensures.refused in
-    refused_read (told c.args.disk.now) _ image c.in-Err.why c.in_ok-image.ensures.history c.in_ok-image.ensures.image not
+    refused_read (told c.args.disk.now) _ (g.D.Disk.plan c.args.disk.now) _ image c.in-Err.why c.in_ok-image.ensures.history c.in_ok-image.ensures.passes c.in_ok-image.ensures.planned c.in_ok-image.ensures.image not

@@ -9,14 +9,14 @@ use Rattle.lms_sign.proofs.Nodes.{half_low, length-tree_node, path_of-more, path
 use Rattle.lms_sign.proofs.signing.put_path.Goals as goal
 
 pub overflow_add-r : goal.overflow_add-r
-overflow_add-r c = omega (arith, c.leaves.ensures, leaf_count-le c.args.key.now.types)
+overflow_add-r c = omega (arith, c.leaves.ensures.value, leaf_count-le c.args.key.now.types)
 
 pub loop-level-init : goal.loop-level-init
 loop-level-init c =
     let tree = height c.args.key.now.types in
     let zero : tree - 0 ≡ tree = omega arith in
     let none : c.args.place + 0 ≡ c.args.place = omega arith in
-    (rw zero (omega (arith, c.leaves.ensures)), omega (arith, c.leaves.ensures, c.requires.leaf), rw (zero, none) refl)
+    (rw zero (omega (arith, c.leaves.ensures.value)), omega (arith, c.leaves.ensures, c.requires.leaf), rw (zero, none) refl)
 
 pub loop-level-preserved : goal.loop-level-preserved
 loop-level-preserved c =
@@ -52,5 +52,5 @@ returns c =
     let tall : c.height-level-end.result ≡ tree = rw c.types.ensures.value at c.height-level-end.ensures.value in
     let none : tree - c.loop-level.level ≡ 0 = omega arith in
     let all : length c.loop-level.out ≤ c.args.place + 32 * c.loop-level.level = omega (arith, c.requires.room) in
-    let end = rw (take_all _ c.loop-level.out all, path_of-none c.args.key.now _ c.loop-level.r none, append-nil, c.leaves.ensures) at c.loop-level.invariant.2 in
+    let end = rw (take_all _ c.loop-level.out all, path_of-none c.args.key.now _ c.loop-level.r none, append-nil, c.leaves.ensures.value) at c.loop-level.invariant.2 in
     end
