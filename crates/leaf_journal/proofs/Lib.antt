@@ -1,0 +1,4 @@
+mod Fitting
+mod Images
+mod Lives
+mod Binding
