@@ -6,8 +6,9 @@ use Rattle.gate_journal.specs.Calls.{with_made, append_steps, open_steps}
 use Rattle.gate_journal.specs.Image.{spelled}
 use Rattle.leaf_journal.specs.Messages.{message_length, bound_messages}
 
--- How the device calls of a call went: all passed; so many passed and the next one failed; or so many passed and no other was
--- made, for want of memory or of power.
+-- How the device calls of a call went, and whether it was answered: all passed; so many passed and the next one failed; or so
+-- many passed and no other was made, for want of memory or of power. Where there are no more calls than that, all passed and the
+-- answer was lost.
 pub data Course : Type 0 where
   passed : Course
   failed_after : ℕ → Course
