@@ -4,3 +4,4 @@ mod Left
 pub mod Crash
 pub mod Rest
 mod Making
+pub mod Stopped

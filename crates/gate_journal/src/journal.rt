@@ -4,7 +4,7 @@ ghost use Rattle.crash_disk.specs.Disk.{held, after_calls};
 ghost use Rattle.std.specs.Vec.{vec_capacity};
 ghost use Rattle.gate_journal.specs.Calls.{framed, Passes};
 ghost use Rattle.gate_journal.specs.Image.{most, spelled, kept_records};
-ghost use Rattle.gate_journal.specs.Make.{is_made, IsFresh, RefusesMake, FewCalls};
+ghost use Rattle.gate_journal.specs.Make.{is_made, IsFresh, RefusesMake, TellsMake};
 ghost use Rattle.gate_journal.specs.Journal.{JournalState, Keeps, KeepsWithOrWithout, LeavesOnly, IsSettled, WhereTold, TellsAppend, opened_to, RefusesOpen, IsAppendRefusal, is_fault};
 
 use super::image::{CLOSED_GATE, Found, MOST_BYTES};
@@ -45,15 +45,16 @@ impl<D: Disk> Model for Journal<D> {
 
 impl<D: Disk> Journal<D> {
     /// Makes an empty journal on a disk that holds none, and syncs: from then on each image that a crash
-    /// may leave is `PGJ1` and a closed gate. At most four device calls: the length, a read where the
-    /// disk holds five bytes, a write and a sync.
+    /// may leave is `PGJ1` and a closed gate. Device calls: the length, a read where the disk holds five
+    /// bytes, a write and a sync, ended by the first that fails.
     ///
-    /// `AlreadyMade` comes where the image spells a journal or has more than five bytes.
+    /// `AlreadyMade` comes where the image spells a journal or has more than five bytes, after the calls
+    /// that look. The law `stopped_makings` says what a crash leaves of a making that was stopped.
     pub fn make(disk: &mut D) -> Result<(), JournalRefusal>
         ensures new { OnOk result (WhereTold (D.told disk.old) (λ before. is_made (held before) ≡ false)) }
         ensures made { OnOk result (WhereTold (D.told disk.new) IsFresh) }
-        ensures few { FewCalls (D.told disk.old) (D.told disk.new) }
-        ensures refused { IfErr result (RefusesMake (D.told disk.old) (D.told disk.new)) }
+        ensures refused { IfErr result (RefusesMake (D.told disk.old)) }
+        ensures calls { TellsMake (D.told disk.old) (D.plan disk.old) result (D.told disk.new) (D.plan disk.new) }
         ensures fault { IsErrOf result JournalRefusal.DeviceFault → Rose (D.faults disk.old) (D.faults disk.new) }
         ensures later { D.faults disk.old ≤ D.faults disk.new }
     {

@@ -13,5 +13,5 @@ mod steps;
 mod tests;
 
 pub use journal::Journal;
-pub use laws::{read_is_spelled, spelled_is_read, stopped_appends};
+pub use laws::{read_is_spelled, spelled_is_read, stopped_appends, stopped_makings};
 pub use refusal::{InitRefusal, JournalRefusal, Returned};

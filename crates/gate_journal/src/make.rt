@@ -1,9 +1,9 @@
-ghost use Rattle.std.specs.Prelude.{◌≡◌, ◌≤◌, ◌<◌, ◌+◌, length, is_some, false, IfOk, IfErr, OnOk, IsErrOf};
+ghost use Rattle.std.specs.Prelude.{◌≡◌, ◌≤◌, ◌+◌, length, false, IfOk, IfErr, OnOk, IsErrOf};
 ghost use Rattle.crash_disk.specs.Causes.{HasCause, Rose};
 ghost use Rattle.crash_disk.specs.Disk.{held};
-ghost use Rattle.gate_journal.specs.Image.{kept_records};
+ghost use Rattle.gate_journal.specs.Calls.{TellsSteps};
 ghost use Rattle.gate_journal.specs.Journal.{WhereTold};
-ghost use Rattle.gate_journal.specs.Make.{is_made, Looked, IsFresh, RefusesMake, FewCalls};
+ghost use Rattle.gate_journal.specs.Make.{is_made, look_steps, HoldsSome, IsFresh, RefusesMake, TellsMake};
 
 use super::image::is_empty_journal;
 use super::refusal::JournalRefusal;
@@ -22,9 +22,9 @@ struct Probe {
 // Asks for the length, and reads an image that could be an empty journal.
 fn look<D: Disk>(disk: &mut D) -> Result<Probe, DiskFailed>
     requires { 2 ≤ (D.left disk.old).calls }
-    ensures answer { IfOk result (λ probe. WhereTold (D.told disk.old) (λ before.
-        (probe.made ≡ is_made (held before)) × (probe.length ≡ length (held before)))) }
-    ensures looked { Looked (D.told disk.old) (D.told disk.new) 2 }
+    ensures looks { HoldsSome (D.told disk.old) (λ image.
+        IfOk result (λ probe. (probe.made ≡ is_made image) × (probe.length ≡ length image))
+        × TellsSteps (look_steps image) (D.told disk.old) (D.plan disk.old) result (D.told disk.new) (D.plan disk.new)) }
     ensures cause { HasCause (D.faults disk.old) (D.faults disk.new) result }
     ensures calls_left { (D.left disk.old).calls ≤ (D.left disk.new).calls + 2 }
     ensures bytes_left { (D.left disk.old).bytes ≤ (D.left disk.new).bytes }
@@ -46,8 +46,8 @@ fn look<D: Disk>(disk: &mut D) -> Result<Probe, DiskFailed>
 pub fn make_journal<D: Disk>(disk: &mut D) -> Result<(), JournalRefusal>
     ensures new { OnOk result (WhereTold (D.told disk.old) (λ before. is_made (held before) ≡ false)) }
     ensures made { OnOk result (WhereTold (D.told disk.new) IsFresh) }
-    ensures few { FewCalls (D.told disk.old) (D.told disk.new) }
-    ensures refused { IfErr result (RefusesMake (D.told disk.old) (D.told disk.new)) }
+    ensures refused { IfErr result (RefusesMake (D.told disk.old)) }
+    ensures calls { TellsMake (D.told disk.old) (D.plan disk.old) result (D.told disk.new) (D.plan disk.new) }
     ensures fault { IsErrOf result JournalRefusal.DeviceFault → Rose (D.faults disk.old) (D.faults disk.new) }
     ensures later { D.faults disk.old ≤ D.faults disk.new }
 {

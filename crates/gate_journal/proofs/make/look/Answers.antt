@@ -1,17 +1,30 @@
-use Rattle.std.proofs.Common.{◌≡◌, length, is_some, sym, ◌∙◌, ap}
-use Rattle.crash_disk.specs.Disk.{held}
-use Rattle.gate_journal.specs.Image.{kept_records}
-use Rattle.gate_journal.proofs.Making.{made_otherwise, made_five, looked_at}
+use Rattle.std.proofs.Common.{◌≡◌, length, arith}
+use Rattle.std.proofs.lemmas.Result.{err_from_is_err_and}
+use Rattle.gate_journal.proofs.Making.{look_fault, look_other, look_unread, look_read}
 use Rattle.gate_journal.proofs.make.look.Goals as goal
 
-pub returns-then-length-ne5-clause-answer : goal.returns-then-length-ne5-clause-answer
-returns-then-length-ne5-clause-answer g c = λ before is.
-    let len = c.in_ok-length.ensures.answer before is in
-    (made_otherwise (held before) c.in_ok-length.length len c.if-length-ne5.true, len)
+pub returns-in_err-length-clause-looks : goal.returns-in_err-length-clause-looks
+returns-in_err-length-clause-looks g c =
+    let p = err_from_is_err_and c.from_residual.result c.from_residual.ensures.1 in
+    let asks = c.in_err-length.ensures in
+    rw p.1 (look_fault _ _ _ _ asks.history asks.planned)
 
-pub returns-clause-answer : goal.returns-clause-answer
-returns-clause-answer g c = λ before is.
-    let len = c.in_ok-length.ensures.answer before is in
-    let five : length (held before) ≡ 5 = sym len ∙ c.if-length-ne5.false in
-    let room = looked_at (g.D.Disk.told c.args.disk.now) _ c.read_at.new.room c.in_ok-length.ensures.history c.in_ok-read_at.ensures.answer before is five in
-    (c.is_empty_journal-made.ensures ∙ ap (λ b. is_some (kept_records b)) room ∙ sym (made_five (held before) five), len)
+pub returns-then-length-ne5-clause-looks : goal.returns-then-length-ne5-clause-looks
+returns-then-length-ne5-clause-looks g c =
+    let asks = c.in_ok-length.ensures in
+    look_other _ _ _ _ c.in_ok-length.length asks.history asks.planned asks.answer c.if-length-ne5.true
+
+pub returns-in_err-read_at-clause-looks : goal.returns-in_err-read_at-clause-looks
+returns-in_err-read_at-clause-looks g c =
+    let p = err_from_is_err_and c.from_residual-in_err-read_at.result c.from_residual-in_err-read_at.ensures.1 in
+    let asks = c.in_ok-length.ensures in
+    let read = c.in_err-read_at.ensures in
+    rw p.1 (look_unread _ _ _ _ _ _ c.in_ok-length.length asks.history asks.planned asks.answer c.if-length-ne5.false read.history read.planned)
+
+pub returns-clause-looks : goal.returns-clause-looks
+returns-clause-looks g c =
+    let asks = c.in_ok-length.ensures in
+    let read = c.in_ok-read_at.ensures in
+    let all : length c.read_at.new.room ≡ 5 = omega (arith, c.read_at.auto.room) in
+    let l = look_read _ _ _ _ _ _ c.in_ok-length.length c.read_at.new.room asks.history asks.planned asks.answer c.if-length-ne5.false read.history read.planned read.answer all in
+    rw c.is_empty_journal-made.ensures l
