@@ -69,10 +69,11 @@ pub trait Disk {
         ensures spent { Spends (left self.old) (left self.new) 0 };
 
     /// Takes the memory for so many further device calls, which write so many bytes in all, or answers
-    /// `NoMemory`. It is no device call.
+    /// `NoMemory`. The room that is left stays. It is no device call.
     fn make_room(&mut self, calls: u64, bytes: u64) -> Result<(), NoMemory>
         ensures calls { OnOk result (calls ≤ (left self.new).calls) }
         ensures bytes { OnOk result (bytes ≤ (left self.new).bytes) }
+        ensures stays { ((left self.old).calls ≤ (left self.new).calls) × ((left self.old).bytes ≤ (left self.new).bytes) }
         ensures history { told self.new ≡ told self.old }
         ensures plan { plan self.new ≡ plan self.old }
         ensures faults { faults self.new ≡ faults self.old }

@@ -1,4 +1,4 @@
-ghost use Rattle.std.specs.Prelude.{◌≡◌, ◌≢◌, ◌↔◌, ◌<◌, ◌≤◌, ◌+◌, ◌*◌, ◌||◌, ℕ, true, false, List, [], ◌∷◌, ◌++◌, length, option_map, Some, None, Err, IsOk, IfOk, IfErr, OnOk, OnErr, IsErrOf};
+ghost use Rattle.std.specs.Prelude.{◌≡◌, ◌≢◌, ◌↔◌, ◌<◌, ◌≤◌, ◌+◌, ◌*◌, ◌||◌, max, ℕ, true, false, List, [], ◌∷◌, ◌++◌, length, option_map, Some, None, Err, IsOk, IfOk, IfErr, OnOk, OnErr, IsErrOf};
 ghost use Rattle.crash_disk.specs.Causes.{Rose};
 ghost use Rattle.crash_disk.specs.Disk.{held, after_calls};
 ghost use Rattle.std.specs.Vec.{vec_capacity};
@@ -114,10 +114,11 @@ impl<D: Disk> Journal<D> {
     }
 
     /// Makes room, in memory and on the disk, for at least so many further bodies of at most so many
-    /// bytes, or answers `NoMemory` and changes nothing. It makes no device call.
+    /// bytes, or answers `NoMemory` and changes nothing. The room that there was stays. It makes no device
+    /// call.
     pub fn reserve(&mut self, bodies: u64, bytes: usize) -> Result<(), NoMemory>
-        ensures bodies { OnOk result (bodies ≤ self.new.spare_bodies) }
-        ensures bytes { OnOk result (bytes ≤ self.new.spare_bytes) }
+        ensures bodies { OnOk result (self.new.spare_bodies ≡ max bodies self.old.spare_bodies) }
+        ensures bytes { OnOk result (self.new.spare_bytes ≡ max bytes self.old.spare_bytes) }
         ensures history { D.told self.new.disk ≡ D.told self.old.disk }
         ensures plan { D.plan self.new.disk ≡ D.plan self.old.disk }
         ensures faults { D.faults self.new.disk ≡ D.faults self.old.disk }
@@ -161,6 +162,8 @@ impl<D: Disk> Journal<D> {
             → WhereTold (D.told self.new.disk) (λ now. IsSettled now (records ++ body.now ∷ [])))) }
         ensures spare { OnOk result (0 < self.old.spare_bodies → length body.now ≤ self.old.spare_bytes
             → (self.new.spare_bodies + 1 ≡ self.old.spare_bodies) × (self.new.spare_bytes ≡ self.old.spare_bytes)) }
+        ensures unreserved { OnOk result ((0 < self.old.spare_bodies → self.old.spare_bytes < length body.now)
+            → (self.new.spare_bodies ≡ self.old.spare_bodies) × (self.new.spare_bytes ≡ max (length body.now) self.old.spare_bytes)) }
     {
         if self.closed {
             return Err(JournalRefusal::Closed);
@@ -190,6 +193,8 @@ impl<D: Disk> Journal<D> {
         ensures bodies { OnOk result (0 < self.new.spare_bodies) }
         ensures bytes { OnOk result (bytes ≤ self.new.spare_bytes) }
         ensures reserved { 0 < self.old.spare_bodies → bytes ≤ self.old.spare_bytes → IsOk result × (self.new ≡ self.old) }
+        ensures unreserved { OnOk result ((0 < self.old.spare_bodies → self.old.spare_bytes < bytes)
+            → (self.new.spare_bodies ≡ self.old.spare_bodies + 1) × (self.new.spare_bytes ≡ max bytes self.old.spare_bytes)) }
         ensures history { D.told self.new.disk ≡ D.told self.old.disk }
         ensures plan { D.plan self.new.disk ≡ D.plan self.old.disk }
         ensures faults { D.faults self.new.disk ≡ D.faults self.old.disk }
