@@ -11,7 +11,7 @@ mod steps;
 mod text;
 mod top;
 
-pub use laws::endings_have_their_cause;
+pub use laws::{endings_have_their_cause, the_limits_are_these_numbers};
 pub use status::Status;
 pub use top::run;
 

@@ -1,4 +1,7 @@
+ghost use Rattle.std.specs.Prelude.{◌≡◌, ◌^◌};
 ghost use Rattle.root_rules.specs.Laws.{LogsAreLegal, MoneyIsKept, BalancesAreCovered, ExitsStand, WithdrawnIsPaid};
+
+use super::{EXIT_BOND, EXIT_PERIOD, LAST_TIME, MOST_MONEY};
 
 /// Whatever calls come, the log is one of accepted calls alone.
 pub fn logs_are_legal()
@@ -25,4 +28,13 @@ pub fn exits_stand()
 /// A coin is withdrawn exactly where a finish of it was answered Paid, over a log of accepted calls.
 pub fn withdrawn_is_paid()
     ensures { WithdrawnIsPaid }
+{}
+
+/// The numbers of the rules: a bond of 100, a period of 907,200 seconds, at most 2^62 of money, and a
+/// clock up to 2^40 seconds.
+pub fn the_rules_have_these_numbers()
+    ensures bond { EXIT_BOND ≡ 100 }
+    ensures period { EXIT_PERIOD ≡ 907200 }
+    ensures money { MOST_MONEY ≡ 2 ^ 62 }
+    ensures time { LAST_TIME ≡ 2 ^ 40 }
 {}

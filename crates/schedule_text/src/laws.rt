@@ -2,6 +2,8 @@ ghost use Rattle.std.specs.Prelude.{◌≡◌, ℕ, List, Some};
 ghost use Rattle.schedule_text.specs.declared.line.Line.{Line};
 ghost use Rattle.schedule_text.specs.Grammar.{IsLine, line_text, line_in};
 
+use super::line::{KEY_BYTES, MOST_BLOCKS};
+
 /// A law: what a line is printed as is read back as that line.
 pub fn a_printed_line_is_read_back()
     ensures { (line : Line) → IsLine line → line_in (line_text line) ≡ Some line }
@@ -11,4 +13,10 @@ pub fn a_printed_line_is_read_back()
 /// and the line is in the grammar.
 pub fn a_line_has_one_spelling()
     ensures { (bytes : List ℕ) (line : Line) → line_in bytes ≡ Some line → (bytes ≡ line_text line) × IsLine line }
+{}
+
+/// The numbers of the grammar: at most 3,000 blocks, and 56 bytes of a key.
+pub fn the_grammar_has_these_numbers()
+    ensures blocks { MOST_BLOCKS ≡ 3000 }
+    ensures key { KEY_BYTES ≡ 56 }
 {}

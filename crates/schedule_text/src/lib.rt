@@ -13,7 +13,9 @@ mod tests;
 mod tokens;
 mod words;
 
-pub use laws::{a_line_has_one_spelling, a_printed_line_is_read_back};
+pub use laws::{
+    a_line_has_one_spelling, a_printed_line_is_read_back, the_grammar_has_these_numbers,
+};
 pub use line::{CallForm, KEY_BYTES, Line, MOST_BLOCKS};
 pub use numbers::{number, push_number};
 pub use printing::print;
