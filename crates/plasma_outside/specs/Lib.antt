@@ -1,3 +1,4 @@
 pub mod Causes
 pub mod Outside
 pub mod Memory
+pub mod Standard

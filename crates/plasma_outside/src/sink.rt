@@ -36,7 +36,7 @@ pub trait Sink {
     ghost faults: { Self → ℕ };
 
     /// Puts all bytes at the end, or stops after a beginning of them. `Failed` comes only where the
-    /// count of faults rose.
+    /// count of faults rose, and at any other answer the count stays.
     fn put_all(&mut self, bytes: &[u8]) -> Result<(), SinkRefusal>
         ensures bytes { Puts (held self.old) (held self.new) result bytes.now }
         ensures cause { HasSinkCause (faults self.old) (faults self.new) result };

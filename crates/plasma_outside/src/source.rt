@@ -20,7 +20,7 @@ pub trait Source {
 
     /// Takes the next bytes into a beginning of `room`, which isn't empty, and answers how many: 0
     /// only at the end of the input. `SourceFailed` comes only where the count of faults rose, and
-    /// takes nothing.
+    /// takes nothing; where bytes or the end are answered, the count stays.
     fn take(&mut self, room: &mut [u8]) -> Result<usize, SourceFailed>
         requires { 0 < length room.old }
         ensures bound { ReadsAtMost result room.new }

@@ -2,7 +2,7 @@ ghost use Rattle.std.specs.Prelude.{◌≡◌};
 ghost use Rattle.plasma_outside.specs.Causes.{Rose};
 
 use super::*;
-use std::io::Cursor;
+use std::io::{self, Cursor, ErrorKind, Read, Write};
 use std::test::Fail;
 
 #[derive(Debug, Clone, Copy, PartialEq, Eq)]
@@ -93,5 +93,51 @@ fn over_std(rt: HostRuntime) -> Result<(), Fail> {
     let mut full = [0u8; 3];
     let mut sink = StdSink::make(full.as_mut_slice());
     assert_eq!(rt; sink.put_all(b"abcd"), Err(SinkRefusal::Failed));
+    Ok(())
+}
+
+// Fails at its first read, or at its first flush, and at none after it.
+#[derive(Drop)]
+struct Once {
+    failed: bool,
+}
+
+impl Once {
+    fn fail(&mut self) -> io::Result<()> {
+        if self.failed {
+            return Ok(());
+        }
+        self.failed = true;
+        Err(ErrorKind::Other.into())
+    }
+}
+
+impl Read for Once {
+    fn read(&mut self, _room: &mut [u8]) -> io::Result<usize> {
+        self.fail()?;
+        Ok(0)
+    }
+}
+
+impl Write for Once {
+    fn write(&mut self, bytes: &[u8]) -> io::Result<usize> {
+        Ok(bytes.len())
+    }
+
+    fn flush(&mut self) -> io::Result<()> {
+        self.fail()
+    }
+}
+
+// A read isn't tried again, and a flush that fails is answered.
+#[test]
+fn one_fault(rt: HostRuntime) -> Result<(), Fail> {
+    let mut source = StdSource::make(Once { failed: false });
+    let mut room = [0u8; 4];
+    assert_eq!(rt; source.take(&mut room), Err(SourceFailed));
+    assert_eq!(rt; source.take(&mut room), Ok(0));
+    let mut sink = StdSink::make(Once { failed: false });
+    assert_eq!(rt; sink.put_all(b"ab"), Err(SinkRefusal::Failed));
+    assert_eq!(rt; sink.put_all(b"ab"), Ok(()));
     Ok(())
 }

@@ -7,7 +7,7 @@ use Rattle.schedule_text.specs.declared.line.Line.{Line}
 use Rattle.schedule_text.specs.declared.line.Line.TheVariants.{Chain as ChainLine, Fund, Tick, Money, Call}
 use Rattle.schedule_text.specs.Grammar.{line_in}
 use Rattle.replay_run.specs.declared.reply.Ending.{Ending}
-use Rattle.replay_run.specs.declared.reply.Ending.TheVariants.{BadLine, ReadFault, TooLong}
+use Rattle.replay_run.specs.declared.reply.Ending.TheVariants.{Complete, BadLine, ReadFault, TooLong}
 use Rattle.std.proofs.lemmas.Bool.{true≢false, ltb-false}
 use Rattle.replay_run.specs.declared.TheConstants.{MOST_LINES, MOST_LINE_BYTES, MOST_INPUT_BYTES}
 use Rattle.replay_run.specs.Lines.{lines_in, is_whole, text_of, is_too_long}
@@ -100,3 +100,13 @@ pub fault-is : (bytes : List ℕ) (ended : Bool) → (trace_of bytes ended).endi
 fault-is bytes ended is =
     let h = fault-within ended 1 0 (lines_in bytes) (lines-are_cut bytes) (omega arith) (subst (EndsBy ended 1 0 (lines_in bytes)) is (endings_have_causes bytes ended)) in
     (h.0, omega (arith, h.1, size_of-lines_in bytes))
+
+complete-at : (ended : Bool) (n start : ℕ) (lines : List (List ℕ)) → EndsBy ended n start lines Complete → ended ≡ true
+unfolding EndsBy
+complete-at true n start [] is = refl
+complete-at false n start [] wrong = absurd (cc)
+complete-at ended n start (line ∷ lines) ends = elim ends [ inl never ↦ absurd never | inr on ↦ complete-at ended (n + 1) (start + length line) lines on.1 ]
+
+-- a run that is complete was at its input's end
+pub complete-is : (bytes : List ℕ) (ended : Bool) → (trace_of bytes ended).ending ≡ Complete → ended ≡ true
+complete-is bytes ended is = complete-at ended 1 0 (lines_in bytes) (subst (EndsBy ended 1 0 (lines_in bytes)) is (endings_have_causes bytes ended))

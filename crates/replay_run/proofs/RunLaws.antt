@@ -21,7 +21,7 @@ use Rattle.replay_run.specs.Trace.{Stepped, Trace, onward, line_step, trace_from
 use Rattle.replay_run.specs.Text.{trace_line_text, ending_text, answers_text}
 use Rattle.replay_run.specs.Runs.{Gave, Wrote, WroteFront, Answered, Stops, EndsAs, RanOver, Ran, whole_text}
 use Rattle.replay_run.specs.declared.TheConstants.{MOST_INPUT_BYTES}
-use Rattle.replay_run.proofs.EndingLaws.{fault-is}
+use Rattle.replay_run.proofs.EndingLaws.{fault-is, complete-is}
 
 some_same : {A : Type 0} (x y : A) → Some x ≡ Some y → x ≡ y
 some_same x y e = cc
@@ -214,6 +214,21 @@ fault-of bytes ended failed cause is =
     by-ending (BadLine n) wrong = absurd (cc)
     by-ending ReadFault same = refl
     by-ending (TooLong n) wrong = absurd (cc)
+
+-- a replay that did all that it had to read its input to the end
+pub not-cut : {E : Type 0} (bytes : List ℕ) (ended : Bool) (status : Status) → status ≡ status_of (trace_of bytes ended).ending → (status ≡ Done) ⊎ (status ≡ Usage) → (taken : Result Bool E) → taken ≡ Ok ended → taken ≢ Ok false
+not-cut bytes ended status is done taken taken_is wrong =
+    let end : ended ≡ true = complete-is bytes ended (by-ending (trace_of bytes ended).ending (subst (λ s. (s ≡ Done) ⊎ (s ≡ Usage)) is done)) in
+    false≢true (cc)
+  where
+    by-ending : (ending : Ending) → (status_of ending ≡ Done) ⊎ (status_of ending ≡ Usage) → ending ≡ Complete
+    by-ending Complete same = refl
+    by-ending (BadLine n) (inl wrong) = absurd (cc)
+    by-ending (BadLine n) (inr wrong) = absurd (cc)
+    by-ending ReadFault (inl wrong) = absurd (cc)
+    by-ending ReadFault (inr wrong) = absurd (cc)
+    by-ending (TooLong n) (inl wrong) = absurd (cc)
+    by-ending (TooLong n) (inr wrong) = absurd (cc)
 
 module _ (left later before after : Option (List ℕ)) (bytes : List ℕ) (ended : Bool) (failed : Type 0) (gave : Gave left later bytes ended) (cause : ended ≡ false → failed ⊎ (MOST_INPUT_BYTES < length bytes)) where
   pub ran-replay : (status : Status) → status ≡ status_of (trace_of bytes ended).ending → Wrote before after (whole_text (trace_of bytes ended)) → RanOver replay_output left later before after failed status

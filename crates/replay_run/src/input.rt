@@ -1,4 +1,4 @@
-ghost use Rattle.std.specs.Prelude.{◌≡◌, ◌+◌, ◌<◌, ◌≤◌, ◌⊎◌, [], false, Ok, MatchOption, IfSome, position, OnOk, OnErr, IfOk, length};
+ghost use Rattle.std.specs.Prelude.{◌≡◌, ◌≢◌, ◌+◌, ◌<◌, ◌≤◌, ◌⊎◌, [], false, Ok, MatchOption, IfSome, position, OnOk, OnErr, IfOk, length};
 ghost use Rattle.plasma_outside.specs.Causes.{Rose};
 ghost use Rattle.replay_run.specs.Lines.{is_feed, CutsLine};
 ghost use Rattle.replay_run.specs.Runs.{Gave, GavePart};
@@ -17,6 +17,7 @@ pub fn take_all<S: Source>(source: &mut S, input: &mut Vec<u8>) -> Result<bool, 
     ensures gave { IfOk result (Gave (S.left source.old) (S.left source.new) input.new.items) }
     ensures partly { OnErr result (GavePart (S.left source.old) (S.left source.new)) }
     ensures cause { result ≡ Ok false → (Rose (S.faults source.old) (S.faults source.new)) ⊎ (MOST_INPUT_BYTES < length input.new.items) }
+    ensures sound { result ≢ Ok false → S.faults source.new ≡ S.faults source.old }
     ensures later { S.faults source.old ≤ S.faults source.new }
 {
     let mut room = [0u8; ROOM];

@@ -1,4 +1,4 @@
-ghost use Rattle.std.specs.Prelude.{◌≡◌, ◌≤◌, [], Err, IfOk, OnOk, OnErr};
+ghost use Rattle.std.specs.Prelude.{◌≡◌, ◌≢◌, ◌≤◌, [], Err, IfOk, OnOk, OnErr};
 ghost use Rattle.plasma_outside.specs.Causes.{Rose};
 ghost use Rattle.replay_run.specs.Trace.{trace_of};
 ghost use Rattle.replay_run.specs.Output.{status_of};
@@ -40,6 +40,7 @@ pub fn put_text<K: Sink>(sink: &mut K, text: &mut Vec<u8>) -> Result<(), Stop>
     ensures none_left { OnOk result (text.new.items ≡ []) }
     ensures err { OnErr result (WroteFront (K.held sink.old) (K.held sink.new) text.old.items) }
     ensures cause { result ≡ Err Stop.WriteFault → Rose (K.faults sink.old) (K.faults sink.new) }
+    ensures sound { result ≢ Err Stop.WriteFault → K.faults sink.new ≡ K.faults sink.old }
     ensures later { K.faults sink.old ≤ K.faults sink.new }
 {
     match sink.put_all(text) {
@@ -64,6 +65,7 @@ pub fn replay<K: Sink>(
     ensures wrote { OnOk result (Wrote (K.held sink.old) (K.held sink.new) (whole_text (trace_of input.now ended))) }
     ensures stopped { OnErr result (WroteFront (K.held sink.old) (K.held sink.new) (whole_text (trace_of input.now ended))) }
     ensures cause { result ≡ Err Stop.WriteFault → Rose (K.faults sink.old) (K.faults sink.new) }
+    ensures sound { result ≢ Err Stop.WriteFault → K.faults sink.new ≡ K.faults sink.old }
     ensures later { K.faults sink.old ≤ K.faults sink.new }
 {
     let mut text = Vec::new(alloc);
@@ -97,6 +99,7 @@ fn answer_lines<K: Sink>(
     ensures answered { IfOk result (Answered (K.held sink.old) (K.held sink.new) text.new.items (trace_of input.now ended)) }
     ensures stopped { OnErr result (WroteFront (K.held sink.old) (K.held sink.new) (whole_text (trace_of input.now ended))) }
     ensures cause { result ≡ Err Stop.WriteFault → Rose (K.faults sink.old) (K.faults sink.new) }
+    ensures sound { result ≢ Err Stop.WriteFault → K.faults sink.new ≡ K.faults sink.old }
     ensures later { K.faults sink.old ≤ K.faults sink.new }
 {
     let mut state = None;

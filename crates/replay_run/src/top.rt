@@ -1,4 +1,4 @@
-ghost use Rattle.std.specs.Prelude.{◌≡◌, ◌≢◌, [], false, map, string_bytes};
+ghost use Rattle.std.specs.Prelude.{◌≡◌, ◌≢◌, ◌⊎◌, [], false, map, string_bytes};
 ghost use Rattle.plasma_outside.specs.Causes.{Rose};
 ghost use Rattle.replay_run.specs.Forms.{form_of, is_verified, reads_input};
 ghost use Rattle.replay_run.specs.Output.{replay_output, verify_output};
@@ -36,6 +36,10 @@ pub fn run<S: Source, K: Sink>(
     // A fault is answered only where its object counted one in this call.
     ensures read_fault { result ≡ Status.ReadFault → Rose (S.faults source.old) (S.faults source.new) }
     ensures write_fault { result ≡ Status.WriteFault → Rose (K.faults sink.old) (K.faults sink.new) }
+
+    // A fault of the sink is answered, and where the run did all that it had to, its source had none.
+    ensures sink_sound { result ≢ Status.WriteFault → K.faults sink.new ≡ K.faults sink.old }
+    ensures source_sound { (result ≡ Status.Done) ⊎ (result ≡ Status.Usage) → S.faults source.new ≡ S.faults source.old }
 {
     match form_of(alloc, words) {
         Err(_) => Status::NoMemory,
@@ -58,6 +62,7 @@ fn run_verify<K: Sink>(key: &Bytes, message: &Bytes, signature: &Bytes, sink: &m
     ensures output { EndsAs (verify_output (is_verified key.now message.now signature.now)) result (K.held sink.old) (K.held sink.new) ⊥ }
     ensures read_fault { result ≢ Status.ReadFault }
     ensures write_fault { result ≡ Status.WriteFault → Rose (K.faults sink.old) (K.faults sink.new) }
+    ensures sink_sound { result ≢ Status.WriteFault → K.faults sink.new ≡ K.faults sink.old }
 {
     if is_verified(key.as_slice(), message.as_slice(), signature.as_slice()) {
         return put_line(sink, b"valid\n", Status::Done);
@@ -70,6 +75,8 @@ fn run_replay<S: Source, K: Sink>(alloc: Global, source: &mut S, sink: &mut K) -
     ensures output { RanOver replay_output (S.left source.old) (S.left source.new) (K.held sink.old) (K.held sink.new) (Rose (S.faults source.old) (S.faults source.new)) result }
     ensures read_fault { result ≡ Status.ReadFault → Rose (S.faults source.old) (S.faults source.new) }
     ensures write_fault { result ≡ Status.WriteFault → Rose (K.faults sink.old) (K.faults sink.new) }
+    ensures sink_sound { result ≢ Status.WriteFault → K.faults sink.new ≡ K.faults sink.old }
+    ensures source_sound { (result ≡ Status.Done) ⊎ (result ≡ Status.Usage) → S.faults source.new ≡ S.faults source.old }
 {
     let mut input = Vec::new(alloc);
     let Ok(ended) = take_all(source, &mut input) else {
@@ -89,6 +96,7 @@ fn put_line<K: Sink>(sink: &mut K, line: &[u8], status: Status) -> Status
     ensures output { EndsAs (record { status = status; answers = []; last = line.now }) result (K.held sink.old) (K.held sink.new) ⊥ }
     ensures read_fault { result ≢ Status.ReadFault }
     ensures write_fault { result ≡ Status.WriteFault → Rose (K.faults sink.old) (K.faults sink.new) }
+    ensures sink_sound { result ≢ Status.WriteFault → K.faults sink.new ≡ K.faults sink.old }
 {
     match sink.put_all(line) {
         Ok(()) => status,

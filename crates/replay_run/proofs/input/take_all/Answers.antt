@@ -1,10 +1,10 @@
-use Rattle.std.proofs.Common.{arith, ◌++◌, take, List, ℕ}
+use Rattle.std.proofs.Common.{arith, refl, ◌∙◌, ◌++◌, take, List, ℕ}
 use Rattle.replay_run.specs.Runs.{GavePart}
 use Rattle.replay_run.proofs.RunLaws.{gave-none, gave-more, gave-end, gave-error, part-err}
 use Rattle.replay_run.proofs.input.take_all.Goals as goal
 
 pub loop-room-init : goal.loop-room-init
-loop-room-init g c = record { gave = rw c.requires (gave-none _); later = omega arith }
+loop-room-init g c = record { gave = rw c.requires (gave-none _); later = omega arith; same = refl }
 
 pub returns-in-Err-clause-gave : goal.returns-in-Err-clause-gave
 returns-in-Err-clause-gave g c = gave-error _ _ _ _ _ _ c.in-Err.field-0 c.loop-room.invariant.gave c.in-Err.ensures.bytes
@@ -16,6 +16,7 @@ pub loop-room-preserved : goal.loop-room-preserved
 loop-room-preserved g c = record {
   gave = rw c.in_ok-extend_from_slice-in-Ok.ensures.items (gave-more _ _ _ _ c.take.new.room c.in-Ok.count _ c.loop-room.invariant.gave c.in-Ok.ensures.bytes);
   later = omega (arith, c.loop-room.invariant.later, c.take.ensures.cause.later);
+  same = c.in-Ok.ensures.cause.sound ∙ c.loop-room.invariant.same;
 }
 
 pub returns-in_err-extend_from_slice-in-Ok-clause-partly : goal.returns-in_err-extend_from_slice-in-Ok-clause-partly

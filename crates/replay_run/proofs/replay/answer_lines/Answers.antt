@@ -1,4 +1,4 @@
-use Rattle.std.proofs.Common.{◌∙◌, sym, ap, arith, length, [], None, ◌-◌, ◌≡◌, subst, Bool, if◌then◌else◌}
+use Rattle.std.proofs.Common.{refl, ◌∙◌, sym, ap, arith, length, [], None, ◌-◌, ◌≡◌, subst, Bool, if◌then◌else◌}
 use Rattle.replay_run.specs.declared.reply.Ending.TheVariants.{Complete, ReadFault}
 use Rattle.replay_run.specs.Lines.{lines_in}
 use Rattle.replay_run.specs.Runs.{Answered}
@@ -14,6 +14,7 @@ loop-line-init g c =
     record {
       going = rw c.requires (subst (λ n. Going (g.K.Sink.held c.args.sink.now) (g.K.Sink.held c.args.sink.now) [] (trace_from c.args.ended 1 n None (lines_in c.args.input.now)) (trace_of c.args.input.now c.args.ended)) start (going-first _ _));
       later = omega arith;
+      same = refl;
       shorter = omega arith;
       within = omega arith;
       numbered = omega arith;
@@ -50,6 +51,10 @@ loop-line-preserved g c =
       later = elim c.if-len-ge-CHUNK.branch [
         | then-len-ge-CHUNK+in_ok-put_text w ↦ rw w.sink-is (omega (arith, c.loop-line.invariant.later, w.put_text.ensures.later))
         | else-len-ge-CHUNK w ↦ rw w.sink-is c.loop-line.invariant.later
+      ];
+      same = elim c.if-len-ge-CHUNK.branch [
+        | then-len-ge-CHUNK+in_ok-put_text w ↦ rw w.sink-is (w.in_ok-put_text.ensures.sound (λ wrong. absurd (cc)) ∙ c.loop-line.invariant.same)
+        | else-len-ge-CHUNK w ↦ rw w.sink-is c.loop-line.invariant.same
       ];
       shorter = omega (arith, c.in-Some.ensures.sizes, c.loop-line.invariant.shorter);
       within = omega (arith, c.in-Some.ensures.sizes, c.in-Ok.ensures.within.1, c.loop-line.invariant.shorter);

@@ -1,4 +1,4 @@
-use Rattle.std.proofs.Common.{◌+◌, ◌-◌, ◌≤◌, length}
+use Rattle.std.proofs.Common.{◌+◌, ◌-◌, ◌≤◌, ◌≡◌, length}
 use Rattle.replay_run.specs.declared.TheConstants.{MOST_INPUT_BYTES, MOST_LINES}
 use Rattle.replay_run.specs.Lines.{lines_in}
 use Rattle.replay_run.specs.Trace.{trace_from, trace_of}
@@ -9,6 +9,7 @@ abbrev pub invariant-loop-line : goal.invariant-loop-line
 invariant-loop-line g l = record {
   going : Going (g.K.Sink.held l.fn.sink) (g.K.Sink.held l.sink) l.text.items (trace_from l.ended l.number (length l.input - length l.rest) l.state (lines_in l.rest)) (trace_of l.input l.ended);
   later : g.K.Sink.faults l.fn.sink ≤ g.K.Sink.faults l.sink;
+  same : g.K.Sink.faults l.sink ≡ g.K.Sink.faults l.fn.sink;
   shorter : length l.rest ≤ length l.input;
   within : length l.input - length l.rest ≤ MOST_INPUT_BYTES;
   numbered : l.number ≤ MOST_LINES + 1;

@@ -1,5 +1,5 @@
 use Rattle.std.proofs.Common.{◌∙◌, sym, ap, Ok}
-use Rattle.replay_run.proofs.RunLaws.{ran-replay, stops-replay, stops-unwritten, fault-of}
+use Rattle.replay_run.proofs.RunLaws.{ran-replay, stops-replay, stops-unwritten, fault-of, not-cut}
 use Rattle.replay_run.proofs.top.run_replay.Goals as goal
 
 pub returns-in_default-clause-output : goal.returns-in_default-clause-output
@@ -13,6 +13,10 @@ returns-in-Ok-replay-clause-output g c =
 pub returns-in-Ok-replay-clause-read_fault : goal.returns-in-Ok-replay-clause-read_fault
 returns-in-Ok-replay-clause-read_fault g c is =
     fault-of _ _ _ (λ ended. c.take_all.ensures.cause (c.in-Ok.is ∙ ap Ok ended)) (sym (rw c.deref.ensures.value at c.in-Ok-replay.ensures.done) ∙ is)
+
+pub returns-in-Ok-replay-clause-source_sound : goal.returns-in-Ok-replay-clause-source_sound
+returns-in-Ok-replay-clause-source_sound g c is =
+    c.take_all.ensures.sound (not-cut _ _ _ (rw c.deref.ensures.value at c.in-Ok-replay.ensures.done) is _ c.in-Ok.is)
 
 pub returns-clause-output : goal.returns-clause-output
 returns-clause-output g c =
