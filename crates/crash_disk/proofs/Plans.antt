@@ -1,9 +1,9 @@
 -- What a plan of faults says of calls to come.
-use Rattle.std.proofs.Common.{◌≡◌, ℕ, zero, suc, ◌+◌, ◌-◌, ◌≤◌, ◌==◌, ◌||◌, min, Bool, true, false, cond, List, [], Option, Some, None, refl, sym, ◌∙◌, ap, arith}
+use Rattle.std.proofs.Common.{◌≡◌, ℕ, zero, suc, ◌+◌, ◌-◌, ◌==◌, ◌||◌, min, Bool, true, false, cond, List, [], Option, Some, None, refl, sym, ◌∙◌, ap, arith}
 use Rattle.std.proofs.lemmas.Bool.Decides.{nat_tests}
 use Rattle.std.specs.Option.{option_map, option_map_or}
 use Rattle.crash_disk.specs.Causes.{counted}
-use Rattle.crash_disk.specs.Disk.{Plan, is_spent, fails_first, after_one, after_calls, passing}
+use Rattle.crash_disk.specs.Disk.{Plan, is_spent, fails_first, after_one, after_calls, passing, PassesByFuse}
 use Rattle.crash_disk.specs.Memory.{MemState, listed_at, plan_of}
 
 -- the calls that pass, where the next one fails
@@ -19,11 +19,6 @@ passing-passes count plan passes = ap (λ (b : Bool). cond b 0 (suc (passing cou
 pub passing-zero : (plan : Plan) → passing 0 plan ≡ 0
 unfolding passing
 passing-zero plan = refl
-
-pub passing-le : (count : ℕ) (plan : Plan) → passing count plan ≤ count
-unfolding passing
-passing-le zero plan = omega arith
-passing-le (suc count) plan = elim (fails_first plan) as (λ b. cond b 0 (suc (passing count (after_one plan))) ≤ suc count) [ true ↦ omega arith | false ↦ omega (arith, passing-le count (after_one plan)) ]
 
 -- the plan after calls, one by one and together
 pub after_calls-zero : (plan : Plan) → after_calls 0 plan ≡ plan
@@ -77,17 +72,16 @@ passing-no_fuse (suc count) plan none fuse =
     let passes : fails_first plan ≡ false = ap (λ f. is_spent f || plan.listed 0) fuse ∙ none 0 in
     passing-passes count plan passes ∙ ap suc (passing-no_fuse count (after_one plan) (λ n. none (suc n)) (ap (option_map (λ calls. calls - 1)) fuse))
 
-pub passing-by_fuse : (plan : Plan) (count : ℕ) → ((n : ℕ) → plan.listed n ≡ false) → passing count plan ≡ option_map_or (min count) plan.fuse count
-passing-by_fuse plan count none = by_fuse plan.fuse refl
-  where
-    by_fuse : (fuse : Option ℕ) → plan.fuse ≡ fuse → passing count plan ≡ option_map_or (min count) fuse count
-    by_fuse None is = passing-no_fuse count plan none is
-    by_fuse (Some calls) is = passing-fuse count calls plan none is
-
 -- what is left of a fuse lets so many more pass
-pub passing-after_calls : (made count calls : ℕ) (plan : Plan) → ((n : ℕ) → plan.listed n ≡ false) → plan.fuse ≡ Some calls → passing count (after_calls made plan) ≡ min count (calls - made)
-passing-after_calls made count calls plan none fuse =
-    passing-fuse count (calls - made) (after_calls made plan) (λ n. listed-after_calls made n plan ∙ none (made + n)) (fuse-after_calls made plan ∙ ap (option_map (λ calls. calls - made)) fuse)
+pub passing-by_fuse : PassesByFuse
+passing-by_fuse plan made count none = by_fuse plan.fuse refl
+  where
+    still : (n : ℕ) → (after_calls made plan).listed n ≡ false
+    still n = listed-after_calls made n plan ∙ none (made + n)
+
+    by_fuse : (fuse : Option ℕ) → plan.fuse ≡ fuse → passing count (after_calls made plan) ≡ option_map_or (λ calls. min count (calls - made)) fuse count
+    by_fuse None is = passing-no_fuse count (after_calls made plan) still (fuse-after_calls made plan ∙ ap (option_map (λ calls. calls - made)) is)
+    by_fuse (Some calls) is = passing-fuse count (calls - made) (after_calls made plan) still (fuse-after_calls made plan ∙ ap (option_map (λ calls. calls - made)) is)
 
 -- an empty list lists no call
 pub none_listed : (disk : MemState) → disk.fails ≡ [] → (n : ℕ) → (plan_of disk).listed n ≡ false

@@ -130,9 +130,9 @@ unfoldable pub passing : ℕ → Plan → ℕ
 passing zero plan = zero
 passing (suc count) plan = if fails_first plan then zero else suc (passing count (after_one plan))
 
--- with no listed call as many pass as the fuse lets pass, and all where there is no fuse
+-- with no listed call, after so many calls as many pass as the fuse still lets pass, and all where there is no fuse
 abbrev pub PassesByFuse : Type 0
-PassesByFuse = (plan : Plan) (count : ℕ) → ((n : ℕ) → plan.listed n ≡ false) → passing count plan ≡ option_map_or (min count) plan.fuse count
+PassesByFuse = (plan : Plan) (made count : ℕ) → ((n : ℕ) → plan.listed n ≡ false) → passing count (after_calls made plan) ≡ option_map_or (λ calls. min count (calls - made)) plan.fuse count
 
 -- a call goes by the plan, where there is one: it fails exactly where the plan says, and the plan goes on
 pub record GoesByPlan (before now : Option Plan) (failed : Bool) : Type 0 where

@@ -7,7 +7,8 @@ pub fn outcomes_may_be_left()
     ensures { OutcomesMayBeLeft }
 {}
 
-/// With no listed call as many pass as the fuse lets pass, and all where there is no fuse.
+/// With no listed call, after so many calls as many pass as the fuse still lets pass, and all where there
+/// is no fuse.
 pub fn passes_by_fuse()
     ensures { PassesByFuse }
 {}
