@@ -81,10 +81,6 @@ or_none : {A : Type 0} (o : Option A) → (o ≡ None) ⊎ ((a : A) × (o ≡ So
 or_none None = inl refl
 or_none (Some a) = inr (a, refl)
 
-or_err : {A : Type 0} (r : Result A ℕ) → ((a : A) × (r ≡ Ok a)) ⊎ ((place : ℕ) × (r ≡ Err place))
-or_err (Ok a) = inl (a, refl)
-or_err (Err place) = inr (place, refl)
-
 -- what is known of a body that was read
 pub record IsBody (bytes body : List ℕ) : Type 0 where
   pub fits : length body ≤ most
@@ -283,10 +279,6 @@ read_is_spelled image records all is = plain_is_spelled image records (inl all) 
 -- where the records are short, the numbers needn't be bytes
 pub short_is_spelled : (image : List ℕ) (records : List (List ℕ)) → All (λ body. length body < 2 ^ 8) records → kept_records image ≡ Some records → IsKept image records
 short_is_spelled image records short is = plain_is_spelled image records (inr short) is
-
-pub prefixed-nil : (r : Result (List (List ℕ)) ℕ) → r ≡ prefixed [] r
-prefixed-nil (Ok more) = refl
-prefixed-nil (Err place) = refl
 
 pub prefixed-push : (records : List (List ℕ)) (body : List ℕ) (r : Result (List (List ℕ)) ℕ) → prefixed records (joined body r) ≡ prefixed (records ++ body ∷ []) r
 prefixed-push records body (Ok more) = ap (λ (l : List (List ℕ)). Ok l) (sym (append_assoc records (body ∷ []) more))

@@ -9,7 +9,8 @@ pub enum JournalRefusal {
     #[error("already made, length {length}")]
     AlreadyMade { length: u64 },
     /// The image is no journal: 0 where it doesn't begin with the mark, else the place of the first gate
-    /// that is missing, or whose record runs past the end or is too long.
+    /// that is missing, or whose record runs past the end or is too long. A crate above that reads its
+    /// own kind of records gives the gate of the first one that isn't.
     #[error("not a journal at {place}")]
     NotJournal { place: u64 },
     /// The body has more than 2^24 bytes.
