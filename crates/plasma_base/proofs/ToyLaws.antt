@@ -45,4 +45,11 @@ pub group_sum-two : (modulus front whole : ℕ) (first second : List ℕ)
     → whole ≡ (front + group_sum 0 second) % modulus
     → whole ≡ group_sum 0 (first ++ second) % modulus
 group_sum-two modulus front whole first second begun ended =
-    rw (ended, begun, mod-add-mod (0 + group_sum (length second) first) modulus (group_sum 0 second), group_sum-append 0 first second, zero-add, add-zero) refl
+    rw (
+      ended,
+      begun,
+      mod-add-mod (0 + group_sum (length second) first) modulus (group_sum 0 second),
+      group_sum-append 0 first second,
+      zero-add,
+      add-zero,
+    ) refl

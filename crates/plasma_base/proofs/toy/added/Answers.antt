@@ -4,7 +4,8 @@ use Rattle.plasma_base.proofs.toy.added.Goals as goal
 
 pub bytes-preserved : goal.bytes-preserved
 bytes-preserved c = (
-  group_sum-step _ _ _ _ _ c.bytes.rest.now c.in-Some.others.now c.in-Some.ensures.cases.0 c.with_byte-sum.ensures.sum ∙ c.bytes.invariant.0,
+  group_sum-step _ _ _ _ _ c.bytes.rest.now c.in-Some.others.now c.in-Some.ensures.cases.0 c.with_byte-sum.ensures.sum
+      ∙ c.bytes.invariant.0,
   c.with_byte-sum.ensures.small,
 )
 
