@@ -1,4 +1,4 @@
-use Rattle.std.proofs.Common.{rules, ◌≡◌, ℕ, ◌+◌, ◌<◌, Bool, true, false, if◌then◌else◌, sym, ap, ◌∙◌, arith}
+use Rattle.std.proofs.Common.{rules, ◌≡◌, ℕ, ◌+◌, Bool, true, false, if◌then◌else◌, sym, ap, ◌∙◌, arith}
 use Rattle.sparse_merkle.specs.MaskedPath.{MaskedPath}
 use Rattle.sparse_merkle.proofs.ProofLaws.{set_bits-lt, IsOnWay-start, IsOnWay-string, IsOnWay-more, string-shared}
 use Rattle.sparse_merkle.proofs.opening.opened_root.Goals as goal
