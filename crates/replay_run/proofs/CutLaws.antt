@@ -1,7 +1,7 @@
 -- The lines of an input are its bytes, cut behind each line feed, and there is no other way to cut them so.
-use Rattle.std.proofs.Common.{◌≡◌, ℕ, suc, ◌<◌, ◌==◌, ◌⊎◌, true, false, if◌then◌else◌, List, [], ◌∷◌, ◌++◌, length, inl, inr, refl, sym, ap, ◌∙◌, arith, append_assoc}
+use Rattle.std.proofs.Common.{◌≡◌, ℕ, suc, ◌==◌, ◌⊎◌, true, false, if◌then◌else◌, List, [], ◌∷◌, ◌++◌, inl, inr, refl, sym, ap, ◌∙◌, arith, append_assoc}
 use Rattle.std.specs.Prelude.{◌≢◌}
-use Rattle.std.specs.List.{All, concat}
+use Rattle.std.specs.List.{concat}
 use Rattle.std.proofs.lemmas.Bool.{eqb-true, ne_eqb, true≢false}
 use Rattle.std.proofs.lemmas.List.{append-nil}
 use Rattle.std.proofs.lemmas.List.Elements.{All-cons, All-nil}
@@ -43,7 +43,8 @@ are_lines-in : (bytes : List ℕ) → AreLines (lines_in bytes)
 unfolding lines_in AreLines
 are_lines-in [] = tt
 are_lines-in (b ∷ bs) =
-    (elim (b == 10) as (λ t. (b == 10) ≡ t → AreLines (if t then (b ∷ []) ∷ lines_in bs else before_lines b (lines_in bs))) [
+    (elim (b == 10) as (λ t. (b == 10) ≡ t → AreLines
+    (if t then (b ∷ []) ∷ lines_in bs else before_lines b (lines_in bs))) [
       | true ↦ λ is.
           (inl ([], ap (λ x. x ∷ []) (eqb-true b 10 is), All-nil (λ byte. byte ≢ 10)), are_lines-in bs)
       | false ↦ λ isnt.
@@ -60,7 +61,8 @@ rest-of : (b : ℕ) (bytes : List ℕ) → HasNoFeed (b ∷ bytes) → HasNoFeed
 rest-of b bytes none k d below = none (suc k) d (omega arith)
 
 -- the first line of bytes that begin with it
-lines_in-ended : (text rest : List ℕ) → HasNoFeed text → lines_in (text ++ 10 ∷ rest) ≡ (text ++ 10 ∷ []) ∷ lines_in rest
+lines_in-ended : (text rest : List ℕ) → HasNoFeed text
+    → lines_in (text ++ 10 ∷ rest) ≡ (text ++ 10 ∷ []) ∷ lines_in rest
 unfolding lines_in
 lines_in-ended [] rest none = refl
 lines_in-ended (b ∷ text) rest none =

@@ -1,5 +1,5 @@
 -- Each line of a schedule is answered after the calls of the lines before it.
-use Rattle.std.proofs.Common.{◌≡◌, ℕ, zero, suc, ◌+◌, ◌<◌, ◌&&◌, not, Bool, true, false, if◌then◌else◌, List, [], ◌∷◌, length, take, Option, Some, None, Result, Ok, Err, refl, sym, ap, ◌∙◌, subst, arith}
+use Rattle.std.proofs.Common.{◌≡◌, ℕ, zero, suc, ◌+◌, ◌<◌, ◌&&◌, not, Bool, true, false, if◌then◌else◌, List, [], ◌∷◌, length, take, Option, Some, None, Ok, Err, refl, ap, ◌∙◌, subst, arith}
 use Rattle.std.specs.Prelude.{slice_get, option_map, option_and_then}
 use Rattle.std.specs.List.{filter_map, cons_option}
 use Rattle.root_rules.specs.declared.call.RootCall.{RootCall}
@@ -14,7 +14,7 @@ use Rattle.replay_run.specs.declared.reply.Reply.{Reply}
 use Rattle.replay_run.specs.declared.reply.Reply.TheVariants.{Chain as ChainReply}
 use Rattle.replay_run.specs.Lines.{lines_in, is_whole, text_of, is_too_long}
 use Rattle.replay_run.specs.Trace.{AnsweredLine, TraceLine, Trace, new_chain, step, step_or, line_step, trace_at, trace_from, trace_of}
-use Rattle.replay_run.specs.Laws.{calls_of, reply_to, lines_spelled, trace_line_of, RepliesFollowTheCalls}
+use Rattle.replay_run.specs.Laws.{calls_of, reply_to, trace_line_of, RepliesFollowTheCalls}
 
 -- the line that bytes spell
 abbrev spelled : List ℕ → Option Line
@@ -37,22 +37,28 @@ spells-of ending state line answered (Some l) is ok =
     by-step None wrong = absurd (cc)
     by-step (Some other) same = cc
 
-answered-spells : (ended : Bool) (n start : ℕ) (state : Option Chain) (line : List ℕ) (answered : AnsweredLine) → line_step ended n start state line ≡ Ok answered → Spells state line answered
+answered-spells : (ended : Bool) (n start : ℕ) (state : Option Chain) (line : List ℕ) (answered : AnsweredLine)
+    → line_step ended n start state line ≡ Ok answered → Spells state line answered
 unfolding line_step
 answered-spells ended n start state line answered =
-    elim (is_too_long n start line) as (λ t. (if t then Err (TooLong n) else (if not ended && not (is_whole line) then Err ReadFault else step_or (BadLine n) (option_and_then (step state) (line_in (text_of line))))) ≡ Ok answered → Spells state line answered) [
+    elim (is_too_long n start line) as (λ t.
+    (if t then Err (TooLong n) else (if not ended && not (is_whole line) then Err ReadFault else step_or (BadLine n)
+    (option_and_then (step state) (line_in (text_of line))))) ≡ Ok answered → Spells state line answered) [
       | true ↦ λ wrong. absurd (cc)
-      | false ↦ elim (not ended && not (is_whole line)) as (λ t. (if t then Err ReadFault else step_or (BadLine n) (option_and_then (step state) (line_in (text_of line)))) ≡ Ok answered → Spells state line answered) [
-        | true ↦ λ wrong. absurd (cc)
-        | false ↦ λ ok. spells-of (BadLine n) state line answered (line_in (text_of line)) refl ok
-      ]
+      | false ↦ elim (not ended && not (is_whole line)) as
+          (λ t. (if t then Err ReadFault else step_or (BadLine n)
+          (option_and_then (step state) (line_in (text_of line)))) ≡ Ok answered → Spells state line answered) [
+            | true ↦ λ wrong. absurd (cc)
+            | false ↦ λ ok. spells-of (BadLine n) state line answered (line_in (text_of line)) refl ok
+          ]
     ]
 
 -- what a line of a schedule does to the chain, by its call
 record AfterLine (chain : Chain) (line : Line) (answered : AnsweredLine) : Type 0 where
   pub reply : answered.reply ≡ reply_to (rules_of chain) chain.log line
   pub rules : rules_of answered.chain ≡ rules_of chain
-  pub log : (later : List Line) → log_after_all (rules_of chain) answered.chain.log (calls_of later) ≡ log_after_all (rules_of chain) chain.log (calls_of (line ∷ later))
+  pub log : (later : List Line) → log_after_all (rules_of chain) answered.chain.log (calls_of later) ≡ log_after_all
+      (rules_of chain) chain.log (calls_of (line ∷ later))
 
 IsAfter : Chain → Line → Option AnsweredLine → Type 0
 IsAfter chain line None = Unit {0}
@@ -66,7 +72,8 @@ is-after chain (Tick time) = record { reply = refl; rules = refl; log = λ later
 is-after chain (Money account) = record { reply = refl; rules = refl; log = λ later. refl }
 is-after chain (Call account form) = record { reply = refl; rules = refl; log = λ later. refl }
 
-after-line : (chain : Chain) (line : Line) (answered : AnsweredLine) → step (Some chain) line ≡ Some answered → AfterLine chain line answered
+after-line : (chain : Chain) (line : Line) (answered : AnsweredLine) → step (Some chain) line ≡ Some answered
+    → AfterLine chain line answered
 unfolding IsAfter
 after-line chain line answered is = subst (IsAfter chain line) is (is-after chain line)
 
@@ -95,7 +102,9 @@ at-later chain n i line lines answered after =
     rw (after.rules, place, after.log (take i lines)) refl
 
 -- a trace whose later lines follow the calls does so from this line on
-module _ (n : ℕ) (chain : Chain) (line : List ℕ) (lines : List Line) (more : Chain → Trace) (follows : (next : Chain) (i : ℕ) → i < length (more next).lines → slice_get (more next).lines i ≡ line_from (rules_of next) next.log (n + 1) lines i) where
+module _ (n : ℕ) (chain : Chain) (line : List ℕ) (lines : List Line) (more : Chain → Trace)
+    (follows : (next : Chain) (i : ℕ) → i < length (more next).lines
+    → slice_get (more next).lines i ≡ line_from (rules_of next) next.log (n + 1) lines i) where
   line-follows : (answered : AnsweredLine) → Spells (Some chain) line answered → (i : ℕ)
       → i < length (trace_at n (Ok answered) more).lines
       → slice_get (trace_at n (Ok answered) more).lines i
@@ -151,9 +160,12 @@ at-law rules tag operator most lines i =
 
 -- a replay that began its chain
 begun-follows : (ended : Bool) (tag operator most start : ℕ) (lines : List (List ℕ)) (i : ℕ)
-  → i < length (trace_at 1 (Ok (record { chain = new_chain tag operator most; reply = ChainReply })) (λ next. trace_from ended 2 start (Some next) lines)).lines
-  → slice_get (trace_at 1 (Ok (record { chain = new_chain tag operator most; reply = ChainReply })) (λ next. trace_from ended 2 start (Some next) lines)).lines i
-    ≡ trace_line_of (record { operator = operator; most_blocks = most }) (ChainLine tag operator most ∷ filter_map spelled lines) i
+    → i < length (trace_at 1 (Ok (record { chain = new_chain tag operator most; reply = ChainReply }))
+    (λ next. trace_from ended 2 start (Some next) lines)).lines
+    → slice_get (trace_at 1 (Ok (record { chain = new_chain tag operator most; reply = ChainReply }))
+    (λ next. trace_from ended 2 start (Some next) lines)).lines i
+    ≡ trace_line_of (record { operator = operator; most_blocks = most })
+    (ChainLine tag operator most ∷ filter_map spelled lines) i
 begun-follows ended tag operator most start lines zero low = refl
 begun-follows ended tag operator most start lines (suc i) low =
     replies-follow ended 2 start (new_chain tag operator most) lines i (omega arith)
@@ -163,9 +175,9 @@ heads : (x y : Line) (xs ys : List Line) → x ∷ xs ≡ y ∷ ys → x ≡ y
 heads x y xs ys same = cc
 
 all-follow : (ended : Bool) (tag operator most : ℕ) (rest : List Line) (lines : List (List ℕ))
-  → filter_map spelled lines ≡ ChainLine tag operator most ∷ rest → (i : ℕ)
-  → i < length (trace_from ended 1 0 None lines).lines
-  → slice_get (trace_from ended 1 0 None lines).lines i
+    → filter_map spelled lines ≡ ChainLine tag operator most ∷ rest → (i : ℕ)
+    → i < length (trace_from ended 1 0 None lines).lines
+    → slice_get (trace_from ended 1 0 None lines).lines i
     ≡ trace_line_of (record { operator = operator; most_blocks = most }) (filter_map spelled lines) i
 unfolding trace_from
 all-follow ended tag operator most rest [] is i below = absurd (cc)
@@ -174,17 +186,17 @@ all-follow ended tag operator most rest (line ∷ lines) is i below =
     let rules : Rules = record { operator = operator; most_blocks = most } in
     let later = filter_map spelled lines in
     (elim (line_step ended 1 0 None line) as (λ r.
-      line_step ended 1 0 None line ≡ r → i < length (trace_at 1 r more).lines
-      → slice_get (trace_at 1 r more).lines i ≡ trace_line_of rules (cons_option (spelled line) later) i) [
+    line_step ended 1 0 None line ≡ r → i < length (trace_at 1 r more).lines
+    → slice_get (trace_at 1 r more).lines i ≡ trace_line_of rules (cons_option (spelled line) later) i) [
       | Err ending ↦ λ steps none. absurd (omega arith)
       | Ok answered ↦ λ steps.
-        let spells = answered-spells ended 1 0 None line answered steps in
-        let first = heads _ _ _ _ (rw spells.spells at is) in
-        let begins : spelled line ≡ Some (ChainLine tag operator most) = spells.spells ∙ ap Some first in
-        subst (λ a. i < length (trace_at 1 (Ok a) more).lines
+          let spells = answered-spells ended 1 0 None line answered steps in
+          let first = heads _ _ _ _ (rw spells.spells at is) in
+          let begins : spelled line ≡ Some (ChainLine tag operator most) = spells.spells ∙ ap Some first in
+          subst (λ a. i < length (trace_at 1 (Ok a) more).lines
           → slice_get (trace_at 1 (Ok a) more).lines i ≡ trace_line_of rules (cons_option (spelled line) later) i)
-        (first-step tag operator most spells.line_is answered first spells.steps)
-        (λ low. rw begins (begun-follows ended tag operator most (0 + length line) lines i low))
+          (first-step tag operator most spells.line_is answered first spells.steps)
+          (λ low. rw begins (begun-follows ended tag operator most (0 + length line) lines i low))
     ]) refl below
 
 pub replies-follow_the_calls : RepliesFollowTheCalls

@@ -1,5 +1,5 @@
 -- What sources give and sinks hold, from call to call.
-use Rattle.std.proofs.Common.{◌≡◌, ℕ, ◌+◌, ◌-◌, ◌<◌, ◌≤◌, ◌⊎◌, inl, inr, Bool, true, false, if◌then◌else◌, List, [], ◌∷◌, ◌++◌, length, take, drop, Option, Some, None, Result, Ok, Err, refl, sym, ap, ◌∙◌, subst, arith, append_assoc}
+use Rattle.std.proofs.Common.{◌≡◌, ℕ, ◌+◌, ◌-◌, ◌≤◌, inl, inr, Bool, true, false, if◌then◌else◌, List, [], ◌∷◌, ◌++◌, length, take, drop, Option, Some, None, Result, Ok, Err, refl, sym, ap, ◌∙◌, subst, arith, append_assoc}
 use Rattle.std.specs.Prelude.{◌≢◌, option_map, IfSome, OnErr}
 use Rattle.std.specs.List.{flat_map}
 use Rattle.std.proofs.lemmas.Bool.{false≢true}
@@ -31,29 +31,47 @@ pub gave-none : (before : Option (List ℕ)) → Gave before before [] false
 gave-none None = record { given = refl; end = λ wrong. absurd (false≢true wrong) }
 gave-none (Some left) = record { given = refl; end = λ wrong. absurd (false≢true wrong) }
 
-pub gave-more : (a b c : Option (List ℕ)) (bytes room : List ℕ) (n : ℕ) (E : Type 0) → Gave a b bytes false → Takes {E = E} b c (Ok n) room → Gave a c (bytes ++ take n room) false
+pub gave-more : (a b c : Option (List ℕ)) (bytes room : List ℕ) (n : ℕ) (E : Type 0) → Gave a b bytes false
+    → Takes {E = E} b c (Ok n) room → Gave a c (bytes ++ take n room) false
 gave-more a None c bytes room n E gave takes =
-    record { given = gave.given ∙ ap (option_map (λ left. (bytes ++ take n room) ++ left)) (sym takes); end = λ wrong. absurd (false≢true wrong) }
+    record {
+      given = gave.given ∙ ap (option_map (λ left. (bytes ++ take n room) ++ left)) (sym takes);
+      end = λ wrong. absurd (false≢true wrong);
+    }
 gave-more a (Some left) c bytes room n E gave takes =
     let same : Some (bytes ++ left) ≡ Some ((bytes ++ take n room) ++ drop n left) =
-    ap Some (sym (append_assoc bytes (take n room) (drop n left) ∙ ap (λ front. bytes ++ (front ++ drop n left)) takes.given ∙ ap (λ all. bytes ++ all) (take-append-drop n left)))
-    in record { given = gave.given ∙ same ∙ ap (option_map (λ rest. (bytes ++ take n room) ++ rest)) (sym takes.rest); end = λ wrong. absurd (false≢true wrong) }
+    ap Some (sym (append_assoc bytes (take n room) (drop n left) ∙ ap
+    (λ front. bytes ++ (front ++ drop n left)) takes.given ∙ ap (λ all. bytes ++ all) (take-append-drop n left)))
+    in record {
+      given = gave.given ∙ same ∙ ap (option_map (λ rest. (bytes ++ take n room) ++ rest)) (sym takes.rest);
+      end = λ wrong. absurd (false≢true wrong);
+    }
 
-pub gave-end : (a b c : Option (List ℕ)) (bytes room : List ℕ) (E : Type 0) → Gave a b bytes false → Takes {E = E} b c (Ok 0) room → Gave a c bytes true
+pub gave-end : (a b c : Option (List ℕ)) (bytes room : List ℕ) (E : Type 0) → Gave a b bytes false
+    → Takes {E = E} b c (Ok 0) room → Gave a c bytes true
 gave-end a None c bytes room E gave takes =
-    record { given = gave.given ∙ ap (option_map (λ left. bytes ++ left)) (sym takes); end = λ is. subst (λ o. IfSome o (λ left. left ≡ [])) (sym takes) tt }
+    record {
+      given = gave.given ∙ ap (option_map (λ left. bytes ++ left)) (sym takes);
+      end = λ is. subst (λ o. IfSome o (λ left. left ≡ [])) (sym takes) tt;
+    }
 gave-end a (Some left) c bytes room E gave takes =
     record {
       given = gave.given ∙ ap (option_map (λ rest. bytes ++ rest)) (sym takes.rest);
       end = λ is. subst (λ o. IfSome o (λ rest. rest ≡ [])) (sym takes.rest) (takes.end.0 refl);
     }
 
-pub gave-error : (a b c : Option (List ℕ)) (bytes room : List ℕ) (E : Type 0) (e : E) → Gave a b bytes false → Takes {E = E} b c (Err e) room → Gave a c bytes false
-gave-error a None c bytes room E e gave takes = record { given = gave.given ∙ ap (option_map (λ left. bytes ++ left)) (sym takes); end = gave-never }
+pub gave-error : (a b c : Option (List ℕ)) (bytes room : List ℕ) (E : Type 0) (e : E) → Gave a b bytes false
+    → Takes {E = E} b c (Err e) room → Gave a c bytes false
+gave-error a None c bytes room E e gave takes =
+    record { given = gave.given ∙ ap (option_map (λ left. bytes ++ left)) (sym takes); end = gave-never }
   where
     gave-never : false ≡ true → IfSome c (λ left. left ≡ [])
     gave-never wrong = absurd (false≢true wrong)
-gave-error a (Some left) c bytes room E e gave takes = record { given = gave.given ∙ ap (option_map (λ rest. bytes ++ rest)) (sym takes); end = λ wrong. absurd (false≢true wrong) }
+gave-error a (Some left) c bytes room E e gave takes =
+    record {
+      given = gave.given ∙ ap (option_map (λ rest. bytes ++ rest)) (sym takes);
+      end = λ wrong. absurd (false≢true wrong);
+    }
 
 -- ---- what a sink holds
 
@@ -63,23 +81,34 @@ wrote-none (Some taken) = ap Some (sym (append-nil taken))
 
 pub wrote-more : (a b c : Option (List ℕ)) (s t : List ℕ) → Wrote a b s → Wrote b c t → Wrote a c (s ++ t)
 wrote-more None b c s t first second = second ∙ ap (option_map (λ taken. taken ++ t)) first
-wrote-more (Some taken) b c s t first second = second ∙ ap (option_map (λ taken. taken ++ t)) first ∙ ap Some (append_assoc taken s t)
+wrote-more (Some taken) b c s t first second =
+    second ∙ ap (option_map (λ taken. taken ++ t)) first ∙ ap Some (append_assoc taken s t)
 
-pub wrote-put : (before after : Option (List ℕ)) (bytes : List ℕ) (T E : Type 0) (done : T) → Puts {T = T} {E = E} before after (Ok done) bytes → Wrote before after bytes
+pub wrote-put : (before after : Option (List ℕ)) (bytes : List ℕ) (T E : Type 0) (done : T)
+    → Puts {T = T} {E = E} before after (Ok done) bytes → Wrote before after bytes
 wrote-put None after bytes T E done puts = puts
 wrote-put (Some taken) after bytes T E done puts = puts
 
-pub front-put : (before after : Option (List ℕ)) (bytes : List ℕ) (T E : Type 0) (e : E) → Puts {T = T} {E = E} before after (Err e) bytes → WroteFront before after bytes
+pub front-put : (before after : Option (List ℕ)) (bytes : List ℕ) (T E : Type 0) (e : E)
+    → Puts {T = T} {E = E} before after (Err e) bytes → WroteFront before after bytes
 front-put None after bytes T E e puts = record { front = []; back = bytes; whole = refl; wrote = puts }
-front-put (Some taken) after bytes T E e puts = record { front = take puts.0 bytes; back = drop puts.0 bytes; whole = take-append-drop puts.0 bytes; wrote = puts.1 }
+front-put (Some taken) after bytes T E e puts =
+    record {
+      front = take puts.0 bytes;
+      back = drop puts.0 bytes;
+      whole = take-append-drop puts.0 bytes;
+      wrote = puts.1;
+    }
 
 -- a text was written, and a beginning of the next one
-pub front-more : (a b c : Option (List ℕ)) (s t rest : List ℕ) → Wrote a b s → WroteFront b c t → WroteFront a c (s ++ (t ++ rest))
+pub front-more : (a b c : Option (List ℕ)) (s t rest : List ℕ) → Wrote a b s → WroteFront b c t
+    → WroteFront a c (s ++ (t ++ rest))
 front-more a b c s t rest first second =
     record {
       front = s ++ second.front;
       back = second.back ++ rest;
-      whole = append_assoc s second.front (second.back ++ rest) ∙ ap (λ x. s ++ x) (sym (append_assoc second.front second.back rest) ∙ ap (λ x. x ++ rest) second.whole);
+      whole = append_assoc s second.front (second.back ++ rest)
+          ∙ ap (λ x. s ++ x) (sym (append_assoc second.front second.back rest) ∙ ap (λ x. x ++ rest) second.whole);
       wrote = wrote-more a b c s second.front first second.wrote;
     }
 
@@ -96,16 +125,27 @@ pub going-first : (before : Option (List ℕ)) (all : Trace) → Going before be
 going-first before all = record { put = []; wrote = wrote-none before; lines = refl; ends = refl }
 
 -- the trace at a line whose step is known
-at-line : (ended : Bool) (n start : ℕ) (state : Option Chain) (line : List ℕ) (lines : List (List ℕ)) (step : Result AnsweredLine Ending) → line_step ended n start state line ≡ step → trace_from ended n start state (line ∷ lines) ≡ trace_at n step (λ chain. trace_from ended (n + 1) (start + length line) (Some chain) lines)
+at-line : (ended : Bool) (n start : ℕ) (state : Option Chain) (line : List ℕ) (lines : List (List ℕ))
+    (step : Result AnsweredLine Ending) → line_step ended n start state line ≡ step
+    → trace_from ended n start state (line ∷ lines) ≡ trace_at n step
+    (λ chain. trace_from ended (n + 1) (start + length line) (Some chain) lines)
 unfolding trace_from
-at-line ended n start state line lines step is = ap (λ s. trace_at n s (λ chain. trace_from ended (n + 1) (start + length line) (Some chain) lines)) is
+at-line ended n start state line lines step is =
+    ap (λ s. trace_at n s (λ chain. trace_from ended (n + 1) (start + length line) (Some chain) lines)) is
 
-pub going-on : (before after : Option (List ℕ)) (text : List ℕ) (ended : Bool) (n start : ℕ) (state : Option Chain) (line : List ℕ) (lines : List (List ℕ)) (all : Trace) (chain : Chain) (reply : Reply) → Going before after text (trace_from ended n start state (line ∷ lines)) all → line_step ended n start state line ≡ Ok (record { chain = chain; reply = reply }) → Going before after (text ++ trace_line_text (record { line = n; reply = reply })) (trace_from ended (n + 1) (start + length line) (Some chain) lines) all
+pub going-on : (before after : Option (List ℕ)) (text : List ℕ) (ended : Bool) (n start : ℕ) (state : Option Chain)
+    (line : List ℕ) (lines : List (List ℕ)) (all : Trace) (chain : Chain) (reply : Reply)
+    → Going before after text (trace_from ended n start state (line ∷ lines)) all
+    → line_step ended n start state line ≡ Ok (record { chain = chain; reply = reply })
+    → Going before after (text ++ trace_line_text (record { line = n; reply = reply }))
+    (trace_from ended (n + 1) (start + length line) (Some chain) lines) all
 going-on before after text ended n start state line lines all chain reply going is =
     let next : Trace = trace_from ended (n + 1) (start + length line) (Some chain) lines in
     let own : List ℕ = trace_line_text (record { line = n; reply = reply }) in
     let here : Trace = record { lines = record { line = n; reply = reply } ∷ next.lines; ending = next.ending } in
-    let old : Going before after text here all = subst (λ t. Going before after text t all) (at-line ended n start state line lines (Ok (record { chain = chain; reply = reply })) is) going in
+    let old : Going before after text here all =
+    subst (λ t. Going before after text t all)
+    (at-line ended n start state line lines (Ok (record { chain = chain; reply = reply })) is) going in
     record {
       put = old.put;
       wrote = old.wrote;
@@ -113,30 +153,52 @@ going-on before after text ended n start state line lines all chain reply going 
       ends = old.ends;
     }
 
-pub going-ends : (before after : Option (List ℕ)) (text : List ℕ) (ended : Bool) (n start : ℕ) (state : Option Chain) (line : List ℕ) (lines : List (List ℕ)) (all : Trace) (ending : Ending) → Going before after text (trace_from ended n start state (line ∷ lines)) all → line_step ended n start state line ≡ Err ending → Answered before after text all ending
+pub going-ends : (before after : Option (List ℕ)) (text : List ℕ) (ended : Bool) (n start : ℕ) (state : Option Chain)
+    (line : List ℕ) (lines : List (List ℕ)) (all : Trace) (ending : Ending)
+    → Going before after text (trace_from ended n start state (line ∷ lines)) all
+    → line_step ended n start state line ≡ Err ending → Answered before after text all ending
 unfolding answers_text
 going-ends before after text ended n start state line lines all ending going is =
-    let old : Going before after text (record { lines = []; ending = ending }) all = subst (λ t. Going before after text t all) (at-line ended n start state line lines (Err ending) is) going in
-    record { ends = old.ends; put = old.put; wrote = old.wrote; whole = ap (λ x. old.put ++ x) (sym (append-nil text)) ∙ old.lines }
+    let old : Going before after text (record { lines = []; ending = ending }) all =
+    subst (λ t. Going before after text t all) (at-line ended n start state line lines (Err ending) is) going in
+    record {
+      ends = old.ends;
+      put = old.put;
+      wrote = old.wrote;
+      whole = ap (λ x. old.put ++ x) (sym (append-nil text)) ∙ old.lines;
+    }
 
-pub going-out : (before after : Option (List ℕ)) (text : List ℕ) (ended : Bool) (n start : ℕ) (state : Option Chain) (all : Trace) → Going before after text (trace_from ended n start state []) all → Answered before after text all (if ended then Complete else ReadFault)
+pub going-out : (before after : Option (List ℕ)) (text : List ℕ) (ended : Bool) (n start : ℕ) (state : Option Chain)
+    (all : Trace) → Going before after text (trace_from ended n start state []) all
+    → Answered before after text all (if ended then Complete else ReadFault)
 unfolding trace_from answers_text
 going-out before after text ended n start state all going =
-    record { ends = going.ends; put = going.put; wrote = going.wrote; whole = ap (λ x. going.put ++ x) (sym (append-nil text)) ∙ going.lines }
+    record {
+      ends = going.ends;
+      put = going.put;
+      wrote = going.wrote;
+      whole = ap (λ x. going.put ++ x) (sym (append-nil text)) ∙ going.lines;
+    }
 
 -- what was put is a beginning of the whole text, and so it is with a beginning of what was gathered
-pub going-stops : (before after last : Option (List ℕ)) (text : List ℕ) (here all : Trace) → Going before after text here all → WroteFront after last text → WroteFront before last (whole_text all)
+pub going-stops : (before after last : Option (List ℕ)) (text : List ℕ) (here all : Trace)
+    → Going before after text here all → WroteFront after last text → WroteFront before last (whole_text all)
 unfolding answers_text
 going-stops before after last text here all going front =
     let tail : List ℕ = flat_map trace_line_text here.lines in
-    let whole : going.put ++ (text ++ (tail ++ ending_text all.ending)) ≡ flat_map trace_line_text all.lines ++ ending_text all.ending =
-    ap (λ x. going.put ++ x) (sym (append_assoc text tail (ending_text all.ending))) ∙ sym (append_assoc going.put (text ++ tail) (ending_text all.ending)) ∙ ap (λ x. x ++ ending_text all.ending) going.lines
-    in subst (WroteFront before last) whole (front-more before after last going.put text (tail ++ ending_text all.ending) going.wrote front)
+    let whole : going.put ++ (text ++ (tail ++ ending_text all.ending))
+    ≡ flat_map trace_line_text all.lines ++ ending_text all.ending =
+    ap (λ x. going.put ++ x) (sym (append_assoc text tail (ending_text all.ending)))
+    ∙ sym (append_assoc going.put (text ++ tail) (ending_text all.ending))
+    ∙ ap (λ x. x ++ ending_text all.ending) going.lines
+    in subst (WroteFront before last) whole
+    (front-more before after last going.put text (tail ++ ending_text all.ending) going.wrote front)
 
 pub front-none : (before : Option (List ℕ)) (text : List ℕ) → WroteFront before before text
 front-none before text = record { front = []; back = text; whole = refl; wrote = wrote-none before }
 
-pub going-put : (before after next : Option (List ℕ)) (text : List ℕ) (here all : Trace) → Going before after text here all → Wrote after next text → Going before next [] here all
+pub going-put : (before after next : Option (List ℕ)) (text : List ℕ) (here all : Trace)
+    → Going before after text here all → Wrote after next text → Going before next [] here all
 going-put before after next text here all going wrote =
     record {
       put = going.put ++ text;
@@ -146,19 +208,28 @@ going-put before after next text here all going wrote =
     }
 
 -- the last line is put behind the answers
-pub answered-put : (before after last : Option (List ℕ)) (text : List ℕ) (all : Trace) (ending : Ending) → Answered before after text all ending → Wrote after last (text ++ ending_text ending) → Wrote before last (whole_text all)
+pub answered-put : (before after last : Option (List ℕ)) (text : List ℕ) (all : Trace) (ending : Ending)
+    → Answered before after text all ending → Wrote after last (text ++ ending_text ending)
+    → Wrote before last (whole_text all)
 unfolding answers_text
 answered-put before after last text all ending answered wrote =
     subst (Wrote before last)
-    (sym (append_assoc answered.put text (ending_text ending)) ∙ ap (λ x. x ++ ending_text ending) answered.whole ∙ ap (λ e. flat_map trace_line_text all.lines ++ ending_text e) answered.ends)
+    (sym (append_assoc answered.put text (ending_text ending)) ∙ ap (λ x. x ++ ending_text ending) answered.whole
+    ∙ ap (λ e. flat_map trace_line_text all.lines ++ ending_text e) answered.ends)
     (wrote-more before after last answered.put (text ++ ending_text ending) answered.wrote wrote)
 
-pub answered-stops : (before after last : Option (List ℕ)) (text : List ℕ) (all : Trace) (ending : Ending) → Answered before after text all ending → WroteFront after last (text ++ ending_text ending) → WroteFront before last (whole_text all)
+pub answered-stops : (before after last : Option (List ℕ)) (text : List ℕ) (all : Trace) (ending : Ending)
+    → Answered before after text all ending → WroteFront after last (text ++ ending_text ending)
+    → WroteFront before last (whole_text all)
 unfolding answers_text
 answered-stops before after last text all ending answered front =
-    let whole : answered.put ++ ((text ++ ending_text ending) ++ []) ≡ flat_map trace_line_text all.lines ++ ending_text all.ending =
-    ap (λ x. answered.put ++ x) (append-nil (text ++ ending_text ending)) ∙ sym (append_assoc answered.put text (ending_text ending)) ∙ ap (λ x. x ++ ending_text ending) answered.whole ∙ ap (λ e. flat_map trace_line_text all.lines ++ ending_text e) answered.ends
-    in subst (WroteFront before last) whole (front-more before after last answered.put (text ++ ending_text ending) [] answered.wrote front)
+    let whole : answered.put ++ ((text ++ ending_text ending) ++ [])
+    ≡ flat_map trace_line_text all.lines ++ ending_text all.ending =
+    ap (λ x. answered.put ++ x) (append-nil (text ++ ending_text ending))
+    ∙ sym (append_assoc answered.put text (ending_text ending)) ∙ ap (λ x. x ++ ending_text ending) answered.whole
+    ∙ ap (λ e. flat_map trace_line_text all.lines ++ ending_text e) answered.ends
+    in subst (WroteFront before last) whole
+    (front-more before after last answered.put (text ++ ending_text ending) [] answered.wrote front)
 
 -- whatever an error says of a result holds where it holds at all
 pub part-err : {T E : Type 0} (result : Result T E) (P : Type 0) → P → OnErr result P
@@ -167,25 +238,41 @@ part-err (Err e) P p = p
 
 -- ---- the loop over the lines of an input of so many bytes
 
-module _ (before after : Option (List ℕ)) (text : List ℕ) (ended : Bool) (n size : ℕ) (state : Option Chain) (rest : List ℕ) (all : Trace) (going : Going before after text (trace_from ended n (size - length rest) state (lines_in rest)) all) where
-  pub going-next : (line later : List ℕ) (new : Option Chain) (reply : Reply) → CutsLine rest line later → length rest ≤ size → AnswersLine (line_step ended n (size - length rest) state line) new (Ok reply) → Going before after (text ++ trace_line_text (record { line = n; reply = reply })) (trace_from ended (n + 1) (size - length later) new (lines_in later)) all
+module _ (before after : Option (List ℕ)) (text : List ℕ) (ended : Bool) (n size : ℕ) (state : Option Chain)
+    (rest : List ℕ) (all : Trace) (going : Going before after text
+    (trace_from ended n (size - length rest) state (lines_in rest)) all) where
+  pub going-next : (line later : List ℕ) (new : Option Chain) (reply : Reply) → CutsLine rest line later
+      → length rest ≤ size → AnswersLine (line_step ended n (size - length rest) state line) new (Ok reply)
+      → Going before after (text ++ trace_line_text (record { line = n; reply = reply }))
+      (trace_from ended (n + 1) (size - length later) new (lines_in later)) all
   going-next line later new reply cut shorter answers =
-      let next = going-on before after text ended n (size - length rest) state line (lines_in later) all answers.0 reply (rw cut.lines at going) answers.2 in
+      let next =
+      going-on before after text ended n (size - length rest) state line (lines_in later) all answers.0 reply
+      (rw cut.lines at going) answers.2 in
       let place : size - length rest + length line ≡ size - length later = omega (arith, cut.sizes) in
-      subst (λ (p : ℕ × Option Chain). Going before after (text ++ trace_line_text (record { line = n; reply = reply })) (trace_from ended (n + 1) p.0 p.1 (lines_in later)) all) (λ i. (place i, sym answers.1 i)) next
+      subst (λ (p : ℕ × Option Chain). Going before after
+      (text ++ trace_line_text (record { line = n; reply = reply }))
+      (trace_from ended (n + 1) p.0 p.1 (lines_in later)) all) (λ i. (place i, sym answers.1 i)) next
 
-  pub going-last : (line later : List ℕ) (ending : Ending) → CutsLine rest line later → line_step ended n (size - length rest) state line ≡ Err ending → Answered before after text all ending
-  going-last line later ending cut is = going-ends before after text ended n (size - length rest) state line (lines_in later) all ending (rw cut.lines at going) is
+  pub going-last : (line later : List ℕ) (ending : Ending) → CutsLine rest line later
+      → line_step ended n (size - length rest) state line ≡ Err ending → Answered before after text all ending
+  going-last line later ending cut is =
+      going-ends before after text ended n (size - length rest) state line (lines_in later) all ending
+      (rw cut.lines at going) is
 
   pub going-over : rest ≡ [] → Answered before after text all (if ended then Complete else ReadFault)
   unfolding lines_in trace_from
   going-over none = going-out before after text ended n (size - length rest) state all (rw none at going)
 
   pub stops-here : WroteFront before after (whole_text all)
-  stops-here = going-stops before after after text (trace_from ended n (size - length rest) state (lines_in rest)) all going (front-none after text)
+  stops-here =
+      going-stops before after after text (trace_from ended n (size - length rest) state (lines_in rest)) all going
+      (front-none after text)
 
-pub answered-here : (before after : Option (List ℕ)) (text : List ℕ) (all : Trace) (ending : Ending) → Answered before after text all ending → WroteFront before after (whole_text all)
-answered-here before after text all ending answered = answered-stops before after after text all ending answered (front-none after (text ++ ending_text ending))
+pub answered-here : (before after : Option (List ℕ)) (text : List ℕ) (all : Trace) (ending : Ending)
+    → Answered before after text all ending → WroteFront before after (whole_text all)
+answered-here before after text all ending answered =
+    answered-stops before after after text all ending answered (front-none after (text ++ ending_text ending))
 
 -- ---- the whole run
 
@@ -196,7 +283,8 @@ pub ends-whole :
     → EndsAs output output.status before after failed
 ends-whole output before after failed why wrote = by-status output.answers output.last output.status why wrote
   where
-    stops : (answers last : List ℕ) (status : Status) → status ≢ ReadFaultStatus → Wrote before after (answers ++ last)
+    stops : (answers last : List ℕ) (status : Status) → status ≢ ReadFaultStatus
+        → Wrote before after (answers ++ last)
         → Stops (record { status = status; answers = answers; last = last }) before after failed
     stops answers last status no_fault wrote = record {
       front = record { front = answers ++ last; back = []; whole = append-nil (answers ++ last); wrote = wrote };
@@ -222,7 +310,8 @@ ends-stopped Failed output before after failed stops = stops
 ends-stopped WantsMemory output before after failed stops = stops
 
 -- how the reading of a replay went
-module _ (bytes : List ℕ) (ended : Bool) (Reads : Bool → Type 0) (reads : ReadsInput (Ok ended) (length bytes) Reads) where
+module _ (bytes : List ℕ) (ended : Bool) (Reads : Bool → Type 0)
+    (reads : ReadsInput (Ok ended) (length bytes) Reads) where
   reads-either : (failed : Bool) × Reads failed
   reads-either =
       (elim ended as (λ e. ReadsInput (Ok e) (length bytes) Reads → (failed : Bool) × Reads failed) [
@@ -255,7 +344,8 @@ module _ (bytes : List ℕ) (ended : Bool) (Reads : Bool → Type 0) (reads : Re
   pub failed-of : (replay_output bytes ended).status ≡ ReadFaultStatus → Reads true
   failed-of is = by-ending (trace_of bytes ended).ending refl is
     where
-      by-ending : (ending : Ending) → (trace_of bytes ended).ending ≡ ending → status_of ending ≡ ReadFaultStatus → Reads true
+      by-ending : (ending : Ending) → (trace_of bytes ended).ending ≡ ending → status_of ending ≡ ReadFaultStatus
+          → Reads true
       by-ending Complete at wrong = absurd (cc)
       by-ending (BadLine n) at wrong = absurd (cc)
       by-ending ReadFault at same = reads-by ReadFault at
@@ -266,7 +356,8 @@ pub reads-none : (faults : ℕ) (failed_last : Bool) → ReadsToFault faults fau
 reads-none faults failed_last = record { count = refl; last = λ wrong. absurd (false≢true wrong) }
 
 -- a run that met no read fault, whose source had no fault
-pub reads-unfailed : (status : Status) (Reads : Bool → Type 0) → status ≢ ReadFaultStatus → Reads false → ReadsBy status Reads
+pub reads-unfailed : (status : Status) (Reads : Bool → Type 0) → status ≢ ReadFaultStatus → Reads false
+    → ReadsBy status Reads
 reads-unfailed Done Reads no_fault reads = reads
 reads-unfailed Usage Reads no_fault reads = reads
 reads-unfailed BadLineStatus Reads no_fault reads = (false, reads)
@@ -275,9 +366,11 @@ reads-unfailed WriteFault Reads no_fault reads = (false, reads)
 reads-unfailed NoMemory Reads no_fault reads = (false, reads)
 reads-unfailed TooLongStatus Reads no_fault reads = (false, reads)
 
-module _ (left later before after : Option (List ℕ)) (bytes : List ℕ) (ended : Bool) (failed : Type 0) (gave : Gave left later bytes ended) (why : (replay_output bytes ended).status ≡ ReadFaultStatus → failed) where
+module _ (left later before after : Option (List ℕ)) (bytes : List ℕ) (ended : Bool) (failed : Type 0)
+    (gave : Gave left later bytes ended) (why : (replay_output bytes ended).status ≡ ReadFaultStatus → failed) where
   pub ran-replay :
-      (ending : Ending) → ending ≡ (trace_of bytes ended).ending → Wrote before after (whole_text (trace_of bytes ended))
+      (ending : Ending) → ending ≡ (trace_of bytes ended).ending
+      → Wrote before after (whole_text (trace_of bytes ended))
       → RanOver replay_output left later before after failed (status_of ending)
   ran-replay ending is wrote = record {
     bytes = bytes;
@@ -301,7 +394,8 @@ module _ (left later before after : Option (List ℕ)) (bytes : List ℕ) (ended
   }
 
 -- want of memory before anything was written
-pub stops-unwritten : (output : Output) (before : Option (List ℕ)) (failed : Type 0) → Stops output before before failed
+pub stops-unwritten : (output : Output) (before : Option (List ℕ)) (failed : Type 0)
+    → Stops output before before failed
 stops-unwritten output before failed = record {
   front = front-none before (output.answers ++ output.last);
   fault = λ is. inr (front-none before output.answers);
@@ -336,7 +430,8 @@ ends-wide output NoMemory before after failed ends = stops-wide output before af
 
 -- a run that took nothing from its source
 pub ran-unread :
-    (words : List (List ℕ)) (left before after : Option (List ℕ)) (failed : Type 0) (form : Option Form) (status : Status)
+    (words : List (List ℕ)) (left before after : Option (List ℕ)) (failed : Type 0) (form : Option Form)
+    (status : Status)
     → form ≡ form_of words → EndsAs (form_output form [] false) status before after ⊥
     → RanOver (output_of words) left left before after failed status
 unfolding output_of

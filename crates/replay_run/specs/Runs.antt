@@ -8,7 +8,7 @@ use Rattle.replay_run.specs.declared.status.Status.TheVariants.{Done, Usage, Bad
 use Rattle.replay_run.specs.declared.reply.Ending.{Ending}
 use Rattle.replay_run.specs.Trace.{Trace}
 use Rattle.replay_run.specs.Text.{answers_text, ending_text}
-use Rattle.replay_run.specs.Output.{Output, output_of}
+use Rattle.replay_run.specs.Output.{Output}
 
 -- where it tells, the source gave these bytes, and these are left; an input that was read to its end has none left
 pub record Gave (before after : Option (List ℕ)) (bytes : List ℕ) (ended : Bool) : Type 0 where

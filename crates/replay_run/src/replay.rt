@@ -36,7 +36,8 @@ pub fn replay<K: Sink>(
 ) -> Result<Ending, SinkRefusal>
     ensures done { IfOk result (λ ending. ending ≡ (trace_of input.now ended).ending) }
     ensures wrote { OnOk result (Wrote (K.taken sink.old) (K.taken sink.new) (whole_text (trace_of input.now ended))) }
-    ensures stopped { OnErr result (WroteFront (K.taken sink.old) (K.taken sink.new) (whole_text (trace_of input.now ended))) }
+    ensures stopped { OnErr result
+        (WroteFront (K.taken sink.old) (K.taken sink.new) (whole_text (trace_of input.now ended))) }
     ensures cause { K.faults sink.new ≡ faults_after (K.faults sink.old) (is_failed result) }
 {
     let mut text = Vec::new(alloc);
@@ -56,8 +57,10 @@ fn answer_lines<K: Sink>(
     sink: &mut K,
 ) -> Result<Ending, SinkRefusal>
     requires { text.old.items ≡ [] }
-    ensures answered { IfOk result (Answered (K.taken sink.old) (K.taken sink.new) text.new.items (trace_of input.now ended)) }
-    ensures stopped { OnErr result (WroteFront (K.taken sink.old) (K.taken sink.new) (whole_text (trace_of input.now ended))) }
+    ensures answered { IfOk result
+        (Answered (K.taken sink.old) (K.taken sink.new) text.new.items (trace_of input.now ended)) }
+    ensures stopped { OnErr result
+        (WroteFront (K.taken sink.old) (K.taken sink.new) (whole_text (trace_of input.now ended))) }
     ensures cause { K.faults sink.new ≡ faults_after (K.faults sink.old) (is_failed result) }
 {
     let mut state = None;

@@ -168,7 +168,8 @@ pub fn answer_line(
 ) -> Result<Result<Reply, Ending>, NoMemory>
     requires { start ≤ MOST_INPUT_BYTES }
     ensures answers { IfOk result (AnswersLine (line_step ended number start state.old line.now) state.new) }
-    ensures within { IfOk result (λ answer. OnOk answer ((number ≤ MOST_LINES) × (start + length line.now ≤ MOST_INPUT_BYTES))) }
+    ensures within { IfOk result (λ answer. OnOk answer
+        ((number ≤ MOST_LINES) × (start + length line.now ≤ MOST_INPUT_BYTES))) }
 {
     if is_too_long(number, start, line) {
         return Ok(Err(Ending::TooLong { line: number }));

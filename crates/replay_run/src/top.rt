@@ -36,7 +36,8 @@ pub fn run<S: Source, K: Sink>(
     ensures unread { reads_input (form_of (map string_bytes words.now)) ≡ false → source.new ≡ source.old }
 
     // The source is read up to its first fault, and that is answered unless another cause came before it.
-    ensures source_faults { ReadsBy result (ReadsToFault (S.faults source.old) (S.faults source.new) (S.failed_last source.new)) }
+    ensures source_faults { ReadsBy result
+        (ReadsToFault (S.faults source.old) (S.faults source.new) (S.failed_last source.new)) }
 
     // A fault of the sink is answered, and no other answer comes where it had one.
     ensures sink_faults { K.faults sink.new ≡ faults_after (K.faults sink.old) (is_write_fault result) }
@@ -74,7 +75,8 @@ fn run_verify<K: Sink>(key: &Bytes, message: &Bytes, signature: &Bytes, sink: &m
 fn run_replay<S: Source, K: Sink>(alloc: Global, source: &mut S, sink: &mut K) -> Status
     ensures output { RanOver replay_output (S.left source.old) (S.left source.new) (K.taken sink.old) (K.taken sink.new)
         (ReadsToFault (S.faults source.old) (S.faults source.new) (S.failed_last source.new) true) result }
-    ensures source_faults { ReadsBy result (ReadsToFault (S.faults source.old) (S.faults source.new) (S.failed_last source.new)) }
+    ensures source_faults { ReadsBy result
+        (ReadsToFault (S.faults source.old) (S.faults source.new) (S.failed_last source.new)) }
     ensures sink_faults { K.faults sink.new ≡ faults_after (K.faults sink.old) (is_write_fault result) }
 {
     let mut input = Vec::new(alloc);

@@ -1,4 +1,4 @@
-use Rattle.std.proofs.Common.{arith, refl, ◌∙◌, ap, inl, ◌++◌, take, List, ℕ}
+use Rattle.std.proofs.Common.{refl, ◌∙◌, ap, inl, ◌++◌, take, List, ℕ}
 use Rattle.plasma_base.specs.Causes.{counted}
 use Rattle.replay_run.specs.Runs.{GavePart}
 use Rattle.replay_run.proofs.RunLaws.{gave-none, gave-more, gave-end, gave-error, part-err}
@@ -13,7 +13,10 @@ returns-in-Err-clause-gave g c =
 
 pub returns-in-Err-clause-reads : goal.returns-in-Err-clause-reads
 returns-in-Err-clause-reads g c =
-    inl (record { count = c.in-Err.ensures.cause ∙ ap counted c.loop-room.invariant.same; last = λ is. c.in-Err.ensures.last })
+    inl (record {
+      count = c.in-Err.ensures.cause ∙ ap counted c.loop-room.invariant.same;
+      last = λ is. c.in-Err.ensures.last;
+    })
 
 pub returns-in-Ok-eq0-clause-gave : goal.returns-in-Ok-eq0-clause-gave
 returns-in-Ok-eq0-clause-gave g c =

@@ -43,7 +43,8 @@ returns-in_err-put_text-clause-stopped g c =
     going-next _ _ _ _ _ _ _ _ _ c.loop-line.invariant.going c.in-Some.line.now c.in-Some.after.now _ c.in-Ok.reply
     c.in-Some.ensures c.loop-line.invariant.shorter
     (rw c.in-Ok.is at c.in_ok-reply.ensures.answers)
-    in part-err _ _ (going-stops _ _ _ _ _ _ next (rw c.in_ok-push_trace_line-in-Ok.ensures at c.in_err-put_text.ensures.err))
+    in part-err _ _ (going-stops _ _ _ _ _ _ next
+    (rw c.in_ok-push_trace_line-in-Ok.ensures at c.in_err-put_text.ensures.err))
 
 pub loop-line-smaller : goal.loop-line-smaller
 loop-line-smaller g c = omega (arith, c.in-Some.ensures.sizes, c.in-Some.ensures.some)
@@ -64,7 +65,8 @@ loop-line-preserved g c =
         | else-len-ge-CHUNK w ↦ rw (w.text-is, w.sink-is, c.in_ok-push_trace_line-in-Ok.ensures) next
       ];
       same = elim c.if-len-ge-CHUNK.branch [
-        | then-len-ge-CHUNK+in_ok-put_text w ↦ rw w.sink-is (w.in_ok-put_text.ensures.cause ∙ c.loop-line.invariant.same)
+        | then-len-ge-CHUNK+in_ok-put_text w ↦ rw w.sink-is
+            (w.in_ok-put_text.ensures.cause ∙ c.loop-line.invariant.same)
         | else-len-ge-CHUNK w ↦ rw w.sink-is c.loop-line.invariant.same
       ];
       shorter = omega (arith, c.in-Some.ensures.sizes, c.loop-line.invariant.shorter);

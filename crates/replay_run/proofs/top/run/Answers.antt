@@ -25,4 +25,5 @@ returns-in-Ok-Some-Verify-clause-output g c =
     c.run_verify.ensures.output
 
 pub returns-in-Ok-Some-Verify-clause-source_faults : goal.returns-in-Ok-Some-Verify-clause-source_faults
-returns-in-Ok-Some-Verify-clause-source_faults g c = reads-unfailed _ _ c.run_verify.ensures.no_read_fault (reads-none _ _)
+returns-in-Ok-Some-Verify-clause-source_faults g c =
+    reads-unfailed _ _ c.run_verify.ensures.no_read_fault (reads-none _ _)
