@@ -17,8 +17,8 @@ use Rattle.replay_run.specs.Trace.{AnsweredLine, TraceLine, Trace, new_chain, st
 use Rattle.replay_run.specs.Laws.{calls_of, reply_to, trace_line_of, RepliesFollowTheCalls}
 
 -- the line that bytes spell
-abbrev spelled : List ℕ → Option Line
-spelled line = line_in (text_of line)
+abbrev line_spelled : List ℕ → Option Line
+line_spelled line = line_in (text_of line)
 
 -- an answered line spells a line whose step is made
 record Spells (state : Option Chain) (line : List ℕ) (answered : AnsweredLine) : Type 0 where
@@ -108,7 +108,7 @@ module _ (n : ℕ) (chain : Chain) (line : List ℕ) (lines : List Line) (more :
   line-follows : (answered : AnsweredLine) → Spells (Some chain) line answered → (i : ℕ)
       → i < length (trace_at n (Ok answered) more).lines
       → slice_get (trace_at n (Ok answered) more).lines i
-      ≡ line_from (rules_of chain) chain.log n (cons_option (spelled line) lines) i
+      ≡ line_from (rules_of chain) chain.log n (cons_option (line_spelled line) lines) i
   line-follows answered spells zero low =
       let after = after-line chain spells.line_is answered spells.steps in
       rw spells.spells (at-first chain n spells.line_is lines answered after)
@@ -120,12 +120,12 @@ module _ (n : ℕ) (chain : Chain) (line : List ℕ) (lines : List Line) (more :
 replies-follow : (ended : Bool) (n start : ℕ) (chain : Chain) (lines : List (List ℕ)) (i : ℕ)
     → i < length (trace_from ended n start (Some chain) lines).lines
     → slice_get (trace_from ended n start (Some chain) lines).lines i
-    ≡ line_from (rules_of chain) chain.log n (filter_map spelled lines) i
+    ≡ line_from (rules_of chain) chain.log n (filter_map line_spelled lines) i
 unfolding trace_from
 replies-follow ended n start chain [] i below = absurd (omega arith)
 replies-follow ended n start chain (line ∷ lines) i below =
     let more : Chain → Trace = λ next. trace_from ended (n + 1) (start + length line) (Some next) lines in
-    let later = filter_map spelled lines in
+    let later = filter_map line_spelled lines in
     let follows : (next : Chain) (j : ℕ) → j < length (more next).lines
     → slice_get (more next).lines j ≡ line_from (rules_of next) next.log (n + 1) later j =
     λ next j low. replies-follow ended (n + 1) (start + length line) next lines j low
@@ -133,7 +133,7 @@ replies-follow ended n start chain (line ∷ lines) i below =
     (elim (line_step ended n start (Some chain) line) as (λ r.
     line_step ended n start (Some chain) line ≡ r → i < length (trace_at n r more).lines
     → slice_get (trace_at n r more).lines i
-    ≡ line_from (rules_of chain) chain.log n (cons_option (spelled line) later) i) [
+    ≡ line_from (rules_of chain) chain.log n (cons_option (line_spelled line) later) i) [
       | Err ending ↦ λ is none. absurd (omega arith)
       | Ok answered ↦ λ is low.
           let spells = answered-spells ended n start (Some chain) line answered is in
@@ -165,36 +165,36 @@ begun-follows : (ended : Bool) (tag operator most start : ℕ) (lines : List (Li
     → slice_get (trace_at 1 (Ok (record { chain = new_chain tag operator most; reply = ChainReply }))
     (λ next. trace_from ended 2 start (Some next) lines)).lines i
     ≡ trace_line_of (record { operator = operator; most_blocks = most })
-    (ChainLine tag operator most ∷ filter_map spelled lines) i
+    (ChainLine tag operator most ∷ filter_map line_spelled lines) i
 begun-follows ended tag operator most start lines zero low = refl
 begun-follows ended tag operator most start lines (suc i) low =
     replies-follow ended 2 start (new_chain tag operator most) lines i (omega arith)
-    ∙ at-law (record { operator = operator; most_blocks = most }) tag operator most (filter_map spelled lines) i
+    ∙ at-law (record { operator = operator; most_blocks = most }) tag operator most (filter_map line_spelled lines) i
 
 heads : (x y : Line) (xs ys : List Line) → x ∷ xs ≡ y ∷ ys → x ≡ y
 heads x y xs ys same = cc
 
 all-follow : (ended : Bool) (tag operator most : ℕ) (rest : List Line) (lines : List (List ℕ))
-    → filter_map spelled lines ≡ ChainLine tag operator most ∷ rest → (i : ℕ)
+    → filter_map line_spelled lines ≡ ChainLine tag operator most ∷ rest → (i : ℕ)
     → i < length (trace_from ended 1 0 None lines).lines
     → slice_get (trace_from ended 1 0 None lines).lines i
-    ≡ trace_line_of (record { operator = operator; most_blocks = most }) (filter_map spelled lines) i
+    ≡ trace_line_of (record { operator = operator; most_blocks = most }) (filter_map line_spelled lines) i
 unfolding trace_from
 all-follow ended tag operator most rest [] is i below = absurd (cc)
 all-follow ended tag operator most rest (line ∷ lines) is i below =
     let more : Chain → Trace = λ next. trace_from ended 2 (0 + length line) (Some next) lines in
     let rules : Rules = record { operator = operator; most_blocks = most } in
-    let later = filter_map spelled lines in
+    let later = filter_map line_spelled lines in
     (elim (line_step ended 1 0 None line) as (λ r.
     line_step ended 1 0 None line ≡ r → i < length (trace_at 1 r more).lines
-    → slice_get (trace_at 1 r more).lines i ≡ trace_line_of rules (cons_option (spelled line) later) i) [
+    → slice_get (trace_at 1 r more).lines i ≡ trace_line_of rules (cons_option (line_spelled line) later) i) [
       | Err ending ↦ λ steps none. absurd (omega arith)
       | Ok answered ↦ λ steps.
           let spells = answered-spells ended 1 0 None line answered steps in
           let first = heads _ _ _ _ (rw spells.spells at is) in
-          let begins : spelled line ≡ Some (ChainLine tag operator most) = spells.spells ∙ ap Some first in
+          let begins : line_spelled line ≡ Some (ChainLine tag operator most) = spells.spells ∙ ap Some first in
           subst (λ a. i < length (trace_at 1 (Ok a) more).lines
-          → slice_get (trace_at 1 (Ok a) more).lines i ≡ trace_line_of rules (cons_option (spelled line) later) i)
+          → slice_get (trace_at 1 (Ok a) more).lines i ≡ trace_line_of rules (cons_option (line_spelled line) later) i)
           (first-step tag operator most spells.line_is answered first spells.steps)
           (λ low. rw begins (begun-follows ended tag operator most (0 + length line) lines i low))
     ]) refl below

@@ -21,7 +21,7 @@ use Rattle.replay_run.specs.Lines.{lines_in, CutsLine}
 use Rattle.replay_run.specs.Steps.{AnswersLine}
 use Rattle.replay_run.specs.Trace.{AnsweredLine, Trace, trace_at, line_step, trace_from, trace_of}
 use Rattle.replay_run.specs.Text.{trace_line_text, ending_text, answers_text}
-use Rattle.replay_run.specs.Runs.{Gave, Wrote, WroteFront, Answered, Stops, EndsAs, RanOver, ReadsToFault, ReadsInput, ReadsBy, whole_text}
+use Rattle.replay_run.specs.Runs.{Gave, Wrote, WroteFront, GathersAnswers, Stops, EndsAs, RanOver, ReadsToFault, ReadsInput, ReadsBy, whole_text}
 use Rattle.replay_run.specs.declared.TheConstants.{MOST_INPUT_BYTES}
 use Rattle.replay_run.proofs.EndingLaws.{fault-is, complete-is}
 
@@ -156,7 +156,7 @@ going-on before after text ended n start state line lines all chain reply going 
 pub going-ends : (before after : Option (List ℕ)) (text : List ℕ) (ended : Bool) (n start : ℕ) (state : Option Chain)
     (line : List ℕ) (lines : List (List ℕ)) (all : Trace) (ending : Ending)
     → Going before after text (trace_from ended n start state (line ∷ lines)) all
-    → line_step ended n start state line ≡ Err ending → Answered before after text all ending
+    → line_step ended n start state line ≡ Err ending → GathersAnswers before after text all ending
 unfolding answers_text
 going-ends before after text ended n start state line lines all ending going is =
     let old : Going before after text (record { lines = []; ending = ending }) all =
@@ -170,7 +170,7 @@ going-ends before after text ended n start state line lines all ending going is 
 
 pub going-out : (before after : Option (List ℕ)) (text : List ℕ) (ended : Bool) (n start : ℕ) (state : Option Chain)
     (all : Trace) → Going before after text (trace_from ended n start state []) all
-    → Answered before after text all (if ended then Complete else ReadFault)
+    → GathersAnswers before after text all (if ended then Complete else ReadFault)
 unfolding trace_from answers_text
 going-out before after text ended n start state all going =
     record {
@@ -209,7 +209,7 @@ going-put before after next text here all going wrote =
 
 -- the last line is put behind the answers
 pub answered-put : (before after last : Option (List ℕ)) (text : List ℕ) (all : Trace) (ending : Ending)
-    → Answered before after text all ending → Wrote after last (text ++ ending_text ending)
+    → GathersAnswers before after text all ending → Wrote after last (text ++ ending_text ending)
     → Wrote before last (whole_text all)
 unfolding answers_text
 answered-put before after last text all ending answered wrote =
@@ -219,7 +219,7 @@ answered-put before after last text all ending answered wrote =
     (wrote-more before after last answered.put (text ++ ending_text ending) answered.wrote wrote)
 
 pub answered-stops : (before after last : Option (List ℕ)) (text : List ℕ) (all : Trace) (ending : Ending)
-    → Answered before after text all ending → WroteFront after last (text ++ ending_text ending)
+    → GathersAnswers before after text all ending → WroteFront after last (text ++ ending_text ending)
     → WroteFront before last (whole_text all)
 unfolding answers_text
 answered-stops before after last text all ending answered front =
@@ -255,12 +255,12 @@ module _ (before after : Option (List ℕ)) (text : List ℕ) (ended : Bool) (n 
       (trace_from ended (n + 1) p.0 p.1 (lines_in later)) all) (λ i. (place i, sym answers.1 i)) next
 
   pub going-last : (line later : List ℕ) (ending : Ending) → CutsLine rest line later
-      → line_step ended n (size - length rest) state line ≡ Err ending → Answered before after text all ending
+      → line_step ended n (size - length rest) state line ≡ Err ending → GathersAnswers before after text all ending
   going-last line later ending cut is =
       going-ends before after text ended n (size - length rest) state line (lines_in later) all ending
       (rw cut.lines at going) is
 
-  pub going-over : rest ≡ [] → Answered before after text all (if ended then Complete else ReadFault)
+  pub going-over : rest ≡ [] → GathersAnswers before after text all (if ended then Complete else ReadFault)
   unfolding lines_in trace_from
   going-over none = going-out before after text ended n (size - length rest) state all (rw none at going)
 
@@ -270,7 +270,7 @@ module _ (before after : Option (List ℕ)) (text : List ℕ) (ended : Bool) (n 
       (front-none after text)
 
 pub answered-here : (before after : Option (List ℕ)) (text : List ℕ) (all : Trace) (ending : Ending)
-    → Answered before after text all ending → WroteFront before after (whole_text all)
+    → GathersAnswers before after text all ending → WroteFront before after (whole_text all)
 answered-here before after text all ending answered =
     answered-stops before after after text all ending answered (front-none after (text ++ ending_text ending))
 

@@ -98,7 +98,7 @@ pub record RanOver
 
 -- all answers of a trace were given, and what ended it: the sink has taken a beginning of their text, and the rest of
 -- it is gathered
-pub record Answered
+pub record GathersAnswers
     (before after : Option (List ℕ)) (gathered : List ℕ) (trace : Trace) (ending : Ending)
     : Type 0 where
   pub ends : ending ≡ trace.ending

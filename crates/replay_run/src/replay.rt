@@ -2,7 +2,7 @@ ghost use Rattle.std.specs.Prelude.{◌≡◌, [], IfOk, OnOk, OnErr};
 ghost use Rattle.plasma_base.specs.Causes.{faults_after};
 ghost use Rattle.plasma_outside.specs.Outside.{is_failed};
 ghost use Rattle.replay_run.specs.Trace.{trace_of};
-ghost use Rattle.replay_run.specs.Runs.{Wrote, WroteFront, Answered, whole_text};
+ghost use Rattle.replay_run.specs.Runs.{Wrote, WroteFront, GathersAnswers, whole_text};
 
 use super::input::next_line;
 use super::reply::Ending;
@@ -58,7 +58,7 @@ fn answer_lines<K: Sink>(
 ) -> Result<Ending, SinkRefusal>
     requires { text.old.items ≡ [] }
     ensures answered { IfOk result
-        (Answered (K.taken sink.old) (K.taken sink.new) text.new.items (trace_of input.now ended)) }
+        (GathersAnswers (K.taken sink.old) (K.taken sink.new) text.new.items (trace_of input.now ended)) }
     ensures stopped { OnErr result
         (WroteFront (K.taken sink.old) (K.taken sink.new) (whole_text (trace_of input.now ended))) }
     ensures cause { K.faults sink.new ≡ faults_after (K.faults sink.old) (is_failed result) }

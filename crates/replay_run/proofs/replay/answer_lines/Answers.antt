@@ -1,7 +1,7 @@
 use Rattle.std.proofs.Common.{refl, ◌∙◌, sym, ap, arith, length, [], None, ◌-◌, ◌≡◌, subst, Bool, if◌then◌else◌}
 use Rattle.replay_run.specs.declared.reply.Ending.TheVariants.{Complete, ReadFault}
 use Rattle.replay_run.specs.Lines.{lines_in}
-use Rattle.replay_run.specs.Runs.{Answered}
+use Rattle.replay_run.specs.Runs.{GathersAnswers}
 use Rattle.replay_run.specs.Trace.{trace_of, trace_from}
 use Rattle.replay_run.proofs.RunLaws.{Going, going-first, going-next, going-last, going-over, going-put, going-stops, stops-here, part-err}
 use Rattle.replay_run.proofs.replay.answer_lines.Goals as goal
@@ -86,4 +86,4 @@ returns-clause-answered g c =
     let before = g.K.Sink.taken c.args.sink.now in
     let after = g.K.Sink.taken c.loop-line.sink in
     let all = trace_of c.args.input.now c.args.ended in
-    subst (Answered before after c.loop-line.text.items all) ending over
+    subst (GathersAnswers before after c.loop-line.text.items all) ending over
