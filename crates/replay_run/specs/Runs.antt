@@ -32,8 +32,8 @@ ReadsInput (Ok true) size Reads = Reads false
 ReadsInput (Ok false) size Reads = Reads true ⊎ (Reads false × (MOST_INPUT_BYTES < size))
 ReadsInput (Err why) size Reads = Reads false
 
--- What a status says of the reading: it failed, or it didn't where all was done. A run that ends for another cause met
--- that before a fault, or had none.
+-- What a status says of the reading: it failed, or it didn't where all was done. Where a line of the bytes before a
+-- fault ended the run, or its text wasn't written to the end, it may have failed or not.
 abbrev pub ReadsBy : Status → (Bool → Type 0) → Type 0
 ReadsBy ReadFault Reads = Reads true
 ReadsBy Done Reads = Reads false

@@ -35,7 +35,7 @@ pub fn run<S: Source, K: Sink>(
     // Only `replay` touches the source.
     ensures unread { reads_input (form_of (map string_bytes words.now)) ≡ false → source.new ≡ source.old }
 
-    // The source is read up to its first fault, and that is answered unless another cause came before it.
+    // The source is read up to its first fault, which is answered unless the run ended for another cause.
     ensures source_faults { ReadsBy result
         (ReadsToFault (S.faults source.old) (S.faults source.new) (S.failed_last source.new)) }
 
