@@ -38,8 +38,10 @@ EndsAt ended n start line (BadLine m) = (m ≡ n) × (is_too_long n start line �
 unfoldable pub EndsBy : Bool → ℕ → ℕ → List (List ℕ) → Ending → Type 0
 EndsBy ended n start [] ending = ending ≡ (if ended then Complete else ReadFault)
 EndsBy ended n start (line ∷ lines) ending =
-    EndsAt ended n start line ending ⊎ (IsAnswered n start line × EndsBy ended (n + 1) (start + length line) lines ending)
+    EndsAt ended n start line ending
+    ⊎ (IsAnswered n start line × EndsBy ended (n + 1) (start + length line) lines ending)
 
 -- a replay ends for the first cause that its lines have, whatever the contract answers
 abbrev pub EndingsHaveTheirCause : Type 0
-EndingsHaveTheirCause = (bytes : List ℕ) (ended : Bool) → EndsBy ended 1 0 (lines_in bytes) (trace_of bytes ended).ending
+EndingsHaveTheirCause =
+    (bytes : List ℕ) (ended : Bool) → EndsBy ended 1 0 (lines_in bytes) (trace_of bytes ended).ending

@@ -32,53 +32,53 @@ call_of account (StartForm coin block) = StartDeposit account coin block
 call_of account (FinishForm coin exit) = Finish account coin exit
 
 -- what an answered line leaves: the chain, and the reply
-pub record Stepped : Type 0 where
+pub record AnsweredLine : Type 0 where
   pub chain : Chain
   pub reply : Reply
 
 -- a call on the chain: its answer, and the log after it
-abbrev pub called : Option Chain → RootCall → Option Stepped
-called None call = None
-called (Some chain) call =
+abbrev pub call_step : Option Chain → RootCall → Option AnsweredLine
+call_step None call = None
+call_step (Some chain) call =
     Some (record {
       chain = with_log chain (log_after (rules_of chain) chain.log call);
       reply = Answered (answer_to (rules_of chain) chain.log call);
     })
 
 -- the balance of an account
-abbrev pub asked : Option Chain → ℕ → Option Stepped
-asked None account = None
-asked (Some chain) account = Some (record { chain = chain; reply = Money (balance_of chain.log account) })
+abbrev pub money_step : Option Chain → ℕ → Option AnsweredLine
+money_step None account = None
+money_step (Some chain) account = Some (record { chain = chain; reply = Money (balance_of chain.log account) })
 
 -- the first line begins the chain, and no other does
-abbrev pub begun : Option Chain → Chain → Option Stepped
-begun None chain = Some (record { chain = chain; reply = ChainReply })
-begun (Some earlier) chain = None
+abbrev pub chain_step : Option Chain → Chain → Option AnsweredLine
+chain_step None chain = Some (record { chain = chain; reply = ChainReply })
+chain_step (Some earlier) chain = None
 
 -- the step of one line; none where the line breaks a rule of declarations
-unfoldable pub step : Option Chain → Line → Option Stepped
-step state (ChainLine tag operator most) = begun state (new_chain tag operator most)
-step state (FundLine account amount) = called state (Fund account amount)
-step state (TickLine time) = called state (Tick time)
-step state (MoneyLine account) = asked state account
-step state (CallLine account form) = called state (call_of account form)
+unfoldable pub step : Option Chain → Line → Option AnsweredLine
+step state (ChainLine tag operator most) = chain_step state (new_chain tag operator most)
+step state (FundLine account amount) = call_step state (Fund account amount)
+step state (TickLine time) = call_step state (Tick time)
+step state (MoneyLine account) = money_step state account
+step state (CallLine account form) = call_step state (call_of account form)
 
--- the bytes of a line step as the line that they spell
-abbrev pub step_by : Option Chain → List ℕ → Option Stepped
-step_by state text = option_and_then (step state) (line_in text)
+-- the step of the line that these bytes spell, if they spell one
+abbrev pub text_step : Option Chain → List ℕ → Option AnsweredLine
+text_step state text = option_and_then (step state) (line_in text)
 
 -- a step that is made, or the ending where it isn't
-abbrev pub stepped_or : Ending → Option Stepped → Result Stepped Ending
-stepped_or ending None = Err ending
-stepped_or ending (Some stepped) = Ok stepped
+abbrev pub step_or : Ending → Option AnsweredLine → Result AnsweredLine Ending
+step_or ending None = Err ending
+step_or ending (Some answered) = Ok answered
 
 -- what line n, which begins after so many bytes, does: it is answered, or it ends the run. `ended` says that the
 -- input was read to its end; where it wasn't, a line without its line feed isn't answered
-unfoldable pub line_step : Bool → ℕ → ℕ → Option Chain → List ℕ → Result Stepped Ending
+unfoldable pub line_step : Bool → ℕ → ℕ → Option Chain → List ℕ → Result AnsweredLine Ending
 line_step ended n start state line =
     if is_too_long n start line then Err (TooLong n)
     else if not ended && not (is_whole line) then Err ReadFault
-    else stepped_or (BadLine n) (step_by state (text_of line))
+    else step_or (BadLine n) (text_step state (text_of line))
 
 -- one line of a trace: its number, and what was answered
 pub record TraceLine : Type 0 where
@@ -91,16 +91,18 @@ pub record Trace : Type 0 where
   pub ending : Ending
 
 -- the answer to line n before the trace of the lines after it; a line that ends the run leaves these unread
-abbrev pub onward : ℕ → Result Stepped Ending → (Chain → Trace) → Trace
-onward n (Err ending) after = record { lines = []; ending = ending }
-onward n (Ok stepped) after =
-    let rest = after stepped.chain in record { lines = record { line = n; reply = stepped.reply } ∷ rest.lines; ending = rest.ending }
+abbrev pub trace_at : ℕ → Result AnsweredLine Ending → (Chain → Trace) → Trace
+trace_at n (Err ending) after = record { lines = []; ending = ending }
+trace_at n (Ok answered) after =
+    let rest = after answered.chain in
+    record { lines = record { line = n; reply = answered.reply } ∷ rest.lines; ending = rest.ending }
 
 -- the trace of the lines from line n on, which begins after so many bytes
 unfoldable pub trace_from : Bool → ℕ → ℕ → Option Chain → List (List ℕ) → Trace
 trace_from ended n start state [] = record { lines = []; ending = if ended then Complete else ReadFault }
 trace_from ended n start state (line ∷ lines) =
-    onward n (line_step ended n start state line) (λ chain. trace_from ended (n + 1) (start + length line) (Some chain) lines)
+    trace_at n (line_step ended n start state line)
+    (λ chain. trace_from ended (n + 1) (start + length line) (Some chain) lines)
 
 -- the trace of an input
 unfoldable pub trace_of : List ℕ → Bool → Trace

@@ -68,7 +68,8 @@ fn push_reply(out: &mut Vec<u8>, reply: &Reply) -> Result<(), NoMemory>
 /// Puts the line of the trace at the end: its number and its reply.
 #[tactic(auto, unfolding(crate::specs::Text::trace_line_text))]
 pub fn push_trace_line(out: &mut Vec<u8>, number: u64, reply: &Reply) -> Result<(), NoMemory>
-    ensures { OnOk result (out.new.items ≡ out.old.items ++ trace_line_text (record { line = number; reply = reply.now })) }
+    ensures { OnOk result
+        (out.new.items ≡ out.old.items ++ trace_line_text (record { line = number; reply = reply.now })) }
 {
     push_number(out, number)?;
     out.push(b' ')?;
