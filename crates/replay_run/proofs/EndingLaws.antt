@@ -3,39 +3,32 @@ use Rattle.std.proofs.Common.{◌≡◌, ℕ, ◌+◌, ◌≤◌, ◌==◌, ◌&
 use Rattle.std.specs.Prelude.{is_none, option_and_then}
 use Rattle.std.proofs.lemmas.Bool.{ne_eqb, and_parts, not-true}
 use Rattle.root_rules.specs.Chain.{Chain}
-use Rattle.schedule_text.specs.declared.line.Line.{Line}
-use Rattle.schedule_text.specs.declared.line.Line.TheVariants.{Chain as ChainLine, Fund, Tick, Money, Call}
-use Rattle.schedule_text.specs.Grammar.{line_in}
 use Rattle.replay_run.specs.declared.reply.Ending.{Ending}
 use Rattle.replay_run.specs.declared.reply.Ending.TheVariants.{Complete, BadLine, ReadFault, TooLong}
 use Rattle.std.proofs.lemmas.Bool.{true≢false, ltb-false}
 use Rattle.replay_run.specs.declared.TheConstants.{MOST_LINES, MOST_LINE_BYTES, MOST_INPUT_BYTES}
 use Rattle.replay_run.specs.Lines.{lines_in, is_whole, text_of, is_too_long}
 use Rattle.replay_run.proofs.LineLaws.{AreCut, lines-are_cut, size_of, size_of-lines_in}
-use Rattle.replay_run.specs.Trace.{AnsweredLine, Trace, step, step_or, line_step, trace_at, trace_from, trace_of}
+use Rattle.replay_run.specs.Trace.{Request, Begins, Enters, Asks, request_in, AnsweredLine, Trace, step, step_or, line_step, trace_at, trace_from, trace_of}
 use Rattle.replay_run.specs.Endings.{is_chain_line, IsAnswered, EndsAt, EndsBy, EndingsHaveTheirCause}
 
 -- a step is made of a `chain` line where there is no chain yet, and of another line where there is one
-steps-where : (state : Option Chain) (line : Line) (answered : AnsweredLine) → step state line ≡ Some answered
+steps-where : (state : Option Chain) (line : Request) (answered : AnsweredLine) → step state line ≡ Some answered
     → is_chain_line line ≡ is_none state
 unfolding step
-steps-where None (ChainLine tag operator most) answered is = refl
-steps-where None (Fund account amount) answered is = absurd (cc)
-steps-where None (Tick time) answered is = absurd (cc)
-steps-where None (Money account) answered is = absurd (cc)
-steps-where None (Call account form) answered is = absurd (cc)
-steps-where (Some chain) (ChainLine tag operator most) answered is = absurd (cc)
+steps-where None (Begins tag operator most) answered is = refl
+steps-where None (Asks account) answered is = absurd (cc)
+steps-where None (Enters call) answered is = absurd (cc)
+steps-where (Some chain) (Begins tag operator most) answered is = absurd (cc)
 steps-where (Some chain) line answered is = refl
 
-stops-where : (state : Option Chain) (line : Line) → step state line ≡ None → is_chain_line line ≡ not (is_none state)
+stops-where : (state : Option Chain) (line : Request) → step state line ≡ None → is_chain_line line ≡ not (is_none state)
 unfolding step
-stops-where None (ChainLine tag operator most) is = absurd (cc)
+stops-where None (Begins tag operator most) is = absurd (cc)
 stops-where None line is = refl
-stops-where (Some chain) (ChainLine tag operator most) is = refl
-stops-where (Some chain) (Fund account amount) is = absurd (cc)
-stops-where (Some chain) (Tick time) is = absurd (cc)
-stops-where (Some chain) (Money account) is = absurd (cc)
-stops-where (Some chain) (Call account form) is = absurd (cc)
+stops-where (Some chain) (Begins tag operator most) is = refl
+stops-where (Some chain) (Asks account) is = absurd (cc)
+stops-where (Some chain) (Enters call) is = absurd (cc)
 
 -- what one line does: it ends the run for its cause, or it is answered
 LineDoes : Bool → ℕ → ℕ → List ℕ → Result AnsweredLine Ending → Type 0
@@ -43,7 +36,7 @@ LineDoes ended n start line (Ok answered) = IsAnswered n start line
 LineDoes ended n start line (Err ending) = EndsAt ended n start line ending
 
 by-step : (ended : Bool) (n start : ℕ) (state : Option Chain) (line : List ℕ) → is_none state ≡ (n == 1)
-    → is_too_long n start line ≡ false → (spelled : Line) → line_in (text_of line) ≡ Some spelled
+    → is_too_long n start line ≡ false → (spelled : Request) → request_in (text_of line) ≡ Some spelled
     → (o : Option AnsweredLine) → step state spelled ≡ o → LineDoes ended n start line (step_or (BadLine n) o)
 unfolding LineDoes
 by-step ended n start state line first fits spelled spells None is =
@@ -52,7 +45,7 @@ by-step ended n start state line first fits spelled spells (Some answered) is =
     record { fits = fits; spelled = spelled; spells = spells; placed = steps-where state spelled answered is ∙ first }
 
 by-text : (ended : Bool) (n start : ℕ) (state : Option Chain) (line : List ℕ) → is_none state ≡ (n == 1)
-    → is_too_long n start line ≡ false → (o : Option Line) → line_in (text_of line) ≡ o
+    → is_too_long n start line ≡ false → (o : Option Request) → request_in (text_of line) ≡ o
     → LineDoes ended n start line (step_or (BadLine n) (option_and_then (step state) o))
 unfolding LineDoes
 by-text ended n start state line first fits None is = (refl, fits, inl is)
@@ -65,16 +58,16 @@ unfolding line_step LineDoes
 line-does ended n start state line first =
     (elim (is_too_long n start line) as (λ t. is_too_long n start line ≡ t → LineDoes ended n start line
     (if t then Err (TooLong n) else (if not ended && not (is_whole line) then Err ReadFault else step_or (BadLine n)
-    (option_and_then (step state) (line_in (text_of line)))))) [
+    (option_and_then (step state) (request_in (text_of line)))))) [
       | true ↦ λ long. (refl, long)
       | false ↦ λ fits. (elim (not ended && not (is_whole line)) as
           (λ t. (not ended && not (is_whole line)) ≡ t → LineDoes ended n start line
           (if t then Err ReadFault else step_or (BadLine n)
-          (option_and_then (step state) (line_in (text_of line))))) [
+          (option_and_then (step state) (request_in (text_of line))))) [
             | true ↦ λ dropped. let parts =
                 and_parts (not ended) (not (is_whole line)) dropped
                 in (fits, not-true ended parts.0, not-true (is_whole line) parts.1)
-            | false ↦ λ kept. by-text ended n start state line first fits (line_in (text_of line)) refl
+            | false ↦ λ kept. by-text ended n start state line first fits (request_in (text_of line)) refl
           ]) refl
     ]) refl
 

@@ -1,30 +1,28 @@
 -- Why a replay ends, by its lines alone: the limits, the grammar and the rule of declarations.
 use Rattle.std.specs.Prelude.{◌≡◌, ℕ, ◌+◌, ◌==◌, ◌⊎◌, not, Bool, true, false, if◌then◌else◌, List, [], ◌∷◌, length, Some, None}
-use Rattle.schedule_text.specs.declared.line.Line.{Line}
-use Rattle.schedule_text.specs.declared.line.Line.TheVariants.{Chain}
-use Rattle.schedule_text.specs.Grammar.{line_in}
 use Rattle.replay_run.specs.declared.reply.Ending.{Ending}
 use Rattle.replay_run.specs.declared.reply.Ending.TheVariants.{Complete, BadLine, ReadFault, TooLong}
 use Rattle.replay_run.specs.Lines.{lines_in, is_whole, text_of, is_too_long}
-use Rattle.replay_run.specs.Trace.{trace_of}
+use Rattle.replay_run.specs.Trace.{Request, Begins, Enters, Asks, request_in, trace_of}
 
--- a `chain` line
-abbrev pub is_chain_line : Line → Bool
-is_chain_line (Chain tag operator most) = true
-is_chain_line line = false
+-- whether a line is a `chain` line
+abbrev pub is_chain_line : Request → Bool
+is_chain_line (Begins tag operator most) = true
+is_chain_line (Enters call) = false
+is_chain_line (Asks account) = false
 
 -- line n is answered: it passes no limit, and it spells a line, which is a `chain` line exactly where n is 1
 pub record IsAnswered (n start : ℕ) (line : List ℕ) : Type 0 where
   pub fits : is_too_long n start line ≡ false
-  pub spelled : Line
-  pub spells : line_in (text_of line) ≡ Some spelled
+  pub spelled : Request
+  pub spells : request_in (text_of line) ≡ Some spelled
   pub placed : is_chain_line spelled ≡ (n == 1)
 
 -- line n is bad: it spells no line, or a `chain` line that isn't the first, or another line that is
 abbrev pub IsBad : ℕ → List ℕ → Type 0
 IsBad n line =
-    (line_in (text_of line) ≡ None)
-    ⊎ ((spelled : Line) × (line_in (text_of line) ≡ Some spelled) × (is_chain_line spelled ≡ not (n == 1)))
+    (request_in (text_of line) ≡ None)
+    ⊎ ((spelled : Request) × (request_in (text_of line) ≡ Some spelled) × (is_chain_line spelled ≡ not (n == 1)))
 
 -- line n, which begins after so many bytes, ends the run so
 abbrev pub EndsAt : Bool → ℕ → ℕ → List ℕ → Ending → Type 0

@@ -1,5 +1,5 @@
 -- What the lines of a schedule are answered: the trace.
-use Rattle.std.specs.Prelude.{ℕ, ◌+◌, ◌&&◌, not, Bool, if◌then◌else◌, List, [], ◌∷◌, ◌++◌, length, replicate, Option, Some, None, Result, Ok, Err, option_and_then}
+use Rattle.std.specs.Prelude.{ℕ, ◌+◌, ◌&&◌, not, Bool, if◌then◌else◌, List, [], ◌∷◌, ◌++◌, length, replicate, Option, Some, None, Result, Ok, Err, option_map, option_and_then}
 use Rattle.std.specs.Int.{w64, to_be_bytes}
 use Rattle.root_rules.specs.declared.call.RootCall.{RootCall}
 use Rattle.root_rules.specs.declared.call.RootCall.TheVariants.{Fund, Tick, Deposit, StartDeposit, Finish}
@@ -11,6 +11,7 @@ use Rattle.schedule_text.specs.declared.line.Line.TheVariants.{Chain as ChainLin
 use Rattle.schedule_text.specs.declared.line.CallForm.{CallForm}
 use Rattle.schedule_text.specs.declared.line.CallForm.TheVariants.{Deposit as DepositForm, Start as StartForm, Finish as FinishForm}
 use Rattle.schedule_text.specs.Grammar.{line_in}
+use Rattle.line_forms.specs.declared.tokens.HexOrName.TheVariants.{Hex}
 use Rattle.replay_run.specs.declared.reply.Reply.{Reply}
 use Rattle.replay_run.specs.declared.reply.Reply.TheVariants.{Chain as ChainReply, Money, Answered}
 use Rattle.replay_run.specs.declared.reply.Ending.{Ending}
@@ -25,11 +26,30 @@ tag_of tag = replicate 24 0 ++ to_be_bytes w64 tag
 abbrev pub new_chain : ℕ → ℕ → ℕ → Chain
 new_chain tag operator most = record { tag = tag_of tag; operator = operator; most_blocks = most; log = [] }
 
--- the call of an account that a form spells
-abbrev pub call_of : ℕ → CallForm → RootCall
-call_of account (DepositForm amount key) = Deposit account amount key
-call_of account (StartForm coin block) = StartDeposit account coin block
-call_of account (FinishForm coin exit) = Finish account coin exit
+-- the call of an account that a form spells, of the calls that the contract knows so far; a name needs a wallet
+abbrev pub call_of : ℕ → CallForm → Option RootCall
+call_of account (DepositForm amount (Hex key)) = Some (Deposit account amount key)
+call_of account (StartForm coin block) = Some (StartDeposit account coin block)
+call_of account (FinishForm coin exit) = Some (Finish account coin exit)
+call_of account form = None
+
+-- what a line asks for: that the chain begins, that a call is entered, or a balance
+pub data Request : Type 0 where
+  Begins : ℕ → ℕ → ℕ → Request
+  Enters : RootCall → Request
+  Asks : ℕ → Request
+
+-- what a line asks for, if it is a line that is answered so far
+abbrev pub request_of : Line → Option Request
+request_of (ChainLine tag operator most) = Some (Begins tag operator most)
+request_of (FundLine account amount) = Some (Enters (Fund account amount))
+request_of (TickLine time) = Some (Enters (Tick time))
+request_of (MoneyLine account) = Some (Asks account)
+request_of (CallLine account form) = option_map Enters (call_of account form)
+
+-- what the line that bytes spell asks for, if they spell such a line
+unfoldable pub request_in : List ℕ → Option Request
+request_in text = option_and_then request_of (line_in text)
 
 -- what an answered line leaves: the chain, and the reply
 pub record AnsweredLine : Type 0 where
@@ -56,16 +76,14 @@ chain_step None chain = Some (record { chain = chain; reply = ChainReply })
 chain_step (Some earlier) chain = None
 
 -- the step of one line; none where the line breaks a rule of declarations
-unfoldable pub step : Option Chain → Line → Option AnsweredLine
-step state (ChainLine tag operator most) = chain_step state (new_chain tag operator most)
-step state (FundLine account amount) = call_step state (Fund account amount)
-step state (TickLine time) = call_step state (Tick time)
-step state (MoneyLine account) = money_step state account
-step state (CallLine account form) = call_step state (call_of account form)
+unfoldable pub step : Option Chain → Request → Option AnsweredLine
+step state (Begins tag operator most) = chain_step state (new_chain tag operator most)
+step state (Enters call) = call_step state call
+step state (Asks account) = money_step state account
 
--- the step of the line that these bytes spell, if they spell one
+-- the step of the line that these bytes spell, if they spell one that is answered
 abbrev pub text_step : Option Chain → List ℕ → Option AnsweredLine
-text_step state text = option_and_then (step state) (line_in text)
+text_step state text = option_and_then (step state) (request_in text)
 
 -- a step that is made, or the ending where it isn't
 abbrev pub step_or : Ending → Option AnsweredLine → Result AnsweredLine Ending

@@ -1,14 +1,14 @@
-ghost use Rattle.std.specs.Prelude.{◌≡◌, ◌+◌, ◌≤◌, length, Err, None, IfOk, OnOk};
+ghost use Rattle.std.specs.Prelude.{◌≡◌, ◌+◌, ◌≤◌, length, Err, None, option_and_then, IfOk, OnOk};
 ghost use Rattle.schedule_text.specs.Grammar.{IsLine, IsCallForm};
 ghost use Rattle.replay_run.specs.Lines.{is_whole, text_of, is_too_long};
-ghost use Rattle.replay_run.specs.Trace.{tag_of, call_of, chain_step, call_step, money_step, step, text_step, line_step};
+ghost use Rattle.replay_run.specs.Trace.{tag_of, call_of, request_of, chain_step, call_step, money_step, step, text_step, line_step};
 ghost use Rattle.replay_run.specs.Steps.{Steps, AnswersLine};
 
 use super::reply::{Ending, Reply};
 use super::{MOST_INPUT_BYTES, MOST_LINE_BYTES, MOST_LINES};
 use plasma_base::{Bytes, NoMemory};
 use root_contract::{Answer, Contract, RootCall};
-use schedule_text::{CallForm, Line, LineRefusal, read};
+use schedule_text::{CallForm, HexOrName, Line, LineRefusal, read};
 use std::alloc::Global;
 
 /// Whether a line feed ends the line.
@@ -47,27 +47,37 @@ fn tag_of(tag: u64) -> [u8; 32]
     bytes
 }
 
-/// The call of an account that a form spells.
-fn call_of(account: u64, form: &CallForm) -> RootCall
+/// The call of an account that a form spells; `None` where the contract doesn't know it yet, or it
+/// names a wallet.
+fn call_of(account: u64, form: &CallForm) -> Option<RootCall>
     requires { IsCallForm form.now }
     ensures { result ≡ call_of account form.now }
 {
     match form {
-        CallForm::Deposit { amount, key } => RootCall::Deposit {
-            account,
-            amount: *amount,
-            key: key_of(key),
+        CallForm::Deposit { amount, key } => match key {
+            HexOrName::Hex(key) => Some(RootCall::Deposit {
+                account,
+                amount: *amount,
+                key: key_of(key),
+            }),
+            HexOrName::Name(_) => None,
         },
-        CallForm::Start { coin, block } => RootCall::StartDeposit {
+        CallForm::Start { coin, block } => Some(RootCall::StartDeposit {
             account,
             coin: *coin,
             block: *block,
-        },
-        CallForm::Finish { coin, exit } => RootCall::Finish {
+        }),
+        CallForm::Finish { coin, exit } => Some(RootCall::Finish {
             account,
             coin: *coin,
             exit: *exit,
-        },
+        }),
+        CallForm::Commit { .. }
+        | CallForm::Exit { .. }
+        | CallForm::After { .. }
+        | CallForm::Between { .. }
+        | CallForm::Before { .. }
+        | CallForm::Respond { .. } => None,
     }
 }
 
@@ -124,8 +134,8 @@ fn ask(state: &Option<Contract>, account: u64) -> Result<Reply, LineRefusal>
 #[tactic(auto, unfolding(crate::specs::Trace::step))]
 fn step(alloc: Global, state: &mut Option<Contract>, line: &Line) -> Result<Reply, LineRefusal>
     requires { IsLine line.now }
-    ensures ok { IfOk result (Steps (step state.old line.now) state.new) }
-    ensures bad { result ≡ Err LineRefusal.BadLine → step state.old line.now ≡ None }
+    ensures ok { IfOk result (Steps (option_and_then (step state.old) (request_of line.now)) state.new) }
+    ensures bad { result ≡ Err LineRefusal.BadLine → option_and_then (step state.old) (request_of line.now) ≡ None }
 {
     match line {
         Line::Chain {
@@ -142,11 +152,15 @@ fn step(alloc: Global, state: &mut Option<Contract>, line: &Line) -> Result<Repl
         ),
         Line::Tick { time } => call(state, &RootCall::Tick { now: *time }),
         Line::Money { account } => ask(state, *account),
-        Line::Call { account, form } => call(state, &call_of(*account, form)),
+        Line::Call { account, form } => match call_of(*account, form) {
+            Some(entered) => call(state, &entered),
+            None => Err(LineRefusal::BadLine),
+        },
     }
 }
 
 /// Takes the step of the line that these bytes spell.
+#[tactic(auto, unfolding(crate::specs::Trace::request_in))]
 fn step_text(alloc: Global, state: &mut Option<Contract>, text: &[u8]) -> Result<Reply, LineRefusal>
     ensures ok { IfOk result (Steps (text_step state.old text.now) state.new) }
     ensures bad { result ≡ Err LineRefusal.BadLine → text_step state.old text.now ≡ None }
