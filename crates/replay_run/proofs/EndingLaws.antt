@@ -1,5 +1,5 @@
 -- A replay ends for the first cause that its lines have.
-use Rattle.std.proofs.Common.{◌≡◌, ℕ, ◌+◌, ◌≤◌, ◌==◌, ◌&&◌, ◌||◌, ◌⊎◌, nat_lt, not, Bool, true, false, if◌then◌else◌, List, [], ◌∷◌, length, Option, Some, None, Result, Ok, Err, inl, inr, refl, sym, ap, ◌∙◌, subst, arith}
+use Rattle.std.proofs.Common.{◌≡◌, ℕ, zero, suc, ◌+◌, ◌≤◌, ◌==◌, ◌&&◌, ◌||◌, ◌⊎◌, nat_lt, not, Bool, true, false, if◌then◌else◌, List, [], ◌∷◌, length, Option, Some, None, Result, Ok, Err, inl, inr, refl, sym, ap, ◌∙◌, subst, arith}
 use Rattle.std.specs.Prelude.{is_none, option_and_then}
 use Rattle.std.proofs.lemmas.Bool.{ne_eqb, and_parts, not-true}
 use Rattle.root_rules.specs.Chain.{Chain}
@@ -22,7 +22,8 @@ steps-where None (Enters call) answered is = absurd (cc)
 steps-where (Some chain) (Begins tag operator most) answered is = absurd (cc)
 steps-where (Some chain) line answered is = refl
 
-stops-where : (state : Option Chain) (line : Request) → step state line ≡ None → is_chain_line line ≡ not (is_none state)
+stops-where : (state : Option Chain) (line : Request) → step state line ≡ None
+    → is_chain_line line ≡ not (is_none state)
 unfolding step
 stops-where None (Begins tag operator most) is = absurd (cc)
 stops-where None line is = refl
@@ -72,20 +73,22 @@ line-does ended n start state line first =
     ]) refl
 
 trace-ends : (ended : Bool) (n start : ℕ) (state : Option Chain) (lines : List (List ℕ)) → 1 ≤ n
-    → is_none state ≡ (n == 1) → EndsBy ended n start lines (trace_from ended n start state lines).ending
+    → is_none state ≡ (n == 1)
+    → let trace = trace_from ended n start state lines in
+    EndsBy ended n start lines (length trace.lines) trace.ending
 unfolding trace_from EndsBy LineDoes
 trace-ends ended n start state [] low first = refl
 trace-ends ended n start state (line ∷ lines) low first =
     let more : Chain → Trace = λ chain. trace_from ended (n + 1) (start + length line) (Some chain) lines in
     (elim (line_step ended n start state line) as
-    (λ r. LineDoes ended n start line r → EndsAt ended n start line (trace_at n r more).ending ⊎
-    (IsAnswered n start line × EndsBy ended (n + 1) (start + length line) lines (trace_at n r more).ending)) [
-      | Ok answered ↦ λ does. inr (
+    (λ r. LineDoes ended n start line r
+    → EndsBy ended n start (line ∷ lines) (length (trace_at n r more).lines) (trace_at n r more).ending) [
+      | Ok answered ↦ λ does. (
         does,
         trace-ends ended (n + 1) (start + length line) (Some answered.chain) lines
             (omega arith) (sym (ne_eqb (n + 1) 1 (omega arith))),
       )
-      | Err ending ↦ λ does. inl does
+      | Err ending ↦ λ does. does
     ]) (line-does ended n start state line first)
 
 pub endings_have_causes : EndingsHaveTheirCause
@@ -104,40 +107,40 @@ within n start line fits =
     (fits_of (nat_lt MOST_LINES n) (nat_lt MOST_LINE_BYTES (length (text_of line))) _ fits)
 
 -- a run that ends as a read fault wasn't at its input's end, and the input isn't too long
-fault-within : (ended : Bool) (n start : ℕ) (lines : List (List ℕ)) → AreCut lines → start ≤ MOST_INPUT_BYTES
-    → EndsBy ended n start lines ReadFault → (ended ≡ false) × (start + size_of lines ≤ MOST_INPUT_BYTES)
+fault-within : (ended : Bool) (n start : ℕ) (lines : List (List ℕ)) (answered : ℕ) → AreCut lines
+    → start ≤ MOST_INPUT_BYTES → EndsBy ended n start lines answered ReadFault
+    → (ended ≡ false) × (start + size_of lines ≤ MOST_INPUT_BYTES)
 unfolding EndsBy size_of
-fault-within true n start [] cut low wrong = absurd (cc)
-fault-within false n start [] cut low is = (refl, omega arith)
-fault-within ended n start (line ∷ lines) cut low ends =
-    elim ends [
-      | inl at ↦ (
-        at.1,
-        let none : size_of lines ≡ 0 = ap size_of (cut.1 at.2) in omega
-            (arith, none, within n start line at.0),
-      )
-      | inr on ↦ let rest =
-          fault-within ended (n + 1) (start + length line) lines cut.2 (within n start line on.0.fits) on.1
-          in (rest.0, omega (arith, rest.1))
-    ]
+fault-within true n start [] zero cut low wrong = absurd (cc)
+fault-within false n start [] zero cut low is = (refl, omega arith)
+fault-within ended n start [] (suc more) cut low never = absurd never
+fault-within ended n start (line ∷ lines) zero cut low at =
+    let none : size_of lines ≡ 0 = ap size_of (cut.1 at.2) in
+    (at.1, omega (arith, none, within n start line at.0))
+fault-within ended n start (line ∷ lines) (suc more) cut low on =
+    let next : start + length line ≤ MOST_INPUT_BYTES = within n start line on.0.fits in
+    let rest = fault-within ended (n + 1) (start + length line) lines more cut.2 next on.1 in
+    (rest.0, omega (arith, rest.1))
 
 pub fault-is : (bytes : List ℕ) (ended : Bool) → (trace_of bytes ended).ending ≡ ReadFault
     → (ended ≡ false) × (length bytes ≤ MOST_INPUT_BYTES)
 fault-is bytes ended is =
-    let h = fault-within ended 1 0 (lines_in bytes) (lines-are_cut bytes) (omega arith)
-    (subst (EndsBy ended 1 0 (lines_in bytes)) is (endings_have_causes bytes ended)) in
+    let h = fault-within ended 1 0 (lines_in bytes) _ (lines-are_cut bytes) (omega arith)
+    (subst (EndsBy ended 1 0 (lines_in bytes) _) is (endings_have_causes bytes ended)) in
     (h.0, omega (arith, h.1, size_of-lines_in bytes))
 
-complete-at : (ended : Bool) (n start : ℕ) (lines : List (List ℕ)) → EndsBy ended n start lines Complete
-    → ended ≡ true
+complete-at : (ended : Bool) (n start : ℕ) (lines : List (List ℕ)) (answered : ℕ)
+    → EndsBy ended n start lines answered Complete → ended ≡ true
 unfolding EndsBy
-complete-at true n start [] is = refl
-complete-at false n start [] wrong = absurd (cc)
-complete-at ended n start (line ∷ lines) ends =
-    elim ends [ inl never ↦ absurd never | inr on ↦ complete-at ended (n + 1) (start + length line) lines on.1 ]
+complete-at true n start [] zero is = refl
+complete-at false n start [] zero wrong = absurd (cc)
+complete-at ended n start [] (suc more) never = absurd never
+complete-at ended n start (line ∷ lines) zero never = absurd never
+complete-at ended n start (line ∷ lines) (suc more) on =
+    complete-at ended (n + 1) (start + length line) lines more on.1
 
 -- a run that is complete was at its input's end
 pub complete-is : (bytes : List ℕ) (ended : Bool) → (trace_of bytes ended).ending ≡ Complete → ended ≡ true
 complete-is bytes ended is =
-    complete-at ended 1 0 (lines_in bytes)
-    (subst (EndsBy ended 1 0 (lines_in bytes)) is (endings_have_causes bytes ended))
+    complete-at ended 1 0 (lines_in bytes) _
+    (subst (EndsBy ended 1 0 (lines_in bytes) _) is (endings_have_causes bytes ended))

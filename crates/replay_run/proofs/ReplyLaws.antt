@@ -54,7 +54,8 @@ answered-spells ended n start state line answered =
 record AfterLine (chain : Chain) (line : Request) (answered : AnsweredLine) : Type 0 where
   pub reply : answered.reply ≡ reply_to (rules_of chain) chain.log line
   pub rules : rules_of answered.chain ≡ rules_of chain
-  pub log : (later : List Request) → log_after_all (rules_of chain) answered.chain.log (calls_of later) ≡ log_after_all
+  pub log : (later : List Request) → log_after_all (rules_of chain) answered.chain.log (calls_of later)
+      ≡ log_after_all
       (rules_of chain) chain.log (calls_of (line ∷ later))
 
 IsAfter : Chain → Request → Option AnsweredLine → Type 0
@@ -164,7 +165,8 @@ begun-follows : (ended : Bool) (tag operator most start : ℕ) (lines : List (Li
 begun-follows ended tag operator most start lines zero low = refl
 begun-follows ended tag operator most start lines (suc i) low =
     replies-follow ended 2 start (new_chain tag operator most) lines i (omega arith)
-    ∙ at-law (record { operator = operator; most_blocks = most }) tag operator most (filter_map request_spelled lines) i
+    ∙ at-law (record { operator = operator; most_blocks = most }) tag operator most
+    (filter_map request_spelled lines) i
 
 heads : (x y : Request) (xs ys : List Request) → x ∷ xs ≡ y ∷ ys → x ≡ y
 heads x y xs ys same = cc
@@ -189,7 +191,8 @@ all-follow ended tag operator most rest (line ∷ lines) is i below =
           let first = heads _ _ _ _ (rw spells.spells at is) in
           let begins : request_spelled line ≡ Some (Begins tag operator most) = spells.spells ∙ ap Some first in
           subst (λ a. i < length (trace_at 1 (Ok a) more).lines
-          → slice_get (trace_at 1 (Ok a) more).lines i ≡ trace_line_of rules (cons_option (request_spelled line) later) i)
+          → slice_get (trace_at 1 (Ok a) more).lines i
+          ≡ trace_line_of rules (cons_option (request_spelled line) later) i)
           (first-step tag operator most spells.line_is answered first spells.steps)
           (λ low. rw begins (begun-follows ended tag operator most (0 + length line) lines i low))
     ]) refl below
