@@ -34,7 +34,8 @@ call_parts (CallForm.Exit coin parent shown exit opening) = of calls CallName.Ex
 call_parts (CallForm.After coin exit block opening) = of calls CallName.After coin exit block opening
 call_parts (CallForm.Between coin exit block opening) = of calls CallName.Between coin exit block opening
 call_parts (CallForm.Before coin exit block shown) = of calls CallName.Before coin exit block shown
-call_parts (CallForm.Respond coin exit challenged block opening) = of calls CallName.Respond coin exit challenged block opening
+call_parts (CallForm.Respond coin exit challenged block opening) =
+    of calls CallName.Respond coin exit challenged block opening
 call_parts (CallForm.Finish coin exit) = of calls CallName.Finish coin exit
 
 -- which forms of a call are in the grammar
