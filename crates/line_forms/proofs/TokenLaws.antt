@@ -335,4 +335,17 @@ pub optional_pair-is : IsKind (Option (ℕ × ℕ)) optional_pair false
 optional_pair-is = optional-is pair (pair-is false) (λ numbers. refl)
 
 -- the laws of the kinds that another grammar's rows are searched with
-pub ruleset kinds = (number-is, number_within-is, name-is, hex-is, hex_of-is, some_bytes-is, hex_or_name-is, bytes-is, shown-is, outcome-is, optional_number-is, optional_pair-is)
+pub ruleset kinds = (
+  number-is,
+  number_within-is,
+  name-is,
+  hex-is,
+  hex_of-is,
+  some_bytes-is,
+  hex_or_name-is,
+  bytes-is,
+  shown-is,
+  outcome-is,
+  optional_number-is,
+  optional_pair-is,
+)

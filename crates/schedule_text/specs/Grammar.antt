@@ -11,6 +11,7 @@ use Rattle.schedule_text.specs.declared.names.TheConstants.{LINE_NAMES, CALL_NAM
 
 -- ---- the forms of a call, after `call <account>`
 
+-- each form: its first word, and the kinds of its tokens
 abbrev pub call_form : CallName → Form CallForm
 call_form CallName.Deposit = named (codes "deposit") (number ▸ key ▸ ends) CallForm.Deposit
 call_form CallName.Commit = named (codes "commit") (hex_of ROOT_BYTES ▸ ends) CallForm.Commit
@@ -22,6 +23,7 @@ call_form CallName.Before = named (codes "before") (number ▸ number ▸ number
 call_form CallName.Respond = named (codes "respond") (number ▸ number ▸ number ▸ number ▸ bytes ▸ ends) CallForm.Respond
 call_form CallName.Finish = named (codes "finish") (number ▸ number ▸ ends) CallForm.Finish
 
+-- the table of the forms
 abbrev pub calls : Table CallName CallForm
 calls = record { names = map (λ row. (row.0.now, row.1)) CALL_NAMES; row = call_form }
 
@@ -48,6 +50,7 @@ call = form_of calls call_parts
 
 -- ---- the lines
 
+-- each line: its first word, and the kinds of its tokens
 abbrev pub line_form : LineName → Form Line
 line_form LineName.Chain = named (codes "chain") (number ▸ number ▸ number_within 1 MOST_BLOCKS ▸ ends) Line.Chain
 line_form LineName.Fund = named (codes "fund") (number ▸ number ▸ ends) Line.Fund
@@ -55,6 +58,7 @@ line_form LineName.Tick = named (codes "tick") (number ▸ ends) Line.Tick
 line_form LineName.Money = named (codes "money") (number ▸ ends) Line.Money
 line_form LineName.Call = named (codes "call") (number ▸ call ▸ ends) Line.Call
 
+-- the table of the lines
 abbrev pub lines : Table LineName Line
 lines = record { names = map (λ row. (row.0.now, row.1)) LINE_NAMES; row = line_form }
 
