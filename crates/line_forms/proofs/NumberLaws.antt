@@ -31,7 +31,8 @@ and_true b h = rw h refl
 digits-decimal : (word : List ℕ) → is_decimal word ≡ true → list_all is_ascii_digit word ≡ true
 digits-decimal [] h = refl
 digits-decimal (digit ∷ []) h = and_true _ h
-digits-decimal (first ∷ second ∷ rest) h = (and_parts (not (first == 48)) (list_all is_ascii_digit (first ∷ second ∷ rest)) h).1
+digits-decimal (first ∷ second ∷ rest) h =
+    (and_parts (not (first == 48)) (list_all is_ascii_digit (first ∷ second ∷ rest)) h).1
 
 tells_digits : IsDigitsTest (λ word. list_all is_ascii_digit word ≡ true)
 tells_digits = search rules
@@ -39,7 +40,8 @@ tells_digits = search rules
 own : IsNumeralModel (λ word. list_all is_ascii_digit word ≡ true) (digits_value 10)
 own = numerals_by_value _ tells_digits
 
-pub digit-decimal : (word : List ℕ) (i : ℕ) → is_decimal word ≡ true → i < length word → IsInRange 48 57 (get_or word i 0)
+pub digit-decimal : (word : List ℕ) (i : ℕ) → is_decimal word ≡ true → i < length word
+    → IsInRange 48 57 (get_or word i 0)
 digit-decimal word i h lt = digit_at word i (own.to word (digits-decimal word h)) lt
 
 -- one digit more
@@ -75,14 +77,17 @@ number_in-found word i value h end e small =
 -- ---- writing
 
 -- a digit goes before those that are written
-pub text-more : (value rest start next : ℕ) (digits : List ℕ) → 10 ≤ rest → rest < 2 ^ 64 → start < length digits → next + 1 ≡ start
+pub text-more : (value rest start next : ℕ) (digits : List ℕ) → 10 ≤ rest → rest < 2 ^ 64 → start < length digits
+    → next + 1 ≡ start
     → decimal value ≡ decimal rest ++ drop (start + 1) digits
     → decimal value ≡ decimal (rest / 10) ++ drop (next + 1) (set digits start (48 + rest % 10))
 text-more value rest start next digits big small lt e text =
-    rw (e, drop-set digits start (48 + rest % 10) lt, text, decimal_step rest big small) (append_assoc (decimal (rest / 10)) ((48 + rest % 10) ∷ []) (drop (start + 1) digits))
+    rw (e, drop-set digits start (48 + rest % 10) lt, text, decimal_step rest big small)
+    (append_assoc (decimal (rest / 10)) ((48 + rest % 10) ∷ []) (drop (start + 1) digits))
 
 -- the first digit goes before the others, and the text is there
-pub text-first : (value rest start room : ℕ) (digits : List ℕ) → rest < 10 → start < length digits → length digits ≡ room
+pub text-first : (value rest start room : ℕ) (digits : List ℕ) → rest < 10 → start < length digits
+    → length digits ≡ room
     → decimal value ≡ decimal rest ++ drop (start + 1) digits
     → take (room - start) (drop start (set digits start (48 + rest))) ≡ number_text value
 unfolding number_text
@@ -105,7 +110,8 @@ room-more rest start next e room =
 -- ---- both ways
 
 -- digits are decimal where no zero stands before others
-is_decimal-digits : (word : List ℕ) → list_all is_ascii_digit word ≡ true → 0 < length word → (2 ≤ length word → 48 < get_or word 0 0)
+is_decimal-digits : (word : List ℕ) → list_all is_ascii_digit word ≡ true → 0 < length word
+    → (2 ≤ length word → 48 < get_or word 0 0)
     → is_decimal word ≡ true
 is_decimal-digits [] digits some first = absurd (omega arith)
 is_decimal-digits (digit ∷ []) digits some first = (and_parts (is_ascii_digit digit) true digits).0
@@ -116,7 +122,8 @@ is_decimal-digits (digit ∷ second ∷ rest) digits some first =
 is_decimal-decimal : (n : ℕ) → n < 2 ^ 64 → is_decimal (decimal n) ≡ true
 is_decimal-decimal zero lt = rw (decimal_digit 0 (lit< tt)) refl
 is_decimal-decimal (suc n) lt =
-    is_decimal-digits (decimal (suc n)) (digits_decimal own (suc n) lt) (decimal_nonempty (suc n) lt) (λ _. first_decimal (suc n) (omega arith) lt)
+    is_decimal-digits (decimal (suc n)) (digits_decimal own (suc n) lt) (decimal_nonempty (suc n) lt)
+    (λ _. first_decimal (suc n) (omega arith) lt)
 
 -- a printed number is read back
 pub number_in-text : (n : ℕ) → n < 2 ^ 64 → number_in (number_text n) ≡ Some n
@@ -144,7 +151,8 @@ number_text-in word n h =
     let p = cond_some (is_decimal word && ltb (digits_value 10 word) (2 ^ 64)) (digits_value 10 word) n h in
     let q = and_parts (is_decimal word) (ltb (digits_value 10 word) (2 ^ 64)) p.0 in
     let small : digits_value 10 word < 2 ^ 64 = ltb-true _ _ q.1 in
-    let text = decimal-digits_value own word (digits-decimal word q.0) (some-decimal word q.0) (zero-decimal word q.0) small in
+    let text = decimal-digits_value own word (digits-decimal word q.0) (some-decimal word q.0)
+    (zero-decimal word q.0) small in
     rw (← p.1) (sym text, small)
 
 -- a number's word are digits

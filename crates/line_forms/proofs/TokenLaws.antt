@@ -52,10 +52,12 @@ letter_or_digit-not_blank byte h =
       | false ↦ λ e is. digit-not_blank byte is
     ] refl h
 
-unbroken-rest : (word : List ℕ) → list_all (λ byte. is_letter byte || is_ascii_digit byte) word ≡ true → is_unbroken word ≡ true
+unbroken-rest : (word : List ℕ) → list_all (λ byte. is_letter byte || is_ascii_digit byte) word ≡ true
+    → is_unbroken word ≡ true
 unbroken-rest [] h = refl
 unbroken-rest (byte ∷ word) h =
-    let p = and_parts (is_letter byte || is_ascii_digit byte) (list_all (λ byte. is_letter byte || is_ascii_digit byte) word) h in
+    let p = and_parts (is_letter byte || is_ascii_digit byte)
+    (list_all (λ byte. is_letter byte || is_ascii_digit byte) word) h in
     rw (letter_or_digit-not_blank byte p.0, unbroken-rest word p.1) refl
 
 unbroken-name : (name : List ℕ) → IsName name → is_unbroken name ≡ true
@@ -84,7 +86,11 @@ unbroken-hex_digits (high ∷ low ∷ rest) bytes h =
     let q = and_then_some _ (digits_in rest) bytes p.2 in
     let first = and_then_some _ (lower_digit_in high) p.0 p.1 in
     let second = and_then_some _ (lower_digit_in low) p.0 first.2 in
-    rw (hex_digit-not_blank high first.0 first.1, hex_digit-not_blank low second.0 second.1, unbroken-hex_digits rest q.0 q.1) refl
+    rw (
+      hex_digit-not_blank high first.0 first.1,
+      hex_digit-not_blank low second.0 second.1,
+      unbroken-hex_digits rest q.0 q.1,
+    ) refl
 
 unbroken-hex_in : (text bytes : List ℕ) → hex_in text ≡ Some bytes → is_unbroken text ≡ true
 unfolding hex_in
@@ -105,8 +111,10 @@ abbrev IsTest : {A : Type 0} → (A → Bool) → (A → Type 0) → Type 0
 IsTest {A} test Holds = (value : A) → (test value ≡ true → Holds value) × (Holds value → test value ≡ true)
 
 -- what passes a test is a token still
-only_if-token : {A : Type 0} (Is Holds : A → Type 0) (text : A → List ℕ) (value_in : List ℕ → Option A) (test : A → Bool)
-    → IsTest test Holds → IsToken A Is text value_in → IsToken A (λ value. Is value × Holds value) text (λ word. only_if test (value_in word))
+only_if-token : {A : Type 0} (Is Holds : A → Type 0) (text : A → List ℕ) (value_in : List ℕ → Option A)
+    (test : A → Bool)
+    → IsTest test Holds → IsToken A Is text value_in
+    → IsToken A (λ value. Is value × Holds value) text (λ word. only_if test (value_in word))
 only_if-token Is Holds text value_in test tells token = record {
   read = λ value h. rw (token.read value h.0, (tells value).1 h.1) refl;
   one = λ word value h.
@@ -151,7 +159,9 @@ name_text-in word name h =
     (p.1, subst IsName p.1 p.0)
 
 pub name-is : (closed : Bool) → IsKind (List ℕ) name closed
-name-is = one_word-is IsName (λ word. word) name_in (record { read = name_in-text; one = name_text-in; unbroken = unbroken-name })
+name-is =
+    one_word-is IsName (λ word. word) name_in
+    (record { read = name_in-text; one = name_text-in; unbroken = unbroken-name })
 
 -- ---- byte strings
 
@@ -164,7 +174,8 @@ hex-is = one_word-is AreBytes hex_text hex_in hex-token
 hex_of-token : (count : ℕ) → IsToken (List ℕ) (AreBytesOf count) hex_text (hex_of_in count)
 unfolding hex_of_in
 hex_of-token count =
-    only_if-token AreBytes _ hex_text hex_in _ (λ bytes. (eqb-true (length bytes) count, eq-eqb (length bytes) count)) hex-token
+    only_if-token AreBytes _ hex_text hex_in _
+    (λ bytes. (eqb-true (length bytes) count, eq-eqb (length bytes) count)) hex-token
 
 pub hex_of-is : (count : ℕ) (closed : Bool) → IsKind (List ℕ) (hex_of count) closed
 hex_of-is count = one_word-is _ hex_text _ (hex_of-token count)
@@ -179,7 +190,8 @@ some_bytes-is = one_word-is _ hex_text _ some_bytes-token
 
 -- ---- tokens of two spellings
 
-either_some : {A : Type 0} (first second : Option A) (y : A) → option_or first second ≡ Some y → (P : Type 0) → (first ≡ Some y → P) → (second ≡ Some y → P) → P
+either_some : {A : Type 0} (first second : Option A) (y : A) → option_or first second ≡ Some y → (P : Type 0)
+    → (first ≡ Some y → P) → (second ≡ Some y → P) → P
 either_some None second y h P one two = two h
 either_some (Some value) second y h P one two = one h
 
@@ -188,12 +200,14 @@ name_in-hex : (content : List ℕ) → name_in (hex_text content) ≡ None
 unfolding name_in hex_text
 name_in-hex content = refl
 
-hex_or_name_in-text : (count : ℕ) (value : HexOrName) → IsHexOrName count value → hex_or_name_in count (hex_or_name_text value) ≡ Some value
+hex_or_name_in-text : (count : ℕ) (value : HexOrName) → IsHexOrName count value
+    → hex_or_name_in count (hex_or_name_text value) ≡ Some value
 unfolding hex_or_name_in
 hex_or_name_in-text count (HexOrName.Hex bytes) h = rw (name_in-hex bytes, (hex_of-token count).read bytes h) refl
 hex_or_name_in-text count (HexOrName.Name word) h = rw (name_in-text word h) refl
 
-hex_or_name_text-in : (count : ℕ) (word : List ℕ) (value : HexOrName) → hex_or_name_in count word ≡ Some value → (word ≡ hex_or_name_text value) × IsHexOrName count value
+hex_or_name_text-in : (count : ℕ) (word : List ℕ) (value : HexOrName) → hex_or_name_in count word ≡ Some value
+    → (word ≡ hex_or_name_text value) × IsHexOrName count value
 unfolding hex_or_name_in
 hex_or_name_text-in count word value h =
     let Spells = λ (value : HexOrName). (word ≡ hex_or_name_text value) × IsHexOrName count value in
@@ -203,13 +217,19 @@ hex_or_name_text-in count word value h =
     (λ e. let p = option_map_some HexOrName.Hex (hex_of_in count word) value e in
     subst Spells p.2 ((hex_of-token count).one word p.0 p.1))
 
-unbroken-hex_or_name : (count : ℕ) (value : HexOrName) → IsHexOrName count value → is_unbroken (hex_or_name_text value) ≡ true
+unbroken-hex_or_name : (count : ℕ) (value : HexOrName) → IsHexOrName count value
+    → is_unbroken (hex_or_name_text value) ≡ true
 unbroken-hex_or_name count (HexOrName.Hex bytes) h = unbroken-hex bytes h.0
 unbroken-hex_or_name count (HexOrName.Name word) h = unbroken-name word h
 
 pub hex_or_name-is : (count : ℕ) (closed : Bool) → IsKind HexOrName (hex_or_name count) closed
 hex_or_name-is count =
-    one_word-is _ hex_or_name_text _ (record { read = hex_or_name_in-text count; one = hex_or_name_text-in count; unbroken = unbroken-hex_or_name count })
+    one_word-is _ hex_or_name_text _
+    (record {
+      read = hex_or_name_in-text count;
+      one = hex_or_name_text-in count;
+      unbroken = unbroken-hex_or_name count;
+    })
 
 -- a hex is no item
 item_in-hex : (content : List ℕ) → item_in (hex_text content) ≡ None
@@ -228,7 +248,8 @@ item_text-in (first ∷ word) n h =
     let q = number_text-in word n p.1 in
     (rw (eqb-true first 35 p.0, q.0) refl, q.1)
 
-bytes_text-in : (word : List ℕ) (value : HexOrItem) → bytes_in word ≡ Some value → (word ≡ hex_or_item_text value) × IsHexOrItem value
+bytes_text-in : (word : List ℕ) (value : HexOrItem) → bytes_in word ≡ Some value
+    → (word ≡ hex_or_item_text value) × IsHexOrItem value
 unfolding bytes_in
 bytes_text-in word value h =
     let Spells = λ (value : HexOrItem). (word ≡ hex_or_item_text value) × IsHexOrItem value in
@@ -243,7 +264,9 @@ unbroken-bytes (HexOrItem.Hex bytes) h = unbroken-hex bytes h
 unbroken-bytes (HexOrItem.Item line) h = unbroken-number line h
 
 pub bytes-is : (closed : Bool) → IsKind HexOrItem bytes closed
-bytes-is = one_word-is _ hex_or_item_text bytes_in (record { read = bytes_in-text; one = bytes_text-in; unbroken = unbroken-bytes })
+bytes-is =
+    one_word-is _ hex_or_item_text bytes_in
+    (record { read = bytes_in-text; one = bytes_text-in; unbroken = unbroken-bytes })
 
 bytes-not_deposit : (value : HexOrItem) → bytes_eq (hex_or_item_text value) (codes "-") ≡ false
 unfolding hex_text
@@ -255,11 +278,14 @@ unfolding shown_in
 shown_in-text ShownToken.Deposit h = refl
 shown_in-text (ShownToken.Bytes value) h = rw (bytes-not_deposit value, bytes_in-text value h) refl
 
-shown_text-in : (word : List ℕ) (value : ShownToken) → shown_in word ≡ Some value → (word ≡ shown_text value) × IsShown value
+shown_text-in : (word : List ℕ) (value : ShownToken) → shown_in word ≡ Some value
+    → (word ≡ shown_text value) × IsShown value
 unfolding shown_in
 shown_text-in word value h =
     let Spells = λ (value : ShownToken). (word ≡ shown_text value) × IsShown value in
-    elim (bytes_eq word (codes "-")) as (λ t. bytes_eq word (codes "-") ≡ t → cond t (Some ShownToken.Deposit) (option_map ShownToken.Bytes (bytes_in word)) ≡ Some value → Spells value) [
+    elim (bytes_eq word (codes "-")) as
+    (λ t. bytes_eq word (codes "-") ≡ t
+    → cond t (Some ShownToken.Deposit) (option_map ShownToken.Bytes (bytes_in word)) ≡ Some value → Spells value) [
       | true ↦ λ e is.
           let same : ShownToken.Deposit ≡ value = cc is in
           subst Spells same ((bytes_eq-Decides word (codes "-")).0 e, tt)
@@ -273,7 +299,9 @@ unbroken-shown ShownToken.Deposit h = refl
 unbroken-shown (ShownToken.Bytes value) h = unbroken-bytes value h
 
 pub shown-is : (closed : Bool) → IsKind ShownToken shown closed
-shown-is = one_word-is _ shown_text shown_in (record { read = shown_in-text; one = shown_text-in; unbroken = unbroken-shown })
+shown-is =
+    one_word-is _ shown_text shown_in
+    (record { read = shown_in-text; one = shown_text-in; unbroken = unbroken-shown })
 
 -- ---- outcomes
 
@@ -289,7 +317,8 @@ outcome-made _ = refl
 
 pub outcome-is : (closed : Bool) → IsKind OutcomeToken outcome closed
 outcome-is closed =
-    form_of-is closed outcomes outcome_parts (record { names = (refl, (refl, (refl, tt))); rows = outcome-row closed; made_of = outcome-made })
+    form_of-is closed outcomes outcome_parts
+    (record { names = (refl, (refl, (refl, tt))); rows = outcome-row closed; made_of = outcome-made })
 
 -- ---- tokens that may be missing
 
@@ -298,11 +327,25 @@ optional_number-is = optional-is number (number-is false) (λ n. refl)
 
 pair-is : (closed : Bool) → IsKind (ℕ × ℕ) pair closed
 pair-is closed =
-    run_of-is closed (number ▸ number ▸ ends) (λ first second. (first, second)) (λ numbers. (numbers.0, (numbers.1, tt)))
+    run_of-is closed (number ▸ number ▸ ends) (λ first second. (first, second))
+    (λ numbers. (numbers.0, (numbers.1, tt)))
     (number-is true, (number-is closed, tt)) (λ numbers. refl) (λ values. refl)
 
 pub optional_pair-is : IsKind (Option (ℕ × ℕ)) optional_pair false
 optional_pair-is = optional-is pair (pair-is false) (λ numbers. refl)
 
 -- the laws of the kinds that another grammar's rows are searched with
-pub ruleset kinds = (number-is, number_within-is, name-is, hex-is, hex_of-is, some_bytes-is, hex_or_name-is, bytes-is, shown-is, outcome-is, optional_number-is, optional_pair-is)
+pub ruleset kinds = (
+  number-is,
+  number_within-is,
+  name-is,
+  hex-is,
+  hex_of-is,
+  some_bytes-is,
+  hex_or_name-is,
+  bytes-is,
+  shown-is,
+  outcome-is,
+  optional_number-is,
+  optional_pair-is,
+)

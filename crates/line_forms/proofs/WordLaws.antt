@@ -33,7 +33,8 @@ words_of-last text h =
     let p = cond_none (ltb (position_or_len (λ byte. byte == 32) text) (length text)) _ h in
     let past : length text ≤ position_or_len (λ byte. byte == 32) text = ltb-false _ _ p in
     slice_split_none (λ byte. byte == 32) text
-    (All-from_get_or (λ byte. (byte == 32) ≡ false) text 0 (λ i lt. not-true _ (prefix_len_passes (λ byte. not (byte == 32)) text i 0 (omega arith))))
+    (All-from_get_or (λ byte. (byte == 32) ≡ false) text 0
+    (λ i lt. not-true _ (prefix_len_passes (λ byte. not (byte == 32)) text i 0 (omega arith))))
 
 is_end-onto : (byte : ℕ) (words : List (List ℕ)) → is_end (onto_first byte words) ≡ false
 is_end-onto byte [] = refl
@@ -57,7 +58,8 @@ pub words_of-line : (word : List ℕ) (words : List (List ℕ)) → AllByRecursi
     → words_of (line_of_words (word ∷ words)) ≡ word ∷ words
 words_of-line word [] h = slice_split_none (λ byte. byte == 32) word h.0
 words_of-line word (next ∷ words) h =
-    slice_split_at (λ byte. byte == 32) word 32 (join_with_byte 32 (next ∷ words)) h.0 refl ∙ ap (λ (rest : List (List ℕ)). word ∷ rest) (words_of-line next words h.1)
+    slice_split_at (λ byte. byte == 32) word 32 (join_with_byte 32 (next ∷ words)) h.0 refl
+    ∙ ap (λ (rest : List (List ℕ)). word ∷ rest) (words_of-line next words h.1)
 
 -- the line of its words
 pub line-words_of : (line : List ℕ) → line_of_words (words_of line) ≡ line

@@ -20,8 +20,10 @@ MayFollow false rest = rest ≡ []
 
 -- a kind's words are taken back, are the one spelling of what is taken, and have no blank
 pub record IsKind (A : Type 0) (kind : Kind A) (closed : Bool) : Type 0 where
-  pub taken : (value : A) → kind.Is value → (rest : List (List ℕ)) → MayFollow closed rest → kind.take (kind.words value ++ rest) ≡ Some (value, rest)
-  pub spelled : (words rest : List (List ℕ)) (value : A) → MayFollow closed rest → kind.take words ≡ Some (value, rest) → (words ≡ kind.words value ++ rest) × kind.Is value
+  pub taken : (value : A) → kind.Is value → (rest : List (List ℕ)) → MayFollow closed rest
+      → kind.take (kind.words value ++ rest) ≡ Some (value, rest)
+  pub spelled : (words rest : List (List ℕ)) (value : A) → MayFollow closed rest
+      → kind.take words ≡ Some (value, rest) → (words ≡ kind.words value ++ rest) × kind.Is value
   pub unbroken : (value : A) → kind.Is value → AreUnbroken (kind.words value)
 
 -- only the last kind of a shape may be open

@@ -36,6 +36,7 @@ number_in word =
 unfoldable pub number_text : ℕ → List ℕ
 number_text n = decimal n
 
+-- a number of 64 bits
 abbrev pub IsNumber : ℕ → Type 0
 IsNumber n = n < 2 ^ 64
 
@@ -43,13 +44,15 @@ IsNumber n = n < 2 ^ 64
 abbrev pub number : Kind ℕ
 number = one_word IsNumber number_text number_in
 
+-- a number from low to high
 abbrev pub IsNumberWithin : ℕ → ℕ → ℕ → Type 0
 IsNumberWithin low high n = IsNumber n × ((low ≤ n) × (n ≤ high))
 
+-- the number from low to high that a word spells
 unfoldable pub number_within_in : ℕ → ℕ → List ℕ → Option ℕ
 number_within_in low high word = only_if (λ n. nat_le low n && nat_le n high) (number_in word)
 
--- a number from low to high
+-- a number from low to high, as a token
 abbrev pub number_within : ℕ → ℕ → Kind ℕ
 number_within low high = one_word (IsNumberWithin low high) number_text (number_within_in low high)
 
@@ -66,9 +69,11 @@ is_name (first ∷ rest) =
     is_letter first
     && (list_all (λ byte. is_letter byte || is_ascii_digit byte) rest && nat_le (length (first ∷ rest)) NAME_BYTES)
 
+-- a name
 abbrev pub IsName : List ℕ → Type 0
 IsName word = IsTrue (is_name word)
 
+-- the name that a word is
 unfoldable pub name_in : List ℕ → Option (List ℕ)
 name_in word = if is_name word then Some word else None
 
@@ -78,6 +83,7 @@ name = one_word IsName (λ word. word) name_in
 
 -- ---- byte strings
 
+-- numbers of eight bits
 abbrev pub AreBytes : List ℕ → Type 0
 AreBytes bytes = All (λ byte. byte < 256) bytes
 
@@ -85,9 +91,11 @@ AreBytes bytes = All (λ byte. byte < 256) bytes
 abbrev pub hex : Kind (List ℕ)
 hex = one_word AreBytes hex_text hex_in
 
+-- so many bytes
 abbrev pub AreBytesOf : ℕ → List ℕ → Type 0
 AreBytesOf count bytes = AreBytes bytes × (length bytes ≡ count)
 
+-- the bytes that a hex of so many spells
 unfoldable pub hex_of_in : ℕ → List ℕ → Option (List ℕ)
 hex_of_in count word = only_if (λ bytes. length bytes == count) (hex_in word)
 
@@ -95,9 +103,11 @@ hex_of_in count word = only_if (λ bytes. length bytes == count) (hex_in word)
 abbrev pub hex_of : ℕ → Kind (List ℕ)
 hex_of count = one_word (AreBytesOf count) hex_text (hex_of_in count)
 
+-- one byte or more
 abbrev pub AreSomeBytes : List ℕ → Type 0
 AreSomeBytes bytes = AreBytes bytes × (1 ≤ length bytes)
 
+-- the bytes that a hex of one or more spells
 unfoldable pub some_bytes_in : List ℕ → Option (List ℕ)
 some_bytes_in word = only_if (λ bytes. nat_le 1 (length bytes)) (hex_in word)
 
@@ -107,18 +117,22 @@ some_bytes = one_word AreSomeBytes hex_text some_bytes_in
 
 -- ---- a hex of so many bytes, or a name
 
+-- so many bytes, or a name
 abbrev pub IsHexOrName : ℕ → HexOrName → Type 0
 IsHexOrName count (HexOrName.Hex bytes) = AreBytesOf count bytes
 IsHexOrName count (HexOrName.Name word) = IsName word
 
+-- the one spelling of bytes or of a name
 abbrev pub hex_or_name_text : HexOrName → List ℕ
 hex_or_name_text (HexOrName.Hex bytes) = hex_text bytes
 hex_or_name_text (HexOrName.Name word) = word
 
+-- what a word spells: a name, or else so many bytes
 unfoldable pub hex_or_name_in : ℕ → List ℕ → Option HexOrName
 hex_or_name_in count word =
     option_or (option_map HexOrName.Name (name_in word)) (option_map HexOrName.Hex (hex_of_in count word))
 
+-- a hex of so many bytes, or a name
 abbrev pub hex_or_name : ℕ → Kind HexOrName
 hex_or_name count = one_word (IsHexOrName count) hex_or_name_text (hex_or_name_in count)
 
@@ -132,11 +146,12 @@ to = hex_or_name OWNER_BYTES
 
 -- ---- bytes, and what is shown
 
+-- bytes, or the number of a line
 abbrev pub IsHexOrItem : HexOrItem → Type 0
 IsHexOrItem (HexOrItem.Hex bytes) = AreBytes bytes
 IsHexOrItem (HexOrItem.Item line) = IsNumber line
 
--- 35 is `#`
+-- the one spelling of bytes or of the mail item of a line; 35 is `#`
 abbrev pub hex_or_item_text : HexOrItem → List ℕ
 hex_or_item_text (HexOrItem.Hex bytes) = hex_text bytes
 hex_or_item_text (HexOrItem.Item line) = 35 ∷ number_text line
@@ -146,6 +161,7 @@ abbrev pub item_in : List ℕ → Option ℕ
 item_in [] = None
 item_in (first ∷ word) = if first == 35 then number_in word else None
 
+-- what a word spells: the mail item of a line, or else bytes
 unfoldable pub bytes_in : List ℕ → Option HexOrItem
 bytes_in word = option_or (option_map HexOrItem.Item (item_in word)) (option_map HexOrItem.Hex (hex_in word))
 
@@ -153,14 +169,17 @@ bytes_in word = option_or (option_map HexOrItem.Item (item_in word)) (option_map
 abbrev pub bytes : Kind HexOrItem
 bytes = one_word IsHexOrItem hex_or_item_text bytes_in
 
+-- the deposit, or bytes
 abbrev pub IsShown : ShownToken → Type 0
 IsShown ShownToken.Deposit = Unit {0}
 IsShown (ShownToken.Bytes value) = IsHexOrItem value
 
+-- the one spelling of what is shown
 abbrev pub shown_text : ShownToken → List ℕ
 shown_text ShownToken.Deposit = codes "-"
 shown_text (ShownToken.Bytes value) = hex_or_item_text value
 
+-- what a word shows
 unfoldable pub shown_in : List ℕ → Option ShownToken
 shown_in word =
     if bytes_eq word (codes "-") then Some ShownToken.Deposit else option_map ShownToken.Bytes (bytes_in word)
@@ -171,14 +190,17 @@ shown = one_word IsShown shown_text shown_in
 
 -- ---- kinds of several words
 
+-- the forms of an outcome
 abbrev pub outcome_form : OutcomeName → Form OutcomeToken
 outcome_form OutcomeName.Old = named (codes "old") ends Old
 outcome_form OutcomeName.New = named (codes "new") ends New
 outcome_form OutcomeName.Mix = named (codes "mix") (number ▸ some_bytes ▸ ends) Mix
 
+-- the table of outcomes
 abbrev pub outcomes : Table OutcomeName OutcomeToken
 outcomes = record { names = map (λ row. (row.0.now, row.1)) OUTCOME_NAMES; row = outcome_form }
 
+-- an outcome as a row of the table, and its tokens
 abbrev pub outcome_parts : OutcomeToken → Parts OutcomeName OutcomeToken outcomes
 outcome_parts Old = of outcomes OutcomeName.Old
 outcome_parts New = of outcomes OutcomeName.New

@@ -45,6 +45,7 @@ pub line_in-line_text : (line : Line) → IsLine line → line_in (line_text lin
 unfolding line_in line_text value_in text_of
 line_in-line_text = whole-words lines line_parts line_table
 
-pub line_text-line_in : (bytes : List ℕ) (line : Line) → line_in bytes ≡ Some line → (bytes ≡ line_text line) × IsLine line
+pub line_text-line_in : (bytes : List ℕ) (line : Line) → line_in bytes ≡ Some line
+    → (bytes ≡ line_text line) × IsLine line
 unfolding line_in line_text value_in text_of
 line_text-line_in = words-whole lines line_parts line_table

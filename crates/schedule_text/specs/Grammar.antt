@@ -11,6 +11,7 @@ use Rattle.schedule_text.specs.declared.names.TheConstants.{LINE_NAMES, CALL_NAM
 
 -- ---- the forms of a call, after `call <account>`
 
+-- each form: its first word, and the kinds of its tokens
 abbrev pub call_form : CallName → Form CallForm
 call_form CallName.Deposit = named (codes "deposit") (number ▸ key ▸ ends) CallForm.Deposit
 call_form CallName.Commit = named (codes "commit") (hex_of ROOT_BYTES ▸ ends) CallForm.Commit
@@ -22,6 +23,7 @@ call_form CallName.Before = named (codes "before") (number ▸ number ▸ number
 call_form CallName.Respond = named (codes "respond") (number ▸ number ▸ number ▸ number ▸ bytes ▸ ends) CallForm.Respond
 call_form CallName.Finish = named (codes "finish") (number ▸ number ▸ ends) CallForm.Finish
 
+-- the table of the forms
 abbrev pub calls : Table CallName CallForm
 calls = record { names = map (λ row. (row.0.now, row.1)) CALL_NAMES; row = call_form }
 
@@ -34,7 +36,8 @@ call_parts (CallForm.Exit coin parent shown exit opening) = of calls CallName.Ex
 call_parts (CallForm.After coin exit block opening) = of calls CallName.After coin exit block opening
 call_parts (CallForm.Between coin exit block opening) = of calls CallName.Between coin exit block opening
 call_parts (CallForm.Before coin exit block shown) = of calls CallName.Before coin exit block shown
-call_parts (CallForm.Respond coin exit challenged block opening) = of calls CallName.Respond coin exit challenged block opening
+call_parts (CallForm.Respond coin exit challenged block opening) =
+    of calls CallName.Respond coin exit challenged block opening
 call_parts (CallForm.Finish coin exit) = of calls CallName.Finish coin exit
 
 -- which forms of a call are in the grammar
@@ -47,6 +50,7 @@ call = form_of calls call_parts
 
 -- ---- the lines
 
+-- each line: its first word, and the kinds of its tokens
 abbrev pub line_form : LineName → Form Line
 line_form LineName.Chain = named (codes "chain") (number ▸ number ▸ number_within 1 MOST_BLOCKS ▸ ends) Line.Chain
 line_form LineName.Fund = named (codes "fund") (number ▸ number ▸ ends) Line.Fund
@@ -54,6 +58,7 @@ line_form LineName.Tick = named (codes "tick") (number ▸ ends) Line.Tick
 line_form LineName.Money = named (codes "money") (number ▸ ends) Line.Money
 line_form LineName.Call = named (codes "call") (number ▸ call ▸ ends) Line.Call
 
+-- the table of the lines
 abbrev pub lines : Table LineName Line
 lines = record { names = map (λ row. (row.0.now, row.1)) LINE_NAMES; row = line_form }
 

@@ -117,7 +117,8 @@ pub fn push_with_call(
     pieces: &[Piece<'_>],
     form: &CallForm,
 ) -> Result<(), NoMemory>
-    ensures ok { OnOk result (out.new.items ≡ out.old.items ++ trailed (words_then pieces.now (call.words form.now ++ []))) }
+    ensures ok { OnOk result (out.new.items
+        ≡ out.old.items ++ trailed (words_then pieces.now (call.words form.now ++ []))) }
     ensures front { take (length out.old.items) out.new.items ≡ out.old.items }
 {
     push_pieces(out, pieces)?;

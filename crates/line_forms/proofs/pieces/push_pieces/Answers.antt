@@ -3,7 +3,8 @@ use Rattle.line_forms.proofs.pieces.push_pieces.Goals as goal
 
 pub loop-piece-preserved : goal.loop-piece-preserved
 loop-piece-preserved c =
-    pieces-more _ _ _ _ _ _ _ c.loop-piece-test.true c.piece-item.is c.loop-piece.invariant c.in_ok-push_piece.ensures.ok
+    pieces-more _ _ _ _ _ _ _ c.loop-piece-test.true c.piece-item.is c.loop-piece.invariant
+    c.in_ok-push_piece.ensures.ok
 
 pub returns-in_err-push_piece-clause-front : goal.returns-in_err-push_piece-clause-front
 returns-in_err-push_piece-clause-front c =
