@@ -1,7 +1,7 @@
 -- One more call joins those that the disk in memory keeps.
 use Rattle.std.proofs.Common.{◌≡◌, cond, ℕ, Bool, true, false, ◌+◌, ◌≤◌, List, Option, [], ◌∷◌, ◌++◌, length, drop, refl, sym, ◌∙◌, ap, arith, length-drop, length-append}
 use Rattle.std.proofs.lemmas.List.{append-nil, take-append-le, drop-append-le}
-use Rattle.crash_disk.specs.Disk.{Step, syncs, DeviceCall, held_after, synced_after, unsynced_after}
+use Rattle.crash_disk.specs.Disk.{Step, syncs, DeviceCall, content_after, synced_content_after, unsynced_ranges_after}
 use Rattle.crash_disk.specs.Memory.{MemState, step_of, count_of, told_of, count_written}
 use Rattle.crash_disk.specs.declared.kept.KeptStep.{KeptStep}
 use Rattle.crash_disk.specs.declared.kept.KeptStep.TheVariants.{Length, Read, Write, Sync}
@@ -58,17 +58,17 @@ was_copied true room none some = refl
 was_copied false room none some = absurd (omega (arith, none refl, some))
 
 -- a sync that passed or failed
-pub synced_by : (failed : Bool) (began : List ℕ) (calls : List DeviceCall) → failed ≡ true → synced_after began (record { step = syncs; failed = failed } ∷ calls) ≡ synced_after began calls
-synced_by failed began calls is = ap (λ (f : Bool). synced_after began (record { step = syncs; failed = f } ∷ calls)) is
+pub synced_by : (failed : Bool) (began : List ℕ) (calls : List DeviceCall) → failed ≡ true → synced_content_after began (record { step = syncs; failed = failed } ∷ calls) ≡ synced_content_after began calls
+synced_by failed began calls is = ap (λ (f : Bool). synced_content_after began (record { step = syncs; failed = f } ∷ calls)) is
 
-pub synced_now : (failed : Bool) (began : List ℕ) (calls : List DeviceCall) → failed ≡ false → synced_after began (record { step = syncs; failed = failed } ∷ calls) ≡ held_after began calls
-synced_now failed began calls is = ap (λ (f : Bool). synced_after began (record { step = syncs; failed = f } ∷ calls)) is
+pub synced_now : (failed : Bool) (began : List ℕ) (calls : List DeviceCall) → failed ≡ false → synced_content_after began (record { step = syncs; failed = failed } ∷ calls) ≡ content_after began calls
+synced_now failed began calls is = ap (λ (f : Bool). synced_content_after began (record { step = syncs; failed = f } ∷ calls)) is
 
-pub unsynced_by : (failed : Bool) (calls : List DeviceCall) → failed ≡ true → unsynced_after (record { step = syncs; failed = failed } ∷ calls) ≡ unsynced_after calls
-unsynced_by failed calls is = ap (λ (f : Bool). unsynced_after (record { step = syncs; failed = f } ∷ calls)) is ∙ append-nil (unsynced_after calls)
+pub unsynced_by : (failed : Bool) (calls : List DeviceCall) → failed ≡ true → unsynced_ranges_after (record { step = syncs; failed = failed } ∷ calls) ≡ unsynced_ranges_after calls
+unsynced_by failed calls is = ap (λ (f : Bool). unsynced_ranges_after (record { step = syncs; failed = f } ∷ calls)) is ∙ append-nil (unsynced_ranges_after calls)
 
-pub unsynced_now : (failed : Bool) (calls : List DeviceCall) → failed ≡ false → unsynced_after (record { step = syncs; failed = failed } ∷ calls) ≡ []
-unsynced_now failed calls is = ap (λ (f : Bool). unsynced_after (record { step = syncs; failed = f } ∷ calls)) is
+pub unsynced_now : (failed : Bool) (calls : List DeviceCall) → failed ≡ false → unsynced_ranges_after (record { step = syncs; failed = failed } ∷ calls) ≡ []
+unsynced_now failed calls is = ap (λ (f : Bool). unsynced_ranges_after (record { step = syncs; failed = f } ∷ calls)) is
 
 -- the image that a disk began with stays, once it was copied
 pub began_kept : (copied : Bool) (began bytes bytes' : List ℕ) → copied ≡ true → cond copied began bytes' ≡ cond copied began bytes

@@ -8,7 +8,7 @@ use Rattle.std.proofs.lemmas.List.{take_at, drop_at, append-nil}
 use Rattle.std.proofs.lemmas.List.Elements.{All-push}
 use Rattle.std.proofs.lemmas.List.Sums.{sum_by-append}
 use Rattle.std.proofs.lemmas.List.FromFn.{get_or-map-range_with_len}
-use Rattle.crash_disk.specs.Disk.{writes, syncs, DeviceCall, History, held, synced, unsynced, held_after, synced_after, unsynced_after, written, is_touched, MayLeave}
+use Rattle.crash_disk.specs.Disk.{writes, syncs, DeviceCall, History, content, synced_content, unsynced_ranges, content_after, synced_content_after, unsynced_ranges_after, with_write, is_touched, MayLeave}
 use Rattle.crash_disk.specs.Outcomes.{image_after, mixed, mixed_byte, HasPattern}
 use Rattle.crash_disk.specs.declared.outcome.Outcome.{Outcome}
 use Rattle.crash_disk.specs.declared.outcome.Outcome.TheVariants.{Old, New, Mix}
@@ -90,7 +90,7 @@ module _ (records : List (List ℕ)) (fits : All (λ b. length b ≤ most) recor
   either_way image true keeps = inr keeps
   either_way image false keeps = inl keeps
 
-  module _ (began : List ℕ) (calls : List DeviceCall) (gate : ℕ) (rest : List ℕ) (holds : held_after began calls ≡ front ++ gate ∷ rest) (closed : is_open gate ≡ false) (settled : unsynced_after calls ≡ []) where
+  module _ (began : List ℕ) (calls : List DeviceCall) (gate : ℕ) (rest : List ℕ) (holds : content_after began calls ≡ front ++ gate ∷ rest) (closed : is_open gate ≡ false) (settled : unsynced_ranges_after calls ≡ []) where
     abbrev g : ℕ
     g = length front
 
@@ -101,7 +101,7 @@ module _ (records : List (List ℕ)) (fits : All (λ b. length b ≤ most) recor
     abbrev tail : List ℕ
     tail = drop (g + 1 + length bytes) (front ++ gate ∷ rest)
 
-    syncs_so_far : synced_after began calls ≡ front ++ gate ∷ rest
+    syncs_so_far : synced_content_after began calls ≡ front ++ gate ∷ rest
     syncs_so_far = synced_is_held began calls settled ∙ holds
 
     abbrev after_frame : Bool → List DeviceCall
@@ -120,7 +120,7 @@ module _ (records : List (List ℕ)) (fits : All (λ b. length b ≤ most) recor
     may made image = MayLeave (record { began = began; calls = made }) image
 
     -- the bytes behind the gate, and then the gate
-    pub framed_is : (failed : Bool) → held_after began (after_frame failed) ≡ front ++ gate ∷ (bytes ++ tail)
+    pub framed_is : (failed : Bool) → content_after began (after_frame failed) ≡ front ++ gate ∷ (bytes ++ tail)
     framed_is failed =
         let all = front ++ gate ∷ rest in
         let split : all ≡ (front ++ gate ∷ []) ++ rest = sym (append_assoc front (gate ∷ []) rest) in
@@ -130,7 +130,7 @@ module _ (records : List (List ℕ)) (fits : All (λ b. length b ≤ most) recor
         ∙ append_assoc (front ++ gate ∷ []) bytes tail
         ∙ append_assoc front (gate ∷ []) (bytes ++ tail)
 
-    pub opened_is : (failed : Bool) → held_after began (after_gate failed) ≡ front ++ 165 ∷ (bytes ++ tail)
+    pub opened_is : (failed : Bool) → content_after began (after_gate failed) ≡ front ++ 165 ∷ (bytes ++ tail)
     opened_is failed =
         let all = front ++ gate ∷ (bytes ++ tail) in
         let split : all ≡ (front ++ gate ∷ []) ++ (bytes ++ tail) = sym (append_assoc front (gate ∷ []) (bytes ++ tail)) in
@@ -143,12 +143,12 @@ module _ (records : List (List ℕ)) (fits : All (λ b. length b ≤ most) recor
     pub at_start : (image : List ℕ) → may calls image → image ≡ front ++ gate ∷ rest
     at_start image m =
         let l = left _ image m in
-        let l' : Left (front ++ gate ∷ rest) [] (length (front ++ gate ∷ rest)) image = subst (λ (b : List ℕ). Left b [] (length (front ++ gate ∷ rest)) image) syncs_so_far (subst (λ (r : List (ℕ × ℕ)). Left (synced_after began calls) r (length (front ++ gate ∷ rest)) image) settled (subst (λ (b : List ℕ). Left (synced_after began calls) (unsynced_after calls) (length b) image) holds l)) in
+        let l' : Left (front ++ gate ∷ rest) [] (length (front ++ gate ∷ rest)) image = subst (λ (b : List ℕ). Left b [] (length (front ++ gate ∷ rest)) image) syncs_so_far (subst (λ (r : List (ℕ × ℕ)). Left (synced_content_after began calls) r (length (front ++ gate ∷ rest)) image) settled (subst (λ (b : List ℕ). Left (synced_content_after began calls) (unsynced_ranges_after calls) (length b) image) holds l)) in
         only (front ++ gate ∷ rest) image l'
 
-    behind_gate : (most : ℕ) (image : List ℕ) → Left (synced_after began calls) (unsynced_after calls ++ (g + 1, length bytes) ∷ []) most image → Keeps records image
+    behind_gate : (most : ℕ) (image : List ℕ) → Left (synced_content_after began calls) (unsynced_ranges_after calls ++ (g + 1, length bytes) ∷ []) most image → Keeps records image
     behind_gate most image l =
-        let l' : Left (front ++ gate ∷ rest) ((g + 1, length bytes) ∷ []) most image = subst (λ (b : List ℕ). Left b ((g + 1, length bytes) ∷ []) most image) syncs_so_far (subst (λ (r : List (ℕ × ℕ)). Left (synced_after began calls) (r ++ (g + 1, length bytes) ∷ []) most image) settled l) in
+        let l' : Left (front ++ gate ∷ rest) ((g + 1, length bytes) ∷ []) most image = subst (λ (b : List ℕ). Left b ((g + 1, length bytes) ∷ []) most image) syncs_so_far (subst (λ (r : List (ℕ × ℕ)). Left (synced_content_after began calls) (r ++ (g + 1, length bytes) ∷ []) most image) settled l) in
         let is = behind front gate rest (length bytes) most image l' in
         subst (Keeps records) (sym is) (keeps_closed gate (drop (g + 1) image) closed)
 
@@ -156,17 +156,17 @@ module _ (records : List (List ℕ)) (fits : All (λ b. length b ≤ most) recor
     at_frame failed image m = behind_gate _ image (left _ image m)
 
     pub at_sync : (failed : Bool) (image : List ℕ) → may (after_sync failed) image → Keeps records image
-    at_sync true image m = behind_gate _ image (let l = left _ image m in subst (λ (r : List (ℕ × ℕ)). Left (synced_after began calls) r (length (held_after began (after_frame false))) image) (append-nil (unsynced_after calls ++ (g + 1, length bytes) ∷ [])) l)
+    at_sync true image m = behind_gate _ image (let l = left _ image m in subst (λ (r : List (ℕ × ℕ)). Left (synced_content_after began calls) r (length (content_after began (after_frame false))) image) (append-nil (unsynced_ranges_after calls ++ (g + 1, length bytes) ∷ [])) l)
     at_sync false image m =
-        let is = only (held_after began (after_frame false)) image (left _ image m) ∙ framed_is false in
+        let is = only (content_after began (after_frame false)) image (left _ image m) ∙ framed_is false in
         subst (Keeps records) (sym is) (keeps_closed gate (bytes ++ tail) closed)
 
     -- the gate alone is open to chance
-    in_gate : (image : List ℕ) → Left (held_after began (after_frame false)) ((g, 1) ∷ []) (length (held_after began (after_gate false))) image → image ≡ front ++ get_or image g 0 ∷ (bytes ++ tail)
+    in_gate : (image : List ℕ) → Left (content_after began (after_frame false)) ((g, 1) ∷ []) (length (content_after began (after_gate false))) image → image ≡ front ++ get_or image g 0 ∷ (bytes ++ tail)
     in_gate image l =
         let all = front ++ gate ∷ (bytes ++ tail) in
-        let len : length (held_after began (after_gate false)) ≡ length all = ap length (opened_is false) ∙ omega (arith, length-append front (165 ∷ (bytes ++ tail)), length-append front (gate ∷ (bytes ++ tail))) in
-        let l' : Left all ((g, 1) ∷ []) (length all) image = subst (λ (n : ℕ). Left all ((g, 1) ∷ []) n image) len (subst (λ (b : List ℕ). Left b ((g, 1) ∷ []) (length (held_after began (after_gate false))) image) (framed_is false) l) in
+        let len : length (content_after began (after_gate false)) ≡ length all = ap length (opened_is false) ∙ omega (arith, length-append front (165 ∷ (bytes ++ tail)), length-append front (gate ∷ (bytes ++ tail))) in
+        let l' : Left all ((g, 1) ∷ []) (length all) image = subst (λ (n : ℕ). Left all ((g, 1) ∷ []) n image) len (subst (λ (b : List ℕ). Left b ((g, 1) ∷ []) (length (content_after began (after_gate false))) image) (framed_is false) l) in
         at_gate front gate (bytes ++ tail) image l'
 
     pub at_gate_write : (failed : Bool) (image : List ℕ) → may (after_gate failed) image → image ≡ front ++ get_or image g 0 ∷ (bytes ++ tail)
@@ -176,7 +176,7 @@ module _ (records : List (List ℕ)) (fits : All (λ b. length b ≤ most) recor
     at_last_sync image m = in_gate image (left _ image m)
 
     pub at_end : (image : List ℕ) → may (after_all false) image → image ≡ front ++ 165 ∷ (bytes ++ tail)
-    at_end image m = only (held_after began (after_gate false)) image (left _ image m) ∙ opened_is false
+    at_end image m = only (content_after began (after_gate false)) image (left _ image m) ∙ opened_is false
 
     start_keeps : (image : List ℕ) → may calls image → KeepsWithOrWithout records body image
     start_keeps image m = inl (subst (Keeps records) (sym (at_start image m)) (keeps_closed gate rest closed))
@@ -220,14 +220,14 @@ module _ (records : List (List ℕ)) (fits : All (λ b. length b ≤ most) recor
     any_moment (suc (suc (suc (suc p)))) (suc (suc (suc (suc zero)))) image le m = start_keeps image m
     any_moment (suc (suc (suc (suc p)))) (suc (suc (suc (suc (suc n))))) image le m = absurd (omega (arith, le))
 
-    pub appended : IsKept (held_after began (after_gate false)) more
+    pub appended : IsKept (content_after began (after_gate false)) more
     appended = subst (λ (b : List ℕ). IsKept b more) (sym (opened_is false)) (kept_open tail)
 
     abbrev stopped : ℕ → History
     stopped passed = record { began = began; calls = made passed }
 
     abbrev within : List ℕ
-    within = held_after began (after_frame false)
+    within = content_after began (after_frame false)
 
     g_within : g < length within
     g_within = omega (arith, ap length (framed_is false), length-append front (gate ∷ (bytes ++ tail)))
@@ -242,15 +242,15 @@ module _ (records : List (List ℕ)) (fits : All (λ b. length b ≤ most) recor
         get_or-map-range_with_len f 0 (length within + growth) g g 0 (omega (arith, g_within)) (omega arith)
         ∙ (let byte : f g ≡ slice_index pattern 0 = (λ i. cond (here i) (slice_index pattern (first i)) (slice_index within g)) in byte)
 
-    gate_outcome : (outcome : Outcome) → HasPattern outcome → (h : History) → synced h ≡ within → unsynced h ≡ (g, 1) ∷ [] → held h ≡ held_after began (after_gate false)
+    gate_outcome : (outcome : Outcome) → HasPattern outcome → (h : History) → synced_content h ≡ within → unsynced_ranges h ≡ (g, 1) ∷ [] → content h ≡ content_after began (after_gate false)
         → Keeps (cond (opens_gate outcome) more records) (image_after outcome h)
     gate_outcome Old some h s u n = subst (Keeps records) (sym (s ∙ framed_is false)) (keeps_closed gate (bytes ++ tail) closed)
     gate_outcome New some h s u n = subst (Keeps more) (sym (n ∙ opened_is false)) (keeps_open tail)
     gate_outcome (Mix extra pattern) some h s u n =
-        let growth = min extra (length (held h) - length (synced h)) in
+        let growth = min extra (length (content h) - length (synced_content h)) in
         let image = image_after (Mix extra pattern) h in
         let l = left h image (outcomes (Mix extra pattern) h) in
-        let l' : Left within ((g, 1) ∷ []) (length (held_after began (after_gate false))) image = subst (λ (b : List ℕ). Left within ((g, 1) ∷ []) (length b) image) n (subst (λ (r : List (ℕ × ℕ)). Left within r (length (held h)) image) u (subst (λ (b : List ℕ). Left b (unsynced h) (length (held h)) image) s l)) in
+        let l' : Left within ((g, 1) ∷ []) (length (content_after began (after_gate false))) image = subst (λ (b : List ℕ). Left within ((g, 1) ∷ []) (length b) image) n (subst (λ (r : List (ℕ × ℕ)). Left within r (length (content h)) image) u (subst (λ (b : List ℕ). Left b (unsynced_ranges h) (length (content h)) image) s l)) in
         let same : image ≡ mixed within ((g, 1) ∷ []) pattern growth = (λ i. mixed (s i) (u i) pattern growth) in
         let byte : get_or image g 0 ≡ slice_index pattern 0 = ap (λ (b : List ℕ). get_or b g 0) same ∙ mixed_gate pattern growth some in
         subst (λ (y : ℕ). Keeps (cond (is_open y) more records) image) byte (gate_keeps image (in_gate image l'))
@@ -267,19 +267,19 @@ module _ (records : List (List ℕ)) (fits : All (λ b. length b ≤ most) recor
         subst (λ (b : Bool). Keeps (cond (b || (leb 2 (suc (suc (suc (suc p)))) && opens_gate outcome)) more records) (image_after outcome (stopped (suc (suc (suc (suc p))))))) (sym all) keeps
 
 -- where all is synced, a crash leaves what the disk holds
-pub images_held : (history : History) → unsynced history ≡ [] → (image : List ℕ) → MayLeave history image → image ≡ held history
+pub images_held : (history : History) → unsynced_ranges history ≡ [] → (image : List ℕ) → MayLeave history image → image ≡ content history
 images_held history none image m =
     let l = left history image m in
-    let l' : Left (held history) [] (length (held history)) image = subst (λ (b : List ℕ). Left b [] (length (held history)) image) (synced_is_held history.began history.calls none) (subst (λ (r : List (ℕ × ℕ)). Left (synced history) r (length (held history)) image) none l) in
-    only (held history) image l'
+    let l' : Left (content history) [] (length (content history)) image = subst (λ (b : List ℕ). Left b [] (length (content history)) image) (synced_is_held history.began history.calls none) (subst (λ (r : List (ℕ × ℕ)). Left (synced_content history) r (length (content history)) image) none l) in
+    only (content history) image l'
 
 -- an image that is all synced and spells records
-pub settled_now : (history : History) (records : List (List ℕ)) → IsKept (held history) records → unsynced history ≡ [] → IsSettled history records
+pub settled_now : (history : History) (records : List (List ℕ)) → IsKept (content history) records → unsynced_ranges history ≡ [] → IsSettled history records
 settled_now history records kept none = record {
   kept = kept;
-  read = spelled_is_read (held history) records kept;
+  read = spelled_is_read (content history) records kept;
   synced = none;
-  images = λ image m. subst (Keeps records) (sym (images_held history none image m)) (spelled_is_read (held history) records kept);
+  images = λ image m. subst (Keeps records) (sym (images_held history none image m)) (spelled_is_read (content history) records kept);
 }
 
 pub stopped_appends : StoppedAppends

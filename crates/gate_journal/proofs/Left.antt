@@ -4,7 +4,7 @@ use Rattle.std.proofs.lemmas.Bool.{cases_lt, cases_eq}
 use Rattle.std.proofs.lemmas.Bool.Decides.{nat_tests}
 use Rattle.std.proofs.lemmas.Grind.{same_number_lists}
 use Rattle.std.proofs.lemmas.List.{get_or-take, take_at, append-nil}
-use Rattle.crash_disk.specs.Disk.{Step, asks_length, reads, writes, syncs, DeviceCall, History, held, synced, unsynced, held_after, synced_after, unsynced_after, is_touched, MayLeave}
+use Rattle.crash_disk.specs.Disk.{Step, asks_length, reads, writes, syncs, DeviceCall, History, content, synced_content, unsynced_ranges, content_after, synced_content_after, unsynced_ranges_after, is_touched, MayLeave}
 
 -- the fields of `MayLeave` over plain lists
 pub record Left (bytes : List ℕ) (ranges : List (ℕ × ℕ)) (most : ℕ) (image : List ℕ) : Type 0 where
@@ -12,7 +12,7 @@ pub record Left (bytes : List ℕ) (ranges : List (ℕ × ℕ)) (most : ℕ) (im
   pub no_longer : length image ≤ most
   pub untouched : (place : ℕ) → is_touched bytes ranges place ≡ false → get_or image place 0 ≡ get_or bytes place 0
 
-pub left : (history : History) (image : List ℕ) → MayLeave history image → Left (synced history) (unsynced history) (length (held history)) image
+pub left : (history : History) (image : List ℕ) → MayLeave history image → Left (synced_content history) (unsynced_ranges history) (length (content history)) image
 left history image may = record { no_shorter = may.no_shorter; no_longer = may.no_longer; untouched = may.untouched }
 
 -- where all is synced, the bytes stay
@@ -62,13 +62,13 @@ at_gate front gate rest image l =
     ]
 
 abbrev IsAll : List ℕ → List DeviceCall → Type 0
-IsAll began calls = unsynced_after calls ≡ [] → synced_after began calls ≡ held_after began calls
+IsAll began calls = unsynced_ranges_after calls ≡ [] → synced_content_after began calls ≡ content_after began calls
 
 all_call : (step : Step) (failed : Bool) (began : List ℕ) (calls : List DeviceCall) → IsAll began calls → IsAll began (record { step = step; failed = failed } ∷ calls)
-all_call asks_length failed began calls all none = all (sym (append-nil (unsynced_after calls)) ∙ none)
-all_call (reads at count) failed began calls all none = all (sym (append-nil (unsynced_after calls)) ∙ none)
-all_call (writes at bytes) failed began calls all none = absurd (omega (arith, ap length none, length-append (unsynced_after calls) ((at, length bytes) ∷ [])))
-all_call syncs true began calls all none = all (sym (append-nil (unsynced_after calls)) ∙ none)
+all_call asks_length failed began calls all none = all (sym (append-nil (unsynced_ranges_after calls)) ∙ none)
+all_call (reads at count) failed began calls all none = all (sym (append-nil (unsynced_ranges_after calls)) ∙ none)
+all_call (writes at bytes) failed began calls all none = absurd (omega (arith, ap length none, length-append (unsynced_ranges_after calls) ((at, length bytes) ∷ [])))
+all_call syncs true began calls all none = all (sym (append-nil (unsynced_ranges_after calls)) ∙ none)
 all_call syncs false began calls all none = refl
 
 -- where nothing is written since the sync, the synced bytes are all

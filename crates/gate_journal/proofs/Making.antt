@@ -6,7 +6,7 @@ use Rattle.std.proofs.lemmas.List.{drop_all, take_all, length-replicate}
 use Rattle.std.proofs.lemmas.List.Elements.{All-nil}
 use Rattle.std.specs.Option.{option_map}
 use Rattle.std.specs.Result.{result_ok}
-use Rattle.crash_disk.specs.Disk.{Step, History, held, writes, reads, asks_length, syncs, written, with_call, told_after, Plan, GoesByPlan}
+use Rattle.crash_disk.specs.Disk.{Step, History, content, writes, reads, asks_length, syncs, with_write, with_call, told_after, FaultPlan, GoesByPlan}
 use Rattle.gate_journal.specs.Calls.{with_made, TellsSteps}
 use Rattle.gate_journal.specs.Image.{is_open, begins_open, after_mark, records_from, kept_records, most, IsKept}
 use Rattle.gate_journal.specs.Journal.{Keeps, WhereTold}
@@ -72,7 +72,7 @@ pub made_five : (image : List ℕ) → length image ≡ 5 → is_made image ≡ 
 made_five image len = (let out : ltb 5 (length image) ≡ false = grind (arith, nat_tests) in rw out refl)
 
 -- five bytes over at most five are all
-pub empty_written : (old : List ℕ) → length old ≤ 5 → written old 0 empty ≡ empty
+pub empty_written : (old : List ℕ) → length old ≤ 5 → with_write old 0 empty ≡ empty
 empty_written old le = ap (λ (l : List ℕ). empty ++ l) (drop_all 5 old le)
 
 pub not_made : (image : List ℕ) → is_made image ≡ false → length image ≤ 5
@@ -103,13 +103,13 @@ short_blank image le = record { short = le; none = λ made. at (after_mark image
     at (Some (g ∷ b ∷ bytes)) is some = absurd (omega (arith, le, length-after_mark image (g ∷ b ∷ bytes) is))
 
 -- an image of so many bytes, the one that the disk holds
-some_image : (told : Option History) (len : ℕ) → WhereTold told (λ before. len ≡ length (held before)) → HoldsSome told (λ image. len ≡ length image)
+some_image : (told : Option History) (len : ℕ) → WhereTold told (λ before. len ≡ length (content before)) → HoldsSome told (λ image. len ≡ length image)
 some_image None len is = (replicate len 0, λ before none. cc none, sym (length-replicate len 0))
-some_image (Some before) len is = (held before, λ history some. (let same : before ≡ history = cc some in ap held same), is before refl)
+some_image (Some before) len is = (content before, λ history some. (let same : before ≡ history = cc some in ap content same), is before refl)
 
 any_image : (told : Option History) → HoldsSome told (λ image. Unit {0})
 any_image None = ([], λ before none. cc none, tt)
-any_image (Some before) = (held before, λ history some. (let same : before ≡ history = cc some in ap held same), tt)
+any_image (Some before) = (content before, λ history some. (let same : before ≡ history = cc some in ap content same), tt)
 
 -- the calls that look, by the length
 look_steps-five : (image : List ℕ) → length image ≡ 5 → look_steps image ≡ asks_length ∷ reads 0 5 ∷ []
@@ -119,14 +119,14 @@ look_steps-other : (image : List ℕ) → length image ≢ 5 → look_steps imag
 look_steps-other image other = (let at : eqb (length image) 5 ≡ false = grind (arith, nat_tests) in ap (λ (b : Bool). asks_length ∷ cond b (reads 0 5 ∷ []) []) at)
 
 -- a look whose first call failed
-pub look_fault : (told now : Option History) (plan plan_now : Option Plan) → now ≡ told_after told asks_length true → GoesByPlan plan plan_now true
+pub look_fault : (told now : Option History) (plan plan_now : Option FaultPlan) → now ≡ told_after told asks_length true → GoesByPlan plan plan_now true
     → HoldsSome told (λ image. Unit {0} × TellsSteps {T = Unit {0}} {E = Unit {0}} (look_steps image) told plan (Err tt) now plan_now)
 look_fault told now plan plan_now is goes =
     let some = any_image told in
     (some.0, some.1, (tt, tells_fault asks_length (cond (eqb (length some.0) 5) (reads 0 5 ∷ []) []) told now plan plan_now is goes))
 
 -- a look at an image that doesn't have five bytes
-pub look_other : (told now : Option History) (plan plan_now : Option Plan) (len : ℕ) → now ≡ told_after told asks_length false → GoesByPlan plan plan_now false → WhereTold told (λ before. len ≡ length (held before)) → len ≢ 5
+pub look_other : (told now : Option History) (plan plan_now : Option FaultPlan) (len : ℕ) → now ≡ told_after told asks_length false → GoesByPlan plan plan_now false → WhereTold told (λ before. len ≡ length (content before)) → len ≢ 5
     → HoldsSome told (λ image. ((ltb 5 len ≡ is_made image) × (len ≡ length image)) × TellsSteps {T = Unit {0}} {E = Unit {0}} (look_steps image) told plan (Ok tt) now plan_now)
 look_other told now plan plan_now len is goes answer other =
     let some = some_image told len answer in
@@ -136,7 +136,7 @@ look_other told now plan plan_now len is goes answer other =
     (image, some.1, ((made_otherwise image len some.2 other, some.2), subst (λ s. TellsSteps {T = Unit {0}} {E = Unit {0}} s told plan (Ok tt) now plan_now) (sym steps) tells))
 
 -- a look whose read failed
-pub look_unread : (told first now : Option History) (plan plan_first plan_now : Option Plan) (len : ℕ) → first ≡ told_after told asks_length false → GoesByPlan plan plan_first false → WhereTold told (λ before. len ≡ length (held before)) → len ≡ 5
+pub look_unread : (told first now : Option History) (plan plan_first plan_now : Option FaultPlan) (len : ℕ) → first ≡ told_after told asks_length false → GoesByPlan plan plan_first false → WhereTold told (λ before. len ≡ length (content before)) → len ≡ 5
     → now ≡ told_after first (reads 0 5) true → GoesByPlan plan_first plan_now true
     → HoldsSome told (λ image. Unit {0} × TellsSteps {T = Unit {0}} {E = Unit {0}} (look_steps image) told plan (Err tt) now plan_now)
 look_unread told first now plan plan_first plan_now len is goes answer five is2 goes2 =
@@ -147,32 +147,32 @@ look_unread told first now plan plan_first plan_now len is goes answer five is2 
     (image, some.1, (tt, subst (λ s. TellsSteps {T = Unit {0}} {E = Unit {0}} s told plan (Err tt) now plan_now) (sym steps) tells))
 
 -- a look that read five bytes
-pub look_read : (told first now : Option History) (plan plan_first plan_now : Option Plan) (len : ℕ) (room : List ℕ) → first ≡ told_after told asks_length false → GoesByPlan plan plan_first false → WhereTold told (λ before. len ≡ length (held before)) → len ≡ 5
-    → now ≡ told_after first (reads 0 5) false → GoesByPlan plan_first plan_now false → WhereTold first (λ history. room ≡ take 5 (drop 0 (held history))) → length room ≡ 5
+pub look_read : (told first now : Option History) (plan plan_first plan_now : Option FaultPlan) (len : ℕ) (room : List ℕ) → first ≡ told_after told asks_length false → GoesByPlan plan plan_first false → WhereTold told (λ before. len ≡ length (content before)) → len ≡ 5
+    → now ≡ told_after first (reads 0 5) false → GoesByPlan plan_first plan_now false → WhereTold first (λ history. room ≡ take 5 (drop 0 (content history))) → length room ≡ 5
     → HoldsSome told (λ image. ((is_some (kept_records room) ≡ is_made image) × (len ≡ length image)) × TellsSteps {T = Unit {0}} {E = Unit {0}} (look_steps image) told plan (Ok tt) now plan_now)
 look_read told first now plan plan_first plan_now len room is goes answer five is2 goes2 reads' all =
-    let same : WhereTold told (λ before. room ≡ held before) = λ before some.
-    reads' _ (is ∙ ap (λ t. told_after t asks_length false) some) ∙ take_all 5 (held before) (omega (arith, five, answer before some)) in
+    let same : WhereTold told (λ before. room ≡ content before) = λ before some.
+    reads' _ (is ∙ ap (λ t. told_after t asks_length false) some) ∙ take_all 5 (content before) (omega (arith, five, answer before some)) in
     let steps = look_steps-five room all in
     let tells = tells_more asks_length (reads 0 5 ∷ []) told first now plan plan_first plan_now (Ok tt) is goes (tells_more (reads 0 5) [] first now now plan_first plan_now plan_now (Ok tt) is2 goes2 (tells_none now plan_now)) in
     (room, same, ((sym (made_five room all), five ∙ sym all), subst (λ s. TellsSteps {T = Unit {0}} {E = Unit {0}} s told plan (Ok tt) now plan_now) (sym steps) tells))
 
 -- what is held after a look is what was held
-look_holds : (image : List ℕ) (history : History) → held (with_made (length (look_steps image)) (look_steps image) history) ≡ held history
-look_holds image history = elim (eqb (length image) 5) as (λ b. let steps : List Step = asks_length ∷ cond b (reads 0 5 ∷ []) [] in held (with_made (length steps) steps history) ≡ held history) [ true ↦ refl | false ↦ refl ]
+look_holds : (image : List ℕ) (history : History) → content (with_made (length (look_steps image)) (look_steps image) history) ≡ content history
+look_holds image history = elim (eqb (length image) 5) as (λ b. let steps : List Step = asks_length ∷ cond b (reads 0 5 ∷ []) [] in content (with_made (length steps) steps history) ≡ content history) [ true ↦ refl | false ↦ refl ]
 
 -- the calls of a making over an image that isn't made
 make_steps-new : (image : List ℕ) → is_made image ≡ false → make_steps image ≡ look_steps image ++ writes 0 empty ∷ syncs ∷ []
 make_steps-new image new = ap (λ (b : Bool). cond b (look_steps image) (look_steps image ++ writes 0 empty ∷ syncs ∷ [])) new
 
 -- a look, and then the journal
-pub makes : (image : List ℕ) (told mid now : Option History) (plan plan_mid plan_now : Option Plan) (result : Result (Unit {0}) (Unit {0})) → is_made image ≡ false
+pub makes : (image : List ℕ) (told mid now : Option History) (plan plan_mid plan_now : Option FaultPlan) (result : Result (Unit {0}) (Unit {0})) → is_made image ≡ false
     → TellsSteps {T = Unit {0}} {E = Unit {0}} (look_steps image) told plan (Ok tt) mid plan_mid → TellsSteps (writes 0 empty ∷ syncs ∷ []) mid plan_mid result now plan_now → TellsSteps (make_steps image) told plan result now plan_now
 makes image told mid now plan plan_mid plan_now result new first rest =
     subst (λ s. TellsSteps s told plan result now plan_now) (sym (make_steps-new image new)) (tells_after (look_steps image) (writes 0 empty ∷ syncs ∷ []) told mid now plan plan_mid plan_now result first rest)
 
 -- a look that failed ends a making
-pub make_unlooked : (image : List ℕ) (told now : Option History) (plan plan_now : Option Plan) → TellsSteps {T = Unit {0}} {E = Unit {0}} (look_steps image) told plan (Err tt) now plan_now → TellsSteps {T = Unit {0}} {E = Unit {0}} (make_steps image) told plan (Err tt) now plan_now
+pub make_unlooked : (image : List ℕ) (told now : Option History) (plan plan_now : Option FaultPlan) → TellsSteps {T = Unit {0}} {E = Unit {0}} (look_steps image) told plan (Err tt) now plan_now → TellsSteps {T = Unit {0}} {E = Unit {0}} (make_steps image) told plan (Err tt) now plan_now
 make_unlooked image told now plan plan_now t =
     elim (is_made image) as (λ b. TellsSteps {T = Unit {0}} {E = Unit {0}} (cond b (look_steps image) (look_steps image ++ writes 0 empty ∷ syncs ∷ [])) told plan (Err tt) now plan_now) [
       | true ↦ t
@@ -180,11 +180,11 @@ make_unlooked image told now plan plan_now t =
     ]
 
 -- no call was made
-pub make_none : (told now : Option History) (plan plan_now : Option Plan) → now ≡ told → plan_now ≡ plan → TellsMake told plan (Err NoMemory) now plan_now
+pub make_none : (told now : Option History) (plan plan_now : Option FaultPlan) → now ≡ told → plan_now ≡ plan → TellsMake told plan (Err NoMemory) now plan_now
 make_none told now plan plan_now is planned = (let some = any_image told in (some.0, some.1, (is, planned)))
 
 -- the write and the sync leave an empty journal
-pub now_fresh : (told looked first second : Option History) (image : List ℕ) → WhereTold told (λ before. image ≡ held before) → is_made image ≡ false → looked ≡ option_map (with_made (length (look_steps image)) (look_steps image)) told
+pub now_fresh : (told looked first second : Option History) (image : List ℕ) → WhereTold told (λ before. image ≡ content before) → is_made image ≡ false → looked ≡ option_map (with_made (length (look_steps image)) (look_steps image)) told
     → first ≡ told_after looked (writes 0 empty) false → second ≡ told_after first syncs false → WhereTold second IsFresh
 now_fresh None looked first second image same new none is1 is2 = λ now is. absurd (cc (none, is1, is2, is))
 now_fresh (Some before) looked first second image same new is0 is1 is2 = λ now is.
@@ -193,7 +193,7 @@ now_fresh (Some before) looked first second image same new is0 is1 is2 = λ now 
     let some : Some after ≡ Some now = sym (is2 ∙ ap (λ t. told_after t syncs false) (is1 ∙ ap (λ t. told_after t (writes 0 empty) false) is0)) ∙ is in
     let there : after ≡ now = cc some in
     let le = not_made image new in
-    let holds : held after ≡ empty = empty_written (held history) (omega (arith, ap length (look_holds image before), ap length (same before refl), le)) in
-    let kept : IsKept (held after) [] = subst (λ (b : List ℕ). IsKept b []) (sym holds) (record { gate = 0; rest = []; is = refl; closed = refl; fits = All-nil (λ b. length b ≤ most) }) in
+    let holds : content after ≡ empty = empty_written (content history) (omega (arith, ap length (look_holds image before), ap length (same before refl), le)) in
+    let kept : IsKept (content after) [] = subst (λ (b : List ℕ). IsKept b []) (sym holds) (record { gate = 0; rest = []; is = refl; closed = refl; fits = All-nil (λ b. length b ≤ most) }) in
     let fresh : IsFresh after = record { settled = settled_now after [] kept refl; images = λ image may. images_held after refl image may ∙ holds } in
     subst IsFresh there fresh

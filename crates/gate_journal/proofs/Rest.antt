@@ -2,7 +2,7 @@
 use Rattle.std.proofs.Common.{◌≡◌, ◌<◌, ◌≤◌, ◌+◌, ◌-◌, ◌*◌, ℕ, zero, suc, List, [], ◌∷◌, ◌++◌, length, Option, Some, None, refl, sym, ◌∙◌, ap, subst, inl, arith, length-append}
 use Rattle.std.specs.Int.{w32, to_be_bytes}
 use Rattle.std.specs.Option.{option_map}
-use Rattle.crash_disk.specs.Disk.{History, held, Plan, after_calls}
+use Rattle.crash_disk.specs.Disk.{History, content, FaultPlan, after_calls}
 use Rattle.gate_journal.specs.Calls.{with_made, append_steps, Passes}
 use Rattle.gate_journal.specs.Image.{most, spelled, spelled_record, journal_in, IsKept}
 use Rattle.gate_journal.specs.Journal.{Keeps, KeepsWithOrWithout, LeavesOnly, IsSettled, WhereTold, opened_to, RefusesOpen}
@@ -13,16 +13,16 @@ use Rattle.gate_journal.specs.Sound.{RestsAt}
 use Rattle.gate_journal.proofs.Crash.{spelled-push, any_moment, appended, settled_now}
 
 -- the gate lies within the bytes
-pub gate_within : (gate : ℕ) (history : History) → RestsAt gate history → gate + 1 ≤ length (held history)
+pub gate_within : (gate : ℕ) (history : History) → RestsAt gate history → gate + 1 ≤ length (content history)
 gate_within gate history r =
     let k = r.settled.kept in
     omega (arith, r.place, ap length k.is, length-append (spelled r.records) (k.gate ∷ k.rest))
 
 -- the records are those that are read, so the gate stands behind them
-pub same_records : (gate : ℕ) (history : History) (records : List (List ℕ)) (r : RestsAt gate history) → Keeps records (held history) → r.records ≡ records
+pub same_records : (gate : ℕ) (history : History) (records : List (List ℕ)) (r : RestsAt gate history) → Keeps records (content history) → r.records ≡ records
 same_records gate history records r keeps = cc (r.settled.read, keeps)
 
-pub same_gate : (gate : ℕ) (history : History) (records : List (List ℕ)) → RestsAt gate history → Keeps records (held history) → gate ≡ length (spelled records)
+pub same_gate : (gate : ℕ) (history : History) (records : List (List ℕ)) → RestsAt gate history → Keeps records (content history) → gate ≡ length (spelled records)
 same_gate gate history records r keeps = r.place ∙ ap (λ (l : List (List ℕ)). length (spelled l)) (same_records gate history records r keeps)
 
 -- after all four calls the journal rests behind the new record
@@ -41,7 +41,7 @@ rests_again gate history body r fits = record {
 }
 
 -- a crash at a moment of the append
-pub leaves : (gate : ℕ) (history : History) (records : List (List ℕ)) (body : List ℕ) (passed : ℕ) → RestsAt gate history → Keeps records (held history) → length body ≤ most
+pub leaves : (gate : ℕ) (history : History) (records : List (List ℕ)) (body : List ℕ) (passed : ℕ) → RestsAt gate history → Keeps records (content history) → length body ≤ most
     → LeavesOnly history (with_made passed (append_steps (length (spelled records)) body) history) (KeepsWithOrWithout records body)
 leaves gate history records body passed r keeps fits image may =
     let k = r.settled.kept in
@@ -51,7 +51,7 @@ leaves gate history records body passed r keeps fits image may =
     subst (λ (rs : List (List ℕ)). LeavesOnly history (with_made passed (append_steps (length (spelled rs)) body) history) (KeepsWithOrWithout rs body)) same here image may
 
 -- a crash where no call was made
-pub leaves_none : (gate : ℕ) (history : History) (records : List (List ℕ)) (body : List ℕ) → RestsAt gate history → Keeps records (held history) → LeavesOnly history history (KeepsWithOrWithout records body)
+pub leaves_none : (gate : ℕ) (history : History) (records : List (List ℕ)) (body : List ℕ) → RestsAt gate history → Keeps records (content history) → LeavesOnly history history (KeepsWithOrWithout records body)
 leaves_none gate history records body r keeps image (zero, le, may) = inl (r.settled.images image may ∙ ap (λ (l : List (List ℕ)). Some l) (same_records gate history records r keeps))
 leaves_none gate history records body r keeps image (suc n, le, may) = absurd (omega (arith, le))
 
@@ -70,14 +70,14 @@ less_room (suc bodies) most len before now some le room spent =
     omega (arith, e, q, le, room, spent)
 
 -- an opened journal rests
-pub opened_settled : (told now : Option History) (image : List ℕ) (records : List (List ℕ)) → now ≡ option_map (opened_to 3) told → WhereTold told (λ before. image ≡ held before) → IsKept image records → WhereTold now (λ history. IsSettled history records)
+pub opened_settled : (told now : Option History) (image : List ℕ) (records : List (List ℕ)) → now ≡ option_map (opened_to 3) told → WhereTold told (λ before. image ≡ content before) → IsKept image records → WhereTold now (λ history. IsSettled history records)
 opened_settled told now image records is read kept = λ history some.
     let before = told_of (opened_to 3) told now history is some in
     let here : IsSettled (opened_to 3 before.0) records = settled_now (opened_to 3 before.0) records (subst (λ (b : List ℕ). IsKept b records) (read before.0 before.1) kept) refl in
     subst (λ (h : History). IsSettled h records) (sym before.2) here
 
 -- a refusal to read is one to open
-pub refused_read : (told now : Option History) (plan plan_now : Option Plan) (image : List ℕ) (why : JournalRefusal) → now ≡ option_map (opened_to 3) told → Passes plan 3 3 → plan_now ≡ option_map (after_calls 3) plan → WhereTold told (λ before. image ≡ held before) → IsReadRefusal image why
+pub refused_read : (told now : Option History) (plan plan_now : Option FaultPlan) (image : List ℕ) (why : JournalRefusal) → now ≡ option_map (opened_to 3) told → Passes plan 3 3 → plan_now ≡ option_map (after_calls 3) plan → WhereTold told (λ before. image ≡ content before) → IsReadRefusal image why
     → RefusesOpen told plan now plan_now why
 refused_read told now plan plan_now image (NotJournal place) is passes goes_on read not = (is, passes, goes_on, λ before some. ap journal_in (sym (read before some)) ∙ not)
 refused_read told now plan plan_now image NoMemory is passes goes_on read not = (3, omega arith, (λ one. absurd (omega (arith, one))), is, passes, goes_on)

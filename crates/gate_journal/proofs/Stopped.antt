@@ -1,7 +1,7 @@
 -- What a crash leaves at each moment of a making.
 use Rattle.std.proofs.Common.{◌≡◌, ◌≤◌, ◌+◌, ℕ, zero, suc, Bool, true, false, cond, eqb, List, [], ◌∷◌, ◌++◌, length, drop, MatchBool, slice_index, refl, sym, ◌∙◌, ap, subst, arith}
 use Rattle.std.proofs.lemmas.List.{append-nil}
-use Rattle.crash_disk.specs.Disk.{Step, asks_length, reads, writes, syncs, DeviceCall, History, held, synced, unsynced, held_after, synced_after, unsynced_after, is_touched, MayLeave}
+use Rattle.crash_disk.specs.Disk.{Step, asks_length, reads, writes, syncs, DeviceCall, History, content, synced_content, unsynced_ranges, content_after, synced_content_after, unsynced_ranges_after, is_touched, MayLeave}
 use Rattle.gate_journal.specs.Calls.{made_of}
 use Rattle.gate_journal.specs.Make.{empty, is_made, look_steps, IsBlank}
 use Rattle.gate_journal.specs.Laws.{StoppedMakings}
@@ -43,13 +43,13 @@ IsQuiet syncs = ⊥
 
 -- all is as it was
 record IsAs (before : History) (calls : List DeviceCall) : Type 0 where
-  holds : held_after before.began calls ≡ held before
-  syncs : synced_after before.began calls ≡ synced before
-  ranges : unsynced_after calls ≡ unsynced before
+  holds : content_after before.began calls ≡ content before
+  syncs : synced_content_after before.began calls ≡ synced_content before
+  ranges : unsynced_ranges_after calls ≡ unsynced_ranges before
 
 as_keeps : (before : History) (step : Step) (failed : Bool) (calls : List DeviceCall) → IsQuiet step → IsAs before calls → IsAs before (record { step = step; failed = failed } ∷ calls)
-as_keeps before asks_length failed calls quiet as' = record { holds = as'.holds; syncs = as'.syncs; ranges = append-nil (unsynced_after calls) ∙ as'.ranges }
-as_keeps before (reads place count) failed calls quiet as' = record { holds = as'.holds; syncs = as'.syncs; ranges = append-nil (unsynced_after calls) ∙ as'.ranges }
+as_keeps before asks_length failed calls quiet as' = record { holds = as'.holds; syncs = as'.syncs; ranges = append-nil (unsynced_ranges_after calls) ∙ as'.ranges }
+as_keeps before (reads place count) failed calls quiet as' = record { holds = as'.holds; syncs = as'.syncs; ranges = append-nil (unsynced_ranges_after calls) ∙ as'.ranges }
 as_keeps before (writes place bytes) failed calls quiet as' = absurd quiet
 as_keeps before syncs failed calls quiet as' = absurd quiet
 
@@ -77,13 +77,13 @@ IsMaking syncs = Unit {0}
 
 -- at most five bytes
 abbrev IsShort : List ℕ → List DeviceCall → Type 0
-IsShort began calls = length (held_after began calls) ≤ 5
+IsShort began calls = length (content_after began calls) ≤ 5
 
 short_keeps : (began : List ℕ) (step : Step) (failed : Bool) (calls : List DeviceCall) → IsMaking step → IsShort began calls → IsShort began (record { step = step; failed = failed } ∷ calls)
 short_keeps began asks_length failed calls is le = le
 short_keeps began (reads place count) failed calls is le = le
 short_keeps began (writes place bytes) failed calls is le =
-    let all = (λ i. held_after began (record { step = writes (is.0 i) (is.1 i); failed = failed } ∷ calls)) ∙ empty_written (held_after began calls) le in
+    let all = (λ i. content_after began (record { step = writes (is.0 i) (is.1 i); failed = failed } ∷ calls)) ∙ empty_written (content_after began calls) le in
     omega (arith, ap length all)
 short_keeps began syncs failed calls is le = le
 
@@ -95,16 +95,16 @@ abbrev steps_if : Bool → List ℕ → List Step
 steps_if made image = cond made (look_steps image) (look_steps image ++ writes 0 empty ∷ syncs ∷ [])
 
 pub stopped_makings : StoppedMakings
-stopped_makings history passed image (count, le, may) = by_made (is_made (held history)) refl
+stopped_makings history passed image (count, le, may) = by_made (is_made (content history)) refl
   where
-    by_made : (made : Bool) → is_made (held history) ≡ made → MatchBool (is_made (held history)) (MayLeave history image) (IsBlank image)
+    by_made : (made : Bool) → is_made (content history) ≡ made → MatchBool (is_made (content history)) (MayLeave history image) (IsBlank image)
     by_made true made =
-        let le' = subst (λ (b : Bool). length history.calls + count ≤ length (made_of passed (steps_if b (held history)) history.calls)) made le in
-        let may' = subst (λ (b : Bool). MayLeave (record { began = history.began; calls = drop count (made_of passed (steps_if b (held history)) history.calls) }) image) made may in
-        let here = as_leaves history _ image (looked_as history passed (held history) count le') may' in
+        let le' = subst (λ (b : Bool). length history.calls + count ≤ length (made_of passed (steps_if b (content history)) history.calls)) made le in
+        let may' = subst (λ (b : Bool). MayLeave (record { began = history.began; calls = drop count (made_of passed (steps_if b (content history)) history.calls) }) image) made may in
+        let here = as_leaves history _ image (looked_as history passed (content history) count le') may' in
         subst (λ (b : Bool). MatchBool b (MayLeave history image) (IsBlank image)) (sym made) here
     by_made false made =
-        let le' = subst (λ (b : Bool). length history.calls + count ≤ length (made_of passed (steps_if b (held history)) history.calls)) made le in
-        let may' = subst (λ (b : Bool). MayLeave (record { began = history.began; calls = drop count (made_of passed (steps_if b (held history)) history.calls) }) image) made may in
-        let short = since_made (IsShort history.began) IsMaking (short_keeps history.began) (length history.calls) passed (steps_if false (held history)) history.calls (makes_so (held history)) (omega arith) (since_start (IsShort history.began) history.calls (not_made (held history) made)) count le' in
+        let le' = subst (λ (b : Bool). length history.calls + count ≤ length (made_of passed (steps_if b (content history)) history.calls)) made le in
+        let may' = subst (λ (b : Bool). MayLeave (record { began = history.began; calls = drop count (made_of passed (steps_if b (content history)) history.calls) }) image) made may in
+        let short = since_made (IsShort history.began) IsMaking (short_keeps history.began) (length history.calls) passed (steps_if false (content history)) history.calls (makes_so (content history)) (omega arith) (since_start (IsShort history.began) history.calls (not_made (content history) made)) count le' in
         subst (λ (b : Bool). MatchBool b (MayLeave history image) (IsBlank image)) (sym made) (short_blank image (omega (arith, short, may'.no_longer)))

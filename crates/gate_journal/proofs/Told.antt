@@ -3,45 +3,45 @@ use Rattle.std.proofs.Common.{◌≡◌, ◌<◌, ℕ, zero, suc, ◌+◌, Bool,
 use Rattle.std.specs.Option.{option_map}
 use Rattle.std.proofs.lemmas.Bool.{cases_Bool}
 use Rattle.std.proofs.lemmas.List.{take_all}
-use Rattle.crash_disk.specs.Disk.{Step, reads, asks_length, syncs, DeviceCall, History, held, with_call, told_after, Plan, fails_first, after_one, after_calls, passing, GoesByPlan}
+use Rattle.crash_disk.specs.Disk.{Step, reads, asks_length, syncs, DeviceCall, History, content, with_call, told_after, FaultPlan, fails_first, after_one, after_calls, passing, GoesByPlan}
 use Rattle.crash_disk.proofs.Plans.{passing-fails, passing-passes, passing-zero, after_calls-zero, after_calls-suc, after_calls-add}
 use Rattle.gate_journal.specs.Calls.{made_of, with_made, Passes, TellsSteps}
 use Rattle.gate_journal.specs.Journal.{WhereTold, begun_to, opened_to}
 
 -- of so many calls so many pass, where the plan foretells it, and it goes on behind those that were made
-pub record Planned (plan later : Option Plan) (count passed made : ℕ) : Type 0 where
+pub record Planned (plan later : Option FaultPlan) (count passed made : ℕ) : Type 0 where
   pub passes : Passes plan count passed
   pub goes_on : later ≡ option_map (after_calls made) plan
 
 -- the plan after a call and so many more
-one_more : (made : ℕ) (plan : Option Plan) → option_map (after_calls made) (option_map after_one plan) ≡ option_map (after_calls (suc made)) plan
+one_more : (made : ℕ) (plan : Option FaultPlan) → option_map (after_calls made) (option_map after_one plan) ≡ option_map (after_calls (suc made)) plan
 one_more made None = refl
-one_more made (Some foretold) = ap (λ (p : Plan). Some p) (sym (after_calls-suc made foretold))
+one_more made (Some foretold) = ap (λ (p : FaultPlan). Some p) (sym (after_calls-suc made foretold))
 
-no_more : (plan : Option Plan) → plan ≡ option_map (after_calls 0) plan
+no_more : (plan : Option FaultPlan) → plan ≡ option_map (after_calls 0) plan
 no_more None = refl
-no_more (Some foretold) = ap (λ (p : Plan). Some p) (sym (after_calls-zero foretold))
+no_more (Some foretold) = ap (λ (p : FaultPlan). Some p) (sym (after_calls-zero foretold))
 
 -- no call is made
-pub planned_none : (plan : Option Plan) → Planned plan plan 0 0 0
+pub planned_none : (plan : Option FaultPlan) → Planned plan plan 0 0 0
 planned_none plan = record { passes = λ foretold is. passing-zero foretold; goes_on = no_more plan }
 
 -- the first call fails
-pub planned_fault : (count : ℕ) (plan now : Option Plan) → GoesByPlan plan now true → Planned plan now (suc count) 0 1
+pub planned_fault : (count : ℕ) (plan now : Option FaultPlan) → GoesByPlan plan now true → Planned plan now (suc count) 0 1
 planned_fault count plan now goes = record {
   passes = λ foretold is. passing-fails count foretold (sym (goes.fails foretold is));
   goes_on = no_more now ∙ ap (option_map (after_calls 0)) goes.goes_on ∙ one_more 0 plan;
 }
 
 -- the first call passes
-pub planned_more : (plan now later : Option Plan) (count passed made : ℕ) → GoesByPlan plan now false → Planned now later count passed made → Planned plan later (suc count) (suc passed) (suc made)
+pub planned_more : (plan now later : Option FaultPlan) (count passed made : ℕ) → GoesByPlan plan now false → Planned now later count passed made → Planned plan later (suc count) (suc passed) (suc made)
 planned_more plan now later count passed made goes rest = record {
   passes = λ foretold is. passing-passes count foretold (sym (goes.fails foretold is)) ∙ ap suc (rest.passes (after_one foretold) (goes.goes_on ∙ ap (option_map after_one) is));
   goes_on = rest.goes_on ∙ ap (option_map (after_calls made)) goes.goes_on ∙ one_more made plan;
 }
 
 -- the same from a plan that is equal
-pub planned_from : (plan plan' later : Option Plan) (count passed made : ℕ) → plan ≡ plan' → Planned plan later count passed made → Planned plan' later count passed made
+pub planned_from : (plan plan' later : Option FaultPlan) (count passed made : ℕ) → plan ≡ plan' → Planned plan later count passed made → Planned plan' later count passed made
 planned_from plan plan' later count passed made is planned = subst (λ p. Planned p later count passed made) is planned
 
 -- after a call that passed
@@ -50,14 +50,14 @@ goes_on passed step steps None now is = ap (option_map (with_made passed steps))
 goes_on passed step steps (Some history) now is = ap (option_map (with_made passed steps)) is
 
 -- device calls of which the first one failed
-pub tells_fault : (step : Step) (steps : List Step) (told now : Option History) (plan plan_now : Option Plan) → now ≡ told_after told step true → GoesByPlan plan plan_now true
+pub tells_fault : (step : Step) (steps : List Step) (told now : Option History) (plan plan_now : Option FaultPlan) → now ≡ told_after told step true → GoesByPlan plan plan_now true
     → TellsSteps {T = Unit {0}} {E = Unit {0}} (step ∷ steps) told plan (Err tt) now plan_now
 tells_fault step steps told now plan plan_now is goes =
     let planned = planned_fault (length steps) plan plan_now goes in
     (0, omega arith, is, planned.passes, planned.goes_on)
 
 -- one that passed, before device calls that were answered so
-pub tells_more : (step : Step) (steps : List Step) (told now later : Option History) (plan plan_now plan_later : Option Plan) (result : Result (Unit {0}) (Unit {0})) → now ≡ told_after told step false → GoesByPlan plan plan_now false
+pub tells_more : (step : Step) (steps : List Step) (told now later : Option History) (plan plan_now plan_later : Option FaultPlan) (result : Result (Unit {0}) (Unit {0})) → now ≡ told_after told step false → GoesByPlan plan plan_now false
     → TellsSteps steps now plan_now result later plan_later → TellsSteps (step ∷ steps) told plan result later plan_later
 tells_more step steps told now later plan plan_now plan_later (Ok done) is goes rest =
     let n = length steps in
@@ -70,12 +70,12 @@ tells_more step steps told now later plan plan_now plan_later (Err e) is goes re
     (suc passed, omega (arith, rest.1), rest.2 ∙ goes_on passed step steps told now is, planned.passes, planned.goes_on ∙ ap (λ (n : ℕ). option_map (after_calls n) plan) made)
 
 -- none
-pub tells_none : (told : Option History) (plan : Option Plan) → TellsSteps {T = Unit {0}} {E = Unit {0}} [] told plan (Ok tt) told plan
+pub tells_none : (told : Option History) (plan : Option FaultPlan) → TellsSteps {T = Unit {0}} {E = Unit {0}} [] told plan (Ok tt) told plan
 tells_none None plan = let planned = planned_none plan in (refl, planned.passes, planned.goes_on)
 tells_none (Some history) plan = let planned = planned_none plan in (refl, planned.passes, planned.goes_on)
 
 -- calls that all passed, and further ones
-passing-add : (count more : ℕ) (plan : Plan) → passing count plan ≡ count → passing (count + more) plan ≡ count + passing more (after_calls count plan)
+passing-add : (count more : ℕ) (plan : FaultPlan) → passing count plan ≡ count → passing (count + more) plan ≡ count + passing more (after_calls count plan)
 passing-add zero more plan all =
     let none : 0 + more ≡ more = omega arith in
     let same = ap (passing more) (after_calls-zero plan) in
@@ -90,7 +90,7 @@ passing-add (suc count) more plan all = elim (cases_Bool (fails_first plan)) [
 ]
 
 -- where one fails, further ones don't count
-passing-short : (count more passed : ℕ) (plan : Plan) → passing count plan ≡ passed → passed < count → passing (count + more) plan ≡ passed
+passing-short : (count more passed : ℕ) (plan : FaultPlan) → passing count plan ≡ passed → passed < count → passing (count + more) plan ≡ passed
 passing-short zero more passed plan is lt = absurd (omega (arith, lt))
 passing-short (suc count) more passed plan is lt =
     let e : suc count + more ≡ suc (count + more) = omega arith in
@@ -123,19 +123,19 @@ with_made-some : (front back : List Step) (passed : ℕ) (told : Option History)
 with_made-some front back passed None lt = refl
 with_made-some front back passed (Some history) lt = ap (λ (calls : List DeviceCall). Some (record { began = history.began; calls = calls })) (made_of-some front back passed history.calls lt)
 
-plan_after : (count more : ℕ) (plan : Option Plan) → option_map (after_calls more) (option_map (after_calls count) plan) ≡ option_map (after_calls (count + more)) plan
+plan_after : (count more : ℕ) (plan : Option FaultPlan) → option_map (after_calls more) (option_map (after_calls count) plan) ≡ option_map (after_calls (count + more)) plan
 plan_after count more None = refl
-plan_after count more (Some foretold) = ap (λ (p : Plan). Some p) (sym (after_calls-add count more foretold))
+plan_after count more (Some foretold) = ap (λ (p : FaultPlan). Some p) (sym (after_calls-add count more foretold))
 
 -- all pass, and then the plan says of those behind them
-planned_after : (plan mid later : Option Plan) (count more passed made : ℕ) → Passes plan count count → mid ≡ option_map (after_calls count) plan → Planned mid later more passed made → Planned plan later (count + more) (count + passed) (count + made)
+planned_after : (plan mid later : Option FaultPlan) (count more passed made : ℕ) → Passes plan count count → mid ≡ option_map (after_calls count) plan → Planned mid later more passed made → Planned plan later (count + more) (count + passed) (count + made)
 planned_after plan mid later count more passed made all is rest = record {
   passes = λ foretold some. passing-add count more foretold (all foretold some) ∙ ap (λ (n : ℕ). count + n) (rest.passes (after_calls count foretold) (is ∙ ap (option_map (after_calls count)) some));
   goes_on = rest.goes_on ∙ ap (option_map (after_calls made)) is ∙ plan_after count made plan;
 }
 
 -- device calls that were answered so, behind ones that all passed
-pub tells_after : (front back : List Step) (told mid now : Option History) (plan plan_mid plan_now : Option Plan) (result : Result (Unit {0}) (Unit {0})) → TellsSteps {T = Unit {0}} {E = Unit {0}} front told plan (Ok tt) mid plan_mid
+pub tells_after : (front back : List Step) (told mid now : Option History) (plan plan_mid plan_now : Option FaultPlan) (result : Result (Unit {0}) (Unit {0})) → TellsSteps {T = Unit {0}} {E = Unit {0}} front told plan (Ok tt) mid plan_mid
     → TellsSteps back mid plan_mid result now plan_now → TellsSteps (front ++ back) told plan result now plan_now
 tells_after front back told mid now plan plan_mid plan_now (Ok done) first rest =
     let n = length front in
@@ -162,7 +162,7 @@ tells_after front back told mid now plan plan_mid plan_now (Err e) first rest =
     )
 
 -- device calls that one ended are the first of longer ones
-pub tells_within : (front back : List Step) (told now : Option History) (plan plan_now : Option Plan) → TellsSteps {T = Unit {0}} {E = Unit {0}} front told plan (Err tt) now plan_now → TellsSteps {T = Unit {0}} {E = Unit {0}} (front ++ back) told plan (Err tt) now plan_now
+pub tells_within : (front back : List Step) (told now : Option History) (plan plan_now : Option FaultPlan) → TellsSteps {T = Unit {0}} {E = Unit {0}} front told plan (Err tt) now plan_now → TellsSteps {T = Unit {0}} {E = Unit {0}} (front ++ back) told plan (Err tt) now plan_now
 tells_within front back told now plan plan_now t =
     let len : length front + length back ≡ length (front ++ back) = sym (length-append front back) in (
       t.0,
@@ -187,7 +187,7 @@ open_asked (Some before) first second is1 is2 = is2 ∙ ap (λ t. told_after t a
 
 -- an opening that came to its read
 pub open_read : (told first second third : Option History) (count : ℕ) (failed : Bool) → first ≡ told_after told syncs false → second ≡ told_after first asks_length false → third ≡ told_after second (reads 0 count) failed
-    → WhereTold first (λ history. count ≡ length (held history)) → third ≡ option_map (λ history. with_call (reads 0 (length (held history))) failed (with_call asks_length false (with_call syncs false history))) told
+    → WhereTold first (λ history. count ≡ length (content history)) → third ≡ option_map (λ history. with_call (reads 0 (length (content history))) failed (with_call asks_length false (with_call syncs false history))) told
 open_read None first second third count failed is1 is2 is3 counts = is3 ∙ ap (λ t. told_after t (reads 0 count) failed) (is2 ∙ ap (λ t. told_after t asks_length false) is1)
 open_read (Some before) first second third count failed is1 is2 is3 counts =
     is3 ∙ ap (λ t. told_after t (reads 0 count) failed) (is2 ∙ ap (λ t. told_after t asks_length false) is1)
@@ -199,9 +199,9 @@ open_begun None first second is1 is2 = is2 ∙ ap (λ t. told_after t asks_lengt
 open_begun (Some before) first second is1 is2 = is2 ∙ ap (λ t. told_after t asks_length false) is1
 
 -- what is read is what the disk held before
-pub read_is_held : (told first second : Option History) (count : ℕ) (room : List ℕ) → first ≡ told_after told syncs false → second ≡ told_after first asks_length false → WhereTold first (λ history. count ≡ length (held history))
-    → WhereTold second (λ history. room ≡ take count (drop 0 (held history))) → WhereTold told (λ before. room ≡ held before)
+pub read_is_held : (told first second : Option History) (count : ℕ) (room : List ℕ) → first ≡ told_after told syncs false → second ≡ told_after first asks_length false → WhereTold first (λ history. count ≡ length (content history))
+    → WhereTold second (λ history. room ≡ take count (drop 0 (content history))) → WhereTold told (λ before. room ≡ content before)
 read_is_held told first second count room is1 is2 counts told_read = λ before is.
     let one : first ≡ Some (with_call syncs false before) = is1 ∙ ap (λ t. told_after t syncs false) is in
     let two : second ≡ Some (with_call asks_length false (with_call syncs false before)) = is2 ∙ ap (λ t. told_after t asks_length false) one in
-    told_read _ two ∙ take_all count (held before) (omega (arith, counts _ one))
+    told_read _ two ∙ take_all count (content before) (omega (arith, counts _ one))

@@ -1,6 +1,6 @@
 use Rattle.std.proofs.Common.{◌≡◌, false, Option, Result, Ok, Err, [], ◌∷◌, sym, subst, ◌∙◌}
 use Rattle.std.proofs.lemmas.Result.{err_from_is_err_and}
-use Rattle.crash_disk.specs.Disk.{History, Plan, writes, syncs}
+use Rattle.crash_disk.specs.Disk.{History, FaultPlan, writes, syncs}
 use Rattle.gate_journal.specs.declared.refusal.JournalRefusal.{JournalRefusal}
 use Rattle.gate_journal.specs.declared.refusal.JournalRefusal.TheVariants.{AlreadyMade, DeviceFault}
 use Rattle.gate_journal.specs.Make.{is_made, empty, TellsMake}
@@ -9,9 +9,9 @@ use Rattle.gate_journal.proofs.Making.{now_fresh, makes, make_unlooked, make_non
 use Rattle.gate_journal.proofs.make.make_journal.Goals as goal
 
 -- room was made before
-behind_room : (told told' : Option History) (plan plan' : Option Plan) (result : Result (Unit {0}) JournalRefusal) (now : Option History) (plan_now : Option Plan) → told' ≡ told → plan' ≡ plan → TellsMake told' plan' result now plan_now → TellsMake told plan result now plan_now
+behind_room : (told told' : Option History) (plan plan' : Option FaultPlan) (result : Result (Unit {0}) JournalRefusal) (now : Option History) (plan_now : Option FaultPlan) → told' ≡ told → plan' ≡ plan → TellsMake told' plan' result now plan_now → TellsMake told plan result now plan_now
 behind_room told told' plan plan' result now plan_now is planned tells =
-    subst (λ (p : Option Plan). TellsMake told p result now plan_now) planned (subst (λ (t : Option History). TellsMake t plan' result now plan_now) is tells)
+    subst (λ (p : Option FaultPlan). TellsMake told p result now plan_now) planned (subst (λ (t : Option History). TellsMake t plan' result now plan_now) is tells)
 
 pub returns-in_err-make_room-clause-calls : goal.returns-in_err-make_room-clause-calls
 returns-in_err-make_room-clause-calls g c =

@@ -1,7 +1,7 @@
 use Rattle.std.proofs.Common.{◌≡◌, List, ◌++◌, length, take, drop, ℕ, true, false, sym, ◌∙◌, ap, arith}
 use Rattle.std.proofs.lemmas.List.{take_at}
 use Rattle.std.proofs.lemmas.Result.{err_from_is_err_and}
-use Rattle.crash_disk.specs.Disk.{held, told_after, syncs}
+use Rattle.crash_disk.specs.Disk.{content, told_after, syncs}
 use Rattle.gate_journal.specs.Journal.{WhereTold}
 use Rattle.gate_journal.proofs.Told.{after_room, open_read, open_none, open_asked, open_begun, read_is_held, planned_none, planned_fault, planned_more, planned_from}
 use Rattle.gate_journal.proofs.opening.read_image.Goals as goal
@@ -64,8 +64,8 @@ returns-clause-image g c = λ before is.
     let image = c.in_ok-image.image in
     let first = after_room _ _ _ false c.make_room.ensures.history c.in_ok-sync.ensures.history in
     let count : length c.deref_mut.result.now ≡ c.in_ok-len.len = omega (arith, c.deref_mut.ensures.len, c.in_ok-image.ensures.len) in
-    let counts : WhereTold (told c.sync.new.self) (λ h. length c.deref_mut.result.now ≡ length (held h)) = λ h is. count ∙ c.in_ok-len.ensures.answer h is in
-    let held_is : room ≡ held before = read_is_held _ _ _ (length c.deref_mut.result.now) room first c.in_ok-len.ensures.history counts c.in_ok-read_at.ensures.answer before is in
+    let counts : WhereTold (told c.sync.new.self) (λ h. length c.deref_mut.result.now ≡ length (content h)) = λ h is. count ∙ c.in_ok-len.ensures.answer h is in
+    let held_is : room ≡ content before = read_is_held _ _ _ (length c.deref_mut.result.now) room first c.in_ok-len.ensures.history counts c.in_ok-read_at.ensures.answer before is in
     let one = first ∙ ap (λ t. told_after t syncs false) is in
     let len : length room ≡ length c.deref_mut.result.now = ap length held_is ∙ sym (counts _ one) in
     whole_room room image.items image.len (omega (arith, len, c.deref_mut.ensures.len)) (omega (arith, len, ap length c.deref_mut.ensures.value)) ∙ held_is

@@ -1,5 +1,5 @@
 use Rattle.std.proofs.Common.{ap, length, arith}
-use Rattle.crash_disk.specs.Disk.{held}
+use Rattle.crash_disk.specs.Disk.{content}
 use Rattle.crash_disk.specs.Memory.{MemState}
 use Rattle.crash_disk.specs.Inside.{began_of, calls_of}
 use Rattle.crash_disk.proofs.Images.{synced_no_longer}
@@ -9,5 +9,5 @@ pub returns-then-self-clause-short : goal.returns-then-self-clause-short
 returns-then-self-clause-short c =
     let a = c.self.inside in
     let is = c.self.invariant.synced c.if-self.true in
-    let same = ap (λ (s : MemState). length (held s.history)) c.self.view_is in
+    let same = ap (λ (s : MemState). length (content s.history)) c.self.view_is in
     omega (arith, ap length c.deref.ensures.value, ap length is, synced_no_longer (began_of a) (calls_of a), same)

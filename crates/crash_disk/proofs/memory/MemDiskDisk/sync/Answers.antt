@@ -1,5 +1,5 @@
 use Rattle.std.proofs.Common.{◌≡◌, ◌-◌, List, Bool, ◌∷◌, sym, ◌∙◌, ap, subst, refl, arith, rules}
-use Rattle.crash_disk.specs.Disk.{DeviceCall, syncs, held_after, synced_after, unsynced_after}
+use Rattle.crash_disk.specs.Disk.{DeviceCall, syncs, content_after, synced_content_after, unsynced_ranges_after}
 use Rattle.crash_disk.specs.Memory.{MemState, faults_after, after_call}
 use Rattle.crash_disk.specs.Inside.{state_of, began_of, calls_of}
 use Rattle.crash_disk.proofs.Told.{state_is, was_copied, told_new, counts_new, synced_by, synced_now, unsynced_by, unsynced_now}
@@ -15,9 +15,9 @@ invariant_of-self c =
     let e = told_new a.calls.items _ _ a.written.items _ _ k.calls k.written w.counts in
     record {
       counts = counts_new a.calls.items _ _ a.written.items _ _ k.calls k.written refl w.counts;
-      holds = w.holds ∙ ap (λ (l : List DeviceCall). held_after (began_of a) l) (sym e);
-      ranges = w.ranges ∙ sym (unsynced_by failed (calls_of a) c.if-failed.true) ∙ ap (λ (l : List DeviceCall). unsynced_after l) (sym e);
-      synced = λ copied. w.synced copied ∙ sym (synced_by failed (began_of a) (calls_of a) c.if-failed.true) ∙ ap (λ (l : List DeviceCall). synced_after (began_of a) l) (sym e);
+      holds = w.holds ∙ ap (λ (l : List DeviceCall). content_after (began_of a) l) (sym e);
+      ranges = w.ranges ∙ sym (unsynced_by failed (calls_of a) c.if-failed.true) ∙ ap (λ (l : List DeviceCall). unsynced_ranges_after l) (sym e);
+      synced = λ copied. w.synced copied ∙ sym (synced_by failed (began_of a) (calls_of a) c.if-failed.true) ∙ ap (λ (l : List DeviceCall). synced_content_after (began_of a) l) (sym e);
       fresh = λ copied. absurd (omega (arith, w.no_room copied, room, c.requires.calls));
       no_room = λ copied. omega (arith, w.no_room copied);
       calls_room = omega (arith, w.calls_room, k.calls_len, k.calls_room, room, c.requires.calls);
@@ -49,9 +49,9 @@ invariant_of-self-2 c =
     let copy : c.copy_over.new.to.items ≡ a.bytes.items = search (rules, c.unwrap.ensures, c.copy_over.ensures.ok, c.deref.ensures.value) in
     record {
       counts = counts_new a.calls.items _ _ a.written.items _ _ k.calls k.written refl w.counts;
-      holds = w.holds ∙ ap (λ (l : List DeviceCall). held_after (began_of a) l) (sym e);
-      ranges = c.clear.ensures.items ∙ sym (unsynced_now failed (calls_of a) c.if-failed.false) ∙ ap (λ (l : List DeviceCall). unsynced_after l) (sym e);
-      synced = λ is. copy ∙ w.holds ∙ sym (synced_now failed (began_of a) (calls_of a) c.if-failed.false) ∙ ap (λ (l : List DeviceCall). synced_after (began_of a) l) (sym e);
+      holds = w.holds ∙ ap (λ (l : List DeviceCall). content_after (began_of a) l) (sym e);
+      ranges = c.clear.ensures.items ∙ sym (unsynced_now failed (calls_of a) c.if-failed.false) ∙ ap (λ (l : List DeviceCall). unsynced_ranges_after l) (sym e);
+      synced = λ is. copy ∙ w.holds ∙ sym (synced_now failed (began_of a) (calls_of a) c.if-failed.false) ∙ ap (λ (l : List DeviceCall). synced_content_after (began_of a) l) (sym e);
       fresh = λ none. absurd (cc (none, copied));
       no_room = λ none. absurd (cc (none, copied));
       calls_room = omega (arith, w.calls_room, k.calls_len, k.calls_room, room, c.requires.calls);

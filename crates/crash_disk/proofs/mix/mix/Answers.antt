@@ -5,8 +5,8 @@ use Rattle.std.proofs.lemmas.List.Sums.{sum_by-append}
 use mir.Val.{bool_byte}
 use Rattle.std.specs.List.{range_with_len, count_by}
 use Rattle.crash_disk.specs.Disk.{is_touched}
-use Rattle.crash_disk.specs.Outcomes.{mixed_byte}
-use Rattle.crash_disk.proofs.mixed.mixed.Goals as goal
+use Rattle.crash_disk.specs.Outcomes.{mix_byte}
+use Rattle.crash_disk.proofs.mix.mix.Goals as goal
 
 range_more : (n : ℕ) → range_with_len 0 (n + 1) ≡ range_with_len 0 n ++ n ∷ []
 range_more n = sym (map-id (range_with_len 0 (n + 1))) ∙ map-range_with_len_more (λ x. x) 0 n n (omega arith) ∙ ap (λ (l : List ℕ). l ++ n ∷ []) (map-id (range_with_len 0 n))
@@ -24,7 +24,7 @@ loop-place-preserved c =
     let ranges = c.args.ranges.now in
     let pattern = c.args.pattern.now in
     let n = c.loop-place.place in
-    let f = mixed_byte bytes ranges pattern in
+    let f = mix_byte bytes ranges pattern in
     let touched = c.is_touched-touched.ensures in
     let byte : c.next_byte.result ≡ f n = c.next_byte.ensures ∙ (λ i. cond (touched i) (slice_index pattern (c.loop-place.invariant.turns i % length pattern)) (slice_index bytes n)) in
     record {

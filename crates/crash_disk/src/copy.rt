@@ -1,0 +1,48 @@
+ghost use Rattle.std.specs.Prelude.{◌≡◌, ◌<◌, ◌≤◌, ◌+◌, ℕ, false, length, slice_index, vec_len, OnOk, IsOk};
+ghost use Rattle.std.specs.List.{All};
+ghost use Rattle.std.specs.Vec.{vec_capacity};
+ghost use Rattle.crash_disk.specs.Disk.{with_write, is_touched};
+
+use std::alloc::AllocError;
+
+// Makes one list a copy of another.
+pub fn copy_over(to: &mut Vec<u8>, from: &[u8]) -> Result<(), AllocError>
+    ensures ok { OnOk result (to.new.items ≡ from.now) }
+    ensures fits { length from.now ≤ vec_capacity to.old → IsOk result }
+    ensures room { vec_capacity to.old ≤ vec_capacity to.new }
+{
+    to.clear();
+    to.extend_from_slice(from)
+}
+
+// Writes bytes over what is there and past the end. There is room for them.
+pub fn overwrite(content: &mut Vec<u8>, place: usize, bytes: &[u8])
+    requires within { place ≤ vec_len content.old }
+    requires fits { vec_len content.old + length bytes.now ≤ vec_capacity content.old }
+    ensures items { content.new.items ≡ with_write content.old.items place bytes.now }
+    ensures len { vec_len content.new ≤ vec_len content.old + length bytes.now }
+    ensures room { vec_capacity content.old ≤ vec_capacity content.new }
+{
+    let over = bytes.len().min(content.len() - place);
+    content[place..place + over].copy_from_slice(&bytes[..over]);
+    content.extend_from_slice(&bytes[over..]).unwrap();
+}
+
+// Makes one list a copy of another that differs from it in these ranges and past its end alone. There is
+// room for it.
+pub fn copy_ranges(to: &mut Vec<u8>, from: &[u8], ranges: &[(u64, usize)])
+    requires longer { vec_len to.old ≤ length from.now }
+    requires fits { length from.now ≤ vec_capacity to.old }
+    requires within { All (λ range. range.0 + range.1 ≤ length from.now) ranges.now }
+    requires others { (place : ℕ) → is_touched to.old.items ranges.now place ≡ false
+        → slice_index from.now place ≡ slice_index to.old.items place }
+    ensures items { to.new.items ≡ from.now }
+    ensures room { vec_capacity to.old ≤ vec_capacity to.new }
+{
+    to.extend_from_slice(&from[to.len()..]).unwrap();
+    for range in ranges {
+        let start = range.0 as usize;
+        let end = start + range.1;
+        to[start..end].copy_from_slice(&from[start..end]);
+    }
+}
