@@ -23,7 +23,7 @@ either true b is = absurd (cc (is))
 either false b is = (refl, is)
 
 -- a write leaves what is outside its range
-with_write_outside : (old : List ℕ) (at : ℕ) (bytes : List ℕ) (place : ℕ) → place < length old → is_within place (at, length bytes) ≡ false → get_or (with_write old at bytes) place 0 ≡ get_or old place 0
+pub with_write_outside : (old : List ℕ) (at : ℕ) (bytes : List ℕ) (place : ℕ) → place < length old → is_within place (at, length bytes) ≡ false → get_or (with_write old at bytes) place 0 ≡ get_or old place 0
 with_write_outside old at bytes place lt out = elim (cases_lt place at) [
   | inl before ↦
       let in_take : place < length (take at old) = omega (arith, length-take at old) in

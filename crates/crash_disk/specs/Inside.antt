@@ -4,21 +4,26 @@ use Rattle.std.specs.List.{All}
 use Rattle.std.specs.Vec.{vec_capacity}
 use Rattle.crash_disk.specs.Disk.{content_after, synced_content_after, unsynced_ranges_after}
 use Rattle.crash_disk.specs.Memory.{MemState}
+use Rattle.crash_disk.specs.Log.{LogState}
 use Rattle.crash_disk.specs.declared.memory.MemDisk.TheInside.{Inside}
 
 -- the image that a disk began with: what it holds now until a copy was made
 abbrev pub began_of : Inside → List ℕ
 began_of disk = if disk.has_copy then disk.began.items else disk.bytes.items
 
-abbrev pub state_of : Inside → MemState
-state_of disk = record {
-  history = record { began = began_of disk; calls = disk.log.calls };
-  fails = disk.log.fails;
-  made = disk.log.made;
-  fuse = disk.log.fuse;
-  faults = disk.log.faults;
-  room = disk.log.room;
+-- the state over the image that it began with and a log
+abbrev pub state_over : List ℕ → LogState → MemState
+state_over began log = record {
+  history = record { began = began; calls = log.calls };
+  fails = log.fails;
+  made = log.made;
+  fuse = log.fuse;
+  faults = log.faults;
+  room = log.room;
 }
+
+abbrev pub state_of : Inside → MemState
+state_of disk = state_over (began_of disk) disk.log
 
 -- The lists stand for what the calls left, the ranges lie within the bytes, and there is memory for the room that is left.
 pub record IsWhole (disk : Inside) : Type 0 where

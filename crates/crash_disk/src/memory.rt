@@ -4,7 +4,7 @@ ghost use Rattle.crash_disk.specs.Disk.{fresh_history, content, synced_content, 
 ghost use Rattle.crash_disk.specs.Outcomes.{image_after, HasPattern};
 ghost use Rattle.crash_disk.specs.Memory.{plan_of, fails_next, after_call, with_fuse, with_room, after_crash};
 
-use super::copy::{copy_over, copy_ranges, overwrite};
+use super::copy::{bring_up_to_date, copy_over, overwrite};
 use super::disk::{Disk, DiskFailed};
 use super::log::{CallLog, KeptStep};
 use super::mix::mix;
@@ -200,7 +200,7 @@ impl Disk for MemDisk {
         if failed {
             return Err(DiskFailed);
         }
-        copy_ranges(&mut self.synced, &self.bytes, &self.unsynced);
+        bring_up_to_date(&mut self.synced, &self.bytes, &self.unsynced);
         self.unsynced.clear();
         Ok(())
     }
@@ -209,8 +209,10 @@ impl Disk for MemDisk {
         ensures ok { OnOk result (self.new ≡ with_room calls bytes self.old) }
         ensures err { OnErr result (self.new ≡ self.old) }
     {
-        self.unsynced.reserve(calls.max(self.log.room_calls()) as usize)?;
-        self.bytes.reserve(bytes.max(self.log.room_bytes()) as usize)?;
+        self.unsynced
+            .reserve(calls.max(self.log.room_calls()) as usize)?;
+        self.bytes
+            .reserve(bytes.max(self.log.room_bytes()) as usize)?;
         self.synced.reserve(self.bytes.capacity())?;
         if !self.has_copy {
             copy_over(&mut self.began, &self.bytes)?;

@@ -1,4 +1,4 @@
-use Rattle.crash_disk.proofs.Images.{fresh_disk_leaves_itself}
+use Rattle.crash_disk.proofs.Left.{fresh_disk_leaves_itself}
 use Rattle.crash_disk.proofs.laws.fresh_disk_leaves_itself.Goals as goal
 
 pub returns : goal.returns
