@@ -19,7 +19,7 @@ opens_gate (Mix extra pattern) = is_open (slice_index pattern 0)
 
 -- whether the record of an append is kept of which so many device calls passed
 abbrev pub is_added : ℕ → Outcome → Bool
-is_added passed outcome = nat_le 4 passed || (nat_le 2 passed && opens_gate outcome)
+is_added count outcome = nat_le 4 count || (nat_le 2 count && opens_gate outcome)
 
 -- An append of which the first calls pass and, below four, the next one fails, to an image that a sync left and that
 -- spells records: the image that an outcome leaves spells them and the new one exactly where the four passed, or two or
