@@ -12,11 +12,12 @@ use Rattle.crash_disk.proofs.Calls.{later, made_over, made_there, made_none, mad
 use Rattle.crash_disk.proofs.Left.{synced_content_is_left}
 use Rattle.gate_journal.specs.Image.{is_open, begins_open, after_mark, records_from, kept_records, most, Spells}
 use Rattle.gate_journal.specs.Journal.{Keeps}
-use Rattle.gate_journal.specs.Make.{empty, is_made, look_steps, make_steps, IsFresh, IsBlank}
+use Rattle.gate_journal.specs.Make.{empty, is_made, look_steps, make_steps, IsFresh, IsBlank, Makes}
+use Rattle.gate_journal.specs.declared.refusal.JournalRefusal.TheVariants.{NoMemory}
 use Rattle.gate_journal.specs.Inside.{OverContent, LooksAt}
 use Rattle.gate_journal.proofs.Read.{records_from-end, records_from-none, records_from-empty, is_165}
 use Rattle.gate_journal.proofs.Crash.{settled_now}
-use Rattle.gate_journal.proofs.Opening.{some_image, any_image}
+use Rattle.gate_journal.proofs.OpenCalls.{some_image, any_image}
 
 -- what follows the mark is four bytes shorter
 pub length-after_mark : (image bytes : List ℕ) → after_mark image ≡ Some bytes → length image ≡ 4 + length bytes
@@ -75,7 +76,7 @@ made_five image len = (let out : ltb 5 (length image) ≡ false = grind (arith, 
 
 -- five bytes over at most five are all
 pub empty_written : (old : List ℕ) → length old ≤ 5 → with_write old 0 empty ≡ empty
-empty_with_write old le = ap (λ (l : List ℕ). empty ++ l) (drop_all 5 old le)
+empty_written old le = ap (λ (l : List ℕ). empty ++ l) (drop_all 5 old le)
 
 pub not_made : (image : List ℕ) → is_made image ≡ false → length image ≤ 5
 not_made image is = elim (cases_lt 5 (length image)) [
@@ -116,10 +117,10 @@ look_holds : (image : List ℕ) (history : History) → content (with_made (leng
 look_holds image history = elim (eqb (length image) 5) as (λ b. let steps : List Step = asks_length ∷ cond b (reads 0 5 ∷ []) [] in content (with_made (length steps) steps history) ≡ content history) [ true ↦ refl | false ↦ refl ]
 
 -- the calls of a making over an image that is made, and over one that isn't
-make_steps-made : (image : List ℕ) → is_made image ≡ true → make_steps image ≡ look_steps image
+pub make_steps-made : (image : List ℕ) → is_made image ≡ true → make_steps image ≡ look_steps image
 make_steps-made image is = ap (λ (b : Bool). cond b (look_steps image) (look_steps image ++ writes 0 empty ∷ syncs ∷ [])) is
 
-make_steps-new : (image : List ℕ) → is_made image ≡ false → make_steps image ≡ look_steps image ++ writes 0 empty ∷ syncs ∷ []
+pub make_steps-new : (image : List ℕ) → is_made image ≡ false → make_steps image ≡ look_steps image ++ writes 0 empty ∷ syncs ∷ []
 make_steps-new image new = ap (λ (b : Bool). cond b (look_steps image) (look_steps image ++ writes 0 empty ∷ syncs ∷ [])) new
 
 module _ {D : Type 0} (told : D → Option History) (plan : D → Option FaultPlan) where
@@ -244,3 +245,7 @@ module _ {D : Type 0} (told : D → Option History) (plan : D → Option FaultPl
                     images = λ image' may. synced_content_is_left after image' refl may ∙ holds;
                   } in
                   subst IsFresh there fresh
+
+-- for want of memory no call was made
+pub any_makes : {D : Type 0} (told : D → Option History) (plan : D → Option FaultPlan) {old new : D} → new ≡ old → Makes told plan old (Err NoMemory) new
+any_makes told plan {old = old} is = (let some = any_image (told old) in (some.0, some.1, is))

@@ -1,5 +1,5 @@
 -- An append from a journal at rest.
-use Rattle.std.proofs.Common.{◌≡◌, ◌⊎◌, ◌<◌, ◌≤◌, ◌+◌, ◌-◌, ◌*◌, ℕ, zero, suc, List, [], ◌∷◌, ◌++◌, length, take, drop, refl, sym, ◌∙◌, ap, subst, inl, inr, arith, length-append}
+use Rattle.std.proofs.Common.{◌≡◌, ◌⊎◌, ◌<◌, ◌≤◌, ◌+◌, ◌-◌, ◌*◌, ℕ, zero, suc, false, List, [], ◌∷◌, ◌++◌, length, take, drop, refl, sym, ◌∙◌, ap, subst, inl, inr, arith, length-append}
 use Rattle.std.specs.Int.{w32, to_be_bytes}
 use Rattle.std.proofs.lemmas.List.{take_all}
 use Rattle.std.proofs.lemmas.List.Elements.{All-push}
@@ -42,6 +42,11 @@ pub leaves_now : (before : History) (course : Course) (steps : List Step) (P : L
     → (image : List ℕ) → MayLeave (after_course course steps before) image → P image
 leaves_now before course steps P only image may = only image (0, omega (arith, course_longer course steps before), may)
 
+-- a crash where no call was made
+pub none_leaves : (history : History) (records : List (List ℕ)) (body : List ℕ) → AtRest history records → LeavesOnly history history (KeepsWithOrWithout records body)
+none_leaves history records body rest image (zero, le, may) = inl (rest_images history records rest image may)
+none_leaves history records body rest image (suc n, le, may) = absurd (omega (arith, le))
+
 module _ (history : History) (records : List (List ℕ)) (body : List ℕ) (rest : AtRest history records) (fits : length body ≤ most) where
   abbrev steps : List Step
   steps = append_steps (length (spelled records)) body
@@ -66,20 +71,17 @@ module _ (history : History) (records : List (List ℕ)) (body : List ℕ) (rest
       λ image may. any_moment f.front records f.read body fits history.began history.calls f.gate f.rest f.is f.closed rest.synced count may.0 image may.1 may.2 in
       subst (λ (g : ℕ). LeavesOnly history (with_made count (append_steps g body) history) (KeepsWithOrWithout records body)) f.read.place here
 
-  -- where no call was made
-  pub none_leaves : LeavesOnly history history (KeepsWithOrWithout records body)
-  none_leaves image (zero, le, may) = inl (rest_images history records rest image may)
-  none_leaves image (suc n, le, may) = absurd (omega (arith, le))
-
   stopped_leaves : (count : ℕ) → LeavesOnly history (after_course (stopped_after count) steps history) (KeepsWithOrWithout records body)
-  stopped_leaves zero image may = none_leaves image may
+  stopped_leaves zero image may = none_leaves history records body rest image may
   stopped_leaves (suc zero) image (n, le, may) = made_leaves 1 image (suc n, omega (arith, le), may)
   stopped_leaves (suc (suc zero)) image (n, le, may) = made_leaves 2 image (suc n, omega (arith, le), may)
   stopped_leaves (suc (suc (suc zero))) image (n, le, may) = made_leaves 3 image (suc n, omega (arith, le), may)
-  stopped_leaves (suc (suc (suc (suc count)))) =
+  stopped_leaves (suc (suc (suc (suc count)))) image may =
       let n = suc (suc (suc (suc count))) in
+      let here : LeavesOnly history (with_made n (take n steps) history) (KeepsWithOrWithout records body) =
       subst (λ (s : List Step). LeavesOnly history (with_made n s history) (KeepsWithOrWithout records body))
-      (sym (take_all n steps (omega arith))) (made_leaves n)
+      (sym (take_all n steps (omega arith))) (made_leaves n) in
+      here image may
 
   -- however the append went
   pub course_leaves : (course : Course) → LeavesOnly history (after_course course steps history) (KeepsWithOrWithout records body)
@@ -108,35 +110,41 @@ gate_within gate history r =
     let k = r.settled.kept in
     omega (arith, r.place, ap length k.is, length-append (spelled r.records) (k.gate ∷ k.rest))
 
--- a journal at rest at its gate, of which these records are read
+-- the records of a journal at rest at its gate are those that are read
+same_records : (gate : ℕ) (history : History) (r : RestsAt gate history) (records : List (List ℕ)) → Keeps records (content history) → r.records ≡ records
+same_records gate history r records keeps = cc (r.settled.read, keeps)
+
+pub still_leaves : (gate : ℕ) (history : History) (r : RestsAt gate history) (records : List (List ℕ)) (body : List ℕ) → Keeps records (content history) → LeavesOnly history history (KeepsWithOrWithout records body)
+still_leaves gate history r records body keeps =
+    subst (λ (rs : List (List ℕ)). LeavesOnly history history (KeepsWithOrWithout rs body)) (same_records gate history r records keeps)
+    (none_leaves history r.records body (settled_rests history r.records r.settled))
+
+-- an append to such a journal
 module _ (gate : ℕ) (history : History) (r : RestsAt gate history) (body : List ℕ) (fits : length body ≤ most) where
+  now_settled : IsSettled (with_made 4 (append_steps gate body) history) (r.records ++ body ∷ [])
+  now_settled =
+      subst (λ (g : ℕ). IsSettled (with_made 4 (append_steps g body) history) (r.records ++ body ∷ [])) (sym r.place)
+      (appends_settle history r.records body r.settled fits)
+
   pub rests_again : RestsAt (gate + (5 + length body)) (with_made 4 (append_steps gate body) history)
   rests_again = record {
     records = r.records ++ body ∷ [];
-    settled =
-        subst (λ (g : ℕ). IsSettled (with_made 4 (append_steps g body) history) (r.records ++ body ∷ [])) (sym r.place)
-        (appends_settle history r.records body r.settled fits);
+    settled = now_settled;
     place = omega (arith, r.place, length-spelled-push r.records body);
   }
 
   module _ (records : List (List ℕ)) (keeps : Keeps records (content history)) where
-    same : r.records ≡ records
-    same = cc (r.settled.read, keeps)
-
-    pub now_settled : IsSettled (with_made 4 (append_steps gate body) history) (records ++ body ∷ [])
-    now_settled =
-        subst (λ (rs : List (List ℕ)). IsSettled (with_made 4 (append_steps gate body) history) (rs ++ body ∷ [])) same rests_again.settled
+    pub gate_settled : IsSettled (with_made 4 (append_steps gate body) history) (records ++ body ∷ [])
+    gate_settled =
+        subst (λ (rs : List (List ℕ)). IsSettled (with_made 4 (append_steps gate body) history) (rs ++ body ∷ []))
+        (same_records gate history r records keeps) now_settled
 
     pub gate_leaves : (course : Course) → LeavesOnly history (after_course course (append_steps gate body) history) (KeepsWithOrWithout records body)
     gate_leaves course =
-        subst (λ (rs : List (List ℕ)). LeavesOnly history (after_course course (append_steps gate body) history) (KeepsWithOrWithout rs body)) same
+        subst (λ (rs : List (List ℕ)). LeavesOnly history (after_course course (append_steps gate body) history) (KeepsWithOrWithout rs body))
+        (same_records gate history r records keeps)
         (subst (λ (g : ℕ). LeavesOnly history (after_course course (append_steps g body) history) (KeepsWithOrWithout r.records body)) (sym r.place)
         (course_leaves history r.records body (settled_rests history r.records r.settled) fits course))
-
-    pub still_leaves : LeavesOnly history history (KeepsWithOrWithout records body)
-    still_leaves =
-        subst (λ (rs : List (List ℕ)). LeavesOnly history history (KeepsWithOrWithout rs body)) same
-        (none_leaves history r.records body (settled_rests history r.records r.settled) fits)
 
 -- the room after one body of at most so many bytes
 pub less_room : (bodies bytes len before now : ℕ) → 0 < bodies → len ≤ bytes → bodies * (bytes + 6) ≤ before → before ≤ now + (len + 6) → (bodies - 1) * (bytes + 6) ≤ now

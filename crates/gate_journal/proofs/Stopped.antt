@@ -1,7 +1,7 @@
 -- What a crash leaves at each moment of calls that write nothing, and of a making.
 use Rattle.std.proofs.Common.{◌≡◌, ◌≤◌, ◌+◌, ℕ, zero, suc, Bool, true, false, cond, eqb, List, [], ◌∷◌, ◌++◌, length, take, drop, MatchBool, slice_index, refl, sym, ◌∙◌, ap, subst, arith}
 use Rattle.std.proofs.lemmas.List.{append-nil}
-use Rattle.crash_disk.specs.Disk.{Step, asks_length, reads, writes, syncs, DeviceCall, History, content, synced_content, unsynced_ranges, content_after, synced_content_after, unsynced_ranges_after, is_touched, MayLeave, LeavesOnly}
+use Rattle.crash_disk.specs.Disk.{Step, asks_length, reads, writes, syncs, DeviceCall, History, content, synced_content, unsynced_ranges, content_after, synced_content_after, unsynced_ranges_after, is_touched, MayLeave, before_last, LeavesOnly}
 use Rattle.crash_disk.specs.Calls.{Course, passed, failed_after, stopped_after, made_of, after_course}
 use Rattle.crash_disk.proofs.Left.{content_may_be_left, synced_content_is_left}
 use Rattle.gate_journal.specs.Steps.{open_steps}
@@ -92,12 +92,9 @@ as_start before = record { holds = refl; images = λ image may. may }
 module _ (course : Course) (steps : List Step) (history : History) (quiet : AllSteps IsQuiet steps) where
   pub quiet_leaves : LeavesOnly history (after_course course steps history) (MayLeave history)
   quiet_leaves image (count, le, may) =
-      (since_course (IsAs history) IsQuiet (as_keeps history) course steps history quiet (as_start history) count (by course le)).images image (at course may)
+      (since_course (IsAs history) IsQuiet (as_keeps history) course steps history quiet (as_start history) count le).images image (at course may)
     where
-      by : (course : Course) → length history.calls + count ≤ length (after_course course steps history).calls → length history.calls + count ≤ length (after_course course steps history).calls
-      by course le = le
-
-      at : (course : Course) → MayLeave (record (after_course course steps history) { calls = drop count (after_course course steps history).calls }) image
+      at : (course : Course) → MayLeave (before_last count (after_course course steps history)) image
           → MayLeave (record { began = history.began; calls = drop count (after_course course steps history).calls }) image
       at passed may = may
       at (failed_after n) may = may

@@ -1,4 +1,4 @@
-ghost use Rattle.std.specs.Prelude.{◌≡◌, ◌<◌, ◌≤◌, ◌+◌, ◌*◌, max, ℕ, true, false, List, [], ◌∷◌, ◌++◌, length, IsOk, IfOk, IfErr, OnOk, OnErr};
+ghost use Rattle.std.specs.Prelude.{◌≡◌, ◌<◌, ◌≤◌, ◌+◌, ◌*◌, max, ℕ, true, false, List, [], ◌∷◌, ◌++◌, length, IfOk, IfErr, OnOk, OnErr};
 ghost use Rattle.std.specs.Vec.{vec_capacity};
 ghost use Rattle.plasma_base.specs.Causes.{faults_after};
 ghost use Rattle.crash_disk.specs.Disk.{content, LeavesOnly};
@@ -175,14 +175,21 @@ impl<D: Disk> Journal<D> {
         }
     }
 
+    // Whether there is room for a body of so many bytes.
+    fn has_spare(&self, bytes: usize) -> bool
+        ensures { result ≡ has_spare self.now bytes }
+    {
+        self.spare_bodies > 0 && bytes <= self.spare_bytes
+    }
+
     // Makes room for a body of so many bytes, where there is none.
     fn reserve_one(&mut self, bytes: usize) -> Result<(), NoMemory>
         ensures room { OnOk result (self.new ≡ with_room_for bytes self.new.disk self.old) }
-        ensures reserved { has_spare self.old bytes ≡ true → IsOk result × (self.new ≡ self.old) }
+        ensures full { OnErr result (has_spare self.old bytes ≡ false) }
         ensures still { IsStill D.told D.plan D.faults self.old.disk self.new.disk }
         ensures err { OnErr result (self.new ≡ self.old) }
     {
-        if self.spare_bodies > 0 && bytes <= self.spare_bytes {
+        if self.has_spare(bytes) {
             return Ok(());
         }
         let Some(bodies) = self.spare_bodies.checked_add(1) else {

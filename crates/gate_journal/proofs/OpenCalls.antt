@@ -108,13 +108,14 @@ opened_settled told plan {old = old} {new = new} image records made read spells 
     (settled_now _ records (subst (λ (b : List ℕ). Spells b records) (read before.0 before.1) spells) refl)
 
 -- a refusal to read is one to open
-pub refused_read : {D : Type 0} (told : D → Option History) (plan : D → Option FaultPlan) {old new : D} (image : List ℕ) (why : JournalRefusal)
-    → Made told plan open_steps 3 passed old new → Made told plan open_steps 3 (stopped_after 3) old new
-    → WhereTold (told old) (λ before. image ≡ content before) → IsReadRefusal image why
-    → RefusesOpen journal_in told plan old why new
-refused_read told plan image (NotJournal place) made stopped read not = (made, λ before some. ap journal_in (sym (read before some)) ∙ not)
-refused_read told plan image NoMemory made stopped read not = (3, (λ one. absurd (omega (arith, one))), stopped)
-refused_read told plan image DeviceFault made stopped read not = absurd not
-refused_read told plan image (AlreadyMade count) made stopped read not = absurd not
-refused_read told plan image (RecordTooLong count) made stopped read not = absurd not
-refused_read told plan image Closed made stopped read not = absurd not
+module _ {D : Type 0} (told : D → Option History) (plan : D → Option FaultPlan) {old new : D} (made : Made told plan open_steps 3 passed old new) (image : List ℕ) (read : WhereTold (told old) (λ before. image ≡ content before)) where
+  stopped : Made told plan open_steps 3 (stopped_after 3) old new
+  stopped = record { calls = made.calls; planned = (omega arith, made.planned.0, made.planned.1) }
+
+  pub refused_read : (why : JournalRefusal) → IsReadRefusal image why → RefusesOpen journal_in told plan old why new
+  refused_read (NotJournal place) not = (made, λ before some. ap journal_in (sym (read before some)) ∙ not)
+  refused_read NoMemory not = (3, (λ one. absurd (omega (arith, one))), stopped)
+  refused_read DeviceFault not = absurd not
+  refused_read (AlreadyMade count) not = absurd not
+  refused_read (RecordTooLong count) not = absurd not
+  refused_read Closed not = absurd not
