@@ -1,11 +1,13 @@
 -- Each outcome leaves an image that the disk model allows.
-use Rattle.std.proofs.Common.{◌≡◌, ◌⊎◌, ◌<◌, ◌≤◌, ◌+◌, ◌-◌, ℕ, min, Bool, true, false, leb, ltb, ◌||◌, ◌&&◌, List, [], ◌∷◌, ◌++◌, length, take, drop, get_or, refl, sym, ◌∙◌, ap, inl, inr, arith, length-append, length-take, length-drop}
+use Rattle.std.proofs.Common.{◌≡◌, ◌⊎◌, ◌<◌, ◌≤◌, ◌+◌, ◌-◌, ℕ, min, Bool, true, false, leb, ltb, ◌||◌, ◌&&◌, List, [], ◌∷◌, ◌++◌, length, take, drop, get_or, map, suc, zero, cond, refl, sym, ◌∙◌, ap, inl, inr, arith, length-append, length-take, length-drop}
 use Rattle.std.proofs.lemmas.Bool.{cases_lt, le-leb, lt-ltb}
 use Rattle.std.proofs.lemmas.Bool.Decides.{nat_tests}
 use Rattle.std.proofs.lemmas.List.{append-nil, get_or_append_left, get_or-append_right, get_or-take, get_or-drop}
 use Rattle.std.proofs.lemmas.List.Folds.{list_any-append}
 use Rattle.std.proofs.lemmas.List.FromFn.{length-map-range_with_len, get_or-map-range_with_len}
-use Rattle.std.specs.List.{list_any}
+use Rattle.std.specs.List.{list_any, count_by, range_with_len}
+use Rattle.std.proofs.lemmas.Grind.{same_number_lists}
+use Rattle.std.proofs.lemmas.List.Sums.{sum_by-append}
 use Rattle.crash_disk.specs.Disk.{Step, asks_length, reads, writes, syncs, DeviceCall, History, content_after, synced_content_after, unsynced_ranges_after, content, synced_content, unsynced_ranges, with_write, is_within, is_touched, MayLeave}
 use Rattle.crash_disk.specs.Outcomes.{image_after, mix_of, mix_byte}
 use Rattle.crash_disk.specs.declared.outcome.Outcome.{Outcome}
@@ -104,3 +106,29 @@ outcomes (Mix extra pattern) history =
           get_or-map-range_with_len (mix_byte bytes (unsynced_ranges history) pattern) 0 (length bytes + growth) place place 0 (omega (arith, parts.0)) (omega arith)
           ∙ (let e : mix_byte bytes (unsynced_ranges history) pattern place ≡ get_or bytes place 0 = rw out refl in e);
     }
+
+-- nothing to count
+pub none_below : (p : ℕ → Bool) (a n : ℕ) → ((k : ℕ) → a ≤ k → k < a + n → p k ≡ false) → count_by p (range_with_len a n) ≡ 0
+none_below p a zero none = refl
+none_below p a (suc n) none =
+    let value : Bool → ℕ = λ b. cond b 1 0 in
+    let here : value (p a) ≡ 0 = ap value (none a (omega arith) (omega arith)) in
+    let step : count_by p (range_with_len a (suc n)) ≡ value (p a) + count_by p (range_with_len (a + 1) n) = sum_by-append (λ x. value (p x)) (a ∷ []) (range_with_len (a + 1) n) ∙ omega arith in
+    let again = none_below p (a + 1) n (λ k from lt. none k (omega (arith, from)) (omega (arith, lt))) in
+    step ∙ (λ i. here i + again i)
+
+-- the bytes before the touched places are those of a mix
+pub mix-front : (bytes : List ℕ) (ranges : List (ℕ × ℕ)) (pattern : List ℕ) (first : ℕ) → first ≤ length bytes
+    → ((place : ℕ) → place < first → is_touched bytes ranges place ≡ false)
+    → take first bytes ≡ map (mix_byte bytes ranges pattern) (range_with_len 0 first)
+mix-front bytes ranges pattern first within none =
+    let byte = mix_byte bytes ranges pattern in
+    let len : length (take first bytes) ≡ first = omega (arith, length-take first bytes, within) in
+    same_number_lists (take first bytes) (map byte (range_with_len 0 first))
+    (len ∙ sym (length-map-range_with_len byte 0 first))
+    (λ place lt.
+    let lt' : place < first = omega (arith, lt, len) in
+    let out = none place lt' in
+    let same : byte place ≡ get_or bytes place 0 = rw out refl in
+    get_or-take first bytes place 0 lt'
+    ∙ sym (get_or-map-range_with_len byte 0 first place place 0 lt' (omega arith) ∙ same))

@@ -68,6 +68,15 @@ pub record IsReady {D : Type 0} (told : D → Option History) (plan : D → Opti
   pub room : mid ≡ with_room_for (length body) mid.disk old
   pub still : IsStill told plan faults old.disk mid.disk
 
+-- a journal that wasn't closed
+pub was_open : {D : Type 0} {inside value : JournalState D} → inside ≡ value → inside.closed ≡ false → value.closed ≡ false
+was_open is open' = subst (λ (s : JournalState _). s.closed ≡ false) is open'
+
+pub ready_for : {D : Type 0} {told : D → Option History} {plan : D → Option FaultPlan} {faults : D → ℕ} {body : List ℕ} {old after mid : JournalState D} → mid ≡ after → old.closed ≡ false → length body ≤ most
+    → after ≡ with_room_for (length body) after.disk old → IsStill told plan faults old.disk after.disk → IsReady told plan faults body old mid
+ready_for {told = told} {plan = plan} {faults = faults} {body = body} {old = old} is open' fits room still =
+    subst (IsReady told plan faults body old) (sym is) (record { was_open = open'; fits = fits; room = room; still = still })
+
 module _ {D : Type 0} {told : D → Option History} {plan : D → Option FaultPlan} {faults : D → ℕ} {body : List ℕ} {old mid : JournalState D} (ready : IsReady told plan faults body old mid) where
   pub room_for : IsRoomy (length body) old mid
   room_for = subst (IsRoomy (length body) old) (sym ready.room) (roomy (length body) mid.disk old)

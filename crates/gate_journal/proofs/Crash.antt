@@ -12,7 +12,7 @@ use Rattle.crash_disk.specs.Disk.{writes, syncs, DeviceCall, History, content, s
 use Rattle.crash_disk.specs.Outcomes.{image_after, mix_of, mix_byte, HasPattern}
 use Rattle.crash_disk.specs.declared.outcome.Outcome.{Outcome}
 use Rattle.crash_disk.specs.declared.outcome.Outcome.TheVariants.{Old, New, Mix}
-use Rattle.crash_disk.proofs.Images.{outcomes}
+use Rattle.crash_disk.proofs.Images.{outcomes, none_below}
 use Rattle.crash_disk.specs.Calls.{made_of}
 use Rattle.gate_journal.specs.Steps.{frame_of, append_steps}
 use Rattle.gate_journal.specs.Image.{is_open, most, spelled_record, spelled, Spells}
@@ -22,16 +22,6 @@ use Rattle.gate_journal.proofs.Read.{holds-length, spelled_is_read}
 use Rattle.gate_journal.proofs.Front.{IsRead, front-keeps, read_more, spelled_read}
 use Rattle.crash_disk.proofs.Left.{synced_is_content, synced_content_is_left}
 use Rattle.gate_journal.proofs.Left.{Left, left, only, behind, at_gate}
-
--- nothing to count
-none_below : (p : ℕ → Bool) (a n : ℕ) → ((k : ℕ) → a ≤ k → k < a + n → p k ≡ false) → count_by p (range_with_len a n) ≡ 0
-none_below p a zero none = refl
-none_below p a (suc n) none =
-    let value : Bool → ℕ = λ b. cond b 1 0 in
-    let here : value (p a) ≡ 0 = ap value (none a (omega arith) (omega arith)) in
-    let step : count_by p (range_with_len a (suc n)) ≡ value (p a) + count_by p (range_with_len (a + 1) n) = sum_by-append (λ x. value (p x)) (a ∷ []) (range_with_len (a + 1) n) ∙ omega arith in
-    let again = none_below p (a + 1) n (λ k from lt. none k (omega (arith, from)) (omega (arith, lt))) in
-    step ∙ (λ i. here i + again i)
 
 before_gate : (g len k : ℕ) → k < g → k < len → (leb len k || ((leb g k && ltb k (g + 1)) || false)) ≡ false
 before_gate g len k lt short = grind (arith, nat_tests)

@@ -146,6 +146,13 @@ module _ (gate : ℕ) (history : History) (r : RestsAt gate history) (body : Lis
         (subst (λ (g : ℕ). LeavesOnly history (after_course course (append_steps g body) history) (KeepsWithOrWithout r.records body)) (sym r.place)
         (course_leaves history r.records body (settled_rests history r.records r.settled) fits course))
 
+-- the room for a body of at most so many bytes
+pub one_room : (bodies bytes len left : ℕ) → 0 < bodies → len ≤ bytes → bodies * (bytes + 6) ≤ left → len + 6 ≤ left
+one_room zero bytes len left some le room = absurd (omega (arith, some))
+one_room (suc bodies) bytes len left some le room =
+    let e : suc bodies * (bytes + 6) ≡ bodies * (bytes + 6) + (bytes + 6) = omega arith in
+    omega (arith, e, le, room)
+
 -- the room after one body of at most so many bytes
 pub less_room : (bodies bytes len before now : ℕ) → 0 < bodies → len ≤ bytes → bodies * (bytes + 6) ≤ before → before ≤ now + (len + 6) → (bodies - 1) * (bytes + 6) ≤ now
 less_room zero bytes len before now some le room spent = absurd (omega (arith, some))
