@@ -41,11 +41,11 @@ impl<D: Disk> Model for Journal<D> {
     ghost use Rattle.gate_journal.specs.Sound.{IsSound};
 
     ghost view = { λ j. record {
-        disk = j.disk;
-        closed = j.closed;
-        gate = j.gate;
-        spare_bodies = j.spare_bodies;
-        spare_bytes = j.spare_bytes;
+      disk = j.disk;
+      closed = j.closed;
+      gate = j.gate;
+      spare_bodies = j.spare_bodies;
+      spare_bytes = j.spare_bytes;
     } };
 
     ghost invariant = { λ j.
@@ -75,8 +75,10 @@ impl<D: Disk> Journal<D> {
     /// missing, or whose record runs past the end or is too long; 0 where the image doesn't begin with
     /// the mark. A refusal hands the disk back.
     pub fn open(alloc: Global, disk: D) -> Result<(Journal<D>, Vec<Bytes>), Returned<D>>
-        ensures records { IfOk result (λ opened. WhereTold (D.told disk) (λ before. Keeps opened.1.items (content before))) }
-        ensures settled { IfOk result (λ opened. WhereTold (D.told opened.0.disk) (λ now. IsSettled now opened.1.items)) }
+        ensures records { IfOk result (λ opened.
+            WhereTold (D.told disk) (λ before. Keeps opened.1.items (content before))) }
+        ensures settled { IfOk result (λ opened.
+            WhereTold (D.told opened.0.disk) (λ now. IsSettled now opened.1.items)) }
         ensures journal { IfOk result (λ opened. opened.0 ≡ fresh_journal opened.0.disk opened.1.items) }
         ensures made { IfOk result (λ opened. Made D.told D.plan open_steps 3 passed disk opened.0.disk) }
         ensures cause { IfOk result (λ opened. D.faults opened.0.disk ≡ D.faults disk) }
