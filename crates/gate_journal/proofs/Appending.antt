@@ -3,12 +3,12 @@ use Rattle.std.proofs.Common.{◌≡◌, ◌<◌, ◌≤◌, ◌+◌, ◌-◌, �
 use Rattle.std.specs.Option.{option_map}
 use Rattle.std.specs.Result.{OnOk}
 use Rattle.std.proofs.lemmas.Bool.{leb-true, ltb-true}
-use Rattle.crash_disk.specs.Disk.{Step, History, content, FaultPlan, LeavesOnly}
+use Rattle.crash_disk.specs.Disk.{History, content, FaultPlan, LeavesOnly}
 use Rattle.crash_disk.specs.Calls.{WhereTold, IsStill, Course, passed, failed_after, after_course, Made}
 use Rattle.crash_disk.proofs.Calls.{made_from, made_same}
 use Rattle.gate_journal.specs.Image.{most}
 use Rattle.gate_journal.specs.Steps.{frame_of, steps_at, append_steps}
-use Rattle.gate_journal.specs.Journal.{JournalState, Keeps, KeepsWithOrWithout, IsSettled, has_spare, with_spare, with_record, Appended, AppendFailed}
+use Rattle.gate_journal.specs.Journal.{JournalState, Keeps, KeepsWithOrWithout, IsSettled, has_spare, with_spare, Appended, AppendFailed}
 use Rattle.gate_journal.specs.Inside.{with_room_for}
 use Rattle.gate_journal.specs.Sound.{RestsAt}
 use Rattle.gate_journal.proofs.Rest.{gate_settled, gate_leaves}

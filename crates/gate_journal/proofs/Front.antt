@@ -6,7 +6,7 @@ use Rattle.std.specs.Result.{result_ok}
 use Rattle.std.proofs.lemmas.Bool.{leb-true, eqb-true}
 use Rattle.std.proofs.lemmas.List.{drop_at, append-nil, drop-drop}
 use Rattle.std.proofs.lemmas.List.Elements.{All-nil, All-push, All-head, All-tail, All-cons}
-use Rattle.gate_journal.specs.Image.{is_open, most, mark, spelled_record, spelled_records, spelled, body_in, with_first, records_from, journal_in, kept_records, Spells, ReadIsSpelled}
+use Rattle.gate_journal.specs.Image.{is_open, most, mark, spelled_record, spelled_records, spelled, body_in, with_first, records_from, journal_in, kept_records, ReadIsSpelled}
 use Rattle.gate_journal.specs.Journal.{Keeps}
 use Rattle.gate_journal.proofs.Read.{Fits, body_in-field, holds-length, with_front, records_from-record, records_from-end, records_from-empty, records_from-zero, records_from-none, is_165, journal_in-mark, ReadsOn, on_record, on_end}
 use Rattle.gate_journal.proofs.Spelling.{spelled-push, length-spelled-push}

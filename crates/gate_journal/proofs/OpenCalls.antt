@@ -1,5 +1,5 @@
 -- The device calls of an opening.
-use Rattle.std.proofs.Common.{◌≡◌, ◌≢◌, ℕ, Bool, true, false, List, [], ◌∷◌, ◌++◌, length, replicate, take, drop, Option, Some, None, Err, refl, sym, ◌∙◌, ap, subst, arith}
+use Rattle.std.proofs.Common.{◌≡◌, ℕ, true, false, List, [], ◌∷◌, ◌++◌, length, replicate, take, drop, Option, Some, None, refl, sym, ◌∙◌, ap, subst, arith}
 use Rattle.std.proofs.lemmas.List.{take_all, take_at, length-replicate}
 use Rattle.std.specs.Option.{option_map}
 use Rattle.crash_disk.specs.Disk.{asks_length, reads, syncs, History, content, with_call, FaultPlan}

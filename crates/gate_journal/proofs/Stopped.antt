@@ -1,7 +1,7 @@
 -- What a crash leaves at each moment of calls that write nothing, and of a making.
 use Rattle.std.proofs.Common.{◌≡◌, ◌≤◌, ◌+◌, ℕ, zero, suc, Bool, true, false, cond, eqb, List, [], ◌∷◌, ◌++◌, length, take, drop, MatchBool, slice_index, refl, sym, ◌∙◌, ap, subst, arith}
 use Rattle.std.proofs.lemmas.List.{append-nil}
-use Rattle.crash_disk.specs.Disk.{Step, asks_length, reads, writes, syncs, DeviceCall, History, content, synced_content, unsynced_ranges, content_after, synced_content_after, unsynced_ranges_after, is_touched, MayLeave, before_last, LeavesOnly}
+use Rattle.crash_disk.specs.Disk.{Step, asks_length, reads, writes, syncs, DeviceCall, History, content, content_after, synced_content_after, unsynced_ranges_after, is_touched, MayLeave, before_last, LeavesOnly}
 use Rattle.crash_disk.specs.Calls.{Course, passed, failed_after, stopped_after, made_of, after_course}
 use Rattle.crash_disk.proofs.Left.{content_may_be_left, synced_content_is_left}
 use Rattle.gate_journal.specs.Steps.{open_steps}

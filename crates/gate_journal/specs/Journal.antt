@@ -1,12 +1,11 @@
 -- A journal on a disk, and what its opening and its appends do.
-use Rattle.std.specs.Prelude.{◌≡◌, ◌≢◌, ◌<◌, ◌≤◌, ◌⊎◌, ℕ, ◌+◌, ◌-◌, max, Bool, true, false, ◌&&◌, nat_lt, nat_le, if◌then◌else◌, List, [], ◌∷◌, ◌++◌, length, take, Option, Some, Result, Ok, Err}
+use Rattle.std.specs.Prelude.{◌≡◌, ◌≢◌, ◌<◌, ◌≤◌, ◌⊎◌, ℕ, ◌+◌, ◌-◌, max, Bool, true, false, ◌&&◌, nat_lt, nat_le, if◌then◌else◌, List, [], ◌∷◌, ◌++◌, length, Option, Some, Result, Ok, Err}
 use Rattle.crash_disk.specs.Disk.{History, content, unsynced_ranges, MayLeave, FaultPlan}
 use Rattle.crash_disk.specs.Calls.{WhereTold, passed, failed_after, stopped_after, Made}
 use Rattle.gate_journal.specs.Image.{most, spelled, Spells, kept_records}
 use Rattle.gate_journal.specs.Steps.{append_steps, open_steps}
 use Rattle.gate_journal.specs.declared.refusal.JournalRefusal.{JournalRefusal}
 use Rattle.gate_journal.specs.declared.refusal.JournalRefusal.TheVariants.{DeviceFault, NoMemory, NotJournal, RecordTooLong, Closed}
-use Rattle.gate_journal.specs.declared.refusal.Returned.{Returned}
 
 -- what callers see of a journal: its disk, whether a device fault closed it, the place of the closed gate behind the
 -- records, and the room for further bodies

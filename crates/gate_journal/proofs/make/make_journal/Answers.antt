@@ -1,7 +1,7 @@
-use Rattle.std.proofs.Common.{◌≡◌, List, ℕ, Ok, Err, Result, Option, sym, ◌∙◌}
+use Rattle.std.proofs.Common.{◌≡◌, List, ℕ, Option, sym, ◌∙◌}
 use Rattle.std.proofs.lemmas.Result.{err_from_is_err_and}
 use Rattle.crash_disk.specs.Disk.{History, FaultPlan, content}
-use Rattle.crash_disk.specs.Calls.{WhereTold, IsStill, Made}
+use Rattle.crash_disk.specs.Calls.{WhereTold, IsStill}
 use Rattle.crash_disk.proofs.Calls.{made_from}
 use Rattle.gate_journal.proofs.Making.{make_unlooked, make_found, make_unwritten, make_unsynced, make_done, now_fresh, any_makes}
 use Rattle.gate_journal.proofs.make.make_journal.Goals as goal

@@ -1,6 +1,5 @@
-use Rattle.std.proofs.Common.{◌≡◌, ◌+◌, Bool, cond, sym, ◌∙◌, ap}
+use Rattle.std.proofs.Common.{◌+◌, Bool, cond, sym, ◌∙◌, ap}
 use Rattle.gate_journal.specs.Journal.{with_spare}
-use Rattle.gate_journal.proofs.Appending.{room_made}
 use Rattle.gate_journal.proofs.journal.Journal.reserve_one.Goals as goal
 
 pub returns-then-has_spare-clause-room : goal.returns-then-has_spare-clause-room
