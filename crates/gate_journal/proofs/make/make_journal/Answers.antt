@@ -1,61 +1,101 @@
-use Rattle.std.proofs.Common.{◌≡◌, false, Option, Result, Ok, Err, [], ◌∷◌, sym, subst, ◌∙◌}
+use Rattle.std.proofs.Common.{◌≡◌, List, ℕ, Option, sym, ◌∙◌}
 use Rattle.std.proofs.lemmas.Result.{err_from_is_err_and}
-use Rattle.crash_disk.specs.Disk.{History, Plan, writes, syncs}
-use Rattle.gate_journal.specs.declared.refusal.JournalRefusal.{JournalRefusal}
-use Rattle.gate_journal.specs.declared.refusal.JournalRefusal.TheVariants.{AlreadyMade, DeviceFault}
-use Rattle.gate_journal.specs.Make.{is_made, empty, TellsMake}
-use Rattle.gate_journal.proofs.Told.{tells_fault, tells_more, tells_none}
-use Rattle.gate_journal.proofs.Making.{now_fresh, makes, make_unlooked, make_none}
+use Rattle.crash_disk.specs.Disk.{History, FaultPlan, content}
+use Rattle.crash_disk.specs.Calls.{WhereTold, IsStill}
+use Rattle.crash_disk.proofs.Calls.{made_from}
+use Rattle.gate_journal.proofs.Making.{make_unlooked, make_found, make_unwritten, make_unsynced, make_done, now_fresh, any_makes}
 use Rattle.gate_journal.proofs.make.make_journal.Goals as goal
 
--- room was made before
-behind_room : (told told' : Option History) (plan plan' : Option Plan) (result : Result (Unit {0}) JournalRefusal) (now : Option History) (plan_now : Option Plan) → told' ≡ told → plan' ≡ plan → TellsMake told' plan' result now plan_now → TellsMake told plan result now plan_now
-behind_room told told' plan plan' result now plan_now is planned tells =
-    subst (λ (p : Option Plan). TellsMake told p result now plan_now) planned (subst (λ (t : Option History). TellsMake t plan' result now plan_now) is tells)
+-- the image that a disk holds stays while it is still the same
+before_room : {D : Type 0} (told : D → Option History) (plan : D → Option FaultPlan) (faults : D → ℕ) {first old : D}
+    (image : List ℕ) → IsStill told plan faults first old
+    → WhereTold (told old) (λ before. image ≡ content before)
+    → WhereTold (told first) (λ before. image ≡ content before)
+before_room told plan faults image still same before some = same before (still.same_calls ∙ some)
 
-pub returns-in_err-make_room-clause-calls : goal.returns-in_err-make_room-clause-calls
-returns-in_err-make_room-clause-calls g c =
+pub returns-in_err-make_room-clause-makes : goal.returns-in_err-make_room-clause-makes
+returns-in_err-make_room-clause-makes g c =
     let p = err_from_is_err_and c.from_residual.result c.from_residual.ensures.1 in
-    rw (p.1, p.2) (make_none _ _ _ _ c.make_room.ensures.history c.make_room.ensures.plan)
+    rw (p.1, p.2) (any_makes g.D.Disk.told g.D.Disk.plan c.in_err-make_room.ensures.err)
 
-pub returns-in_err-found-clause-calls : goal.returns-in_err-found-clause-calls
-returns-in_err-found-clause-calls g c =
+pub returns-in_err-found-clause-makes : goal.returns-in_err-found-clause-makes
+returns-in_err-found-clause-makes g c =
+    let told = g.D.Disk.told in
+    let plan = g.D.Disk.plan in
     let p = err_from_is_err_and c.from_residual-in_err-found.result c.from_residual-in_err-found.ensures.1 in
     let l = c.in_err-found.ensures.looks in
-    rw (p.1, p.2) (behind_room _ _ _ _ (Err DeviceFault) _ _ c.make_room.ensures.history c.make_room.ensures.plan (l.0, l.1, make_unlooked l.0 _ _ _ _ l.2.1))
+    let still = c.make_room.ensures.still in
+    rw (p.1, p.2) (
+      l.0,
+      before_room told plan g.D.Disk.faults l.0 still l.1,
+      (l.2.1.0, made_from told plan still (make_unlooked told plan l.0 l.1 l.2.1.0 l.2.1.1)),
+    )
 
-pub returns-then-found-clause-calls : goal.returns-then-found-clause-calls
-returns-then-found-clause-calls g c =
+pub returns-then-found-clause-makes : goal.returns-then-found-clause-makes
+returns-then-found-clause-makes g c =
+    let told = g.D.Disk.told in
+    let plan = g.D.Disk.plan in
     let l = c.in_ok-found.ensures.looks in
-    behind_room _ _ _ _ (Err (AlreadyMade c.in_ok-found.found.length)) _ _ c.make_room.ensures.history c.make_room.ensures.plan (l.0, l.1, (sym l.2.0.0 ∙ c.if-found.true, l.2.0.1, l.2.1))
+    let still = c.make_room.ensures.still in
+    let made = sym l.2.0.0 ∙ c.if-found.true in (
+      l.0,
+      before_room told plan g.D.Disk.faults l.0 still l.1,
+      (made, l.2.0.1, made_from told plan still (make_found told plan l.0 l.1 l.2.1 made)),
+    )
 
-pub returns-in_err-write_at-clause-calls : goal.returns-in_err-write_at-clause-calls
-returns-in_err-write_at-clause-calls g c =
+pub returns-in_err-write_at-clause-makes : goal.returns-in_err-write_at-clause-makes
+returns-in_err-write_at-clause-makes g c =
+    let told = g.D.Disk.told in
+    let plan = g.D.Disk.plan in
     let p = err_from_is_err_and c.from_residual-in_err-write_at.result c.from_residual-in_err-write_at.ensures.1 in
     let l = c.in_ok-found.ensures.looks in
-    let w = c.in_err-write_at.ensures in
-    let t = makes l.0 _ _ _ _ _ _ (Err tt) (sym l.2.0.0 ∙ c.if-found.false) l.2.1 (tells_fault (writes 0 empty) (syncs ∷ []) _ _ _ _ w.history w.planned) in
-    rw (p.1, p.2) (behind_room _ _ _ _ (Err DeviceFault) _ _ c.make_room.ensures.history c.make_room.ensures.plan (l.0, l.1, t))
+    let still = c.make_room.ensures.still in
+    rw (p.1, p.2) (
+      l.0,
+      before_room told plan g.D.Disk.faults l.0 still l.1,
+      (
+        _,
+        made_from told plan still
+            (make_unwritten told plan l.0 l.1 l.2.1 (sym l.2.0.0 ∙ c.if-found.false) c.in_err-write_at.ensures.called),
+      ),
+    )
 
-pub returns-in_err-sync-clause-calls : goal.returns-in_err-sync-clause-calls
-returns-in_err-sync-clause-calls g c =
+pub returns-in_err-sync-clause-makes : goal.returns-in_err-sync-clause-makes
+returns-in_err-sync-clause-makes g c =
+    let told = g.D.Disk.told in
+    let plan = g.D.Disk.plan in
     let p = err_from_is_err_and c.from_residual-in_err-sync.result c.from_residual-in_err-sync.ensures.1 in
     let l = c.in_ok-found.ensures.looks in
-    let w = c.in_ok-write_at.ensures in
-    let s = c.in_err-sync.ensures in
-    let t = makes l.0 _ _ _ _ _ _ (Err tt) (sym l.2.0.0 ∙ c.if-found.false) l.2.1 (tells_more (writes 0 empty) (syncs ∷ []) _ _ _ _ _ _ (Err tt) w.history w.planned (tells_fault syncs [] _ _ _ _ s.history s.planned)) in
-    rw (p.1, p.2) (behind_room _ _ _ _ (Err DeviceFault) _ _ c.make_room.ensures.history c.make_room.ensures.plan (l.0, l.1, t))
+    let still = c.make_room.ensures.still in
+    rw (p.1, p.2) (
+      l.0,
+      before_room told plan g.D.Disk.faults l.0 still l.1,
+      (
+        _,
+        made_from told plan still
+            (make_unsynced told plan l.0 l.1 l.2.1
+            (sym l.2.0.0 ∙ c.if-found.false) c.in_ok-write_at.ensures.called c.in_err-sync.ensures.called),
+      ),
+    )
 
-pub returns-clause-calls : goal.returns-clause-calls
-returns-clause-calls g c =
+pub returns-clause-makes : goal.returns-clause-makes
+returns-clause-makes g c =
+    let told = g.D.Disk.told in
+    let plan = g.D.Disk.plan in
     let l = c.in_ok-found.ensures.looks in
-    let w = c.in_ok-write_at.ensures in
-    let s = c.in_ok-sync.ensures in
-    let new : is_made l.0 ≡ false = sym l.2.0.0 ∙ c.if-found.false in
-    let t = makes l.0 _ _ _ _ _ _ (Ok tt) new l.2.1 (tells_more (writes 0 empty) (syncs ∷ []) _ _ _ _ _ _ (Ok tt) w.history w.planned (tells_more syncs [] _ _ _ _ _ _ (Ok tt) s.history s.planned (tells_none _ _))) in
-    behind_room _ _ _ _ (Ok tt) _ _ c.make_room.ensures.history c.make_room.ensures.plan (l.0, l.1, (new, t))
+    let still = c.make_room.ensures.still in
+    let new = sym l.2.0.0 ∙ c.if-found.false in (
+      l.0,
+      before_room told plan g.D.Disk.faults l.0 still l.1,
+      (
+        new,
+        made_from told plan still
+            (make_done told plan l.0 l.1 l.2.1 new c.in_ok-write_at.ensures.called c.in_ok-sync.ensures.called),
+      ),
+    )
 
-pub returns-clause-made : goal.returns-clause-made
-returns-clause-made g c =
+pub returns-clause-fresh : goal.returns-clause-fresh
+returns-clause-fresh g c =
     let l = c.in_ok-found.ensures.looks in
-    now_fresh _ _ _ _ l.0 l.1 (sym l.2.0.0 ∙ c.if-found.false) l.2.1.0 c.in_ok-write_at.ensures.history c.in_ok-sync.ensures.history
+    now_fresh g.D.Disk.told g.D.Disk.plan l.0 l.1 l.2.1
+    (sym l.2.0.0 ∙ c.if-found.false) c.in_ok-write_at.ensures.called c.in_ok-sync.ensures.called

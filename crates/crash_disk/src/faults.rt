@@ -1,15 +1,16 @@
 ghost use Rattle.std.specs.Prelude.{◌≡◌, ◌-◌, ◌||◌, option_map};
-ghost use Rattle.crash_disk.specs.Causes.{counted};
+ghost use Rattle.plasma_base.specs.Causes.{counted, faults_after};
 ghost use Rattle.crash_disk.specs.Disk.{is_spent};
-ghost use Rattle.crash_disk.specs.Memory.{listed_at, faults_after};
+ghost use Rattle.crash_disk.specs.Memory.{listed_at};
 
-// Which device calls fail: those on a list, counted from 1, and every call once the fuse is spent.
+// Which device calls fail: those on a list, counted from 1, and every call once the fuse is spent. It counts
+// those that did.
 #[derive(Drop)]
-pub struct Plan {
+pub struct Faults {
     pub fails: Vec<u64>,
     pub made: u64,
     pub fuse: Option<u64>,
-    pub faults: u64,
+    pub count: u64,
 }
 
 // Whether no call may pass any more.
@@ -23,7 +24,7 @@ fn is_spent(fuse: Option<u64>) -> bool
 }
 
 // The fuse after one call more.
-fn burnt(fuse: Option<u64>) -> Option<u64>
+fn shorter_fuse(fuse: Option<u64>) -> Option<u64>
     ensures { result ≡ option_map (λ calls. calls - 1) fuse }
 {
     match fuse {
@@ -40,20 +41,20 @@ fn is_on_list(fails: &[u64], made: u64) -> bool
     fails.iter().any(|fail| u128::from(*fail) == number)
 }
 
-impl Plan {
+impl Faults {
     // Counts the next call, and says whether it fails.
     pub fn next_fails(&mut self) -> bool
         ensures value { result ≡ (is_spent self.old.fuse || listed_at self.old.fails.items self.old.made 0) }
         ensures fails { self.new.fails.items ≡ self.old.fails.items }
         ensures made { self.new.made ≡ counted self.old.made }
         ensures fuse { self.new.fuse ≡ option_map (λ calls. calls - 1) self.old.fuse }
-        ensures faults { self.new.faults ≡ faults_after self.old.faults result }
+        ensures count { self.new.count ≡ faults_after self.old.count result }
     {
         let failed = is_spent(self.fuse) || is_on_list(&self.fails, self.made);
         self.made = self.made.saturating_add(1);
-        self.fuse = burnt(self.fuse);
+        self.fuse = shorter_fuse(self.fuse);
         if failed {
-            self.faults = self.faults.saturating_add(1);
+            self.count = self.count.saturating_add(1);
         }
         failed
     }
