@@ -5,7 +5,7 @@ use Rattle.std.proofs.Math.Nat.{mod-eq_of_lt, mod-lt, pow-le-pow_right}
 use Rattle.std.proofs.lemmas.Nat.{one_shl, pow_pos}
 use Rattle.lms_sign.specs.declared.types.LmsTypes.{LmsTypes}
 use Rattle.lms_sign.specs.Types.{chain_length, chains, height, leaf_count, shift, width}
-use Rattle.lms_sign.specs.OneTime.{checksum, coefficient, digit, shortfall, summed}
+use Rattle.lms_sign.specs.OneTime.{checksum, coefficient, digit, shortfall, hash_with_checksum}
 
 pub leaf_count-le : (types : LmsTypes) → leaf_count types ≤ 1024
 unfolding height
@@ -20,7 +20,8 @@ one_shl-le h l =
 -- a digit is read within the 34 bytes of the hash and its checksum
 pub digit-within : (types : LmsTypes) (i : ℕ) → i < chains types → i * width types < 272
 unfolding chains width
-digit-within types i = elim (types.ots == 3) as (λ v. i < cond v 67 34 → i * cond v 4 8 < 272) [ true ↦ λ h. omega arith | false ↦ λ h. omega arith ]
+digit-within types i = elim (types.ots == 3) as (λ v. i < cond v 67 34 → i * cond v 4 8 < 272)
+    [ true ↦ λ h. omega arith | false ↦ λ h. omega arith ]
 
 -- the last w bits by the code's mask
 pub digits_of_width : (x w : ℕ) → (w ≡ 4) ⊎ (w ≡ 8) → (x % (1 * 2 ^ w % 4294967296) ≡ x % 2 ^ w) × (x % 2 ^ w < 2 ^ w)
@@ -36,7 +37,7 @@ coefficient-lt bytes i w = mod-lt _ (pow_pos w)
 
 pub digit-le : (types : LmsTypes) (hash : List ℕ) (i : ℕ) → digit types hash i ≤ chain_length types
 unfolding digit
-digit-le types hash i = omega (arith, coefficient-lt (summed types hash) i (width types))
+digit-le types hash i = omega (arith, coefficient-lt (hash_with_checksum types hash) i (width types))
 
 one_more : (s n d x : ℕ) → s ≤ n * d → x ≤ d → s + x ≤ suc n * d
 one_more s n d x h l = omega arith
@@ -48,18 +49,24 @@ shortfall-le hash w (suc n) = one_more _ n _ _ (shortfall-le hash w n) (omega ar
 
 pub checksum-lt : (types : LmsTypes) (hash : List ℕ) → checksum types hash < 65536
 unfolding width shift
-checksum-lt types hash = elim (types.ots == 3) as (λ v. shortfall hash (cond v 4 8) (256 / cond v 4 8) * 2 ^ cond v 4 0 < 65536)
+checksum-lt types hash = elim (types.ots == 3) as (λ v. shortfall hash (cond v 4 8) (256 / cond v 4 8) * 2 ^ cond
+    v 4 0 < 65536)
     [ true ↦ omega (arith, shortfall-le hash 4 64) | false ↦ omega (arith, shortfall-le hash 8 32) ]
 
 -- the shortfall of fewer digits than a hash has leaves room for one more in 16 bits
 pub shortfall-small : (hash : List ℕ) (w i : ℕ) → (w ≡ 4) ⊎ (w ≡ 8) → i < 256 / w → shortfall hash w i + 255 < 65536
-shortfall-small hash w i h = elim h
-    [ inl e ↦ rw e (λ l. omega (arith, shortfall-le hash 4 i)) | inr e ↦ rw e (λ l. omega (arith, shortfall-le hash 8 i)) ]
+shortfall-small hash w i h = elim h [
+  | inl e ↦ rw e (λ l. omega (arith, shortfall-le hash 4 i))
+  | inr e ↦ rw e
+      (λ l. omega (arith, shortfall-le hash 8 i))
+]
 
-pub shortfall-more : (hash : List ℕ) (w n : ℕ) → shortfall hash w (n + 1) ≡ shortfall hash w n + (2 ^ w - 1 - coefficient hash n w)
+pub shortfall-more : (hash : List ℕ) (w n : ℕ) → shortfall hash w (n + 1) ≡ shortfall hash w n +
+    (2 ^ w - 1 - coefficient hash n w)
 unfolding shortfall
 shortfall-more hash w n = rw add-one refl
 
 -- the checksum as the code computes it
-pub shifted : (types : LmsTypes) (hash : List ℕ) (short w ls : ℕ) → w ≡ width types → ls ≡ shift types → short ≡ shortfall hash w (256 / w) → short * 2 ^ ls % 65536 ≡ checksum types hash
-shifted types hash short w ls e f g = rw (g, e, f) (mod-eq_of_lt (checksum-lt types hash))
+pub shift-checksum : (types : LmsTypes) (hash : List ℕ) (short w ls : ℕ) → w ≡ width types → ls ≡ shift types
+    → short ≡ shortfall hash w (256 / w) → short * 2 ^ ls % 65536 ≡ checksum types hash
+shift-checksum types hash short w ls e f g = rw (g, e, f) (mod-eq_of_lt (checksum-lt types hash))

@@ -10,7 +10,7 @@ AreNodesFrom secret nodes low =
     (r : ℕ) → low ≤ r → 0 < r → r < 2 * leaf_count secret.types → slice_index_or nodes r [] ≡ tree_node secret r
 
 -- the types are supported, the identifier has its length, and the nodes are all of the tree's, by number
-pub record IsKept (secret : Secret) (nodes : List (List ℕ)) : Type 0 where
+pub record KeepsTree (secret : Secret) (nodes : List (List ℕ)) : Type 0 where
   pub supported : is_supported secret.types ≡ true
   pub id : length secret.id ≡ 16
   pub whole : length nodes ≡ 2 * leaf_count secret.types

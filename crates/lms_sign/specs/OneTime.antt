@@ -19,26 +19,26 @@ abbrev pub checksum : LmsTypes → List ℕ → ℕ
 checksum types hash = shortfall hash (width types) (256 / width types) * 2 ^ shift types
 
 -- Q || u16str(Cksm(Q)), whose digits say how far the chains are taken (section 4.5)
-unfoldable pub summed : LmsTypes → List ℕ → List ℕ
-summed types hash = hash ++ u16str (checksum types hash)
+unfoldable pub hash_with_checksum : LmsTypes → List ℕ → List ℕ
+hash_with_checksum types hash = hash ++ u16str (checksum types hash)
 
 -- the i-th digit of Q || Cksm(Q) (section 4.5, algorithm 3)
 unfoldable pub digit : LmsTypes → List ℕ → ℕ → ℕ
-digit types hash i = coefficient (summed types hash) i (width types)
+digit types hash i = coefficient (hash_with_checksum types hash) i (width types)
 
 -- the pieces 0, 1, .., n - 1, one after another
-unfoldable pub joined : (ℕ → List ℕ) → ℕ → List ℕ
-joined piece zero = []
-joined piece (suc n) = joined piece n ++ piece n
+unfoldable pub concatenation : (ℕ → List ℕ) → ℕ → List ℕ
+concatenation piece zero = []
+concatenation piece (suc n) = concatenation piece n ++ piece n
 
 -- one step of chain i of leaf q, from the string at j (section 4.3, algorithm 1)
 abbrev pub chain_step : List ℕ → ℕ → ℕ → ℕ → List ℕ → List ℕ
 chain_step id q i j string = sha256 (id ++ u32str q ++ u16str i ++ u8str j ++ string)
 
 -- the string that so many steps of chain i of leaf q lead to, from the string at j (section 4.3, algorithm 1)
-unfoldable pub chained : List ℕ → ℕ → ℕ → ℕ → ℕ → List ℕ → List ℕ
-chained id q i j zero string = string
-chained id q i j (suc steps) string = chained id q i (j + 1) steps (chain_step id q i j string)
+unfoldable pub chain_value : List ℕ → ℕ → ℕ → ℕ → ℕ → List ℕ → List ℕ
+chain_value id q i j zero string = string
+chain_value id q i j (suc steps) string = chain_value id q i (j + 1) steps (chain_step id q i j string)
 
 -- x_q[i], where chain i of leaf q starts (appendix A)
 abbrev pub private_element : Secret → ℕ → ℕ → List ℕ
@@ -46,7 +46,7 @@ private_element secret q i = sha256 (secret.id ++ u32str q ++ u16str i ++ u8str 
 
 -- the string of chain i of leaf q after so many steps from its start
 abbrev pub chain_at : Secret → ℕ → ℕ → ℕ → List ℕ
-chain_at secret q i steps = chained secret.id q i 0 steps (private_element secret q i)
+chain_at secret q i steps = chain_value secret.id q i 0 steps (private_element secret q i)
 
 -- K, the one-time public key of leaf q, from the ends of its chains (section 4.3, algorithm 1)
 abbrev pub one_time_key : List ℕ → ℕ → List ℕ → List ℕ
@@ -57,7 +57,7 @@ unfoldable pub chain_end : Secret → ℕ → ℕ → List ℕ
 chain_end secret q i = chain_at secret q i (chain_length secret.types)
 
 abbrev pub one_time_public : Secret → ℕ → List ℕ
-one_time_public secret q = one_time_key secret.id q (joined (chain_end secret q) (chains secret.types))
+one_time_public secret q = one_time_key secret.id q (concatenation (chain_end secret q) (chains secret.types))
 
 -- C, which the standard leaves to the signer: this project derives it as the element fffd of leaf q (section 4.5)
 abbrev pub randomizer : Secret → ℕ → List ℕ
@@ -65,13 +65,14 @@ randomizer secret q = sha256 (secret.id ++ u32str q ++ u16str 0xfffd ++ u8str 0x
 
 -- Q, the hash of a message under the randomizer C (section 4.5, algorithm 3)
 abbrev pub message_hash : List ℕ → ℕ → List ℕ → List ℕ → List ℕ
-message_hash id q salt message = sha256 (id ++ u32str q ++ u16str 0x8181 ++ salt ++ message)
+message_hash id q c message = sha256 (id ++ u32str q ++ u16str 0x8181 ++ c ++ message)
 
 -- y[i]: chain i taken as far as its digit of the hash says (section 4.5, algorithm 3)
 unfoldable pub signed_string : Secret → ℕ → List ℕ → ℕ → List ℕ
 signed_string secret q hash i = chain_at secret q i (digit secret.types hash i)
 
--- z[i] from y[i], which its digit of the hash places on chain i, and which is taken to the chain's end (section 4.6, algorithm 4b)
+-- z[i] from y[i], which its digit of the hash places on chain i, and which is taken to the chain's end (section 4.6,
+-- algorithm 4b)
 unfoldable pub finished_string : LmsTypes → List ℕ → ℕ → List ℕ → (ℕ → List ℕ) → ℕ → List ℕ
 finished_string types id q hash given i =
-    chained id q i (digit types hash i) (chain_length types - digit types hash i) (given i)
+    chain_value id q i (digit types hash i) (chain_length types - digit types hash i) (given i)

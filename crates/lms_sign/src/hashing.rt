@@ -38,11 +38,11 @@ pub(crate) fn chain_step(id: &[u8; 16], q: u32, i: u16, j: u8, string: &[u8; 32]
 }
 
 /// The hash of a message under a randomizer.
-pub(crate) fn message_hash(id: &[u8; 16], q: u32, salt: &[u8], message: &[u8]) -> [u8; 32]
-    ensures { result ≡ message_hash id.now q salt.now message.now }
+pub(crate) fn message_hash(id: &[u8; 16], q: u32, randomizer: &[u8], message: &[u8]) -> [u8; 32]
+    ensures { result ≡ message_hash id.now q randomizer.now message.now }
 {
     let mut hasher = hasher_for(id, q, D_MESG);
-    hasher.update(salt);
+    hasher.update(randomizer);
     hasher.update(message);
     hasher.finalize()
 }

@@ -1,6 +1,6 @@
 ghost use Rattle.std.specs.Prelude.{◌≡◌, ◌+◌, ◌*◌, ◌^◌, ◌<◌, ◌≤◌, ◌⊎◌, length};
 ghost use Rattle.lms_sign.specs.Types.{chain_length, chains};
-ghost use Rattle.lms_sign.specs.OneTime.{chain_at, chained, coefficient, digit, one_time_public, randomizer, summed};
+ghost use Rattle.lms_sign.specs.OneTime.{chain_at, chain_value, coefficient, digit, one_time_public, randomizer, hash_with_checksum};
 ghost use Rattle.lms_sign.specs.Valid.{candidate, string_of};
 
 use super::fields::{put, u16str};
@@ -24,8 +24,8 @@ fn coefficient(bytes: &[u8], i: u16, w: usize) -> u8
 }
 
 /// The hash with its checksum.
-pub(crate) fn summed(types: &LmsTypes, hash: &[u8; 32]) -> [u8; 34]
-    ensures { result ≡ summed types.now hash.now }
+pub(crate) fn hash_with_checksum(types: &LmsTypes, hash: &[u8; 32]) -> [u8; 34]
+    ensures { result ≡ hash_with_checksum types.now hash.now }
 {
     let w = types.width();
     let full: u16 = (1 << w) - 1;
@@ -41,7 +41,7 @@ pub(crate) fn summed(types: &LmsTypes, hash: &[u8; 32]) -> [u8; 34]
 
 /// The digit that says how far a chain is taken.
 pub(crate) fn digit(types: &LmsTypes, hash: &[u8; 32], with_sum: &[u8; 34], i: u16) -> u8
-    requires of_hash { with_sum.now ≡ summed types.now hash.now }
+    requires of_hash { with_sum.now ≡ hash_with_checksum types.now hash.now }
     requires in_chains { i < chains types.now }
     ensures value { result ≡ digit types.now hash.now i }
     ensures bound { result ≤ chain_length types.now }
@@ -52,7 +52,7 @@ pub(crate) fn digit(types: &LmsTypes, hash: &[u8; 32], with_sum: &[u8; 34], i: u
 /// So many further steps of a chain, from the string at a place.
 pub(crate) fn chain(id: &[u8; 16], q: u32, i: u16, from: u8, steps: u8, start: [u8; 32]) -> [u8; 32]
     requires { from + steps < 256 }
-    ensures { result ≡ chained id.now q i from steps start }
+    ensures { result ≡ chain_value id.now q i from steps start }
 {
     let mut string = start;
     for j in from..from + steps {
@@ -107,7 +107,7 @@ pub(crate) fn candidate(
     ensures { result ≡ candidate types.now id.now q message.now signature.now }
 {
     let hash = message_hash(id, q, &signature[8..40], message);
-    let with_sum = summed(types, &hash);
+    let with_sum = hash_with_checksum(types, &hash);
     let steps = chain_length(types);
     let mut hasher = hasher_for(id, q, D_PBLC);
     for i in 0..types.chains() {

@@ -1,6 +1,6 @@
 ghost use Rattle.std.specs.Prelude.{◌≡◌, true, false, MatchResult};
 ghost use Rattle.lms_sign.specs.Types.{is_supported};
-ghost use Rattle.lms_sign.specs.Valid.{id_of, root_of, types_of};
+ghost use Rattle.lms_sign.specs.Valid.{id_of, key_root, types_of};
 
 use super::fields::u32_at;
 use super::types::LmsTypes;
@@ -80,7 +80,7 @@ impl PublicKey {
 
     /// The root of the tree.
     pub(crate) fn root(&self) -> &[u8]
-        ensures { result.now ≡ root_of self.now }
+        ensures { result.now ≡ key_root self.now }
     {
         &self.bytes[24..]
     }

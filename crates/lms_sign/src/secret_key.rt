@@ -26,11 +26,11 @@ impl Model for SecretKey {
 
     ghost Value = { Secret };
 
-    ghost use Rattle.lms_sign.specs.Kept.{IsKept};
+    ghost use Rattle.lms_sign.specs.Kept.{KeepsTree};
 
     ghost view = { λ key. key.secret };
 
-    ghost invariant = { λ key. IsKept key.secret key.nodes.items };
+    ghost invariant = { λ key. KeepsTree key.secret key.nodes.items };
 }
 
 impl SecretKey {
@@ -54,10 +54,12 @@ impl SecretKey {
         Ok(SecretKey { secret, nodes })
     }
 
-    /// The public key: both types, the identifier and the root, 56 bytes (RFC 8554, section 5.3).
-    /// It takes no memory.
+    /// The public key: both types, the identifier and the root, 56 bytes (RFC 8554, section 5.3). It
+    /// has the key's types, and `PublicKey::read` takes it. It takes no memory.
     pub fn public(&self) -> [u8; 56]
-        ensures { result ≡ public_key_of self.now }
+        ensures value { result ≡ public_key_of self.now }
+        ensures types { types_of result ≡ self.now.types }
+        ensures reads { is_supported (types_of result) ≡ true }
     {
         let mut key = [0; 56];
         put(&mut key, 0, &u32str(self.secret.types.lms));

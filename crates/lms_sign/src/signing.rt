@@ -1,12 +1,12 @@
 ghost use Rattle.std.specs.Prelude.{◌≡◌, ◌+◌, ◌*◌, ◌<◌, ◌≤◌, ◌++◌, length, take};
 ghost use Rattle.lms_sign.specs.Types.{leaf_count, signature_length, height, chains};
-ghost use Rattle.lms_sign.specs.OneTime.{joined, signed_string};
-ghost use Rattle.lms_sign.specs.Tree.{path_of, sibling, public_key_of, signature_of};
+ghost use Rattle.lms_sign.specs.OneTime.{concatenation, signed_string};
+ghost use Rattle.lms_sign.specs.Tree.{authentication_path, sibling, public_key_of, signature_of};
 ghost use Rattle.lms_sign.specs.Valid.{IsValid};
 
 use super::fields::{put, u32str};
 use super::hashing::message_hash;
-use super::one_time::{chain_at, digit, randomizer, summed};
+use super::one_time::{chain_at, digit, hash_with_checksum, randomizer};
 use super::secret_key::SecretKey;
 
 /// Writes the signature of the message by the leaf q (RFC 8554, section 5.4.1). It is valid under
@@ -20,11 +20,11 @@ pub fn sign(key: &SecretKey, q: u32, message: &[u8], out: &mut [u8])
     ensures valid { IsValid (public_key_of key.now) message.now out.new }
 {
     let secret = key.secret();
-    let salt = randomizer(secret, q);
-    let hash = message_hash(&secret.id, q, &salt, message);
+    let randomizer = randomizer(secret, q);
+    let hash = message_hash(&secret.id, q, &randomizer, message);
     put(out, 0, &u32str(q));
     put(out, 4, &u32str(secret.types.ots));
-    put(out, 8, &salt);
+    put(out, 8, &randomizer);
     put_chains(key, q, &hash, out);
     let type_place = 40 + 32 * usize::from(secret.types.chains());
     put(out, type_place, &u32str(secret.types.lms));
@@ -34,10 +34,11 @@ pub fn sign(key: &SecretKey, q: u32, message: &[u8], out: &mut [u8])
 // Writes the chains, each taken as far as its digit of the hash says, at place 40.
 fn put_chains(key: &SecretKey, q: u32, hash: &[u8; 32], out: &mut [u8])
     requires { 40 + 32 * chains key.now.types ≤ length out.old }
-    ensures { take (40 + 32 * chains key.now.types) out.new ≡ take 40 out.old ++ joined (signed_string key.now q hash.now) (chains key.now.types) }
+    ensures { take (40 + 32 * chains key.now.types) out.new
+        ≡ take 40 out.old ++ concatenation (signed_string key.now q hash.now) (chains key.now.types) }
 {
     let secret = key.secret();
-    let with_sum = summed(&secret.types, hash);
+    let with_sum = hash_with_checksum(&secret.types, hash);
     for i in 0..secret.types.chains() {
         let steps = digit(&secret.types, hash, &with_sum, i);
         let string = chain_at(secret, q, i, steps);
@@ -49,7 +50,8 @@ fn put_chains(key: &SecretKey, q: u32, hash: &[u8; 32], out: &mut [u8])
 fn put_path(key: &SecretKey, q: u32, place: usize, out: &mut [u8])
     requires leaf { q < leaf_count key.now.types }
     requires room { length out.old ≡ place + 32 * height key.now.types }
-    ensures { out.new ≡ take place out.old ++ path_of key.now (height key.now.types) (leaf_count key.now.types + q) }
+    ensures { out.new
+        ≡ take place out.old ++ authentication_path key.now (height key.now.types) (leaf_count key.now.types + q) }
 {
     let mut r = key.leaves() + q;
     for level in 0..key.types().height() {

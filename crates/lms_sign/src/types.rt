@@ -2,7 +2,8 @@ ghost use Rattle.std.specs.Prelude.{◌≡◌, ◌+◌, ◌*◌, ◌≤◌, ◌�
 ghost use Rattle.lms_sign.specs.Types.{chains, height, is_supported, leaf_count, shift, signature_length, width};
 
 /// A pair of type numbers: the LMS type and the one-time type (RFC 8554, sections 4.1 and 5.1).
-/// Keys have a pair that is supported, which is 5 and 4 alone: LMS_SHA256_M32_H5 with
+/// Keys have a pair that is supported: an LMS type 5 or 6, which are LMS_SHA256_M32_H5 and
+/// LMS_SHA256_M32_H10, with a one-time type 3 or 4, which are LMOTS_SHA256_N32_W4 and
 /// LMOTS_SHA256_N32_W8.
 #[derive(Debug, Clone, Copy, PartialEq, Eq)]
 pub struct LmsTypes {
@@ -17,7 +18,7 @@ impl LmsTypes {
     pub fn is_supported(&self) -> bool
         ensures { result ≡ is_supported self.now }
     {
-        self.lms == 5 && self.ots == 4
+        (self.lms == 5 || self.lms == 6) && (self.ots == 3 || self.ots == 4)
     }
 
     /// The height h of the tree.

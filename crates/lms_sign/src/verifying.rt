@@ -1,6 +1,6 @@
 ghost use Rattle.std.specs.Prelude.{◌≡◌, true, ◌*◌, ◌+◌, ◌≤◌, ◌<◌, length};
 ghost use Rattle.lms_sign.specs.Types.{is_supported};
-ghost use Rattle.lms_sign.specs.Valid.{candidate_root, climbed, is_formed, is_valid, parent_node};
+ghost use Rattle.lms_sign.specs.Valid.{candidate_root, ancestor_node, is_formed, is_valid, parent_node};
 
 use super::fields::u32_at;
 use super::hashing::{inner_node, leaf_node};
@@ -34,7 +34,7 @@ fn parent_node(id: &[u8; 16], r: u32, beside: &[u8; 32], node: &[u8; 32]) -> [u8
 /// The node that the path leads to, from the node r.
 fn climb(id: &[u8; 16], levels: u32, r: u32, path: &[u8], start: [u8; 32]) -> [u8; 32]
     requires { 32 * levels ≤ length path.now }
-    ensures { result ≡ climbed id.now levels r path.now start }
+    ensures { result ≡ ancestor_node id.now levels r path.now start }
 {
     let mut node = start;
     let mut r = r;

@@ -1,7 +1,7 @@
 use Rattle.std.proofs.Common.{◌≡◌, ◌+◌, ◌-◌}
-use Rattle.lms_sign.specs.OneTime.{chained}
+use Rattle.lms_sign.specs.OneTime.{chain_value}
 use Rattle.lms_sign.proofs.one_time.chain.Given as goal
 
 abbrev pub invariant-loop-j : goal.invariant-loop-j
 invariant-loop-j l =
-    chained l.id l.q l.i l.j (l.from + l.steps - l.j) l.string ≡ chained l.id l.q l.i l.from l.steps l.fn.start
+    chain_value l.id l.q l.i l.j (l.from + l.steps - l.j) l.string ≡ chain_value l.id l.q l.i l.from l.steps l.fn.start

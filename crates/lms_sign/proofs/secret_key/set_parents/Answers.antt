@@ -11,7 +11,8 @@ loop-r-preserved c =
     let inner : r < leaf_count secret.types = omega (arith, c.requires.count) in
     let left = c.loop-r.invariant.2 (2 * r) (omega arith) (omega arith) (omega arith) in
     let right = c.loop-r.invariant.2 (2 * r + 1) (omega arith) (omega arith) (omega arith) in
-    let value : c.inner_node.result ≡ tree_node secret r = c.inner_node.ensures ∙ rw (left, right) (sym (tree_node-inner secret r (omega arith) inner)) in (
+    let value : c.inner_node.result ≡ tree_node secret r = c.inner_node.ensures
+    ∙ rw (left, right) (sym (tree_node-inner secret r (omega arith) inner)) in (
       omega arith,
       omega arith,
       λ n low above below. set_node (tree_node secret) c.loop-r.nodes r n c.inner_node.result (omega arith) value

@@ -1,24 +1,29 @@
 use Rattle.std.proofs.Common.{◌≡◌, ◌+◌, ◌*◌, ◌++◌, ◌∙◌, refl, sym, arith, length, take}
 use Rattle.lms_sign.specs.Types.{chains}
-use Rattle.lms_sign.specs.OneTime.{joined, signed_string}
-use Rattle.lms_sign.proofs.Lists.{joined-more, joined-none, length-chain_at, put_on}
+use Rattle.lms_sign.specs.OneTime.{concatenation, signed_string}
+use Rattle.lms_sign.proofs.Lists.{concatenation-more, concatenation-none, length-chain_at, put_on}
 use Rattle.lms_sign.proofs.signing.put_chains.Goals as goal
 
 pub loop-i-init : goal.loop-i-init
-loop-i-init c = sym (joined-none _ (take 40 c.args.out.now))
+loop-i-init c = sym (concatenation-none _ (take 40 c.args.out.now))
 
 pub loop-i-preserved : goal.loop-i-preserved
 unfolding signed_string
 loop-i-preserved c =
     let i = c.loop-i.i in
     let string = c.chain_at-string.result in
-    let whole : length string ≡ 32 = rw c.chain_at-string.ensures (length-chain_at c.secret-secret.result.now c.args.q i c.digit-steps.result) in
-    let value : string ≡ signed_string c.args.key.now c.args.q c.args.hash.now i = rw (c.chain_at-string.ensures, c.digit-steps.ensures.value, c.secret-secret.ensures.value) refl in
-    let before : take (40 + 32 * c.from.result) c.loop-i.out ≡ take 40 c.args.out.now ++ joined (signed_string c.args.key.now c.args.q c.args.hash.now) i = rw c.from.ensures c.loop-i.invariant in
-    put_on c.loop-i.out c.put.new.out string _ _ (40 + 32 * (i + 1)) before c.put.ensures (omega (arith, c.from.ensures)) ∙ rw (joined-more, value) refl
+    let whole : length string ≡ 32 = rw c.chain_at-string.ensures
+    (length-chain_at c.secret-secret.result.now c.args.q i c.digit-steps.result) in
+    let value : string ≡ signed_string c.args.key.now c.args.q c.args.hash.now
+    i = rw (c.chain_at-string.ensures, c.digit-steps.ensures.value, c.secret-secret.ensures.value) refl in
+    let before : take (40 + 32 * c.from.result) c.loop-i.out ≡ take 40 c.args.out.now ++ concatenation
+    (signed_string c.args.key.now c.args.q c.args.hash.now) i = rw c.from.ensures c.loop-i.invariant in
+    put_on c.loop-i.out c.put.new.out string _ _ (40 + 32 * (i + 1)) before c.put.ensures
+    (omega (arith, c.from.ensures)) ∙ rw (concatenation-more, value) refl
 
 pub returns : goal.returns
 returns c =
-    let end : c.chains-i-end.result ≡ chains c.args.key.now.types = rw c.secret-secret.ensures.value at c.chains-i-end.ensures.value in
+    let end : c.chains-i-end.result ≡ chains c.args.key.now.types = rw c.secret-secret.ensures.value at
+    c.chains-i-end.ensures.value in
     let all : c.loop-i.i ≡ chains c.args.key.now.types = omega arith in
     rw all at c.loop-i.invariant

@@ -1,8 +1,8 @@
 use Rattle.std.proofs.Common.{◌≡◌, ◌*◌, ◌/◌, ◌∙◌, ◌%◌, ◌^◌, length, arith, refl}
-use Rattle.lms_sign.proofs.Lists.{length-u16str, put_first, put_on, written}
-use Rattle.lms_sign.specs.OneTime.{checksum, shortfall, summed}
-use Rattle.lms_sign.proofs.Sizes.{full-is, shortfall-more, shortfall-small, shifted}
-use Rattle.lms_sign.proofs.one_time.summed.Goals as goal
+use Rattle.lms_sign.proofs.Lists.{length-u16str, put_first, put_on, all_of_front}
+use Rattle.lms_sign.specs.OneTime.{checksum, shortfall, hash_with_checksum}
+use Rattle.lms_sign.proofs.Sizes.{full-is, shortfall-more, shortfall-small, shift-checksum}
+use Rattle.lms_sign.proofs.one_time.hash_with_checksum.Goals as goal
 
 pub loop-i-init : goal.loop-i-init
 unfolding shortfall
@@ -20,7 +20,7 @@ loop-i-preserved c =
     rw (shortfall-more, full.0, c.from.ensures, c.coefficient.ensures.value, c.loop-i.invariant) refl
 
 pub returns : goal.returns
-unfolding summed
+unfolding hash_with_checksum
 returns c =
     let hash = c.args.hash.now in
     let sum = c.loop-i.short * 2 ^ c.shift.result % 65536 in
@@ -28,6 +28,8 @@ returns c =
     let first = put_first c.put.new.out hash 32 c.put.ensures c.told-hash in
     let second = put_on c.put.new.out c.put-2.new.out c.u16str.result hash 32 34 first c.put-2.ensures (omega arith) in
     let end : c.loop-i.i ≡ 256 / c.width-w.result = omega arith in
-    let short : c.loop-i.short ≡ shortfall hash c.width-w.result (256 / c.width-w.result) = rw (← end) c.loop-i.invariant in
-    let value : sum ≡ checksum c.args.types.now hash = shifted c.args.types.now hash _ _ _ c.width-w.ensures.value c.shift.ensures.value short in
-    written c.put-2.new.out _ 34 (c.put-2.auto.out ∙ c.put.auto.out) second ∙ rw (c.u16str.ensures, value) refl
+    let short : c.loop-i.short ≡ shortfall hash c.width-w.result (256 / c.width-w.result) = rw (← end)
+    c.loop-i.invariant in
+    let value : sum ≡ checksum c.args.types.now hash = shift-checksum c.args.types.now hash _ _ _
+    c.width-w.ensures.value c.shift.ensures.value short in
+    all_of_front c.put-2.new.out _ 34 (c.put-2.auto.out ∙ c.put.auto.out) second ∙ rw (c.u16str.ensures, value) refl
