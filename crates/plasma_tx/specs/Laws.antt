@@ -5,7 +5,7 @@ use Rattle.std.specs.Option.{option_map, option_or}
 use Rattle.plasma_tx.specs.declared.call.RootCall.{RootCall}
 use Rattle.plasma_tx.specs.declared.call.RootCall.TheVariants.{StartDeposit, StartSpend, After, Between, Before, Respond, Finish}
 use Rattle.plasma_tx.specs.declared.call.Shown.{Shown}
-use Rattle.plasma_tx.specs.Views.{now, Challenge, Exit, block_of, owner_of, deposit_exit, spend_exit, challenge_at, exits, exit_at, has_no_open_challenge, is_withdrawn}
+use Rattle.plasma_tx.specs.Views.{now, Challenge, Exit, block_of, owner_of, deposit_exit, spend_exit, challenge_at, exits, exit_at, has_no_open_challenge, is_withdrawn, is_responded, responses}
 
 -- the exit that the call, after these calls, starts; None where it doesn't start that of coin c at block e
 abbrev pub start_by : List RootCall → ℕ → ℕ → RootCall → Option Exit
@@ -111,3 +111,20 @@ was_paid (call ∷ log) c = was_paid log c
 -- a coin is withdrawn exactly where a Finish of it was paid
 abbrev pub WithdrawnIsPaid : Type 0
 WithdrawnIsPaid = (log : List RootCall) (c : ℕ) → is_withdrawn log c ≡ was_paid log c
+
+-- the exit is challenged at the block, where it stands
+abbrev pub is_challenged_at : ℕ → Option Exit → Bool
+is_challenged_at b None = false
+is_challenged_at b (Some exit) = is_some (challenge_at b exit.challenges)
+
+-- each Respond named a challenge of a standing exit
+unfoldable pub RespondsAnswer : List RootCall → Type 0
+RespondsAnswer [] = Unit {0}
+RespondsAnswer (Respond account coin exit challenged spend ∷ log) =
+    (is_challenged_at challenged (exit_at log coin exit) ≡ true) × RespondsAnswer log
+RespondsAnswer (call ∷ log) = RespondsAnswer log
+
+-- where each Respond named a challenge, the challenge that a first Before at a block makes is open
+abbrev pub NewChallengesAreOpen : Type 0
+NewChallengesAreOpen = (log : List RootCall) (c e b : ℕ) → RespondsAnswer log → is_some (exit_at log c e) ≡ true
+    → is_challenged_at b (exit_at log c e) ≡ false → is_responded c e b (responses log) ≡ false

@@ -4,3 +4,6 @@ pub mod Openings
 pub mod Views
 pub mod Chain
 pub mod Laws
+pub mod ChallengeLists
+pub mod Standing
+pub mod Keeps

@@ -1,7 +1,7 @@
 -- The bytes of owners, bodies and signed transfers. Numbers have eight bytes, the highest first.
-use Rattle.std.specs.Prelude.{◌≡◌, ℕ, ◌+◌, ◌^◌, ◌<◌, Bool, ◌||◌, not, if◌then◌else◌, List, [], ◌∷◌, ◌++◌, length, take, drop, slice_range, nat_lt, Option, Some, None, IfSome, Result, Ok, Err}
+use Rattle.std.specs.Prelude.{◌≡◌, ℕ, ◌+◌, ◌^◌, ◌<◌, Bool, ◌||◌, not, if◌then◌else◌, List, [], ◌∷◌, ◌++◌, length, drop, slice_range, nat_lt, nat_eq, codes, Option, Some, None, IfSome, Result, Ok, Err}
 use Rattle.std.specs.Int.{w64, to_be_bytes, from_be_bytes}
-use Rattle.std.specs.List.{All}
+use Rattle.std.specs.List.{All, starts_with}
 use Rattle.std.specs.Str.{bytes_eq}
 use Rattle.plasma_tx.specs.declared.owner.Owner.{Owner}
 use Rattle.plasma_tx.specs.declared.body.Body.{Body}
@@ -22,14 +22,14 @@ owner_text owner = number_text owner.account ++ owner.key
 
 -- the owner that 64 bytes spell
 unfoldable pub owner_in : List ℕ → Owner
-owner_in bytes = record { account = number_at bytes 0; key = drop 8 bytes }
+owner_in bytes = record { account = number_at bytes 0; key = slice_range bytes 8 64 }
 
--- the mark of a body without a last block is PCT1, that of one with a last block PCT2
+-- the mark of a body without a last block, and that of one with a last block
 abbrev pub first_mark : List ℕ
-first_mark = 80 ∷ 67 ∷ 84 ∷ 49 ∷ []
+first_mark = codes "PCT1"
 
 abbrev pub second_mark : List ℕ
-second_mark = 80 ∷ 67 ∷ 84 ∷ 50 ∷ []
+second_mark = codes "PCT2"
 
 abbrev pub mark_of : Option ℕ → List ℕ
 mark_of None = first_mark
@@ -40,11 +40,13 @@ abbrev pub last_text : Option ℕ → List ℕ
 last_text None = []
 last_text (Some last) = number_text last
 
--- a body: the mark, the tag of 32 bytes, the coin, the parent, the new owner, and the last block where it has one
+-- what both forms of a body begin with: the mark, the tag of 32 bytes, the coin, the parent and the new owner
+abbrev pub common_text : Body → List ℕ
+common_text body = mark_of body.last ++ body.tag ++ number_text body.coin ++ number_text body.parent ++ owner_text body.to
+
+-- a body: these 116 bytes, and eight more where it has a last block
 unfoldable pub body_text : Body → List ℕ
-body_text body =
-    mark_of body.last ++ body.tag ++ number_text body.coin ++ number_text body.parent ++ owner_text body.to
-    ++ last_text body.last
+body_text body = common_text body ++ last_text body.last
 
 -- a signed transfer: the body, then the signature, which is all that remains
 unfoldable pub signed_text : SignedTx → List ℕ
@@ -52,10 +54,10 @@ signed_text tx = body_text tx.body ++ tx.signature
 
 -- whether the bytes begin with a mark
 abbrev pub has_first_mark : List ℕ → Bool
-has_first_mark bytes = bytes_eq (take 4 bytes) first_mark
+has_first_mark bytes = starts_with nat_eq bytes first_mark
 
 abbrev pub has_second_mark : List ℕ → Bool
-has_second_mark bytes = bytes_eq (take 4 bytes) second_mark
+has_second_mark bytes = starts_with nat_eq bytes second_mark
 
 -- how long the body is that the bytes begin with
 abbrev pub body_length : List ℕ → ℕ

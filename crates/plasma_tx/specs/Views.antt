@@ -13,6 +13,7 @@ use Rattle.plasma_tx.specs.declared.views.BlockView.TheVariants.{DepositOf, Root
 use Rattle.plasma_tx.specs.declared.views.CoinView.{CoinView}
 use Rattle.plasma_tx.specs.declared.views.ChallengeView.{ChallengeView}
 use Rattle.plasma_tx.specs.declared.views.ExitView.{ExitView}
+use Rattle.plasma_tx.specs.declared.views.Response.{Response}
 use Rattle.plasma_tx.specs.Transfer.{nobody, recipient_in}
 use Rattle.plasma_tx.specs.Openings.{leaf_in}
 
@@ -76,12 +77,6 @@ pub record Exit : Type 0 where
   pub account : ℕ
   pub start : ℕ
   pub challenges : List Challenge
-
--- a Respond to an exit, with the block of the challenge that it names
-pub record Response : Type 0 where
-  pub coin : ℕ
-  pub exit : ℕ
-  pub block : ℕ
 
 -- the depositor
 abbrev pub owner_of_coin : Option CoinView → Owner
@@ -222,7 +217,7 @@ has_no_open_challenge (Some exit) = list_all (λ challenge. challenge.answered) 
 unfoldable pub is_withdrawn : List RootCall → ℕ → Bool
 is_withdrawn [] c = false
 is_withdrawn (Finish account coin exit ∷ log) c =
-    if (coin == c) && has_no_open_challenge (exit_at log coin exit) then true else is_withdrawn log c
+    ((coin == c) && has_no_open_challenge (exit_at log coin exit)) || is_withdrawn log c
 is_withdrawn (call ∷ log) c = is_withdrawn log c
 
 -- ---- what is shown of them

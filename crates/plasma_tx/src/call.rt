@@ -1,4 +1,5 @@
 ghost use Rattle.std.specs.Prelude.{◌≡◌, IfOk};
+ghost use Rattle.plasma_tx.specs.Views.{block_of};
 
 use super::opening::RawOpening;
 use plasma_base::NoMemory;
@@ -11,6 +12,16 @@ pub enum Shown {
 }
 
 impl Shown {
+    /// The block that is shown.
+    pub fn block(&self) -> u64
+        ensures { result ≡ block_of self.now }
+    {
+        match self {
+            Shown::Deposit { block } => *block,
+            Shown::Spend { opening } => opening.block,
+        }
+    }
+
     /// An equal value, or `NoMemory`.
     pub fn copy(&self) -> Result<Shown, NoMemory>
         ensures { IfOk result (λ copied. copied ≡ self.now) }

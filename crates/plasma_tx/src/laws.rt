@@ -1,4 +1,4 @@
-ghost use Rattle.plasma_tx.specs.Laws.{ExitsStand, ChallengesStand, ExitsAreInOrder, ChallengesAreInOrder, WithdrawnIsPaid};
+ghost use Rattle.plasma_tx.specs.Laws.{ExitsStand, ChallengesStand, ExitsAreInOrder, ChallengesAreInOrder, NewChallengesAreOpen, WithdrawnIsPaid};
 ghost use Rattle.plasma_tx.specs.Openings.{OpeningsAreReadBack, OpeningsHaveOneSpelling};
 ghost use Rattle.plasma_tx.specs.Spelling.{OwnersAreReadBack, OwnersHaveOneSpelling, TransfersAreReadBack, TransfersHaveOneSpelling};
 ghost use Rattle.plasma_tx.specs.Transfer.{EmptyLeavesAreNone, TransfersAreRead, RecipientsAreNamed};
@@ -48,6 +48,12 @@ pub fn challenges_stand()
 pub fn exits_are_in_order()
     ensures exits { ExitsAreInOrder }
     ensures challenges { ChallengesAreInOrder }
+{}
+
+/// A law: where each Respond of a log named a challenge of a standing exit, as in every log of accepted
+/// calls, the challenge that a first Before at a block makes is open.
+pub fn new_challenges_are_open()
+    ensures { NewChallengesAreOpen }
 {}
 
 /// A law: a coin is withdrawn exactly where a Finish of it was paid: its exit had no open challenge,
