@@ -17,7 +17,7 @@ use Rattle.root_rules.specs.Laws.{IsLegal}
 use Rattle.root_rules.proofs.Accepted.{none_holds, deposit_covered, starts, finishes}
 use Rattle.root_rules.proofs.Kept.{covered, finish-covered}
 use Rattle.root_rules.proofs.Sums.{total}
-use Rattle.root_contract.specs.Keeps.{State, IsStarted, Keeps}
+use Rattle.root_contract.specs.Agreement.{State, IsStarted, Agrees}
 use Rattle.root_contract.proofs.Places.{coin_in-push, list_any-push, all-push}
 use Rattle.root_rules.proofs.Exits.{all-without, without-none}
 
@@ -28,7 +28,8 @@ Accepted chain call = is_accepted (answer_to (rules_of chain) chain.log call) �
 abbrev pub SetsOne : (ℕ → ℕ) → (ℕ → ℕ) → ℕ → ℕ → Type 0
 SetsOne old new account x = (a : ℕ) → new a ≡ (if account == a then x else old a)
 
-paid_to : (old new log : ℕ → ℕ) (account x : ℕ) → ((a : ℕ) → old a ≡ log a) → SetsOne old new account (old account + x) → (a : ℕ) → new a ≡ log a + share_of a (moved account x ∷ []) - share_of a []
+paid_to : (old new log : ℕ → ℕ) (account x : ℕ) → ((a : ℕ) → old a ≡ log a) → SetsOne old new account (old account + x)
+    → (a : ℕ) → new a ≡ log a + share_of a (moved account x ∷ []) - share_of a []
 unfolding share_of
 paid_to old new log account x is sets a =
     elim (cases_eq account a) [
@@ -36,7 +37,9 @@ paid_to old new log account x is sets a =
       | inr apart ↦ sets a ∙ simp (ne_eqb account a apart) (omega (arith, is a))
     ]
 
-taken_from : (old new log : ℕ → ℕ) (account x : ℕ) → ((a : ℕ) → old a ≡ log a) → SetsOne old new account (old account - x) → (a : ℕ) → new a ≡ log a + share_of a [] - share_of a (moved account x ∷ [])
+taken_from : (old new log : ℕ → ℕ) (account x : ℕ) → ((a : ℕ) → old a ≡ log a)
+    → SetsOne old new account (old account - x) → (a : ℕ)
+    → new a ≡ log a + share_of a [] - share_of a (moved account x ∷ [])
 unfolding share_of
 taken_from old new log account x is sets a =
     elim (cases_eq account a) [
@@ -45,7 +48,8 @@ taken_from old new log account x is sets a =
     ]
 
 -- one account's balance is set over balances that are the same
-pub sets-one : (old mid new : ℕ → ℕ) (account x y : ℕ) → ((a : ℕ) → mid a ≡ old a) → x ≡ y → SetsOne mid new account x → SetsOne old new account y
+pub sets-one : (old mid new : ℕ → ℕ) (account x y : ℕ) → ((a : ℕ) → mid a ≡ old a) → x ≡ y → SetsOne mid new account x
+    → SetsOne old new account y
 sets-one old mid new account x y same e sets a = sets a ∙ (λ i. if account == a then e i else same a i)
 
 none_either : (b : Bool) → cond {A = Option Coin} b None None ≡ None
@@ -53,11 +57,21 @@ none_either true = refl
 none_either false = refl
 
 -- the fields when nothing was called
-pub kept-none : (chain : Chain) (s : State) → chain.log ≡ [] → s ≡ record { clock = 0; coins = []; exits = []; withdrawn = []; balances = s.balances; funded = 0 } → ((a : ℕ) → s.balances a ≡ 0) → Keeps chain s
+pub kept-none : (chain : Chain) (s : State) → chain.log ≡ []
+    → s ≡ record { clock = 0; coins = []; exits = []; withdrawn = []; balances = s.balances; funded = 0 }
+    → ((a : ℕ) → s.balances a ≡ 0) → Agrees chain s
 unfolding IsLegal now blocks coins coin_at exits is_withdrawn balance_of funded
 kept-none chain s none is zero =
-    let empty : State = record { clock = 0; coins = []; exits = []; withdrawn = []; balances = s.balances; funded = 0 } in
-    let start : Keeps (with_log chain []) empty =
+    let empty : State = record {
+      clock = 0;
+      coins = [];
+      exits = [];
+      withdrawn = [];
+      balances = s.balances;
+      funded =
+          0;
+    } in
+    let start : Agrees (with_log chain []) empty =
     record {
       legal = tt;
       clock = refl;
@@ -72,35 +86,49 @@ kept-none chain s none is zero =
       funded_is = refl;
       funded_limit = omega arith;
     }
-    in subst (λ (p : Chain × State). Keeps p.0 p.1) (λ i. (with_log chain (sym none i), sym is i)) start
+    in subst (λ (p : Chain × State). Agrees p.0 p.1) (λ i. (with_log chain (sym none i), sym is i)) start
 
-module _ (chain : Chain) (s : State) (k : Keeps chain s) where
+module _ (chain : Chain) (s : State) (k : Agrees chain s) where
   -- a balance is no more than all that was funded
   pub balance-le : (a : ℕ) → s.balances a ≤ s.funded
   balance-le a = omega (arith, k.balances_are a, k.funded_is, covered (rules_of chain) chain.log a k.legal)
 
   pub funded-fits : (account amount : ℕ) → Accepted chain (Fund account amount) → s.funded + amount ≤ MOST_MONEY
   unfolding answer_to
-  funded-fits account amount is = omega (arith, k.funded_is, ltb-false MOST_MONEY (funded chain.log + amount) (none_holds (fund_causes chain.log amount) Funded is).0)
+  funded-fits account amount is = omega (
+    arith,
+    k.funded_is,
+    ltb-false MOST_MONEY (funded chain.log + amount)
+        (none_holds (fund_causes chain.log amount) Funded is).0,
+  )
 
-  pub deposit-le : (account amount : ℕ) (key : List ℕ) → Accepted chain (Deposit account amount key) → amount ≤ s.balances account
+  pub deposit-le : (account amount : ℕ) (key : List ℕ) → Accepted chain (Deposit account amount key)
+      → amount ≤ s.balances account
   unfolding answer_to
-  deposit-le account amount key is = omega (arith, k.balances_are account, deposit_covered (rules_of chain) chain.log account amount key is)
+  deposit-le account amount key is =
+      omega (arith, k.balances_are account, deposit_covered (rules_of chain) chain.log account amount key is)
 
   pub bond-le : (account c block : ℕ) → Accepted chain (StartDeposit account c block) → EXIT_BOND ≤ s.balances account
   unfolding answer_to
-  bond-le account c block is = omega (arith, k.balances_are account, (starts chain.log account c block (coin_at chain.log c) is).covered)
+  bond-le account c block is =
+      omega (arith, k.balances_are account, (starts chain.log account c block (coin_at chain.log c) is).covered)
 
   -- an exit that is started didn't stand
-  alone : (account c block : ℕ) → Accepted chain (StartDeposit account c block) → without c block (exits chain.log) ≡ exits chain.log
+  alone : (account c block : ℕ) → Accepted chain (StartDeposit account c block)
+      → without c block (exits chain.log) ≡ exits chain.log
   unfolding answer_to exit_at
-  alone account c block is = without-none c block (exits chain.log) (starts chain.log account c block (coin_at chain.log c) is).alone
+  alone account c block is =
+      without-none c block (exits chain.log) (starts chain.log account c block (coin_at chain.log c) is).alone
 
-  pub exit-stands : (account c e : ℕ) → Accepted chain (Finish account c e) → (exit : Exit) × (exit_at chain.log c e ≡ Some exit)
+  pub exit-stands : (account c e : ℕ) → Accepted chain (Finish account c e)
+      → (exit : Exit) × (exit_at chain.log c e ≡ Some exit)
   unfolding answer_to
   exit-stands account c e is = finishes chain.log c (exit_at chain.log c e) is
 
-  pub kept-Fund : (account amount : ℕ) (balances : ℕ → ℕ) → Accepted chain (Fund account amount) → SetsOne s.balances balances account (s.balances account + amount) → Keeps (with_log chain (Fund account amount ∷ chain.log)) (record s { balances = balances; funded = s.funded + amount })
+  pub kept-Fund : (account amount : ℕ) (balances : ℕ → ℕ) → Accepted chain (Fund account amount)
+      → SetsOne s.balances balances account (s.balances account + amount)
+      → Agrees (with_log chain (Fund account amount ∷ chain.log))
+      (record s { balances = balances; funded = s.funded + amount })
   unfolding IsLegal answer_to now blocks coins coin_at exits is_withdrawn balance_of pays takes funded
   kept-Fund account amount balances is sets =
       record {
@@ -118,7 +146,8 @@ module _ (chain : Chain) (s : State) (k : Keeps chain s) where
         funded_limit = funded-fits account amount is;
       }
 
-  pub kept-Tick : (time : ℕ) → Accepted chain (Tick time) → Keeps (with_log chain (Tick time ∷ chain.log)) (record s { clock = time })
+  pub kept-Tick : (time : ℕ) → Accepted chain (Tick time)
+      → Agrees (with_log chain (Tick time ∷ chain.log)) (record s { clock = time })
   unfolding IsLegal answer_to now blocks coins coin_at exits is_withdrawn balance_of pays takes share_of funded
   kept-Tick time is =
       record {
@@ -136,10 +165,22 @@ module _ (chain : Chain) (s : State) (k : Keeps chain s) where
         funded_limit = k.funded_limit;
       }
 
-  pub kept-Deposit : (account amount : ℕ) (key : List ℕ) (balances : ℕ → ℕ) (block : ℕ) → block ≡ length s.coins + 1 → Accepted chain (Deposit account amount key) → SetsOne s.balances balances account (s.balances account - amount) → Keeps (with_log chain (Deposit account amount key ∷ chain.log)) (record s { coins = s.coins ++ record { deposit = block; amount = amount; owner = record { account = account; key = key } } ∷ []; balances = balances })
+  pub kept-Deposit : (account amount : ℕ) (key : List ℕ) (balances : ℕ → ℕ) (block : ℕ) → block ≡ length s.coins + 1
+      → Accepted chain (Deposit account amount key) → SetsOne s.balances balances account (s.balances account - amount)
+      → Agrees (with_log chain (Deposit account amount key ∷ chain.log))
+      (record s {
+        coins = s.coins ++ record {
+          deposit = block;
+          amount = amount;
+          owner =
+              record { account = account; key = key };
+        } ∷ [];
+        balances = balances;
+      })
   unfolding IsLegal now blocks coins coin_at exits is_withdrawn balance_of pays takes funded
   kept-Deposit account amount key balances block last is sets =
-      let coin_of : ℕ → Coin = λ n. record { deposit = n; amount = amount; owner = record { account = account; key = key } } in
+      let coin_of : ℕ → Coin =
+      λ n. record { deposit = n; amount = amount; owner = record { account = account; key = key } } in
       let numbers : block ≡ blocks chain.log + 1 = omega (arith, last, k.coin_count, k.block_count) in
       record {
         legal = (is, k.legal);
@@ -147,7 +188,8 @@ module _ (chain : Chain) (s : State) (k : Keeps chain s) where
         clock_limit = k.clock_limit;
         coin_count = length-append s.coins (coin_of block ∷ []) ∙ ap (λ n. n + 1) k.coin_count;
         block_count = ap (λ n. n + 1) k.block_count;
-        coins_are = λ c. coin_in-push s.coins (coin_of block) c ∙ (λ i. if c == k.coin_count i + 1 then Some (coin_of (numbers i)) else k.coins_are c i);
+        coins_are = λ c. coin_in-push s.coins (coin_of block) c
+            ∙ (λ i. if c == k.coin_count i + 1 then Some (coin_of (numbers i)) else k.coins_are c i);
         exits_are = k.exits_are;
         started = k.started;
         paid = k.paid;
@@ -156,7 +198,13 @@ module _ (chain : Chain) (s : State) (k : Keeps chain s) where
         funded_limit = k.funded_limit;
       }
 
-  pub kept-StartDeposit : (account c block : ℕ) (balances : ℕ → ℕ) → Accepted chain (StartDeposit account c block) → SetsOne s.balances balances account (s.balances account - EXIT_BOND) → Keeps (with_log chain (StartDeposit account c block ∷ chain.log)) (record s { exits = s.exits ++ record { coin = c; block = block; account = account; start = s.clock } ∷ []; balances = balances })
+  pub kept-StartDeposit : (account c block : ℕ) (balances : ℕ → ℕ) → Accepted chain (StartDeposit account c block)
+      → SetsOne s.balances balances account (s.balances account - EXIT_BOND)
+      → Agrees (with_log chain (StartDeposit account c block ∷ chain.log))
+      (record s {
+        exits = s.exits ++ record { coin = c; block = block; account = account; start = s.clock } ∷ [];
+        balances = balances;
+      })
   unfolding IsLegal now blocks coins coin_at exits is_withdrawn balance_of pays takes funded
   kept-StartDeposit account c block balances is sets =
       let exit_of : ℕ → Exit = λ start. record { coin = c; block = block; account = account; start = start } in
@@ -168,7 +216,8 @@ module _ (chain : Chain) (s : State) (k : Keeps chain s) where
         coin_count = k.coin_count;
         block_count = k.block_count;
         coins_are = k.coins_are;
-        exits_are = (λ i. k.exits_are i ++ exit_of (k.clock i) ∷ []) ∙ ap (λ l. l ++ exit_of (now chain.log) ∷ []) (sym same);
+        exits_are = (λ i. k.exits_are i ++ exit_of (k.clock i) ∷ [])
+            ∙ ap (λ l. l ++ exit_of (now chain.log) ∷ []) (sym same);
         started = all-push IsStarted s.exits (exit_of s.clock) k.started k.clock_limit;
         paid = k.paid;
         balances_are = taken_from s.balances balances (balance_of chain.log) account EXIT_BOND k.balances_are sets;
@@ -176,7 +225,11 @@ module _ (chain : Chain) (s : State) (k : Keeps chain s) where
         funded_limit = k.funded_limit;
       }
 
-  pub kept-Finish : (account c e : ℕ) (payment : Movement) (balances : ℕ → ℕ) → Accepted chain (Finish account c e) → payment ∷ [] ≡ finish_pays (is_withdrawn chain.log c) (amount_of (coin_at chain.log c)) (exit_at chain.log c e) → SetsOne s.balances balances payment.account (s.balances payment.account + payment.amount) → Keeps (with_log chain (Finish account c e ∷ chain.log)) (record s { exits = without c e s.exits; withdrawn = s.withdrawn ++ c ∷ []; balances = balances })
+  pub kept-Finish : (account c e : ℕ) (payment : Movement) (balances : ℕ → ℕ) → Accepted chain (Finish account c e)
+      → payment ∷ [] ≡ finish_pays (is_withdrawn chain.log c) (amount_of (coin_at chain.log c)) (exit_at chain.log c e)
+      → SetsOne s.balances balances payment.account (s.balances payment.account + payment.amount)
+      → Agrees (with_log chain (Finish account c e ∷ chain.log))
+      (record s { exits = without c e s.exits; withdrawn = s.withdrawn ++ c ∷ []; balances = balances })
   unfolding IsLegal now blocks coins coin_at exits is_withdrawn balance_of pays takes funded
   kept-Finish account c e payment balances is pays_it sets =
       record {
@@ -189,21 +242,28 @@ module _ (chain : Chain) (s : State) (k : Keeps chain s) where
         exits_are = ap (without c e) k.exits_are;
         started = all-without IsStarted c e s.exits k.started;
         paid = λ x. list_any-push c x s.withdrawn ∙ ap (λ (b : Bool). if c == x then true else b) (k.paid x);
-        balances_are = λ a. paid_to s.balances balances (balance_of chain.log) payment.account payment.amount k.balances_are sets a ∙ ap (λ movements. balance_of chain.log a + share_of a movements - share_of a []) pays_it;
+        balances_are = λ a. paid_to s.balances balances (balance_of chain.log) payment.account payment.amount
+            k.balances_are sets a
+            ∙ ap (λ movements. balance_of chain.log a + share_of a movements - share_of a []) pays_it;
         funded_is = k.funded_is;
         funded_limit = k.funded_limit;
       }
 
   -- a finish of a standing exit pays something, and the account's balance with it is covered
-  pub payment-covered : (c e : ℕ) (exit : Exit) (withdrawn : Bool) → withdrawn ≡ list_any (λ x. x == c) s.withdrawn → Some exit ≡ exit_at chain.log c e → balance_of chain.log exit.account + total (finish_pays withdrawn (amount_of (coin_at chain.log c)) (Some exit)) ≤ MOST_MONEY
+  pub payment-covered : (c e : ℕ) (exit : Exit) (withdrawn : Bool) → withdrawn ≡ list_any (λ x. x == c) s.withdrawn
+      → Some exit ≡ exit_at chain.log c e → balance_of chain.log exit.account + total
+      (finish_pays withdrawn (amount_of (coin_at chain.log c)) (Some exit)) ≤ MOST_MONEY
   payment-covered c e exit withdrawn is there =
       let h = finish-covered (rules_of chain) chain.log exit.account c e exit k.legal (sym there) in
-      subst (λ b. balance_of chain.log exit.account + total (finish_pays b (amount_of (coin_at chain.log c)) (Some exit)) ≤ MOST_MONEY) (sym (is ∙ k.paid c)) (omega (arith, h, k.funded_is, k.funded_limit))
+      subst (λ b. balance_of chain.log exit.account + total (finish_pays b (amount_of (coin_at chain.log c))
+      (Some exit)) ≤ MOST_MONEY) (sym (is ∙ k.paid c)) (omega (arith, h, k.funded_is, k.funded_limit))
 
-  pub payment-is : (account c e : ℕ) → Accepted chain (Finish account c e) → [] ≡ finish_pays (is_withdrawn chain.log c) (amount_of (coin_at chain.log c)) (exit_at chain.log c e) → ⊥
+  pub payment-is : (account c e : ℕ) → Accepted chain (Finish account c e)
+      → [] ≡ finish_pays (is_withdrawn chain.log c) (amount_of (coin_at chain.log c)) (exit_at chain.log c e) → ⊥
   payment-is account c e is none =
       let stands = exit-stands account c e is in
-      pays_one (is_withdrawn chain.log c) (amount_of (coin_at chain.log c)) stands.0 (none ∙ ap (finish_pays (is_withdrawn chain.log c) (amount_of (coin_at chain.log c))) stands.1)
+      pays_one (is_withdrawn chain.log c) (amount_of (coin_at chain.log c)) stands.0 (none
+      ∙ ap (finish_pays (is_withdrawn chain.log c) (amount_of (coin_at chain.log c))) stands.1)
     where
       pays_one : (b : Bool) (amount : ℕ) (exit : Exit) → [] ≡ finish_pays b amount (Some exit) → ⊥
       pays_one true amount exit wrong = cc

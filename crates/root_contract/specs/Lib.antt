@@ -1,3 +1,3 @@
 pub mod Entries
 pub mod Lists
-pub mod Keeps
+pub mod Agreement

@@ -4,7 +4,7 @@ ghost use Rattle.root_rules.specs.Money.{balance_of, funded, finish_pays, amount
 ghost use Rattle.root_rules.specs.Table.{decided, fund_causes, tick_causes, deposit_causes, start_deposit_answer, finish_answer, answer_to, is_accepted, log_after};
 ghost use Rattle.root_rules.specs.Chain.{rules_of, with_log};
 ghost use Rattle.root_rules.specs.Laws.{IsLegal};
-ghost use Rattle.root_contract.specs.Keeps.{IsStarted};
+ghost use Rattle.root_contract.specs.Agreement.{IsStarted};
 
 use super::balances::Balances;
 use super::lists::{coin_in, exit_in, is_among, is_key, push_reserved, remove_exit};
@@ -33,11 +33,11 @@ impl Model for Contract {
 
     ghost Value = { Chain };
 
-    ghost use Rattle.root_contract.specs.Keeps.{IsKept};
+    ghost use Rattle.root_contract.specs.Agreement.{IsContract};
 
     ghost view = { λ a. a.log };
 
-    ghost invariant = { IsKept };
+    ghost invariant = { IsContract };
 }
 
 impl Contract {
@@ -77,7 +77,8 @@ impl Contract {
     #[tactic(auto, unfolding(root_rules::specs::Table::log_after))]
     pub fn call(&mut self, call: &RootCall) -> Answer
         ensures answer { result ≢ Answer.NoMemory → result ≡ answer_to (rules_of self.old) self.old.log call.now }
-        ensures log { result ≢ Answer.NoMemory → self.new ≡ with_log self.old (log_after (rules_of self.old) self.old.log call.now) }
+        ensures log { result ≢ Answer.NoMemory
+            → self.new ≡ with_log self.old (log_after (rules_of self.old) self.old.log call.now) }
         ensures no_memory { result ≡ Answer.NoMemory → self.new ≡ self.old }
     {
         let answer = self.answer(call);
@@ -191,7 +192,8 @@ impl Contract {
     }
 
     fn answer_deposit(&self, account: u64, amount: u64, key: &[u8; 56]) -> Answer
-        ensures { result ≡ decided (deposit_causes (rules_of self.now) self.now.log account amount key.now) (Answer.Deposited (coins self.now.log + 1) (blocks self.now.log + 1)) }
+        ensures { result ≡ decided (deposit_causes (rules_of self.now) self.now.log account amount key.now)
+            (Answer.Deposited (coins self.now.log + 1) (blocks self.now.log + 1)) }
     {
         if amount == 0 {
             return Answer::Refused(Refusal::BadAmount);
@@ -215,16 +217,16 @@ impl Contract {
     fn answer_start_deposit(&self, account: u64, coin: u64, block: u64) -> Answer
         ensures { result ≡ start_deposit_answer self.now.log account coin block (coin_at self.now.log coin) }
     {
-        let Some(deposit) = self.coin_at(coin) else {
+        let Some(entry) = self.coin_at(coin) else {
             return Answer::Refused(Refusal::NoCoin);
         };
         if self.is_withdrawn(coin) {
             return Answer::Refused(Refusal::Withdrawn);
         }
-        if block != deposit.deposit {
+        if block != entry.deposit {
             return Answer::Refused(Refusal::BadBlock);
         }
-        if account != deposit.owner.account {
+        if account != entry.owner.account {
             return Answer::Refused(Refusal::NotOwner);
         }
         if self.exit_at(coin, block).is_some() {
@@ -270,8 +272,10 @@ impl Contract {
     /// What a finish of the exit pays: the coin's amount and the bond, and the bond alone where the
     /// coin is withdrawn. `None` where no such exit stands.
     fn payment_of(&self, coin: u64, block: u64) -> Option<Movement>
-        ensures pays { option_to_list result ≡ finish_pays (is_withdrawn self.now.log coin) (amount_of (coin_at self.now.log coin)) (exit_at self.now.log coin block) }
-        ensures covered { IfSome result (λ payment. balance_of self.now.log payment.account + payment.amount ≤ MOST_MONEY) }
+        ensures pays { option_to_list result ≡ finish_pays (is_withdrawn self.now.log coin)
+            (amount_of (coin_at self.now.log coin)) (exit_at self.now.log coin block) }
+        ensures covered { IfSome result
+            (λ payment. balance_of self.now.log payment.account + payment.amount ≤ MOST_MONEY) }
     {
         let exit = self.exit_at(coin, block)?;
         let amount = if is_among(&self.withdrawn, coin) {
@@ -337,7 +341,8 @@ impl Contract {
     }
 
     fn deposit(&mut self, account: u64, amount: u64, key: [u8; 56]) -> Result<(), NoMemory>
-        requires { is_accepted (answer_to (rules_of self.old) self.old.log (RootCall.Deposit account amount key)) ≡ true }
+        requires { is_accepted (answer_to (rules_of self.old) self.old.log (RootCall.Deposit account amount key))
+            ≡ true }
         ensures ok { OnOk result (self.new ≡ with_log self.old (RootCall.Deposit account amount key ∷ self.old.log)) }
         ensures err { OnErr result (self.new ≡ self.old) }
     {
@@ -362,8 +367,10 @@ impl Contract {
     }
 
     fn start_deposit(&mut self, account: u64, coin: u64, block: u64) -> Result<(), NoMemory>
-        requires { is_accepted (answer_to (rules_of self.old) self.old.log (RootCall.StartDeposit account coin block)) ≡ true }
-        ensures ok { OnOk result (self.new ≡ with_log self.old (RootCall.StartDeposit account coin block ∷ self.old.log)) }
+        requires { is_accepted (answer_to (rules_of self.old) self.old.log (RootCall.StartDeposit account coin block))
+            ≡ true }
+        ensures ok { OnOk result (self.new
+            ≡ with_log self.old (RootCall.StartDeposit account coin block ∷ self.old.log)) }
         ensures err { OnErr result (self.new ≡ self.old) }
     {
         self.balances.know(account)?;
@@ -386,7 +393,8 @@ impl Contract {
     }
 
     fn finish(&mut self, account: u64, coin: u64, block: u64) -> Result<(), NoMemory>
-        requires { is_accepted (answer_to (rules_of self.old) self.old.log (RootCall.Finish account coin block)) ≡ true }
+        requires { is_accepted (answer_to (rules_of self.old) self.old.log (RootCall.Finish account coin block))
+            ≡ true }
         ensures ok { OnOk result (self.new ≡ with_log self.old (RootCall.Finish account coin block ∷ self.old.log)) }
         ensures err { OnErr result (self.new ≡ self.old) }
     {

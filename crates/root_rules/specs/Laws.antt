@@ -6,7 +6,7 @@ use Rattle.root_rules.specs.declared.call.Exit.{Exit}
 use Rattle.root_rules.specs.declared.call.Answer.{Answer}
 use Rattle.root_rules.specs.declared.call.Answer.TheVariants.{Paid}
 use Rattle.root_rules.specs.Views.{now, exit_at, is_withdrawn}
-use Rattle.root_rules.specs.Money.{sum_below, balance_of, held, funded, AccountsBelow}
+use Rattle.root_rules.specs.Money.{share_of, takes, sum_below, balance_of, held, funded, AccountsBelow}
 use Rattle.root_rules.specs.Table.{Rules, answer_to, is_accepted, log_after_all}
 
 -- each call of the log was accepted after those before it
@@ -22,13 +22,20 @@ LogsAreLegal = (rules : Rules) (calls : List RootCall) → IsLegal rules (log_af
 abbrev pub IsBalanced : ℕ → List RootCall → Type 0
 IsBalanced n log = sum_below (balance_of log) n + held log ≡ funded log
 
--- no money is made or lost, whatever calls come from the first n accounts
+-- no money is made or lost: so it is of every log of accepted calls, which name the first n accounts
 abbrev pub MoneyIsKept : Type 0
-MoneyIsKept = (rules : Rules) (n : ℕ) (calls : List RootCall) → AccountsBelow n calls → IsBalanced n (log_after_all rules [] calls)
+MoneyIsKept = (rules : Rules) (n : ℕ) (log : List RootCall) → IsLegal rules log → AccountsBelow n log → IsBalanced n log
+
+-- no balance is overdrawn: what an accepted call takes from an account, the account had
+abbrev pub BalancesSuffice : Type 0
+BalancesSuffice = (rules : Rules) (log : List RootCall) (call : RootCall) (account : ℕ)
+    → IsLegal rules (call ∷ log) → share_of account (takes call) ≤ balance_of log account
 
 -- one balance, with what is held, is no more than all that was funded
 abbrev pub BalancesAreCovered : Type 0
-BalancesAreCovered = (rules : Rules) (log : List RootCall) (account : ℕ) → IsLegal rules log → balance_of log account + held log ≤ funded log
+BalancesAreCovered =
+    (rules : Rules) (log : List RootCall) (account : ℕ) → IsLegal rules log → balance_of log account + held log ≤ funded
+    log
 
 -- The exit of coin c at block e by the calls that name it: it stands where the last call that starts or finishes it is
 -- a start, and its account and its time are those of that call.
@@ -62,4 +69,5 @@ was_paid rules (call ∷ log) c = pays_coin rules log c call || was_paid rules l
 
 -- in a log of accepted calls, a coin is withdrawn exactly where a finish of it was answered Paid
 abbrev pub WithdrawnIsPaid : Type 0
-WithdrawnIsPaid = (rules : Rules) (log : List RootCall) (c : ℕ) → IsLegal rules log → is_withdrawn log c ≡ was_paid rules log c
+WithdrawnIsPaid =
+    (rules : Rules) (log : List RootCall) (c : ℕ) → IsLegal rules log → is_withdrawn log c ≡ was_paid rules log c

@@ -27,7 +27,8 @@ finish_pays false amount (Some exit) = moved exit.account (amount + EXIT_BOND) �
 -- what the call, after these calls, pays to balances
 unfoldable pub pays : List RootCall → RootCall → List Movement
 pays log (Fund account amount) = moved account amount ∷ []
-pays log (Finish account coin exit) = finish_pays (is_withdrawn log coin) (amount_of (coin_at log coin)) (exit_at log coin exit)
+pays log (Finish account coin exit) =
+    finish_pays (is_withdrawn log coin) (amount_of (coin_at log coin)) (exit_at log coin exit)
 pays log call = []
 
 -- what the call takes from balances
@@ -39,12 +40,14 @@ takes call = []
 -- the part of the movements that is the account's
 unfoldable pub share_of : ℕ → List Movement → ℕ
 share_of account [] = 0
-share_of account (movement ∷ movements) = (if movement.account == account then movement.amount else 0) + share_of account movements
+share_of account (movement ∷ movements) =
+    (if movement.account == account then movement.amount else 0) + share_of account movements
 
 -- an account's balance: what the calls paid to it, less what they took
 unfoldable pub balance_of : List RootCall → ℕ → ℕ
 balance_of [] account = 0
-balance_of (call ∷ log) account = balance_of log account + share_of account (pays log call) - share_of account (takes call)
+balance_of (call ∷ log) account =
+    balance_of log account + share_of account (pays log call) - share_of account (takes call)
 
 -- all money ever funded
 unfoldable pub funded : List RootCall → ℕ
@@ -65,14 +68,14 @@ unpaid log c = if is_withdrawn log c then 0 else amount_of (coin_at log c)
 abbrev pub held : List RootCall → ℕ
 held log = sum_below (unpaid log) (coins log + 1) + EXIT_BOND * length (exits log)
 
--- the account that makes the call; nobody makes a Tick, which moves no money and counts as account 0
-abbrev pub account_of : RootCall → ℕ
-account_of (Fund account amount) = account
-account_of (Tick time) = 0
-account_of (Deposit account amount key) = account
-account_of (StartDeposit account coin block) = account
-account_of (Finish account coin exit) = account
+-- the accounts that a call names: nobody makes a Tick
+abbrev pub accounts_of : RootCall → List ℕ
+accounts_of (Fund account amount) = account ∷ []
+accounts_of (Tick time) = []
+accounts_of (Deposit account amount key) = account ∷ []
+accounts_of (StartDeposit account coin block) = account ∷ []
+accounts_of (Finish account coin exit) = account ∷ []
 
--- each account of these calls is one of the first n
+-- each account that these calls name is one of the first n
 abbrev pub AccountsBelow : ℕ → List RootCall → Type 0
-AccountsBelow n calls = AllByRecursion (λ call. account_of call < n) calls
+AccountsBelow n calls = AllByRecursion (λ call. AllByRecursion (λ account. account < n) (accounts_of call)) calls

@@ -1,5 +1,5 @@
 ghost use Rattle.std.specs.Prelude.{◌≡◌, ◌^◌};
-ghost use Rattle.root_rules.specs.Laws.{LogsAreLegal, MoneyIsKept, BalancesAreCovered, ExitsStand, WithdrawnIsPaid};
+ghost use Rattle.root_rules.specs.Laws.{LogsAreLegal, MoneyIsKept, BalancesAreCovered, BalancesSuffice, ExitsStand, WithdrawnIsPaid};
 
 use super::{EXIT_BOND, EXIT_PERIOD, LAST_TIME, MOST_MONEY};
 
@@ -8,8 +8,8 @@ pub fn logs_are_legal()
     ensures { LogsAreLegal }
 {}
 
-/// No money is made or lost, whatever calls come: the balances, the amounts of the coins that aren't
-/// withdrawn and the bonds are all that was funded.
+/// No money is made or lost: over a log of accepted calls, the balances of all its accounts, the amounts
+/// of the coins that aren't withdrawn and the bonds are all that was funded.
 pub fn money_is_kept()
     ensures { MoneyIsKept }
 {}
@@ -17,6 +17,11 @@ pub fn money_is_kept()
 /// A balance, with all that is held, is no more than what was funded, over a log of accepted calls.
 pub fn balances_are_covered()
     ensures { BalancesAreCovered }
+{}
+
+/// No balance is overdrawn: what an accepted call takes from an account, the account had before it.
+pub fn balances_suffice()
+    ensures { BalancesSuffice }
 {}
 
 /// An exit stands exactly where the last call that starts or finishes it is a start, whose account and

@@ -8,8 +8,8 @@ mod log;
 
 pub use call::{Answer, Coin, Exit, Movement, Owner, Refusal, RootCall};
 pub use laws::{
-    balances_are_covered, exits_stand, logs_are_legal, money_is_kept, the_rules_have_these_numbers,
-    withdrawn_is_paid,
+    balances_are_covered, balances_suffice, exits_stand, logs_are_legal, money_is_kept,
+    the_rules_have_these_numbers, withdrawn_is_paid,
 };
 pub use log::RootLog;
 

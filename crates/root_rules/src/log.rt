@@ -22,7 +22,8 @@ impl Model for RootLog {
 
     ghost use Rattle.std.specs.Prelude.{reverse};
 
-    ghost view = { λ a. record { tag = a.tag; operator = a.operator; most_blocks = a.most_blocks; log = reverse a.events.items } };
+    ghost view = { λ a. record
+        { tag = a.tag; operator = a.operator; most_blocks = a.most_blocks; log = reverse a.events.items } };
 }
 
 impl RootLog {

@@ -4,4 +4,5 @@ use Rattle.root_rules.specs.Views.{is_exit}
 use Rattle.root_contract.proofs.lists.remove_exit.Goals as goal
 
 pub returns : goal.returns
-returns c = filter_same _ (λ exit. not (is_exit c.args.coin c.args.block exit)) _ (λ x b f t. search rules) _ _ c.retain.ensures.filtered
+returns c = filter_same _ (λ exit. not (is_exit c.args.coin c.args.block exit)) _ (λ x b f t. search rules) _ _
+    c.retain.ensures.filtered

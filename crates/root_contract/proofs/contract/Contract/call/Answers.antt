@@ -24,6 +24,7 @@ returns-in-Ok c =
     in
     record {
       answer = λ _. c.answer-answer.ensures;
-      log = λ _. c.in-Ok.ensures.ok ∙ ap (λ (b : Bool). with_log chain (if b then c.args.call.now ∷ chain.log else chain.log)) (sym is);
+      log = λ _. c.in-Ok.ensures.ok
+          ∙ ap (λ (b : Bool). with_log chain (if b then c.args.call.now ∷ chain.log else chain.log)) (sym is);
       no_memory = λ wrong. absurd (false≢true (ap is_accepted (sym wrong ∙ c.answer-answer.ensures) ∙ is));
     }

@@ -23,14 +23,21 @@ pub record State : Type 0 where
 
 -- the fields of a contract as such
 abbrev pub state_of : Inside → State
-state_of a = record { clock = a.clock; coins = a.coins.items; exits = a.exits.items; withdrawn = a.withdrawn.items; balances = amount_in a.balances; funded = a.funded }
+state_of a = record {
+  clock = a.clock;
+  coins = a.coins.items;
+  exits = a.exits.items;
+  withdrawn = a.withdrawn.items;
+  balances = amount_in a.balances;
+  funded = a.funded;
+}
 
 -- the exit started when the clock showed a time
 abbrev pub IsStarted : Exit → Type 0
 IsStarted exit = exit.start ≤ LAST_TIME
 
 -- each field is what the log says, and the numbers keep their limits
-pub record Keeps (chain : Chain) (s : State) : Type 0 where
+pub record Agrees (chain : Chain) (s : State) : Type 0 where
   pub legal : IsLegal (rules_of chain) chain.log
   pub clock : s.clock ≡ now chain.log
   pub clock_limit : s.clock ≤ LAST_TIME
@@ -45,5 +52,5 @@ pub record Keeps (chain : Chain) (s : State) : Type 0 where
   pub funded_limit : s.funded ≤ MOST_MONEY
 
 -- so it is of a contract
-abbrev pub IsKept : Inside → Type 0
-IsKept a = Keeps a.log (state_of a)
+abbrev pub IsContract : Inside → Type 0
+IsContract a = Agrees a.log (state_of a)
