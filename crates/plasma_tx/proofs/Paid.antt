@@ -15,7 +15,8 @@ pub withdrawn_is_paid : WithdrawnIsPaid
 unfolding is_withdrawn was_paid
 withdrawn_is_paid [] c = refl
 withdrawn_is_paid (Finish account k m ∷ log) c =
-    finished ((k == c) && has_no_open_challenge (exit_at log k m)) (is_withdrawn log c) (was_paid log c) (withdrawn_is_paid log c)
+    finished ((k == c) && has_no_open_challenge (exit_at log k m)) (is_withdrawn log c) (was_paid log c)
+    (withdrawn_is_paid log c)
 withdrawn_is_paid (Fund account amount ∷ log) c = withdrawn_is_paid log c
 withdrawn_is_paid (Tick time ∷ log) c = withdrawn_is_paid log c
 withdrawn_is_paid (Deposit account amount key ∷ log) c = withdrawn_is_paid log c

@@ -10,13 +10,15 @@ use Rattle.std.proofs.lemmas.Nat.{be_bytes_4, be_bytes_8, from_be_bytes-to_be_by
 use Rattle.plasma_tx.specs.Spelling.{AreBytes, number_text, number_at}
 
 -- a range within the front of a list
-pub range-front : (xs rest : List ℕ) (a b : ℕ) → a ≤ b → b ≤ length xs → slice_range (xs ++ rest) a b ≡ slice_range xs a b
+pub range-front : (xs rest : List ℕ) (a b : ℕ) → a ≤ b → b ≤ length xs → slice_range (xs ++ rest) a b
+    ≡ slice_range xs a b
 range-front xs rest a b le fits =
     ap (λ l. take (b - a) l) (drop-append-le a xs rest (omega arith))
     ∙ take-append-le (b - a) (drop a xs) rest (omega (arith, length-drop a xs))
 
 -- a range that is the back of a list
-pub range-back : (front part : List ℕ) (a b : ℕ) → length front ≡ a → a + length part ≡ b → slice_range (front ++ part) a b ≡ part
+pub range-back : (front part : List ℕ) (a b : ℕ) → length front ≡ a → a + length part ≡ b
+    → slice_range (front ++ part) a b ≡ part
 range-back front part a b is end =
     ap (λ l. take (b - a) l) (drop_at front part a is) ∙ take_all (b - a) part (omega arith)
 
@@ -54,9 +56,11 @@ short_number-below xs small = below (byte-at xs small)
 pub number-bytes : (xs : List ℕ) → AreBytes xs → length xs ≡ 8 → number_text (from_be_bytes w64 xs) ≡ xs
 number-bytes xs small long = be_bytes_8 xs (from_be_bytes w64 xs) long (byte-at xs small) refl
 
-pub short_number-bytes : (xs : List ℕ) (n : ℕ) → AreBytes xs → length xs ≡ 4 → n ≡ from_be_bytes w32 xs → to_be_bytes w32 n ≡ xs
+pub short_number-bytes : (xs : List ℕ) (n : ℕ) → AreBytes xs → length xs ≡ 4 → n ≡ from_be_bytes w32 xs
+    → to_be_bytes w32 n ≡ xs
 short_number-bytes xs n small long is = be_bytes_4 xs n long (byte-at xs small) is
 
 -- the number whose bytes a range is
-pub number-in : (xs : List ℕ) (place n : ℕ) → n < 2 ^ 64 → slice_range xs place (place + 8) ≡ number_text n → number_at xs place ≡ n
+pub number-in : (xs : List ℕ) (place n : ℕ) → n < 2 ^ 64 → slice_range xs place (place + 8) ≡ number_text n
+    → number_at xs place ≡ n
 number-in xs place n lt is = ap (from_be_bytes w64) is ∙ from_be_bytes-to_be_bytes_8 n lt

@@ -40,8 +40,8 @@ last_start (call ∷ log) c e =
 abbrev pub without_challenges : Exit → Exit
 without_challenges exit = record exit { challenges = [] }
 
--- An exit stands exactly where the last call that starts, cancels or finishes it is a start. Its account, parent, owners
--- and time are those of that call and of the calls before it.
+-- An exit stands exactly where the last call that starts, cancels or finishes it is a start. Its account, parent,
+-- owners and time are those of that call and of the calls before it.
 abbrev pub ExitsStand : Type 0
 ExitsStand = (log : List RootCall) (c e : ℕ) → option_map without_challenges (exit_at log c e) ≡ last_start log c e
 
@@ -73,9 +73,9 @@ was_responded (call ∷ log) c e b = if is_start c e call then false else is_res
 abbrev pub with_answered : Bool → Challenge → Challenge
 with_answered answered challenge = record challenge { answered = answered }
 
--- A standing exit is challenged at b exactly where after its start there is a Before of it at b; the challenge's account,
--- owner and time are those of the first such Before, and it is answered exactly where after that start there is a Respond
--- to it at b.
+-- A standing exit is challenged at b exactly where after its start there is a Before of it at b; the challenge's
+-- account, owner and time are those of the first such Before, and it is answered exactly where after that start there
+-- is a Respond to it at b.
 abbrev pub ChallengesStand : Type 0
 ChallengesStand = (log : List RootCall) (c e b : ℕ) (exit : Exit) → exit_at log c e ≡ Some exit
     → challenge_at b exit.challenges ≡ option_map (with_answered (was_responded log c e b)) (first_before log c e b)
@@ -93,10 +93,13 @@ before_place (call ∷ log) c e b =
     else if is_some (first_before log c e b) then before_place log c e b
     else length log
 
--- the standing exits are in the order of their starts, and the challenges of each in the order of their Befores
+-- the standing exits are in the order of their starts
 abbrev pub ExitsAreInOrder : Type 0
-ExitsAreInOrder = (log : List RootCall) → AllPairs (λ earlier later. start_place log earlier.coin earlier.block < start_place log later.coin later.block) (exits log)
+ExitsAreInOrder = (log : List RootCall)
+    → AllPairs (λ earlier later. start_place log earlier.coin earlier.block < start_place log later.coin later.block)
+    (exits log)
 
+-- the challenges of a standing exit are in the order of their Befores
 abbrev pub ChallengesAreInOrder : Type 0
 ChallengesAreInOrder = (log : List RootCall) (c e : ℕ) (exit : Exit) → exit_at log c e ≡ Some exit
     → AllPairs (λ earlier later. before_place log c e earlier.block < before_place log c e later.block) exit.challenges

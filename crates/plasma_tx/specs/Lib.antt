@@ -1,6 +1,7 @@
 pub mod Spelling
 pub mod Transfer
 pub mod Openings
+pub mod Links
 pub mod Views
 pub mod Chain
 pub mod Laws

@@ -44,7 +44,8 @@ OpeningsAreReadBack = (dig : List ℕ → List ℕ) (opening : Opening) → leng
 
 -- bytes that are read as an opening are its own, and its proof shows no default
 abbrev pub OpeningsHaveOneSpelling : Type 0
-OpeningsHaveOneSpelling = (dig : List ℕ → List ℕ) (raw : RawOpening) (opening : Opening) → All (λ byte. byte < 256) raw.bytes
+OpeningsHaveOneSpelling = (dig : List ℕ → List ℕ) (raw : RawOpening) (opening : Opening)
+    → All (λ byte. byte < 256) raw.bytes
     → opening_in dig raw ≡ Ok opening
     → (raw ≡ raw_of opening) × (length opening.leaf < 2 ^ 32) × IsMaskedPath opening.proof
     × (is_canonical dig opening.proof ≡ true)

@@ -42,7 +42,8 @@ last_text (Some last) = number_text last
 
 -- what both forms of a body begin with: the mark, the tag of 32 bytes, the coin, the parent and the new owner
 abbrev pub common_text : Body → List ℕ
-common_text body = mark_of body.last ++ body.tag ++ number_text body.coin ++ number_text body.parent ++ owner_text body.to
+common_text body =
+    mark_of body.last ++ body.tag ++ number_text body.coin ++ number_text body.parent ++ owner_text body.to
 
 -- a body: these 116 bytes, and eight more where it has a last block
 unfoldable pub body_text : Body → List ℕ

@@ -61,11 +61,10 @@ standing_after c (Cancel block) s = record {
   exits = without_view block s.exits;
   responses = without_responses c block s.responses;
 }
-standing_after c (Challenge exit block by at) s = record {
-  withdrawn = s.withdrawn;
-  exits = with_view_changed exit (with_challenge_view (record { block = block; at = at; by = by; answered = is_responded c exit block s.responses })) s.exits;
-  responses = s.responses;
-}
+standing_after c (Challenge exit block by at) s =
+    let answered = is_responded c exit block s.responses in
+    let challenge : ChallengeView = record { block = block; at = at; by = by; answered = answered } in
+    record s { exits = with_view_changed exit (with_challenge_view challenge) s.exits }
 standing_after c (Answer exit block) s = record {
   withdrawn = s.withdrawn;
   exits = with_view_changed exit (with_answer_view block) s.exits;
@@ -85,7 +84,8 @@ started block parent time account =
 -- the coin whose exits the call changes at that time, and how; None where it changes none
 abbrev pub change_of : ℕ → RootCall → Option (ℕ × Change)
 change_of time (StartDeposit account coin block) = Some (coin, Start (started block 0 time account))
-change_of time (StartSpend account coin parent exit) = Some (coin, Start (started exit.block (block_of parent) time account))
+change_of time (StartSpend account coin parent exit) =
+    Some (coin, Start (started exit.block (block_of parent) time account))
 change_of time (After account coin exit spend) = Some (coin, Cancel exit)
 change_of time (Between account coin exit spend) = Some (coin, Cancel exit)
 change_of time (Before account coin exit shown) = Some (coin, Challenge exit (block_of shown) account time)

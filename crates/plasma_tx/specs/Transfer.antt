@@ -55,4 +55,5 @@ EmptyLeavesAreNone = (tag : List ℕ) (coin block : ℕ) → transfer_in tag coi
 -- a transfer that a leaf spells is read from it, has the tag and the coin, and may stand in the block
 abbrev pub TransfersAreRead : Type 0
 TransfersAreRead = (tag leaf : List ℕ) (coin block : ℕ) (tx : SignedTx) → transfer_in tag coin block leaf ≡ Some tx
-    → (signed_in tag leaf ≡ Ok tx) × (tx.body.tag ≡ tag) × (tx.body.coin ≡ coin) × (may_stand_in block tx.body.last ≡ true)
+    → (signed_in tag leaf ≡ Ok tx) × (tx.body.tag ≡ tag) × (tx.body.coin ≡ coin)
+    × (may_stand_in block tx.body.last ≡ true)

@@ -41,7 +41,8 @@ coins (call ∷ log) = coins log
 -- block n, counted from 1: the coin of the Deposit that made it, or the root of the Commit
 unfoldable pub block_at : List RootCall → ℕ → Option BlockView
 block_at [] n = None
-block_at (Deposit account amount key ∷ log) n = if n == blocks log + 1 then Some (DepositOf (coins log + 1)) else block_at log n
+block_at (Deposit account amount key ∷ log) n =
+    if n == blocks log + 1 then Some (DepositOf (coins log + 1)) else block_at log n
 block_at (Commit account root ∷ log) n = if n == blocks log + 1 then Some (Root root) else block_at log n
 block_at (call ∷ log) n = block_at log n
 
@@ -53,12 +54,14 @@ new_coin log account amount key =
 -- coin c, counted from 1: what the c-th Deposit made
 unfoldable pub coin_at : List RootCall → ℕ → Option CoinView
 coin_at [] c = None
-coin_at (Deposit account amount key ∷ log) c = if c == coins log + 1 then Some (new_coin log account amount key) else coin_at log c
+coin_at (Deposit account amount key ∷ log) c =
+    if c == coins log + 1 then Some (new_coin log account amount key) else coin_at log c
 coin_at (call ∷ log) c = coin_at log c
 
 -- ---- exits and challenges
 
--- a challenge of an exit at a block: who owned the coin after that block, who made it and when, and whether it is answered
+-- a challenge of an exit at a block: who owned the coin after that block, who made it and when, and whether it is
+-- answered
 pub record Challenge : Type 0 where
   pub block : ℕ
   pub owner : Owner
@@ -66,8 +69,8 @@ pub record Challenge : Type 0 where
   pub at : ℕ
   pub answered : Bool
 
--- an exit of a coin at a block: the parent's block (0 for an exit of the deposit), who owned the coin after the block and
--- after its parent, who started it and when, and its challenges in the order in which they were made
+-- an exit of a coin at a block: the parent's block (0 for an exit of the deposit), who owned the coin after the block
+-- and after its parent, who started it and when, and its challenges in the order in which they were made
 pub record Exit : Type 0 where
   pub coin : ℕ
   pub block : ℕ
@@ -175,7 +178,8 @@ responses (call ∷ log) = responses log
 
 -- whether one of the responses to the exit names the block
 abbrev pub is_responded : ℕ → ℕ → ℕ → List Response → Bool
-is_responded c e block responses = list_any (λ response. is_response_to c e response && (response.block == block)) responses
+is_responded c e block responses =
+    list_any (λ response. is_response_to c e response && (response.block == block)) responses
 
 -- the challenge that a Before of the exit makes; it is answered already where a Respond came first
 abbrev pub new_challenge : List RootCall → ℕ → ℕ → ℕ → Shown → Challenge
@@ -187,8 +191,8 @@ new_challenge log account coin exit shown = record {
   answered = is_responded coin exit (block_of shown) (responses log);
 }
 
--- The standing exits in the order of their starts: a start adds its exit, in place of one of that name; After, Between and
--- Finish take it out; Before challenges it and Respond answers a challenge.
+-- The standing exits in the order of their starts: a start adds its exit, in place of one of that name; After, Between
+-- and Finish take it out; Before challenges it and Respond answers a challenge.
 unfoldable pub exits : List RootCall → List Exit
 exits [] = []
 exits (StartDeposit account coin block ∷ log) =

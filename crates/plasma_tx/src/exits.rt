@@ -55,7 +55,8 @@ pub fn challenge_exit(
     challenge: ChallengeView,
 ) -> Result<(), NoMemory>
     requires { AreDistinct exits.old.items }
-    ensures ok { OnOk result (exits.new.items ≡ with_view_changed block (with_challenge_view challenge) exits.old.items) }
+    ensures ok { OnOk result (exits.new.items
+        ≡ with_view_changed block (with_challenge_view challenge) exits.old.items) }
     ensures err { OnErr result (exits.new.items ≡ exits.old.items) }
 {
     let Some(place) = place_of(exits.as_slice(), block) else {

@@ -72,7 +72,8 @@ impl Kept {
 
     /// Keeps a Deposit.
     fn deposit(&mut self, amount: u64, owner: Owner) -> Result<(), NoMemory>
-        ensures ok { OnOk result ((log : List RootCall) → Keeps log self.old → Keeps (RootCall.Deposit owner.account amount owner.key ∷ log) self.new) }
+        ensures ok { OnOk result ((log : List RootCall) → Keeps log self.old
+            → Keeps (RootCall.Deposit owner.account amount owner.key ∷ log) self.new) }
         ensures err { OnErr result ((log : List RootCall) → Keeps log self.old → Keeps log self.new) }
     {
         self.blocks.reserve(1)?;
@@ -90,7 +91,8 @@ impl Kept {
 
     /// Keeps a Commit.
     fn commit(&mut self, account: u64, root: [u8; 32]) -> Result<(), NoMemory>
-        ensures ok { OnOk result ((log : List RootCall) → Keeps log self.old → Keeps (RootCall.Commit account root ∷ log) self.new) }
+        ensures ok { OnOk result ((log : List RootCall) → Keeps log self.old
+            → Keeps (RootCall.Commit account root ∷ log) self.new) }
         ensures err { OnErr result ((log : List RootCall) → Keeps log self.old → Keeps log self.new) }
     {
         self.blocks.push(BlockView::Root { root })?;

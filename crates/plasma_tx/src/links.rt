@@ -1,4 +1,5 @@
 ghost use Rattle.std.specs.Prelude.{◌≡◌, IfOk};
+ghost use Rattle.plasma_tx.specs.Links.{tip_of, last_owner_of};
 
 use super::opening::RawOpening;
 use super::owner::Owner;
@@ -69,8 +70,7 @@ impl Spends {
     }
 }
 
-/// The history of a coin: its deposit and the transfers since, in order. The tip is the block of the
-/// last one, or the deposit block; the last owner is whom it goes to, or the depositor.
+/// The history of a coin: its deposit and the transfers since, in order.
 #[derive(Debug, Drop)]
 pub struct Links {
     pub coin: u64,
@@ -82,6 +82,26 @@ pub struct Links {
 }
 
 impl Links {
+    /// The tip: the block of the last spend, or the deposit block where there is none.
+    pub fn tip(&self) -> u64
+        ensures { result ≡ tip_of self.now }
+    {
+        match self.spends.as_slice().last() {
+            None => self.deposit,
+            Some(link) => link.block,
+        }
+    }
+
+    /// The last owner: to whom the last spend goes, or the depositor where there is none.
+    pub fn last_owner(&self) -> Owner
+        ensures { result ≡ last_owner_of self.now }
+    {
+        match self.spends.as_slice().last() {
+            None => self.owner,
+            Some(link) => link.tx.body.to,
+        }
+    }
+
     /// An equal value, or `NoMemory`.
     pub fn copy(&self) -> Result<Links, NoMemory>
         ensures { IfOk result (λ copied. copied ≡ self.now) }

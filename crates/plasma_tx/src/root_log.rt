@@ -30,7 +30,12 @@ impl Model for RootLog {
     ghost use Rattle.std.specs.Prelude.{reverse};
     ghost use Rattle.plasma_tx.specs.Keeps.{Keeps};
 
-    ghost view = { λ a. record { tag = a.tag; operator = a.operator; most_blocks = a.most_blocks; log = reverse a.events.items } };
+    ghost view = { λ a. record {
+      tag = a.tag;
+      operator = a.operator;
+      most_blocks = a.most_blocks;
+      log = reverse a.events.items;
+    } };
 
     ghost invariant = { λ a. Keeps (reverse a.events.items) a.kept };
 }

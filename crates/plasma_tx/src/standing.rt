@@ -150,7 +150,8 @@ impl CoinState {
     }
 
     fn respond(&mut self, response: Response) -> Result<(), NoMemory>
-        ensures ok { OnOk result (self.new ≡ standing_after response.coin (Change.Respond response.exit response.block) self.old) }
+        ensures ok { OnOk result (self.new
+            ≡ standing_after response.coin (Change.Respond response.exit response.block) self.old) }
         ensures err { OnErr result (self.new ≡ self.old) }
     {
         self.responses.push(response)?;

@@ -3,4 +3,5 @@ use Rattle.plasma_tx.specs.ChallengeLists.{answered_at}
 use Rattle.plasma_tx.proofs.views.answer_all.Given as goal
 
 abbrev pub invariant-loop-challenge : goal.invariant-loop-challenge
-invariant-loop-challenge l = l.challenge-items ≡ map (answered_at l.block) (take l.challenge-index l.fn.challenges.items) ++ drop l.challenge-index l.fn.challenges.items
+invariant-loop-challenge l = l.challenge-items ≡ map (answered_at l.block)
+    (take l.challenge-index l.fn.challenges.items) ++ drop l.challenge-index l.fn.challenges.items
