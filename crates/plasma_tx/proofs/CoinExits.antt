@@ -1,7 +1,7 @@
 -- What is kept of each coin after a call.
 use Rattle.std.proofs.Common.{◌≡◌, ℕ, ◌==◌, ◌&&◌, ◌||◌, cond, not, Bool, true, false, if◌then◌else◌, List, [], ◌∷◌, ◌++◌, map, Option, Some, None, refl, sym, ap, ◌∙◌, subst, find, filter}
 use Rattle.std.specs.Prelude.{is_some}
-use Rattle.std.specs.List.{list_all, list_any}
+use Rattle.std.specs.List.{list_all}
 use Rattle.std.specs.Option.{option_map}
 use Rattle.std.proofs.lemmas.Bool.{eqb-true, eq-eqb}
 use Rattle.plasma_tx.specs.declared.views.ChallengeView.{ChallengeView}
@@ -13,9 +13,9 @@ use Rattle.plasma_tx.specs.declared.opening.RawOpening.{RawOpening}
 use Rattle.plasma_tx.specs.declared.call.Shown.{Shown}
 use Rattle.plasma_tx.specs.declared.call.RootCall.{RootCall}
 use Rattle.plasma_tx.specs.declared.call.RootCall.TheVariants.{Fund, Tick, Deposit, Commit, StartDeposit, StartSpend, After, Between, Before, Respond, Finish}
-use Rattle.plasma_tx.specs.Views.{Challenge, Exit, is_exit, without_exit, with_exit_changed, challenge_at, with_challenge, with_answer_at, with_answer, is_response_to, without_responses, responses, is_responded, block_of, deposit_exit, spend_exit, new_challenge, now, exits, exit_at, has_no_open_challenge, is_withdrawn, challenge_view, exit_view, exits_of}
+use Rattle.plasma_tx.specs.Views.{Challenge, Exit, is_exit, without_exit, with_exit_changed, challenge_at, with_challenge, with_answer_at, with_answer, without_responses, responses, is_responded, block_of, deposit_exit, spend_exit, new_challenge, now, exits, exit_at, has_no_open_challenge, is_withdrawn, challenge_view, exit_view, exits_of}
 use Rattle.plasma_tx.specs.ChallengeLists.{answered_at, is_challenged}
-use Rattle.plasma_tx.specs.Standing.{Standing, started, without_view, with_view_changed, with_challenge_view, with_answer_view, has_no_open_view, standing_after, change_of, standing_of}
+use Rattle.plasma_tx.specs.Standing.{started, without_view, with_view_changed, with_challenge_view, with_answer_view, has_no_open_view, standing_after, change_of, standing_of}
 use Rattle.plasma_tx.proofs.Names.{eqb-flip, some_same}
 use Rattle.plasma_tx.proofs.Stands.{same-challenged}
 

@@ -21,7 +21,7 @@ fn body(last: Option<u64>) -> Body {
     }
 }
 
-// The bytes of that body, field by field.
+// The bytes of that body, field by field; a last block is 5.
 fn spelled(alloc: Global, last: Option<u64>) -> Result<Vec<u8>, Fail> {
     let mut bytes = match last {
         None => Vec::from_slice(alloc, b"PCT1")?,
@@ -31,8 +31,8 @@ fn spelled(alloc: Global, last: Option<u64>) -> Result<Vec<u8>, Fail> {
     bytes.extend_from_slice(&[0, 0, 0, 0, 0, 0, 0, 3, 0, 0, 0, 0, 0, 0, 0, 4])?;
     bytes.extend_from_slice(&[0, 0, 0, 0, 0, 0, 1, 2])?;
     bytes.extend_from_slice(&[9; 56])?;
-    if let Some(last) = last {
-        bytes.extend_from_slice(&[0, 0, 0, 0, 0, 0, 0, last as u8])?;
+    if last.is_some() {
+        bytes.extend_from_slice(&[0, 0, 0, 0, 0, 0, 0, 5])?;
     }
     Ok(bytes)
 }
@@ -108,6 +108,7 @@ fn openings_as_bytes(rt: HostRuntime) -> Result<(), Fail> {
     ];
     for bytes in rows {
         let opening = raw(alloc, bytes)?.open_up(alloc, &Sha)?;
+        assert!(rt; opening.leaf.len() < 3);
         let written = opening.write(alloc)?.copy()?;
         assert_eq!(rt; written.bytes.as_slice(), bytes);
         assert_eq!(rt; written.block, 2);
@@ -134,6 +135,8 @@ fn signers(rt: HostRuntime) -> Result<(), Fail> {
         account: 1,
         key: secret.public(),
     };
+    assert_eq!(rt; secret.leaves(), 32);
+    assert_eq!(rt; secret.signature_len(), 1292);
     let mut signature = [0; 1292];
     sign(&secret, 0, body(None).write().as_slice(), &mut signature);
     let mut tx = SignedTx {
@@ -236,11 +239,12 @@ fn exits_of_a_log(rt: HostRuntime) -> Result<(), Fail> {
 fn blocks_and_coins_of_a_log(rt: HostRuntime) -> Result<(), Fail> {
     let mut log = RootLog::make(rt.alloc(), TAG, 9, 100);
     let root = [1; 32];
+    let key = OWNER.key;
     for amount in [300, 200] {
         log.push(RootCall::Deposit {
             account: OWNER.account,
             amount,
-            key: OWNER.key,
+            key,
         })?;
         log.push(RootCall::Commit { account: 9, root })?;
         log.push(RootCall::Tick { now: amount })?;
