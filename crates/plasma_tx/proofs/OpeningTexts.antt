@@ -104,3 +104,7 @@ text-opening_in dig raw opening small h =
     ∙ take-append-drop 4 raw.bytes) in
     let block : raw.block ≡ opening.block = sym (ap (λ (o : Opening). o.block) read.is) in
     (λ i. record { block = block i; bytes = text i }, omega (arith, leaf_long, below), proof.1, proof.2)
+
+pub leaf-shown : (dig : List ℕ → List ℕ) (raw : RawOpening) (opening : Opening) → opening_in dig raw ≡ Ok opening
+    → leaf_in raw.bytes ≡ opening.leaf
+leaf-shown dig raw opening h = sym (ap (λ (o : Opening). o.leaf) (opening_in-ok dig raw opening h).is)

@@ -42,6 +42,11 @@ abbrev pub OpeningsAreReadBack : Type 0
 OpeningsAreReadBack = (dig : List ℕ → List ℕ) (opening : Opening) → length opening.leaf < 2 ^ 32
     → IsMaskedPath opening.proof → is_canonical dig opening.proof ≡ true → opening_in dig (raw_of opening) ≡ Ok opening
 
+-- the leaf of an opening that is read is the one behind the length that its bytes begin with
+abbrev pub LeavesAreShown : Type 0
+LeavesAreShown = (dig : List ℕ → List ℕ) (raw : RawOpening) (opening : Opening) → opening_in dig raw ≡ Ok opening
+    → leaf_in raw.bytes ≡ opening.leaf
+
 -- bytes that are read as an opening are its own, and its proof shows no default
 abbrev pub OpeningsHaveOneSpelling : Type 0
 OpeningsHaveOneSpelling = (dig : List ℕ → List ℕ) (raw : RawOpening) (opening : Opening)

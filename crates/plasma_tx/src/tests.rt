@@ -22,7 +22,7 @@ fn body(last: Option<u64>) -> Body {
 }
 
 // The bytes of that body, field by field; a last block is 5.
-fn spelled(alloc: Global, last: Option<u64>) -> Result<Vec<u8>, Fail> {
+fn spelling(alloc: Global, last: Option<u64>) -> Result<Vec<u8>, Fail> {
     let mut bytes = match last {
         None => Vec::from_slice(alloc, b"PCT1")?,
         Some(_) => Vec::from_slice(alloc, b"PCT2")?,
@@ -45,7 +45,7 @@ fn refusal(alloc: Global, tag: &[u8; 32], bytes: &[u8]) -> Option<TxRefusal> {
 fn transfers_as_bytes(rt: HostRuntime) -> Result<(), Fail> {
     let alloc = rt.alloc();
     for last in [None, Some(5)] {
-        let mut bytes = spelled(alloc, last)?;
+        let mut bytes = spelling(alloc, last)?;
         assert_eq!(rt; body(last).write().as_slice(), bytes.as_slice());
         assert_eq!(rt; SignedTx::read(alloc, &TAG, &bytes)?.signature.len(), 0);
         bytes.extend_from_slice(&[1, 2, 3])?;
@@ -82,7 +82,7 @@ fn leaves_of_blocks(rt: HostRuntime) -> Result<(), Fail> {
         (Some(5), 5, true),
         (Some(5), 6, false),
     ] {
-        let bytes = spelled(alloc, last)?;
+        let bytes = spelling(alloc, last)?;
         assert_eq!(rt; leaf_tx(alloc, &TAG, 3, block, &bytes)?.is_some(), is_some);
         assert_eq!(rt; leaf_tx(alloc, &TAG, 2, block, &bytes)?.is_some(), false);
         assert_eq!(rt;
