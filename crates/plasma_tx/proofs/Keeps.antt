@@ -1,0 +1,228 @@
+-- What is kept beside the calls stays what the views have.
+use Rattle.std.proofs.Common.{◌≡◌, ℕ, zero, suc, ◌+◌, ◌-◌, ◌==◌, ◌&&◌, Bool, true, false, if◌then◌else◌, List, [], ◌∷◌, ◌++◌, length, Option, Some, None, inl, inr, refl, sym, ap, ◌∙◌, subst, arith}
+use Rattle.std.specs.Prelude.{slice_get, unwrap_or}
+use Rattle.std.specs.Ordering.{nat_cmp}
+use Rattle.std.specs.Map.{lookup}
+use Rattle.std.specs.BTreeMap.{BTreeMap, is_at}
+use Rattle.std.proofs.lemmas.Bool.{cases_eq, eq-eqb, ne_eqb}
+use Rattle.std.proofs.lemmas.List.{length-append}
+use Rattle.plasma_tx.specs.declared.call.RootCall.{RootCall}
+use Rattle.plasma_tx.specs.declared.call.RootCall.TheVariants.{Fund, Tick, Deposit, Commit, StartDeposit, StartSpend, After, Between, Before, Respond, Finish}
+use Rattle.plasma_tx.specs.declared.views.BlockView.{BlockView}
+use Rattle.plasma_tx.specs.declared.views.BlockView.TheVariants.{DepositOf, Root}
+use Rattle.plasma_tx.specs.declared.views.CoinView.{CoinView}
+use Rattle.plasma_tx.specs.declared.standing.Change.{Change}
+use Rattle.plasma_tx.specs.declared.kept.Kept.{Kept}
+use Rattle.plasma_tx.specs.Views.{now, blocks, coins, block_at, new_coin, coin_at, exits, responses, exits_of, is_withdrawn}
+use Rattle.plasma_tx.specs.Standing.{Standing, no_standing, standing_after, change_of, standing_of}
+use Rattle.plasma_tx.specs.Keeps.{numbered, standing_in, Keeps}
+use Rattle.plasma_tx.proofs.CoinExits.{after-change}
+
+slice_get-push : {X : Type 0} (xs : List X) (x : X) (m : ℕ) → slice_get (xs ++ x ∷ []) m
+    ≡ (if m == length xs then Some x else slice_get xs m)
+slice_get-push [] x zero = refl
+slice_get-push [] x (suc m) = simp (ne_eqb (suc m) 0 (omega arith))
+slice_get-push (y ∷ ys) x zero = simp (ne_eqb 0 (suc (length ys)) (omega arith))
+slice_get-push (y ∷ ys) x (suc m) =
+    elim (cases_eq m (length ys)) [
+      | inl is ↦ slice_get-push ys x m ∙ simp (eq-eqb m (length ys) is, eq-eqb (suc m) (suc (length ys)) (omega arith))
+      | inr isnt ↦ slice_get-push ys x m
+          ∙ simp (ne_eqb m (length ys) isnt, ne_eqb (suc m) (suc (length ys)) (λ e. isnt (omega arith)))
+    ]
+
+-- a new item has the next number
+numbered-push : {X : Type 0} (items : List X) (item : X) (n : ℕ) → numbered (items ++ item ∷ []) n
+    ≡ (if n == length items + 1 then Some item else numbered items n)
+numbered-push items item n =
+    elim (cases_eq n 0) [
+      | inl is ↦ simp (is, ne_eqb 0 (length items + 1) (omega arith))
+      | inr isnt ↦ elim (cases_eq n (length items + 1)) [
+        | inl last ↦ simp (
+          ne_eqb n 0 isnt,
+          eq-eqb n (length items + 1) last,
+          slice_get-push,
+          eq-eqb (n - 1)
+              (length items) (omega arith),
+        )
+        | inr other ↦ simp (
+          ne_eqb n 0 isnt,
+          ne_eqb n (length items + 1) other,
+          slice_get-push,
+          ne_eqb (n - 1)
+              (length items) (λ e. other (omega arith)),
+        )
+      ]
+    ]
+
+-- each part of what is kept after a call
+pub keeps-Fund : (log : List RootCall) (account amount : ℕ) (old : Kept) → Keeps log old
+    → Keeps (Fund account amount ∷ log) old
+unfolding now blocks coins block_at coin_at exits responses exits_of is_withdrawn
+keeps-Fund log account amount old k = record {
+  clock = k.clock;
+  block_count = k.block_count;
+  blocks_are = k.blocks_are;
+  coin_count = k.coin_count;
+  coins_are = k.coins_are;
+  states_are = k.states_are;
+}
+
+pub keeps-Tick : (log : List RootCall) (time : ℕ) (old : Kept) → Keeps log old
+    → Keeps (Tick time ∷ log) (record old { clock = time })
+unfolding now blocks coins block_at coin_at exits responses exits_of is_withdrawn
+keeps-Tick log time old k = record {
+  clock = refl;
+  block_count = k.block_count;
+  blocks_are = k.blocks_are;
+  coin_count = k.coin_count;
+  coins_are = k.coins_are;
+  states_are = k.states_are;
+}
+
+pub keeps-Deposit : (log : List RootCall) (account amount : ℕ) (key : List ℕ) (old new : Kept) (coin : CoinView)
+    (number : ℕ)
+    → new.clock ≡ old.clock → new.states ≡ old.states
+    → coin ≡ record {
+      deposit = length old.blocks.items + 1;
+      amount = amount;
+      owner =
+          record { account = account; key = key };
+    }
+    → number ≡ length old.coins.items + 1
+    → new.coins.items ≡ old.coins.items ++ coin ∷ [] → new.blocks.items ≡ old.blocks.items ++ DepositOf number ∷ []
+    → Keeps log old → Keeps (Deposit account amount key ∷ log) new
+unfolding now blocks coins block_at coin_at exits responses exits_of is_withdrawn
+keeps-Deposit log account amount key old new coin number clock states made counted coins_are blocks_are k =
+    let coin_is : coin ≡ new_coin log account amount key = made
+    ∙ (λ i. record {
+      deposit = k.block_count i + 1;
+      amount = amount;
+      owner =
+          record { account = account; key = key };
+    }) in
+    let number_is : number ≡ coins log + 1 = counted ∙ ap (λ n. n + 1) k.coin_count in
+    record {
+      clock = clock ∙ k.clock;
+      block_count = ap (λ (l : List BlockView). length l) blocks_are
+          ∙ length-append old.blocks.items (DepositOf number ∷ []) ∙ ap (λ n. n + 1) k.block_count;
+      blocks_are = λ n. ap (λ (l : List BlockView). numbered l n) blocks_are
+          ∙ numbered-push old.blocks.items (DepositOf number) n
+          ∙ (λ i. if n == k.block_count i + 1 then Some (DepositOf (number_is i)) else k.blocks_are n i);
+      coin_count = ap (λ (l : List CoinView). length l) coins_are ∙ length-append old.coins.items (coin ∷ [])
+          ∙ ap (λ n. n + 1) k.coin_count;
+      coins_are = λ c. ap (λ (l : List CoinView). numbered l c) coins_are ∙ numbered-push old.coins.items coin c
+          ∙ (λ i. if c == k.coin_count i + 1 then Some (coin_is i) else k.coins_are c i);
+      states_are = λ c. ap (λ (m : BTreeMap ℕ Standing). standing_in m c) states ∙ k.states_are c;
+    }
+
+pub keeps-Commit : (log : List RootCall) (account : ℕ) (root : List ℕ) (old new : Kept)
+    → new.clock ≡ old.clock → new.states ≡ old.states → new.coins ≡ old.coins
+    → new.blocks.items ≡ old.blocks.items ++ Root root ∷ []
+    → Keeps log old → Keeps (Commit account root ∷ log) new
+unfolding now blocks coins block_at coin_at exits responses exits_of is_withdrawn
+keeps-Commit log account root old new clock states coins_same blocks_are k = record {
+  clock = clock ∙ k.clock;
+  block_count = ap (λ (l : List BlockView). length l) blocks_are ∙ length-append old.blocks.items (Root root ∷ [])
+      ∙ ap (λ n. n + 1) k.block_count;
+  blocks_are = λ n. ap (λ (l : List BlockView). numbered l n) blocks_are ∙ numbered-push old.blocks.items (Root root) n
+      ∙ (λ i. if n == k.block_count i + 1 then Some (Root root) else k.blocks_are n i);
+  coin_count = ap (λ (v : _). length v.items) coins_same ∙ k.coin_count;
+  coins_are = λ c. ap (λ (v : _). numbered v.items c) coins_same ∙ k.coins_are c;
+  states_are = λ c. ap (λ (m : BTreeMap ℕ Standing). standing_in m c) states ∙ k.states_are c;
+}
+
+-- the other calls change no block, no coin and no clock
+record IsQuiet (log : List RootCall) (call : RootCall) : Type 0 where
+  clock : now (call ∷ log) ≡ now log
+  blocks_same : blocks (call ∷ log) ≡ blocks log
+  block_same : (n : ℕ) → block_at (call ∷ log) n ≡ block_at log n
+  coins_same : coins (call ∷ log) ≡ coins log
+  coin_same : (c : ℕ) → coin_at (call ∷ log) c ≡ coin_at log c
+
+quiet : (log : List RootCall) (call : RootCall) (p : ℕ × Change) → change_of (now log) call ≡ Some p → IsQuiet log call
+unfolding now blocks coins block_at coin_at
+quiet log (StartDeposit account k m) p is =
+    record { clock = refl; blocks_same = refl; block_same = λ n. refl; coins_same = refl; coin_same = λ c. refl }
+quiet log (StartSpend account k parent exit) p is =
+    record { clock = refl; blocks_same = refl; block_same = λ n. refl; coins_same = refl; coin_same = λ c. refl }
+quiet log (After account k m spend) p is =
+    record { clock = refl; blocks_same = refl; block_same = λ n. refl; coins_same = refl; coin_same = λ c. refl }
+quiet log (Between account k m spend) p is =
+    record { clock = refl; blocks_same = refl; block_same = λ n. refl; coins_same = refl; coin_same = λ c. refl }
+quiet log (Before account k m shown) p is =
+    record { clock = refl; blocks_same = refl; block_same = λ n. refl; coins_same = refl; coin_same = λ c. refl }
+quiet log (Respond account k m n spend) p is =
+    record { clock = refl; blocks_same = refl; block_same = λ n. refl; coins_same = refl; coin_same = λ c. refl }
+quiet log (Finish account k m) p is =
+    record { clock = refl; blocks_same = refl; block_same = λ n. refl; coins_same = refl; coin_same = λ c. refl }
+quiet log (Fund account amount) p is = absurd (cc is)
+quiet log (Tick time) p is = absurd (cc is)
+quiet log (Deposit account amount key) p is = absurd (cc is)
+quiet log (Commit account root) p is = absurd (cc is)
+
+pub keeps-change : (log : List RootCall) (call : RootCall) (coin : ℕ) (change : Change) (old : Kept)
+    (states : BTreeMap ℕ Standing)
+    → change_of old.clock call ≡ Some (coin, change)
+    → ((c : ℕ) → standing_in states c
+    ≡ (if c == coin then standing_after coin change (standing_in old.states coin) else standing_in old.states c))
+    → Keeps log old → Keeps (call ∷ log) (record old { states = states })
+keeps-change log call coin change old states is becomes k =
+    let is_now : change_of (now log) call ≡ Some (coin, change) = ap (λ time. change_of time call) (sym k.clock) ∙ is in
+    let same = quiet log call (coin, change) is_now in
+    record {
+      clock = k.clock ∙ sym same.clock;
+      block_count = k.block_count ∙ sym same.blocks_same;
+      blocks_are = λ n. k.blocks_are n ∙ sym (same.block_same n);
+      coin_count = k.coin_count ∙ sym same.coins_same;
+      coins_are = λ c. k.coins_are c ∙ sym (same.coin_same c);
+      states_are = λ c. becomes c
+          ∙ (λ i. if c == coin then standing_after coin change (k.states_are coin i) else k.states_are c i)
+          ∙ sym (after-change log call (coin, change) is_now c);
+    }
+
+-- states that read the same
+pub keeps-same : (log : List RootCall) (old : Kept) (states : BTreeMap ℕ Standing)
+    → ((c : ℕ) → standing_in states c ≡ standing_in old.states c) → Keeps log old
+    → Keeps log (record old { states = states })
+keeps-same log old states same k = record {
+  clock = k.clock;
+  block_count = k.block_count;
+  blocks_are = k.blocks_are;
+  coin_count = k.coin_count;
+  coins_are = k.coins_are;
+  states_are = λ c. same c ∙ k.states_are c;
+}
+
+-- what is kept of no calls
+pub keeps-nothing : (kept : Kept) → kept.clock ≡ 0 → kept.blocks.items ≡ [] → kept.coins.items ≡ []
+    → kept.states.entries ≡ [] → Keeps [] kept
+unfolding now blocks coins block_at coin_at exits responses exits_of is_withdrawn
+keeps-nothing kept clock no_blocks no_coins no_states = record {
+  clock = clock;
+  block_count = ap (λ (l : List BlockView). length l) no_blocks;
+  blocks_are = λ n. ap (λ (l : List BlockView). numbered l n) no_blocks ∙ none n;
+  coin_count = ap (λ (l : List CoinView). length l) no_coins;
+  coins_are = λ c. ap (λ (l : List CoinView). numbered l c) no_coins ∙ none c;
+  states_are = λ c. ap (λ (es : List (ℕ × Standing)). unwrap_or (lookup (is_at (nat_cmp c)) es) no_standing) no_states;
+}
+  where
+    none : {X : Type 0} (n : ℕ) → numbered {X = X} [] n ≡ None
+    none {X} n = let nothing : Option X =
+        None in elim (n == 0) as (λ b. (if b then nothing else nothing) ≡ nothing) [ true ↦ refl | false ↦ refl ]
+
+-- a call that changes no exit, and is neither a Tick nor a block, changes nothing that is kept
+pub keeps-none : (log : List RootCall) (call : RootCall) (time : ℕ) (old : Kept) → ((t : ℕ) → call ≡ Tick t → ⊥)
+    → ((account amount : ℕ) (key : List ℕ) → call ≡ Deposit account amount key → ⊥)
+    → ((account : ℕ) (root : List ℕ) → call ≡ Commit account root → ⊥) → change_of time call ≡ None → Keeps log old
+    → Keeps (call ∷ log) old
+keeps-none log (Fund account amount) time old tick deposit commit is k = keeps-Fund log account amount old k
+keeps-none log (Tick t) time old tick deposit commit is k = absurd (tick t refl)
+keeps-none log (Deposit account amount key) time old tick deposit commit is k = absurd (deposit account amount key refl)
+keeps-none log (Commit account root) time old tick deposit commit is k = absurd (commit account root refl)
+keeps-none log (StartDeposit account k m) time old tick deposit commit is h = absurd (cc is)
+keeps-none log (StartSpend account k parent exit) time old tick deposit commit is h = absurd (cc is)
+keeps-none log (After account k m spend) time old tick deposit commit is h = absurd (cc is)
+keeps-none log (Between account k m spend) time old tick deposit commit is h = absurd (cc is)
+keeps-none log (Before account k m shown) time old tick deposit commit is h = absurd (cc is)
+keeps-none log (Respond account k m n spend) time old tick deposit commit is h = absurd (cc is)
+keeps-none log (Finish account k m) time old tick deposit commit is h = absurd (cc is)

@@ -1,0 +1,13 @@
+pub mod Parts
+pub mod Spellings
+pub mod Leaves
+pub mod OpeningTexts
+pub mod Names
+pub mod Stands
+pub mod Challenged
+pub mod Paid
+pub mod InOrder
+pub mod CoinExits
+pub mod Keeps
+pub mod States
+pub mod Answered

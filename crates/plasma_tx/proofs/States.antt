@@ -1,0 +1,208 @@
+-- A map of coins after a write at one coin, and a list of exits after a change of one.
+use Rattle.std.proofs.Common.{◌≡◌, ℕ, zero, suc, ◌+◌, ◌<◌, ◌≤◌, ◌==◌, ◌||◌, cond, not, Bool, true, false, if◌then◌else◌, List, [], ◌∷◌, ◌++◌, map, length, get_or, take, drop, slice_set, slice_index_or, Option, Some, None, inl, inr, refl, sym, ap, ◌∙◌, subst, find, filter, position, arith}
+use Rattle.std.specs.Prelude.{unwrap_or, nat_lt}
+use Rattle.std.specs.List.{list_any, position_or_len}
+use Rattle.std.specs.Ordering.{nat_cmp, is_eq}
+use Rattle.std.specs.BTreeMap.{BTreeMap, get, is_at}
+use Rattle.std.proofs.lemmas.Bool.{cases_lt, cases_eq, eq-eqb, ne_eqb, eqb-true, lt-ltb, le-ltb}
+use Rattle.std.proofs.lemmas.List.Folds.{list_any-append}
+use Rattle.plasma_tx.specs.declared.views.ExitView.{ExitView}
+use Rattle.plasma_tx.specs.Standing.{Standing, no_standing, AreDistinct, without_view, with_view_changed, with_challenge_view}
+use Rattle.plasma_tx.specs.declared.views.ChallengeView.{ChallengeView}
+use Rattle.plasma_tx.specs.ChallengeLists.{is_challenged}
+use Rattle.plasma_tx.specs.Keeps.{standing_in}
+use Rattle.plasma_tx.proofs.Names.{eqb-flip, some_same}
+
+-- a number compares as equal to itself alone
+pub is_at-nat : (k c : ℕ) → is_at (nat_cmp k) c ≡ (c == k)
+is_at-nat k c = elim (cases_lt k c) [
+  | inl below ↦ simp (lt-ltb k c below, ne_eqb c k (λ e. absurd (omega arith)))
+  | inr above ↦ elim (cases_eq k c) [
+    | inl same ↦ simp (le-ltb k c above, eq-eqb k c same, eq-eqb c k (sym same))
+    | inr other ↦ simp (le-ltb k c above, ne_eqb k c other, ne_eqb c k (λ e. other (sym e)))
+  ]
+]
+
+-- the coin that is written has the new state and the others have theirs
+pub states-written : (old new : BTreeMap ℕ Standing) (k : ℕ) (state : Standing)
+    → ((q : ℕ) → get nat_cmp new q ≡ cond (is_at (nat_cmp k) q) (Some state) (get nat_cmp old q))
+    → (c : ℕ) → standing_in new c ≡ (if c == k then state else standing_in old c)
+states-written old new k state written c =
+    ap (λ o. unwrap_or o no_standing) (written c)
+    ∙ ap (λ (b : Bool). unwrap_or (cond b (Some state) (get nat_cmp old c)) no_standing) (is_at-nat k c)
+    ∙ elim (c == k) as (λ b. unwrap_or (cond b (Some state) (get nat_cmp old c)) no_standing
+    ≡ (if b then state else standing_in old c)) [ true ↦ refl | false ↦ refl ]
+
+-- a coin without an entry says as much as one that no call names
+pub states-known : (old new : BTreeMap ℕ Standing) (k : ℕ) → get nat_cmp old k ≡ None
+    → ((q : ℕ) → get nat_cmp new q ≡ cond (is_at (nat_cmp k) q) (Some no_standing) (get nat_cmp old q))
+    → (c : ℕ) → standing_in new c ≡ standing_in old c
+states-known old new k none written c =
+    states-written old new k no_standing written c
+    ∙ (elim (c == k) as (λ b. (c == k) ≡ b → (if b then no_standing else standing_in old c) ≡ standing_in old c) [
+      | true ↦ λ is. sym (ap (λ o. unwrap_or o no_standing) (ap (get nat_cmp old) (eqb-true c k is) ∙ none))
+      | false ↦ λ isnt. refl
+    ]) refl
+
+-- ---- lists of exits
+
+-- no exit at the block is changed where there is none
+changed-none : (m : ℕ) (change : ExitView → ExitView) (exits : List ExitView)
+    → list_any (λ x. x.block == m) exits ≡ false → with_view_changed m change exits ≡ exits
+changed-none m change [] none = refl
+changed-none m change (x ∷ xs) none =
+    (elim (x.block == m) as (λ b. (b || list_any (λ y. y.block == m) xs) ≡ false
+    → (if b then change x else x) ∷ with_view_changed m change xs ≡ x ∷ xs) [
+      | true ↦ λ wrong. absurd (cc wrong)
+      | false ↦ λ rest. ap (λ (l : List ExitView). x ∷ l) (changed-none m change xs rest)
+    ]) none
+
+-- the one exit at the block is changed where it stands
+changed-at : (m : ℕ) (change : ExitView → ExitView) (exits : List ExitView) (d : ExitView) → AreDistinct exits
+    → position_or_len (λ x. x.block == m) exits < length exits
+    → slice_set exits (position_or_len (λ x. x.block == m) exits)
+    (change (slice_index_or exits (position_or_len (λ x. x.block == m) exits) d)) ≡ with_view_changed m change exits
+changed-at m change [] d distinct lt = absurd (omega arith)
+changed-at m change (x ∷ xs) d distinct lt =
+    (elim (x.block == m) as (λ b. (x.block == m) ≡ b
+    → cond (not b) (1 + position_or_len (λ y. y.block == m) xs) 0 < length (x ∷ xs)
+    → slice_set (x ∷ xs) (cond (not b) (1 + position_or_len (λ y. y.block == m) xs) 0)
+    (change (slice_index_or (x ∷ xs) (cond (not b) (1 + position_or_len (λ y. y.block == m) xs) 0) d))
+    ≡ (if b then change x else x) ∷ with_view_changed m change xs) [
+      | true ↦ λ is _. ap (λ (l : List ExitView). change x ∷ l)
+          (sym (changed-none m change xs
+          (subst (λ n. list_any (λ y. y.block == n) xs ≡ false) (eqb-true x.block m is) distinct.0)))
+      | false ↦ λ isnt within.
+          at_next (position_or_len (λ y. y.block == m) xs) (1 + position_or_len (λ y. y.block == m) xs) (omega arith)
+          ∙ ap (λ (l : List ExitView). x ∷ l) (changed-at m change xs d distinct.1 (omega arith))
+    ]) refl lt
+  where
+    at_next : (n place : ℕ) → place ≡ suc n → slice_set (x ∷ xs) place (change (slice_index_or (x ∷ xs) place d))
+        ≡ x ∷ slice_set xs n (change (slice_index_or xs n d))
+    at_next n place e = rw e refl
+
+changed-absent : (m : ℕ) (change : ExitView → ExitView) (exits : List ExitView)
+    → length exits ≤ position_or_len (λ x. x.block == m) exits → with_view_changed m change exits ≡ exits
+changed-absent m change [] le = refl
+changed-absent m change (x ∷ xs) le =
+    (elim (x.block == m) as (λ b. length (x ∷ xs) ≤ cond (not b) (1 + position_or_len (λ y. y.block == m) xs) 0
+    → (if b then change x else x) ∷ with_view_changed m change xs ≡ x ∷ xs) [
+      | true ↦ λ wrong. absurd (omega arith)
+      | false ↦ λ rest. ap (λ (l : List ExitView). x ∷ l) (changed-absent m change xs (omega arith))
+    ]) le
+
+-- ---- exits stay at blocks of their own
+
+or_parts : (a b : Bool) → (a || b) ≡ false → (a ≡ false) × (b ≡ false)
+or_parts true b wrong = absurd (cc wrong)
+or_parts false b is = (refl, is)
+
+any-changed : (m k : ℕ) (change : ExitView → ExitView) → ((x : ExitView) → (change x).block ≡ x.block)
+    → (exits : List ExitView)
+    → list_any (λ x. x.block == k) (with_view_changed m change exits) ≡ list_any (λ x. x.block == k) exits
+any-changed m k change same [] = refl
+any-changed m k change same (x ∷ xs) =
+    elim (x.block ==
+    m) as (λ b. (((if b then change x else x).block == k) || list_any (λ y. y.block == k)
+    (with_view_changed m change xs)) ≡ ((x.block == k) || list_any (λ y. y.block == k) xs)) [
+      | true ↦ λ i. (same x i == k) || any-changed m k change same xs i
+      | false ↦ λ i. (x.block == k) || any-changed m k change same xs i
+    ]
+
+pub distinct-changed : (m : ℕ) (change : ExitView → ExitView) → ((x : ExitView) → (change x).block ≡ x.block)
+    → (exits : List ExitView) → AreDistinct exits → AreDistinct (with_view_changed m change exits)
+distinct-changed m change same [] h = tt
+distinct-changed m change same (x ∷ xs) h =
+    elim (x.block == m) as (λ b. AreDistinct ((if b then change x else x) ∷ with_view_changed m change xs)) [
+      | true ↦ (
+        ap (λ n. list_any (λ y. y.block == n) (with_view_changed m change xs)) (same x)
+            ∙ any-changed m x.block change same xs ∙ h.0,
+        distinct-changed m change same xs h.1,
+      )
+      | false ↦ (any-changed m x.block change same xs ∙ h.0, distinct-changed m change same xs h.1)
+    ]
+
+any-without : (m k : ℕ) (exits : List ExitView) → list_any (λ x. x.block == k) exits ≡ false
+    → list_any (λ x. x.block == k) (without_view m exits) ≡ false
+any-without m k [] h = refl
+any-without m k (x ∷ xs) h =
+    let parts = or_parts (x.block == k) (list_any (λ y. y.block == k) xs) h in
+    elim (x.block == m) as (λ b. list_any (λ y. y.block == k)
+    (cond (not b) (x ∷ without_view m xs) (without_view m xs)) ≡ false) [
+      | true ↦ any-without m k xs parts.1
+      | false ↦ ap (λ (b : Bool). b || list_any (λ y. y.block == k) (without_view m xs)) parts.0
+          ∙ any-without m k xs parts.1
+    ]
+
+pub distinct-without : (m : ℕ) (exits : List ExitView) → AreDistinct exits → AreDistinct (without_view m exits)
+distinct-without m [] h = tt
+distinct-without m (x ∷ xs) h =
+    elim (x.block == m) as (λ b. AreDistinct (cond (not b) (x ∷ without_view m xs) (without_view m xs))) [
+      | true ↦ distinct-without m xs h.1
+      | false ↦ (any-without m x.block xs h.0, distinct-without m xs h.1)
+    ]
+
+-- no exit at the block is left
+gone : (m : ℕ) (exits : List ExitView) → list_any (λ x. x.block == m) (without_view m exits) ≡ false
+gone m [] = refl
+gone m (x ∷ xs) =
+    (elim (x.block == m) as (λ b. (x.block == m) ≡ b → list_any (λ y. y.block == m)
+    (cond (not b) (x ∷ without_view m xs) (without_view m xs)) ≡ false) [
+      | true ↦ λ out. gone m xs
+      | false ↦ λ kept. ap (λ (b : Bool). b || list_any (λ y. y.block == m) (without_view m xs)) kept ∙ gone m xs
+    ]) refl
+
+distinct-push : (exits : List ExitView) (new : ExitView) → AreDistinct exits
+    → list_any (λ x. x.block == new.block) exits ≡ false → AreDistinct (exits ++ new ∷ [])
+distinct-push [] new h none = (refl, tt)
+distinct-push (x ∷ xs) new h none =
+    let parts = or_parts (x.block == new.block) (list_any (λ y. y.block == new.block) xs) none in (
+      list_any-append (λ y. y.block == x.block) xs (new ∷ [])
+          ∙ (λ i. h.0 i || ((eqb-flip new.block x.block ∙ parts.0) i || false)),
+      distinct-push xs new h.1 parts.1,
+    )
+
+pub distinct-started : (new : ExitView) (exits : List ExitView) → AreDistinct exits
+    → AreDistinct (without_view new.block exits ++ new ∷ [])
+distinct-started new exits h = distinct-push (without_view new.block exits) new (distinct-without new.block exits h)
+    (gone new.block exits)
+
+-- the exit that is found at a place is changed there
+pub changed-place : (m : ℕ) (change : ExitView → ExitView) (exits : List ExitView) (place : ℕ) (item new : ExitView)
+    → AreDistinct exits
+    → Some place ≡ position (λ x. x.block == m) exits → item ≡ slice_index_or exits place item → new ≡ change item
+    → slice_set exits place new ≡ with_view_changed m change exits
+changed-place m change exits place item new distinct found at is =
+    let p : ℕ = position_or_len (λ x. x.block == m) exits in
+    elim (cases_lt p (length exits)) [
+      | inl below ↦
+          let same : p ≡ place = some_same p place (simp (lt-ltb p (length exits) below) at (sym found)) in
+          ap (λ v. slice_set exits place v) (is ∙ ap change at)
+          ∙ ap (λ n. slice_set exits n (change (slice_index_or exits n item))) (sym same)
+          ∙ changed-at m change exits item distinct below
+      | inr above ↦ absurd (none_some place (simp (le-ltb p (length exits) above) at (sym found)))
+    ]
+  where
+    none_some : (x : ℕ) → None ≡ Some x → ⊥
+    none_some x e = cc
+
+-- none is changed where none is found
+pub changed-nowhere : (m : ℕ) (change : ExitView → ExitView) (exits : List ExitView)
+    → None ≡ position (λ x. x.block == m) exits → exits ≡ with_view_changed m change exits
+changed-nowhere m change exits found =
+    let p : ℕ = position_or_len (λ x. x.block == m) exits in
+    elim (cases_lt p (length exits)) [
+      | inl below ↦ absurd (some_none p (simp (lt-ltb p (length exits) below) at (sym found)))
+      | inr above ↦ sym (changed-absent m change exits above)
+    ]
+  where
+    some_none : (x : ℕ) → Some x ≡ None → ⊥
+    some_none x e = cc
+
+-- a challenge keeps the exit's block
+pub same_block : (challenge : ChallengeView) (exit : ExitView) → (with_challenge_view challenge exit).block ≡ exit.block
+same_block challenge exit =
+    elim (is_challenged challenge.block exit.challenges) as (λ b. (if b then exit else record exit {
+      challenges =
+          exit.challenges ++ challenge ∷ [];
+    }).block ≡ exit.block) [ true ↦ refl | false ↦ refl ]

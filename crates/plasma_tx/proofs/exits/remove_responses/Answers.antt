@@ -1,0 +1,8 @@
+use Rattle.std.proofs.Common.{rules, not}
+use Rattle.std.proofs.lemmas.Fn.{filter_same}
+use Rattle.plasma_tx.specs.Views.{is_response_to}
+use Rattle.plasma_tx.proofs.exits.remove_responses.Goals as goal
+
+pub returns : goal.returns
+returns c = filter_same _ (λ response. not (is_response_to c.args.coin c.args.exit response)) _
+    (λ x b f t. search rules) _ _ c.retain.ensures.filtered

@@ -1,0 +1,10 @@
+pub mod Spelling
+pub mod Transfer
+pub mod Openings
+pub mod Links
+pub mod Views
+pub mod Chain
+pub mod Laws
+pub mod ChallengeLists
+pub mod Standing
+pub mod Keeps

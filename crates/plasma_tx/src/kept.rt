@@ -1,0 +1,199 @@
+ghost use Rattle.std.specs.Prelude.{◌≡◌, ◌∷◌, [], List, ℕ, OnOk, OnErr, IsSome, if◌then◌else◌, ◌==◌};
+ghost use Rattle.std.specs.Ordering.{nat_cmp};
+ghost use Rattle.std.specs.BTreeMap.{get};
+ghost use Rattle.plasma_tx.specs.Standing.{change_of, standing_after, started};
+ghost use Rattle.plasma_tx.specs.Keeps.{Keeps, standing_in};
+
+use super::call::RootCall;
+use super::exits::push_reserved;
+use super::owner::Owner;
+use super::standing::{Change, CoinState};
+use super::views::{BlockView, Challenges, CoinView, ExitView};
+use plasma_base::NoMemory;
+use std::alloc::Global;
+use std::collections::BTreeMap;
+
+/// What a log keeps beside its calls: the clock, the blocks, the coins, and by coin what its exits are.
+#[derive(Drop)]
+pub struct Kept {
+    pub clock: u64,
+    pub blocks: Vec<BlockView>,
+    pub coins: Vec<CoinView>,
+    pub states: BTreeMap<u64, CoinState>,
+}
+
+impl Kept {
+    /// What is kept of no calls.
+    pub fn new(alloc: Global) -> Kept
+        ensures { Keeps [] result }
+    {
+        Kept {
+            clock: 0,
+            blocks: Vec::new(alloc),
+            coins: Vec::new(alloc),
+            states: BTreeMap::new(alloc),
+        }
+    }
+
+    /// Keeps one more call. `NoMemory` changes nothing that the views have.
+    pub fn apply(&mut self, call: &RootCall) -> Result<(), NoMemory>
+        ensures ok { OnOk result ((log : List RootCall) → Keeps log self.old → Keeps (call.now ∷ log) self.new) }
+        ensures err { OnErr result ((log : List RootCall) → Keeps log self.old → Keeps log self.new) }
+    {
+        match call {
+            RootCall::Tick { now } => {
+                self.clock = *now;
+                Ok(())
+            }
+            RootCall::Deposit {
+                account,
+                amount,
+                key,
+            } => {
+                let owner = Owner {
+                    account: *account,
+                    key: *key,
+                };
+                self.deposit(*amount, owner)
+            }
+            RootCall::Commit { account, root } => self.commit(*account, *root),
+            _ => {
+                let alloc = *self.blocks.allocator();
+                match change_of(alloc, self.clock, call) {
+                    None => Ok(()),
+                    Some((coin, change)) => {
+                        change_state(&mut self.states, alloc, coin, change)?;
+                        Ok(())
+                    }
+                }
+            }
+        }
+    }
+
+    /// Keeps a Deposit.
+    fn deposit(&mut self, amount: u64, owner: Owner) -> Result<(), NoMemory>
+        ensures ok { OnOk result ((log : List RootCall) → Keeps log self.old
+            → Keeps (RootCall.Deposit owner.account amount owner.key ∷ log) self.new) }
+        ensures err { OnErr result ((log : List RootCall) → Keeps log self.old → Keeps log self.new) }
+    {
+        self.blocks.reserve(1)?;
+        self.coins.reserve(1)?;
+        let coin = CoinView {
+            deposit: self.blocks.len() as u64 + 1,
+            amount,
+            owner,
+        };
+        push_reserved(&mut self.coins, coin);
+        let coin = self.coins.len() as u64;
+        push_reserved(&mut self.blocks, BlockView::DepositOf { coin });
+        Ok(())
+    }
+
+    /// Keeps a Commit.
+    fn commit(&mut self, account: u64, root: [u8; 32]) -> Result<(), NoMemory>
+        ensures ok { OnOk result ((log : List RootCall) → Keeps log self.old
+            → Keeps (RootCall.Commit account root ∷ log) self.new) }
+        ensures err { OnErr result ((log : List RootCall) → Keeps log self.old → Keeps log self.new) }
+    {
+        self.blocks.push(BlockView::Root { root })?;
+        Ok(())
+    }
+}
+
+/// What is kept of the coin after the change. `NoMemory` changes nothing.
+fn change_state(
+    states: &mut BTreeMap<u64, CoinState>,
+    alloc: Global,
+    coin: u64,
+    change: Change,
+) -> Result<(), NoMemory>
+    ensures ok { OnOk result ((c : ℕ) → standing_in states.new c
+        ≡ (if c == coin then standing_after coin change (standing_in states.old coin) else standing_in states.old c)) }
+    ensures err { OnErr result ((c : ℕ) → standing_in states.new c ≡ standing_in states.old c) }
+{
+    know(states, alloc, coin)?;
+    match states.get_mut(&coin) {
+        Some(state) => state.apply(coin, change),
+        None => unreachable!(),
+    }
+}
+
+/// Makes the coin's entry, which says nothing where there was none.
+fn know(states: &mut BTreeMap<u64, CoinState>, alloc: Global, coin: u64) -> Result<(), NoMemory>
+    ensures same { (c : ℕ) → standing_in states.new c ≡ standing_in states.old c }
+    ensures known { OnOk result (IsSome (get nat_cmp states.new coin)) }
+{
+    if states.contains_key(&coin) {
+        return Ok(());
+    }
+    states.insert(coin, CoinState::new(alloc))?;
+    Ok(())
+}
+
+/// The coin whose exits the call changes at that time, and how; `None` where it changes none.
+fn change_of(alloc: Global, time: u64, call: &RootCall) -> Option<(u64, Change)>
+    ensures { result ≡ change_of time call.now }
+{
+    match call {
+        RootCall::StartDeposit {
+            account,
+            coin,
+            block,
+        } => Some((*coin, start(alloc, *block, 0, time, *account))),
+        RootCall::StartSpend {
+            account,
+            coin,
+            parent,
+            exit,
+        } => Some((
+            *coin,
+            start(alloc, exit.block, parent.block(), time, *account),
+        )),
+        RootCall::After { coin, exit, .. } => Some((*coin, Change::Cancel { block: *exit })),
+        RootCall::Between { coin, exit, .. } => Some((*coin, Change::Cancel { block: *exit })),
+        RootCall::Before {
+            account,
+            coin,
+            exit,
+            shown,
+        } => Some((
+            *coin,
+            Change::Challenge {
+                exit: *exit,
+                block: shown.block(),
+                by: *account,
+                at: time,
+            },
+        )),
+        RootCall::Respond {
+            coin,
+            exit,
+            challenged,
+            ..
+        } => Some((
+            *coin,
+            Change::Respond {
+                exit: *exit,
+                block: *challenged,
+            },
+        )),
+        RootCall::Finish { coin, exit, .. } => Some((*coin, Change::Finish { block: *exit })),
+        _ => None,
+    }
+}
+
+/// The start of an exit.
+fn start(alloc: Global, block: u64, parent: u64, time: u64, account: u64) -> Change
+    ensures { result ≡ Change.Start (started block parent time account) }
+{
+    let challenges = Challenges::new(alloc);
+    Change::Start {
+        exit: ExitView {
+            block,
+            parent,
+            start: time,
+            account,
+            challenges,
+        },
+    }
+}

@@ -1,0 +1,173 @@
+ghost use Rattle.std.specs.Prelude.{◌≡◌, ◌∷◌, [], IfOk, OnOk, OnErr, reverse};
+ghost use Rattle.plasma_tx.specs.Chain.{with_log};
+ghost use Rattle.plasma_tx.specs.Keeps.{numbered};
+ghost use Rattle.plasma_tx.specs.Views.{now, blocks, block_at, coin_at, is_withdrawn, exits_of};
+
+use super::call::RootCall;
+use super::exits::push_reserved;
+use super::kept::Kept;
+use super::views::{BlockView, CoinView, ExitView};
+use plasma_base::NoMemory;
+use std::alloc::Global;
+use std::marker::Model;
+
+/// The log of a root contract: what it was made with, and the accepted calls in order. Beside them it
+/// keeps what they say, for every list of calls, also one that no contract accepted.
+#[derive(Drop)]
+pub struct RootLog {
+    tag: [u8; 32],
+    operator: u64,
+    most_blocks: u64,
+    events: Vec<RootCall>,
+    kept: Kept,
+}
+
+impl Model for RootLog {
+    ghost use Rattle.plasma_tx.specs.Chain.{Chain};
+
+    ghost Value = { Chain };
+
+    ghost use Rattle.std.specs.Prelude.{reverse};
+    ghost use Rattle.plasma_tx.specs.Keeps.{Keeps};
+
+    ghost view = { λ a. record {
+      tag = a.tag;
+      operator = a.operator;
+      most_blocks = a.most_blocks;
+      log = reverse a.events.items;
+    } };
+
+    ghost invariant = { λ a. Keeps (reverse a.events.items) a.kept };
+}
+
+impl RootLog {
+    /// A log without calls of the chain with this tag, this operator's account and at most so many
+    /// blocks. It takes no memory.
+    pub fn make(alloc: Global, tag: [u8; 32], operator: u64, most_blocks: u64) -> RootLog
+        ensures { result ≡ record { tag = tag; operator = operator; most_blocks = most_blocks; log = [] } }
+    {
+        RootLog {
+            tag,
+            operator,
+            most_blocks,
+            events: Vec::new(alloc),
+            kept: Kept::new(alloc),
+        }
+    }
+
+    /// Appends a call, which is taken at its word. `NoMemory` leaves the log as it was.
+    pub fn push(&mut self, call: RootCall) -> Result<(), NoMemory>
+        ensures ok { OnOk result (self.new ≡ with_log self.old (call ∷ self.old.log)) }
+        ensures err { OnErr result (self.new ≡ self.old) }
+    {
+        self.events.reserve(1)?;
+        self.kept.apply(&call)?;
+        push_reserved(&mut self.events, call);
+        Ok(())
+    }
+
+    /// The calls in order, the oldest first.
+    pub fn events(&self) -> &[RootCall]
+        ensures { result.now ≡ reverse self.now.log }
+    {
+        self.events.as_slice()
+    }
+
+    /// The chain's tag.
+    pub fn tag(&self) -> [u8; 32]
+        ensures { result ≡ self.now.tag }
+    {
+        self.tag
+    }
+
+    /// The operator's account.
+    pub fn operator(&self) -> u64
+        ensures { result ≡ self.now.operator }
+    {
+        self.operator
+    }
+
+    /// The most blocks that the contract takes.
+    pub fn most_blocks(&self) -> u64
+        ensures { result ≡ self.now.most_blocks }
+    {
+        self.most_blocks
+    }
+
+    /// The number of blocks: each Deposit and each Commit made one.
+    pub fn blocks(&self) -> u64
+        ensures { result ≡ blocks self.now.log }
+    {
+        self.kept.blocks.len() as u64
+    }
+
+    /// Block `n`, counted from 1; `None` exactly where there is no such block.
+    pub fn block(&self, n: u64) -> Option<BlockView>
+        ensures { result ≡ block_at self.now.log n }
+    {
+        numbered(&self.kept.blocks, n)
+    }
+
+    /// Coin `c`, counted from 1; `None` exactly where there is no such coin.
+    pub fn coin(&self, c: u64) -> Option<CoinView>
+        ensures { result ≡ coin_at self.now.log c }
+    {
+        numbered(&self.kept.coins, c)
+    }
+
+    /// The clock in seconds: the time of the last Tick, or 0.
+    pub fn now(&self) -> u64
+        ensures { result ≡ now self.now.log }
+    {
+        self.kept.clock
+    }
+
+    /// Whether coin `c` is withdrawn: there was a Finish of it whose exit had no open challenge.
+    pub fn withdrawn(&self, c: u64) -> bool
+        ensures { result ≡ is_withdrawn self.now.log c }
+    {
+        match self.kept.states.get(&c) {
+            None => false,
+            Some(state) => state.is_withdrawn(),
+        }
+    }
+
+    /// The standing exits of the coin, in the order of their starts; empty exactly where none stands.
+    /// It takes no memory.
+    pub fn exits(&self, coin: u64) -> &[ExitView]
+        ensures { result.now ≡ exits_of self.now.log coin }
+    {
+        match self.kept.states.get(&coin) {
+            None => &[],
+            Some(state) => state.exits(),
+        }
+    }
+
+    /// As `exits`, as values of their own.
+    pub fn standing(&self, c: u64) -> Result<Vec<ExitView>, NoMemory>
+        ensures { IfOk result (λ exits. exits.items ≡ exits_of self.now.log c) }
+    {
+        copies(*self.events.allocator(), self.exits(c))
+    }
+}
+
+/// Item `n`, counted from 1.
+fn numbered<T: Copy>(items: &[T], n: u64) -> Option<T>
+    ensures { result ≡ numbered items.now n }
+{
+    if n == 0 || n > items.len() as u64 {
+        return None;
+    }
+    Some(items[n as usize - 1])
+}
+
+/// Equal exits.
+fn copies(alloc: Global, exits: &[ExitView]) -> Result<Vec<ExitView>, NoMemory>
+    ensures { IfOk result (λ copied. copied.items ≡ exits.now) }
+{
+    let mut copied = Vec::with_capacity(alloc, exits.len())?;
+    for exit in exits {
+        copied.push(exit.copy()?)?;
+    }
+    Ok(copied)
+}
