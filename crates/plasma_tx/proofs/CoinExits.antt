@@ -1,7 +1,7 @@
 -- What is kept of each coin after a call.
 use Rattle.std.proofs.Common.{◌≡◌, ℕ, ◌==◌, ◌&&◌, ◌||◌, cond, not, Bool, true, false, if◌then◌else◌, List, [], ◌∷◌, ◌++◌, map, Option, Some, None, refl, sym, ap, ◌∙◌, subst, find, filter}
 use Rattle.std.specs.Prelude.{is_some}
-use Rattle.std.specs.List.{list_all, list_any}
+use Rattle.std.specs.List.{list_all}
 use Rattle.std.specs.Option.{option_map}
 use Rattle.std.proofs.lemmas.Bool.{eqb-true, eq-eqb}
 use Rattle.plasma_tx.specs.declared.views.ChallengeView.{ChallengeView}
@@ -13,9 +13,9 @@ use Rattle.plasma_tx.specs.declared.opening.RawOpening.{RawOpening}
 use Rattle.plasma_tx.specs.declared.call.Shown.{Shown}
 use Rattle.plasma_tx.specs.declared.call.RootCall.{RootCall}
 use Rattle.plasma_tx.specs.declared.call.RootCall.TheVariants.{Fund, Tick, Deposit, Commit, StartDeposit, StartSpend, After, Between, Before, Respond, Finish}
-use Rattle.plasma_tx.specs.Views.{Challenge, Exit, is_exit, without_exit, with_exit_changed, challenge_at, with_challenge, with_answer_at, with_answer, is_response_to, without_responses, responses, is_responded, block_of, deposit_exit, spend_exit, new_challenge, now, exits, exit_at, has_no_open_challenge, is_withdrawn, challenge_view, exit_view, exits_of}
-use Rattle.plasma_tx.specs.ChallengeLists.{answered_at, is_challenged}
-use Rattle.plasma_tx.specs.Standing.{Standing, started, without_view, with_view_changed, with_challenge_view, with_answer_view, has_no_open_view, standing_after, change_of, standing_of}
+use Rattle.plasma_tx.specs.Views.{Challenge, Exit, is_exit, without_exit, with_exit_changed, challenge_at, with_challenge, with_answer_at, with_answer, without_responses, responses, is_responded, block_of, deposit_exit, spend_exit, new_challenge, now, exits, exit_at, has_no_open_challenge, is_withdrawn, challenge_view, exit_view, exits_of}
+use Rattle.plasma_tx.specs.ChallengeLists.{view_with_answer_at, is_challenged}
+use Rattle.plasma_tx.specs.Standing.{new_exit, without_view, with_view_changed, with_challenge_view, with_answer_view, has_no_open_view, standing_after, change_of, standing_of}
 use Rattle.plasma_tx.proofs.Names.{eqb-flip, some_same}
 use Rattle.plasma_tx.proofs.Stands.{same-challenged}
 
@@ -290,12 +290,12 @@ view-challenged new x =
     ]) refl
 
 views-answered : (n : ℕ) (challenges : List Challenge) → map challenge_view (map (with_answer_at n) challenges)
-    ≡ map (answered_at n) (map challenge_view challenges)
+    ≡ map (view_with_answer_at n) (map challenge_view challenges)
 views-answered n [] = refl
 views-answered n (x ∷ xs) =
     elim (x.block == n) as (λ t. challenge_view (if t then record x { answered = true } else x) ∷ map challenge_view
     (map (with_answer_at n) xs)
-    ≡ (if t then record (challenge_view x) { answered = true } else challenge_view x) ∷ map (answered_at n)
+    ≡ (if t then record (challenge_view x) { answered = true } else challenge_view x) ∷ map (view_with_answer_at n)
     (map challenge_view xs)) [
       | true ↦ ap (λ (l : List ChallengeView). record (challenge_view x) { answered = true } ∷ l) (views-answered n xs)
       | false ↦ ap (λ (l : List ChallengeView). challenge_view x ∷ l) (views-answered n xs)
@@ -351,11 +351,11 @@ started_other c k m exits new coin other =
     ∙ views-without_other c k m other exits
 
 after-StartDeposit : (log : List RootCall) (account k m : ℕ) → After_is log (StartDeposit account k m)
-    (k, Start (started m 0 (now log) account))
+    (k, Start (new_exit m 0 (now log) account))
 unfolding exits responses is_withdrawn exits_of standing_after
 after-StartDeposit log account k m =
     let new : Exit = deposit_exit log account k m in
-    by_coin log (StartDeposit account k m) k (Start (started m 0 (now log) account))
+    by_coin log (StartDeposit account k m) k (Start (new_exit m 0 (now log) account))
     (λ i. record {
       withdrawn = is_withdrawn log k;
       exits = started_own k m (exits log) new refl i;
@@ -371,11 +371,11 @@ after-StartDeposit log account k m =
 
 after-StartSpend : (log : List RootCall) (account k : ℕ) (parent : Shown) (exit : RawOpening)
     → After_is log (StartSpend account k parent exit)
-    (k, Start (started exit.block (block_of parent) (now log) account))
+    (k, Start (new_exit exit.block (block_of parent) (now log) account))
 unfolding exits responses is_withdrawn exits_of standing_after
 after-StartSpend log account k parent exit =
     let new : Exit = spend_exit log account k parent exit in
-    by_coin log (StartSpend account k parent exit) k (Start (started exit.block (block_of parent) (now log) account))
+    by_coin log (StartSpend account k parent exit) k (Start (new_exit exit.block (block_of parent) (now log) account))
     (λ i. record {
       withdrawn = is_withdrawn log k;
       exits = started_own k exit.block

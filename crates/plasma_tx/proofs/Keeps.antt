@@ -1,5 +1,5 @@
 -- What is kept beside the calls stays what the views have.
-use Rattle.std.proofs.Common.{◌≡◌, ℕ, zero, suc, ◌+◌, ◌-◌, ◌==◌, ◌&&◌, Bool, true, false, if◌then◌else◌, List, [], ◌∷◌, ◌++◌, length, Option, Some, None, inl, inr, refl, sym, ap, ◌∙◌, subst, arith}
+use Rattle.std.proofs.Common.{◌≡◌, ℕ, zero, suc, ◌+◌, ◌-◌, ◌==◌, true, false, if◌then◌else◌, List, [], ◌∷◌, ◌++◌, length, Option, Some, None, inl, inr, refl, sym, ap, ◌∙◌, arith}
 use Rattle.std.specs.Prelude.{slice_get, unwrap_or}
 use Rattle.std.specs.Ordering.{nat_cmp}
 use Rattle.std.specs.Map.{lookup}
@@ -14,8 +14,8 @@ use Rattle.plasma_tx.specs.declared.views.CoinView.{CoinView}
 use Rattle.plasma_tx.specs.declared.standing.Change.{Change}
 use Rattle.plasma_tx.specs.declared.kept.Kept.{Kept}
 use Rattle.plasma_tx.specs.Views.{now, blocks, coins, block_at, new_coin, coin_at, exits, responses, exits_of, is_withdrawn}
-use Rattle.plasma_tx.specs.Standing.{Standing, no_standing, standing_after, change_of, standing_of}
-use Rattle.plasma_tx.specs.Keeps.{numbered, standing_in, Keeps}
+use Rattle.plasma_tx.specs.Standing.{Standing, no_standing, standing_after, change_of}
+use Rattle.plasma_tx.specs.Keeps.{item_at, standing_in, Keeps}
 use Rattle.plasma_tx.proofs.CoinExits.{after-change}
 
 slice_get-push : {X : Type 0} (xs : List X) (x : X) (m : ℕ) → slice_get (xs ++ x ∷ []) m
@@ -31,9 +31,9 @@ slice_get-push (y ∷ ys) x (suc m) =
     ]
 
 -- a new item has the next number
-numbered-push : {X : Type 0} (items : List X) (item : X) (n : ℕ) → numbered (items ++ item ∷ []) n
-    ≡ (if n == length items + 1 then Some item else numbered items n)
-numbered-push items item n =
+item_at-push : {X : Type 0} (items : List X) (item : X) (n : ℕ) → item_at (items ++ item ∷ []) n
+    ≡ (if n == length items + 1 then Some item else item_at items n)
+item_at-push items item n =
     elim (cases_eq n 0) [
       | inl is ↦ simp (is, ne_eqb 0 (length items + 1) (omega arith))
       | inr isnt ↦ elim (cases_eq n (length items + 1)) [
@@ -105,12 +105,12 @@ keeps-Deposit log account amount key old new coin number clock states made count
       clock = clock ∙ k.clock;
       block_count = ap (λ (l : List BlockView). length l) blocks_are
           ∙ length-append old.blocks.items (DepositOf number ∷ []) ∙ ap (λ n. n + 1) k.block_count;
-      blocks_are = λ n. ap (λ (l : List BlockView). numbered l n) blocks_are
-          ∙ numbered-push old.blocks.items (DepositOf number) n
+      blocks_are = λ n. ap (λ (l : List BlockView). item_at l n) blocks_are
+          ∙ item_at-push old.blocks.items (DepositOf number) n
           ∙ (λ i. if n == k.block_count i + 1 then Some (DepositOf (number_is i)) else k.blocks_are n i);
       coin_count = ap (λ (l : List CoinView). length l) coins_are ∙ length-append old.coins.items (coin ∷ [])
           ∙ ap (λ n. n + 1) k.coin_count;
-      coins_are = λ c. ap (λ (l : List CoinView). numbered l c) coins_are ∙ numbered-push old.coins.items coin c
+      coins_are = λ c. ap (λ (l : List CoinView). item_at l c) coins_are ∙ item_at-push old.coins.items coin c
           ∙ (λ i. if c == k.coin_count i + 1 then Some (coin_is i) else k.coins_are c i);
       states_are = λ c. ap (λ (m : BTreeMap ℕ Standing). standing_in m c) states ∙ k.states_are c;
     }
@@ -124,10 +124,10 @@ keeps-Commit log account root old new clock states coins_same blocks_are k = rec
   clock = clock ∙ k.clock;
   block_count = ap (λ (l : List BlockView). length l) blocks_are ∙ length-append old.blocks.items (Root root ∷ [])
       ∙ ap (λ n. n + 1) k.block_count;
-  blocks_are = λ n. ap (λ (l : List BlockView). numbered l n) blocks_are ∙ numbered-push old.blocks.items (Root root) n
+  blocks_are = λ n. ap (λ (l : List BlockView). item_at l n) blocks_are ∙ item_at-push old.blocks.items (Root root) n
       ∙ (λ i. if n == k.block_count i + 1 then Some (Root root) else k.blocks_are n i);
   coin_count = ap (λ (v : _). length v.items) coins_same ∙ k.coin_count;
-  coins_are = λ c. ap (λ (v : _). numbered v.items c) coins_same ∙ k.coins_are c;
+  coins_are = λ c. ap (λ (v : _). item_at v.items c) coins_same ∙ k.coins_are c;
   states_are = λ c. ap (λ (m : BTreeMap ℕ Standing). standing_in m c) states ∙ k.states_are c;
 }
 
@@ -200,13 +200,13 @@ unfolding now blocks coins block_at coin_at exits responses exits_of is_withdraw
 keeps-nothing kept clock no_blocks no_coins no_states = record {
   clock = clock;
   block_count = ap (λ (l : List BlockView). length l) no_blocks;
-  blocks_are = λ n. ap (λ (l : List BlockView). numbered l n) no_blocks ∙ none n;
+  blocks_are = λ n. ap (λ (l : List BlockView). item_at l n) no_blocks ∙ none n;
   coin_count = ap (λ (l : List CoinView). length l) no_coins;
-  coins_are = λ c. ap (λ (l : List CoinView). numbered l c) no_coins ∙ none c;
+  coins_are = λ c. ap (λ (l : List CoinView). item_at l c) no_coins ∙ none c;
   states_are = λ c. ap (λ (es : List (ℕ × Standing)). unwrap_or (lookup (is_at (nat_cmp c)) es) no_standing) no_states;
 }
   where
-    none : {X : Type 0} (n : ℕ) → numbered {X = X} [] n ≡ None
+    none : {X : Type 0} (n : ℕ) → item_at {X = X} [] n ≡ None
     none {X} n = let nothing : Option X =
         None in elim (n == 0) as (λ b. (if b then nothing else nothing) ≡ nothing) [ true ↦ refl | false ↦ refl ]
 

@@ -1,12 +1,11 @@
 -- The transfer that a leaf spells.
-use Rattle.std.proofs.Common.{◌≡◌, ℕ, ◌==◌, Bool, true, false, if◌then◌else◌, List, [], Option, Some, None, Ok, Err, refl, sym, ap, ◌∙◌, subst}
+use Rattle.std.proofs.Common.{◌≡◌, ℕ, ◌==◌, true, false, if◌then◌else◌, List, [], Some, None, Ok, Err, refl, sym, ap, ◌∙◌, subst}
 use Rattle.std.specs.Prelude.{Result}
 use Rattle.std.specs.List.{slice_range}
 use Rattle.std.proofs.lemmas.Bool.{and_parts, eqb-true}
-use Rattle.plasma_tx.specs.declared.body.Body.{Body}
 use Rattle.plasma_tx.specs.declared.signed_tx.SignedTx.{SignedTx}
 use Rattle.plasma_tx.specs.declared.signed_tx.TxRefusal.{TxRefusal}
-use Rattle.plasma_tx.specs.Spelling.{body_in, body_at_start, signed_in}
+use Rattle.plasma_tx.specs.Spelling.{body_in, signed_in}
 use Rattle.plasma_tx.specs.Transfer.{may_stand_in, is_transfer, kept_transfer, transfer_in, named_owner, recipient_in}
 use Rattle.plasma_tx.proofs.Spellings.{body_in-fits, signed_in-ok}
 

@@ -1,5 +1,5 @@
 -- Openings are read as they are written, and have one spelling.
-use Rattle.std.proofs.Common.{◌≡◌, ℕ, ◌+◌, ◌^◌, ◌<◌, ◌≤◌, true, nat_le, if◌then◌else◌, List, ◌++◌, Ok, Err, length, take, drop, refl, sym, ap, ◌∙◌, inl, inr, append_assoc, arith}
+use Rattle.std.proofs.Common.{◌≡◌, ℕ, ◌+◌, ◌^◌, ◌<◌, ◌≤◌, true, nat_le, List, ◌++◌, Ok, Err, length, take, drop, refl, sym, ap, ◌∙◌, inl, inr, append_assoc, arith}
 use Rattle.std.specs.Prelude.{Result}
 use Rattle.std.specs.Int.{w32, to_be_bytes, from_be_bytes}
 use Rattle.std.specs.List.{All}
@@ -79,7 +79,8 @@ opening_in-ok dig raw opening h = elim (cases_Bool (nat_le (4 + leaf_length raw.
 
 pub text-opening_in : (dig : List ℕ → List ℕ) (raw : RawOpening) (opening : Opening)
     → All (λ byte. byte < 256) raw.bytes → opening_in dig raw ≡ Ok opening
-    → (raw ≡ raw_of opening) × (length opening.leaf < 2 ^ 32) × IsMaskedPath opening.proof × (is_canonical dig opening.proof ≡ true)
+    → (raw ≡ raw_of opening) × (length opening.leaf < 2 ^ 32) × IsMaskedPath opening.proof
+    × (is_canonical dig opening.proof ≡ true)
 unfolding opening_text leaf_in
 text-opening_in dig raw opening small h =
     let read = opening_in-ok dig raw opening h in
@@ -103,3 +104,7 @@ text-opening_in dig raw opening small h =
     ∙ take-append-drop 4 raw.bytes) in
     let block : raw.block ≡ opening.block = sym (ap (λ (o : Opening). o.block) read.is) in
     (λ i. record { block = block i; bytes = text i }, omega (arith, leaf_long, below), proof.1, proof.2)
+
+pub leaf-shown : (dig : List ℕ → List ℕ) (raw : RawOpening) (opening : Opening) → opening_in dig raw ≡ Ok opening
+    → leaf_in raw.bytes ≡ opening.leaf
+leaf-shown dig raw opening h = sym (ap (λ (o : Opening). o.leaf) (opening_in-ok dig raw opening h).is)

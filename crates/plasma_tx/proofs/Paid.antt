@@ -1,6 +1,5 @@
 -- A coin is withdrawn by the first Finish of it that is paid.
-use Rattle.std.proofs.Common.{◌≡◌, ℕ, ◌==◌, ◌&&◌, ◌||◌, not, Bool, true, false, if◌then◌else◌, List, [], ◌∷◌, refl, ap, ◌∙◌}
-use Rattle.plasma_tx.specs.declared.call.RootCall.{RootCall}
+use Rattle.std.proofs.Common.{◌≡◌, ◌==◌, ◌&&◌, ◌||◌, not, Bool, true, false, [], ◌∷◌, refl}
 use Rattle.plasma_tx.specs.declared.call.RootCall.TheVariants.{Fund, Tick, Deposit, Commit, StartDeposit, StartSpend, After, Between, Before, Respond, Finish}
 use Rattle.plasma_tx.specs.Views.{exit_at, has_no_open_challenge, is_withdrawn}
 use Rattle.plasma_tx.specs.Laws.{was_paid, WithdrawnIsPaid}

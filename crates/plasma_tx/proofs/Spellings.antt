@@ -1,9 +1,9 @@
 -- Owners, bodies and signed transfers are read as they are written, and have one spelling.
-use Rattle.std.proofs.Common.{◌≡◌, ℕ, ◌+◌, ◌-◌, ◌^◌, ◌<◌, ◌≤◌, Bool, true, false, ◌||◌, not, if◌then◌else◌, nat_lt, nat_eq, List, [], ◌∷◌, ◌++◌, Option, Some, None, Ok, Err, length, take, drop, refl, sym, ap, ◌∙◌, inl, inr, append_assoc, append-nil, subst, arith}
-use Rattle.std.specs.Prelude.{IfSome, Result, codes}
-use Rattle.std.specs.List.{All, slice_range, starts_with}
+use Rattle.std.proofs.Common.{◌≡◌, ℕ, ◌^◌, ◌<◌, ◌≤◌, Bool, true, false, ◌||◌, nat_lt, List, [], ◌++◌, Option, Some, None, Ok, Err, length, take, drop, refl, sym, ap, ◌∙◌, inl, inr, append_assoc, append-nil, arith}
+use Rattle.std.specs.Prelude.{IfSome, Result}
+use Rattle.std.specs.List.{slice_range}
 use Rattle.std.specs.Str.{bytes_eq}
-use Rattle.std.proofs.lemmas.Bool.{cases_Bool, both_ways, ltb-false, le-ltb}
+use Rattle.std.proofs.lemmas.Bool.{cases_Bool, ltb-false, le-ltb}
 use Rattle.std.proofs.lemmas.List.{length-append, take_all, take-append-drop, length-drop, drop_at}
 use Rattle.std.proofs.lemmas.Slice.Eq.{bytes_eq-Decides}
 use Rattle.plasma_tx.specs.declared.owner.Owner.{Owner}
@@ -11,7 +11,7 @@ use Rattle.plasma_tx.specs.declared.body.Body.{Body}
 use Rattle.plasma_tx.specs.declared.signed_tx.SignedTx.{SignedTx}
 use Rattle.plasma_tx.specs.declared.signed_tx.TxRefusal.{TxRefusal}
 use Rattle.plasma_tx.specs.declared.signed_tx.TxRefusal.TheVariants.{Short, BadMark, BadTag}
-use Rattle.plasma_tx.specs.Spelling.{number_text, number_at, owner_text, owner_in, first_mark, second_mark, mark_of, last_text, common_text, body_text, signed_text, has_first_mark, has_second_mark, body_length, body_at_start, body_in, with_signature, signed_in, IsOwner, IsBody, AreBytes}
+use Rattle.plasma_tx.specs.Spelling.{number_text, number_at, owner_text, owner_in, first_mark, second_mark, mark_of, common_text, body_text, signed_text, has_first_mark, has_second_mark, body_length, body_at_start, body_in, with_signature, signed_in, IsOwner, IsBody, AreBytes}
 use Rattle.plasma_tx.proofs.Parts.{range-front, range-back, range-join, length-range, bytes-range, number-below, number-bytes, number-in}
 
 -- ---- owners
@@ -288,7 +288,8 @@ module _ (bytes : List ℕ) (small : AreBytes bytes) (long : 116 ≤ length byte
       owner_text-in (slice_range bytes 52 116) (bytes-range bytes 52 116 small)
       (length-range bytes 52 116 (omega arith) (omega arith)) in
       (λ i. is i ++ slice_range bytes 4 36 ++ coin i ++ parent i ++ to i)
-      ∙ ap (λ (front : List ℕ). front ++ slice_range bytes 36 44 ++ slice_range bytes 44 52 ++ slice_range bytes 52 116) (range-join bytes 4 36 (omega arith))
+      ∙ ap (λ (front : List ℕ). front ++ slice_range bytes 36 44 ++ slice_range bytes 44 52 ++ slice_range bytes 52 116)
+      (range-join bytes 4 36 (omega arith))
       ∙ ap (λ (front : List ℕ). front ++ slice_range bytes 44 52 ++ slice_range bytes 52 116)
       (range-join bytes 36 44 (omega arith))
       ∙ ap (λ (front : List ℕ). front ++ slice_range bytes 52 116) (range-join bytes 44 52 (omega arith))

@@ -8,5 +8,6 @@ abbrev pub is_challenged : ℕ → List ChallengeView → Bool
 is_challenged block challenges = list_any (λ challenge. challenge.block == block) challenges
 
 -- the challenge, answered where it is at the block
-abbrev pub answered_at : ℕ → ChallengeView → ChallengeView
-answered_at block challenge = if challenge.block == block then record challenge { answered = true } else challenge
+abbrev pub view_with_answer_at : ℕ → ChallengeView → ChallengeView
+view_with_answer_at block challenge =
+    if challenge.block == block then record challenge { answered = true } else challenge

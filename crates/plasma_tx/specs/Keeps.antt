@@ -1,5 +1,5 @@
 -- What a log keeps beside its calls is what the views have.
-use Rattle.std.specs.Prelude.{◌≡◌, ℕ, ◌-◌, ◌==◌, if◌then◌else◌, List, length, Option, None, unwrap_or, slice_get, reverse}
+use Rattle.std.specs.Prelude.{◌≡◌, ℕ, ◌-◌, ◌==◌, if◌then◌else◌, List, length, Option, None, unwrap_or, slice_get}
 use Rattle.std.specs.Ordering.{nat_cmp}
 use Rattle.std.specs.BTreeMap.{BTreeMap, get}
 use Rattle.plasma_tx.specs.declared.call.RootCall.{RootCall}
@@ -8,8 +8,8 @@ use Rattle.plasma_tx.specs.Views.{now, blocks, coins, block_at, coin_at}
 use Rattle.plasma_tx.specs.Standing.{Standing, no_standing, standing_of}
 
 -- item n, counted from 1
-abbrev pub numbered : {X : Type 0} → List X → ℕ → Option X
-numbered items n = if n == 0 then None else slice_get items (n - 1)
+abbrev pub item_at : {X : Type 0} → List X → ℕ → Option X
+item_at items n = if n == 0 then None else slice_get items (n - 1)
 
 -- what a map has of a coin
 abbrev pub standing_in : BTreeMap ℕ Standing → ℕ → Standing
@@ -19,7 +19,7 @@ standing_in states c = unwrap_or (get nat_cmp states c) no_standing
 pub record Keeps (log : List RootCall) (kept : Kept) : Type 0 where
   pub clock : kept.clock ≡ now log
   pub block_count : length kept.blocks.items ≡ blocks log
-  pub blocks_are : (n : ℕ) → numbered kept.blocks.items n ≡ block_at log n
+  pub blocks_are : (n : ℕ) → item_at kept.blocks.items n ≡ block_at log n
   pub coin_count : length kept.coins.items ≡ coins log
-  pub coins_are : (c : ℕ) → numbered kept.coins.items c ≡ coin_at log c
+  pub coins_are : (c : ℕ) → item_at kept.coins.items c ≡ coin_at log c
   pub states_are : (c : ℕ) → standing_in kept.states c ≡ standing_of log c

@@ -4,7 +4,6 @@ use Rattle.std.specs.List.{AllPairs}
 use Rattle.std.specs.Option.{option_map, option_or}
 use Rattle.plasma_tx.specs.declared.call.RootCall.{RootCall}
 use Rattle.plasma_tx.specs.declared.call.RootCall.TheVariants.{StartDeposit, StartSpend, After, Between, Before, Respond, Finish}
-use Rattle.plasma_tx.specs.declared.call.Shown.{Shown}
 use Rattle.plasma_tx.specs.Views.{now, Challenge, Exit, block_of, owner_of, deposit_exit, spend_exit, challenge_at, exits, exit_at, has_no_open_challenge, is_withdrawn, is_responded, responses}
 
 -- the exit that the call, after these calls, starts; None where it doesn't start that of coin c at block e

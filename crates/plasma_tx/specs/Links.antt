@@ -1,5 +1,6 @@
 -- Where a coin's history ends, and who owns the coin there.
-use Rattle.std.specs.Prelude.{ℕ, ◌-◌, length, Option, Some, None, slice_get}
+use Rattle.std.specs.Prelude.{ℕ, ◌-◌, length, Option, slice_get}
+use Rattle.std.specs.Option.{option_map_or}
 use Rattle.plasma_tx.specs.declared.owner.Owner.{Owner}
 use Rattle.plasma_tx.specs.declared.links.Link.{Link}
 use Rattle.plasma_tx.specs.declared.links.Links.{Links}
@@ -9,17 +10,9 @@ abbrev pub last_spend : Links → Option Link
 last_spend links = slice_get links.spends (length links.spends - 1)
 
 -- the tip: the block of the last spend, or the deposit block
-abbrev pub tip_by : Links → Option Link → ℕ
-tip_by links None = links.deposit
-tip_by links (Some link) = link.block
-
 abbrev pub tip_of : Links → ℕ
-tip_of links = tip_by links (last_spend links)
+tip_of links = option_map_or (λ link. link.block) (last_spend links) links.deposit
 
 -- the last owner: to whom the last spend goes, or the depositor
-abbrev pub last_owner_by : Links → Option Link → Owner
-last_owner_by links None = links.owner
-last_owner_by links (Some link) = link.tx.body.to
-
 abbrev pub last_owner_of : Links → Owner
-last_owner_of links = last_owner_by links (last_spend links)
+last_owner_of links = option_map_or (λ link. link.tx.body.to) (last_spend links) links.owner

@@ -1,5 +1,5 @@
 -- The bytes of openings: the leaf's length in four bytes, the highest first, the leaf, the proof and nothing after it.
-use Rattle.std.specs.Prelude.{◌≡◌, ℕ, ◌+◌, ◌^◌, ◌<◌, true, nat_le, if◌then◌else◌, List, ◌++◌, length, take, drop, Option, Some, None, Result, Ok, Err}
+use Rattle.std.specs.Prelude.{◌≡◌, ℕ, ◌+◌, ◌^◌, ◌<◌, true, nat_le, if◌then◌else◌, List, ◌++◌, length, take, drop, Result, Ok, Err}
 use Rattle.std.specs.Int.{w32, to_be_bytes, from_be_bytes}
 use Rattle.std.specs.List.{All}
 use Rattle.sparse_merkle.specs.declared.proof.ProofRefusal.{ProofRefusal}
@@ -41,6 +41,11 @@ opening_in dig raw =
 abbrev pub OpeningsAreReadBack : Type 0
 OpeningsAreReadBack = (dig : List ℕ → List ℕ) (opening : Opening) → length opening.leaf < 2 ^ 32
     → IsMaskedPath opening.proof → is_canonical dig opening.proof ≡ true → opening_in dig (raw_of opening) ≡ Ok opening
+
+-- the leaf of an opening that is read is the one behind the length that its bytes begin with
+abbrev pub LeavesAreShown : Type 0
+LeavesAreShown = (dig : List ℕ → List ℕ) (raw : RawOpening) (opening : Opening) → opening_in dig raw ≡ Ok opening
+    → leaf_in raw.bytes ≡ opening.leaf
 
 -- bytes that are read as an opening are its own, and its proof shows no default
 abbrev pub OpeningsHaveOneSpelling : Type 0

@@ -1,5 +1,5 @@
 -- The bytes of owners, bodies and signed transfers. Numbers have eight bytes, the highest first.
-use Rattle.std.specs.Prelude.{◌≡◌, ℕ, ◌+◌, ◌^◌, ◌<◌, Bool, ◌||◌, not, if◌then◌else◌, List, [], ◌∷◌, ◌++◌, length, drop, slice_range, nat_lt, nat_eq, codes, Option, Some, None, IfSome, Result, Ok, Err}
+use Rattle.std.specs.Prelude.{◌≡◌, ℕ, ◌+◌, ◌^◌, ◌<◌, Bool, ◌||◌, not, if◌then◌else◌, List, [], ◌++◌, length, drop, slice_range, nat_lt, nat_eq, codes, Option, Some, None, IfSome, Result, Ok, Err}
 use Rattle.std.specs.Int.{w64, to_be_bytes, from_be_bytes}
 use Rattle.std.specs.List.{All, starts_with}
 use Rattle.std.specs.Str.{bytes_eq}

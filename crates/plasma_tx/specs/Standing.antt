@@ -1,5 +1,5 @@
 -- What a log keeps of each coin beside its calls, and what a call does to it.
-use Rattle.std.specs.Prelude.{◌≡◌, ℕ, ◌==◌, ◌||◌, not, Bool, true, false, if◌then◌else◌, List, [], ◌∷◌, ◌++◌, Option, Some, None, is_some, find, filter, map}
+use Rattle.std.specs.Prelude.{◌≡◌, ℕ, ◌==◌, ◌||◌, not, Bool, true, false, if◌then◌else◌, List, [], ◌∷◌, ◌++◌, Option, Some, None, find, filter, map}
 use Rattle.std.specs.List.{list_all, list_any}
 use Rattle.plasma_tx.specs.declared.call.RootCall.{RootCall}
 use Rattle.plasma_tx.specs.declared.call.RootCall.TheVariants.{StartDeposit, StartSpend, After, Between, Before, Respond, Finish}
@@ -8,7 +8,7 @@ use Rattle.plasma_tx.specs.declared.views.ExitView.{ExitView}
 use Rattle.plasma_tx.specs.declared.views.Response.{Response}
 use Rattle.plasma_tx.specs.declared.standing.Change.{Change}
 use Rattle.plasma_tx.specs.declared.standing.Change.TheVariants.{Start, Cancel, Challenge, Respond as Answer, Finish as End}
-use Rattle.plasma_tx.specs.ChallengeLists.{answered_at, is_challenged}
+use Rattle.plasma_tx.specs.ChallengeLists.{view_with_answer_at, is_challenged}
 use Rattle.plasma_tx.specs.Views.{block_of, exits_of, is_responded, is_withdrawn, responses, without_responses}
 
 -- what is kept of a coin: whether it is withdrawn, its standing exits and the responses to its exits
@@ -42,7 +42,7 @@ with_challenge_view challenge exit =
 
 -- the exit with its challenge at that block answered
 abbrev pub with_answer_view : ℕ → ExitView → ExitView
-with_answer_view block exit = record exit { challenges = map (answered_at block) exit.challenges }
+with_answer_view block exit = record exit { challenges = map (view_with_answer_at block) exit.challenges }
 
 -- whether the exit has no open challenge
 abbrev pub has_no_open_view : Option ExitView → Bool
@@ -77,15 +77,15 @@ standing_after c (End block) s = record {
 }
 
 -- the exit that a start makes
-abbrev pub started : ℕ → ℕ → ℕ → ℕ → ExitView
-started block parent time account =
+abbrev pub new_exit : ℕ → ℕ → ℕ → ℕ → ExitView
+new_exit block parent time account =
     record { block = block; parent = parent; start = time; account = account; challenges = [] }
 
 -- the coin whose exits the call changes at that time, and how; None where it changes none
 abbrev pub change_of : ℕ → RootCall → Option (ℕ × Change)
-change_of time (StartDeposit account coin block) = Some (coin, Start (started block 0 time account))
+change_of time (StartDeposit account coin block) = Some (coin, Start (new_exit block 0 time account))
 change_of time (StartSpend account coin parent exit) =
-    Some (coin, Start (started exit.block (block_of parent) time account))
+    Some (coin, Start (new_exit exit.block (block_of parent) time account))
 change_of time (After account coin exit spend) = Some (coin, Cancel exit)
 change_of time (Between account coin exit spend) = Some (coin, Cancel exit)
 change_of time (Before account coin exit shown) = Some (coin, Challenge exit (block_of shown) account time)

@@ -1,7 +1,7 @@
 ghost use Rattle.std.specs.Prelude.{◌≡◌, ◌∷◌, [], List, ℕ, OnOk, OnErr, IsSome, if◌then◌else◌, ◌==◌};
 ghost use Rattle.std.specs.Ordering.{nat_cmp};
 ghost use Rattle.std.specs.BTreeMap.{get};
-ghost use Rattle.plasma_tx.specs.Standing.{change_of, standing_after, started};
+ghost use Rattle.plasma_tx.specs.Standing.{change_of, standing_after, new_exit};
 ghost use Rattle.plasma_tx.specs.Keeps.{Keeps, standing_in};
 
 use super::call::RootCall;
@@ -184,7 +184,7 @@ fn change_of(alloc: Global, time: u64, call: &RootCall) -> Option<(u64, Change)>
 
 /// The start of an exit.
 fn start(alloc: Global, block: u64, parent: u64, time: u64, account: u64) -> Change
-    ensures { result ≡ Change.Start (started block parent time account) }
+    ensures { result ≡ Change.Start (new_exit block parent time account) }
 {
     let challenges = Challenges::new(alloc);
     Change::Start {

@@ -1,5 +1,5 @@
 ghost use Rattle.plasma_tx.specs.Laws.{ExitsStand, ChallengesStand, ExitsAreInOrder, ChallengesAreInOrder, NewChallengesAreOpen, WithdrawnIsPaid};
-ghost use Rattle.plasma_tx.specs.Openings.{OpeningsAreReadBack, OpeningsHaveOneSpelling};
+ghost use Rattle.plasma_tx.specs.Openings.{LeavesAreShown, OpeningsAreReadBack, OpeningsHaveOneSpelling};
 ghost use Rattle.plasma_tx.specs.Spelling.{OwnersAreReadBack, OwnersHaveOneSpelling, TransfersAreReadBack, TransfersHaveOneSpelling};
 ghost use Rattle.plasma_tx.specs.Transfer.{EmptyLeavesAreNone, TransfersAreRead, RecipientsAreNamed};
 
@@ -15,8 +15,10 @@ pub fn transfers_have_one_spelling()
     ensures one { TransfersHaveOneSpelling }
 {}
 
-/// A law: each opening has one spelling, which is read as that opening.
+/// A law: each opening has one spelling, which is read as that opening; and the leaf that is read is
+/// the one that its bytes show, whatever the digest.
 pub fn openings_have_one_spelling()
+    ensures leaf { LeavesAreShown }
     ensures read_back { OpeningsAreReadBack }
     ensures one { OpeningsHaveOneSpelling }
 {}

@@ -61,7 +61,7 @@ impl RawOpening {
         };
         Ok(Opening {
             block: self.block,
-            leaf: owned(alloc, leaf)?,
+            leaf: copy_of(alloc, leaf)?,
             proof,
         })
     }
@@ -111,7 +111,7 @@ fn parts(bytes: &[u8]) -> Option<(&[u8], &[u8])>
 }
 
 /// The bytes as a byte string of their own.
-fn owned(alloc: Global, bytes: &[u8]) -> Result<Bytes, NoMemory>
+fn copy_of(alloc: Global, bytes: &[u8]) -> Result<Bytes, NoMemory>
     ensures { IfOk result (λ copied. copied ≡ bytes.now) }
 {
     Ok(Bytes::from_vec(Vec::from_slice(alloc, bytes)?))

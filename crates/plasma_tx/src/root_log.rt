@@ -1,6 +1,6 @@
 ghost use Rattle.std.specs.Prelude.{◌≡◌, ◌∷◌, [], IfOk, OnOk, OnErr, reverse};
 ghost use Rattle.plasma_tx.specs.Chain.{with_log};
-ghost use Rattle.plasma_tx.specs.Keeps.{numbered};
+ghost use Rattle.plasma_tx.specs.Keeps.{item_at};
 ghost use Rattle.plasma_tx.specs.Views.{now, blocks, block_at, coin_at, is_withdrawn, exits_of};
 
 use super::call::RootCall;
@@ -105,14 +105,14 @@ impl RootLog {
     pub fn block(&self, n: u64) -> Option<BlockView>
         ensures { result ≡ block_at self.now.log n }
     {
-        numbered(&self.kept.blocks, n)
+        item_at(&self.kept.blocks, n)
     }
 
     /// Coin `c`, counted from 1; `None` exactly where there is no such coin.
     pub fn coin(&self, c: u64) -> Option<CoinView>
         ensures { result ≡ coin_at self.now.log c }
     {
-        numbered(&self.kept.coins, c)
+        item_at(&self.kept.coins, c)
     }
 
     /// The clock in seconds: the time of the last Tick, or 0.
@@ -152,8 +152,8 @@ impl RootLog {
 }
 
 /// Item `n`, counted from 1.
-fn numbered<T: Copy>(items: &[T], n: u64) -> Option<T>
-    ensures { result ≡ numbered items.now n }
+fn item_at<T: Copy>(items: &[T], n: u64) -> Option<T>
+    ensures { result ≡ item_at items.now n }
 {
     if n == 0 || n > items.len() as u64 {
         return None;

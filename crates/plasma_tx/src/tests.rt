@@ -21,8 +21,8 @@ fn body(last: Option<u64>) -> Body {
     }
 }
 
-// The bytes of that body, field by field.
-fn spelled(alloc: Global, last: Option<u64>) -> Result<Vec<u8>, Fail> {
+// The bytes of that body, field by field; a last block is 5.
+fn spelling(alloc: Global, last: Option<u64>) -> Result<Vec<u8>, Fail> {
     let mut bytes = match last {
         None => Vec::from_slice(alloc, b"PCT1")?,
         Some(_) => Vec::from_slice(alloc, b"PCT2")?,
@@ -31,8 +31,8 @@ fn spelled(alloc: Global, last: Option<u64>) -> Result<Vec<u8>, Fail> {
     bytes.extend_from_slice(&[0, 0, 0, 0, 0, 0, 0, 3, 0, 0, 0, 0, 0, 0, 0, 4])?;
     bytes.extend_from_slice(&[0, 0, 0, 0, 0, 0, 1, 2])?;
     bytes.extend_from_slice(&[9; 56])?;
-    if let Some(last) = last {
-        bytes.extend_from_slice(&[0, 0, 0, 0, 0, 0, 0, last as u8])?;
+    if last.is_some() {
+        bytes.extend_from_slice(&[0, 0, 0, 0, 0, 0, 0, 5])?;
     }
     Ok(bytes)
 }
@@ -45,7 +45,7 @@ fn refusal(alloc: Global, tag: &[u8; 32], bytes: &[u8]) -> Option<TxRefusal> {
 fn transfers_as_bytes(rt: HostRuntime) -> Result<(), Fail> {
     let alloc = rt.alloc();
     for last in [None, Some(5)] {
-        let mut bytes = spelled(alloc, last)?;
+        let mut bytes = spelling(alloc, last)?;
         assert_eq!(rt; body(last).write().as_slice(), bytes.as_slice());
         assert_eq!(rt; SignedTx::read(alloc, &TAG, &bytes)?.signature.len(), 0);
         bytes.extend_from_slice(&[1, 2, 3])?;
@@ -82,7 +82,7 @@ fn leaves_of_blocks(rt: HostRuntime) -> Result<(), Fail> {
         (Some(5), 5, true),
         (Some(5), 6, false),
     ] {
-        let bytes = spelled(alloc, last)?;
+        let bytes = spelling(alloc, last)?;
         assert_eq!(rt; leaf_tx(alloc, &TAG, 3, block, &bytes)?.is_some(), is_some);
         assert_eq!(rt; leaf_tx(alloc, &TAG, 2, block, &bytes)?.is_some(), false);
         assert_eq!(rt;
@@ -108,6 +108,7 @@ fn openings_as_bytes(rt: HostRuntime) -> Result<(), Fail> {
     ];
     for bytes in rows {
         let opening = raw(alloc, bytes)?.open_up(alloc, &Sha)?;
+        assert!(rt; opening.leaf.len() < 3);
         let written = opening.write(alloc)?.copy()?;
         assert_eq!(rt; written.bytes.as_slice(), bytes);
         assert_eq!(rt; written.block, 2);
@@ -134,6 +135,8 @@ fn signers(rt: HostRuntime) -> Result<(), Fail> {
         account: 1,
         key: secret.public(),
     };
+    assert_eq!(rt; secret.leaves(), 32);
+    assert_eq!(rt; secret.signature_len(), 1292);
     let mut signature = [0; 1292];
     sign(&secret, 0, body(None).write().as_slice(), &mut signature);
     let mut tx = SignedTx {
@@ -236,11 +239,12 @@ fn exits_of_a_log(rt: HostRuntime) -> Result<(), Fail> {
 fn blocks_and_coins_of_a_log(rt: HostRuntime) -> Result<(), Fail> {
     let mut log = RootLog::make(rt.alloc(), TAG, 9, 100);
     let root = [1; 32];
+    let key = OWNER.key;
     for amount in [300, 200] {
         log.push(RootCall::Deposit {
             account: OWNER.account,
             amount,
-            key: OWNER.key,
+            key,
         })?;
         log.push(RootCall::Commit { account: 9, root })?;
         log.push(RootCall::Tick { now: amount })?;

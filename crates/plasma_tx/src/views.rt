@@ -1,6 +1,6 @@
 ghost use Rattle.std.specs.Prelude.{◌≡◌, ◌++◌, ◌∷◌, [], map, IfOk, OnOk, OnErr};
 ghost use Rattle.std.specs.List.{list_all};
-ghost use Rattle.plasma_tx.specs.ChallengeLists.{answered_at, is_challenged};
+ghost use Rattle.plasma_tx.specs.ChallengeLists.{view_with_answer_at, is_challenged};
 
 use super::owner::Owner;
 use plasma_base::NoMemory;
@@ -99,7 +99,7 @@ impl Challenges {
 
     /// Answers the challenge at the block.
     pub(crate) fn answer(&mut self, block: u64)
-        ensures { self.new ≡ map (answered_at block) self.old }
+        ensures { self.new ≡ map (view_with_answer_at block) self.old }
     {
         answer_all(&mut self.items, block);
     }
@@ -107,7 +107,7 @@ impl Challenges {
 
 /// Answers each challenge at the block.
 fn answer_all(challenges: &mut Vec<ChallengeView>, block: u64)
-    ensures { challenges.new.items ≡ map (answered_at block) challenges.old.items }
+    ensures { challenges.new.items ≡ map (view_with_answer_at block) challenges.old.items }
 {
     for challenge in challenges.iter_mut() {
         if challenge.block == block {

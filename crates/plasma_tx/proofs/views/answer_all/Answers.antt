@@ -1,7 +1,7 @@
-use Rattle.std.proofs.Common.{◌≡◌, ℕ, zero, suc, ◌+◌, ◌<◌, ◌==◌, Bool, true, false, if◌then◌else◌, List, [], ◌∷◌, ◌++◌, map, length, take, drop, slice_set, slice_index_or, refl, sym, ap, ◌∙◌, subst, arith}
+use Rattle.std.proofs.Common.{◌≡◌, ℕ, zero, suc, ◌+◌, ◌<◌, Bool, true, false, if◌then◌else◌, List, [], ◌∷◌, ◌++◌, map, length, take, drop, slice_set, slice_index_or, refl, sym, ap, ◌∙◌, arith}
 use Rattle.std.proofs.lemmas.Bool.{eq-eqb, ne_eqb}
 use Rattle.plasma_tx.specs.declared.views.ChallengeView.{ChallengeView}
-use Rattle.plasma_tx.specs.ChallengeLists.{answered_at}
+use Rattle.plasma_tx.specs.ChallengeLists.{view_with_answer_at}
 use Rattle.plasma_tx.proofs.views.answer_all.Goals as goal
 use Rattle.plasma_tx.proofs.views.answer_all.Goals.{then-challenge-block, else-challenge-block}
 
@@ -25,10 +25,11 @@ loop-challenge-preserved c =
     let item : ChallengeView = slice_index_or now i nothing in
     let within : i < length xs =
     omega (arith, c.loop-challenge-test.true, ap length c.deref_mut-challenge-items.ensures.value) in
-    let known : now ≡ map (answered_at b) (take i xs) ++ drop i xs = c.loop-challenge.invariant in
-    let next : slice_set now i (answered_at b item) ≡ map (answered_at b) (take (i + 1) xs) ++ drop (i + 1) xs =
-    ap (λ l. slice_set l i (answered_at b (slice_index_or l i nothing))) known
-    ∙ more (answered_at b) xs i nothing within in
+    let known : now ≡ map (view_with_answer_at b) (take i xs) ++ drop i xs = c.loop-challenge.invariant in
+    let next : slice_set now i (view_with_answer_at b item)
+    ≡ map (view_with_answer_at b) (take (i + 1) xs) ++ drop (i + 1) xs =
+    ap (λ l. slice_set l i (view_with_answer_at b (slice_index_or l i nothing))) known
+    ∙ more (view_with_answer_at b) xs i nothing within in
     elim c.if-challenge-block.branch [
       | then-challenge-block w ↦
           let is : c.if-challenge-block.challenge-items ≡ slice_set now i (record item { answered = true }) =

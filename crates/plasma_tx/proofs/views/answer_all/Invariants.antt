@@ -1,7 +1,7 @@
 use Rattle.std.proofs.Common.{◌≡◌, ◌++◌, map, take, drop}
-use Rattle.plasma_tx.specs.ChallengeLists.{answered_at}
+use Rattle.plasma_tx.specs.ChallengeLists.{view_with_answer_at}
 use Rattle.plasma_tx.proofs.views.answer_all.Given as goal
 
 abbrev pub invariant-loop-challenge : goal.invariant-loop-challenge
-invariant-loop-challenge l = l.challenge-items ≡ map (answered_at l.block)
+invariant-loop-challenge l = l.challenge-items ≡ map (view_with_answer_at l.block)
     (take l.challenge-index l.fn.challenges.items) ++ drop l.challenge-index l.fn.challenges.items

@@ -1,4 +1,4 @@
-use Rattle.std.proofs.Common.{◌≡◌, ℕ, ◌+◌, ◌++◌, ◌∷◌, [], List, length, refl, ap, ◌∙◌, arith}
+use Rattle.std.proofs.Common.{◌≡◌, ◌+◌, ◌++◌, ◌∷◌, [], List, length, refl, ap, ◌∙◌, arith}
 use Rattle.std.proofs.lemmas.List.{length-append}
 use Rattle.plasma_tx.specs.declared.views.BlockView.{BlockView}
 use Rattle.plasma_tx.specs.declared.views.BlockView.TheVariants.{DepositOf}
@@ -15,8 +15,15 @@ returns-clause-ok c =
     let coins_are : c.push_reserved.new.items.items ≡ old.coins.items ++ coin ∷ [] = c.push_reserved.ensures
     ∙ ap (λ (l : List CoinView). l ++ coin ∷ []) c.in_ok-reserve-2.ensures.items in
     let number : c.len-coin.result ≡ length old.coins.items + 1 =
-    omega (arith, c.len-coin.ensures, c.push_reserved.new.items.ok.0, ap length coins_are, length-append old.coins.items (coin ∷ [])) in
-    λ log k. keeps-Deposit log c.args.owner.account c.args.amount c.args.owner.key old _ coin c.len-coin.result refl refl
+    omega (
+      arith,
+      c.len-coin.ensures,
+      c.push_reserved.new.items.ok.0,
+      ap length coins_are,
+      length-append old.coins.items (coin ∷ []),
+    ) in
+    λ log k. keeps-Deposit log c.args.owner.account c.args.amount c.args.owner.key old _ coin c.len-coin.result
+    refl refl
     (λ i. record { deposit = counted i + 1; amount = c.args.amount; owner = c.args.owner }) number coins_are
     (c.push_reserved-2.ensures
     ∙ ap (λ (l : List BlockView). l ++ DepositOf c.len-coin.result ∷ []) c.in_ok-reserve.ensures.items) k

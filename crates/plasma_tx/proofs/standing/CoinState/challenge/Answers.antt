@@ -13,4 +13,9 @@ invariant_of-self-2 c = rw c.in_ok-challenge_exit.ensures.ok
 pub returns-clause-ok : goal.returns-clause-ok
 unfolding standing_after
 returns-clause-ok c =
-    rw (c.in_ok-challenge_exit.ensures.ok, c.is_responded-answered.ensures, c.deref.ensures.value, ← c.self.view_is) refl
+    rw (
+      c.in_ok-challenge_exit.ensures.ok,
+      c.is_responded-answered.ensures,
+      c.deref.ensures.value,
+      ← c.self.view_is,
+    ) refl

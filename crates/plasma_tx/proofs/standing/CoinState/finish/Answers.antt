@@ -1,4 +1,4 @@
-use Rattle.std.proofs.Common.{◌≡◌, ◌==◌, ◌||◌, Bool, refl, sym, ap, ◌∙◌, find}
+use Rattle.std.proofs.Common.{◌≡◌, ◌==◌, ◌||◌, Bool, sym, ap, ◌∙◌, find}
 use Rattle.plasma_tx.specs.Standing.{standing_after, without_view, has_no_open_view}
 use Rattle.plasma_tx.specs.Views.{without_responses}
 use Rattle.plasma_tx.proofs.States.{distinct-without}

@@ -13,4 +13,10 @@ invariant_of-self-2 c = rw (c.push_reserved.ensures, c.remove_exit.ensures.exits
 pub returns-clause-ok : goal.returns-clause-ok
 unfolding standing_after
 returns-clause-ok c =
-    rw (c.push_reserved.ensures, c.remove_exit.ensures.exits, c.in_ok-reserve.ensures.items, c.remove_responses.ensures, ← c.self.view_is) refl
+    rw (
+      c.push_reserved.ensures,
+      c.remove_exit.ensures.exits,
+      c.in_ok-reserve.ensures.items,
+      c.remove_responses.ensures,
+      ← c.self.view_is,
+    ) refl
