@@ -1,0 +1,7 @@
+use Rattle.std.proofs.Common.{◌≡◌, ◌++◌, map, take, drop}
+use Rattle.exit_game.specs.Challenges.{answered_at}
+use Rattle.exit_game.proofs.challenges.answer_all.Given as goal
+
+abbrev pub invariant-loop-challenge : goal.invariant-loop-challenge
+invariant-loop-challenge l = l.challenge-items ≡ map (answered_at l.block)
+    (take l.challenge-index l.fn.challenges.items) ++ drop l.challenge-index l.fn.challenges.items

@@ -1,0 +1,4 @@
+pub mod Challenges
+pub mod Slots
+pub mod SlotMaps
+pub mod Games

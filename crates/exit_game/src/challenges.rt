@@ -1,0 +1,78 @@
+ghost use Rattle.std.specs.Prelude.{◌≡◌, ◌++◌, ◌∷◌, [], map, OnOk, OnErr};
+ghost use Rattle.exit_game.specs.Challenges.{answered_at};
+
+use plasma_base::NoMemory;
+use plasma_tx::Owner;
+use std::alloc::Global;
+use std::marker::Model;
+
+/// A challenge of an exit at a block: who owned the coin after that block, the account that made it, when
+/// it was made, in seconds, and whether it is answered.
+#[derive(Debug, Clone, Copy, PartialEq, Eq)]
+pub struct Challenge {
+    pub block: u64,
+    pub owner: Owner,
+    pub by: u64,
+    pub at: u64,
+    pub answered: bool,
+}
+
+/// Challenges in the order in which they were made, which contracts see as a list.
+#[derive(Debug, Drop)]
+pub struct Challenges {
+    items: Vec<Challenge>,
+}
+
+impl Model for Challenges {
+    ghost use Rattle.std.specs.Prelude.{List};
+    ghost use Rattle.exit_game.specs.declared.challenges.Challenge.{Challenge};
+
+    ghost Value = { List Challenge };
+
+    ghost view = { λ c. c.items.items };
+}
+
+impl Challenges {
+    /// No challenge. It takes no memory.
+    pub fn new(alloc: Global) -> Challenges
+        ensures { result ≡ [] }
+    {
+        Challenges {
+            items: Vec::new(alloc),
+        }
+    }
+
+    /// The challenges, lent.
+    pub fn as_slice(&self) -> &[Challenge]
+        ensures { result.now ≡ self.now }
+    {
+        self.items.as_slice()
+    }
+
+    // Adds a challenge. `NoMemory` changes nothing.
+    pub(crate) fn push(&mut self, challenge: Challenge) -> Result<(), NoMemory>
+        ensures ok { OnOk result (self.new ≡ self.old ++ challenge ∷ []) }
+        ensures err { OnErr result (self.new ≡ self.old) }
+    {
+        self.items.push(challenge)?;
+        Ok(())
+    }
+
+    // Answers the challenge at the block.
+    pub(crate) fn answer(&mut self, block: u64)
+        ensures { self.new ≡ map (answered_at block) self.old }
+    {
+        answer_all(&mut self.items, block);
+    }
+}
+
+// Answers each challenge at the block.
+fn answer_all(challenges: &mut Vec<Challenge>, block: u64)
+    ensures { challenges.new.items ≡ map (answered_at block) challenges.old.items }
+{
+    for challenge in challenges.iter_mut() {
+        if challenge.block == block {
+            challenge.answered = true;
+        }
+    }
+}

@@ -1,0 +1,77 @@
+ghost use Rattle.std.specs.Prelude.{◌≡◌, ◌∷◌, [], false, OnOk, OnErr};
+ghost use Rattle.exit_game.specs.Games.{slots_in};
+
+use super::*;
+use plasma_base::NoMemory;
+use plasma_tx::Owner;
+use std::alloc::Global;
+use std::test::Fail;
+
+const OWNER: Owner = Owner {
+    account: 7,
+    key: [0; 56],
+};
+
+// The exit of coin 1 at block 4, not challenged.
+fn slot(alloc: Global) -> Slot
+    ensures coin { result.coin ≡ 1 }
+    ensures block { result.block ≡ 4 }
+    ensures challenges { result.challenges ≡ [] }
+{
+    Slot {
+        coin: 1,
+        block: 4,
+        parent: 3,
+        owner: OWNER,
+        parent_owner: OWNER,
+        start: 100,
+        challenges: Challenges::new(alloc),
+    }
+}
+
+fn challenge(block: u64) -> Challenge
+    ensures block { result.block ≡ block }
+    ensures open_still { result.answered ≡ false }
+{
+    Challenge {
+        block,
+        owner: OWNER,
+        by: 9,
+        at: 200,
+        answered: false,
+    }
+}
+
+// Starts the exit in a game without slots.
+fn start(game: &mut Game, slot: Slot) -> Result<(), NoMemory>
+    requires { slots_in game.old slot.coin ≡ [] }
+    ensures ok { OnOk result (slots_in game.new slot.coin ≡ slot ∷ []) }
+    ensures err { OnErr result (slots_in game.new slot.coin ≡ []) }
+{
+    game.start(slot)
+}
+
+#[test]
+fn a_start(rt: HostRuntime) -> Result<(), Fail> {
+    let mut game = Game::new(rt.alloc());
+    assert!(rt; game.slot(1, 4).is_none());
+    start(&mut game, slot(rt.alloc()))?;
+    assert!(rt; game.slot(1, 4).is_some());
+    assert!(rt; game.slot(1, 5).is_none());
+    assert!(rt; game.slot(2, 4).is_none());
+    Ok(())
+}
+
+#[test]
+fn a_challenge(rt: HostRuntime) -> Result<(), Fail> {
+    let mut challenges = Challenges::new(rt.alloc());
+    challenges.push(challenge(2))?;
+    challenges.push(challenge(1))?;
+    challenges.answer(1);
+    let answered: [bool; 2] = [false, true];
+    for (challenge, want) in challenges.as_slice().iter().zip(answered.iter()) {
+        assert_eq!(rt; challenge.answered, *want);
+    }
+    assert_eq!(rt; challenges.as_slice().len(), 2);
+    Ok(())
+}
