@@ -104,6 +104,10 @@ pub get-other : {S T : Type 0} (old new : HashMap PageName (HashMap ℕ (List �
     → PutsPage old new name page → same_name name other ≡ false → get same_name new other ≡ get same_name old other
 get-other old new name other page puts apart = rw (puts other, apart) refl
 
+pub page_node-none : {S T : Type 0} (pages : HashMap PageName (HashMap ℕ (List ℕ) S) T) (name : PageName) (place : ℕ)
+    → pages.entries ≡ [] → page_node pages name place ≡ None
+page_node-none pages name place none = rw none refl
+
 -- ---- places
 
 -- powers of two that a level above doubles
@@ -122,7 +126,7 @@ place-below one other coin more lt =
     omega arith
 
 -- levels of one page whose places are one are one
-place-level : (one other coin more : ℕ) → one / 16 ≡ other / 16 → place_at one coin ≡ place_at other more → one ≡ other
+pub place-level : (one other coin more : ℕ) → one / 16 ≡ other / 16 → place_at one coin ≡ place_at other more → one ≡ other
 place-level one other coin more page same = elim (cases_lt (one % 16) (other % 16)) [
   | inl below ↦ absurd (omega (arith, place-below one other coin more below))
   | inr above ↦ elim (cases_lt (other % 16) (one % 16)) [
@@ -132,7 +136,7 @@ place-level one other coin more page same = elim (cases_lt (one % 16) (other % 1
 ]
 
 -- coins with one page and place at a level agree from the level on
-prefix-from : (level coin other : ℕ) → name_at level coin ≡ name_at level other → place_at level coin ≡ place_at level other
+pub prefix-from : (level coin other : ℕ) → name_at level coin ≡ name_at level other → place_at level coin ≡ place_at level other
     → coin / 2 ^ level ≡ other / 2 ^ level
 prefix-from level coin other name place =
     let width = 16 - level % 16 in
@@ -144,7 +148,7 @@ prefix-from level coin other name place =
     sym (div-add-mod (coin / 2 ^ level) (2 ^ width)) ∙ rw (high, low) (div-add-mod (other / 2 ^ level) (2 ^ width))
 
 -- coins that agree from a level on have one page and place there
-name_at-prefix : (level coin other : ℕ) → coin / 2 ^ level ≡ other / 2 ^ level → name_at level coin ≡ name_at level other
+pub name_at-prefix : (level coin other : ℕ) → coin / 2 ^ level ≡ other / 2 ^ level → name_at level coin ≡ name_at level other
 name_at-prefix level coin other e =
     let width = 16 - level % 16 in
     let top : level + width ≡ 16 * (level / 16) + 16 = omega arith in
@@ -152,7 +156,7 @@ name_at-prefix level coin other e =
     rw (← top) (sym (shr-shr coin level width) ∙ ap (λ (q : ℕ). q / 2 ^ width) e ∙ shr-shr other level width) in
     name_of-same (level / 16) (level / 16) _ _ refl bits
 
-place_at-prefix : (level coin other : ℕ) → coin / 2 ^ level ≡ other / 2 ^ level → place_at level coin ≡ place_at level other
+pub place_at-prefix : (level coin other : ℕ) → coin / 2 ^ level ≡ other / 2 ^ level → place_at level coin ≡ place_at level other
 place_at-prefix level coin other e = rw e refl
 
 -- ---- the nodes of a way up, level by level

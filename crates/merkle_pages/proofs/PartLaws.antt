@@ -6,13 +6,13 @@ use Rattle.std.specs.List.{filter, All, AllPairs}
 use Rattle.std.proofs.lemmas.Bool.{cases_Bool, cases_lt, eq-eqb, eqb-true, eqb-false, ne_eqb, both_ways, ltb-true, lt-ltb, le-ltb, not-true}
 use Rattle.std.proofs.lemmas.List.{ext_get_or, get_or_push, get_or_append_left}
 use Rattle.std.proofs.lemmas.List.Elements.{filter-append, All-head, All-tail}
-use Rattle.std.proofs.lemmas.Nat.{shr-shr}
+use Rattle.std.proofs.lemmas.Nat.{shr-shr, xor_lt, pow_below}
 use Rattle.std.proofs.lemmas.Nat.Bits.{bit_at_xor, bit_at-pow_same, bit_at-pow_other, bit_at-lt, same_from_bits_below}
 use Rattle.std.proofs.Math.Nat.{div-le_self}
 use Rattle.sparse_merkle.specs.Opening.{parent_string}
 use Rattle.sparse_merkle.specs.TreeDigest.{bit_of, leaf_string, node_string, leaf_of, entry_of, with_leaf, only_leaf, left_part, right_part, near_part, far_part, subtree_digest, root_of, path_below, path_to, IsMap}
 use Rattle.sparse_merkle.specs.declared.tree.Entry.{Entry}
-use Rattle.sparse_merkle.proofs.TreeLaws.{agree-lower, bit_at-same, parent_string-sides, length-path_below}
+use Rattle.sparse_merkle.proofs.TreeLaws.{agree-lower, bit_at-same, parent_string-sides, length-path_below, leaf_of-with_leaf}
 use Rattle.merkle_pages.specs.Nodes.{part_at}
 
 -- ---- filters
@@ -151,6 +151,10 @@ unfolding part_at
 part_at-whole coin entries lt small =
     filter-every (λ entry. entry.coin / 2 ^ 64 == coin / 2 ^ 64) entries (λ k d long. let below = small k d long in eq-eqb _ _ (omega arith))
 
+pub part_at-empty : (level coin : ℕ) → part_at level coin [] ≡ []
+unfolding part_at
+part_at-empty level coin = refl
+
 -- ---- the path of a coin
 
 path_below-at : (dig : List ℕ → List ℕ) (coin : ℕ) (entries : List Entry) (other : ℕ → ℕ) (level k : ℕ)
@@ -240,8 +244,9 @@ unturned zero b c lt none is = omega arith
 unturned (suc zero) b c lt none is = omega arith
 unturned (suc (suc a)) b c lt none is = absurd (omega arith)
 
-pub IsSibling-xor : (coin level : ℕ) → coin < 2 ^ 64 → bit_xor coin (2 ^ level) < 2 ^ 64 → IsSibling coin (bit_xor coin (2 ^ level)) level
-IsSibling-xor coin level lt small =
+pub IsSibling-xor : (coin level : ℕ) → coin < 2 ^ 64 → level < 64 → IsSibling coin (bit_xor coin (2 ^ level)) level
+IsSibling-xor coin level lt in_tree =
+    let small = xor_lt 64 coin (2 ^ level) lt (pow_below level 64 in_tree) in
     let other = bit_xor coin (2 ^ level) in
     let same : (i : ℕ) → i < 64 → bit_at (other / 2 ^ suc level) i ≡ bit_at (coin / 2 ^ suc level) i = λ i _.
     bit_at-high other (suc level) i
@@ -254,3 +259,33 @@ IsSibling-xor coin level lt small =
       above = same_from_bits_below 64 (other / 2 ^ suc level) (coin / 2 ^ suc level) (omega (arith, div-le_self other (2 ^ suc level)))
           (omega (arith, div-le_self coin (2 ^ suc level))) same;
     }
+
+-- ---- the digests on the way up from a coin that has a new leaf
+
+sibling-apart : (coin other level : ℕ) → IsSibling coin other level → other / 2 ^ level ≢ coin / 2 ^ level
+sibling-apart coin other level h e =
+    let same : bit_of other level ≡ bit_of coin level = ap (λ (k : ℕ). k % 2 == 1) e in
+    turns (bit_of coin level) (sym same ∙ h.bit)
+  where
+    turns : (b : Bool) → b ≡ not b → ⊥
+    turns true bad = cc bad
+    turns false bad = cc bad
+
+pub way-start : (dig : List ℕ → List ℕ) (coin : ℕ) (leaf : List ℕ) (entries : List Entry) (digest : List ℕ) → digest ≡ dig (leaf_string leaf)
+    → digest ≡ subtree_digest dig 0 (part_at 0 coin (with_leaf entries coin leaf))
+way-start dig coin leaf entries digest is =
+    rw (digest-leaf dig coin (with_leaf entries coin leaf), leaf_of-with_leaf entries coin leaf) is
+
+pub way-up : (dig : List ℕ → List ℕ) (coin level : ℕ) (leaf : List ℕ) (entries : List Entry) (digest sibling string above : List ℕ) (turn : Bool)
+    → coin < 2 ^ 64 → level < 64 → IsMap entries
+    → digest ≡ subtree_digest dig level (part_at level coin (with_leaf entries coin leaf))
+    → sibling ≡ subtree_digest dig level (part_at level (bit_xor coin (2 ^ level)) entries) → turn ≡ bit_of coin level
+    → string ≡ parent_string turn digest sibling → above ≡ dig string
+    → above ≡ subtree_digest dig (level + 1) (part_at (level + 1) coin (with_leaf entries coin leaf))
+way-up dig coin level leaf entries digest sibling string above turn lt in_tree map digest_is sibling_is turn_is string_is above_is =
+    let other = bit_xor coin (2 ^ level) in
+    let h = IsSibling-xor coin level lt in_tree in
+    let apart = sibling-apart coin other level h in
+    let e : level + 1 ≡ suc level = omega arith in
+    rw (e, digest-above dig coin other level (with_leaf entries coin leaf) h, part_at-other coin other level leaf entries map apart,
+      ← digest_is, ← sibling_is, ← turn_is, ← string_is) above_is

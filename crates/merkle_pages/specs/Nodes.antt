@@ -12,9 +12,9 @@ use Rattle.merkle_pages.specs.declared.pages.PageName.{PageName}
 unfoldable pub part_at : ℕ → ℕ → List Entry → List Entry
 part_at level coin entries = filter (λ entry. entry.coin / 2 ^ level == coin / 2 ^ level) entries
 
--- a tree as callers see it: the digest that it was made with, and the map that it stands for
-pub record DigestedMap : Type 0 where
-  pub digest_of : List ℕ → List ℕ
+-- a tree as callers see it: the hash that it was made with, and the map that it stands for
+pub record HashedMap (H : Type 0) : Type 0 where
+  pub hash : H
   pub entries : List Entry
 
 -- the root and the nodes of the levels below it are kept: what no page keeps is the default of its level

@@ -8,6 +8,8 @@
 #![tactic(auto)]
 
 mod pages;
+#[cfg(test)]
+mod tests;
 mod tree;
 
 pub use tree::PagedTree;

@@ -28,11 +28,11 @@ pub struct PagedTree<H: Hash32 + Copy> {
 }
 
 impl<H: Hash32 + Copy> Model for PagedTree<H> {
-    ghost use Rattle.merkle_pages.specs.Nodes.{DigestedMap, KeepsNodes};
+    ghost use Rattle.merkle_pages.specs.Nodes.{HashedMap, KeepsNodes};
 
-    ghost Value = { DigestedMap };
+    ghost Value = { HashedMap H };
 
-    ghost view = { λ t. record { digest_of = H.digest_of t.hash; entries = t.leaves } };
+    ghost view = { λ t. record { hash = t.hash; entries = t.leaves } };
 
     ghost invariant = { λ t. KeepsNodes (H.digest_of t.hash) t.leaves t.defaults t.root t.pages };
 }
@@ -40,7 +40,7 @@ impl<H: Hash32 + Copy> Model for PagedTree<H> {
 impl<H: Hash32 + Copy> PagedTree<H> {
     /// The map without a leaf. It takes no memory and makes 65 digests.
     pub fn new(alloc: Global, h: H) -> PagedTree<H>
-        ensures { result ≡ record { digest_of = H.digest_of h; entries = [] } }
+        ensures { result ≡ record { hash = h; entries = [] } }
     {
         let defaults = defaults(&h);
         let root = node_digest(&h, &defaults[63], &defaults[63]);
@@ -73,7 +73,7 @@ impl<H: Hash32 + Copy> PagedTree<H> {
     pub fn put(&mut self, coin: u64, leaf: &[u8]) -> Result<(), NoMemory>
         ensures ok { OnOk result (self.new.entries ≡ with_leaf self.old.entries coin leaf.now) }
         ensures err { OnErr result (self.new.entries ≡ self.old.entries) }
-        ensures digest { self.new.digest_of ≡ self.old.digest_of }
+        ensures hash { self.new.hash ≡ self.old.hash }
     {
         let digests = self.digests_with(coin, leaf);
         make_rooms(self.alloc, &mut self.pages, coin)?;
@@ -93,7 +93,7 @@ impl<H: Hash32 + Copy> PagedTree<H> {
 
     /// The root, lent. It makes no digest.
     pub fn root(&self) -> &[u8; 32]
-        ensures { result.now ≡ root_of self.now.digest_of self.now.entries }
+        ensures { result.now ≡ root_of (H.digest_of self.now.hash) self.now.entries }
     {
         &self.root
     }
@@ -103,7 +103,7 @@ impl<H: Hash32 + Copy> PagedTree<H> {
     /// makes no digest.
     pub fn node(&self, level: u32, coin: u64) -> &[u8; 32]
         requires { level ≤ 64 }
-        ensures { result.now ≡ subtree_digest self.now.digest_of level (part_at level coin self.now.entries) }
+        ensures { result.now ≡ subtree_digest (H.digest_of self.now.hash) level (part_at level coin self.now.entries) }
     {
         let level = level as usize;
         if level == 64 {
@@ -118,11 +118,11 @@ impl<H: Hash32 + Copy> PagedTree<H> {
     /// The proof of what the map has at the coin, a leaf or none. It makes no digest.
     pub fn prove(&self, coin: u64) -> Result<Proof, NoMemory>
         ensures path { IfOk result
-            (λ proof. proof_path self.now.digest_of proof ≡ path_to self.now.digest_of coin self.now.entries) }
+            (λ proof. proof_path (H.digest_of self.now.hash) proof ≡ path_to (H.digest_of self.now.hash) coin self.now.entries) }
         ensures opens { IfOk result (λ proof. IsTrue
-            (is_opening self.now.digest_of (root_of self.now.digest_of self.now.entries) coin
-            (leaf_of self.now.entries coin) (proof_path self.now.digest_of proof))) }
-        ensures canonical { IfOk result (λ proof. IsTrue (is_canonical self.now.digest_of proof)) }
+            (is_opening (H.digest_of self.now.hash) (root_of (H.digest_of self.now.hash) self.now.entries) coin
+            (leaf_of self.now.entries coin) (proof_path (H.digest_of self.now.hash) proof))) }
+        ensures canonical { IfOk result (λ proof. IsTrue (is_canonical (H.digest_of self.now.hash) proof)) }
     {
         let mut path = [[0; 32]; 64];
         for level in 0..64 {
@@ -134,7 +134,7 @@ impl<H: Hash32 + Copy> PagedTree<H> {
     // The digests on the way up from a coin, from its leaf to the root, once it has that leaf.
     fn digests_with(&self, coin: u64, leaf: &[u8]) -> [[u8; 32]; 65]
         ensures { (level : ℕ) → level ≤ 64 → slice_index_or result level []
-            ≡ subtree_digest self.now.digest_of level (part_at level coin (with_leaf self.now.entries coin leaf.now)) }
+            ≡ subtree_digest (H.digest_of self.now.hash) level (part_at level coin (with_leaf self.now.entries coin leaf.now)) }
     {
         let mut digests = [[0; 32]; 65];
         digests[0] = leaf_digest(&self.hash, leaf);
