@@ -28,6 +28,7 @@ fn is_decimal(word: &[u8]) -> bool
 
 /// The number that a word spells: decimal digits without a leading zero, or `0`, at most
 /// 18446744073709551615.
+#[inline]
 pub fn number(word: &[u8]) -> Option<u64>
     ensures { result ≡ number_in word.now }
 {

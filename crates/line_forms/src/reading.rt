@@ -1,4 +1,4 @@
-ghost use Rattle.std.specs.Prelude.{◌≡◌, ◌&&◌, ◌||◌, nat_le, ◌∷◌, Some, None, Err, IfOk};
+ghost use Rattle.std.specs.Prelude.{◌≡◌, ◌≢◌, ◌&&◌, ◌||◌, nat_le, ◌∷◌, Some, None, Err, IfOk};
 ghost use Rattle.std.specs.List.{list_all};
 ghost use Rattle.line_forms.specs.Forms.{takes};
 ghost use Rattle.line_forms.specs.Tokens.{number, number_within, name, hex, hex_of, key, to, bytes, shown, outcomes, outcome, optional_number, optional_pair, some_bytes, is_letter, is_name, name_in, hex_of_in, hex_or_name_in, number_within_in, item_in, bytes_in, shown_in, some_bytes_in};
@@ -159,9 +159,11 @@ fn outcome_of(
 /// its kind. After a refusal nothing is said of the words that are left.
 impl<'a> Words<'a> {
     /// `<number>`: decimal digits without a leading zero, or `0`, at most 18446744073709551615.
+    #[inline]
     pub fn number(&mut self) -> Result<u64, LineRefusal>
         ensures found { IfOk result (λ value. number.take self.old ≡ Some (value, self.new)) }
         ensures bad { result ≡ Err LineRefusal.BadLine → number.take self.old ≡ None }
+        ensures no_memory_wanted { result ≢ Err LineRefusal.NoMemory }
     {
         let word = self.next().ok_or(LineRefusal::BadLine)?;
         number(word).ok_or(LineRefusal::BadLine)
@@ -171,6 +173,7 @@ impl<'a> Words<'a> {
     pub fn number_within(&mut self, low: u64, high: u64) -> Result<u64, LineRefusal>
         ensures found { IfOk result (λ value. (number_within low high).take self.old ≡ Some (value, self.new)) }
         ensures bad { result ≡ Err LineRefusal.BadLine → (number_within low high).take self.old ≡ None }
+        ensures no_memory_wanted { result ≢ Err LineRefusal.NoMemory }
     {
         let word = self.next().ok_or(LineRefusal::BadLine)?;
         number_within_in(low, high, word).ok_or(LineRefusal::BadLine)
@@ -262,6 +265,7 @@ impl<'a> Words<'a> {
     pub fn optional_number(&mut self) -> Result<Option<u64>, LineRefusal>
         ensures found { IfOk result (λ value. optional_number.take self.old ≡ Some (value, self.new)) }
         ensures bad { result ≡ Err LineRefusal.BadLine → optional_number.take self.old ≡ None }
+        ensures no_memory_wanted { result ≢ Err LineRefusal.NoMemory }
     {
         if self.is_empty() {
             return Ok(None);
@@ -273,6 +277,7 @@ impl<'a> Words<'a> {
     pub fn optional_pair(&mut self) -> Result<Option<(u64, u64)>, LineRefusal>
         ensures found { IfOk result (λ value. optional_pair.take self.old ≡ Some (value, self.new)) }
         ensures bad { result ≡ Err LineRefusal.BadLine → optional_pair.take self.old ≡ None }
+        ensures no_memory_wanted { result ≢ Err LineRefusal.NoMemory }
     {
         if self.is_empty() {
             return Ok(None);

@@ -23,6 +23,7 @@ impl<'a> Model for Words<'a> {
 }
 
 // The place of the first blank.
+#[inline]
 fn blank_in(text: &[u8]) -> Option<usize>
     ensures { result ≡ position (λ byte. byte == 32) text.now }
 {
@@ -38,6 +39,7 @@ impl<'a> Words<'a> {
     }
 
     /// The next word; `None` where none is left.
+    #[inline]
     pub fn next(&mut self) -> Option<&'a [u8]>
         ensures { MatchOption result ((self.old ≡ []) × (self.new ≡ [])) (λ word. self.old ≡ word.now ∷ self.new) }
     {

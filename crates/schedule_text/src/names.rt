@@ -8,13 +8,13 @@ pub enum LineName {
     Call,
 }
 
-/// The first words of lines.
+/// The first words of lines, those that come often first.
 pub const LINE_NAMES: [(&[u8], LineName); 5] = [
-    (b"chain", LineName::Chain),
-    (b"fund", LineName::Fund),
-    (b"tick", LineName::Tick),
-    (b"money", LineName::Money),
     (b"call", LineName::Call),
+    (b"tick", LineName::Tick),
+    (b"fund", LineName::Fund),
+    (b"money", LineName::Money),
+    (b"chain", LineName::Chain),
 ];
 
 /// The first word of a form of a call.
