@@ -2,9 +2,9 @@
 use Rattle.std.proofs.Common.{◌≡◌, ℕ, zero, suc, ◌+◌, ◌<◌, ◌&&◌, not, Bool, true, false, if◌then◌else◌, List, [], ◌∷◌, length, take, Option, Some, None, Ok, Err, refl, ap, ◌∙◌, subst, arith}
 use Rattle.std.specs.Prelude.{slice_get, option_map, option_and_then}
 use Rattle.std.specs.List.{filter_map, cons_option}
-use Rattle.root_rules.specs.declared.call.RootCall.{RootCall}
-use Rattle.root_rules.specs.Chain.{Chain, rules_of}
-use Rattle.root_rules.specs.Table.{Rules, log_after_all}
+use Rattle.deposit_rules.specs.declared.call.RootCall.{RootCall}
+use Rattle.deposit_rules.specs.Chain.{Chain, rules_of}
+use Rattle.deposit_rules.specs.Table.{Rules, log_after_all}
 use Rattle.replay_run.specs.declared.reply.Ending.{Ending}
 use Rattle.replay_run.specs.declared.reply.Ending.TheVariants.{BadLine, ReadFault, TooLong}
 use Rattle.replay_run.specs.declared.reply.Reply.{Reply}

@@ -7,7 +7,7 @@ use Rattle.std.proofs.lemmas.List.{take-append-drop, append-nil}
 use Rattle.plasma_outside.specs.declared.sink.SinkRefusal.{SinkRefusal}
 use Rattle.plasma_outside.specs.declared.sink.SinkRefusal.TheVariants.{Failed, NoMemory as WantsMemory}
 use Rattle.plasma_outside.specs.Outside.{Puts, Takes}
-use Rattle.root_rules.specs.Chain.{Chain}
+use Rattle.deposit_rules.specs.Chain.{Chain}
 use Rattle.replay_run.specs.declared.reply.Reply.{Reply}
 use Rattle.replay_run.specs.declared.reply.Ending.{Ending}
 use Rattle.replay_run.specs.declared.reply.Ending.TheVariants.{Complete, BadLine, ReadFault, TooLong}

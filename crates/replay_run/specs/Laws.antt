@@ -1,9 +1,9 @@
 -- What holds of the lines of an input and of the replies of a trace, in words of their own.
 use Rattle.std.specs.Prelude.{◌≡◌, ◌≢◌, ◌⊎◌, ℕ, ◌+◌, Bool, List, [], ◌∷◌, ◌++◌, take, slice_get, EachIndex, Option, Some, None, option_map}
 use Rattle.std.specs.List.{All, concat, filter_map}
-use Rattle.root_rules.specs.declared.call.RootCall.{RootCall}
-use Rattle.root_rules.specs.Table.{Rules, answer_to, log_after_all}
-use Rattle.root_rules.specs.Money.{balance_of}
+use Rattle.deposit_rules.specs.declared.call.RootCall.{RootCall}
+use Rattle.deposit_rules.specs.Table.{Rules, answer_to, log_after_all}
+use Rattle.deposit_rules.specs.Money.{balance_of}
 use Rattle.replay_run.specs.declared.reply.Reply.{Reply}
 use Rattle.replay_run.specs.declared.reply.Reply.TheVariants.{Chain as ChainReply, Money, Answered}
 use Rattle.replay_run.specs.Lines.{lines_in, text_of}

@@ -2,10 +2,10 @@
 use Rattle.std.specs.Prelude.{ℕ, List, [], ◌∷◌, ◌++◌, codes}
 use Rattle.std.specs.List.{flat_map}
 use Rattle.line_forms.specs.Tokens.{number_text}
-use Rattle.root_rules.specs.declared.call.Answer.{Answer}
-use Rattle.root_rules.specs.declared.call.Answer.TheVariants.{Funded, Ticked, Deposited, Started, Paid, Dropped, Refused, NoMemory}
-use Rattle.root_rules.specs.declared.call.Refusal.{Refusal}
-use Rattle.root_rules.specs.declared.call.Refusal.TheVariants.{SumTooLarge, ClockBack, ClockTooLarge, BadAmount, BadKey, NoFunds, TooManyBlocks, NoCoin, Withdrawn, BadBlock, NotOwner, ExitStands, NoExit, Early}
+use Rattle.deposit_rules.specs.declared.call.Answer.{Answer}
+use Rattle.deposit_rules.specs.declared.call.Answer.TheVariants.{Funded, Ticked, Deposited, Started, Paid, Dropped, Refused, NoMemory}
+use Rattle.deposit_rules.specs.declared.call.Refusal.{Refusal}
+use Rattle.deposit_rules.specs.declared.call.Refusal.TheVariants.{SumTooLarge, ClockBack, ClockTooLarge, BadAmount, BadKey, NoFunds, TooManyBlocks, NoCoin, Withdrawn, BadBlock, NotOwner, ExitStands, NoExit, Early}
 use Rattle.replay_run.specs.declared.reply.Reply.{Reply}
 use Rattle.replay_run.specs.declared.reply.Reply.TheVariants.{Chain, Money, Answered}
 use Rattle.replay_run.specs.declared.reply.Ending.{Ending}

@@ -1,11 +1,11 @@
 -- What the lines of a schedule are answered: the trace.
 use Rattle.std.specs.Prelude.{ℕ, ◌+◌, ◌&&◌, not, Bool, if◌then◌else◌, List, [], ◌∷◌, ◌++◌, length, replicate, Option, Some, None, Result, Ok, Err, option_map, option_and_then}
 use Rattle.std.specs.Int.{w64, to_be_bytes}
-use Rattle.root_rules.specs.declared.call.RootCall.{RootCall}
-use Rattle.root_rules.specs.declared.call.RootCall.TheVariants.{Fund, Tick, Deposit, StartDeposit, Finish}
-use Rattle.root_rules.specs.Chain.{Chain, rules_of, with_log}
-use Rattle.root_rules.specs.Table.{answer_to, log_after}
-use Rattle.root_rules.specs.Money.{balance_of}
+use Rattle.deposit_rules.specs.declared.call.RootCall.{RootCall}
+use Rattle.deposit_rules.specs.declared.call.RootCall.TheVariants.{Fund, Tick, Deposit, StartDeposit, Finish}
+use Rattle.deposit_rules.specs.Chain.{Chain, rules_of, with_log}
+use Rattle.deposit_rules.specs.Table.{answer_to, log_after}
+use Rattle.deposit_rules.specs.Money.{balance_of}
 use Rattle.schedule_text.specs.declared.line.Line.{Line}
 use Rattle.schedule_text.specs.declared.line.Line.TheVariants.{Chain as ChainLine, Fund as FundLine, Tick as TickLine, Money as MoneyLine, Call as CallLine}
 use Rattle.schedule_text.specs.declared.line.CallForm.{CallForm}

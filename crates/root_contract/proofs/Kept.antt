@@ -2,24 +2,24 @@
 use Rattle.std.proofs.Common.{◌≡◌, ℕ, ◌+◌, ◌-◌, ◌≤◌, ◌==◌, Bool, true, false, cond, if◌then◌else◌, List, [], ◌∷◌, ◌++◌, length, Option, Some, None, inl, inr, refl, sym, ap, ◌∙◌, subst, arith, length-append}
 use Rattle.std.specs.List.{list_any}
 use Rattle.std.proofs.lemmas.Bool.{cases_eq, eq-eqb, ne_eqb, ltb-false}
-use Rattle.root_rules.specs.declared.TheConstants.{EXIT_BOND, LAST_TIME, MOST_MONEY}
-use Rattle.root_rules.specs.declared.call.Coin.{Coin}
-use Rattle.root_rules.specs.declared.call.Exit.{Exit}
-use Rattle.root_rules.specs.declared.call.Movement.{Movement}
-use Rattle.root_rules.specs.declared.call.RootCall.{RootCall}
-use Rattle.root_rules.specs.declared.call.RootCall.TheVariants.{Fund, Tick, Deposit, StartDeposit, Finish}
-use Rattle.root_rules.specs.declared.call.Answer.TheVariants.{Funded, Ticked}
-use Rattle.root_rules.specs.Views.{now, blocks, coins, coin_at, exits, exit_at, is_withdrawn, without}
-use Rattle.root_rules.specs.Money.{moved, amount_of, finish_pays, pays, takes, share_of, balance_of, funded}
-use Rattle.root_rules.specs.Table.{answer_to, is_accepted, fund_causes, tick_causes}
-use Rattle.root_rules.specs.Chain.{Chain, rules_of, with_log}
-use Rattle.root_rules.specs.Laws.{IsLegal}
-use Rattle.root_rules.proofs.Accepted.{none_holds, deposit_covered, starts, finishes}
-use Rattle.root_rules.proofs.Kept.{covered, finish-covered}
-use Rattle.root_rules.proofs.Sums.{total}
+use Rattle.deposit_rules.specs.declared.TheConstants.{EXIT_BOND, LAST_TIME, MOST_MONEY}
+use Rattle.deposit_rules.specs.declared.call.Coin.{Coin}
+use Rattle.deposit_rules.specs.declared.call.Exit.{Exit}
+use Rattle.deposit_rules.specs.declared.call.Movement.{Movement}
+use Rattle.deposit_rules.specs.declared.call.RootCall.{RootCall}
+use Rattle.deposit_rules.specs.declared.call.RootCall.TheVariants.{Fund, Tick, Deposit, StartDeposit, Finish}
+use Rattle.deposit_rules.specs.declared.call.Answer.TheVariants.{Funded, Ticked}
+use Rattle.deposit_rules.specs.Views.{now, blocks, coins, coin_at, exits, exit_at, is_withdrawn, without}
+use Rattle.deposit_rules.specs.Money.{moved, amount_of, finish_pays, pays, takes, share_of, balance_of, funded}
+use Rattle.deposit_rules.specs.Table.{answer_to, is_accepted, fund_causes, tick_causes}
+use Rattle.deposit_rules.specs.Chain.{Chain, rules_of, with_log}
+use Rattle.deposit_rules.specs.Laws.{IsLegal}
+use Rattle.deposit_rules.proofs.Accepted.{none_holds, deposit_covered, starts, finishes}
+use Rattle.deposit_rules.proofs.Kept.{covered, finish-covered}
+use Rattle.deposit_rules.proofs.Sums.{total}
 use Rattle.root_contract.specs.Agreement.{State, IsStarted, Agrees}
 use Rattle.root_contract.proofs.Places.{coin_in-push, list_any-push, all-push}
-use Rattle.root_rules.proofs.Exits.{all-without, without-none}
+use Rattle.deposit_rules.proofs.Exits.{all-without, without-none}
 
 abbrev pub Accepted : Chain → RootCall → Type 0
 Accepted chain call = is_accepted (answer_to (rules_of chain) chain.log call) ≡ true

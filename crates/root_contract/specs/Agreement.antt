@@ -1,13 +1,13 @@
 -- The contract's fields are what its log says.
 use Rattle.std.specs.Prelude.{◌≡◌, ℕ, ◌≤◌, ◌==◌, List, length}
 use Rattle.std.specs.List.{AllByRecursion, list_any}
-use Rattle.root_rules.specs.declared.TheConstants.{LAST_TIME, MOST_MONEY}
-use Rattle.root_rules.specs.declared.call.Coin.{Coin}
-use Rattle.root_rules.specs.declared.call.Exit.{Exit}
-use Rattle.root_rules.specs.Views.{now, blocks, coins, coin_at, exits, is_withdrawn}
-use Rattle.root_rules.specs.Money.{balance_of, funded}
-use Rattle.root_rules.specs.Chain.{Chain, rules_of}
-use Rattle.root_rules.specs.Laws.{IsLegal}
+use Rattle.deposit_rules.specs.declared.TheConstants.{LAST_TIME, MOST_MONEY}
+use Rattle.deposit_rules.specs.declared.call.Coin.{Coin}
+use Rattle.deposit_rules.specs.declared.call.Exit.{Exit}
+use Rattle.deposit_rules.specs.Views.{now, blocks, coins, coin_at, exits, is_withdrawn}
+use Rattle.deposit_rules.specs.Money.{balance_of, funded}
+use Rattle.deposit_rules.specs.Chain.{Chain, rules_of}
+use Rattle.deposit_rules.specs.Laws.{IsLegal}
 use Rattle.root_contract.specs.Entries.{amount_in}
 use Rattle.root_contract.specs.Lists.{coin_in}
 use Rattle.root_contract.specs.declared.contract.Contract.TheInside.{Inside}

@@ -1,6 +1,6 @@
 -- What the contract's lists hold.
 use Rattle.std.specs.Prelude.{ℕ, ◌-◌, ◌==◌, if◌then◌else◌, List, Option, None, slice_get}
-use Rattle.root_rules.specs.declared.call.Coin.{Coin}
+use Rattle.deposit_rules.specs.declared.call.Coin.{Coin}
 
 -- coin c, counted from 1
 abbrev pub coin_in : List Coin → ℕ → Option Coin

@@ -1,18 +1,18 @@
 ghost use Rattle.std.specs.Prelude.{◌≡◌, ◌≢◌, ◌+◌, ◌^◌, ◌<◌, ◌≤◌, ◌∷◌, [], true, option_to_list, IfSome, OnOk, OnErr};
-ghost use Rattle.root_rules.specs.Views.{now, blocks, coins, coin_at, exit_at, is_withdrawn};
-ghost use Rattle.root_rules.specs.Money.{balance_of, funded, finish_pays, amount_of};
-ghost use Rattle.root_rules.specs.Table.{decided, fund_causes, tick_causes, deposit_causes, start_deposit_answer, finish_answer, answer_to, is_accepted, log_after};
-ghost use Rattle.root_rules.specs.Chain.{rules_of, with_log};
-ghost use Rattle.root_rules.specs.Laws.{IsLegal};
+ghost use Rattle.deposit_rules.specs.Views.{now, blocks, coins, coin_at, exit_at, is_withdrawn};
+ghost use Rattle.deposit_rules.specs.Money.{balance_of, funded, finish_pays, amount_of};
+ghost use Rattle.deposit_rules.specs.Table.{decided, fund_causes, tick_causes, deposit_causes, start_deposit_answer, finish_answer, answer_to, is_accepted, log_after};
+ghost use Rattle.deposit_rules.specs.Chain.{rules_of, with_log};
+ghost use Rattle.deposit_rules.specs.Laws.{IsLegal};
 ghost use Rattle.root_contract.specs.Agreement.{IsStarted};
 
 use super::balances::Balances;
 use super::lists::{coin_in, exit_in, is_among, is_key, push_reserved, remove_exit};
-use plasma_base::NoMemory;
-use root_rules::{
+use deposit_rules::{
     Answer, Coin, EXIT_BOND, EXIT_PERIOD, Exit, LAST_TIME, MOST_MONEY, Movement, Owner, Refusal,
     RootCall, RootLog,
 };
+use plasma_base::NoMemory;
 use std::alloc::Global;
 use std::marker::Model;
 
@@ -29,7 +29,7 @@ pub struct Contract {
 }
 
 impl Model for Contract {
-    ghost use Rattle.root_rules.specs.Chain.{Chain};
+    ghost use Rattle.deposit_rules.specs.Chain.{Chain};
 
     ghost Value = { Chain };
 
@@ -57,7 +57,7 @@ impl Contract {
     }
 
     /// The accepted calls, and what the contract was made with. Each was accepted after those before
-    /// it, so the laws of `root_rules` on such logs hold of it.
+    /// it, so the laws of `deposit_rules` on such logs hold of it.
     pub fn log(&self) -> &RootLog
         ensures chain { result.now ≡ self.now }
         ensures legal { IsLegal (rules_of self.now) self.now.log }
@@ -74,7 +74,7 @@ impl Contract {
 
     /// Answers a call. A refusal names the first cause that holds, and neither it nor `NoMemory`
     /// changes anything; an accepted call is appended to the log.
-    #[tactic(auto, unfolding(root_rules::specs::Table::log_after))]
+    #[tactic(auto, unfolding(deposit_rules::specs::Table::log_after))]
     pub fn call(&mut self, call: &RootCall) -> Answer
         ensures answer { result ≢ Answer.NoMemory → result ≡ answer_to (rules_of self.old) self.old.log call.now }
         ensures log { result ≢ Answer.NoMemory
@@ -144,7 +144,7 @@ impl Contract {
     }
 
     /// The answer to a call, where memory suffices.
-    #[tactic(auto, unfolding(root_rules::specs::Table::answer_to))]
+    #[tactic(auto, unfolding(deposit_rules::specs::Table::answer_to))]
     fn answer(&self, call: &RootCall) -> Answer
         ensures { result ≡ answer_to (rules_of self.now) self.now.log call.now }
     {
@@ -290,7 +290,7 @@ impl Contract {
     }
 
     /// Carries out a call that is accepted.
-    #[tactic(auto, unfolding(root_rules::specs::Table::answer_to))]
+    #[tactic(auto, unfolding(deposit_rules::specs::Table::answer_to))]
     fn accept(&mut self, call: &RootCall) -> Result<(), NoMemory>
         requires { is_accepted (answer_to (rules_of self.old) self.old.log call.now) ≡ true }
         ensures ok { OnOk result (self.new ≡ with_log self.old (call.now ∷ self.old.log)) }

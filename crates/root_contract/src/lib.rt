@@ -1,5 +1,5 @@
 //! The root contract: it keeps the log of accepted calls and answers each further call by the rules
-//! of `root_rules`, whose types it passes on.
+//! of `deposit_rules`, whose types it passes on.
 #![tactic(auto)]
 
 mod balances;
@@ -7,4 +7,4 @@ mod contract;
 mod lists;
 
 pub use contract::Contract;
-pub use root_rules::{Answer, Coin, Exit, Owner, Refusal, RootCall, RootLog};
+pub use deposit_rules::{Answer, Coin, Exit, Owner, Refusal, RootCall, RootLog};

@@ -1,12 +1,12 @@
 ghost use Rattle.std.specs.Prelude.{◌≡◌, ◌<◌, ◌==◌, ◌++◌, ◌∷◌, [], find, vec_len, vec_capacity};
 ghost use Rattle.std.specs.Option.{option_copied};
 ghost use Rattle.std.specs.List.{list_any};
-ghost use Rattle.root_rules.specs.Views.{is_exit, without};
-ghost use Rattle.root_rules.specs.Table.{is_key};
+ghost use Rattle.deposit_rules.specs.Views.{is_exit, without};
+ghost use Rattle.deposit_rules.specs.Table.{is_key};
 ghost use Rattle.root_contract.specs.Lists.{coin_in};
 
+use deposit_rules::{Coin, Exit};
 use lms_sign::PublicKey;
-use root_rules::{Coin, Exit};
 
 /// Coin `c`, counted from 1.
 pub fn coin_in(coins: &[Coin], c: u64) -> Option<Coin>

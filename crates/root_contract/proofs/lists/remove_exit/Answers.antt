@@ -1,6 +1,6 @@
 use Rattle.std.proofs.Common.{rules, not}
 use Rattle.std.proofs.lemmas.Fn.{filter_same}
-use Rattle.root_rules.specs.Views.{is_exit}
+use Rattle.deposit_rules.specs.Views.{is_exit}
 use Rattle.root_contract.proofs.lists.remove_exit.Goals as goal
 
 pub returns : goal.returns

@@ -1,8 +1,8 @@
 use Rattle.std.proofs.Common.{◌≡◌, ◌∙◌, sym, ap, true, inl, inr, ◌∷◌, Bool, if◌then◌else◌}
 use Rattle.std.proofs.lemmas.Bool.{false≢true}
-use Rattle.root_rules.specs.Table.{answer_to, is_accepted, log_after}
-use Rattle.root_rules.specs.Chain.{rules_of, with_log}
-use Rattle.root_rules.proofs.Accepted.{answer-cases}
+use Rattle.deposit_rules.specs.Table.{answer_to, is_accepted, log_after}
+use Rattle.deposit_rules.specs.Chain.{rules_of, with_log}
+use Rattle.deposit_rules.proofs.Accepted.{answer-cases}
 use Rattle.root_contract.proofs.contract.Contract.call.Goals as goal
 
 pub accept-requires : goal.accept-requires

@@ -1,6 +1,6 @@
 use Rattle.std.proofs.Common.{arith}
 use Rattle.std.proofs.lemmas.Grind.{common_steps}
-use Rattle.root_rules.specs.Views.{exit_at, is_exit}
+use Rattle.deposit_rules.specs.Views.{exit_at, is_exit}
 use Rattle.root_contract.specs.Agreement.{IsStarted}
 use Rattle.root_contract.proofs.Places.{found_if}
 use Rattle.root_contract.proofs.contract.Contract.exit_at.Goals as goal

@@ -1,5 +1,5 @@
 use Rattle.std.proofs.Common.{◌-◌, ◌∙◌, ap, arith}
-use Rattle.root_rules.specs.declared.TheConstants.{EXIT_BOND}
+use Rattle.deposit_rules.specs.declared.TheConstants.{EXIT_BOND}
 use Rattle.root_contract.specs.Entries.{amount_in}
 use Rattle.root_contract.proofs.Kept.{kept-StartDeposit, sets-one, bond-le}
 use Rattle.root_contract.proofs.contract.Contract.start_deposit.Goals as goal
