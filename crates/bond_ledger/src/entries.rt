@@ -49,7 +49,8 @@ pub fn set(entries: &mut BTreeMap<u64, Sums>, account: u64, sums: Sums)
     requires { IsTrue (is_known_in entries.old account) }
     ensures known { (a : ℕ) → is_known_in entries.new a ≡ is_known_in entries.old a }
     ensures sums { (a : ℕ) → sums_in entries.new a ≡ (if account == a then sums else sums_in entries.old a) }
-    ensures money { money_in entries.new + money_of (sums_in entries.old account) ≡ money_in entries.old + money_of sums }
+    ensures money { money_in entries.new + money_of (sums_in entries.old account)
+        ≡ money_in entries.old + money_of sums }
 {
     let _ = entries.insert(account, sums);
 }

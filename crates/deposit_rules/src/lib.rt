@@ -1,5 +1,6 @@
-//! The rules of the root contract for deposits and their exits, as definitions: what a log of accepted calls says, the answer to
-//! each further call, and the money of every account. Its laws hold of every list of calls.
+//! The rules of the root contract for deposits and their exits, as definitions: what a log of accepted
+//! calls says, the answer to each further call, and the money of every account. Its laws hold of every
+//! list of calls.
 #![tactic(auto)]
 
 mod call;

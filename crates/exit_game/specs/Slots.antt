@@ -37,4 +37,5 @@ IsUnchallengedAt block (Some slot) = challenge_at block slot.challenges ≡ None
 
 abbrev pub IsOpenAt : ℕ → Option Slot → Type 0
 IsOpenAt block None = ⊥
-IsOpenAt block (Some slot) = (challenge : Challenge) × (challenge_at block slot.challenges ≡ Some challenge) × (challenge.answered ≡ false)
+IsOpenAt block (Some slot) =
+    (challenge : Challenge) × (challenge_at block slot.challenges ≡ Some challenge) × (challenge.answered ≡ false)

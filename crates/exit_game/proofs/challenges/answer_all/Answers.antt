@@ -21,7 +21,8 @@ loop-challenge-preserved c =
     let i : ℕ = c.loop-challenge.challenge-index in
     let xs : List Challenge = c.args.challenges.now.items in
     let now : List Challenge = c.loop-challenge.challenge-items in
-    let nothing : Challenge = record { block = 0; owner = record { account = 0; key = [] }; by = 0; at = 0; answered = false } in
+    let nothing : Challenge =
+    record { block = 0; owner = record { account = 0; key = [] }; by = 0; at = 0; answered = false } in
     let item : Challenge = slice_index_or now i nothing in
     let within : i < length xs =
     omega (arith, c.loop-challenge-test.true, ap length c.deref_mut-challenge-items.ensures.value) in
