@@ -1,4 +1,2 @@
-mod Fitting
-mod Images
-mod Lives
-mod Binding
+pub mod Messages
+pub mod Form

@@ -1,5 +1,2 @@
-pub mod Messages
-pub mod Life
-pub mod Leaves
-pub mod Laws
+pub mod Records
 pub mod Sound

@@ -1,15 +1,7 @@
-//! The leaves of a key over a disk: each signs at most one message, whatever fails or crashes.
+//! The leaves of a key, each bound to one message by a journal: a message is on the disk before it is
+//! signed, and no leaf signs two.
 #![tactic(auto)]
 
-mod bound;
-mod laws;
-mod leaves;
-mod messages;
-mod refusal;
-#[cfg(test)]
-mod tests;
-
-pub use bound::Bound;
-pub use laws::{a_leaf_has_one_message, bound_messages_stay, made_journals_stay};
-pub use leaves::Leaves;
-pub use refusal::BindRefusal;
+mod reading;
+mod records;
+mod short;
