@@ -6,8 +6,7 @@ use Rattle.std.proofs.lemmas.Bool.{cases_Bool, eqb-true, eq-eqb, ltb-true, lt-lt
 use Rattle.std.proofs.lemmas.List.{take-append-drop}
 use Rattle.std.proofs.Math.Seq.{drop-cons}
 use Rattle.std.proofs.lemmas.Slice.Eq.{bytes_eq-Decides}
-use Rattle.gate_journal.specs.Image.{spelled, spelled_record}
-use Rattle.gate_journal.proofs.Crash.{spelled-push}
+use Rattle.gate_journal.specs.Image.{spelled, spelled_record, spelled_records}
 use Rattle.leaf_journal.specs.Records.{binding_record, first_length, has_number, is_marked, is_marker, leaf_records, may_follow, MayBind, messages_of, records_behind, with_number}
 use Rattle.leaf_journal.proofs.Messages.{messages-append, messages-count, other_length, marker_length}
 
@@ -143,8 +142,15 @@ follows_short leaves before body may = elim (kinds leaves before body may) [
   | inr (inr first) ↦ omega (arith, first.whole)
 ]
 
+-- a record more adds its gate, its length and its body
 pub spelled-count : (before : List (List ℕ)) (body : List ℕ) → length (spelled (before ++ body ∷ [])) ≡ length (spelled before) + (5 + length body)
-spelled-count before body = omega (arith, ap length (spelled-push before body), length-append (spelled before) (spelled_record body), length-append (to_be_bytes w32 (length body)) body)
+spelled-count [] body = omega (arith, length-append (spelled_record body) [], length-append (to_be_bytes w32 (length body)) body)
+spelled-count (first ∷ before) body = omega (
+  arith,
+  spelled-count before body,
+  length-append (spelled_record first) (spelled_records (before ++ body ∷ [])),
+  length-append (spelled_record first) (spelled_records before),
+)
 
 spelled_short : (before : List (List ℕ)) (body : List ℕ) → length (spelled before) ≤ 4 + 137 * length before → length body ≤ 132 → length (spelled (before ++ body ∷ [])) ≤ 4 + 137 * length (before ++ body ∷ [])
 spelled_short before body short most = omega (arith, short, most, spelled-count before body, length-append before (body ∷ []))

@@ -1,2 +1,5 @@
 pub mod Messages
 pub mod Form
+pub mod Binding
+pub mod Lives
+pub mod Adding

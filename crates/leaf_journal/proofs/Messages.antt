@@ -16,9 +16,9 @@ pub messages-append : (xs ys : List (List ℕ)) → messages_of (xs ++ ys) ≡ m
 messages-append [] ys = refl
 messages-append (x ∷ xs) ys = elim (is_marker x) as (λ b. cond b (map (drop 4) (xs ++ ys)) (x ∷ messages_of (xs ++ ys))
     ≡ cond b (map (drop 4) xs) (x ∷ messages_of xs) ++ cond (b || is_marked xs) (map (drop 4) ys) (messages_of ys)) [
-  | true ↦ map-append (drop 4) xs ys
-  | false ↦ ap (λ (l : List (List ℕ)). x ∷ l) (messages-append xs ys)
-]
+      | true ↦ map-append (drop 4) xs ys
+      | false ↦ ap (λ (l : List (List ℕ)). x ∷ l) (messages-append xs ys)
+    ]
 
 -- a marker is no message
 pub messages-count : (xs : List (List ℕ)) → length (messages_of xs) + cond (is_marked xs) 1 0 ≡ length xs
@@ -63,9 +63,9 @@ unfolding first_count
 first-append [] body = elim (is_marker body) as (λ b. cond b 0 1 ≡ cond b 0 (0 + 1)) [ true ↦ refl | false ↦ refl ]
 first-append (x ∷ xs) body = elim (is_marker x) as (λ b. cond b 0 (suc (first_count (xs ++ body ∷ [])))
     ≡ cond ((b || is_marked xs) || is_marker body) (cond b 0 (suc (first_count xs))) (cond b 0 (suc (first_count xs)) + 1)) [
-  | true ↦ refl
-  | false ↦ ap suc (first-append xs body) ∙ elim (is_marked xs || is_marker body) as (λ c. suc (cond c (first_count xs) (first_count xs + 1)) ≡ cond c (suc (first_count xs)) (suc (first_count xs) + 1)) [ true ↦ refl | false ↦ omega arith ]
-]
+      | true ↦ refl
+      | false ↦ ap suc (first-append xs body) ∙ elim (is_marked xs || is_marker body) as (λ c. suc (cond c (first_count xs) (first_count xs + 1)) ≡ cond c (suc (first_count xs)) (suc (first_count xs) + 1)) [ true ↦ refl | false ↦ omega arith ]
+    ]
 
 -- a test as a number
 pub byte_of : (b : Bool) → bool_byte b ≡ cond b 1 0

@@ -1,2 +1,4 @@
 pub mod Records
+pub mod Leaves
+pub mod Laws
 pub mod Sound

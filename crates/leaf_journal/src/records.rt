@@ -1,5 +1,5 @@
-ghost use Rattle.std.specs.Prelude.{◌≡◌, true, not, ◌||◌, ◌≤◌, ◌+◌, ◌<◌, ◌++◌, ◌∷◌, [], length, Ok, IfOk};
-ghost use Rattle.std.specs.Option.{option_copied};
+ghost use Rattle.std.specs.Prelude.{◌≡◌, true, not, ◌||◌, ◌≤◌, ◌+◌, ◌<◌, ◌==◌, ◌++◌, ◌∷◌, [], length, Ok, IfOk};
+ghost use Rattle.std.specs.Option.{option_copied, IfSome, OnSome};
 ghost use Rattle.std.specs.List.{slice_get};
 ghost use Rattle.leaf_journal.specs.Records.{MayBind, binding_record, has_number, is_marked, is_marker, leaf_records, marker, may_follow, messages_of};
 
@@ -75,12 +75,12 @@ impl LeafRecords {
         let _ = &self.first;
     }
 
-    /// The number of records.
-    pub fn len(&self) -> usize
-        ensures value { result ≡ length self.now.records }
-        ensures within { result ≤ self.now.leaves + 1 }
+    /// How many further records there may be: those of the leaves that aren't bound, and the marker where
+    /// it isn't there.
+    pub fn others(&self) -> u64
+        ensures { result + length self.now.records ≡ self.now.leaves + 1 }
     {
-        self.records.len()
+        u64::from(self.leaves) + 1 - self.records.len() as u64
     }
 
     /// Whether the marker is among the records.
@@ -99,9 +99,18 @@ impl LeafRecords {
         (self.records.len() - marks) as u32
     }
 
+    /// Whether every leaf is bound.
+    pub fn is_spent(&self) -> bool
+        ensures { result ≡ (length (messages_of self.now.records) == self.now.leaves) }
+    {
+        self.used() == self.leaves
+    }
+
     /// The message of a leaf.
     pub fn message(&self, q: u32) -> Option<&[u8]>
-        ensures { option_copied result ≡ slice_get (messages_of self.now.records) q }
+        ensures value { option_copied result ≡ slice_get (messages_of self.now.records) q }
+        ensures short { IfSome result (λ message. length message.now ≤ 132) }
+        ensures leaf { OnSome result (q < self.now.leaves) }
     {
         let place = q as usize;
         if place < self.first {
@@ -115,7 +124,8 @@ impl LeafRecords {
 
     // A record by its place.
     fn record_at(&self, place: usize) -> Option<&[u8]>
-        ensures { option_copied result ≡ slice_get self.now.records place }
+        ensures value { option_copied result ≡ slice_get self.now.records place }
+        ensures short { IfSome result (λ body. length body.now ≤ 132) }
     {
         let record = self.records.get(place)?;
         Some(record.as_slice())
