@@ -1,5 +1,5 @@
 -- The records that bind and migrate, behind others.
-use Rattle.std.proofs.Common.{◌≡◌, ◌≢◌, ◌<◌, ◌≤◌, ◌+◌, ℕ, true, false, cond, List, [], ◌∷◌, ◌++◌, length, take, drop, refl, sym, ◌∙◌, ap, inl, inr, arith, length-append}
+use Rattle.std.proofs.Common.{◌≡◌, ◌<◌, ◌≤◌, ◌+◌, ℕ, true, false, List, [], ◌∷◌, ◌++◌, length, take, drop, refl, ◌∙◌, ap, inl, inr, arith, length-append}
 use Rattle.std.specs.Prelude.{◌||◌}
 use Rattle.std.specs.Int.{w32, to_be_bytes}
 use Rattle.std.specs.Str.{bytes_eq}
@@ -15,18 +15,29 @@ module _ (records : List (List ℕ)) (message : List ℕ) where
   abbrev q : ℕ
   q = length (messages_of records)
 
-  second_follows : (leaves : ℕ) → is_marked records ≡ true → 1 ≤ length message → length message ≤ 128 → q < leaves → may_follow leaves records (with_number q message) ≡ true
+  second_follows : (leaves : ℕ) → is_marked records ≡ true → 1 ≤ length message → length message ≤ 128 → q < leaves
+      → may_follow leaves records (with_number q message) ≡ true
   second_follows leaves marked least most leaf =
       let whole : length (with_number q message) ≡ 4 + length message = length-append (to_be_bytes w32 q) message in
       let front : take 4 (with_number q message) ≡ to_be_bytes w32 q = take_at (to_be_bytes w32 q) message 4 refl in
-      let number : bytes_eq (take 4 (with_number q message)) (to_be_bytes w32 q) ≡ true = (bytes_eq-Decides _ _).1 front in
-      rw (marked, number, le-leb 5 (length (with_number q message)) (omega (arith, whole, least)), le-leb (length (with_number q message)) 132 (omega (arith, whole, most)), lt-ltb q leaves leaf) refl
+      let number : bytes_eq (take 4 (with_number q message)) (to_be_bytes w32 q) ≡ true = (bytes_eq-Decides _ _).1
+      front in
+      rw (
+        marked,
+        number,
+        le-leb 5 (length (with_number q message)) (omega (arith, whole, least)),
+        le-leb
+            (length (with_number q message)) 132 (omega (arith, whole, most)),
+        lt-ltb q leaves leaf,
+      ) refl
 
   plain : length message ≡ 116 → is_marker message ≡ false
   plain whole = other_length message (λ four. omega (arith, whole, four))
 
-  first_follows : (leaves : ℕ) → is_marked records ≡ false → length message ≡ 116 → q < leaves → may_follow leaves records message ≡ true
-  first_follows leaves not_marked whole leaf = rw (not_marked, plain whole, eq-eqb _ _ whole, lt-ltb q leaves leaf) refl
+  first_follows : (leaves : ℕ) → is_marked records ≡ false → length message ≡ 116 → q < leaves
+      → may_follow leaves records message ≡ true
+  first_follows leaves not_marked whole leaf = rw (not_marked, plain whole, eq-eqb _ _ whole, lt-ltb q leaves leaf)
+      refl
 
   lengths : MayBind records message → is_marked records ≡ false → length message ≡ 116
   lengths (inl whole) not_marked = whole
@@ -37,7 +48,8 @@ module _ (records : List (List ℕ)) (message : List ℕ) where
   bounds (inr second) = (second.1, second.2)
 
   -- a record that binds may follow, and binds the message to the next leaf
-  pub binding_follows : (leaves : ℕ) → MayBind records message → q < leaves → may_follow leaves records (binding_record records message) ≡ true
+  pub binding_follows : (leaves : ℕ) → MayBind records message → q < leaves
+      → may_follow leaves records (binding_record records message) ≡ true
   binding_follows leaves may leaf = elim (cases_Bool (is_marked records)) [
     | inl marked ↦ (let is : binding_record records message ≡ with_number q message = rw marked refl in
         ap (may_follow leaves records) is ∙ second_follows leaves marked (bounds may).0 (bounds may).1 leaf)
@@ -45,21 +57,25 @@ module _ (records : List (List ℕ)) (message : List ℕ) where
         ap (may_follow leaves records) is ∙ first_follows leaves not_marked (lengths may not_marked) leaf)
   ]
 
-  pub binding-messages : MayBind records message → messages_of (records ++ binding_record records message ∷ []) ≡ messages_of records ++ message ∷ []
+  pub binding-messages : MayBind records message → messages_of (records ++ binding_record records message ∷ []) ≡
+      messages_of records ++ message ∷ []
   binding-messages may = elim (cases_Bool (is_marked records)) [
     | inl marked ↦ (let is : binding_record records message ≡ with_number q message = rw marked refl in
         more-marked records (binding_record records message) marked
         ∙ ap (λ (l : List ℕ). messages_of records ++ drop 4 l ∷ []) is
         ∙ ap (λ (l : List ℕ). messages_of records ++ l ∷ []) (drop_at (to_be_bytes w32 q) message 4 refl))
     | inr not_marked ↦ (let is : binding_record records message ≡ message = rw not_marked refl in
-        ap (λ (l : List ℕ). messages_of (records ++ l ∷ [])) is ∙ more-unmarked records message not_marked (plain (lengths may not_marked)))
+        ap (λ (l : List ℕ). messages_of (records ++ l ∷ [])) is
+        ∙ more-unmarked records message not_marked (plain (lengths may not_marked)))
   ]
 
 -- so may the marker, which binds none
-pub marker_follows : (leaves : ℕ) (records : List (List ℕ)) → is_marked records ≡ false → may_follow leaves records marker ≡ true
+pub marker_follows : (leaves : ℕ) (records : List (List ℕ)) → is_marked records ≡ false
+    → may_follow leaves records marker ≡ true
 marker_follows leaves records not_marked = rw not_marked refl
 
-pub marker-messages : (records : List (List ℕ)) → is_marked records ≡ false → messages_of (records ++ marker ∷ []) ≡ messages_of records
+pub marker-messages : (records : List (List ℕ)) → is_marked records ≡ false
+    → messages_of (records ++ marker ∷ []) ≡ messages_of records
 marker-messages records not_marked = more-mark records marker (record { unmarked = not_marked; mark = refl })
 
 pub marker-marked : (records : List (List ℕ)) → is_marked (records ++ marker ∷ []) ≡ true

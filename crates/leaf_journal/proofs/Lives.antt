@@ -1,49 +1,55 @@
 -- What a journal of leaves keeps through its life.
-use Rattle.std.proofs.Common.{◌≡◌, ◌≢◌, ◌<◌, ◌≤◌, ◌^◌, ℕ, Bool, true, false, cond, List, [], ◌∷◌, ◌++◌, length, map, drop, get_or, Option, Some, None, Result, Ok, Err, refl, sym, ◌∙◌, ap, subst, arith, lit≤}
+use Rattle.std.proofs.Common.{◌≡◌, ◌≤◌, ℕ, true, false, cond, List, [], ◌∷◌, ◌++◌, length, map, drop, get_or, Some, Result, Ok, Err, refl, sym, ◌∙◌, ap, arith, lit≤}
 use Rattle.std.specs.List.{slice_get}
 use Rattle.std.specs.Result.{is_ok, result_ok}
-use Rattle.std.specs.Option.{option_and_then}
 use Rattle.std.proofs.lemmas.Option.{option_and_then_some, slice_get_within, get_or_from_slice_get}
 use Rattle.std.proofs.lemmas.List.{get_or_append_left}
-use Rattle.crash_disk.specs.Disk.{History, content}
+use Rattle.crash_disk.specs.Disk.{content}
 use Rattle.crash_disk.specs.Calls.{with_made}
-use Rattle.crash_disk.specs.Outcomes.{image_after, HasPattern}
-use Rattle.crash_disk.specs.declared.outcome.Outcome.{Outcome}
+use Rattle.crash_disk.specs.Outcomes.{image_after}
 use Rattle.crash_disk.proofs.Left.{content_may_be_left}
-use Rattle.gate_journal.specs.Image.{most, journal_in, kept_records, spelled}
+use Rattle.gate_journal.specs.Image.{most, journal_in, spelled}
 use Rattle.gate_journal.specs.Steps.{append_steps}
-use Rattle.gate_journal.specs.Journal.{Keeps, IsSettled}
+use Rattle.gate_journal.specs.Journal.{Keeps}
 use Rattle.gate_journal.specs.Laws.{is_added}
-use Rattle.gate_journal.specs.Life.{shut, records_in, after_events, Continue}
+use Rattle.gate_journal.specs.Life.{records_in, Continue}
 use Rattle.gate_journal.proofs.Lives.{in_keeps, records_stay, made_journals_stay}
-use Rattle.gate_journal.proofs.Stopped.{stopped_appends}
-use Rattle.leaf_journal.specs.Records.{are_leaf_records, binding_record, is_marked, leaf_records, leaf_records_in, leaf_records_read, marker, messages_of, MayBind}
+use Rattle.gate_journal.proofs.Crash.{stopped_appends}
+use Rattle.leaf_journal.specs.Records.{are_leaf_records, binding_record, is_marked, leaf_records, leaf_records_in, leaf_records_read, marker, messages_of}
 use Rattle.leaf_journal.specs.Laws.{ALeafHasOneMessage, BoundMessagesStay, MadeJournalsStay as LeavesStay, StoppedBinds, StoppedMigrations, life_after}
 use Rattle.leaf_journal.proofs.Messages.{messages-append}
 use Rattle.leaf_journal.proofs.Form.{all_same, one_more, follows_short}
 use Rattle.leaf_journal.proofs.Binding.{binding_follows, binding-messages, marker_follows, marker-messages, marker-marked}
 
 -- messages of records that go on go on
-messages_continue : (earlier later : List (List ℕ)) → Continue earlier later → Continue (messages_of earlier) (messages_of later)
-messages_continue earlier later on =
-    (cond (is_marked earlier) (map (drop 4) on.0) (messages_of on.0), ap messages_of on.1 ∙ messages-append earlier on.0)
+messages_continue : (earlier later : List (List ℕ)) → Continue earlier later
+    → Continue (messages_of earlier) (messages_of later)
+messages_continue earlier later on = (
+  cond (is_marked earlier) (map (drop 4) on.0) (messages_of on.0),
+  ap messages_of on.1
+      ∙ messages-append earlier on.0,
+)
 
 -- an image that keeps records of leaves
-pub in_image : (leaves : ℕ) (image : List ℕ) (records : List (List ℕ)) → Keeps records image → leaf_records leaves records ≡ Ok records → leaf_records_in leaves image ≡ Ok records
+pub in_image : (leaves : ℕ) (image : List ℕ) (records : List (List ℕ)) → Keeps records image
+    → leaf_records leaves records ≡ Ok records → leaf_records_in leaves image ≡ Ok records
 in_image leaves image records keeps are = at (journal_in image) keeps
   where
     at : (r : Result (List (List ℕ)) ℕ) → result_ok r ≡ Some records → leaf_records_read leaves r ≡ Ok records
     at (Ok read) is = (let same : read ≡ records = cc is in ap (leaf_records leaves) same ∙ are)
     at (Err place) is = absurd (cc is)
 
-pub are_kind : (leaves : ℕ) (records : List (List ℕ)) → are_leaf_records leaves records ≡ true → leaf_records leaves records ≡ Ok records
+pub are_kind : (leaves : ℕ) (records : List (List ℕ)) → are_leaf_records leaves records ≡ true
+    → leaf_records leaves records ≡ Ok records
 are_kind leaves records is = at (leaf_records leaves records) refl is
   where
-    at : (r : Result (List (List ℕ)) ℕ) → leaf_records leaves records ≡ r → is_ok r ≡ true → leaf_records leaves records ≡ Ok records
+    at : (r : Result (List (List ℕ)) ℕ) → leaf_records leaves records ≡ r → is_ok r ≡ true
+        → leaf_records leaves records ≡ Ok records
     at (Ok all) read is = read ∙ ap (λ (l : List (List ℕ)). Ok l) (sym (all_same leaves records all read))
     at (Err place) read is = absurd (cc is)
 
-in_life : (leaves : ℕ) (image : List ℕ) (records : List (List ℕ)) → records_in (are_leaf_records leaves) image ≡ Some records → leaf_records_in leaves image ≡ Ok records
+in_life : (leaves : ℕ) (image : List ℕ) (records : List (List ℕ))
+    → records_in (are_leaf_records leaves) image ≡ Some records → leaf_records_in leaves image ≡ Ok records
 in_life leaves image records is =
     let parts = in_keeps (are_leaf_records leaves) image records is in
     in_image leaves image records parts.0 (are_kind leaves records parts.1)
@@ -51,24 +57,30 @@ in_life leaves image records is =
 pub bound_messages_stay : BoundMessagesStay
 bound_messages_stay leaves disk earlier later records may is =
     let stays = records_stay (are_leaf_records leaves) disk earlier later records may is in (
-      λ image left. (let kept = stays.0 image left in (kept.0, in_life leaves image kept.0 kept.1, messages_continue records kept.0 kept.2)),
+      λ image left. (let kept = stays.0 image left in
+          (kept.0, in_life leaves image kept.0 kept.1, messages_continue records kept.0 kept.2)),
       λ others also. messages_continue records others (stays.1 others also),
     )
 
 -- a leaf of the earlier messages has its message among the later ones
-same_message : (messages others : List (List ℕ)) (leaf : ℕ) (one other : List ℕ) → Continue messages others → slice_get messages leaf ≡ Some one → slice_get others leaf ≡ Some other → one ≡ other
+same_message : (messages others : List (List ℕ)) (leaf : ℕ) (one other : List ℕ) → Continue messages others
+    → slice_get messages leaf ≡ Some one → slice_get others leaf ≡ Some other → one ≡ other
 same_message messages others leaf one other on was is =
     let within = slice_get_within messages leaf one was in
     let here : get_or messages leaf [] ≡ one = get_or_from_slice_get messages leaf one [] was in
     let there : get_or others leaf [] ≡ other = get_or_from_slice_get others leaf other [] is in
-    let same : get_or others leaf [] ≡ get_or messages leaf [] = ap (λ (l : List (List ℕ)). get_or l leaf []) on.1 ∙ get_or_append_left messages on.0 [] leaf within in
+    let same : get_or others leaf [] ≡ get_or messages leaf [] = ap (λ (l : List (List ℕ)). get_or l leaf []) on.1
+    ∙ get_or_append_left messages on.0 [] leaf within in
     sym here ∙ sym same ∙ there
 
 pub a_leaf_has_one_message : ALeafHasOneMessage
 a_leaf_has_one_message leaves disk earlier later leaf one other may was is =
-    option_and_then_some (λ records. slice_get (messages_of records) leaf) (life_after leaves disk earlier).records one was (λ records are was_there.
-    option_and_then_some (λ records. slice_get (messages_of records) leaf) (life_after leaves disk (later ++ earlier)).records other is (λ others also is_there.
-    same_message (messages_of records) (messages_of others) leaf one other ((bound_messages_stay leaves disk earlier later records may are).1 others also) was_there is_there))
+    option_and_then_some (λ records. slice_get (messages_of records) leaf) (life_after leaves disk earlier).records
+    one was (λ records are was_there.
+    option_and_then_some (λ records. slice_get (messages_of records) leaf)
+    (life_after leaves disk (later ++ earlier)).records other is (λ others also is_there.
+    same_message (messages_of records) (messages_of others) leaf one other
+    ((bound_messages_stay leaves disk earlier later records may are).1 others also) was_there is_there))
 
 pub leaves_stay : LeavesStay
 leaves_stay leaves disk earlier later may stay =
@@ -85,8 +97,14 @@ stopped_binds leaves history records message count outcome settled are may leaf 
     let short : length body ≤ most = omega (arith, follows_short leaves records body follows) in
     let image = image_after outcome (with_made count (append_steps (length (spelled records)) body) history) in
     elim (is_added count outcome) as (λ b. Keeps (cond b (records ++ body ∷ []) records) image
-        → (kept : List (List ℕ)) × (leaf_records_in leaves image ≡ Ok kept) × (messages_of kept ≡ cond b (messages_of records ++ message ∷ []) (messages_of records))) [
-      | true ↦ λ keeps. (records ++ body ∷ [], in_image leaves image (records ++ body ∷ []) keeps (one_more leaves records body are follows), binding-messages records message may)
+    → (kept : List (List ℕ)) × (leaf_records_in leaves image ≡ Ok kept)
+    × (messages_of kept ≡ cond b (messages_of records ++ message ∷ []) (messages_of records))) [
+      | true ↦ λ keeps. (
+        records ++ body ∷ [],
+        in_image leaves image (records ++ body ∷ []) keeps
+            (one_more leaves records body are follows),
+        binding-messages records message may,
+      )
       | false ↦ λ keeps. (records, in_image leaves image records keeps are, refl)
     ] (stopped_appends history records body count outcome settled.kept settled.synced short pattern)
 
@@ -95,7 +113,14 @@ stopped_migrations leaves history records count outcome settled are not_marked p
     let follows = marker_follows leaves records not_marked in
     let image = image_after outcome (with_made count (append_steps (length (spelled records)) marker) history) in
     elim (is_added count outcome) as (λ b. Keeps (cond b (records ++ marker ∷ []) records) image
-        → (kept : List (List ℕ)) × (leaf_records_in leaves image ≡ Ok kept) × (messages_of kept ≡ messages_of records) × (is_marked kept ≡ b)) [
-      | true ↦ λ keeps. (records ++ marker ∷ [], in_image leaves image (records ++ marker ∷ []) keeps (one_more leaves records marker are follows), marker-messages records not_marked, marker-marked records)
+    → (kept : List (List ℕ)) × (leaf_records_in leaves image ≡ Ok kept) × (messages_of kept ≡ messages_of records)
+    × (is_marked kept ≡ b)) [
+      | true ↦ λ keeps. (
+        records ++ marker ∷ [],
+        in_image leaves image (records ++ marker ∷ []) keeps
+            (one_more leaves records marker are follows),
+        marker-messages records not_marked,
+        marker-marked records,
+      )
       | false ↦ λ keeps. (records, in_image leaves image records keeps are, refl, not_marked)
     ] (stopped_appends history records marker count outcome settled.kept settled.synced (lit≤ tt) pattern)

@@ -1,5 +1,5 @@
--- What holds of a journal of leaves over every list of makings, openings, binds, migrations, faults and crashes. A bind and
--- a migration are appends: of the record that binds a message to the next leaf, and of the marker.
+-- What holds of a journal of leaves over every list of makings, openings, binds, migrations, faults and crashes. A
+-- bind and a migration are appends: of the record that binds a message to the next leaf, and of the marker.
 use Rattle.std.specs.Prelude.{◌≡◌, ◌≢◌, ◌<◌, ℕ, if◌then◌else◌, List, [], ◌∷◌, ◌++◌, length, Option, Some, Ok, Err, false}
 use Rattle.std.specs.Option.{option_and_then}
 use Rattle.std.specs.List.{slice_get}
@@ -26,7 +26,8 @@ MayCome leaves disk events = MayAllCome (are_leaf_records leaves) (shut disk) ev
 abbrev pub message_at : Life → ℕ → Option (List ℕ)
 message_at life leaf = option_and_then (λ records. slice_get (messages_of records) leaf) life.records
 
--- a leaf has one message, before the marker and behind it: what a node has at one time, and what one has at any later time
+-- a leaf has one message, before the marker and behind it: what a node has at one time, and what one has at any later
+-- time
 abbrev pub ALeafHasOneMessage : Type 0
 ALeafHasOneMessage = (leaves : ℕ) (disk : History) (earlier later : List Event) (leaf : ℕ) (one other : List ℕ)
     → MayCome leaves disk (later ++ earlier)
@@ -34,8 +35,8 @@ ALeafHasOneMessage = (leaves : ℕ) (disk : History) (earlier later : List Event
     → message_at (life_after leaves disk (later ++ earlier)) leaf ≡ Some other
     → one ≡ other
 
--- Once a node has some records, their messages stay at their leaves whatever comes: each image of a crash has them, and so
--- does every node that has records later.
+-- Once a node has some records, their messages stay at their leaves whatever comes: each image of a crash has them,
+-- and so does every node that has records later.
 abbrev pub BoundMessagesStay : Type 0
 BoundMessagesStay = (leaves : ℕ) (disk : History) (earlier later : List Event) (records : List (List ℕ))
     → MayCome leaves disk (later ++ earlier)
@@ -54,15 +55,18 @@ MadeJournalsStay = (leaves : ℕ) (disk : History) (earlier later : List Event)
     → (let now = (life_after leaves disk (later ++ earlier)).history in
     Stay (are_leaf_records leaves) [] now × ((place : ℕ) → leaf_records_in leaves (content now) ≢ Err place))
 
--- A bind of which the first calls pass and, below four, the next one fails: the image that an outcome leaves binds the leaf
--- exactly where the record is added, and each other leaf as before.
+-- A bind of which the first calls pass and, below four, the next one fails: the image that an outcome leaves binds
+-- the leaf exactly where the record is added, and each other leaf as before.
 abbrev pub StoppedBinds : Type 0
-StoppedBinds = (leaves : ℕ) (history : History) (records : List (List ℕ)) (message : List ℕ) (count : ℕ) (outcome : Outcome)
+StoppedBinds = (leaves : ℕ) (history : History) (records : List (List ℕ)) (message : List ℕ) (count : ℕ)
+    (outcome : Outcome)
     → IsSettled history records → leaf_records leaves records ≡ Ok records
     → MayBind records message → length (messages_of records) < leaves → HasPattern outcome
-    → (let image = image_after outcome (with_made count (append_steps (length (spelled records)) (binding_record records message)) history) in
+    → (let body = binding_record records message in
+    let image = image_after outcome (with_made count (append_steps (length (spelled records)) body) history) in
     (kept : List (List ℕ)) × (leaf_records_in leaves image ≡ Ok kept)
-    × (messages_of kept ≡ (if is_added count outcome then messages_of records ++ message ∷ [] else messages_of records)))
+    × (messages_of kept
+    ≡ (if is_added count outcome then messages_of records ++ message ∷ [] else messages_of records)))
 
 -- A migration that was stopped so: the marker is there exactly where its record is added, and each message stays.
 abbrev pub StoppedMigrations : Type 0

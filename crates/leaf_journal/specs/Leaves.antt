@@ -1,5 +1,5 @@
 -- What callers see of a key's leaves over a disk, and what the calls do.
-use Rattle.std.specs.Prelude.{◌≡◌, ◌<◌, ℕ, ◌+◌, Bool, true, false, List, [], ◌∷◌, ◌++◌, length, Option, Result, Ok, Err}
+use Rattle.std.specs.Prelude.{◌≡◌, ◌<◌, ℕ, Bool, true, false, List, [], ◌∷◌, ◌++◌, length, Option, Result, Ok, Err}
 use Rattle.crash_disk.specs.Disk.{History, FaultPlan, LeavesOnly}
 use Rattle.crash_disk.specs.Calls.{WhereTold, passed, failed_after, Made}
 use Rattle.lms_sign.specs.Types.{leaf_count}
@@ -37,10 +37,12 @@ pub record BoundState : Type 0 where
 -- each image of a crash at a moment of a call keeps these records, or them and one more
 abbrev pub KeepsAtAnyMoment : {D : Type 0} → (D → Option History) → List (List ℕ) → List ℕ → D → D → Type 0
 KeepsAtAnyMoment told records body old new =
-    WhereTold (told old) (λ before. WhereTold (told new) (λ now. LeavesOnly before now (KeepsWithOrWithout records body)))
+    WhereTold (told old) (λ before.
+    WhereTold (told new) (λ now. LeavesOnly before now (KeepsWithOrWithout records body)))
 
 -- A record was added: all four device calls of its append passed, and each image of a crash now keeps it.
-pub record Adds {D : Type 0} (told : D → Option History) (plan : D → Option FaultPlan) (body : List ℕ) (old new : LeavesState D) : Type 0 where
+pub record Adds {D : Type 0} (told : D → Option History) (plan : D → Option FaultPlan) (body : List ℕ)
+    (old new : LeavesState D) : Type 0 where
   pub was_open : old.closed ≡ false
   pub made : Made told plan (λ image. append_steps (length (spelled old.records)) body) 4 passed old.disk new.disk
   pub leaves : new ≡ record old { disk = new.disk; records = old.records ++ body ∷ [] }
@@ -48,15 +50,18 @@ pub record Adds {D : Type 0} (told : D → Option History) (plan : D → Option 
   pub any_moment : KeepsAtAnyMoment told old.records body old.disk new.disk
 
 -- A record was to be added, and a device call of its append failed, which closed the journal.
-pub record FailsToAdd {D : Type 0} (told : D → Option History) (plan : D → Option FaultPlan) (body : List ℕ) (old new : LeavesState D) : Type 0 where
+pub record FailsToAdd {D : Type 0} (told : D → Option History) (plan : D → Option FaultPlan) (body : List ℕ)
+    (old new : LeavesState D) : Type 0 where
   pub was_open : old.closed ≡ false
   pub count : ℕ
-  pub made : Made told plan (λ image. append_steps (length (spelled old.records)) body) 4 (failed_after count) old.disk new.disk
+  pub made : Made told plan (λ image. append_steps (length (spelled old.records)) body) 4 (failed_after count)
+      old.disk new.disk
   pub leaves : new ≡ record old { disk = new.disk; closed = true }
   pub any_moment : KeepsAtAnyMoment told old.records body old.disk new.disk
 
 -- what a bind did that was answered so, and when
-abbrev pub Binds : {D : Type 0} → (D → Option History) → (D → Option FaultPlan) → List ℕ → LeavesState D → Result BoundState BindRefusal → LeavesState D → Type 0
+abbrev pub Binds : {D : Type 0} → (D → Option History) → (D → Option FaultPlan) → List ℕ → LeavesState D
+    → Result BoundState BindRefusal → LeavesState D → Type 0
 Binds told plan message old (Ok bound) new =
     (used_of old < leaves_of old.key)
     × (bound ≡ record { key = old.key; leaf = used_of old; message = message })
@@ -68,7 +73,8 @@ Binds told plan message old (Err (KeySpent count)) new =
     (old.closed ≡ false) × (used_of old ≡ leaves_of old.key) × (count ≡ used_of old) × (new ≡ old)
 
 -- what a migration did that was answered so, and when
-abbrev pub Migrates : {D : Type 0} → (D → Option History) → (D → Option FaultPlan) → LeavesState D → Result Unit MigrateRefusal → LeavesState D → Type 0
+abbrev pub Migrates : {D : Type 0} → (D → Option History) → (D → Option FaultPlan) → LeavesState D
+    → Result Unit MigrateRefusal → LeavesState D → Type 0
 Migrates told plan old (Ok done) new = (is_marked old.records ≡ false) × Adds told plan marker old new
 Migrates told plan old (Err MigrateFault) new = (is_marked old.records ≡ false) × FailsToAdd told plan marker old new
 Migrates told plan old (Err MigrateClosed) new = (old.closed ≡ true) × (new ≡ old)

@@ -38,8 +38,8 @@ with_number q message = to_be_bytes w32 q ++ message
 abbrev pub has_number : ℕ → List ℕ → Bool
 has_number q body = bytes_eq (take 4 body) (to_be_bytes w32 q) && nat_le 5 (length body) && nat_le (length body) 132
 
--- Whether a record may stand behind these, for a key with so many leaves. Behind the marker it has the number of the next
--- leaf, and before it it is a message or the marker. A message has a leaf.
+-- Whether a record may stand behind these, for a key with so many leaves. Behind the marker it has the number of the
+-- next leaf, and before it it is a message or the marker. A message has a leaf.
 abbrev pub may_follow : ℕ → List (List ℕ) → List ℕ → Bool
 may_follow leaves before body =
     let q = length (messages_of before) in
@@ -77,4 +77,5 @@ MayBind records message =
 
 -- the record that binds a message to the next leaf
 abbrev pub binding_record : List (List ℕ) → List ℕ → List ℕ
-binding_record records message = if is_marked records then with_number (length (messages_of records)) message else message
+binding_record records message =
+    if is_marked records then with_number (length (messages_of records)) message else message

@@ -20,16 +20,18 @@ pub record LeafRecordsState : Type 0 where
   pub leaves : ℕ
   pub records : List (List ℕ)
 
--- the records are those of the leaves, the ones before the marker are counted, and there is room for all and the marker
+-- the records are those of the leaves, the ones before the marker are counted, and there is room for all and the
+-- marker
 pub record AreSound (leaves : ℕ) (records : List (List ℕ)) (first capacity : ℕ) : Type 0 where
   pub are : leaf_records leaves records ≡ Ok records
   pub count : first ≡ first_count records
   pub few : leaves ≤ 1024
   pub room : leaves + 1 ≤ capacity
 
--- The journal keeps the records, also where a fault closed it; while it is open it keeps no other, its gate is behind them,
--- and there is room for those of all leaves and the marker.
-pub record IsSound {D : Type 0} (told : Option History) (journal : JournalState D) (key : List ℕ) (kept : LeafRecordsState) : Type 0 where
+-- The journal keeps the records, also where a fault closed it; while it is open it keeps no other, its gate is behind
+-- them, and there is room for those of all leaves and the marker.
+pub record IsSound {D : Type 0} (told : Option History) (journal : JournalState D) (key : List ℕ)
+    (kept : LeafRecordsState) : Type 0 where
   pub count : kept.leaves ≡ leaves_of key
   pub are : leaf_records kept.leaves kept.records ≡ Ok kept.records
   pub stay : WhereTold told (Stay (are_leaf_records kept.leaves) kept.records)

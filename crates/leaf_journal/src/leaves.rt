@@ -92,7 +92,8 @@ impl<D: Disk> Leaves<D> {
         ensures made { IfOk result (λ opened. Made D.told D.plan open_steps 3 passed disk opened.disk) }
         ensures cause { IfOk result (λ opened. D.faults opened.disk ≡ D.faults disk) }
         ensures refused { IfErr result (λ returned.
-            RefusesOpen (leaf_records_in (leaves_of (public_key_of key.now))) D.told D.plan disk returned.why returned.disk) }
+            RefusesOpen (leaf_records_in (leaves_of (public_key_of key.now)))
+            D.told D.plan disk returned.why returned.disk) }
         ensures refused_cause { IfErr result (λ returned.
             D.faults returned.disk ≡ faults_after (D.faults disk) (is_device_fault returned.why)) }
     {
@@ -121,8 +122,10 @@ impl<D: Disk> Leaves<D> {
     /// image that a crash may leave continues them, also where a fault closed the journal.
     pub fn is_whole(&self)
         ensures are { leaf_records (leaves_of self.now.key) self.now.records ≡ Ok self.now.records }
-        ensures settled { self.now.closed ≡ false → WhereTold (D.told self.now.disk) (λ now. IsSettled now self.now.records) }
-        ensures stay { WhereTold (D.told self.now.disk) (Stay (are_leaf_records (leaves_of self.now.key)) self.now.records) }
+        ensures settled { self.now.closed ≡ false →
+            WhereTold (D.told self.now.disk) (λ now. IsSettled now self.now.records) }
+        ensures stay { WhereTold (D.told self.now.disk)
+            (Stay (are_leaf_records (leaves_of self.now.key)) self.now.records) }
     {
         let _ = &self.key;
     }
@@ -153,7 +156,8 @@ impl<D: Disk> Leaves<D> {
         requires { MayBind self.old.records message.now }
         ensures binds { Binds D.told D.plan message.now self.old result self.new }
         ensures messages { messages_of self.new.records
-            ≡ (if is_ok result then messages_of self.old.records ++ message.now ∷ [] else messages_of self.old.records) }
+            ≡ (if is_ok result then messages_of self.old.records ++ message.now ∷ []
+            else messages_of self.old.records) }
         ensures cause { D.faults self.new.disk ≡ faults_after (D.faults self.old.disk) (is_fault result) }
     {
         if self.is_closed() {
@@ -217,7 +221,8 @@ impl<D: Disk> Leaves<D> {
     /// no memory.
     pub fn again(&self, q: u32) -> Option<Bound>
         ensures value { result ≡ option_map
-            (λ message. record { key = self.now.key; leaf = q; message = message }) (slice_get (messages_of self.now.records) q) }
+            (λ message. record { key = self.now.key; leaf = q; message = message })
+            (slice_get (messages_of self.now.records) q) }
     {
         let message = self.records.message(q)?;
         Some(Bound {

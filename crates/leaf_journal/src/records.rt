@@ -167,7 +167,8 @@ impl LeafRecords {
         requires leaf { length (messages_of self.now.records) < self.now.leaves }
         ensures value { result ≡ binding_record self.now.records message.now }
         ensures follows { may_follow self.now.leaves self.now.records result ≡ true }
-        ensures message { messages_of (self.now.records ++ result ∷ []) ≡ messages_of self.now.records ++ message.now ∷ [] }
+        ensures message { messages_of (self.now.records ++ result ∷ [])
+            ≡ messages_of self.now.records ++ message.now ∷ [] }
     {
         if self.is_marked() {
             ShortBytes::with_number(self.used(), message)

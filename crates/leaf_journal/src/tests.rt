@@ -24,7 +24,7 @@ fn disk_of(alloc: Global, bytes: &[u8], fails: &[u64]) -> Result<MemDisk, Fail> 
     Ok(MemDisk::make(alloc, bytes.to_vec(alloc)?, fails.to_vec(alloc)?))
 }
 
-fn opened(alloc: Global, disk: MemDisk, key: &SecretKey) -> Result<Leaves<MemDisk>, Fail> {
+fn open_leaves(alloc: Global, disk: MemDisk, key: &SecretKey) -> Result<Leaves<MemDisk>, Fail> {
     match Leaves::open(alloc, disk, key) {
         Ok(leaves) => Ok(leaves),
         Err(returned) => Err(returned.why.into()),
@@ -40,7 +40,7 @@ fn mix(alloc: Global, byte: u8) -> Result<Outcome, Fail>
 }
 
 // The leaves after the disk crashed and the journal was opened again.
-fn crashed(
+fn after_crash(
     alloc: Global,
     leaves: Leaves<MemDisk>,
     key: &SecretKey,
@@ -50,7 +50,7 @@ fn crashed(
 {
     let mut disk = leaves.take_disk();
     disk.crash(outcome)?;
-    opened(alloc, disk, key)
+    open_leaves(alloc, disk, key)
 }
 
 // The leaves after a bind on a fresh journal was stopped after so many device calls and a crash.
@@ -64,9 +64,9 @@ fn after_bind(
 {
     let mut disk = disk_of(alloc, &EMPTY, &[])?;
     disk.fuse(calls.saturating_add(3));
-    let mut leaves = opened(alloc, disk, key)?;
+    let mut leaves = open_leaves(alloc, disk, key)?;
     let _ = leaves.bind(&[3; 116]);
-    crashed(alloc, leaves, key, outcome)
+    after_crash(alloc, leaves, key, outcome)
 }
 
 // The signature of a bound message.
@@ -102,7 +102,7 @@ fn assert_bound(
 }
 
 // The number of leaves that were bound; where none was, the next bind takes leaf 0.
-fn bound_then(rt: &impl Abort, mut leaves: Leaves<MemDisk>, key: &SecretKey) -> Result<u32, Fail> {
+fn bound_count(rt: &impl Abort, mut leaves: Leaves<MemDisk>, key: &SecretKey) -> Result<u32, Fail> {
     let used = leaves.used();
     if used == 0 {
         assert!(rt; leaves.again(0).is_none());
@@ -130,14 +130,14 @@ fn a_stopped_bind(rt: HostRuntime) -> Result<(), Fail> {
     for (calls, want) in ROWS.iter().enumerate() {
         let calls = calls as u64;
         let left = [
-            bound_then(&rt, after_bind(alloc, &key, calls, &Outcome::Old)?, &key)?,
-            bound_then(&rt, after_bind(alloc, &key, calls, &Outcome::New)?, &key)?,
-            bound_then(
+            bound_count(&rt, after_bind(alloc, &key, calls, &Outcome::Old)?, &key)?,
+            bound_count(&rt, after_bind(alloc, &key, calls, &Outcome::New)?, &key)?,
+            bound_count(
                 &rt,
                 after_bind(alloc, &key, calls, &mix(alloc, 0xa5)?)?,
                 &key,
             )?,
-            bound_then(
+            bound_count(
                 &rt,
                 after_bind(alloc, &key, calls, &mix(alloc, 0x37)?)?,
                 &key,
@@ -159,14 +159,18 @@ fn after_migration(
 {
     let mut disk = disk_of(alloc, &EMPTY, &[])?;
     disk.fuse(calls.saturating_add(7));
-    let mut leaves = opened(alloc, disk, key)?;
+    let mut leaves = open_leaves(alloc, disk, key)?;
     leaves.bind(&[3; 116])?;
     let _ = leaves.migrate();
-    crashed(alloc, leaves, key, outcome)
+    after_crash(alloc, leaves, key, outcome)
 }
 
 // Whether the marker is there. Leaf 0 has its message, and a migration answers by the marker.
-fn marked_then(rt: &impl Abort, mut leaves: Leaves<MemDisk>, key: &SecretKey) -> Result<u32, Fail> {
+fn marker_count(
+    rt: &impl Abort,
+    mut leaves: Leaves<MemDisk>,
+    key: &SecretKey,
+) -> Result<u32, Fail> {
     let marked = leaves.marked();
     assert_eq!(rt; leaves.used(), 1);
     assert_bound(rt, &leaves, key, &[3; 116])?;
@@ -188,22 +192,22 @@ fn a_stopped_migration(rt: HostRuntime) -> Result<(), Fail> {
     for (calls, want) in ROWS.iter().enumerate() {
         let calls = calls as u64;
         let left = [
-            marked_then(
+            marker_count(
                 &rt,
                 after_migration(alloc, &key, calls, &Outcome::Old)?,
                 &key,
             )?,
-            marked_then(
+            marker_count(
                 &rt,
                 after_migration(alloc, &key, calls, &Outcome::New)?,
                 &key,
             )?,
-            marked_then(
+            marker_count(
                 &rt,
                 after_migration(alloc, &key, calls, &mix(alloc, 0xa5)?)?,
                 &key,
             )?,
-            marked_then(
+            marker_count(
                 &rt,
                 after_migration(alloc, &key, calls, &mix(alloc, 0x37)?)?,
                 &key,
@@ -219,14 +223,14 @@ fn a_failed_bind(rt: HostRuntime) -> Result<(), Fail> {
     let alloc = rt.alloc();
     let key = new_key(alloc)?;
     // Three calls of the opening, and the fourth of the bind.
-    let mut leaves = opened(alloc, disk_of(alloc, &EMPTY, &[7])?, &key)?;
+    let mut leaves = open_leaves(alloc, disk_of(alloc, &EMPTY, &[7])?, &key)?;
     assert!(rt; matches!(leaves.bind(&[3; 116]), Err(BindRefusal::DeviceFault)));
     assert!(rt; matches!(leaves.bind(&[4; 116]), Err(BindRefusal::Closed)));
     assert_eq!(rt; leaves.migrate(), Err(MigrateRefusal::Closed));
     assert!(rt; leaves.is_closed());
-    let leaves = opened(alloc, leaves.take_disk(), &key)?;
+    let leaves = open_leaves(alloc, leaves.take_disk(), &key)?;
     assert_eq!(rt; leaves.used(), 1);
-    let mut leaves = crashed(alloc, leaves, &key, &Outcome::Old)?;
+    let mut leaves = after_crash(alloc, leaves, &key, &Outcome::Old)?;
     assert_eq!(rt; leaves.used(), 1);
     assert_eq!(rt; leaves.bind(&[5; 116])?.leaf(), 1);
     Ok(())
@@ -236,7 +240,7 @@ fn a_failed_bind(rt: HostRuntime) -> Result<(), Fail> {
 fn both_forms(rt: HostRuntime) -> Result<(), Fail> {
     let alloc = rt.alloc();
     let key = new_key(alloc)?;
-    let mut leaves = opened(alloc, disk_of(alloc, &EMPTY, &[])?, &key)?;
+    let mut leaves = open_leaves(alloc, disk_of(alloc, &EMPTY, &[])?, &key)?;
     assert!(rt; !leaves.marked());
     leaves.bind(&[3; 116])?;
     leaves.migrate()?;
@@ -251,7 +255,7 @@ fn both_forms(rt: HostRuntime) -> Result<(), Fail> {
             Err(BindRefusal::KeySpent { used: 32 })
         )
     );
-    let leaves = opened(alloc, leaves.take_disk(), &key)?;
+    let leaves = open_leaves(alloc, leaves.take_disk(), &key)?;
     assert!(rt; leaves.marked());
     assert_eq!(rt; leaves.used(), 32);
     assert!(rt; leaves.record(0) == Some([3; 116].as_slice()));
@@ -300,16 +304,16 @@ fn behind_marker(alloc: Global, body: Vec<u8>) -> Result<Vec<Vec<u8>>, Fail> {
 fn broken_forms(rt: HostRuntime) -> Result<(), Fail> {
     let alloc = rt.alloc();
     let key = new_key(alloc)?;
-    let refused = |place: u64| -> Result<u32, JournalRefusal> {
+    let not_journal = |place: u64| -> Result<u32, JournalRefusal> {
         Err(JournalRefusal::NotJournal { place })
     };
     for (q, count, want) in [
         (1, 1, Ok(2)),
         (1, 128, Ok(2)),
-        (1, 0, refused(134)),
-        (1, 129, refused(134)),
-        (0, 1, refused(134)),
-        (2, 1, refused(134)),
+        (1, 0, not_journal(134)),
+        (1, 129, not_journal(134)),
+        (0, 1, not_journal(134)),
+        (2, 1, not_journal(134)),
     ] {
         assert_eq!(rt;
             read(
@@ -321,12 +325,12 @@ fn broken_forms(rt: HostRuntime) -> Result<(), Fail> {
         );
     }
     let twice = behind_marker(alloc, b"PGL2".as_slice().to_vec(alloc)?)?;
-    assert_eq!(rt; read(alloc, &key, &twice)?, refused(134));
+    assert_eq!(rt; read(alloc, &key, &twice)?, not_journal(134));
     for (count, want) in [
-        (115, refused(4)),
+        (115, not_journal(4)),
         (116, Ok(1)),
-        (117, refused(4)),
-        (4, refused(4)),
+        (117, not_journal(4)),
+        (4, not_journal(4)),
     ] {
         let mut bodies = Vec::new(alloc);
         bodies.push(vec![in alloc; 3u8; count]?)?;
@@ -337,12 +341,12 @@ fn broken_forms(rt: HostRuntime) -> Result<(), Fail> {
     for _ in 0..33 {
         bodies.push(vec![in alloc; 3u8; 116]?)?;
     }
-    assert_eq!(rt; read(alloc, &key, &bodies)?, refused(3876));
+    assert_eq!(rt; read(alloc, &key, &bodies)?, not_journal(3876));
     let mut bodies = Vec::new(alloc);
     bodies.push(b"PGL2".as_slice().to_vec(alloc)?)?;
     for q in 0..33 {
         bodies.push(second(alloc, q, 1)?)?;
     }
-    assert_eq!(rt; read(alloc, &key, &bodies)?, refused(333));
+    assert_eq!(rt; read(alloc, &key, &bodies)?, not_journal(333));
     Ok(())
 }

@@ -12,13 +12,15 @@ invariant_of-self g c =
     let inside = c.self.inside in
     let sound = c.self.invariant in
     let new = c.append.new.self in
-    let open' : inside.journal.closed ≡ false = ap (λ (s : LeavesState _). s.closed) c.self.view_is ∙ c.requires.open in
+    let open' : inside.journal.closed ≡ false = ap (λ (s : LeavesState _). s.closed) c.self.view_is
+    ∙ c.requires.open in
     let same = ap (λ (s : LeavesState _). may_follow (leaves_of s.key) s.records c.args.body) c.self.view_is in
     let follows : may_follow inside.records.leaves inside.records.records c.args.body ≡ true =
     ap (λ (n : ℕ). may_follow n inside.records.records c.args.body) sound.count ∙ same ∙ c.requires.follows in
     let ready = ready_from sound open' c.args.body follows in
     let append = rw c.as_slice.ensures.value at c.append.ensures in
-    let failed = meets_fault ready told plan c.append.result new append.appends (sym c.is_err.ensures.value ∙ c.if-is_err.true) in
+    let failed = meets_fault ready told plan c.append.result new append.appends
+    (sym c.is_err.ensures.value ∙ c.if-is_err.true) in
     let any = moments told plan sound ready new append.any_moment in
     fault_sound told plan sound ready failed.1 any
 
@@ -29,15 +31,19 @@ returns-then-is_err-clause-fails g c =
     let inside = c.self.inside in
     let sound = c.self.invariant in
     let new = c.append.new.self in
-    let open' : inside.journal.closed ≡ false = ap (λ (s : LeavesState _). s.closed) c.self.view_is ∙ c.requires.open in
+    let open' : inside.journal.closed ≡ false = ap (λ (s : LeavesState _). s.closed) c.self.view_is
+    ∙ c.requires.open in
     let same = ap (λ (s : LeavesState _). may_follow (leaves_of s.key) s.records c.args.body) c.self.view_is in
     let follows : may_follow inside.records.leaves inside.records.records c.args.body ≡ true =
     ap (λ (n : ℕ). may_follow n inside.records.records c.args.body) sound.count ∙ same ∙ c.requires.follows in
     let ready = ready_from sound open' c.args.body follows in
     let append = rw c.as_slice.ensures.value at c.append.ensures in
-    let failed = meets_fault ready told plan c.append.result new append.appends (sym c.is_err.ensures.value ∙ c.if-is_err.true) in
+    let failed = meets_fault ready told plan c.append.result new append.appends
+    (sym c.is_err.ensures.value ∙ c.if-is_err.true) in
     let any = moments told plan sound ready new append.any_moment in
-    subst (λ (s : LeavesState _). FailsToAdd told plan c.args.body s (record { disk = new.disk; closed = new.closed; key = inside.key; records = inside.records.records })) c.self.view_is
+    subst (λ (s : LeavesState _). FailsToAdd told plan c.args.body s
+    (record { disk = new.disk; closed = new.closed; key = inside.key; records = inside.records.records }))
+    c.self.view_is
     (fault_fails told plan sound ready failed.1 any)
 
 pub returns-then-is_err-clause-cause : goal.returns-then-is_err-clause-cause
@@ -47,13 +53,15 @@ returns-then-is_err-clause-cause g c =
     let inside = c.self.inside in
     let sound = c.self.invariant in
     let new = c.append.new.self in
-    let open' : inside.journal.closed ≡ false = ap (λ (s : LeavesState _). s.closed) c.self.view_is ∙ c.requires.open in
+    let open' : inside.journal.closed ≡ false = ap (λ (s : LeavesState _). s.closed) c.self.view_is
+    ∙ c.requires.open in
     let same = ap (λ (s : LeavesState _). may_follow (leaves_of s.key) s.records c.args.body) c.self.view_is in
     let follows : may_follow inside.records.leaves inside.records.records c.args.body ≡ true =
     ap (λ (n : ℕ). may_follow n inside.records.records c.args.body) sound.count ∙ same ∙ c.requires.follows in
     let ready = ready_from sound open' c.args.body follows in
     let append = rw c.as_slice.ensures.value at c.append.ensures in
-    let failed = meets_fault ready told plan c.append.result new append.appends (sym c.is_err.ensures.value ∙ c.if-is_err.true) in
+    let failed = meets_fault ready told plan c.append.result new append.appends
+    (sym c.is_err.ensures.value ∙ c.if-is_err.true) in
     append.cause
     ∙ ap (λ b. faults_after (g.D.Disk.faults inside.journal.disk) b) failed.0
     ∙ ap (λ (s : LeavesState _). counted (g.D.Disk.faults s.disk)) c.self.view_is
@@ -65,13 +73,15 @@ invariant_of-self-2 g c =
     let inside = c.self.inside in
     let sound = c.self.invariant in
     let new = c.append.new.self in
-    let open' : inside.journal.closed ≡ false = ap (λ (s : LeavesState _). s.closed) c.self.view_is ∙ c.requires.open in
+    let open' : inside.journal.closed ≡ false = ap (λ (s : LeavesState _). s.closed) c.self.view_is
+    ∙ c.requires.open in
     let same = ap (λ (s : LeavesState _). may_follow (leaves_of s.key) s.records c.args.body) c.self.view_is in
     let follows : may_follow inside.records.leaves inside.records.records c.args.body ≡ true =
     ap (λ (n : ℕ). may_follow n inside.records.records c.args.body) sound.count ∙ same ∙ c.requires.follows in
     let ready = ready_from sound open' c.args.body follows in
     let append = rw c.as_slice.ensures.value at c.append.ensures in
-    let through = goes_through ready told plan c.append.result new append.appends (sym c.is_err.ensures.value ∙ c.if-is_err.false) in
+    let through = goes_through ready told plan c.append.result new append.appends
+    (sym c.is_err.ensures.value ∙ c.if-is_err.false) in
     let settled = append_settles told plan sound ready through.1 (rw through.0 at append.kept) in
     append_sound told plan sound ready through.1 c.push.ensures settled
 
@@ -82,14 +92,18 @@ returns-clause-adds g c =
     let inside = c.self.inside in
     let sound = c.self.invariant in
     let new = c.append.new.self in
-    let open' : inside.journal.closed ≡ false = ap (λ (s : LeavesState _). s.closed) c.self.view_is ∙ c.requires.open in
+    let open' : inside.journal.closed ≡ false = ap (λ (s : LeavesState _). s.closed) c.self.view_is
+    ∙ c.requires.open in
     let same = ap (λ (s : LeavesState _). may_follow (leaves_of s.key) s.records c.args.body) c.self.view_is in
     let follows : may_follow inside.records.leaves inside.records.records c.args.body ≡ true =
     ap (λ (n : ℕ). may_follow n inside.records.records c.args.body) sound.count ∙ same ∙ c.requires.follows in
     let ready = ready_from sound open' c.args.body follows in
     let append = rw c.as_slice.ensures.value at c.append.ensures in
-    let through = goes_through ready told plan c.append.result new append.appends (sym c.is_err.ensures.value ∙ c.if-is_err.false) in
+    let through = goes_through ready told plan c.append.result new append.appends
+    (sym c.is_err.ensures.value ∙ c.if-is_err.false) in
     let settled = append_settles told plan sound ready through.1 (rw through.0 at append.kept) in
     let any = moments told plan sound ready new append.any_moment in
-    subst (λ (s : LeavesState _). Adds told plan c.args.body s (record { disk = new.disk; closed = new.closed; key = inside.key; records = c.push.new.self.records })) c.self.view_is
+    subst (λ (s : LeavesState _). Adds told plan c.args.body s
+    (record { disk = new.disk; closed = new.closed; key = inside.key; records = c.push.new.self.records }))
+    c.self.view_is
     (append_adds told plan sound ready through.1 c.push.ensures settled any)

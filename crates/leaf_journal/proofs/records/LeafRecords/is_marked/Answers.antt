@@ -1,4 +1,4 @@
-use Rattle.std.proofs.Common.{◌≡◌, ◌∙◌, sym, ap, arith, ltb, length}
+use Rattle.std.proofs.Common.{◌≡◌, ◌∙◌, sym, ap, arith, length}
 use Rattle.leaf_journal.specs.Records.{is_marked}
 use Rattle.leaf_journal.specs.Sound.{LeafRecordsState}
 use Rattle.leaf_journal.proofs.Messages.{is_marked-count}

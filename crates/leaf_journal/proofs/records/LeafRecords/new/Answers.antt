@@ -1,4 +1,4 @@
-use Rattle.std.proofs.Common.{◌≡◌, ◌≤◌, ◌+◌, refl, arith}
+use Rattle.std.proofs.Common.{refl, arith}
 use Rattle.leaf_journal.specs.Records.{records_behind}
 use Rattle.leaf_journal.specs.Sound.{first_count}
 use Rattle.leaf_journal.proofs.records.LeafRecords.new.Goals as goal

@@ -1,5 +1,5 @@
 use mir.Val.{bool_byte}
-use Rattle.std.proofs.Common.{◌≡◌, ◌∙◌, ap, sym, refl, arith, length, cond}
+use Rattle.std.proofs.Common.{◌≡◌, ◌∙◌, ap, arith, length, cond}
 use Rattle.leaf_journal.specs.Records.{is_marked, messages_of}
 use Rattle.leaf_journal.specs.Sound.{LeafRecordsState}
 use Rattle.leaf_journal.proofs.Messages.{byte_of, messages-count}
