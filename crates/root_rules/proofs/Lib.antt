@@ -1,0 +1,13 @@
+pub mod Accepted
+pub mod Acceptance
+pub mod Legal
+pub mod Leaves
+pub mod Ends
+pub mod Each
+pub mod Bounds
+pub mod Names
+pub mod Weights
+pub mod Sums
+pub mod Held
+pub mod Below
+pub mod Kept
