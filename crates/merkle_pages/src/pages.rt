@@ -54,7 +54,8 @@ pub fn kept_node(pages: &Pages, level: usize, coin: u64) -> Option<&[u8; 32]>
     page.get(&place(level, coin))
 }
 
-/// Makes room for the nodes of a coin's way up. No node changes.
+/// Makes room for the nodes of a coin's way up. No node changes; where memory runs out some of the room,
+/// and a page without a node, may stay.
 pub fn make_rooms(alloc: Global, pages: &mut Pages, coin: u64) -> Result<(), NoMemory>
     ensures same { (name : PageName) (place : ℕ) → page_node pages.new name place ≡ page_node pages.old name place }
     ensures room { OnOk result ((number : ℕ) → number < 4 → HasRoom pages.new (name_in number coin)) }

@@ -53,7 +53,7 @@ fn agree<H: Hash32 + Copy>(alloc: Global, h: H, count: u64) -> Result<bool, Fail
     for round in 0..4 {
         for number in 0..count {
             let coin = coin_of(number);
-            let bytes = [round, number as u8];
+            let bytes = [round, (number % 256) as u8];
             let leaf: &[u8] = if round > 0 && (number % 3 == 1 || round == 3) {
                 &[]
             } else {
