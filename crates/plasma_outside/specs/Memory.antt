@@ -1,20 +1,22 @@
 -- Inputs and outputs in memory, and what each call of theirs does.
-use Rattle.std.specs.Prelude.{ℕ, ◌+◌, min, Bool, ◌==◌, if◌then◌else◌, List, ◌++◌, length, drop, slice_index_or, Result, Ok, Err}
+use Rattle.std.specs.Prelude.{ℕ, ◌+◌, min, Bool, true, false, ◌==◌, if◌then◌else◌, List, ◌++◌, length, drop, slice_index_or, Result, Ok, Err}
 use Rattle.std.specs.List.{list_any}
-use Rattle.plasma_outside.specs.Causes.{counted}
+use Rattle.plasma_base.specs.Causes.{counted}
 use Rattle.plasma_outside.specs.declared.sink.SinkRefusal.{SinkRefusal}
 use Rattle.plasma_outside.specs.declared.sink.SinkRefusal.TheVariants.{Failed, NoMemory}
 
--- an input: the bytes that are left, the length of each call's piece, the numbers of the calls that are to fail,
--- and how many calls and faults there were
+-- an input: the bytes that are left, the length of each call's piece, the numbers of the calls that are to fail, how
+-- many calls and faults there were, and whether the last call failed
 pub record MemInput : Type 0 where
   pub bytes : List ℕ
   pub pieces : List ℕ
   pub fails : List ℕ
   pub calls : ℕ
   pub faults : ℕ
+  pub failed_last : Bool
 
--- an output: the bytes that it holds, the numbers of the calls that are to fail, and how many calls and faults there were
+-- an output: the bytes that it has taken, the numbers of the calls that are to fail, and how many calls and faults
+-- there were
 pub record MemOutput : Type 0 where
   pub bytes : List ℕ
   pub fails : List ℕ
@@ -30,11 +32,21 @@ is_to_fail fails calls = list_any (λ number. number == calls + 1) fails
 abbrev pub bytes_given : MemInput → ℕ → ℕ
 bytes_given input room = min (slice_index_or input.pieces input.calls room) (min room (length input.bytes))
 
+-- the input after a take that failed: its bytes stay
+abbrev pub after_failed_take : MemInput → MemInput
+after_failed_take input =
+    record input { calls = counted input.calls; faults = counted input.faults; failed_last = true }
+
+-- the input after a take that gave so many bytes
+abbrev pub after_good_take : MemInput → ℕ → MemInput
+after_good_take input n =
+    record input { calls = counted input.calls; bytes = drop n input.bytes; failed_last = false }
+
 -- the input after a take into so much room
 abbrev pub after_take : MemInput → ℕ → MemInput
 after_take input room =
-    if is_to_fail input.fails input.calls then record input { calls = counted input.calls; faults = counted input.faults }
-    else record input { calls = counted input.calls; bytes = drop (bytes_given input room) input.bytes }
+    if is_to_fail input.fails input.calls then after_failed_take input
+    else after_good_take input (bytes_given input room)
 
 -- the output after a put that was answered so
 abbrev pub after_put : MemOutput → List ℕ → Result Unit SinkRefusal → MemOutput

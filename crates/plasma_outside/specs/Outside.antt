@@ -1,7 +1,10 @@
--- What a take does to the bytes that a source has left, and a put to those that a sink holds, where these are told.
-use Rattle.std.specs.Prelude.{◌≡◌, ◌↔◌, ℕ, ◌≤◌, List, [], ◌++◌, length, take, drop, Option, Some, None, Result, Ok, Err}
+-- What a take does to the bytes that a source has left, and a put to those that a sink has taken, where these are told.
+use Rattle.std.specs.Prelude.{◌≡◌, ◌↔◌, ℕ, ◌≤◌, Bool, true, false, List, [], ◌++◌, length, take, drop, Option, Some, None, Result, Ok, Err}
+use Rattle.plasma_outside.specs.declared.sink.SinkRefusal.{SinkRefusal}
+use Rattle.plasma_outside.specs.declared.sink.SinkRefusal.TheVariants.{Failed, NoMemory}
 
--- a take gave n of these bytes, at the beginning of the room: at most as many as there are, and none only at the input's end
+-- a take gave n of these bytes, at the beginning of the room: at most as many as there are, and none only at the end
+-- of the input
 pub record Took (bytes : List ℕ) (left : Option (List ℕ)) (n : ℕ) (room : List ℕ) : Type 0 where
   pub within : n ≤ length bytes
   pub given : take n room ≡ take n bytes
@@ -14,8 +17,18 @@ Takes None left result room = left ≡ None
 Takes (Some bytes) left (Ok n) room = Took bytes left n room
 Takes (Some bytes) left (Err e) room = left ≡ Some bytes
 
--- a put to the bytes that are held; an error leaves a beginning of them, and what isn't told stays so
+-- a put behind the bytes that were taken; an error leaves a beginning of its bytes, and what isn't told stays so
 abbrev pub Puts : {T E : Type 0} → Option (List ℕ) → Option (List ℕ) → Result T E → List ℕ → Type 0
-Puts None held result bytes = held ≡ None
-Puts (Some before) held (Ok done) bytes = held ≡ Some (before ++ bytes)
-Puts (Some before) held (Err e) bytes = (n : ℕ) × (held ≡ Some (before ++ take n bytes))
+Puts None taken result bytes = taken ≡ None
+Puts (Some before) taken (Ok done) bytes = taken ≡ Some (before ++ bytes)
+Puts (Some before) taken (Err e) bytes = (n : ℕ) × (taken ≡ Some (before ++ take n bytes))
+
+-- whether a refusal is a fault of the sink; want of memory is none
+abbrev pub is_sink_fault : SinkRefusal → Bool
+is_sink_fault Failed = true
+is_sink_fault NoMemory = false
+
+-- whether the sink failed
+abbrev pub is_failed : {T : Type 0} → Result T SinkRefusal → Bool
+is_failed (Ok done) = false
+is_failed (Err refusal) = is_sink_fault refusal

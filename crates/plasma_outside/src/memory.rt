@@ -1,8 +1,8 @@
-ghost use Rattle.std.specs.Prelude.{◌≡◌, ◌≤◌, ◌<◌, ◌+◌, ◌↔◌, ℕ, List, [], length, slice_index_or, Some, IsTrue, IsErr, IsErrOf, IfOk};
+ghost use Rattle.std.specs.Prelude.{◌≡◌, ◌≤◌, ◌<◌, ◌+◌, ℕ, false, List, [], length, slice_index_or, Some, is_err, IfOk};
 ghost use Rattle.std.specs.List.{All};
 ghost use Rattle.std.specs.Io.{ReadsAtMost};
-ghost use Rattle.plasma_outside.specs.Causes.{HasCause, HasSinkCause};
-ghost use Rattle.plasma_outside.specs.Outside.{Takes, Puts};
+ghost use Rattle.plasma_base.specs.Causes.{faults_after};
+ghost use Rattle.plasma_outside.specs.Outside.{Takes, Puts, is_failed};
 ghost use Rattle.plasma_outside.specs.Memory.{is_to_fail, bytes_given, after_take, after_put};
 
 use super::sink::{Sink, SinkRefusal};
@@ -37,6 +37,7 @@ pub struct MemSource {
     fails: Vec<u64>,
     calls: u64,
     faults: u64,
+    failed_last: bool,
 }
 
 impl Model for MemSource {
@@ -52,6 +53,7 @@ impl Model for MemSource {
       fails = s.fails.items;
       calls = s.calls;
       faults = s.faults;
+      failed_last = s.failed_last;
     } };
 
     ghost invariant = { λ s. (s.place ≤ length s.bytes.items) × All (λ piece. 1 ≤ piece) s.pieces.items };
@@ -63,7 +65,14 @@ impl MemSource {
     /// its piece, and the next call has the next piece.
     pub fn make(bytes: Vec<u8>, pieces: Vec<u64>, fails: Vec<u64>) -> MemSource
         requires { All (λ piece. 1 ≤ piece) pieces.items }
-        ensures { result ≡ record { bytes = bytes.items; pieces = pieces.items; fails = fails.items; calls = 0; faults = 0 } }
+        ensures { result ≡ record {
+          bytes = bytes.items;
+          pieces = pieces.items;
+          fails = fails.items;
+          calls = 0;
+          faults = 0;
+          failed_last = false;
+        } }
     {
         MemSource {
             bytes,
@@ -72,6 +81,7 @@ impl MemSource {
             fails,
             calls: 0,
             faults: 0,
+            failed_last: false,
         }
     }
 }
@@ -81,18 +91,22 @@ impl Source for MemSource {
 
     ghost faults = { λ input. input.faults };
 
+    ghost failed_last = { λ input. input.failed_last };
+
     fn take(&mut self, room: &mut [u8]) -> Result<usize, SourceFailed>
         requires { 0 < length room.old }
         ensures bound { ReadsAtMost result room.new }
         ensures bytes { Takes (Some self.old.bytes) (Some self.new.bytes) result room.new }
-        ensures cause { HasCause self.old.faults self.new.faults result }
-        ensures fails { IsErr result ↔ IsTrue (is_to_fail self.old.fails self.old.calls) }
+        ensures cause { self.new.faults ≡ faults_after self.old.faults (is_err result) }
+        ensures last { self.new.failed_last ≡ is_err result }
+        ensures fails { is_err result ≡ is_to_fail self.old.fails self.old.calls }
         ensures count { IfOk result (λ n. n ≡ bytes_given self.old (length room.old)) }
         ensures after { self.new ≡ after_take self.old (length room.old) }
     {
         let piece = piece_at(&self.pieces, self.calls, room.len());
         let fails = is_on_list(&self.fails, self.calls);
         self.calls = self.calls.saturating_add(1);
+        self.failed_last = fails;
         if fails {
             self.faults = self.faults.saturating_add(1);
             return Err(SourceFailed);
@@ -123,7 +137,7 @@ impl Model for MemSink {
 }
 
 impl MemSink {
-    /// A sink that holds nothing. Its calls are counted from 1: the k-th call of `put_all` fails where
+    /// A sink that has taken nothing. Its calls are counted from 1: the k-th call of `put_all` fails where
     /// k is in `fails`.
     pub fn make(alloc: Global, fails: Vec<u64>) -> MemSink
         ensures { result ≡ record { bytes = []; fails = fails.items; calls = 0; faults = 0 } }
@@ -136,7 +150,7 @@ impl MemSink {
         }
     }
 
-    /// The bytes that the sink holds, lent.
+    /// The bytes that the sink has taken, lent.
     pub fn bytes(&self) -> &[u8]
         ensures { result.now ≡ self.now.bytes }
     {
@@ -145,15 +159,15 @@ impl MemSink {
 }
 
 impl Sink for MemSink {
-    ghost held = { λ output. Some output.bytes };
+    ghost taken = { λ output. Some output.bytes };
 
     ghost faults = { λ output. output.faults };
 
     /// A call that fails puts nothing; one that finds no memory changes nothing, and isn't counted.
     fn put_all(&mut self, bytes: &[u8]) -> Result<(), SinkRefusal>
         ensures bytes { Puts (Some self.old.bytes) (Some self.new.bytes) result bytes.now }
-        ensures cause { HasSinkCause self.old.faults self.new.faults result }
-        ensures fails { IsErrOf result SinkRefusal.Failed ↔ IsTrue (is_to_fail self.old.fails self.old.calls) }
+        ensures cause { self.new.faults ≡ faults_after self.old.faults (is_failed result) }
+        ensures fails { is_failed result ≡ is_to_fail self.old.fails self.old.calls }
         ensures after { self.new ≡ after_put self.old bytes.now result }
     {
         if is_on_list(&self.fails, self.calls) {

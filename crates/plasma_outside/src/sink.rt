@@ -1,7 +1,8 @@
-ghost use Rattle.std.specs.Prelude.{ℕ, List, Option};
-ghost use Rattle.plasma_outside.specs.Causes.{HasSinkCause};
-ghost use Rattle.plasma_outside.specs.Outside.{Puts};
+ghost use Rattle.std.specs.Prelude.{◌≡◌, ℕ, List, Option};
+ghost use Rattle.plasma_base.specs.Causes.{faults_after};
+ghost use Rattle.plasma_outside.specs.Outside.{Puts, is_failed};
 
+use plasma_base::NoMemory;
 use std::alloc::AllocError;
 use thiserror::Error;
 
@@ -27,17 +28,28 @@ impl From<AllocError> for SinkRefusal {
     }
 }
 
+impl From<NoMemory> for SinkRefusal {
+    ghost use Rattle.std.specs.Prelude.{◌≡◌};
+    ghost use Rattle.plasma_outside.specs.declared.sink.SinkRefusal.{SinkRefusal};
+
+    ghost from_gives = { λ _ refusal. refusal ≡ SinkRefusal.NoMemory };
+
+    fn from(_error: NoMemory) -> SinkRefusal {
+        SinkRefusal::NoMemory
+    }
+}
+
 /// An output that is written at its end.
 pub trait Sink {
-    /// The bytes that the sink holds, where it tells them.
-    ghost held: { Self → Option (List ℕ) };
+    /// The bytes that the sink has taken, where it tells them.
+    ghost taken: { Self → Option (List ℕ) };
 
     /// How often the sink has failed; it stops at `u64::MAX`.
     ghost faults: { Self → ℕ };
 
-    /// Puts all bytes at the end, or stops after a beginning of them. `Failed` comes only where the
-    /// count of faults rose, and at any other answer the count stays.
+    /// Puts all bytes at the end, or stops after a beginning of them. `Failed` counts one fault, and
+    /// at any other answer the count stays.
     fn put_all(&mut self, bytes: &[u8]) -> Result<(), SinkRefusal>
-        ensures bytes { Puts (held self.old) (held self.new) result bytes.now }
-        ensures cause { HasSinkCause (faults self.old) (faults self.new) result };
+        ensures bytes { Puts (taken self.old) (taken self.new) result bytes.now }
+        ensures cause { faults self.new ≡ faults_after (faults self.old) (is_failed result) };
 }

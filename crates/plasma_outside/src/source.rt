@@ -1,6 +1,6 @@
-ghost use Rattle.std.specs.Prelude.{◌<◌, ℕ, List, length, Option};
+ghost use Rattle.std.specs.Prelude.{◌≡◌, ◌<◌, ℕ, Bool, List, length, Option, is_err};
 ghost use Rattle.std.specs.Io.{ReadsAtMost};
-ghost use Rattle.plasma_outside.specs.Causes.{HasCause};
+ghost use Rattle.plasma_base.specs.Causes.{faults_after};
 ghost use Rattle.plasma_outside.specs.Outside.{Takes};
 
 use thiserror::Error;
@@ -18,12 +18,16 @@ pub trait Source {
     /// How often the source has failed; it stops at `u64::MAX`.
     ghost faults: { Self → ℕ };
 
+    /// Whether the last take failed.
+    ghost failed_last: { Self → Bool };
+
     /// Takes the next bytes into a beginning of `room`, which isn't empty, and answers how many: 0
-    /// only at the end of the input. `SourceFailed` comes only where the count of faults rose, and
-    /// takes nothing; where bytes or the end are answered, the count stays.
+    /// only at the end of the input. `SourceFailed` takes nothing and counts one fault; where bytes
+    /// or the end are answered, the count stays.
     fn take(&mut self, room: &mut [u8]) -> Result<usize, SourceFailed>
         requires { 0 < length room.old }
         ensures bound { ReadsAtMost result room.new }
         ensures bytes { Takes (left self.old) (left self.new) result room.new }
-        ensures cause { HasCause (faults self.old) (faults self.new) result };
+        ensures cause { faults self.new ≡ faults_after (faults self.old) (is_err result) }
+        ensures last { failed_last self.new ≡ is_err result };
 }

@@ -1,20 +1,23 @@
-ghost use Rattle.std.specs.Prelude.{◌≡◌, ◌≢◌, ◌<◌, length, Err, OnOk, None};
+ghost use Rattle.std.specs.Prelude.{◌≡◌, ◌≢◌, ◌<◌, false, length, Err, is_err, None};
 ghost use Rattle.std.specs.Io.{ReadsAtMost};
-ghost use Rattle.std.specs.Io.KnownBytes.{Appends, ReadConsumes};
-ghost use Rattle.plasma_outside.specs.Causes.{HasCause, HasSinkCause};
-ghost use Rattle.plasma_outside.specs.Outside.{Takes, Puts};
+ghost use Rattle.std.specs.Io.KnownBytes.{ReadConsumes};
+ghost use Rattle.plasma_base.specs.Causes.{faults_after};
+ghost use Rattle.plasma_outside.specs.Outside.{Takes, Puts, is_failed};
+ghost use Rattle.plasma_outside.specs.Standard.{Writes};
 
 use super::sink::{Sink, SinkRefusal};
 use super::source::{Source, SourceFailed};
-use std::io::{Read, Write};
+use std::io::{self, ErrorKind, Read, Write};
 use std::marker::Model;
 
-/// A source over any reader of std, which contracts see as its reader and its count of faults. As a
-/// source it tells nothing of its content. A read that was interrupted counts as a fault too.
+/// A source over any reader of std, which contracts see as its reader, its count of faults and
+/// whether its last read failed. As a source it tells nothing of its content. A read that was
+/// interrupted counts as a fault too.
 #[derive(Drop)]
 pub struct StdSource<R> {
     reader: R,
     faults: u64,
+    failed_last: bool,
 }
 
 impl<R> Model for StdSource<R> {
@@ -22,15 +25,19 @@ impl<R> Model for StdSource<R> {
 
     ghost Value = { StdInput R };
 
-    ghost view = { λ s. record { reader = s.reader; faults = s.faults } };
+    ghost view = { λ s. record { reader = s.reader; faults = s.faults; failed_last = s.failed_last } };
 }
 
 impl<R: Read> StdSource<R> {
     /// A source that hasn't failed yet.
     pub fn make(reader: R) -> StdSource<R>
-        ensures { result ≡ record { reader = reader; faults = 0 } }
+        ensures { result ≡ record { reader = reader; faults = 0; failed_last = false } }
     {
-        StdSource { reader, faults: 0 }
+        StdSource {
+            reader,
+            faults: 0,
+            failed_last: false,
+        }
     }
 }
 
@@ -39,16 +46,23 @@ impl<R: Read> Source for StdSource<R> {
 
     ghost faults = { λ input. input.faults };
 
+    ghost failed_last = { λ input. input.failed_last };
+
     fn take(&mut self, room: &mut [u8]) -> Result<usize, SourceFailed>
         requires { 0 < length room.old }
         ensures bound { ReadsAtMost result room.new }
         ensures bytes { Takes None None result room.new }
-        ensures cause { HasCause self.old.faults self.new.faults result }
+        ensures cause { self.new.faults ≡ faults_after self.old.faults (is_err result) }
+        ensures last { self.new.failed_last ≡ is_err result }
         ensures reader { ReadConsumes (R.remaining self.old.reader) (R.remaining self.new.reader) result room.new }
     {
         match self.reader.read(room) {
-            Ok(count) => Ok(count),
+            Ok(count) => {
+                self.failed_last = false;
+                Ok(count)
+            }
             Err(_) => {
+                self.failed_last = true;
                 self.faults = self.faults.saturating_add(1);
                 Err(SourceFailed)
             }
@@ -82,22 +96,38 @@ impl<W: Write> StdSink<W> {
 }
 
 impl<W: Write> Sink for StdSink<W> {
-    ghost held = { λ _. None };
+    ghost taken = { λ _. None };
 
     ghost faults = { λ output. output.faults };
 
-    /// Writes all bytes and then flushes. It never answers `NoMemory`.
+    /// Writes all bytes and then flushes. A write that takes none of the bytes that are left has
+    /// failed, and so has one that was interrupted; after it nothing is written. It never answers
+    /// `NoMemory`.
     fn put_all(&mut self, bytes: &[u8]) -> Result<(), SinkRefusal>
         ensures bytes { Puts None None result bytes.now }
-        ensures cause { HasSinkCause self.old.faults self.new.faults result }
-        ensures wrote { OnOk result (Appends (W.contents self.old.writer) (W.contents self.new.writer) bytes.now) }
+        ensures cause { self.new.faults ≡ faults_after self.old.faults (is_failed result) }
+        ensures wrote { Writes (W.contents self.old.writer) (W.contents self.new.writer) result bytes.now }
         ensures memory { result ≢ Err SinkRefusal.NoMemory }
     {
-        let written = self.writer.write_all(bytes);
-        if written.is_ok() && self.writer.flush().is_ok() {
-            return Ok(());
+        if write_through(&mut self.writer, bytes).is_err() {
+            self.faults = self.faults.saturating_add(1);
+            return Err(SinkRefusal::Failed);
         }
-        self.faults = self.faults.saturating_add(1);
-        Err(SinkRefusal::Failed)
+        Ok(())
     }
+}
+
+// Writes all bytes and then flushes, and stops at the first write that fails or takes none.
+fn write_through<W: Write>(writer: &mut W, bytes: &[u8]) -> io::Result<()>
+    ensures { Writes (W.contents writer.old) (W.contents writer.new) result bytes.now }
+{
+    let mut rest = bytes;
+    while !rest.is_empty() {
+        let count = writer.write(rest)?;
+        if count == 0 {
+            return Err(ErrorKind::WriteZero.into());
+        }
+        rest = &rest[count..];
+    }
+    writer.flush()
 }

@@ -1,4 +1,4 @@
-use super::runs::replayed;
+use super::runs::replay_output;
 use replay_run::{MOST_LINE_BYTES, MOST_LINES, Status};
 use std::test::Fail;
 
@@ -35,7 +35,7 @@ fn bad_lines_end_the_run(rt: HostRuntime) -> Result<(), Fail> {
         let mut schedule = b"chain 1 9 100\nfund 1 5\n".to_vec(alloc)?;
         schedule.extend_from_slice(line)?;
         schedule.extend_from_slice(b"\nmoney 1\n")?;
-        let (status, sink) = replayed(alloc, &schedule)?;
+        let (status, sink) = replay_output(alloc, &schedule)?;
         assert_eq!(rt; status, Status::BadLine, "{line:?}");
         assert_eq!(rt;
             sink.bytes(),
@@ -51,7 +51,7 @@ fn bad_lines_end_the_run(rt: HostRuntime) -> Result<(), Fail> {
         "chain 1 9",
     ];
     for first in firsts {
-        let (status, sink) = replayed(alloc, first.as_bytes())?;
+        let (status, sink) = replay_output(alloc, first.as_bytes())?;
         assert_eq!(rt; status, Status::BadLine, "{first}");
         assert_eq!(rt; sink.bytes(), b"bad line 1\n".as_slice(), "{first}");
     }
@@ -66,11 +66,11 @@ fn long_inputs_end_the_run(rt: HostRuntime) -> Result<(), Fail> {
     for _ in 0..MOST_LINE_BYTES {
         schedule.push(b'1')?;
     }
-    let (status, sink) = replayed(alloc, &schedule)?;
+    let (status, sink) = replay_output(alloc, &schedule)?;
     assert_eq!(rt; status, Status::BadLine);
     assert_eq!(rt; sink.bytes(), b"1 chain\nbad line 2\n".as_slice());
     schedule.push(b'1')?;
-    let (status, sink) = replayed(alloc, &schedule)?;
+    let (status, sink) = replay_output(alloc, &schedule)?;
     assert_eq!(rt; status, Status::TooLong);
     assert_eq!(rt; sink.bytes(), b"1 chain\ntoo long 2\n".as_slice());
     Ok(())
@@ -83,10 +83,10 @@ fn many_lines_end_the_run(rt: HostRuntime) -> Result<(), Fail> {
     for _ in 1..MOST_LINES {
         schedule.extend_from_slice(b"tick 0\n")?;
     }
-    let (status, _) = replayed(alloc, &schedule)?;
+    let (status, _) = replay_output(alloc, &schedule)?;
     assert_eq!(rt; status, Status::Done);
     schedule.push(b'\n')?;
-    let (status, sink) = replayed(alloc, &schedule)?;
+    let (status, sink) = replay_output(alloc, &schedule)?;
     assert_eq!(rt; status, Status::TooLong);
     assert!(rt;
         sink.bytes()

@@ -1,5 +1,5 @@
 use super::runs::{DEPOSIT_AND_EXIT, DEPOSIT_AND_EXIT_ANSWERS, words};
-use plasma_outside::{MemSink, MemSource};
+use plasma_outside::{MemSink, MemSource, Source};
 use replay_run::{Status, run};
 use std::alloc::Global;
 use std::test::Fail;
@@ -43,6 +43,35 @@ fn faults_end_the_run(rt: HostRuntime) -> Result<(), Fail> {
             text.as_bytes(),
             "{source_fails:?} {sink_fails:?}"
         );
+    }
+    Ok(())
+}
+
+/// Three lines come one by one, and a take fails in place of a line or of the end. The lines after the
+/// fault stay in the source.
+#[test]
+fn lines_after_a_fault_are_not_read(rt: HostRuntime) -> Result<(), Fail> {
+    let alloc = rt.alloc();
+    let words = words(alloc, &["replay"])?;
+    // The call that fails, how many lines come before it, what is written, and how many bytes are left.
+    let cases = [
+        (1, 0, "read fault\n", 31),
+        (2, 1, "1 chain\nread fault\n", 17),
+        (3, 2, "1 chain\n2 funded\nread fault\n", 8),
+        (4, 3, "1 chain\n2 funded\n3 money 5\nread fault\n", 0),
+    ];
+    for (fails, lines, text, left) in cases {
+        let bytes = b"chain 1 9 100\nfund 1 5\nmoney 1\n".to_vec(alloc)?;
+        // A take after the fault would give all that is left.
+        let mut pieces = vec![in alloc; 14, 9, 8]?;
+        pieces.truncate(lines);
+        let mut source = MemSource::make(bytes, pieces, vec![in alloc; fails]?);
+        let mut sink = MemSink::make(alloc, Vec::new(alloc));
+        let status = run(alloc, &words, &mut source, &mut sink);
+        assert_eq!(rt; status, Status::ReadFault, "{fails}");
+        assert_eq!(rt; sink.bytes(), text.as_bytes(), "{fails}");
+        let mut room = [0; 64];
+        assert_eq!(rt; source.take(&mut room), Ok(left), "{fails}");
     }
     Ok(())
 }

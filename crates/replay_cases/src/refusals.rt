@@ -1,4 +1,4 @@
-use super::runs::{KEY, replayed};
+use super::runs::{KEY, replay_output};
 use replay_run::Status;
 use root_contract::{Answer, Contract, Refusal, RootCall};
 use std::test::Fail;
@@ -58,7 +58,7 @@ fn calls_are_refused_in_order(rt: HostRuntime) -> Result<(), Fail> {
         text.push(b'\n')?;
     }
     text.extend_from_slice(b"no exhibit\n")?;
-    let (status, sink) = replayed(alloc, &schedule)?;
+    let (status, sink) = replay_output(alloc, &schedule)?;
     assert_eq!(rt; status, Status::Done);
     assert_eq!(rt; sink.bytes(), text.as_slice());
     Ok(())

@@ -42,7 +42,7 @@ pub fn words(alloc: Global, texts: &[&str]) -> Result<Vec<String>, Fail> {
 }
 
 /// Replays a schedule from memory: the status, and the sink after the run.
-pub fn replayed(alloc: Global, schedule: &[u8]) -> Result<(Status, MemSink), Fail> {
+pub fn replay_output(alloc: Global, schedule: &[u8]) -> Result<(Status, MemSink), Fail> {
     let words = words(alloc, &["replay"])?;
     let mut source = MemSource::make(schedule.to_vec(alloc)?, Vec::new(alloc), Vec::new(alloc));
     let mut sink = MemSink::make(alloc, Vec::new(alloc));

@@ -19,7 +19,7 @@ fn word(alloc: Global, bytes: &[u8]) -> Result<String, Fail> {
 
 /// What `verify` answers of these byte strings: its status, and the sink after the run. The source
 /// fails at its first call, which is never made.
-fn asked(
+fn verify_output(
     alloc: Global,
     key: &[u8],
     message: &[u8],
@@ -60,7 +60,7 @@ fn signatures_are_verified(rt: HostRuntime) -> Result<(), Fail> {
         (none, none, none, "invalid\n"),
     ];
     for (key, message, signature, text) in cases {
-        let (status, sink) = asked(alloc, key, message, signature)?;
+        let (status, sink) = verify_output(alloc, key, message, signature)?;
         assert_eq!(rt; status, Status::Done);
         assert_eq!(rt; sink.bytes(), text.as_bytes());
     }
@@ -68,7 +68,7 @@ fn signatures_are_verified(rt: HostRuntime) -> Result<(), Fail> {
 }
 
 /// The bytes with one of them changed.
-fn changed(alloc: Global, bytes: &[u8], place: usize, change: u8) -> Result<Vec<u8>, Fail> {
+fn with_change(alloc: Global, bytes: &[u8], place: usize, change: u8) -> Result<Vec<u8>, Fail> {
     let mut changed = bytes.to_vec(alloc)?;
     if let Some(byte) = changed.get_mut(place) {
         *byte ^= change;
@@ -84,14 +84,14 @@ fn changed_signatures_and_keys_are_invalid(rt: HostRuntime) -> Result<(), Fail> 
     // Of the signature: the leaf 63, the one-time type 3, the LMS type 6, a chain. Of the key: its LMS
     // type 6, its one-time type 3, its root.
     for (place, change) in [(3, 32), (7, 7), (1131, 3), (40, 1)] {
-        let signature = changed(alloc, &signature, place, change)?;
-        let (status, sink) = asked(alloc, &key, b"abc", &signature)?;
+        let signature = with_change(alloc, &signature, place, change)?;
+        let (status, sink) = verify_output(alloc, &key, b"abc", &signature)?;
         assert_eq!(rt; status, Status::Done);
         assert_eq!(rt; sink.bytes(), b"invalid\n".as_slice(), "{place}");
     }
     for (place, change) in [(3, 3), (7, 7), (55, 1)] {
-        let key = changed(alloc, &key, place, change)?;
-        let (status, sink) = asked(alloc, &key, b"abc", &signature)?;
+        let key = with_change(alloc, &key, place, change)?;
+        let (status, sink) = verify_output(alloc, &key, b"abc", &signature)?;
         assert_eq!(rt; status, Status::Done);
         assert_eq!(rt; sink.bytes(), b"invalid\n".as_slice(), "{place}");
     }

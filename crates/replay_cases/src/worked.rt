@@ -1,4 +1,4 @@
-use super::runs::{DEPOSIT_AND_EXIT, DEPOSIT_AND_EXIT_ANSWERS, replayed, words};
+use super::runs::{DEPOSIT_AND_EXIT, DEPOSIT_AND_EXIT_ANSWERS, replay_output, words};
 use plasma_outside::{MemSink, MemSource};
 use replay_run::{Status, run};
 use std::test::Fail;
@@ -16,7 +16,7 @@ fn schedules_are_replayed(rt: HostRuntime) -> Result<(), Fail> {
         ("chain 1 9 100\nmoney 7", "1 chain\n2 money 0\nno exhibit\n"),
     ];
     for (schedule, text) in cases {
-        let (status, sink) = replayed(rt.alloc(), schedule.as_bytes())?;
+        let (status, sink) = replay_output(rt.alloc(), schedule.as_bytes())?;
         assert_eq!(rt; status, Status::Done, "{schedule}");
         assert_eq!(rt; sink.bytes(), text.as_bytes(), "{schedule}");
     }

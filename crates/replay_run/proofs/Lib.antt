@@ -1,3 +1,5 @@
 mod LineLaws
 mod EndingLaws
 mod RunLaws
+mod CutLaws
+mod ReplyLaws

@@ -10,22 +10,31 @@ use Rattle.root_contract.proofs.Places.{position-is, position-none}
 use Rattle.replay_run.specs.Lines.{lines_in, is_feed, is_whole, before_lines, CutsLine}
 
 -- with a line feed, the first line ends behind it
-pub lines_in-cut : (bytes : List ℕ) → position_or_len is_feed bytes < length bytes → lines_in bytes ≡ take (position_or_len is_feed bytes + 1) bytes ∷ lines_in (drop (position_or_len is_feed bytes + 1) bytes)
+pub lines_in-cut : (bytes : List ℕ) → position_or_len is_feed bytes < length bytes
+    → lines_in bytes ≡ take (position_or_len is_feed bytes + 1) bytes ∷ lines_in
+    (drop (position_or_len is_feed bytes + 1) bytes)
 unfolding lines_in
 lines_in-cut [] below = absurd (omega arith)
 lines_in-cut (b ∷ bs) below =
-    (elim (b == 10) as (λ t. cond (not t) (1 + position_or_len is_feed bs) 0 < length (b ∷ bs) → (if t then (b ∷ []) ∷ lines_in bs else before_lines b (lines_in bs)) ≡ take (cond (not t) (1 + position_or_len is_feed bs) 0 + 1) (b ∷ bs) ∷ lines_in (drop (cond (not t) (1 + position_or_len is_feed bs) 0 + 1) (b ∷ bs))) [
+    (elim (b == 10) as (λ t. cond (not t) (1 + position_or_len is_feed bs) 0 < length (b ∷ bs) →
+    (if t then (b ∷ []) ∷ lines_in bs else before_lines b (lines_in bs))
+    ≡ take (cond (not t) (1 + position_or_len is_feed bs) 0 + 1) (b ∷ bs) ∷ lines_in
+    (drop (cond (not t) (1 + position_or_len is_feed bs) 0 + 1) (b ∷ bs))) [
       | true ↦ λ h. refl
-      | false ↦ λ h. let again = rw add-one at (lines_in-cut bs (omega arith)) in rw (one-add, add-one) (ap (before_lines b) again)
+      | false ↦ λ h. let again =
+          rw add-one at (lines_in-cut bs (omega arith)) in rw (one-add, add-one) (ap (before_lines b) again)
     ]) below
 
 -- without one, there is one line
-pub lines_in-whole : (b : ℕ) (bytes : List ℕ) → length (b ∷ bytes) ≤ position_or_len is_feed (b ∷ bytes) → lines_in (b ∷ bytes) ≡ (b ∷ bytes) ∷ []
+pub lines_in-whole : (b : ℕ) (bytes : List ℕ) → length (b ∷ bytes) ≤ position_or_len is_feed (b ∷ bytes)
+    → lines_in (b ∷ bytes) ≡ (b ∷ bytes) ∷ []
 unfolding lines_in
 lines_in-whole b [] above =
-    (elim (b == 10) as (λ t. length (b ∷ []) ≤ cond (not t) (1 + position_or_len is_feed []) 0 → (if t then (b ∷ []) ∷ [] else (b ∷ []) ∷ []) ≡ (b ∷ []) ∷ []) [ true ↦ λ h. refl | false ↦ λ h. refl ]) above
+    (elim (b == 10) as (λ t. length (b ∷ []) ≤ cond (not t) (1 + position_or_len is_feed []) 0 →
+    (if t then (b ∷ []) ∷ [] else (b ∷ []) ∷ []) ≡ (b ∷ []) ∷ []) [ true ↦ λ h. refl | false ↦ λ h. refl ]) above
 lines_in-whole b (c ∷ cs) above =
-    (elim (b == 10) as (λ t. length (b ∷ c ∷ cs) ≤ cond (not t) (1 + position_or_len is_feed (c ∷ cs)) 0 → (if t then (b ∷ []) ∷ lines_in (c ∷ cs) else before_lines b (lines_in (c ∷ cs))) ≡ (b ∷ c ∷ cs) ∷ []) [
+    (elim (b == 10) as (λ t. length (b ∷ c ∷ cs) ≤ cond (not t) (1 + position_or_len is_feed (c ∷ cs)) 0 →
+    (if t then (b ∷ []) ∷ lines_in (c ∷ cs) else before_lines b (lines_in (c ∷ cs))) ≡ (b ∷ c ∷ cs) ∷ []) [
       | true ↦ λ h. absurd (omega arith)
       | false ↦ λ h. ap (before_lines b) (lines_in-whole c cs (omega arith))
     ]) above
@@ -50,7 +59,8 @@ pub lines-are_cut : (bytes : List ℕ) → AreCut (lines_in bytes)
 unfolding lines_in
 lines-are_cut [] = tt
 lines-are_cut (b ∷ bs) =
-    (elim (b == 10) as (λ t. (b == 10) ≡ t → AreCut (if t then (b ∷ []) ∷ lines_in bs else before_lines b (lines_in bs))) [
+    (elim (b == 10) as (λ t. (b == 10) ≡ t → AreCut
+    (if t then (b ∷ []) ∷ lines_in bs else before_lines b (lines_in bs))) [
       | true ↦ λ is. (omega arith, λ unended. absurd (true≢false (sym is ∙ unended)), lines-are_cut bs)
       | false ↦ λ is. cut-before b (lines_in bs) (lines-are_cut bs)
     ]) refl
@@ -69,17 +79,29 @@ pub size_of-lines_in : (bytes : List ℕ) → size_of (lines_in bytes) ≡ lengt
 unfolding lines_in size_of
 size_of-lines_in [] = refl
 size_of-lines_in (b ∷ bs) =
-    elim (b == 10) as (λ t. size_of (if t then (b ∷ []) ∷ lines_in bs else before_lines b (lines_in bs)) ≡ length (b ∷ bs)) [
+    elim (b == 10) as (λ t. size_of (if t then (b ∷ []) ∷ lines_in bs else before_lines b (lines_in bs)) ≡ length
+    (b ∷ bs)) [
       | true ↦ omega (arith, size_of-lines_in bs)
       | false ↦ omega (arith, size-before b (lines_in bs), size_of-lines_in bs)
     ]
 
-pub cut-none : (bytes : List ℕ) → (length bytes == 0) ≡ false → position is_feed bytes ≡ None → CutsLine bytes bytes []
+pub cut-none : (bytes : List ℕ) → (length bytes == 0) ≡ false → position is_feed bytes ≡ None
+    → CutsLine bytes bytes []
 unfolding lines_in
 cut-none [] some none = absurd (true≢false some)
-cut-none (b ∷ bs) some none = record { lines = lines_in-whole b bs (position-none is_feed (b ∷ bs) none); sizes = omega arith; some = omega arith }
+cut-none (b ∷ bs) some none =
+    record {
+      lines = lines_in-whole b bs (position-none is_feed (b ∷ bs) none);
+      sizes = omega arith;
+      some = omega arith;
+    }
 
-pub cut-some : (bytes : List ℕ) (i : ℕ) → i < length bytes → position is_feed bytes ≡ Some i → CutsLine bytes (take (i + 1) bytes) (drop (i + 1) bytes)
+pub cut-some : (bytes : List ℕ) (i : ℕ) → i < length bytes → position is_feed bytes ≡ Some i
+    → CutsLine bytes (take (i + 1) bytes) (drop (i + 1) bytes)
 cut-some bytes i below found =
     let at : position_or_len is_feed bytes ≡ i = position-is is_feed bytes i found in
-    record { lines = rw at at (lines_in-cut bytes (omega arith)); sizes = omega (arith, length-take (i + 1) bytes, length-drop (i + 1) bytes); some = omega (arith, length-take (i + 1) bytes) }
+    record {
+      lines = rw at at (lines_in-cut bytes (omega arith));
+      sizes = omega (arith, length-take (i + 1) bytes, length-drop (i + 1) bytes);
+      some = omega (arith, length-take (i + 1) bytes);
+    }

@@ -9,7 +9,8 @@ use Rattle.replay_run.specs.declared.form.Form.TheVariants.{Replay, Verify}
 -- `verify` with three byte words, each `0x` and an even number of lower-case digits
 abbrev pub verify_of : List ℕ → List ℕ → List ℕ → Option Form
 verify_of key message signature =
-    option_and_then (λ k. option_and_then (λ m. option_map (Verify k m) (hex_in signature)) (hex_in message)) (hex_in key)
+    option_and_then (λ k. option_and_then (λ m. option_map (Verify k m) (hex_in signature)) (hex_in message))
+    (hex_in key)
 
 -- the form that the words spell, if they spell one
 unfoldable pub form_of : List (List ℕ) → Option Form
@@ -17,7 +18,8 @@ form_of [] = None
 form_of (word ∷ []) = if bytes_eq word (codes "replay") then Some Replay else None
 form_of (word ∷ key ∷ []) = None
 form_of (word ∷ key ∷ message ∷ []) = None
-form_of (word ∷ key ∷ message ∷ signature ∷ []) = if bytes_eq word (codes "verify") then verify_of key message signature else None
+form_of (word ∷ key ∷ message ∷ signature ∷ []) =
+    if bytes_eq word (codes "verify") then verify_of key message signature else None
 form_of (word ∷ key ∷ message ∷ signature ∷ more ∷ words) = None
 
 -- the key has 56 bytes and reads, and the signature of the message is valid under it (RFC 8554)

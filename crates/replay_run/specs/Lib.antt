@@ -7,3 +7,4 @@ pub mod Output
 pub mod Runs
 pub mod Codes
 pub mod Steps
+pub mod Laws

@@ -28,7 +28,9 @@ text_of line = if is_whole line then take (length line - 1) line else line
 -- past the bytes that an input may have
 abbrev pub is_too_long : ℕ → ℕ → List ℕ → Bool
 is_too_long n start line =
-    nat_lt MOST_LINES n || nat_lt MOST_LINE_BYTES (length (text_of line)) || nat_lt MOST_INPUT_BYTES (start + length line)
+    nat_lt MOST_LINES n
+    || nat_lt MOST_LINE_BYTES (length (text_of line))
+    || nat_lt MOST_INPUT_BYTES (start + length line)
 
 -- the first of these lines and what stands after it
 pub record CutsLine (bytes line rest : List ℕ) : Type 0 where

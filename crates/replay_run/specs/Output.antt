@@ -1,7 +1,9 @@
 -- What a run writes and how it ends, as a function of the words and of the bytes that were read.
 use Rattle.std.specs.Prelude.{ℕ, Bool, if◌then◌else◌, List, [], ◌∷◌, ◌++◌, codes, Option, Some, None}
 use Rattle.replay_run.specs.declared.status.Status.{Status}
-use Rattle.replay_run.specs.declared.status.Status.TheVariants.{Done, Usage, BadLine as BadLineStatus, ReadFault as ReadFaultStatus, TooLong as TooLongStatus}
+use Rattle.replay_run.specs.declared.status.Status.TheVariants.{Done, Usage, BadLine as BadLineStatus, ReadFault as ReadFaultStatus, WriteFault as WriteFaultStatus, NoMemory as NoMemoryStatus, TooLong as TooLongStatus}
+use Rattle.plasma_outside.specs.declared.sink.SinkRefusal.{SinkRefusal}
+use Rattle.plasma_outside.specs.declared.sink.SinkRefusal.TheVariants.{Failed, NoMemory}
 use Rattle.replay_run.specs.declared.reply.Ending.{Ending}
 use Rattle.replay_run.specs.declared.reply.Ending.TheVariants.{Complete, BadLine, ReadFault, TooLong}
 use Rattle.replay_run.specs.declared.form.Form.{Form}
@@ -18,7 +20,11 @@ pub record Output : Type 0 where
 
 -- words that are no form: the line that names the forms
 abbrev pub usage_output : Output
-usage_output = record { status = Usage; answers = []; last = codes "usage: plasma replay | brief | wallet | operator | watcher | init | make | verify" ++ 10 ∷ [] }
+usage_output = record {
+  status = Usage;
+  answers = [];
+  last = codes "usage: plasma replay | brief | wallet | operator | watcher | init | make | verify" ++ 10 ∷ [];
+}
 
 -- the status of what ended a replay
 abbrev pub status_of : Ending → Status
@@ -29,11 +35,25 @@ status_of (TooLong n) = TooLongStatus
 
 -- `replay`: the answers of the trace of the input, and the status and the line of what ended it
 abbrev pub replay_output : List ℕ → Bool → Output
-replay_output bytes ended = let trace = trace_of bytes ended in record { status = status_of trace.ending; answers = answers_text trace; last = ending_text trace.ending }
+replay_output bytes ended =
+    let trace = trace_of bytes ended in record {
+      status = status_of trace.ending;
+      answers = answers_text trace;
+      last = ending_text trace.ending;
+    }
 
 -- `verify`: one word
 abbrev pub verify_output : Bool → Output
-verify_output verified = record { status = Done; answers = []; last = (if verified then codes "valid" else codes "invalid") ++ 10 ∷ [] }
+verify_output verified = record {
+  status = Done;
+  answers = [];
+  last = (if verified then codes "valid" else codes "invalid") ++ 10 ∷ [];
+}
+
+-- the status of what stopped the writing
+abbrev pub status_of_refusal : SinkRefusal → Status
+status_of_refusal Failed = WriteFaultStatus
+status_of_refusal NoMemory = NoMemoryStatus
 
 -- the output of a form over these bytes; `ended` says that the input was read to its end. `verify` reads nothing
 abbrev pub form_output : Option Form → List ℕ → Bool → Output

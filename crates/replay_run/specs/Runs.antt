@@ -1,11 +1,14 @@
 -- What a run does to its source and its sink.
-use Rattle.std.specs.Prelude.{◌≡◌, ℕ, Bool, true, false, List, [], ◌++◌, ◌⊎◌, Option, option_map, IfSome}
+use Rattle.std.specs.Prelude.{◌≡◌, ℕ, ◌<◌, Bool, true, false, List, [], ◌++◌, ◌⊎◌, Option, option_map, IfSome, Result, Ok, Err}
+use Rattle.plasma_base.specs.Causes.{faults_after}
+use Rattle.plasma_base.specs.declared.memory.NoMemory.{NoMemory as WantsMemory}
+use Rattle.replay_run.specs.declared.TheConstants.{MOST_INPUT_BYTES}
 use Rattle.replay_run.specs.declared.status.Status.{Status}
 use Rattle.replay_run.specs.declared.status.Status.TheVariants.{Done, Usage, BadLine, ReadFault, WriteFault, NoMemory, TooLong}
 use Rattle.replay_run.specs.declared.reply.Ending.{Ending}
 use Rattle.replay_run.specs.Trace.{Trace}
 use Rattle.replay_run.specs.Text.{answers_text, ending_text}
-use Rattle.replay_run.specs.Output.{Output, output_of}
+use Rattle.replay_run.specs.Output.{Output}
 
 -- where it tells, the source gave these bytes, and these are left; an input that was read to its end has none left
 pub record Gave (before after : Option (List ℕ)) (bytes : List ℕ) (ended : Bool) : Type 0 where
@@ -16,11 +19,45 @@ pub record Gave (before after : Option (List ℕ)) (bytes : List ℕ) (ended : B
 abbrev pub GavePart : Option (List ℕ) → Option (List ℕ) → Type 0
 GavePart before after = (bytes : List ℕ) × Gave before after bytes false
 
--- where it tells, the sink holds this text after what it held before
-abbrev pub Wrote : Option (List ℕ) → Option (List ℕ) → List ℕ → Type 0
-Wrote before after text = after ≡ option_map (λ held. held ++ text) before
+-- A source is read up to its first fault: in a reading that failed it counted that one, and its last take is the one
+-- that failed; in another it counted none.
+pub record ReadsToFault (before after : ℕ) (failed_last failed : Bool) : Type 0 where
+  pub count : after ≡ faults_after before failed
+  pub last : failed ≡ true → failed_last ≡ true
 
--- where it tells, the sink holds a beginning of this text after what it held before
+-- How the reading of an input of so many bytes went, where `Reads failed` says that it failed or didn't: an input that
+-- isn't read to its end failed, or it has more bytes than an input may have.
+abbrev pub ReadsInput : Result Bool WantsMemory → ℕ → (Bool → Type 0) → Type 0
+ReadsInput (Ok true) size Reads = Reads false
+ReadsInput (Ok false) size Reads = Reads true ⊎ (Reads false × (MOST_INPUT_BYTES < size))
+ReadsInput (Err why) size Reads = Reads false
+
+-- What a status says of the reading: it failed, or it didn't where all was done. Where a line of the bytes before a
+-- fault ended the run, or its text wasn't written to the end, it may have failed or not.
+abbrev pub ReadsBy : Status → (Bool → Type 0) → Type 0
+ReadsBy ReadFault Reads = Reads true
+ReadsBy Done Reads = Reads false
+ReadsBy Usage Reads = Reads false
+ReadsBy BadLine Reads = (failed : Bool) × Reads failed
+ReadsBy TooLong Reads = (failed : Bool) × Reads failed
+ReadsBy WriteFault Reads = (failed : Bool) × Reads failed
+ReadsBy NoMemory Reads = (failed : Bool) × Reads failed
+
+-- whether a status says that the sink failed
+abbrev pub is_write_fault : Status → Bool
+is_write_fault WriteFault = true
+is_write_fault Done = false
+is_write_fault Usage = false
+is_write_fault BadLine = false
+is_write_fault ReadFault = false
+is_write_fault NoMemory = false
+is_write_fault TooLong = false
+
+-- where it tells, the sink has taken this text after what it had taken before
+abbrev pub Wrote : Option (List ℕ) → Option (List ℕ) → List ℕ → Type 0
+Wrote before after text = after ≡ option_map (λ taken. taken ++ text) before
+
+-- where it tells, the sink has taken a beginning of this text after what it had taken before
 pub record WroteFront (before after : Option (List ℕ)) (text : List ℕ) : Type 0 where
   pub front : List ℕ
   pub back : List ℕ
@@ -28,7 +65,7 @@ pub record WroteFront (before after : Option (List ℕ)) (text : List ℕ) : Typ
   pub wrote : Wrote before after front
 
 -- A run that was stopped by the sink or for want of memory wrote a beginning of its text. Where that text says that
--- the input failed, the source failed, or a beginning of the answers alone was written.
+-- the input failed, the reading did, or a beginning of the answers alone was written.
 pub record Stops (output : Output) (before after : Option (List ℕ)) (failed : Type 0) : Type 0 where
   pub front : WroteFront before after (output.answers ++ output.last)
   pub fault : output.status ≡ ReadFault → failed ⊎ WroteFront before after output.answers
@@ -37,7 +74,7 @@ pub record Stops (output : Output) (before after : Option (List ℕ)) (failed : 
 abbrev pub EndsWhole : Output → Status → Option (List ℕ) → Option (List ℕ) → Type 0
 EndsWhole output status before after = (output.status ≡ status) × Wrote before after (output.answers ++ output.last)
 
--- what a run with this status did; `failed` says that its source failed
+-- what a run with this status did; `failed` says that its reading failed
 abbrev pub EndsAs : Output → Status → Option (List ℕ) → Option (List ℕ) → Type 0 → Type 0
 EndsAs output WriteFault before after failed = Stops output before after failed
 EndsAs output NoMemory before after failed = Stops output before after failed
@@ -48,19 +85,22 @@ EndsAs output ReadFault before after failed = EndsWhole output ReadFault before 
 EndsAs output TooLong before after failed = EndsWhole output TooLong before after
 
 -- A run took some bytes of the source, and what it wrote and its status are the output over these bytes.
-pub record RanOver (output : List ℕ → Bool → Output) (left_before left_after held_before held_after : Option (List ℕ)) (failed : Type 0) (status : Status) : Type 0 where
+pub record RanOver
+    (output : List ℕ → Bool → Output)
+    (left_before left_after taken_before taken_after : Option (List ℕ))
+    (failed : Type 0)
+    (status : Status)
+    : Type 0 where
   pub bytes : List ℕ
   pub ended : Bool
   pub gave : Gave left_before left_after bytes ended
-  pub ends : EndsAs (output bytes ended) status held_before held_after failed
+  pub ends : EndsAs (output bytes ended) status taken_before taken_after failed
 
--- the same of a run with these words
-abbrev pub Ran : List (List ℕ) → Option (List ℕ) → Option (List ℕ) → Option (List ℕ) → Option (List ℕ) → Type 0 → Status → Type 0
-Ran words left_before left_after held_before held_after failed status = RanOver (output_of words) left_before left_after held_before held_after failed status
-
--- all answers of a trace were given, and what ended it: the sink holds a beginning of their text, and the rest of it
--- is gathered
-pub record Answered (before after : Option (List ℕ)) (gathered : List ℕ) (trace : Trace) (ending : Ending) : Type 0 where
+-- all answers of a trace were given, and what ended it: the sink has taken a beginning of their text, and the rest of
+-- it is gathered
+pub record GathersAnswers
+    (before after : Option (List ℕ)) (gathered : List ℕ) (trace : Trace) (ending : Ending)
+    : Type 0 where
   pub ends : ending ≡ trace.ending
   pub put : List ℕ
   pub wrote : Wrote before after put

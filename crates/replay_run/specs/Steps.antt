@@ -3,19 +3,15 @@ use Rattle.std.specs.Prelude.{◌≡◌, Option, Some, Result, Ok, Err}
 use Rattle.root_rules.specs.Chain.{Chain}
 use Rattle.replay_run.specs.declared.reply.Reply.{Reply}
 use Rattle.replay_run.specs.declared.reply.Ending.{Ending}
-use Rattle.replay_run.specs.declared.reply.LineStop.{LineStop}
-use Rattle.replay_run.specs.declared.reply.LineStop.TheVariants.{Ends, NoMemory}
-use Rattle.replay_run.specs.Trace.{Stepped}
+use Rattle.replay_run.specs.Trace.{AnsweredLine}
 
 -- the step is made: it left this state and gave this reply
-abbrev pub Steps : Option Stepped → Option Chain → Reply → Type 0
-Steps stepped state reply = (chain : Chain) × (state ≡ Some chain) × (stepped ≡ Some (record { chain = chain; reply = reply }))
+abbrev pub Steps : Option AnsweredLine → Option Chain → Reply → Type 0
+Steps step state reply =
+    (chain : Chain) × (state ≡ Some chain) × (step ≡ Some (record { chain = chain; reply = reply }))
 
--- the line was answered: its step left this state and gave this reply
-abbrev pub AnswersLine : Result Stepped Ending → Option Chain → Reply → Type 0
-AnswersLine stepped state reply = (chain : Chain) × (state ≡ Some chain) × (stepped ≡ Ok (record { chain = chain; reply = reply }))
-
--- the line ended the run so; want of memory says nothing of it
-abbrev pub EndsLine : Result Stepped Ending → LineStop → Type 0
-EndsLine stepped (Ends ending) = stepped ≡ Err ending
-EndsLine stepped NoMemory = Unit {0}
+-- what the line was answered: its step left this state and gave this reply, or it ended the run so
+abbrev pub AnswersLine : Result AnsweredLine Ending → Option Chain → Result Reply Ending → Type 0
+AnswersLine step state (Ok reply) =
+    (chain : Chain) × (state ≡ Some chain) × (step ≡ Ok (record { chain = chain; reply = reply }))
+AnswersLine step state (Err ending) = step ≡ Err ending

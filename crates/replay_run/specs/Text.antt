@@ -1,7 +1,7 @@
 -- The text of a trace.
 use Rattle.std.specs.Prelude.{ℕ, List, [], ◌∷◌, ◌++◌, codes}
 use Rattle.std.specs.List.{flat_map}
-use Rattle.schedule_text.specs.Tokens.{number_text}
+use Rattle.line_forms.specs.Tokens.{number_text}
 use Rattle.root_rules.specs.declared.call.Answer.{Answer}
 use Rattle.root_rules.specs.declared.call.Answer.TheVariants.{Funded, Ticked, Deposited, Started, Paid, Dropped, Refused, NoMemory}
 use Rattle.root_rules.specs.declared.call.Refusal.{Refusal}

@@ -1,5 +1,5 @@
 -- What the lines of a schedule are answered: the trace.
-use Rattle.std.specs.Prelude.{ℕ, ◌+◌, ◌&&◌, not, Bool, if◌then◌else◌, List, [], ◌∷◌, ◌++◌, length, replicate, Option, Some, None, Result, Ok, Err, option_and_then}
+use Rattle.std.specs.Prelude.{ℕ, ◌+◌, ◌&&◌, not, Bool, if◌then◌else◌, List, [], ◌∷◌, ◌++◌, length, replicate, Option, Some, None, Result, Ok, Err, option_map, option_and_then}
 use Rattle.std.specs.Int.{w64, to_be_bytes}
 use Rattle.root_rules.specs.declared.call.RootCall.{RootCall}
 use Rattle.root_rules.specs.declared.call.RootCall.TheVariants.{Fund, Tick, Deposit, StartDeposit, Finish}
@@ -11,6 +11,7 @@ use Rattle.schedule_text.specs.declared.line.Line.TheVariants.{Chain as ChainLin
 use Rattle.schedule_text.specs.declared.line.CallForm.{CallForm}
 use Rattle.schedule_text.specs.declared.line.CallForm.TheVariants.{Deposit as DepositForm, Start as StartForm, Finish as FinishForm}
 use Rattle.schedule_text.specs.Grammar.{line_in}
+use Rattle.line_forms.specs.declared.tokens.HexOrName.TheVariants.{Hex}
 use Rattle.replay_run.specs.declared.reply.Reply.{Reply}
 use Rattle.replay_run.specs.declared.reply.Reply.TheVariants.{Chain as ChainReply, Money, Answered}
 use Rattle.replay_run.specs.declared.reply.Ending.{Ending}
@@ -25,60 +26,77 @@ tag_of tag = replicate 24 0 ++ to_be_bytes w64 tag
 abbrev pub new_chain : ℕ → ℕ → ℕ → Chain
 new_chain tag operator most = record { tag = tag_of tag; operator = operator; most_blocks = most; log = [] }
 
--- the call of an account that a form spells
-abbrev pub call_of : ℕ → CallForm → RootCall
-call_of account (DepositForm amount key) = Deposit account amount key
-call_of account (StartForm coin block) = StartDeposit account coin block
-call_of account (FinishForm coin exit) = Finish account coin exit
+-- the call of an account that a form spells, of the calls that the contract knows so far; a name needs a wallet
+abbrev pub call_of : ℕ → CallForm → Option RootCall
+call_of account (DepositForm amount (Hex key)) = Some (Deposit account amount key)
+call_of account (StartForm coin block) = Some (StartDeposit account coin block)
+call_of account (FinishForm coin exit) = Some (Finish account coin exit)
+call_of account form = None
+
+-- what a line asks for: that the chain begins, that a call is entered, or a balance
+pub data Request : Type 0 where
+  Begins : ℕ → ℕ → ℕ → Request
+  Enters : RootCall → Request
+  Asks : ℕ → Request
+
+-- what a line asks for, if it is a line that is answered so far
+abbrev pub request_of : Line → Option Request
+request_of (ChainLine tag operator most) = Some (Begins tag operator most)
+request_of (FundLine account amount) = Some (Enters (Fund account amount))
+request_of (TickLine time) = Some (Enters (Tick time))
+request_of (MoneyLine account) = Some (Asks account)
+request_of (CallLine account form) = option_map Enters (call_of account form)
+
+-- what the line that bytes spell asks for, if they spell such a line
+unfoldable pub request_in : List ℕ → Option Request
+request_in text = option_and_then request_of (line_in text)
 
 -- what an answered line leaves: the chain, and the reply
-pub record Stepped : Type 0 where
+pub record AnsweredLine : Type 0 where
   pub chain : Chain
   pub reply : Reply
 
 -- a call on the chain: its answer, and the log after it
-abbrev pub called : Option Chain → RootCall → Option Stepped
-called None call = None
-called (Some chain) call =
+abbrev pub call_step : Option Chain → RootCall → Option AnsweredLine
+call_step None call = None
+call_step (Some chain) call =
     Some (record {
       chain = with_log chain (log_after (rules_of chain) chain.log call);
       reply = Answered (answer_to (rules_of chain) chain.log call);
     })
 
 -- the balance of an account
-abbrev pub asked : Option Chain → ℕ → Option Stepped
-asked None account = None
-asked (Some chain) account = Some (record { chain = chain; reply = Money (balance_of chain.log account) })
+abbrev pub money_step : Option Chain → ℕ → Option AnsweredLine
+money_step None account = None
+money_step (Some chain) account = Some (record { chain = chain; reply = Money (balance_of chain.log account) })
 
 -- the first line begins the chain, and no other does
-abbrev pub begun : Option Chain → Chain → Option Stepped
-begun None chain = Some (record { chain = chain; reply = ChainReply })
-begun (Some earlier) chain = None
+abbrev pub chain_step : Option Chain → Chain → Option AnsweredLine
+chain_step None chain = Some (record { chain = chain; reply = ChainReply })
+chain_step (Some earlier) chain = None
 
 -- the step of one line; none where the line breaks a rule of declarations
-unfoldable pub step : Option Chain → Line → Option Stepped
-step state (ChainLine tag operator most) = begun state (new_chain tag operator most)
-step state (FundLine account amount) = called state (Fund account amount)
-step state (TickLine time) = called state (Tick time)
-step state (MoneyLine account) = asked state account
-step state (CallLine account form) = called state (call_of account form)
+unfoldable pub step : Option Chain → Request → Option AnsweredLine
+step state (Begins tag operator most) = chain_step state (new_chain tag operator most)
+step state (Enters call) = call_step state call
+step state (Asks account) = money_step state account
 
--- the bytes of a line step as the line that they spell
-abbrev pub step_by : Option Chain → List ℕ → Option Stepped
-step_by state text = option_and_then (step state) (line_in text)
+-- the step of the line that these bytes spell, if they spell one that is answered
+abbrev pub text_step : Option Chain → List ℕ → Option AnsweredLine
+text_step state text = option_and_then (step state) (request_in text)
 
 -- a step that is made, or the ending where it isn't
-abbrev pub stepped_or : Ending → Option Stepped → Result Stepped Ending
-stepped_or ending None = Err ending
-stepped_or ending (Some stepped) = Ok stepped
+abbrev pub step_or : Ending → Option AnsweredLine → Result AnsweredLine Ending
+step_or ending None = Err ending
+step_or ending (Some answered) = Ok answered
 
 -- what line n, which begins after so many bytes, does: it is answered, or it ends the run. `ended` says that the
 -- input was read to its end; where it wasn't, a line without its line feed isn't answered
-unfoldable pub line_step : Bool → ℕ → ℕ → Option Chain → List ℕ → Result Stepped Ending
+unfoldable pub line_step : Bool → ℕ → ℕ → Option Chain → List ℕ → Result AnsweredLine Ending
 line_step ended n start state line =
     if is_too_long n start line then Err (TooLong n)
     else if not ended && not (is_whole line) then Err ReadFault
-    else stepped_or (BadLine n) (step_by state (text_of line))
+    else step_or (BadLine n) (text_step state (text_of line))
 
 -- one line of a trace: its number, and what was answered
 pub record TraceLine : Type 0 where
@@ -91,16 +109,18 @@ pub record Trace : Type 0 where
   pub ending : Ending
 
 -- the answer to line n before the trace of the lines after it; a line that ends the run leaves these unread
-abbrev pub onward : ℕ → Result Stepped Ending → (Chain → Trace) → Trace
-onward n (Err ending) after = record { lines = []; ending = ending }
-onward n (Ok stepped) after =
-    let rest = after stepped.chain in record { lines = record { line = n; reply = stepped.reply } ∷ rest.lines; ending = rest.ending }
+abbrev pub trace_at : ℕ → Result AnsweredLine Ending → (Chain → Trace) → Trace
+trace_at n (Err ending) after = record { lines = []; ending = ending }
+trace_at n (Ok answered) after =
+    let rest = after answered.chain in
+    record { lines = record { line = n; reply = answered.reply } ∷ rest.lines; ending = rest.ending }
 
 -- the trace of the lines from line n on, which begins after so many bytes
 unfoldable pub trace_from : Bool → ℕ → ℕ → Option Chain → List (List ℕ) → Trace
 trace_from ended n start state [] = record { lines = []; ending = if ended then Complete else ReadFault }
 trace_from ended n start state (line ∷ lines) =
-    onward n (line_step ended n start state line) (λ chain. trace_from ended (n + 1) (start + length line) (Some chain) lines)
+    trace_at n (line_step ended n start state line)
+    (λ chain. trace_from ended (n + 1) (start + length line) (Some chain) lines)
 
 -- the trace of an input
 unfoldable pub trace_of : List ℕ → Bool → Trace

@@ -1,7 +1,6 @@
-ghost use Rattle.std.specs.Prelude.{◌≡◌, ◌≢◌, ◌+◌, ◌<◌, ◌≤◌, ◌⊎◌, [], false, Ok, MatchOption, IfSome, position, OnOk, OnErr, IfOk, length};
-ghost use Rattle.plasma_outside.specs.Causes.{Rose};
+ghost use Rattle.std.specs.Prelude.{◌≡◌, ◌+◌, ◌<◌, [], MatchOption, IfSome, position, OnErr, IfOk, length};
 ghost use Rattle.replay_run.specs.Lines.{is_feed, CutsLine};
-ghost use Rattle.replay_run.specs.Runs.{Gave, GavePart};
+ghost use Rattle.replay_run.specs.Runs.{Gave, GavePart, ReadsToFault, ReadsInput};
 
 use super::MOST_INPUT_BYTES;
 use plasma_base::NoMemory;
@@ -10,15 +9,14 @@ use plasma_outside::Source;
 /// How many bytes are taken at a time.
 const ROOM: usize = 65_536;
 
-/// Takes the source's bytes until its end, a fault, or more bytes than an input may have. Answers
-/// whether its end was met.
+/// Takes the source's bytes until its end, its first fault, or more bytes than an input may have.
+/// Answers whether its end was met.
 pub fn take_all<S: Source>(source: &mut S, input: &mut Vec<u8>) -> Result<bool, NoMemory>
     requires { input.old.items ≡ [] }
     ensures gave { IfOk result (Gave (S.left source.old) (S.left source.new) input.new.items) }
     ensures partly { OnErr result (GavePart (S.left source.old) (S.left source.new)) }
-    ensures cause { result ≡ Ok false → (Rose (S.faults source.old) (S.faults source.new)) ⊎ (MOST_INPUT_BYTES < length input.new.items) }
-    ensures sound { result ≢ Ok false → S.faults source.new ≡ S.faults source.old }
-    ensures later { S.faults source.old ≤ S.faults source.new }
+    ensures reads { ReadsInput result (length input.new.items)
+        (ReadsToFault (S.faults source.old) (S.faults source.new) (S.failed_last source.new)) }
 {
     let mut room = [0u8; ROOM];
     while input.len() as u64 <= MOST_INPUT_BYTES {

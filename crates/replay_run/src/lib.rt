@@ -11,7 +11,10 @@ mod steps;
 mod text;
 mod top;
 
-pub use laws::{endings_have_their_cause, the_limits_are_these_numbers};
+pub use laws::{
+    endings_have_their_cause, lines_are_the_bytes, replies_follow_the_calls,
+    the_limits_are_these_numbers,
+};
 pub use status::Status;
 pub use top::run;
 

@@ -1,89 +1,50 @@
-ghost use Rattle.std.specs.Prelude.{◌≡◌, ◌≢◌, ◌≤◌, [], Err, IfOk, OnOk, OnErr};
-ghost use Rattle.plasma_outside.specs.Causes.{Rose};
+ghost use Rattle.std.specs.Prelude.{◌≡◌, [], IfOk, OnOk, OnErr};
+ghost use Rattle.plasma_base.specs.Causes.{faults_after};
+ghost use Rattle.plasma_outside.specs.Outside.{is_failed};
 ghost use Rattle.replay_run.specs.Trace.{trace_of};
-ghost use Rattle.replay_run.specs.Output.{status_of};
-ghost use Rattle.replay_run.specs.Runs.{Wrote, WroteFront, Answered, whole_text};
+ghost use Rattle.replay_run.specs.Runs.{Wrote, WroteFront, GathersAnswers, whole_text};
 
 use super::input::next_line;
-use super::reply::{Ending, LineStop};
-use super::status::Status;
+use super::reply::Ending;
 use super::steps::answer_line;
 use super::text::{push_ending, push_trace_line};
-use plasma_base::NoMemory;
 use plasma_outside::{Sink, SinkRefusal};
 use std::alloc::Global;
 
 /// How many bytes of text are gathered before they are put.
 const CHUNK: usize = 65_536;
 
-/// Why the text isn't written to its end.
-#[derive(Debug, Clone, Copy, PartialEq, Eq)]
-pub enum Stop {
-    WriteFault,
-    NoMemory,
-}
-
-impl From<NoMemory> for Stop {
-    ghost use Rattle.std.specs.Prelude.{◌≡◌};
-    ghost use Rattle.replay_run.specs.declared.replay.Stop.{Stop};
-
-    ghost from_gives = { λ _ stop. stop ≡ Stop.NoMemory };
-
-    fn from(_error: NoMemory) -> Stop {
-        Stop::NoMemory
-    }
-}
-
 /// Puts the gathered text, and leaves none.
-pub fn put_text<K: Sink>(sink: &mut K, text: &mut Vec<u8>) -> Result<(), Stop>
-    ensures ok { OnOk result (Wrote (K.held sink.old) (K.held sink.new) text.old.items) }
+fn put_text<K: Sink>(sink: &mut K, text: &mut Vec<u8>) -> Result<(), SinkRefusal>
+    ensures ok { OnOk result (Wrote (K.taken sink.old) (K.taken sink.new) text.old.items) }
     ensures none_left { OnOk result (text.new.items ≡ []) }
-    ensures err { OnErr result (WroteFront (K.held sink.old) (K.held sink.new) text.old.items) }
-    ensures cause { result ≡ Err Stop.WriteFault → Rose (K.faults sink.old) (K.faults sink.new) }
-    ensures sound { result ≢ Err Stop.WriteFault → K.faults sink.new ≡ K.faults sink.old }
-    ensures later { K.faults sink.old ≤ K.faults sink.new }
+    ensures err { OnErr result (WroteFront (K.taken sink.old) (K.taken sink.new) text.old.items) }
+    ensures cause { K.faults sink.new ≡ faults_after (K.faults sink.old) (is_failed result) }
 {
-    match sink.put_all(text) {
-        Ok(()) => {
-            text.clear();
-            Ok(())
-        }
-        Err(SinkRefusal::Failed) => Err(Stop::WriteFault),
-        Err(SinkRefusal::NoMemory) => Err(Stop::NoMemory),
-    }
+    sink.put_all(text)?;
+    text.clear();
+    Ok(())
 }
 
-/// Answers the lines of an input into a sink: the text of the trace, and the status it ends with.
-/// `ended` says that the input was read to its end.
+/// Answers the lines of an input into a sink: the text of the trace, and what ended it. `ended` says
+/// that the input was read to its end.
 pub fn replay<K: Sink>(
     alloc: Global,
     input: &[u8],
     ended: bool,
     sink: &mut K,
-) -> Result<Status, Stop>
-    ensures done { IfOk result (λ status. status ≡ status_of (trace_of input.now ended).ending) }
-    ensures wrote { OnOk result (Wrote (K.held sink.old) (K.held sink.new) (whole_text (trace_of input.now ended))) }
-    ensures stopped { OnErr result (WroteFront (K.held sink.old) (K.held sink.new) (whole_text (trace_of input.now ended))) }
-    ensures cause { result ≡ Err Stop.WriteFault → Rose (K.faults sink.old) (K.faults sink.new) }
-    ensures sound { result ≢ Err Stop.WriteFault → K.faults sink.new ≡ K.faults sink.old }
-    ensures later { K.faults sink.old ≤ K.faults sink.new }
+) -> Result<Ending, SinkRefusal>
+    ensures done { IfOk result (λ ending. ending ≡ (trace_of input.now ended).ending) }
+    ensures wrote { OnOk result (Wrote (K.taken sink.old) (K.taken sink.new) (whole_text (trace_of input.now ended))) }
+    ensures stopped { OnErr result
+        (WroteFront (K.taken sink.old) (K.taken sink.new) (whole_text (trace_of input.now ended))) }
+    ensures cause { K.faults sink.new ≡ faults_after (K.faults sink.old) (is_failed result) }
 {
     let mut text = Vec::new(alloc);
     let ending = answer_lines(alloc, input, ended, &mut text, sink)?;
     push_ending(&mut text, &ending)?;
     put_text(sink, &mut text)?;
-    Ok(status_of(ending))
-}
-
-fn status_of(ending: Ending) -> Status
-    ensures { result ≡ status_of ending }
-{
-    match ending {
-        Ending::Complete => Status::Done,
-        Ending::BadLine { line: _ } => Status::BadLine,
-        Ending::ReadFault => Status::ReadFault,
-        Ending::TooLong { line: _ } => Status::TooLong,
-    }
+    Ok(ending)
 }
 
 /// Answers the lines of an input, up to what ends them. Full chunks of the text are put; the rest of
@@ -94,23 +55,22 @@ fn answer_lines<K: Sink>(
     ended: bool,
     text: &mut Vec<u8>,
     sink: &mut K,
-) -> Result<Ending, Stop>
+) -> Result<Ending, SinkRefusal>
     requires { text.old.items ≡ [] }
-    ensures answered { IfOk result (Answered (K.held sink.old) (K.held sink.new) text.new.items (trace_of input.now ended)) }
-    ensures stopped { OnErr result (WroteFront (K.held sink.old) (K.held sink.new) (whole_text (trace_of input.now ended))) }
-    ensures cause { result ≡ Err Stop.WriteFault → Rose (K.faults sink.old) (K.faults sink.new) }
-    ensures sound { result ≢ Err Stop.WriteFault → K.faults sink.new ≡ K.faults sink.old }
-    ensures later { K.faults sink.old ≤ K.faults sink.new }
+    ensures answered { IfOk result
+        (GathersAnswers (K.taken sink.old) (K.taken sink.new) text.new.items (trace_of input.now ended)) }
+    ensures stopped { OnErr result
+        (WroteFront (K.taken sink.old) (K.taken sink.new) (whole_text (trace_of input.now ended))) }
+    ensures cause { K.faults sink.new ≡ faults_after (K.faults sink.old) (is_failed result) }
 {
     let mut state = None;
     let mut rest = input;
     let mut number = 1;
     while let Some((line, after)) = next_line(rest) {
         let start = (input.len() - rest.len()) as u64;
-        match answer_line(alloc, &mut state, number, start, line, ended) {
+        match answer_line(alloc, &mut state, number, start, line, ended)? {
             Ok(reply) => push_trace_line(text, number, &reply)?,
-            Err(LineStop::Ends(ending)) => return Ok(ending),
-            Err(LineStop::NoMemory) => return Err(Stop::NoMemory),
+            Err(ending) => return Ok(ending),
         }
         if text.len() >= CHUNK {
             put_text(sink, text)?;

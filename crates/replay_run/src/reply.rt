@@ -20,17 +20,3 @@ pub enum Ending {
     /// This line is the first that passes a limit.
     TooLong { line: u64 },
 }
-
-/// Why a line isn't answered.
-#[derive(Debug, Clone, Copy, PartialEq, Eq)]
-pub enum LineStop {
-    Ends(Ending),
-    NoMemory,
-}
-
-/// Why a step isn't made.
-#[derive(Debug, Clone, Copy, PartialEq, Eq)]
-pub enum StepRefusal {
-    BadLine,
-    NoMemory,
-}

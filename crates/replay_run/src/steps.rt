@@ -1,14 +1,14 @@
-ghost use Rattle.std.specs.Prelude.{◌≡◌, ◌+◌, ◌≤◌, length, Err, None, IfOk, OnOk, IfErr};
+ghost use Rattle.std.specs.Prelude.{◌≡◌, ◌+◌, ◌≤◌, length, Err, None, option_and_then, IfOk, OnOk};
 ghost use Rattle.schedule_text.specs.Grammar.{IsLine, IsCallForm};
 ghost use Rattle.replay_run.specs.Lines.{is_whole, text_of, is_too_long};
-ghost use Rattle.replay_run.specs.Trace.{tag_of, call_of, begun, called, asked, step, line_step};
-ghost use Rattle.replay_run.specs.Steps.{Steps, AnswersLine, EndsLine};
+ghost use Rattle.replay_run.specs.Trace.{tag_of, call_of, request_of, chain_step, call_step, money_step, step, text_step, line_step};
+ghost use Rattle.replay_run.specs.Steps.{Steps, AnswersLine};
 
-use super::reply::{Ending, LineStop, Reply, StepRefusal};
+use super::reply::{Ending, Reply};
 use super::{MOST_INPUT_BYTES, MOST_LINE_BYTES, MOST_LINES};
-use plasma_base::Bytes;
+use plasma_base::{Bytes, NoMemory};
 use root_contract::{Answer, Contract, RootCall};
-use schedule_text::{CallForm, Line, LineRefusal, read};
+use schedule_text::{CallForm, HexOrName, Line, LineRefusal, read};
 use std::alloc::Global;
 
 /// Whether a line feed ends the line.
@@ -47,27 +47,37 @@ fn tag_of(tag: u64) -> [u8; 32]
     bytes
 }
 
-/// The call of an account that a form spells.
-fn call_of(account: u64, form: &CallForm) -> RootCall
+/// The call of an account that a form spells; `None` where the contract doesn't know it yet, or it
+/// names a wallet.
+fn call_of(account: u64, form: &CallForm) -> Option<RootCall>
     requires { IsCallForm form.now }
     ensures { result ≡ call_of account form.now }
 {
     match form {
-        CallForm::Deposit { amount, key } => RootCall::Deposit {
-            account,
-            amount: *amount,
-            key: key_of(key),
+        CallForm::Deposit { amount, key } => match key {
+            HexOrName::Hex(key) => Some(RootCall::Deposit {
+                account,
+                amount: *amount,
+                key: key_of(key),
+            }),
+            HexOrName::Name(_) => None,
         },
-        CallForm::Start { coin, block } => RootCall::StartDeposit {
+        CallForm::Start { coin, block } => Some(RootCall::StartDeposit {
             account,
             coin: *coin,
             block: *block,
-        },
-        CallForm::Finish { coin, exit } => RootCall::Finish {
+        }),
+        CallForm::Finish { coin, exit } => Some(RootCall::Finish {
             account,
             coin: *coin,
             exit: *exit,
-        },
+        }),
+        CallForm::Commit { .. }
+        | CallForm::Exit { .. }
+        | CallForm::After { .. }
+        | CallForm::Between { .. }
+        | CallForm::Before { .. }
+        | CallForm::Respond { .. } => None,
     }
 }
 
@@ -82,38 +92,38 @@ fn key_of(key: &Bytes) -> [u8; 56]
 }
 
 /// Begins the chain, which only the first line does.
-fn begin(state: &mut Option<Contract>, contract: Contract) -> Result<Reply, StepRefusal>
-    ensures ok { IfOk result (Steps (begun state.old contract) state.new) }
-    ensures bad { result ≡ Err StepRefusal.BadLine → begun state.old contract ≡ None }
+fn begin(state: &mut Option<Contract>, contract: Contract) -> Result<Reply, LineRefusal>
+    ensures ok { IfOk result (Steps (chain_step state.old contract) state.new) }
+    ensures bad { result ≡ Err LineRefusal.BadLine → chain_step state.old contract ≡ None }
 {
     if state.is_some() {
-        return Err(StepRefusal::BadLine);
+        return Err(LineRefusal::BadLine);
     }
     *state = Some(contract);
     Ok(Reply::Chain)
 }
 
 /// Enters a call, for which there has to be a chain.
-fn call(state: &mut Option<Contract>, call: &RootCall) -> Result<Reply, StepRefusal>
-    ensures ok { IfOk result (Steps (called state.old call.now) state.new) }
-    ensures bad { result ≡ Err StepRefusal.BadLine → called state.old call.now ≡ None }
+fn call(state: &mut Option<Contract>, call: &RootCall) -> Result<Reply, LineRefusal>
+    ensures ok { IfOk result (Steps (call_step state.old call.now) state.new) }
+    ensures bad { result ≡ Err LineRefusal.BadLine → call_step state.old call.now ≡ None }
 {
     let Some(contract) = state else {
-        return Err(StepRefusal::BadLine);
+        return Err(LineRefusal::BadLine);
     };
     match contract.call(call) {
-        Answer::NoMemory => Err(StepRefusal::NoMemory),
+        Answer::NoMemory => Err(LineRefusal::NoMemory),
         answer => Ok(Reply::Answered(answer)),
     }
 }
 
 /// Asks for a balance, for which there has to be a chain.
-fn ask(state: &Option<Contract>, account: u64) -> Result<Reply, StepRefusal>
-    ensures ok { IfOk result (Steps (asked state.now account) state.now) }
-    ensures bad { result ≡ Err StepRefusal.BadLine → asked state.now account ≡ None }
+fn ask(state: &Option<Contract>, account: u64) -> Result<Reply, LineRefusal>
+    ensures ok { IfOk result (Steps (money_step state.now account) state.now) }
+    ensures bad { result ≡ Err LineRefusal.BadLine → money_step state.now account ≡ None }
 {
     match state {
-        None => Err(StepRefusal::BadLine),
+        None => Err(LineRefusal::BadLine),
         Some(contract) => Ok(Reply::Money {
             balance: contract.balance(account),
         }),
@@ -122,10 +132,10 @@ fn ask(state: &Option<Contract>, account: u64) -> Result<Reply, StepRefusal>
 
 /// Takes the step of a line.
 #[tactic(auto, unfolding(crate::specs::Trace::step))]
-fn step(alloc: Global, state: &mut Option<Contract>, line: &Line) -> Result<Reply, StepRefusal>
+fn step(alloc: Global, state: &mut Option<Contract>, line: &Line) -> Result<Reply, LineRefusal>
     requires { IsLine line.now }
-    ensures ok { IfOk result (Steps (step state.old line.now) state.new) }
-    ensures bad { result ≡ Err StepRefusal.BadLine → step state.old line.now ≡ None }
+    ensures ok { IfOk result (Steps (option_and_then (step state.old) (request_of line.now)) state.new) }
+    ensures bad { result ≡ Err LineRefusal.BadLine → option_and_then (step state.old) (request_of line.now) ≡ None }
 {
     match line {
         Line::Chain {
@@ -142,8 +152,21 @@ fn step(alloc: Global, state: &mut Option<Contract>, line: &Line) -> Result<Repl
         ),
         Line::Tick { time } => call(state, &RootCall::Tick { now: *time }),
         Line::Money { account } => ask(state, *account),
-        Line::Call { account, form } => call(state, &call_of(*account, form)),
+        Line::Call { account, form } => match call_of(*account, form) {
+            Some(entered) => call(state, &entered),
+            None => Err(LineRefusal::BadLine),
+        },
     }
+}
+
+/// Takes the step of the line that these bytes spell.
+#[tactic(auto, unfolding(crate::specs::Trace::request_in))]
+fn step_text(alloc: Global, state: &mut Option<Contract>, text: &[u8]) -> Result<Reply, LineRefusal>
+    ensures ok { IfOk result (Steps (text_step state.old text.now) state.new) }
+    ensures bad { result ≡ Err LineRefusal.BadLine → text_step state.old text.now ≡ None }
+{
+    let line = read(alloc, text)?;
+    step(alloc, state, &line)
 }
 
 /// Answers line `number`, which begins after `start` bytes of the input, or says what ends the run.
@@ -156,26 +179,21 @@ pub fn answer_line(
     start: u64,
     line: &[u8],
     ended: bool,
-) -> Result<Reply, LineStop>
+) -> Result<Result<Reply, Ending>, NoMemory>
     requires { start ≤ MOST_INPUT_BYTES }
-    ensures answered { IfOk result (AnswersLine (line_step ended number start state.old line.now) state.new) }
-    ensures within { OnOk result ((number ≤ MOST_LINES) × (start + length line.now ≤ MOST_INPUT_BYTES)) }
-    ensures ends { IfErr result (EndsLine (line_step ended number start state.old line.now)) }
+    ensures answers { IfOk result (AnswersLine (line_step ended number start state.old line.now) state.new) }
+    ensures within { IfOk result (λ answer. OnOk answer
+        ((number ≤ MOST_LINES) × (start + length line.now ≤ MOST_INPUT_BYTES))) }
 {
     if is_too_long(number, start, line) {
-        return Err(LineStop::Ends(Ending::TooLong { line: number }));
+        return Ok(Err(Ending::TooLong { line: number }));
     }
     if !ended && !is_whole(line) {
-        return Err(LineStop::Ends(Ending::ReadFault));
+        return Ok(Err(Ending::ReadFault));
     }
-    let bad = LineStop::Ends(Ending::BadLine { line: number });
-    match read(alloc, text_of(line)) {
-        Err(LineRefusal::NoMemory) => Err(LineStop::NoMemory),
-        Err(LineRefusal::BadLine) => Err(bad),
-        Ok(line) => match step(alloc, state, &line) {
-            Err(StepRefusal::NoMemory) => Err(LineStop::NoMemory),
-            Err(StepRefusal::BadLine) => Err(bad),
-            Ok(reply) => Ok(reply),
-        },
+    match step_text(alloc, state, text_of(line)) {
+        Ok(reply) => Ok(Ok(reply)),
+        Err(LineRefusal::BadLine) => Ok(Err(Ending::BadLine { line: number })),
+        Err(LineRefusal::NoMemory) => Err(NoMemory),
     }
 }

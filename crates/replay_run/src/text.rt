@@ -2,9 +2,9 @@ ghost use Rattle.std.specs.Prelude.{◌≡◌, ◌++◌, ◌∷◌, [], OnOk};
 ghost use Rattle.replay_run.specs.Text.{phrase, refusal_text, answer_text, reply_text, trace_line_text, ending_text};
 
 use super::reply::{Ending, Reply};
+use line_forms::push_number;
 use plasma_base::NoMemory;
 use root_contract::{Answer, Refusal};
-use schedule_text::push_number;
 
 /// Puts words, and numbers after them, at the end.
 fn push_phrase(out: &mut Vec<u8>, words: &[u8], numbers: &[u64]) -> Result<(), NoMemory>
@@ -68,7 +68,8 @@ fn push_reply(out: &mut Vec<u8>, reply: &Reply) -> Result<(), NoMemory>
 /// Puts the line of the trace at the end: its number and its reply.
 #[tactic(auto, unfolding(crate::specs::Text::trace_line_text))]
 pub fn push_trace_line(out: &mut Vec<u8>, number: u64, reply: &Reply) -> Result<(), NoMemory>
-    ensures { OnOk result (out.new.items ≡ out.old.items ++ trace_line_text (record { line = number; reply = reply.now })) }
+    ensures { OnOk result
+        (out.new.items ≡ out.old.items ++ trace_line_text (record { line = number; reply = reply.now })) }
 {
     push_number(out, number)?;
     out.push(b' ')?;

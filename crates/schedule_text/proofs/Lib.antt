@@ -1,4 +1,1 @@
-pub mod WordLaws
-pub mod NumberLaws
-pub mod PrintLaws
 pub mod GrammarLaws

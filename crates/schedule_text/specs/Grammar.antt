@@ -1,127 +1,85 @@
 -- The lines of a schedule: which there are, the one spelling of each, and the line that bytes spell.
-use Rattle.std.specs.Prelude.{◌≡◌, ℕ, ◌^◌, ◌<◌, ◌≤◌, List, [], ◌∷◌, length, codes, Option, option_map}
-use Rattle.std.specs.List.{All}
-use Rattle.plasma_base.specs.HexText.{hex_text}
+use Rattle.std.specs.Prelude.{ℕ, List, map, codes, Option}
+use Rattle.line_forms.specs.Forms.{Kind, Form, named, Table, Parts, of, ends, ◌▸◌, form_of, AreParts, text_of, value_in}
+use Rattle.line_forms.specs.Tokens.{number, number_within, hex_of, key, bytes, shown}
 use Rattle.schedule_text.specs.declared.line.Line.{Line}
-use Rattle.schedule_text.specs.declared.line.Line.TheVariants.{Chain, Fund, Tick, Money, Call}
 use Rattle.schedule_text.specs.declared.line.CallForm.{CallForm}
-use Rattle.schedule_text.specs.declared.line.CallForm.TheVariants.{Deposit, Start, Finish}
-use Rattle.schedule_text.specs.declared.line.TheConstants.{MOST_BLOCKS, KEY_BYTES}
-use Rattle.schedule_text.specs.Words.{words_of, line_of_words, Spells, ◌>>=◌, ends, named}
-use Rattle.schedule_text.specs.Tokens.{number_text, number_in, most_in, key_in}
+use Rattle.schedule_text.specs.declared.line.TheConstants.{MOST_BLOCKS, ROOT_BYTES}
+use Rattle.schedule_text.specs.declared.names.LineName.{LineName}
+use Rattle.schedule_text.specs.declared.names.CallName.{CallName}
+use Rattle.schedule_text.specs.declared.names.TheConstants.{LINE_NAMES, CALL_NAMES}
 
--- a number token holds a u64
-abbrev pub IsNumber : ℕ → Type 0
-IsNumber n = n < 2 ^ 64
+-- ---- the forms of a call, after `call <account>`
 
--- a key token holds 56 bytes
-abbrev pub IsKey : List ℕ → Type 0
-IsKey key = (length key ≡ KEY_BYTES) × All (λ byte. byte < 256) key
+-- each form: its first word, and the kinds of its tokens
+abbrev pub call_form : CallName → Form CallForm
+call_form CallName.Deposit = named (codes "deposit") (number ▸ key ▸ ends) CallForm.Deposit
+call_form CallName.Commit = named (codes "commit") (hex_of ROOT_BYTES ▸ ends) CallForm.Commit
+call_form CallName.Start = named (codes "start") (number ▸ number ▸ ends) CallForm.Start
+call_form CallName.Exit = named (codes "exit") (number ▸ number ▸ shown ▸ number ▸ bytes ▸ ends) CallForm.Exit
+call_form CallName.After = named (codes "after") (number ▸ number ▸ number ▸ bytes ▸ ends) CallForm.After
+call_form CallName.Between = named (codes "between") (number ▸ number ▸ number ▸ bytes ▸ ends) CallForm.Between
+call_form CallName.Before = named (codes "before") (number ▸ number ▸ number ▸ shown ▸ ends) CallForm.Before
+call_form CallName.Respond = named (codes "respond") (number ▸ number ▸ number ▸ number ▸ bytes ▸ ends) CallForm.Respond
+call_form CallName.Finish = named (codes "finish") (number ▸ number ▸ ends) CallForm.Finish
+
+-- the table of the forms
+abbrev pub calls : Table CallName CallForm
+calls = record { names = map (λ row. (row.0.now, row.1)) CALL_NAMES; row = call_form }
+
+-- a form of a call as a row of the table, and its tokens
+abbrev pub call_parts : CallForm → Parts CallName CallForm calls
+call_parts (CallForm.Deposit amount key) = of calls CallName.Deposit amount key
+call_parts (CallForm.Commit root) = of calls CallName.Commit root
+call_parts (CallForm.Start coin block) = of calls CallName.Start coin block
+call_parts (CallForm.Exit coin parent shown exit opening) = of calls CallName.Exit coin parent shown exit opening
+call_parts (CallForm.After coin exit block opening) = of calls CallName.After coin exit block opening
+call_parts (CallForm.Between coin exit block opening) = of calls CallName.Between coin exit block opening
+call_parts (CallForm.Before coin exit block shown) = of calls CallName.Before coin exit block shown
+call_parts (CallForm.Respond coin exit challenged block opening) =
+    of calls CallName.Respond coin exit challenged block opening
+call_parts (CallForm.Finish coin exit) = of calls CallName.Finish coin exit
 
 -- which forms of a call are in the grammar
 abbrev pub IsCallForm : CallForm → Type 0
-IsCallForm (Deposit amount key) = IsNumber amount × IsKey key
-IsCallForm (Start coin block) = IsNumber coin × IsNumber block
-IsCallForm (Finish coin exit) = IsNumber coin × IsNumber exit
+IsCallForm form = AreParts calls (call_parts form)
+
+-- `<form>`: a form of a call
+abbrev pub call : Kind CallForm
+call = form_of calls call_parts
+
+-- ---- the lines
+
+-- each line: its first word, and the kinds of its tokens
+abbrev pub line_form : LineName → Form Line
+line_form LineName.Chain = named (codes "chain") (number ▸ number ▸ number_within 1 MOST_BLOCKS ▸ ends) Line.Chain
+line_form LineName.Fund = named (codes "fund") (number ▸ number ▸ ends) Line.Fund
+line_form LineName.Tick = named (codes "tick") (number ▸ ends) Line.Tick
+line_form LineName.Money = named (codes "money") (number ▸ ends) Line.Money
+line_form LineName.Call = named (codes "call") (number ▸ call ▸ ends) Line.Call
+
+-- the table of the lines
+abbrev pub lines : Table LineName Line
+lines = record { names = map (λ row. (row.0.now, row.1)) LINE_NAMES; row = line_form }
+
+-- a line as a row of the table, and its tokens
+abbrev pub line_parts : Line → Parts LineName Line lines
+line_parts (Line.Chain tag operator most) = of lines LineName.Chain tag operator most
+line_parts (Line.Fund account amount) = of lines LineName.Fund account amount
+line_parts (Line.Tick time) = of lines LineName.Tick time
+line_parts (Line.Money account) = of lines LineName.Money account
+line_parts (Line.Call account form) = of lines LineName.Call account form
+
+-- ---- bytes
 
 -- which lines are in the grammar
 abbrev pub IsLine : Line → Type 0
-IsLine (Chain tag operator most) = IsNumber tag × IsNumber operator × (1 ≤ most) × (most ≤ MOST_BLOCKS)
-IsLine (Fund account amount) = IsNumber account × IsNumber amount
-IsLine (Tick time) = IsNumber time
-IsLine (Money account) = IsNumber account
-IsLine (Call account form) = IsNumber account × IsCallForm form
-
--- the words of a form of a call
-abbrev pub call_words : CallForm → List (List ℕ)
-call_words (Deposit amount key) = codes "deposit" ∷ number_text amount ∷ hex_text key ∷ []
-call_words (Start coin block) = codes "start" ∷ number_text coin ∷ number_text block ∷ []
-call_words (Finish coin exit) = codes "finish" ∷ number_text coin ∷ number_text exit ∷ []
-
--- the words of a line
-abbrev pub line_words : Line → List (List ℕ)
-line_words (Chain tag operator most) =
-    codes "chain" ∷ number_text tag ∷ number_text operator ∷ number_text most ∷ []
-line_words (Fund account amount) = codes "fund" ∷ number_text account ∷ number_text amount ∷ []
-line_words (Tick time) = codes "tick" ∷ number_text time ∷ []
-line_words (Money account) = codes "money" ∷ number_text account ∷ []
-line_words (Call account form) = codes "call" ∷ number_text account ∷ call_words form
+IsLine line = AreParts lines (line_parts line)
 
 -- the one spelling of a line: its words with one blank between each two
 unfoldable pub line_text : Line → List ℕ
-line_text line = line_of_words (line_words line)
-
--- `chain <tag> <operator> <most>`
-unfoldable pub chain_in : Spells Line
-chain_in = do
-  tag ← number_in
-  operator ← number_in
-  most ← most_in
-  ends (Chain tag operator most)
-
--- `fund <account> <amount>`
-unfoldable pub fund_in : Spells Line
-fund_in = do
-  account ← number_in
-  amount ← number_in
-  ends (Fund account amount)
-
--- `tick <time>`
-unfoldable pub tick_in : Spells Line
-tick_in = do
-  time ← number_in
-  ends (Tick time)
-
--- `money <account>`
-unfoldable pub money_in : Spells Line
-money_in = do
-  account ← number_in
-  ends (Money account)
-
--- `deposit <amount> <key>`
-unfoldable pub deposit_in : Spells CallForm
-deposit_in = do
-  amount ← number_in
-  key ← key_in
-  ends (Deposit amount key)
-
--- `start <coin> <block>`
-unfoldable pub start_in : Spells CallForm
-start_in = do
-  coin ← number_in
-  block ← number_in
-  ends (Start coin block)
-
--- `finish <coin> <exit>`
-unfoldable pub finish_in : Spells CallForm
-finish_in = do
-  coin ← number_in
-  exit ← number_in
-  ends (Finish coin exit)
-
--- the forms of a call, by their first words
-abbrev pub call_forms : List (List ℕ × Spells CallForm)
-call_forms = (codes "deposit", deposit_in) ∷ (codes "start", start_in) ∷ (codes "finish", finish_in) ∷ []
-
--- the form of a call that words spell
-unfoldable pub form_in : Spells CallForm
-form_in = named call_forms
-
--- `call <account> <form>`
-unfoldable pub call_in : Spells Line
-call_in = do
-  account ← number_in
-  λ words. option_map (Call account) (form_in words)
-
--- the lines, by their first words
-abbrev pub line_forms : List (List ℕ × Spells Line)
-line_forms =
-    (codes "chain", chain_in) ∷ (codes "fund", fund_in) ∷ (codes "tick", tick_in) ∷ (codes "money", money_in) ∷ (codes "call", call_in) ∷ []
-
--- the line that words spell
-unfoldable pub words_in : Spells Line
-words_in = named line_forms
+line_text line = text_of lines (line_parts line)
 
 -- the line that bytes spell, if they spell one
 unfoldable pub line_in : List ℕ → Option Line
-line_in bytes = words_in (words_of bytes)
+line_in bytes = value_in lines bytes

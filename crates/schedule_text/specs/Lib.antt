@@ -1,4 +1,1 @@
-pub mod Words
-pub mod Tokens
 pub mod Grammar
-pub mod Texts

@@ -1,23 +1,19 @@
 //! The lines of a schedule: one line is read as a `Line`, and printed back. The lines built so far
-//! are `chain`, `fund`, `tick`, `money`, and `call` with `deposit`, `start` and `finish`.
+//! are `chain`, `fund`, `tick`, `money`, and `call` with its nine forms.
 #![tactic(auto)]
 
 mod laws;
 mod line;
-mod numbers;
+mod names;
 mod printing;
 mod reading;
-mod refusal;
 #[cfg(test)]
 mod tests;
-mod tokens;
-mod words;
+mod text;
 
 pub use laws::{
     a_line_has_one_spelling, a_printed_line_is_read_back, the_grammar_has_these_numbers,
 };
-pub use line::{CallForm, KEY_BYTES, Line, MOST_BLOCKS};
-pub use numbers::{number, push_number};
-pub use printing::print;
-pub use reading::read;
-pub use refusal::LineRefusal;
+pub use line::{CallForm, Line, MOST_BLOCKS, ROOT_BYTES};
+pub use line_forms::{HexOrItem, HexOrName, KEY_BYTES, LineRefusal, ShownToken};
+pub use text::{print, read};

@@ -1,130 +1,126 @@
-ghost use Rattle.std.specs.Prelude.{◌≡◌, ◌∷◌, ◌++◌, length, take, map, OnOk, OnErr};
-ghost use Rattle.schedule_text.specs.Words.{line_of_words};
-ghost use Rattle.schedule_text.specs.Texts.{piece_text};
-ghost use Rattle.schedule_text.specs.Grammar.{IsLine, line_text};
-ghost use Rattle.schedule_text.specs.declared.line.Line.TheVariants.{Call};
+ghost use Rattle.std.specs.Prelude.{◌≡◌, [], ◌++◌, length, take, OnOk, OnErr};
+ghost use Rattle.line_forms.specs.Words.{trailed};
+ghost use Rattle.line_forms.specs.Pieces.{words_then};
+ghost use Rattle.schedule_text.specs.Grammar.{call};
 
-use super::line::{CallForm, Line};
-use super::numbers::push_number;
-use plasma_base::{NoMemory, push_hex};
+use super::line::CallForm;
+use line_forms::Piece::{Hex, Name, Number};
+use line_forms::{Piece, push_pieces};
+use plasma_base::NoMemory;
 
-/// What one word is printed from.
-#[derive(Clone, Copy)]
-pub enum Piece<'a> {
-    Name(&'a [u8]),
-    Number(u64),
-    Hex(&'a [u8]),
-}
-
-// Puts one word at the end. Where memory runs out nothing changes.
-fn push_piece(out: &mut Vec<u8>, piece: Piece<'_>) -> Result<(), NoMemory>
-    ensures ok { OnOk result (out.new.items ≡ out.old.items ++ piece_text piece.entry) }
-    ensures err { OnErr result (out.new.items ≡ out.old.items) }
-{
-    match piece {
-        Piece::Name(name) => Ok(out.extend_from_slice(name)?),
-        Piece::Number(n) => push_number(out, n),
-        Piece::Hex(bytes) => push_hex(out, bytes),
-    }
-}
-
-// As `push_line`, but where memory runs out some of the words may stand at the end.
-fn push_pieces(out: &mut Vec<u8>, name: &[u8], pieces: &[Piece<'_>]) -> Result<(), NoMemory>
-    ensures ok { OnOk result (out.new.items ≡ out.old.items ++ line_of_words (name.now ∷ map piece_text pieces.now)) }
+// Puts the words of a form of a call at the end, a blank after each.
+#[tactic(auto, using(line_forms::proofs::PrintLaws::words))]
+fn push_call(out: &mut Vec<u8>, form: &CallForm) -> Result<(), NoMemory>
+    ensures ok { OnOk result (out.new.items ≡ out.old.items ++ trailed (call.words form.now)) }
     ensures front { take (length out.old.items) out.new.items ≡ out.old.items }
 {
-    out.extend_from_slice(name)?;
-    for piece in pieces {
-        out.push(b' ')?;
-        push_piece(out, *piece)?;
-    }
-    Ok(())
-}
-
-// Puts words at the end, with one blank between each two. Where memory runs out nothing changes.
-fn push_line(out: &mut Vec<u8>, name: &[u8], pieces: &[Piece<'_>]) -> Result<(), NoMemory>
-    ensures ok { OnOk result (out.new.items ≡ out.old.items ++ line_of_words (name.now ∷ map piece_text pieces.now)) }
-    ensures err { OnErr result (out.new.items ≡ out.old.items) }
-{
-    let before = out.len();
-    let pushed = push_pieces(out, name, pieces);
-    if pushed.is_err() {
-        out.truncate(before);
-    }
-    pushed
-}
-
-#[tactic(auto, unfolding(crate::specs::Grammar::line_text))]
-fn print_call(account: u64, form: &CallForm, out: &mut Vec<u8>) -> Result<(), NoMemory>
-    ensures ok { OnOk result (out.new.items ≡ out.old.items ++ line_text (Call account form.now)) }
-    ensures err { OnErr result (out.new.items ≡ out.old.items) }
-{
     match form {
-        CallForm::Deposit { amount, key } => push_line(
+        CallForm::Deposit { amount, key } => push_pieces(
             out,
-            b"call",
+            &[Name(b"deposit"), Number(*amount), key.piece()],
+        ),
+        CallForm::Commit { root } => push_pieces(out, &[Name(b"commit"), Hex(root.as_slice())]),
+        CallForm::Start { coin, block } => push_pieces(
+            out,
+            &[Name(b"start"), Number(*coin), Number(*block)],
+        ),
+        CallForm::Exit {
+            coin,
+            parent,
+            shown,
+            exit,
+            opening,
+        } => push_pieces(
+            out,
             &[
-                Piece::Number(account),
-                Piece::Name(b"deposit"),
-                Piece::Number(*amount),
-                Piece::Hex(key.as_slice()),
+                Name(b"exit"),
+                Number(*coin),
+                Number(*parent),
+                shown.piece(),
+                Number(*exit),
+                opening.piece(),
             ],
         ),
-        CallForm::Start { coin, block } => push_line(
+        CallForm::After {
+            coin,
+            exit,
+            block,
+            opening,
+        } => push_pieces(
             out,
-            b"call",
             &[
-                Piece::Number(account),
-                Piece::Name(b"start"),
-                Piece::Number(*coin),
-                Piece::Number(*block),
+                Name(b"after"),
+                Number(*coin),
+                Number(*exit),
+                Number(*block),
+                opening.piece(),
             ],
         ),
-        CallForm::Finish { coin, exit } => push_line(
+        CallForm::Between {
+            coin,
+            exit,
+            block,
+            opening,
+        } => push_pieces(
             out,
-            b"call",
             &[
-                Piece::Number(account),
-                Piece::Name(b"finish"),
-                Piece::Number(*coin),
-                Piece::Number(*exit),
+                Name(b"between"),
+                Number(*coin),
+                Number(*exit),
+                Number(*block),
+                opening.piece(),
             ],
+        ),
+        CallForm::Before {
+            coin,
+            exit,
+            block,
+            shown,
+        } => push_pieces(
+            out,
+            &[
+                Name(b"before"),
+                Number(*coin),
+                Number(*exit),
+                Number(*block),
+                shown.piece(),
+            ],
+        ),
+        CallForm::Respond {
+            coin,
+            exit,
+            challenged,
+            block,
+            opening,
+        } => push_pieces(
+            out,
+            &[
+                Name(b"respond"),
+                Number(*coin),
+                Number(*exit),
+                Number(*challenged),
+                Number(*block),
+                opening.piece(),
+            ],
+        ),
+        CallForm::Finish { coin, exit } => push_pieces(
+            out,
+            &[Name(b"finish"), Number(*coin), Number(*exit)],
         ),
     }
 }
 
-/// Puts the spelling of a line at the end, without a line feed. Where memory runs out nothing changes.
-#[tactic(auto, unfolding(crate::specs::Grammar::line_text))]
-pub fn print(line: &Line, out: &mut Vec<u8>) -> Result<(), NoMemory>
-    requires { IsLine line.now }
-    ensures ok { OnOk result (out.new.items ≡ out.old.items ++ line_text line.now) }
-    ensures err { OnErr result (out.new.items ≡ out.old.items) }
+/// Puts the words of pieces and of a form of a call at the end, a blank after each.
+#[tactic(auto, using(line_forms::proofs::PrintLaws::words))]
+pub fn push_with_call(
+    out: &mut Vec<u8>,
+    pieces: &[Piece<'_>],
+    form: &CallForm,
+) -> Result<(), NoMemory>
+    ensures ok { OnOk result (out.new.items
+        ≡ out.old.items ++ trailed (words_then pieces.now (call.words form.now ++ []))) }
+    ensures front { take (length out.old.items) out.new.items ≡ out.old.items }
 {
-    match line {
-        Line::Chain {
-            tag,
-            operator,
-            most,
-        } => {
-            push_line(
-                out,
-                b"chain",
-                &[
-                    Piece::Number(*tag),
-                    Piece::Number(*operator),
-                    Piece::Number(*most),
-                ],
-            )
-        }
-        Line::Fund { account, amount } => {
-            push_line(
-                out,
-                b"fund",
-                &[Piece::Number(*account), Piece::Number(*amount)],
-            )
-        }
-        Line::Tick { time } => push_line(out, b"tick", &[Piece::Number(*time)]),
-        Line::Money { account } => push_line(out, b"money", &[Piece::Number(*account)]),
-        Line::Call { account, form } => print_call(*account, form, out),
-    }
+    push_pieces(out, pieces)?;
+    push_call(out, form)
 }

@@ -5,9 +5,17 @@ use Rattle.replay_run.specs.Forms.{is_verified}
 use Rattle.replay_run.proofs.form.is_verified.Goals as goal
 
 -- no signature is valid under a key that doesn't read
-unread : (key message signature : List ℕ) → is_supported (types_of key) ≡ false → is_verified key message signature ≡ false
+unread : (key message signature : List ℕ) → is_supported (types_of key) ≡ false
+    → is_verified key message signature ≡ false
 unfolding is_verified is_valid
-unread key message signature is = elim (length key == 56) as (λ b. (b && is_valid key message signature) ≡ false) [ true ↦ rw is refl | false ↦ refl ]
+unread key message signature is =
+    elim (length key == 56) as (λ b. (b && is_valid key message signature) ≡ false) [
+      | true ↦ rw is refl
+      | false ↦
+          refl
+    ]
 
 pub returns-in-Err : goal.returns-in-Err
-returns-in-Err c = sym (unread c.args.key.now c.args.message.now c.args.signature.now (rw c.copy_from_slice.ensures.after at c.in-Err.ensures))
+returns-in-Err c =
+    sym (unread c.args.key.now c.args.message.now c.args.signature.now
+    (rw c.copy_from_slice.ensures.after at c.in-Err.ensures))

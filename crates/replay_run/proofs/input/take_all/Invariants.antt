@@ -1,4 +1,4 @@
-use Rattle.std.proofs.Common.{◌+◌, ◌-◌, ◌≤◌, ◌≡◌, false, vec_len}
+use Rattle.std.proofs.Common.{◌+◌, ◌-◌, ◌≡◌, false, vec_len}
 use Rattle.replay_run.specs.declared.TheConstants.{MOST_INPUT_BYTES}
 use Rattle.replay_run.specs.Runs.{Gave}
 use Rattle.replay_run.proofs.input.take_all.Given as goal
@@ -6,7 +6,6 @@ use Rattle.replay_run.proofs.input.take_all.Given as goal
 abbrev pub invariant-loop-room : goal.invariant-loop-room
 invariant-loop-room g l = record {
   gave : Gave (g.S.Source.left l.fn.source) (g.S.Source.left l.source) l.input.items false;
-  later : g.S.Source.faults l.fn.source ≤ g.S.Source.faults l.source;
   same : g.S.Source.faults l.source ≡ g.S.Source.faults l.fn.source;
 }
 

@@ -7,8 +7,10 @@ use Rattle.replay_run.proofs.replay.answer_lines.Given as goal
 
 abbrev pub invariant-loop-line : goal.invariant-loop-line
 invariant-loop-line g l = record {
-  going : Going (g.K.Sink.held l.fn.sink) (g.K.Sink.held l.sink) l.text.items (trace_from l.ended l.number (length l.input - length l.rest) l.state (lines_in l.rest)) (trace_of l.input l.ended);
-  later : g.K.Sink.faults l.fn.sink ≤ g.K.Sink.faults l.sink;
+  going :
+      Going (g.K.Sink.taken l.fn.sink) (g.K.Sink.taken l.sink) l.text.items
+      (trace_from l.ended l.number (length l.input - length l.rest) l.state (lines_in l.rest))
+      (trace_of l.input l.ended);
   same : g.K.Sink.faults l.sink ≡ g.K.Sink.faults l.fn.sink;
   shorter : length l.rest ≤ length l.input;
   within : length l.input - length l.rest ≤ MOST_INPUT_BYTES;

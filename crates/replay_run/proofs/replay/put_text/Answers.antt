@@ -1,8 +1,6 @@
-use Rattle.replay_run.proofs.RunLaws.{front-put}
+use Rattle.replay_run.proofs.RunLaws.{front-put, part-err}
 use Rattle.replay_run.proofs.replay.put_text.Goals as goal
 
-pub returns-in-Err-Failed-clause-err : goal.returns-in-Err-Failed-clause-err
-returns-in-Err-Failed-clause-err g c = rw c.deref.ensures.value at (front-put _ _ _ _ _ _ c.in-Err-Failed.ensures.bytes)
-
-pub returns-in-Err-NoMemory-clause-err : goal.returns-in-Err-NoMemory-clause-err
-returns-in-Err-NoMemory-clause-err g c = rw c.deref.ensures.value at (front-put _ _ _ _ _ _ c.in-Err-NoMemory.ensures.bytes)
+pub returns-in_err-put_all-clause-err : goal.returns-in_err-put_all-clause-err
+returns-in_err-put_all-clause-err g c =
+    part-err _ _ (rw c.deref.ensures.value at (front-put _ _ _ _ _ _ c.in_err-put_all.ensures.bytes))

@@ -1,0 +1,14 @@
+//! Money by account: what each account may spend, and what is held of it until it is paid on or given
+//! back.
+#![tactic(auto)]
+
+mod entries;
+mod ledger;
+#[cfg(test)]
+mod tests;
+
+pub use entries::Sums;
+pub use ledger::{Ledger, NoFunds, SumTooLarge};
+
+/// The most money that is ever funded: 2 ^ 62.
+pub const MOST_MONEY: u64 = 4_611_686_018_427_387_904;

@@ -1,0 +1,6 @@
+pub mod WordLaws
+pub mod NumberLaws
+pub mod NameLaws
+pub mod FormLaws
+pub mod TokenLaws
+pub mod PrintLaws

@@ -1,0 +1,41 @@
+-- A table of names is searched row by row.
+use Rattle.std.proofs.Common.{◌≡◌, ℕ, zero, suc, ◌+◌, ◌<◌, Bool, true, false, cond, List, [], ◌∷◌, length, take, get_or, Option, Some, None, refl, add-one, arith}
+use Rattle.std.specs.Borrow.{Bor}
+use Rattle.std.specs.Map.{lookup}
+use Rattle.line_forms.specs.Names.{rows_of}
+
+-- no row had the name before
+pub none_first : {T : Type 0} (b : Bool) (value : T) (rest : Option T) → cond b (Some value) rest ≡ None
+    → (b ≡ false) × (rest ≡ None)
+none_first true value rest h = cc h
+none_first false value rest h = (refl, h)
+
+pub named-found : {T : Type 0} (test : List ℕ → Bool) (table : List (Bor (List ℕ) × T)) (i : ℕ)
+    (row d : Bor (List ℕ) × T) → i < length table
+    → row ≡ get_or table i d → lookup test (rows_of (take i table)) ≡ None → test row.0.now ≡ true
+    → lookup test (rows_of table) ≡ Some row.1
+named-found test [] i row d lt e h is = absurd (omega arith)
+named-found test (first ∷ table) zero row d lt e h is =
+    let here : test first.0.now ≡ true = rw e at is in
+    rw (here, e) refl
+named-found test (first ∷ table) (suc i) row d lt e h is =
+    let p = none_first (test first.0.now) first.1 (lookup test (rows_of (take i table))) h in
+    rw p.0 (named-found test table i row d (omega arith) e p.1 is)
+
+named-suc : {T : Type 0} (test : List ℕ → Bool) (table : List (Bor (List ℕ) × T)) (i : ℕ) (row d : Bor (List ℕ) × T)
+    → i < length table
+    → row ≡ get_or table i d → lookup test (rows_of (take i table)) ≡ None → test row.0.now ≡ false
+    → lookup test (rows_of (take (suc i) table)) ≡ None
+named-suc test [] i row d lt e h is = absurd (omega arith)
+named-suc test (first ∷ table) zero row d lt e h is =
+    let here : test first.0.now ≡ false = rw e at is in
+    rw here refl
+named-suc test (first ∷ table) (suc i) row d lt e h is =
+    let p = none_first (test first.0.now) first.1 (lookup test (rows_of (take i table))) h in
+    rw p.0 (named-suc test table i row d (omega arith) e p.1 is)
+
+pub named-more : {T : Type 0} (test : List ℕ → Bool) (table : List (Bor (List ℕ) × T)) (i : ℕ)
+    (row d : Bor (List ℕ) × T) → i < length table
+    → row ≡ get_or table i d → lookup test (rows_of (take i table)) ≡ None → test row.0.now ≡ false
+    → lookup test (rows_of (take (i + 1) table)) ≡ None
+named-more test table i row d lt e h is = rw add-one (named-suc test table i row d lt e h is)

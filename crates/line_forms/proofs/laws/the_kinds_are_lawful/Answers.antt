@@ -1,0 +1,18 @@
+use Rattle.line_forms.proofs.TokenLaws.{number-is, number_within-is, name-is, hex-is, hex_of-is, some_bytes-is, hex_or_name-is, bytes-is, shown-is, outcome-is, optional_number-is, optional_pair-is}
+use Rattle.line_forms.proofs.laws.the_kinds_are_lawful.Goals as goal
+
+pub returns : goal.returns
+returns c = record {
+  number = number-is;
+  number_within = number_within-is;
+  name = name-is;
+  hex = hex-is;
+  hex_of = hex_of-is;
+  some_bytes = some_bytes-is;
+  hex_or_name = hex_or_name-is;
+  bytes = bytes-is;
+  shown = shown-is;
+  outcome = outcome-is;
+  optional_number = optional_number-is;
+  optional_pair = optional_pair-is;
+}

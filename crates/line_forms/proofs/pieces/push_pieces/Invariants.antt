@@ -1,0 +1,8 @@
+use Rattle.std.proofs.Common.{◌≡◌, ◌++◌, take}
+use Rattle.line_forms.specs.Words.{trailed}
+use Rattle.line_forms.specs.Pieces.{words_of_pieces}
+use Rattle.line_forms.proofs.pieces.push_pieces.Given as goal
+
+-- the words so far stand at the end
+abbrev pub invariant-loop-piece : goal.invariant-loop-piece
+invariant-loop-piece l = l.out.items ≡ l.fn.out.items ++ trailed (words_of_pieces (take l.piece-index l.pieces))

@@ -1,0 +1,75 @@
+ghost use Rattle.std.specs.Prelude.{◌≡◌, ◌++◌, Some, None, Err, IfOk, OnOk, OnErr};
+ghost use Rattle.schedule_text.specs.Grammar.{line_in, line_text, IsLine};
+
+use super::line::Line;
+use super::names::{LINE_NAMES, LineName};
+use super::printing::push_with_call;
+use super::reading::line_of;
+use line_forms::Piece::{Name, Number};
+use line_forms::{Grammar, LineRefusal, Words, named, push_pieces};
+use plasma_base::NoMemory;
+use std::alloc::Global;
+
+impl Grammar for Line {
+    ghost use Rattle.schedule_text.specs.Grammar.{lines, line_parts};
+
+    type Name = LineName;
+
+    ghost table = { lines };
+
+    ghost parts = { line_parts };
+
+    fn take(alloc: Global, words: &mut Words<'_>) -> Result<Line, LineRefusal> {
+        let word = words.next().ok_or(LineRefusal::BadLine)?;
+        let name = named(&LINE_NAMES, word).ok_or(LineRefusal::BadLine)?;
+        line_of(alloc, name, words)
+    }
+
+    #[tactic(auto, using(line_forms::proofs::PrintLaws::words))]
+    fn push(&self, out: &mut Vec<u8>) -> Result<(), NoMemory> {
+        match self {
+            Line::Chain {
+                tag,
+                operator,
+                most,
+            } => push_pieces(
+                out,
+                &[
+                    Name(b"chain"),
+                    Number(*tag),
+                    Number(*operator),
+                    Number(*most),
+                ],
+            ),
+            Line::Fund { account, amount } => push_pieces(
+                out,
+                &[Name(b"fund"), Number(*account), Number(*amount)],
+            ),
+            Line::Tick { time } => push_pieces(out, &[Name(b"tick"), Number(*time)]),
+            Line::Money { account } => push_pieces(out, &[Name(b"money"), Number(*account)]),
+            Line::Call { account, form } => {
+                push_with_call(out, &[Name(b"call"), Number(*account)], form)
+            }
+        }
+    }
+}
+
+/// The line that bytes spell, without a line feed. It refuses `BadLine` exactly where they spell none.
+#[tactic(auto, unfolding(crate::specs::Grammar::line_in))]
+pub fn read(alloc: Global, text: &[u8]) -> Result<Line, LineRefusal>
+    ensures found { IfOk result (λ line. line_in text.now ≡ Some line) }
+    ensures bad { result ≡ Err LineRefusal.BadLine → line_in text.now ≡ None }
+    ensures grammar { IfOk result IsLine }
+{
+    line_forms::read(alloc, text)
+}
+
+/// Puts the spelling of a line at the end, without a line feed. Where memory runs out nothing changes.
+#[tactic(auto, unfolding(crate::specs::Grammar::line_text))]
+pub fn print(line: &Line, out: &mut Vec<u8>) -> Result<(), NoMemory>
+    requires { IsLine line.now }
+    ensures ok { OnOk result (out.new.items ≡ out.old.items ++ line_text line.now) }
+    ensures err { OnErr result (out.new.items ≡ out.old.items) }
+{
+    line_forms::print(line, out)
+}
