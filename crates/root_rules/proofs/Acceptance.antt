@@ -304,7 +304,8 @@ answers_decide tests rules log (StartSpend account c parent exit) =
     (shown_tx tests rules log c exit) coin) (Started (now log + EXIT_PERIOD)) refl)
 answers_decide tests rules log (After account c e spend) =
     exit-decides (exit_at log c e) _
-    (λ exit. decided-decides (after_causes tests log exit spend.block (shown_tx tests rules log c spend)) Cancelled refl)
+    (λ exit. decided-decides (after_causes tests log exit spend.block (shown_tx tests rules log c spend)) Cancelled
+    refl)
 answers_decide tests rules log (Between account c e spend) =
     exit-decides (exit_at log c e) _
     (λ exit. decided-decides (between_causes tests log exit spend.block (shown_tx tests rules log c spend)) Cancelled

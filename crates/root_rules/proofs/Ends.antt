@@ -26,7 +26,8 @@ paid_shows log c e (Some exit) stands is =
     → (finish : Finishes log c e) × (is_payable log c finish.exit ≡ true)) [
       | true ↦ λ early wrong. absurd (cc)
       | false ↦ λ late. elim (is_payable log c exit) as (λ b. is_payable log c exit ≡ b
-          → (if b then Paid else Dropped) ≡ Paid → (finish : Finishes log c e) × (is_payable log c finish.exit ≡ true)) [
+          → (if b then Paid else Dropped) ≡ Paid
+          → (finish : Finishes log c e) × (is_payable log c finish.exit ≡ true)) [
             | true ↦ λ payable same. (record { exit = exit; stands = stands; in_time = ltb-false _ _ late }, payable)
             | false ↦ λ isnt wrong. absurd (cc)
           ] refl
