@@ -1,4 +1,6 @@
 mod Told
-mod Quiet
+mod Copies
 pub mod Images
+pub mod Left
 pub mod Plans
+pub mod Calls

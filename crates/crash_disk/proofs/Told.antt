@@ -1,11 +1,11 @@
 -- One more call joins those that the disk in memory keeps.
 use Rattle.std.proofs.Common.{◌≡◌, cond, ℕ, Bool, true, false, ◌+◌, ◌≤◌, List, Option, [], ◌∷◌, ◌++◌, length, drop, refl, sym, ◌∙◌, ap, arith, length-drop, length-append}
-use Rattle.std.proofs.lemmas.List.{append-nil, take-append-le, drop-append-le}
-use Rattle.crash_disk.specs.Disk.{Step, syncs, DeviceCall, held_after, synced_after, unsynced_after}
-use Rattle.crash_disk.specs.Memory.{MemState, step_of, count_of, told_of, count_written}
-use Rattle.crash_disk.specs.declared.kept.KeptStep.{KeptStep}
-use Rattle.crash_disk.specs.declared.kept.KeptStep.TheVariants.{Length, Read, Write, Sync}
-use Rattle.crash_disk.specs.declared.kept.KeptCall.{KeptCall}
+use Rattle.std.proofs.lemmas.List.{take_all, take-append-le, drop-append-le}
+use Rattle.crash_disk.specs.Disk.{Step, DeviceCall}
+use Rattle.crash_disk.specs.Memory.{bytes_of, step_of, count_of, told_of, count_written}
+use Rattle.crash_disk.specs.declared.log.KeptStep.{KeptStep}
+use Rattle.crash_disk.specs.declared.log.KeptStep.TheVariants.{Length, Read, Write, Sync}
+use Rattle.crash_disk.specs.declared.log.KeptCall.{KeptCall}
 
 abbrev told_call : KeptCall → List ℕ → DeviceCall
 told_call call bytes = record { step = step_of call.step bytes; failed = call.failed }
@@ -17,7 +17,14 @@ step_of-front (Read place count) bytes more le = refl
 step_of-front (Write place count) bytes more le = rw take-append-le refl
 step_of-front Sync bytes more le = refl
 
-pub told_of-push : (calls : List KeptCall) (call : KeptCall) (bytes more : List ℕ) (told : List DeviceCall) → count_written calls ≡ length bytes
+-- a step writes the bytes that are kept for it
+pub length-bytes_of : (step : KeptStep) (bytes : List ℕ) → count_of step ≡ length bytes → length bytes ≡ length (bytes_of (step_of step bytes))
+length-bytes_of Length bytes is = sym is
+length-bytes_of (Read place count) bytes is = sym is
+length-bytes_of (Write place count) bytes is = ap length (sym (take_all count bytes (omega (arith, is))))
+length-bytes_of Sync bytes is = sym is
+
+told_of-push : (calls : List KeptCall) (call : KeptCall) (bytes more : List ℕ) (told : List DeviceCall) → count_written calls ≡ length bytes
     → told_of (calls ++ call ∷ []) (bytes ++ more) told ≡ told_call call more ∷ told_of calls bytes told
 told_of-push [] call [] more told counts = refl
 told_of-push [] call (b ∷ bytes) more told counts = absurd (omega (arith, counts))
@@ -29,7 +36,7 @@ told_of-push (c ∷ calls) call bytes more told counts =
     ∙ told_of-push calls call rest more (told_call c (bytes ++ more) ∷ told) (omega (arith, counts, length-drop n bytes))
     ∙ ap (λ (s : Step). told_call call more ∷ told_of calls rest (record { step = s; failed = c.failed } ∷ told)) (step_of-front c.step bytes more le)
 
-pub count_written-push : (calls : List KeptCall) (call : KeptCall) → count_written (calls ++ call ∷ []) ≡ count_written calls + count_of call.step
+count_written-push : (calls : List KeptCall) (call : KeptCall) → count_written (calls ++ call ∷ []) ≡ count_written calls + count_of call.step
 count_written-push [] call = omega arith
 count_written-push (c ∷ calls) call = omega (arith, count_written-push calls call)
 
@@ -44,32 +51,11 @@ pub counts_new : (calls new_calls : List KeptCall) (call : KeptCall) (bytes new_
 counts_new calls new_calls call bytes new_bytes more calls_are bytes_are counts_call counts =
     omega (arith, ap count_written calls_are, count_written-push calls call, ap length bytes_are, length-append bytes more)
 
--- two states with the same parts
-pub state_is : {began began' : List ℕ} {calls calls' : List DeviceCall} {fails fails' : List ℕ} {made made' : ℕ} {fuse fuse' : Option ℕ} {faults faults' room room' bytes bytes' : ℕ} → began ≡ began'
-    → calls ≡ calls' → fails ≡ fails' → made ≡ made' → fuse ≡ fuse' → faults ≡ faults' → room ≡ room' → bytes ≡ bytes'
-    → (let s : MemState = record { history = record { began = began; calls = calls }; fails = fails; made = made; fuse = fuse; faults = faults; room = record { calls = room; bytes = bytes } } in s)
-    ≡ record { history = record { began = began'; calls = calls' }; fails = fails'; made = made'; fuse = fuse'; faults = faults'; room = record { calls = room'; bytes = bytes' } }
-state_is h a b c d e f g =
-    λ i. record { history = record { began = h i; calls = a i }; fails = b i; made = c i; fuse = d i; faults = e i; room = record { calls = f i; bytes = g i } }
-
 -- where there is room for a call, the copies were made
-pub was_copied : (copied : Bool) (room : ℕ) → (copied ≡ false → room ≡ 0) → 1 ≤ room → copied ≡ true
-was_copied true room none some = refl
-was_copied false room none some = absurd (omega (arith, none refl, some))
-
--- a sync that passed or failed
-pub synced_by : (failed : Bool) (began : List ℕ) (calls : List DeviceCall) → failed ≡ true → synced_after began (record { step = syncs; failed = failed } ∷ calls) ≡ synced_after began calls
-synced_by failed began calls is = ap (λ (f : Bool). synced_after began (record { step = syncs; failed = f } ∷ calls)) is
-
-pub synced_now : (failed : Bool) (began : List ℕ) (calls : List DeviceCall) → failed ≡ false → synced_after began (record { step = syncs; failed = failed } ∷ calls) ≡ held_after began calls
-synced_now failed began calls is = ap (λ (f : Bool). synced_after began (record { step = syncs; failed = f } ∷ calls)) is
-
-pub unsynced_by : (failed : Bool) (calls : List DeviceCall) → failed ≡ true → unsynced_after (record { step = syncs; failed = failed } ∷ calls) ≡ unsynced_after calls
-unsynced_by failed calls is = ap (λ (f : Bool). unsynced_after (record { step = syncs; failed = f } ∷ calls)) is ∙ append-nil (unsynced_after calls)
-
-pub unsynced_now : (failed : Bool) (calls : List DeviceCall) → failed ≡ false → unsynced_after (record { step = syncs; failed = failed } ∷ calls) ≡ []
-unsynced_now failed calls is = ap (λ (f : Bool). unsynced_after (record { step = syncs; failed = f } ∷ calls)) is
+pub has_copy : (copy : Bool) (room : ℕ) → (copy ≡ false → room ≡ 0) → 1 ≤ room → copy ≡ true
+has_copy true room none some = refl
+has_copy false room none some = absurd (omega (arith, none refl, some))
 
 -- the image that a disk began with stays, once it was copied
-pub began_kept : (copied : Bool) (began bytes bytes' : List ℕ) → copied ≡ true → cond copied began bytes' ≡ cond copied began bytes
-began_kept copied began bytes bytes' is = ap (λ (b : Bool). cond b began bytes') is ∙ sym (ap (λ (b : Bool). cond b began bytes) is)
+pub began_kept : (copy : Bool) (began bytes bytes' : List ℕ) → copy ≡ true → cond copy began bytes' ≡ cond copy began bytes
+began_kept copy began bytes bytes' is = ap (λ (b : Bool). cond b began bytes') is ∙ sym (ap (λ (b : Bool). cond b began bytes) is)

@@ -1,37 +1,38 @@
 -- What the disk in memory keeps, and how it stands for its state.
 use Rattle.std.specs.Prelude.{◌≡◌, ◌≤◌, ◌+◌, ℕ, true, false, if◌then◌else◌, List, [], length, vec_len}
+use Rattle.std.specs.List.{All}
 use Rattle.std.specs.Vec.{vec_capacity}
-use Rattle.crash_disk.specs.Disk.{DeviceCall, held_after, synced_after, unsynced_after}
-use Rattle.crash_disk.specs.Memory.{MemState, told_of, count_written}
+use Rattle.crash_disk.specs.Disk.{content_after, synced_content_after, unsynced_ranges_after}
+use Rattle.crash_disk.specs.Memory.{MemState}
+use Rattle.crash_disk.specs.Log.{LogState}
 use Rattle.crash_disk.specs.declared.memory.MemDisk.TheInside.{Inside}
 
--- the image that it began with: what it holds now until a copy was made
+-- the image that a disk began with: what it holds now until a copy was made
 abbrev pub began_of : Inside → List ℕ
-began_of disk = if disk.copied then disk.began.items else disk.bytes.items
+began_of disk = if disk.has_copy then disk.began.items else disk.bytes.items
 
-abbrev pub calls_of : Inside → List DeviceCall
-calls_of disk = told_of disk.calls.items disk.written.items []
-
-abbrev pub state_of : Inside → MemState
-state_of disk = record {
-  history = record { began = began_of disk; calls = calls_of disk };
-  fails = disk.plan.fails.items;
-  made = disk.plan.made;
-  fuse = disk.plan.fuse;
-  faults = disk.plan.faults;
-  room = record { calls = disk.room_calls; bytes = disk.room_bytes };
+-- the state over the image that it began with and a log
+abbrev pub state_over : List ℕ → LogState → MemState
+state_over began log = record {
+  history = record { began = began; calls = log.calls };
+  fails = log.fails;
+  made = log.made;
+  fuse = log.fuse;
+  faults = log.faults;
+  room = log.room;
 }
 
--- the lists stand for the calls, and there is memory for the room that is left
+abbrev pub state_of : Inside → MemState
+state_of disk = state_over (began_of disk) disk.log
+
+-- The lists stand for what the calls left, the ranges lie within the bytes, and there is memory for the room that is left.
 pub record IsWhole (disk : Inside) : Type 0 where
-  pub counts : count_written disk.calls.items ≡ length disk.written.items
-  pub holds : disk.bytes.items ≡ held_after (began_of disk) (calls_of disk)
-  pub ranges : disk.unsynced.items ≡ unsynced_after (calls_of disk)
-  pub synced : disk.copied ≡ true → disk.synced.items ≡ synced_after (began_of disk) (calls_of disk)
-  pub fresh : disk.copied ≡ false → disk.calls.items ≡ []
-  pub no_room : disk.copied ≡ false → disk.room_calls ≡ 0
-  pub calls_room : vec_len disk.calls + disk.room_calls ≤ vec_capacity disk.calls
-  pub ranges_room : vec_len disk.unsynced + disk.room_calls ≤ vec_capacity disk.unsynced
-  pub written_room : vec_len disk.written + disk.room_bytes ≤ vec_capacity disk.written
-  pub bytes_room : vec_len disk.bytes + disk.room_bytes ≤ vec_capacity disk.bytes
-  pub synced_room : disk.copied ≡ true → vec_len disk.bytes + disk.room_bytes ≤ vec_capacity disk.synced
+  pub holds : disk.bytes.items ≡ content_after (began_of disk) disk.log.calls
+  pub ranges : disk.unsynced.items ≡ unsynced_ranges_after disk.log.calls
+  pub within : All (λ range. range.0 + range.1 ≤ length disk.bytes.items) disk.unsynced.items
+  pub synced : disk.has_copy ≡ true → disk.synced.items ≡ synced_content_after (began_of disk) disk.log.calls
+  pub fresh : disk.has_copy ≡ false → disk.log.calls ≡ []
+  pub no_room : disk.has_copy ≡ false → disk.log.room.calls ≡ 0
+  pub ranges_room : vec_len disk.unsynced + disk.log.room.calls ≤ vec_capacity disk.unsynced
+  pub bytes_room : vec_len disk.bytes + disk.log.room.bytes ≤ vec_capacity disk.bytes
+  pub synced_room : disk.has_copy ≡ true → vec_len disk.bytes + disk.log.room.bytes ≤ vec_capacity disk.synced

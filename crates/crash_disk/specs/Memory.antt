@@ -1,11 +1,11 @@
 -- The disk in memory.
 use Rattle.std.specs.Prelude.{◌≡◌, ℕ, zero, suc, ◌+◌, ◌-◌, Bool, false, ◌==◌, true, max, if◌then◌else◌, List, [], ◌∷◌, length, take, drop, Option, Some, None}
 use Rattle.std.specs.List.{list_any}
-use Rattle.crash_disk.specs.Causes.{counted}
-use Rattle.crash_disk.specs.Disk.{Step, asks_length, reads, writes, syncs, DeviceCall, History, with_call, Plan, fails_first, after_one, Room}
-use Rattle.crash_disk.specs.declared.kept.KeptStep.{KeptStep}
-use Rattle.crash_disk.specs.declared.kept.KeptStep.TheVariants.{Length, Read, Write, Sync}
-use Rattle.crash_disk.specs.declared.kept.KeptCall.{KeptCall}
+use Rattle.plasma_base.specs.Causes.{counted, faults_after}
+use Rattle.crash_disk.specs.Disk.{Step, asks_length, reads, writes, syncs, DeviceCall, History, fresh_history, with_call, FaultPlan, fails_first, after_one, Room}
+use Rattle.crash_disk.specs.declared.log.KeptStep.{KeptStep}
+use Rattle.crash_disk.specs.declared.log.KeptStep.TheVariants.{Length, Read, Write, Sync}
+use Rattle.crash_disk.specs.declared.log.KeptCall.{KeptCall}
 
 -- what it tells; the numbers of the calls that are to fail, counted from 1 since it was made; how many calls were made;
 -- how many may still pass where there is a fuse; the faults; and the room left
@@ -22,26 +22,30 @@ abbrev pub listed_at : List ℕ → ℕ → ℕ → Bool
 listed_at fails made zero = list_any (λ number. number == made + 1) fails
 listed_at fails made (suc n) = listed_at fails (counted made) n
 
--- the plan of its faults
-abbrev pub plan_of : MemState → Plan
-plan_of disk = record { listed = listed_at disk.fails disk.made; fuse = disk.fuse }
+-- the plan of a list, after so many calls, with a fuse
+abbrev pub plan_at : List ℕ → ℕ → Option ℕ → FaultPlan
+plan_at fails made fuse = record { listed = listed_at fails made; fuse = fuse }
 
--- none is listed where the list is empty
-abbrev pub NoneListed : Type 0
-NoneListed = (disk : MemState) (n : ℕ) → disk.fails ≡ [] → (plan_of disk).listed n ≡ false
+-- the plan of a disk's faults
+abbrev pub plan_of : MemState → FaultPlan
+plan_of disk = plan_at disk.fails disk.made disk.fuse
 
 -- the next call fails
 abbrev pub fails_next : MemState → Bool
 fails_next disk = fails_first (plan_of disk)
 
--- a count of faults after a call that failed or passed
-abbrev pub faults_after : ℕ → Bool → ℕ
-faults_after faults failed = if failed then counted faults else faults
-
 -- the bytes that a step writes
 abbrev pub bytes_of : Step → List ℕ
 bytes_of (writes place bytes) = bytes
 bytes_of step = []
+
+-- the room after a step
+abbrev pub room_after : Step → Room → Room
+room_after step room = record { calls = room.calls - 1; bytes = room.bytes - length (bytes_of step) }
+
+-- room for at least so many calls, which write so many bytes
+abbrev pub room_with : ℕ → ℕ → Room → Room
+room_with calls bytes room = record { calls = max calls room.calls; bytes = max bytes room.bytes }
 
 -- the disk after a device call
 abbrev pub after_call : MemState → Step → MemState
@@ -50,7 +54,7 @@ after_call disk step = record disk {
   made = counted disk.made;
   fuse = (after_one (plan_of disk)).fuse;
   faults = faults_after disk.faults (fails_next disk);
-  room = record { calls = disk.room.calls - 1; bytes = disk.room.bytes - length (bytes_of step) };
+  room = room_after step disk.room;
 }
 
 -- the disk with a fuse
@@ -59,12 +63,11 @@ with_fuse calls disk = record disk { fuse = Some calls }
 
 -- the disk with room for at least so many calls, which write so many bytes
 abbrev pub with_room : ℕ → ℕ → MemState → MemState
-with_room calls bytes disk = record disk { room = record { calls = max calls disk.room.calls; bytes = max bytes disk.room.bytes } }
+with_room calls bytes disk = record disk { room = room_with calls bytes disk.room }
 
 -- the disk after a crash that left this image: no calls to tell, no fuse and no room
-abbrev pub crashed : List ℕ → MemState → MemState
-crashed image disk =
-    record disk { history = record { began = image; calls = [] }; fuse = None; room = record { calls = 0; bytes = 0 } }
+abbrev pub after_crash : List ℕ → MemState → MemState
+after_crash image disk = record disk { history = fresh_history image; fuse = None; room = record { calls = 0; bytes = 0 } }
 
 -- the step of a call that is kept with the number of its bytes, which are the first of these
 abbrev pub step_of : KeptStep → List ℕ → Step
@@ -88,9 +91,3 @@ told_of (call ∷ calls) bytes told =
 abbrev pub count_written : List KeptCall → ℕ
 count_written [] = 0
 count_written (call ∷ calls) = count_of call.step + count_written calls
-
--- a step that writes nothing and is no sync
-abbrev pub is_quiet : KeptStep → Bool
-is_quiet (Write place count) = false
-is_quiet Sync = false
-is_quiet step = true

@@ -1,6 +1,7 @@
-ghost use Rattle.std.specs.Prelude.{◌≡◌, ℕ, ◌+◌, ◌^◌, ◌<◌, ◌≤◌, length, take, drop, Option, Some, is_err, IfOk, OnOk, OnErr};
-ghost use Rattle.crash_disk.specs.Causes.{HasCause};
-ghost use Rattle.crash_disk.specs.Disk.{History, held, told_after, asks_length, reads, writes, syncs, Plan, GoesByPlan, Room, HasRoom, Spends};
+ghost use Rattle.std.specs.Prelude.{◌≡◌, ℕ, ◌+◌, ◌^◌, ◌<◌, ◌≤◌, length, take, drop, Option, is_err, IfOk, OnOk, OnErr};
+ghost use Rattle.plasma_base.specs.Causes.{faults_after};
+ghost use Rattle.crash_disk.specs.Disk.{History, content, asks_length, reads, writes, syncs, FaultPlan, Room, HasRoom, Spends};
+ghost use Rattle.crash_disk.specs.Calls.{WhereTold, Called, IsStill};
 
 use plasma_base::NoMemory;
 use thiserror::Error;
@@ -15,14 +16,15 @@ pub struct DiskFailed;
 /// the length may be any from the old to the new. A write that failed counts as written.
 ///
 /// A disk that can't say what it holds, as a file, tells no history. What its calls answer is then
-/// known only where they fail. One that can't say which of its calls will fail foretells nothing.
+/// known only where they fail. One that can't say which of its calls will fail foretells nothing. Each
+/// call that fails counts one fault, and no other call any.
 pub trait Disk {
     /// The image that the disk began with and the device calls since, where it tells them. What it
     /// holds and what a crash may leave are functions of these.
     ghost told: { Self → Option History };
 
     /// Which device calls to come fail, where it foretells them.
-    ghost plan: { Self → Option Plan };
+    ghost plan: { Self → Option FaultPlan };
 
     /// How often the disk has failed; it stops at `u64::MAX`.
     ghost faults: { Self → ℕ };
@@ -33,39 +35,36 @@ pub trait Disk {
     /// The number of bytes. A device call.
     fn len(&mut self) -> Result<u64, DiskFailed>
         requires { HasRoom (left self.old) 0 }
-        ensures answer { IfOk result (λ len. (history : History) → told self.old ≡ Some history → len ≡ length (held history)) }
-        ensures history { told self.new ≡ told_after (told self.old) asks_length (is_err result) }
-        ensures planned { GoesByPlan (plan self.old) (plan self.new) (is_err result) }
-        ensures cause { HasCause (faults self.old) (faults self.new) result }
+        ensures answer { IfOk result (λ len. WhereTold (told self.old) (λ history. len ≡ length (content history))) }
+        ensures called { Called told plan asks_length (is_err result) self.old self.new }
+        ensures cause { faults self.new ≡ faults_after (faults self.old) (is_err result) }
         ensures spent { Spends (left self.old) (left self.new) 0 };
 
     /// Fills `room` with the bytes from `place` on, which lie within the length. A device call.
     fn read_at(&mut self, place: u64, room: &mut [u8]) -> Result<(), DiskFailed>
         requires room { HasRoom (left self.old) 0 }
-        requires within { (history : History) → told self.old ≡ Some history → place + length room.old ≤ length (held history) }
-        ensures answer { OnOk result ((history : History) → told self.old ≡ Some history → room.new ≡ take (length room.old) (drop place (held history))) }
-        ensures history { told self.new ≡ told_after (told self.old) (reads place (length room.old)) (is_err result) }
-        ensures planned { GoesByPlan (plan self.old) (plan self.new) (is_err result) }
-        ensures cause { HasCause (faults self.old) (faults self.new) result }
+        requires within { WhereTold (told self.old) (λ history. place + length room.old ≤ length (content history)) }
+        ensures answer { OnOk result (WhereTold (told self.old)
+            (λ history. room.new ≡ take (length room.old) (drop place (content history)))) }
+        ensures called { Called told plan (reads place (length room.old)) (is_err result) self.old self.new }
+        ensures cause { faults self.new ≡ faults_after (faults self.old) (is_err result) }
         ensures spent { Spends (left self.old) (left self.new) 0 };
 
     /// Writes over what is there and past the end, from a place that is at most the length. A write that
     /// ends past the greatest place fails. A device call.
     fn write_at(&mut self, place: u64, bytes: &[u8]) -> Result<(), DiskFailed>
         requires room { HasRoom (left self.old) (length bytes.now) }
-        requires within { (history : History) → told self.old ≡ Some history → place ≤ length (held history) }
+        requires within { WhereTold (told self.old) (λ history. place ≤ length (content history)) }
         ensures fits { OnOk result (place + length bytes.now < 2 ^ 64) }
-        ensures history { told self.new ≡ told_after (told self.old) (writes place bytes.now) (is_err result) }
-        ensures planned { GoesByPlan (plan self.old) (plan self.new) (is_err result) }
-        ensures cause { HasCause (faults self.old) (faults self.new) result }
+        ensures called { Called told plan (writes place bytes.now) (is_err result) self.old self.new }
+        ensures cause { faults self.new ≡ faults_after (faults self.old) (is_err result) }
         ensures spent { Spends (left self.old) (left self.new) (length bytes.now) };
 
     /// After it succeeds a crash leaves what the disk holds. A device call.
     fn sync(&mut self) -> Result<(), DiskFailed>
         requires { HasRoom (left self.old) 0 }
-        ensures history { told self.new ≡ told_after (told self.old) syncs (is_err result) }
-        ensures planned { GoesByPlan (plan self.old) (plan self.new) (is_err result) }
-        ensures cause { HasCause (faults self.old) (faults self.new) result }
+        ensures called { Called told plan syncs (is_err result) self.old self.new }
+        ensures cause { faults self.new ≡ faults_after (faults self.old) (is_err result) }
         ensures spent { Spends (left self.old) (left self.new) 0 };
 
     /// Takes the memory for so many further device calls, which write so many bytes in all, or answers
@@ -74,8 +73,6 @@ pub trait Disk {
         ensures calls { OnOk result (calls ≤ (left self.new).calls) }
         ensures bytes { OnOk result (bytes ≤ (left self.new).bytes) }
         ensures stays { ((left self.old).calls ≤ (left self.new).calls) × ((left self.old).bytes ≤ (left self.new).bytes) }
-        ensures history { told self.new ≡ told self.old }
-        ensures plan { plan self.new ≡ plan self.old }
-        ensures faults { faults self.new ≡ faults self.old }
+        ensures still { IsStill told plan faults self.old self.new }
         ensures err { OnErr result (self.new ≡ self.old) };
 }

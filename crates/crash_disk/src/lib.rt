@@ -2,17 +2,21 @@
 //! in memory whose calls can be made to fail and which can crash.
 #![tactic(auto)]
 
+mod copy;
 mod disk;
-mod kept;
+mod faults;
 mod laws;
+mod log;
 mod memory;
-mod mixed;
+mod mix;
 mod outcome;
-mod plan;
 #[cfg(test)]
 mod tests;
 
 pub use disk::{Disk, DiskFailed};
-pub use laws::{none_listed, outcomes_may_be_left, passes_by_fuse};
+pub use laws::{
+    after_calls, content_may_be_left, fresh_disk_leaves_itself, next_pass_by_fuse, none_listed,
+    outcomes_may_be_left, passes_by_fuse, synced_content_is_left,
+};
 pub use memory::MemDisk;
 pub use outcome::Outcome;

@@ -1,14 +1,14 @@
-ghost use Rattle.std.specs.Prelude.{◌≡◌, ◌+◌, ◌^◌, ◌<◌, ◌≤◌, [], length, take, drop, is_err, Some, None, IsTrue, IfOk, OnOk, OnErr};
-ghost use Rattle.crash_disk.specs.Causes.{Rose, HasCause};
-ghost use Rattle.crash_disk.specs.Disk.{held, told_after, synced, asks_length, reads, writes, syncs, HasRoom};
+ghost use Rattle.std.specs.Prelude.{◌≡◌, ◌+◌, ◌^◌, ◌<◌, ◌≤◌, [], length, take, drop, is_err, Some, None, IfOk, OnOk, OnErr};
+ghost use Rattle.plasma_base.specs.Causes.{faults_after};
+ghost use Rattle.crash_disk.specs.Disk.{fresh_history, content, synced_content, asks_length, reads, writes, syncs, HasRoom};
 ghost use Rattle.crash_disk.specs.Outcomes.{image_after, HasPattern};
-ghost use Rattle.crash_disk.specs.Memory.{is_quiet, step_of, plan_of, fails_next, after_call, with_fuse, with_room, crashed};
+ghost use Rattle.crash_disk.specs.Memory.{plan_of, fails_next, after_call, with_fuse, with_room, after_crash};
 
+use super::copy::{bring_up_to_date, copy_over, overwrite};
 use super::disk::{Disk, DiskFailed};
-use super::kept::{KeptCall, KeptStep, copy_over, keep, overwrite};
-use super::mixed::{copied, mixed};
+use super::log::{CallLog, KeptStep};
+use super::mix::mix;
 use super::outcome::Outcome;
-use super::plan::Plan;
 use plasma_base::NoMemory;
 use std::alloc::Global;
 use std::marker::Model;
@@ -20,15 +20,11 @@ pub struct MemDisk {
     alloc: Global,
     bytes: Vec<u8>,
     // Whether the next two were copied from the bytes, which takes memory: before the first room.
-    copied: bool,
+    has_copy: bool,
     began: Vec<u8>,
     synced: Vec<u8>,
     unsynced: Vec<(u64, usize)>,
-    calls: Vec<KeptCall>,
-    written: Vec<u8>,
-    plan: Plan,
-    room_calls: u64,
-    room_bytes: u64,
+    log: CallLog,
 }
 
 impl Model for MemDisk {
@@ -48,7 +44,7 @@ impl MemDisk {
     /// calls are counted from 1: the k-th fails where k is in `fails`.
     pub fn make(alloc: Global, bytes: Vec<u8>, fails: Vec<u64>) -> MemDisk
         ensures { result ≡ record {
-          history = record { began = bytes.items; calls = [] };
+          history = fresh_history bytes.items;
           fails = fails.items;
           made = 0;
           fuse = None;
@@ -59,26 +55,17 @@ impl MemDisk {
         MemDisk {
             alloc,
             bytes,
-            copied: false,
+            has_copy: false,
             began: Vec::new(alloc),
             synced: Vec::new(alloc),
             unsynced: Vec::new(alloc),
-            calls: Vec::new(alloc),
-            written: Vec::new(alloc),
-            plan: Plan {
-                fails,
-                made: 0,
-                fuse: None,
-                faults: 0,
-            },
-            room_calls: 0,
-            room_bytes: 0,
+            log: CallLog::make(alloc, fails),
         }
     }
 
     /// The bytes that the disk holds, lent.
     pub fn bytes(&self) -> &[u8]
-        ensures { result.now ≡ held self.now.history }
+        ensures { result.now ≡ content self.now.history }
     {
         &self.bytes
     }
@@ -88,14 +75,14 @@ impl MemDisk {
     pub fn fuse(&mut self, calls: u64)
         ensures { self.new ≡ with_fuse calls self.old }
     {
-        self.plan.fuse = Some(calls);
+        self.log.fuse(calls);
     }
 
     /// Crashes: the disk is then one that began with the image of this outcome, with no call to tell, no
     /// fuse and no room. The bytes of a mix aren't empty. `NoMemory` changes nothing.
     pub fn crash(&mut self, outcome: &Outcome) -> Result<(), NoMemory>
         requires { HasPattern outcome.now }
-        ensures ok { OnOk result (self.new ≡ crashed (image_after outcome.now self.old.history) self.old) }
+        ensures ok { OnOk result (self.new ≡ after_crash (image_after outcome.now self.old.history) self.old) }
         ensures err { OnErr result (self.new ≡ self.old) }
     {
         let image = self.image(outcome)?;
@@ -109,22 +96,22 @@ impl MemDisk {
         ensures { IfOk result (λ image. image.items ≡ image_after outcome.now self.now.history) }
     {
         match outcome {
-            Outcome::Old => copied(self.alloc, self.synced()),
-            Outcome::New => copied(self.alloc, self.bytes()),
+            Outcome::Old => Ok(self.synced().to_vec(self.alloc)?),
+            Outcome::New => Ok(self.bytes().to_vec(self.alloc)?),
             Outcome::Mix { extra, bytes } => {
                 let synced = self.synced();
                 let growth = (self.bytes().len() - synced.len()).min(*extra as usize);
-                mixed(self.alloc, synced, &self.unsynced, bytes.as_slice(), growth)
+                mix(self.alloc, synced, &self.unsynced, bytes.as_slice(), growth)
             }
         }
     }
 
     // The bytes as of the last sync that succeeded, lent.
     fn synced(&self) -> &[u8]
-        ensures value { result.now ≡ synced self.now.history }
-        ensures short { length result.now ≤ length (held self.now.history) }
+        ensures value { result.now ≡ synced_content self.now.history }
+        ensures short { length result.now ≤ length (content self.now.history) }
     {
-        if self.copied {
+        if self.has_copy {
             &self.synced
         } else {
             &self.bytes
@@ -133,36 +120,12 @@ impl MemDisk {
 
     // The disk begins anew with this image.
     fn begin_with(&mut self, image: Vec<u8>)
-        ensures { self.new ≡ crashed image.items self.old }
+        ensures { self.new ≡ after_crash image.items self.old }
     {
         self.bytes = image;
-        self.copied = false;
-        self.calls.clear();
-        self.written.clear();
+        self.has_copy = false;
         self.unsynced.clear();
-        self.plan.fuse = None;
-        self.room_calls = 0;
-        self.room_bytes = 0;
-    }
-
-    // Counts and keeps a call that writes nothing and is no sync, and says whether it fails.
-    fn note(&mut self, step: KeptStep) -> bool
-        requires quiet { IsTrue (is_quiet step) }
-        requires room { 1 ≤ self.old.room.calls }
-        ensures value { result ≡ fails_next self.old }
-        ensures later { self.old.faults ≤ self.new.faults }
-        ensures rose { IsTrue result → Rose self.old.faults self.new.faults }
-        ensures after { self.new ≡ after_call self.old (step_of step []) }
-    {
-        let failed = self.plan.next_fails();
-        keep(
-            &mut self.calls,
-            &mut self.written,
-            KeptCall { step, failed },
-            &[],
-        );
-        self.room_calls -= 1;
-        failed
+        self.log.clear();
     }
 }
 
@@ -184,28 +147,26 @@ impl Disk for MemDisk {
 
     fn len(&mut self) -> Result<u64, DiskFailed>
         requires { HasRoom self.old.room 0 }
-        ensures answer { IfOk result (λ len. len ≡ length (held self.old.history)) }
+        ensures answer { IfOk result (λ len. len ≡ length (content self.old.history)) }
         ensures fails { is_err result ≡ fails_next self.old }
-        ensures cause { HasCause self.old.faults self.new.faults result }
+        ensures cause { self.new.faults ≡ faults_after self.old.faults (is_err result) }
         ensures after { self.new ≡ after_call self.old asks_length }
     {
-        let failed = self.note(KeptStep::Length);
+        let failed = self.log.note(KeptStep::Length, &[]);
         let len = self.bytes.len() as u64;
         if failed { Err(DiskFailed) } else { Ok(len) }
     }
 
     fn read_at(&mut self, place: u64, room: &mut [u8]) -> Result<(), DiskFailed>
         requires room { HasRoom self.old.room 0 }
-        requires within { place + length room.old ≤ length (held self.old.history) }
-        ensures answer { OnOk result (room.new ≡ take (length room.old) (drop place (held self.old.history))) }
+        requires within { place + length room.old ≤ length (content self.old.history) }
+        ensures answer { OnOk result (room.new ≡ take (length room.old) (drop place (content self.old.history))) }
         ensures fails { is_err result ≡ fails_next self.old }
-        ensures cause { HasCause self.old.faults self.new.faults result }
+        ensures cause { self.new.faults ≡ faults_after self.old.faults (is_err result) }
         ensures after { self.new ≡ after_call self.old (reads place (length room.old)) }
     {
-        let failed = self.note(KeptStep::Read {
-            place,
-            count: room.len(),
-        });
+        let count = room.len();
+        let failed = self.log.note(KeptStep::Read { place, count }, &[]);
         let start = place as usize;
         if failed {
             return Err(DiskFailed);
@@ -216,47 +177,30 @@ impl Disk for MemDisk {
 
     fn write_at(&mut self, place: u64, bytes: &[u8]) -> Result<(), DiskFailed>
         requires room { HasRoom self.old.room (length bytes.now) }
-        requires within { place ≤ length (held self.old.history) }
+        requires within { place ≤ length (content self.old.history) }
         ensures fits { place + length bytes.now < 2 ^ 64 }
         ensures fails { is_err result ≡ fails_next self.old }
-        ensures cause { HasCause self.old.faults self.new.faults result }
+        ensures cause { self.new.faults ≡ faults_after self.old.faults (is_err result) }
         ensures after { self.new ≡ after_call self.old (writes place bytes.now) }
     {
-        let failed = self.plan.next_fails();
         let count = bytes.len();
-        let step = KeptStep::Write { place, count };
-        keep(
-            &mut self.calls,
-            &mut self.written,
-            KeptCall { step, failed },
-            bytes,
-        );
+        let failed = self.log.note(KeptStep::Write { place, count }, bytes);
         self.unsynced.push((place, count)).unwrap();
         overwrite(&mut self.bytes, place as usize, bytes);
-        self.room_calls -= 1;
-        self.room_bytes -= count as u64;
         answer(failed)
     }
 
     fn sync(&mut self) -> Result<(), DiskFailed>
         requires { HasRoom self.old.room 0 }
         ensures fails { is_err result ≡ fails_next self.old }
-        ensures cause { HasCause self.old.faults self.new.faults result }
+        ensures cause { self.new.faults ≡ faults_after self.old.faults (is_err result) }
         ensures after { self.new ≡ after_call self.old syncs }
     {
-        let failed = self.plan.next_fails();
-        let step = KeptStep::Sync;
-        keep(
-            &mut self.calls,
-            &mut self.written,
-            KeptCall { step, failed },
-            &[],
-        );
-        self.room_calls -= 1;
+        let failed = self.log.note(KeptStep::Sync, &[]);
         if failed {
             return Err(DiskFailed);
         }
-        copy_over(&mut self.synced, &self.bytes).unwrap();
+        bring_up_to_date(&mut self.synced, &self.bytes, &self.unsynced);
         self.unsynced.clear();
         Ok(())
     }
@@ -265,20 +209,17 @@ impl Disk for MemDisk {
         ensures ok { OnOk result (self.new ≡ with_room calls bytes self.old) }
         ensures err { OnErr result (self.new ≡ self.old) }
     {
-        let calls = calls.max(self.room_calls);
-        let bytes = bytes.max(self.room_bytes);
-        self.calls.reserve(calls as usize)?;
-        self.unsynced.reserve(calls as usize)?;
-        self.written.reserve(bytes as usize)?;
-        self.bytes.reserve(bytes as usize)?;
+        self.unsynced
+            .reserve(calls.max(self.log.room_calls()) as usize)?;
+        self.bytes
+            .reserve(bytes.max(self.log.room_bytes()) as usize)?;
         self.synced.reserve(self.bytes.capacity())?;
-        if !self.copied {
+        if !self.has_copy {
             copy_over(&mut self.began, &self.bytes)?;
             copy_over(&mut self.synced, &self.bytes)?;
-            self.copied = true;
+            self.has_copy = true;
         }
-        self.room_calls = calls;
-        self.room_bytes = bytes;
+        self.log.make_room(calls, bytes)?;
         Ok(())
     }
 }

@@ -1,5 +1,5 @@
 ghost use Rattle.std.specs.Prelude.{◌≡◌, ◌<◌, ◌≤◌, length, IfOk};
-ghost use Rattle.crash_disk.specs.Disk.{held};
+ghost use Rattle.crash_disk.specs.Disk.{content};
 ghost use Rattle.crash_disk.specs.Outcomes.{HasPattern};
 
 use super::*;
@@ -8,7 +8,7 @@ use std::alloc::Global;
 use std::test::Fail;
 
 // A disk of four synced bytes, with two written over the third and fourth, and two past the end.
-fn written(alloc: Global, fails: Vec<u64>) -> Result<MemDisk, Fail>
+fn two_writes(alloc: Global, fails: Vec<u64>) -> Result<MemDisk, Fail>
     ensures room { IfOk result (λ disk. 3 ≤ disk.room.calls) }
 {
     let mut disk = MemDisk::make(alloc, b"abcd".to_vec(alloc)?, fails);
@@ -30,7 +30,7 @@ fn mix(alloc: Global, extra: u64, bytes: &[u8]) -> Result<Outcome, Fail>
 fn leaves(alloc: Global, outcome: &Outcome, want: &[u8]) -> Result<bool, Fail>
     requires { HasPattern outcome.now }
 {
-    let mut disk = written(alloc, Vec::new(alloc))?;
+    let mut disk = two_writes(alloc, Vec::new(alloc))?;
     disk.crash(outcome)?;
     Ok(disk.bytes() == want)
 }
@@ -49,7 +49,7 @@ fn crashes(rt: HostRuntime) -> Result<(), Fail> {
 #[test]
 fn calls_fail(rt: HostRuntime) -> Result<(), Fail> {
     let alloc = rt.alloc();
-    let mut disk = written(alloc, [2, 9].as_slice().to_vec(alloc)?)?;
+    let mut disk = two_writes(alloc, [2, 9].as_slice().to_vec(alloc)?)?;
     assert_eq!(rt; disk.sync(), Err(DiskFailed));
     assert_eq!(rt; disk.len(), Ok(6));
     disk.crash(&Outcome::Old)?;

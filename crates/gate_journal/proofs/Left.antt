@@ -4,7 +4,8 @@ use Rattle.std.proofs.lemmas.Bool.{cases_lt, cases_eq}
 use Rattle.std.proofs.lemmas.Bool.Decides.{nat_tests}
 use Rattle.std.proofs.lemmas.Grind.{same_number_lists}
 use Rattle.std.proofs.lemmas.List.{get_or-take, take_at, append-nil}
-use Rattle.crash_disk.specs.Disk.{Step, asks_length, reads, writes, syncs, DeviceCall, History, held, synced, unsynced, held_after, synced_after, unsynced_after, is_touched, MayLeave}
+use Rattle.crash_disk.proofs.Left.{untouched_same}
+use Rattle.crash_disk.specs.Disk.{Step, asks_length, reads, writes, syncs, DeviceCall, History, content, synced_content, unsynced_ranges, content_after, synced_content_after, unsynced_ranges_after, is_touched, MayLeave}
 
 -- the fields of `MayLeave` over plain lists
 pub record Left (bytes : List ℕ) (ranges : List (ℕ × ℕ)) (most : ℕ) (image : List ℕ) : Type 0 where
@@ -12,12 +13,12 @@ pub record Left (bytes : List ℕ) (ranges : List (ℕ × ℕ)) (most : ℕ) (im
   pub no_longer : length image ≤ most
   pub untouched : (place : ℕ) → is_touched bytes ranges place ≡ false → get_or image place 0 ≡ get_or bytes place 0
 
-pub left : (history : History) (image : List ℕ) → MayLeave history image → Left (synced history) (unsynced history) (length (held history)) image
+pub left : (history : History) (image : List ℕ) → MayLeave history image → Left (synced_content history) (unsynced_ranges history) (length (content history)) image
 left history image may = record { no_shorter = may.no_shorter; no_longer = may.no_longer; untouched = may.untouched }
 
 -- where all is synced, the bytes stay
 pub only : (bytes image : List ℕ) → Left bytes [] (length bytes) image → image ≡ bytes
-only bytes image l = same_number_lists image bytes (omega (arith, l.no_shorter, l.no_longer)) (λ place lt. l.untouched place (let lt' : place < length bytes = omega (arith, lt, l.no_longer) in grind (arith, nat_tests)))
+only bytes image l = untouched_same bytes image (omega (arith, l.no_shorter, l.no_longer)) l.untouched
 
 -- one range behind a gate leaves the gate and what is before it
 pub behind : (front : List ℕ) (gate : ℕ) (rest : List ℕ) (count most : ℕ) (image : List ℕ) → Left (front ++ gate ∷ rest) ((length front + 1, count) ∷ []) most image → image ≡ front ++ gate ∷ drop (length front + 1) image
@@ -60,18 +61,3 @@ at_gate front gate rest image l =
       | inl before ↦ grind (arith, nat_tests)
       | inr from ↦ let after : g + 1 ≤ place = omega (arith, from, not) in grind (arith, nat_tests)
     ]
-
-abbrev IsAll : List ℕ → List DeviceCall → Type 0
-IsAll began calls = unsynced_after calls ≡ [] → synced_after began calls ≡ held_after began calls
-
-all_call : (step : Step) (failed : Bool) (began : List ℕ) (calls : List DeviceCall) → IsAll began calls → IsAll began (record { step = step; failed = failed } ∷ calls)
-all_call asks_length failed began calls all none = all (sym (append-nil (unsynced_after calls)) ∙ none)
-all_call (reads at count) failed began calls all none = all (sym (append-nil (unsynced_after calls)) ∙ none)
-all_call (writes at bytes) failed began calls all none = absurd (omega (arith, ap length none, length-append (unsynced_after calls) ((at, length bytes) ∷ [])))
-all_call syncs true began calls all none = all (sym (append-nil (unsynced_after calls)) ∙ none)
-all_call syncs false began calls all none = refl
-
--- where nothing is written since the sync, the synced bytes are all
-pub synced_is_held : (began : List ℕ) (calls : List DeviceCall) → IsAll began calls
-synced_is_held began [] = λ none. refl
-synced_is_held began (call ∷ calls) = all_call call.step call.failed began calls (synced_is_held began calls)

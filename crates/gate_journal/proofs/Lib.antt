@@ -1,7 +1,5 @@
 pub mod Read
-mod Told
+mod Spelling
+pub mod Front
 mod Left
 pub mod Crash
-pub mod Rest
-mod Making
-pub mod Stopped

@@ -1,20 +1,22 @@
 -- The making of a journal.
-use Rattle.std.proofs.Common.{◌≡◌, ◌≢◌, ◌<◌, ◌≤◌, ◌+◌, ℕ, Bool, true, false, cond, not, ltb, eqb, ◌||◌, ◌&&◌, List, [], ◌∷◌, ◌++◌, length, replicate, take, drop, Option, Some, None, Result, Ok, Err, is_some, refl, sym, ◌∙◌, ap, subst, inl, inr, arith}
+use Rattle.std.proofs.Common.{◌≡◌, ◌≢◌, ◌<◌, ◌≤◌, ◌+◌, ℕ, Bool, true, false, cond, not, ltb, eqb, ◌||◌, ◌&&◌, List, [], ◌∷◌, ◌++◌, length, take, drop, Option, Some, None, Result, Ok, Err, is_some, refl, sym, ◌∙◌, ap, subst, inl, inr, arith}
 use Rattle.std.proofs.lemmas.Bool.{cases_Bool, cases_lt, lt-ltb}
 use Rattle.std.proofs.lemmas.Bool.Decides.{nat_tests}
-use Rattle.std.proofs.lemmas.List.{drop_all, take_all, length-replicate}
+use Rattle.std.proofs.lemmas.List.{drop_all, take_all}
 use Rattle.std.proofs.lemmas.List.Elements.{All-nil}
 use Rattle.std.specs.Option.{option_map}
 use Rattle.std.specs.Result.{result_ok}
-use Rattle.crash_disk.specs.Disk.{Step, History, held, writes, reads, asks_length, syncs, written, with_call, told_after, Plan, GoesByPlan}
-use Rattle.gate_journal.specs.Calls.{with_made, TellsSteps}
-use Rattle.gate_journal.specs.Image.{is_open, begins_open, after_mark, records_from, kept_records, most, IsKept}
-use Rattle.gate_journal.specs.Journal.{Keeps, WhereTold}
-use Rattle.gate_journal.specs.Make.{empty, is_made, look_steps, make_steps, HoldsSome, TellsMake, IsFresh, IsBlank}
-use Rattle.gate_journal.specs.declared.refusal.JournalRefusal.TheVariants.{NoMemory}
+use Rattle.crash_disk.specs.Disk.{Step, History, content, writes, reads, asks_length, syncs, with_write, with_call, FaultPlan}
+use Rattle.crash_disk.specs.Calls.{WhereTold, Called, passed, failed_after, with_made, Made}
+use Rattle.crash_disk.proofs.Calls.{later, made_over, made_there, made_none, made_fault, made_more, made_after, made_within}
+use Rattle.crash_disk.proofs.Left.{synced_content_is_left}
+use Rattle.gate_journal.specs.Image.{is_open, begins_open, after_mark, records_from, kept_records, most, Spells}
+use Rattle.gate_journal.specs.Journal.{Keeps}
+use Rattle.gate_journal.specs.Make.{empty, is_made, look_steps, make_steps, IsFresh, IsBlank}
+use Rattle.gate_journal.specs.Inside.{OverContent, LooksAt}
 use Rattle.gate_journal.proofs.Read.{records_from-end, records_from-none, records_from-empty, is_165}
-use Rattle.gate_journal.proofs.Crash.{settled_now, images_held}
-use Rattle.gate_journal.proofs.Told.{tells_fault, tells_more, tells_none, tells_after, tells_within}
+use Rattle.gate_journal.proofs.Crash.{settled_now}
+use Rattle.gate_journal.proofs.Opening.{some_image, any_image}
 
 -- what follows the mark is four bytes shorter
 pub length-after_mark : (image bytes : List ℕ) → after_mark image ≡ Some bytes → length image ≡ 4 + length bytes
@@ -72,8 +74,8 @@ pub made_five : (image : List ℕ) → length image ≡ 5 → is_made image ≡ 
 made_five image len = (let out : ltb 5 (length image) ≡ false = grind (arith, nat_tests) in rw out refl)
 
 -- five bytes over at most five are all
-pub empty_written : (old : List ℕ) → length old ≤ 5 → written old 0 empty ≡ empty
-empty_written old le = ap (λ (l : List ℕ). empty ++ l) (drop_all 5 old le)
+pub empty_written : (old : List ℕ) → length old ≤ 5 → with_write old 0 empty ≡ empty
+empty_with_write old le = ap (λ (l : List ℕ). empty ++ l) (drop_all 5 old le)
 
 pub not_made : (image : List ℕ) → is_made image ≡ false → length image ≤ 5
 not_made image is = elim (cases_lt 5 (length image)) [
@@ -102,15 +104,6 @@ short_blank image le = record { short = le; none = λ made. at (after_mark image
     ]
     at (Some (g ∷ b ∷ bytes)) is some = absurd (omega (arith, le, length-after_mark image (g ∷ b ∷ bytes) is))
 
--- an image of so many bytes, the one that the disk holds
-some_image : (told : Option History) (len : ℕ) → WhereTold told (λ before. len ≡ length (held before)) → HoldsSome told (λ image. len ≡ length image)
-some_image None len is = (replicate len 0, λ before none. cc none, sym (length-replicate len 0))
-some_image (Some before) len is = (held before, λ history some. (let same : before ≡ history = cc some in ap held same), is before refl)
-
-any_image : (told : Option History) → HoldsSome told (λ image. Unit {0})
-any_image None = ([], λ before none. cc none, tt)
-any_image (Some before) = (held before, λ history some. (let same : before ≡ history = cc some in ap held same), tt)
-
 -- the calls that look, by the length
 look_steps-five : (image : List ℕ) → length image ≡ 5 → look_steps image ≡ asks_length ∷ reads 0 5 ∷ []
 look_steps-five image five = (let at : eqb (length image) 5 ≡ true = grind (arith, nat_tests) in ap (λ (b : Bool). asks_length ∷ cond b (reads 0 5 ∷ []) []) at)
@@ -118,82 +111,136 @@ look_steps-five image five = (let at : eqb (length image) 5 ≡ true = grind (ar
 look_steps-other : (image : List ℕ) → length image ≢ 5 → look_steps image ≡ asks_length ∷ []
 look_steps-other image other = (let at : eqb (length image) 5 ≡ false = grind (arith, nat_tests) in ap (λ (b : Bool). asks_length ∷ cond b (reads 0 5 ∷ []) []) at)
 
--- a look whose first call failed
-pub look_fault : (told now : Option History) (plan plan_now : Option Plan) → now ≡ told_after told asks_length true → GoesByPlan plan plan_now true
-    → HoldsSome told (λ image. Unit {0} × TellsSteps {T = Unit {0}} {E = Unit {0}} (look_steps image) told plan (Err tt) now plan_now)
-look_fault told now plan plan_now is goes =
-    let some = any_image told in
-    (some.0, some.1, (tt, tells_fault asks_length (cond (eqb (length some.0) 5) (reads 0 5 ∷ []) []) told now plan plan_now is goes))
+-- what a disk holds after a look is what it held
+look_holds : (image : List ℕ) (history : History) → content (with_made (length (look_steps image)) (look_steps image) history) ≡ content history
+look_holds image history = elim (eqb (length image) 5) as (λ b. let steps : List Step = asks_length ∷ cond b (reads 0 5 ∷ []) [] in content (with_made (length steps) steps history) ≡ content history) [ true ↦ refl | false ↦ refl ]
 
--- a look at an image that doesn't have five bytes
-pub look_other : (told now : Option History) (plan plan_now : Option Plan) (len : ℕ) → now ≡ told_after told asks_length false → GoesByPlan plan plan_now false → WhereTold told (λ before. len ≡ length (held before)) → len ≢ 5
-    → HoldsSome told (λ image. ((ltb 5 len ≡ is_made image) × (len ≡ length image)) × TellsSteps {T = Unit {0}} {E = Unit {0}} (look_steps image) told plan (Ok tt) now plan_now)
-look_other told now plan plan_now len is goes answer other =
-    let some = some_image told len answer in
-    let image = some.0 in
-    let steps = look_steps-other image (λ five. other (some.2 ∙ five)) in
-    let tells = tells_more asks_length [] told now now plan plan_now plan_now (Ok tt) is goes (tells_none now plan_now) in
-    (image, some.1, ((made_otherwise image len some.2 other, some.2), subst (λ s. TellsSteps {T = Unit {0}} {E = Unit {0}} s told plan (Ok tt) now plan_now) (sym steps) tells))
+-- the calls of a making over an image that is made, and over one that isn't
+make_steps-made : (image : List ℕ) → is_made image ≡ true → make_steps image ≡ look_steps image
+make_steps-made image is = ap (λ (b : Bool). cond b (look_steps image) (look_steps image ++ writes 0 empty ∷ syncs ∷ [])) is
 
--- a look whose read failed
-pub look_unread : (told first now : Option History) (plan plan_first plan_now : Option Plan) (len : ℕ) → first ≡ told_after told asks_length false → GoesByPlan plan plan_first false → WhereTold told (λ before. len ≡ length (held before)) → len ≡ 5
-    → now ≡ told_after first (reads 0 5) true → GoesByPlan plan_first plan_now true
-    → HoldsSome told (λ image. Unit {0} × TellsSteps {T = Unit {0}} {E = Unit {0}} (look_steps image) told plan (Err tt) now plan_now)
-look_unread told first now plan plan_first plan_now len is goes answer five is2 goes2 =
-    let some = some_image told len answer in
-    let image = some.0 in
-    let steps = look_steps-five image (sym some.2 ∙ five) in
-    let tells = tells_more asks_length (reads 0 5 ∷ []) told first now plan plan_first plan_now (Err tt) is goes (tells_fault (reads 0 5) [] first now plan_first plan_now is2 goes2) in
-    (image, some.1, (tt, subst (λ s. TellsSteps {T = Unit {0}} {E = Unit {0}} s told plan (Err tt) now plan_now) (sym steps) tells))
-
--- a look that read five bytes
-pub look_read : (told first now : Option History) (plan plan_first plan_now : Option Plan) (len : ℕ) (room : List ℕ) → first ≡ told_after told asks_length false → GoesByPlan plan plan_first false → WhereTold told (λ before. len ≡ length (held before)) → len ≡ 5
-    → now ≡ told_after first (reads 0 5) false → GoesByPlan plan_first plan_now false → WhereTold first (λ history. room ≡ take 5 (drop 0 (held history))) → length room ≡ 5
-    → HoldsSome told (λ image. ((is_some (kept_records room) ≡ is_made image) × (len ≡ length image)) × TellsSteps {T = Unit {0}} {E = Unit {0}} (look_steps image) told plan (Ok tt) now plan_now)
-look_read told first now plan plan_first plan_now len room is goes answer five is2 goes2 reads' all =
-    let same : WhereTold told (λ before. room ≡ held before) = λ before some.
-    reads' _ (is ∙ ap (λ t. told_after t asks_length false) some) ∙ take_all 5 (held before) (omega (arith, five, answer before some)) in
-    let steps = look_steps-five room all in
-    let tells = tells_more asks_length (reads 0 5 ∷ []) told first now plan plan_first plan_now (Ok tt) is goes (tells_more (reads 0 5) [] first now now plan_first plan_now plan_now (Ok tt) is2 goes2 (tells_none now plan_now)) in
-    (room, same, ((sym (made_five room all), five ∙ sym all), subst (λ s. TellsSteps {T = Unit {0}} {E = Unit {0}} s told plan (Ok tt) now plan_now) (sym steps) tells))
-
--- what is held after a look is what was held
-look_holds : (image : List ℕ) (history : History) → held (with_made (length (look_steps image)) (look_steps image) history) ≡ held history
-look_holds image history = elim (eqb (length image) 5) as (λ b. let steps : List Step = asks_length ∷ cond b (reads 0 5 ∷ []) [] in held (with_made (length steps) steps history) ≡ held history) [ true ↦ refl | false ↦ refl ]
-
--- the calls of a making over an image that isn't made
 make_steps-new : (image : List ℕ) → is_made image ≡ false → make_steps image ≡ look_steps image ++ writes 0 empty ∷ syncs ∷ []
 make_steps-new image new = ap (λ (b : Bool). cond b (look_steps image) (look_steps image ++ writes 0 empty ∷ syncs ∷ [])) new
 
--- a look, and then the journal
-pub makes : (image : List ℕ) (told mid now : Option History) (plan plan_mid plan_now : Option Plan) (result : Result (Unit {0}) (Unit {0})) → is_made image ≡ false
-    → TellsSteps {T = Unit {0}} {E = Unit {0}} (look_steps image) told plan (Ok tt) mid plan_mid → TellsSteps (writes 0 empty ∷ syncs ∷ []) mid plan_mid result now plan_now → TellsSteps (make_steps image) told plan result now plan_now
-makes image told mid now plan plan_mid plan_now result new first rest =
-    subst (λ s. TellsSteps s told plan result now plan_now) (sym (make_steps-new image new)) (tells_after (look_steps image) (writes 0 empty ∷ syncs ∷ []) told mid now plan plan_mid plan_now result first rest)
+module _ {D : Type 0} (told : D → Option History) (plan : D → Option FaultPlan) where
+  -- calls over an image, by what they are there
+  there : (steps : List ℕ → List Step) (image : List ℕ) (known : List Step) {course : _} {old new : D} → steps image ≡ known
+      → WhereTold (told old) (λ before. image ≡ content before)
+      → Made told plan (λ any. known) (length known) course old new
+      → Made told plan steps (length (steps image)) course old new
+  there steps image known {course = course} {old = old} {new = new} is same made =
+      made_over told plan steps image same
+      (subst (λ (s : List Step). Made told plan (λ any. s) (length s) course old new) (sym is) made)
 
--- a look that failed ends a making
-pub make_unlooked : (image : List ℕ) (told now : Option History) (plan plan_now : Option Plan) → TellsSteps {T = Unit {0}} {E = Unit {0}} (look_steps image) told plan (Err tt) now plan_now → TellsSteps {T = Unit {0}} {E = Unit {0}} (make_steps image) told plan (Err tt) now plan_now
-make_unlooked image told now plan plan_now t =
-    elim (is_made image) as (λ b. TellsSteps {T = Unit {0}} {E = Unit {0}} (cond b (look_steps image) (look_steps image ++ writes 0 empty ∷ syncs ∷ [])) told plan (Err tt) now plan_now) [
-      | true ↦ t
-      | false ↦ tells_within (look_steps image) (writes 0 empty ∷ syncs ∷ []) told now plan plan_now t
-    ]
+  -- a look whose first call failed
+  pub look_fault : {old new : D} → Called told plan asks_length true old new
+      → OverContent (told old) (λ image. Unit {0} × LooksAt {T = Unit {0}} {E = Unit {0}} image told plan (Err tt) old new)
+  look_fault {old = old} call =
+      let some = any_image (told old) in
+      let rest = cond (eqb (length some.0) 5) (reads 0 5 ∷ []) [] in
+      (some.0, some.1, (tt, (0, made_over told plan look_steps some.0 some.1 (made_fault told plan rest (length rest) call))))
 
--- no call was made
-pub make_none : (told now : Option History) (plan plan_now : Option Plan) → now ≡ told → plan_now ≡ plan → TellsMake told plan (Err NoMemory) now plan_now
-make_none told now plan plan_now is planned = (let some = any_image told in (some.0, some.1, (is, planned)))
+  -- a look that was told the length
+  module _ {old asked : D} (ask : Called told plan asks_length false old asked) (len : ℕ) (is : WhereTold (told old) (λ before. len ≡ length (content before))) where
+    -- an image that doesn't have five bytes
+    pub look_other : len ≢ 5
+        → OverContent (told old) (λ image. ((ltb 5 len ≡ is_made image) × (len ≡ length image)) × LooksAt {T = Unit {0}} {E = Unit {0}} image told plan (Ok tt) old asked)
+    look_other other =
+        let some = some_image (told old) len is in
+        let image = some.0 in
+        let steps = look_steps-other image (λ five. other (sym some.2 ∙ five)) in
+        let made = made_more told plan [] 0 passed ask (made_none told plan asked) in
+        (image, some.1, ((made_otherwise image len (sym some.2) other, sym some.2), there look_steps image (asks_length ∷ []) steps some.1 made))
 
--- the write and the sync leave an empty journal
-pub now_fresh : (told looked first second : Option History) (image : List ℕ) → WhereTold told (λ before. image ≡ held before) → is_made image ≡ false → looked ≡ option_map (with_made (length (look_steps image)) (look_steps image)) told
-    → first ≡ told_after looked (writes 0 empty) false → second ≡ told_after first syncs false → WhereTold second IsFresh
-now_fresh None looked first second image same new none is1 is2 = λ now is. absurd (cc (none, is1, is2, is))
-now_fresh (Some before) looked first second image same new is0 is1 is2 = λ now is.
-    let history = with_made (length (look_steps image)) (look_steps image) before in
-    let after = with_call syncs false (with_call (writes 0 empty) false history) in
-    let some : Some after ≡ Some now = sym (is2 ∙ ap (λ t. told_after t syncs false) (is1 ∙ ap (λ t. told_after t (writes 0 empty) false) is0)) ∙ is in
-    let there : after ≡ now = cc some in
-    let le = not_made image new in
-    let holds : held after ≡ empty = empty_written (held history) (omega (arith, ap length (look_holds image before), ap length (same before refl), le)) in
-    let kept : IsKept (held after) [] = subst (λ (b : List ℕ). IsKept b []) (sym holds) (record { gate = 0; rest = []; is = refl; closed = refl; fits = All-nil (λ b. length b ≤ most) }) in
-    let fresh : IsFresh after = record { settled = settled_now after [] kept refl; images = λ image may. images_held after refl image may ∙ holds } in
-    subst IsFresh there fresh
+    -- a look whose read failed
+    pub look_unread : {new : D} → len ≡ 5 → Called told plan (reads 0 5) true asked new
+        → OverContent (told old) (λ image. Unit {0} × LooksAt {T = Unit {0}} {E = Unit {0}} image told plan (Err tt) old new)
+    look_unread five call =
+        let some = some_image (told old) len is in
+        let image = some.0 in
+        let steps = look_steps-five image (some.2 ∙ five) in
+        let made = made_more told plan (reads 0 5 ∷ []) 1 (failed_after 0) ask (made_fault told plan [] 0 call) in
+        (image, some.1, (tt, (1, there look_steps image (asks_length ∷ reads 0 5 ∷ []) steps some.1 made)))
+
+    -- a look that read five bytes
+    pub look_read : {new : D} (room : List ℕ) → len ≡ 5 → Called told plan (reads 0 5) false asked new
+        → WhereTold (told asked) (λ history. room ≡ take 5 (drop 0 (content history))) → length room ≡ 5
+        → OverContent (told old) (λ image. ((is_some (kept_records room) ≡ is_made image) × (len ≡ length image)) × LooksAt {T = Unit {0}} {E = Unit {0}} image told plan (Ok tt) old new)
+    look_read {new = new} room five call reads' all =
+        let same : WhereTold (told old) (λ before. room ≡ content before) = λ before some.
+        reads' _ (ask.history ∙ ap (option_map (with_call asks_length false)) some)
+        ∙ take_all 5 (content before) (omega (arith, five, is before some)) in
+        let steps = look_steps-five room all in
+        let made =
+        made_more told plan (reads 0 5 ∷ []) 1 passed ask
+        (made_more told plan [] 0 passed call (made_none told plan new)) in
+        (room, same, ((sym (made_five room all), five ∙ sym all), there look_steps room (asks_length ∷ reads 0 5 ∷ []) steps same made))
+
+  -- a making over an image, which looked at it
+  module _ (image : List ℕ) {old looked : D} (same : WhereTold (told old) (λ before. image ≡ content before)) where
+    -- a look that failed ends it
+    pub make_unlooked : (count : ℕ) → Made told plan look_steps (length (look_steps image)) (failed_after count) old looked
+        → Made told plan make_steps (length (make_steps image)) (failed_after count) old looked
+    make_unlooked count made = at (is_made image) refl
+      where
+        const : Made told plan (λ any. look_steps image) (length (look_steps image)) (failed_after count) old looked
+        const = made_there told plan look_steps image same made
+
+        at : (b : Bool) → is_made image ≡ b → Made told plan make_steps (length (make_steps image)) (failed_after count) old looked
+        at true is = there make_steps image (look_steps image) (make_steps-made image is) same const
+        at false is = there make_steps image _ (make_steps-new image is) same (made_within told plan (look_steps image) (writes 0 empty ∷ syncs ∷ []) count const)
+
+    module _ (look : Made told plan look_steps (length (look_steps image)) passed old looked) where
+      -- a look that found a journal was all
+      pub make_found : is_made image ≡ true → Made told plan make_steps (length (make_steps image)) passed old looked
+      make_found is = there make_steps image (look_steps image) (make_steps-made image is) same (made_there told plan look_steps image same look)
+
+      module _ (new : is_made image ≡ false) where
+        -- the journal behind the look
+        behind : {course : _} {now : D} → Made told plan (λ any. writes 0 empty ∷ syncs ∷ []) 2 course looked now
+            → Made told plan make_steps (length (make_steps image)) (later (length (look_steps image)) course) old now
+        behind {course = course} made =
+            there make_steps image _ (make_steps-new image new) same
+            (made_after told plan (look_steps image) (writes 0 empty ∷ syncs ∷ []) course (made_there told plan look_steps image same look) made)
+
+        pub make_unwritten : {now : D} → Called told plan (writes 0 empty) true looked now
+            → Made told plan make_steps (length (make_steps image)) (failed_after (length (look_steps image) + 0)) old now
+        make_unwritten call = behind (made_fault told plan (syncs ∷ []) 1 call)
+
+        module _ {written : D} (write : Called told plan (writes 0 empty) false looked written) where
+          pub make_unsynced : {now : D} → Called told plan syncs true written now
+              → Made told plan make_steps (length (make_steps image)) (failed_after (length (look_steps image) + 1)) old now
+          make_unsynced call = behind (made_more told plan (syncs ∷ []) 1 (failed_after 0) write (made_fault told plan [] 0 call))
+
+          pub make_done : {now : D} → Called told plan syncs false written now
+              → Made told plan make_steps (length (make_steps image)) passed old now
+          make_done {now = now} call =
+              behind (made_more told plan (syncs ∷ []) 1 passed write (made_more told plan [] 0 passed call (made_none told plan now)))
+
+          -- the write and the sync leave an empty journal
+          pub now_fresh : {now : D} → Called told plan syncs false written now → WhereTold (told now) IsFresh
+          now_fresh {now = now} call = at (told old) refl
+            where
+              le : length image ≤ 5
+              le = not_made image new
+
+              at : (t : Option History) → told old ≡ t → WhereTold (told now) IsFresh
+              at None is = λ history some.
+                  absurd (cc (is, look.calls, write.history, call.history, some))
+              at (Some before) is = λ history some.
+                  let looked_at = with_made (length (look_steps (content before))) (look_steps (content before)) before in
+                  let after = with_call syncs false (with_call (writes 0 empty) false looked_at) in
+                  let one : told looked ≡ Some looked_at = look.calls ∙ ap (option_map (λ h. with_made (length (look_steps (content h))) (look_steps (content h)) h)) is in
+                  let two = write.history ∙ ap (option_map (with_call (writes 0 empty) false)) one in
+                  let three : told now ≡ Some after = call.history ∙ ap (option_map (with_call syncs false)) two in
+                  let there : after ≡ history = cc (three, some) in
+                  let holds : content after ≡ empty =
+                  empty_written (content looked_at) (omega (arith, ap length (look_holds (content before) before), ap length (same before is), le)) in
+                  let kept : Spells (content after) [] =
+                  subst (λ (b : List ℕ). Spells b []) (sym holds)
+                  (record { gate = 0; rest = []; is = refl; closed = refl; fits = All-nil (λ b. length b ≤ most) }) in
+                  let fresh : IsFresh after = record {
+                    settled = settled_now after [] kept refl;
+                    images = λ image' may. synced_content_is_left after image' refl may ∙ holds;
+                  } in
+                  subst IsFresh there fresh

@@ -1,87 +1,148 @@
 -- An append from a journal at rest.
-use Rattle.std.proofs.Common.{◌≡◌, ◌<◌, ◌≤◌, ◌+◌, ◌-◌, ◌*◌, ℕ, zero, suc, List, [], ◌∷◌, ◌++◌, length, Option, Some, None, refl, sym, ◌∙◌, ap, subst, inl, arith, length-append}
+use Rattle.std.proofs.Common.{◌≡◌, ◌⊎◌, ◌<◌, ◌≤◌, ◌+◌, ◌-◌, ◌*◌, ℕ, zero, suc, List, [], ◌∷◌, ◌++◌, length, take, drop, refl, sym, ◌∙◌, ap, subst, inl, inr, arith, length-append}
 use Rattle.std.specs.Int.{w32, to_be_bytes}
-use Rattle.std.specs.Option.{option_map}
-use Rattle.crash_disk.specs.Disk.{History, held, Plan, after_calls}
-use Rattle.gate_journal.specs.Calls.{with_made, append_steps, Passes}
-use Rattle.gate_journal.specs.Image.{most, spelled, spelled_record, journal_in, IsKept}
-use Rattle.gate_journal.specs.Journal.{Keeps, KeepsWithOrWithout, LeavesOnly, IsSettled, WhereTold, opened_to, RefusesOpen}
-use Rattle.gate_journal.specs.Read.{IsReadRefusal}
-use Rattle.gate_journal.specs.declared.refusal.JournalRefusal.{JournalRefusal}
-use Rattle.gate_journal.specs.declared.refusal.JournalRefusal.TheVariants.{AlreadyMade, NotJournal, RecordTooLong, DeviceFault, Closed, NoMemory}
+use Rattle.std.proofs.lemmas.List.{take_all}
+use Rattle.std.proofs.lemmas.List.Elements.{All-push}
+use Rattle.crash_disk.specs.Disk.{Step, DeviceCall, History, content, unsynced_ranges, MayLeave, moment, LeavesOnly}
+use Rattle.crash_disk.specs.Calls.{Course, passed, failed_after, stopped_after, made_of, with_made, after_course}
+use Rattle.crash_disk.proofs.Left.{synced_content_is_left}
+use Rattle.gate_journal.specs.Image.{most, spelled, Spells}
+use Rattle.gate_journal.specs.Steps.{append_steps}
+use Rattle.gate_journal.specs.Journal.{Keeps, KeepsWithOrWithout, IsSettled}
+use Rattle.gate_journal.specs.Laws.{AppendsSettle}
 use Rattle.gate_journal.specs.Sound.{RestsAt}
-use Rattle.gate_journal.proofs.Crash.{spelled-push, any_moment, appended, settled_now}
+use Rattle.gate_journal.proofs.Spelling.{spelled-push, length-spelled-push}
+use Rattle.gate_journal.proofs.Front.{Fronts, fronts, front-keeps, spelled_read}
+use Rattle.gate_journal.proofs.Crash.{front_more, more_read, now_content, any_moment, settled_now, tail}
+
+-- the disk holds these records, and nothing is written since the sync
+pub record AtRest (history : History) (records : List (List ℕ)) : Type 0 where
+  pub read : Keeps records (content history)
+  pub synced : unsynced_ranges history ≡ []
+
+pub settled_rests : (history : History) (records : List (List ℕ)) → IsSettled history records → AtRest history records
+settled_rests history records settled = record { read = settled.read; synced = settled.synced }
+
+-- each image of a crash then keeps them
+pub rest_images : (history : History) (records : List (List ℕ)) → AtRest history records → (image : List ℕ) → MayLeave history image → Keeps records image
+rest_images history records rest image may = subst (Keeps records) (sym (synced_content_is_left history image rest.synced may)) rest.read
+
+pub made_longer : (count : ℕ) (steps : List Step) (calls : List DeviceCall) → length calls ≤ length (made_of count steps calls)
+made_longer count [] calls = omega arith
+made_longer zero (step ∷ steps) calls = omega arith
+made_longer (suc count) (step ∷ steps) calls = omega (arith, made_longer count steps (record { step = step; failed = false } ∷ calls))
+
+pub course_longer : (course : Course) (steps : List Step) (history : History) → moment history ≤ moment (after_course course steps history)
+course_longer passed steps history = made_longer (length steps) steps history.calls
+course_longer (failed_after count) steps history = made_longer count steps history.calls
+course_longer (stopped_after count) steps history = made_longer count (take count steps) history.calls
+
+-- a crash now is one at a moment since
+pub leaves_now : (before : History) (course : Course) (steps : List Step) (P : List ℕ → Type 0) → LeavesOnly before (after_course course steps before) P
+    → (image : List ℕ) → MayLeave (after_course course steps before) image → P image
+leaves_now before course steps P only image may = only image (0, omega (arith, course_longer course steps before), may)
+
+module _ (history : History) (records : List (List ℕ)) (body : List ℕ) (rest : AtRest history records) (fits : length body ≤ most) where
+  abbrev steps : List Step
+  steps = append_steps (length (spelled records)) body
+
+  f : Fronts (content history) records
+  f = fronts (content history) records rest.read
+
+  -- after all calls the journal rests with the new record
+  pub append_rests : AtRest (with_made 4 steps history) (records ++ body ∷ [])
+  append_rests =
+      let content_is = now_content f.front records f.read body fits history.began history.calls f.gate f.rest f.is f.closed rest.synced in
+      let behind = tail f.front records f.read body fits history.began history.calls f.gate f.rest f.is f.closed rest.synced in
+      let read = front-keeps (front_more f.front records f.read body fits) (records ++ body ∷ []) 0 behind (more_read f.front records f.read body fits).reads refl in
+      let here : AtRest (with_made 4 (append_steps (length f.front) body) history) (records ++ body ∷ []) =
+      record { read = subst (Keeps (records ++ body ∷ [])) (sym content_is) read; synced = refl } in
+      subst (λ (g : ℕ). AtRest (with_made 4 (append_steps g body) history) (records ++ body ∷ [])) f.read.place here
+
+  -- a crash at a moment of the append
+  pub made_leaves : (count : ℕ) → LeavesOnly history (with_made count steps history) (KeepsWithOrWithout records body)
+  made_leaves count =
+      let here : LeavesOnly history (with_made count (append_steps (length f.front) body) history) (KeepsWithOrWithout records body) =
+      λ image may. any_moment f.front records f.read body fits history.began history.calls f.gate f.rest f.is f.closed rest.synced count may.0 image may.1 may.2 in
+      subst (λ (g : ℕ). LeavesOnly history (with_made count (append_steps g body) history) (KeepsWithOrWithout records body)) f.read.place here
+
+  -- where no call was made
+  pub none_leaves : LeavesOnly history history (KeepsWithOrWithout records body)
+  none_leaves image (zero, le, may) = inl (rest_images history records rest image may)
+  none_leaves image (suc n, le, may) = absurd (omega (arith, le))
+
+  stopped_leaves : (count : ℕ) → LeavesOnly history (after_course (stopped_after count) steps history) (KeepsWithOrWithout records body)
+  stopped_leaves zero image may = none_leaves image may
+  stopped_leaves (suc zero) image (n, le, may) = made_leaves 1 image (suc n, omega (arith, le), may)
+  stopped_leaves (suc (suc zero)) image (n, le, may) = made_leaves 2 image (suc n, omega (arith, le), may)
+  stopped_leaves (suc (suc (suc zero))) image (n, le, may) = made_leaves 3 image (suc n, omega (arith, le), may)
+  stopped_leaves (suc (suc (suc (suc count)))) =
+      let n = suc (suc (suc (suc count))) in
+      subst (λ (s : List Step). LeavesOnly history (with_made n s history) (KeepsWithOrWithout records body))
+      (sym (take_all n steps (omega arith))) (made_leaves n)
+
+  -- however the append went
+  pub course_leaves : (course : Course) → LeavesOnly history (after_course course steps history) (KeepsWithOrWithout records body)
+  course_leaves passed = made_leaves 4
+  course_leaves (failed_after count) = made_leaves count
+  course_leaves (stopped_after count) = stopped_leaves count
+
+pub appends_settle : AppendsSettle
+appends_settle history records body settled fits =
+    let k = settled.kept in
+    let read = spelled_read records k.fits in
+    let content_is = now_content (spelled records) records read body fits history.began history.calls k.gate k.rest k.is k.closed settled.synced in
+    let behind = tail (spelled records) records read body fits history.began history.calls k.gate k.rest k.is k.closed settled.synced in
+    let kept : Spells (content (with_made 4 (append_steps (length (spelled records)) body) history)) (records ++ body ∷ []) = record {
+      gate = 0;
+      rest = behind;
+      is = content_is ∙ ap (λ (l : List ℕ). l ++ 0 ∷ behind) (sym (spelled-push records body));
+      closed = refl;
+      fits = All-push (λ b. length b ≤ most) records body k.fits fits;
+    } in
+    settled_now _ (records ++ body ∷ []) kept refl
 
 -- the gate lies within the bytes
-pub gate_within : (gate : ℕ) (history : History) → RestsAt gate history → gate + 1 ≤ length (held history)
+pub gate_within : (gate : ℕ) (history : History) → RestsAt gate history → gate + 1 ≤ length (content history)
 gate_within gate history r =
     let k = r.settled.kept in
     omega (arith, r.place, ap length k.is, length-append (spelled r.records) (k.gate ∷ k.rest))
 
--- the records are those that are read, so the gate stands behind them
-pub same_records : (gate : ℕ) (history : History) (records : List (List ℕ)) (r : RestsAt gate history) → Keeps records (held history) → r.records ≡ records
-same_records gate history records r keeps = cc (r.settled.read, keeps)
+-- a journal at rest at its gate, of which these records are read
+module _ (gate : ℕ) (history : History) (r : RestsAt gate history) (body : List ℕ) (fits : length body ≤ most) where
+  pub rests_again : RestsAt (gate + (5 + length body)) (with_made 4 (append_steps gate body) history)
+  rests_again = record {
+    records = r.records ++ body ∷ [];
+    settled =
+        subst (λ (g : ℕ). IsSettled (with_made 4 (append_steps g body) history) (r.records ++ body ∷ [])) (sym r.place)
+        (appends_settle history r.records body r.settled fits);
+    place = omega (arith, r.place, length-spelled-push r.records body);
+  }
 
-pub same_gate : (gate : ℕ) (history : History) (records : List (List ℕ)) → RestsAt gate history → Keeps records (held history) → gate ≡ length (spelled records)
-same_gate gate history records r keeps = r.place ∙ ap (λ (l : List (List ℕ)). length (spelled l)) (same_records gate history records r keeps)
+  module _ (records : List (List ℕ)) (keeps : Keeps records (content history)) where
+    same : r.records ≡ records
+    same = cc (r.settled.read, keeps)
 
--- after all four calls the journal rests behind the new record
-pub now_settled : (gate : ℕ) (history : History) (body : List ℕ) → (r : RestsAt gate history) → length body ≤ most → IsSettled (with_made 4 (append_steps gate body) history) (r.records ++ body ∷ [])
-now_settled gate history body r fits =
-    let k = r.settled.kept in
-    let here : IsSettled (with_made 4 (append_steps (length (spelled r.records)) body) history) (r.records ++ body ∷ []) =
-    settled_now _ _ (appended r.records k.fits body fits history.began history.calls k.gate k.rest k.is k.closed r.settled.synced) refl in
-    subst (λ (g : ℕ). IsSettled (with_made 4 (append_steps g body) history) (r.records ++ body ∷ [])) (sym r.place) here
+    pub now_settled : IsSettled (with_made 4 (append_steps gate body) history) (records ++ body ∷ [])
+    now_settled =
+        subst (λ (rs : List (List ℕ)). IsSettled (with_made 4 (append_steps gate body) history) (rs ++ body ∷ [])) same rests_again.settled
 
-pub rests_again : (gate : ℕ) (history : History) (body : List ℕ) → RestsAt gate history → length body ≤ most → RestsAt (gate + (5 + length body)) (with_made 4 (append_steps gate body) history)
-rests_again gate history body r fits = record {
-  records = r.records ++ body ∷ [];
-  settled = now_settled gate history body r fits;
-  place = omega (arith, r.place, ap length (spelled-push r.records body), length-append (spelled r.records) (spelled_record body), length-append (to_be_bytes w32 (length body)) body);
-}
+    pub gate_leaves : (course : Course) → LeavesOnly history (after_course course (append_steps gate body) history) (KeepsWithOrWithout records body)
+    gate_leaves course =
+        subst (λ (rs : List (List ℕ)). LeavesOnly history (after_course course (append_steps gate body) history) (KeepsWithOrWithout rs body)) same
+        (subst (λ (g : ℕ). LeavesOnly history (after_course course (append_steps g body) history) (KeepsWithOrWithout r.records body)) (sym r.place)
+        (course_leaves history r.records body (settled_rests history r.records r.settled) fits course))
 
--- a crash at a moment of the append
-pub leaves : (gate : ℕ) (history : History) (records : List (List ℕ)) (body : List ℕ) (passed : ℕ) → RestsAt gate history → Keeps records (held history) → length body ≤ most
-    → LeavesOnly history (with_made passed (append_steps (length (spelled records)) body) history) (KeepsWithOrWithout records body)
-leaves gate history records body passed r keeps fits image may =
-    let k = r.settled.kept in
-    let same = same_records gate history records r keeps in
-    let here : LeavesOnly history (with_made passed (append_steps (length (spelled r.records)) body) history) (KeepsWithOrWithout r.records body) =
-    λ image may. any_moment r.records k.fits body fits history.began history.calls k.gate k.rest k.is k.closed r.settled.synced passed may.0 image may.1 may.2 in
-    subst (λ (rs : List (List ℕ)). LeavesOnly history (with_made passed (append_steps (length (spelled rs)) body) history) (KeepsWithOrWithout rs body)) same here image may
-
--- a crash where no call was made
-pub leaves_none : (gate : ℕ) (history : History) (records : List (List ℕ)) (body : List ℕ) → RestsAt gate history → Keeps records (held history) → LeavesOnly history history (KeepsWithOrWithout records body)
-leaves_none gate history records body r keeps image (zero, le, may) = inl (r.settled.images image may ∙ ap (λ (l : List (List ℕ)). Some l) (same_records gate history records r keeps))
-leaves_none gate history records body r keeps image (suc n, le, may) = absurd (omega (arith, le))
-
--- what was told is told of something
-pub told_of : (f : History → History) (told now : Option History) (history : History) → now ≡ option_map f told → now ≡ Some history → (before : History) × (told ≡ Some before) × (history ≡ f before)
-told_of f None now history is some = absurd (cc (is, some))
-told_of f (Some before) now history is some = (before, refl, cc (is, some))
+    pub still_leaves : LeavesOnly history history (KeepsWithOrWithout records body)
+    still_leaves =
+        subst (λ (rs : List (List ℕ)). LeavesOnly history history (KeepsWithOrWithout rs body)) same
+        (none_leaves history r.records body (settled_rests history r.records r.settled) fits)
 
 -- the room after one body of at most so many bytes
-pub less_room : (bodies most len before now : ℕ) → 0 < bodies → len ≤ most → bodies * (most + 6) ≤ before → before ≤ now + (len + 6) → (bodies - 1) * (most + 6) ≤ now
-less_room zero most len before now some le room spent = absurd (omega (arith, some))
-less_room (suc bodies) most len before now some le room spent =
-    let e : suc bodies * (most + 6) ≡ bodies * (most + 6) + (most + 6) = omega arith in
+pub less_room : (bodies bytes len before now : ℕ) → 0 < bodies → len ≤ bytes → bodies * (bytes + 6) ≤ before → before ≤ now + (len + 6) → (bodies - 1) * (bytes + 6) ≤ now
+less_room zero bytes len before now some le room spent = absurd (omega (arith, some))
+less_room (suc bodies) bytes len before now some le room spent =
+    let e : suc bodies * (bytes + 6) ≡ bodies * (bytes + 6) + (bytes + 6) = omega arith in
     let p : suc bodies - 1 ≡ bodies = omega arith in
-    let q : (suc bodies - 1) * (most + 6) ≡ bodies * (most + 6) = ap (λ (n : ℕ). n * (most + 6)) p in
+    let q : (suc bodies - 1) * (bytes + 6) ≡ bodies * (bytes + 6) = ap (λ (n : ℕ). n * (bytes + 6)) p in
     omega (arith, e, q, le, room, spent)
-
--- an opened journal rests
-pub opened_settled : (told now : Option History) (image : List ℕ) (records : List (List ℕ)) → now ≡ option_map (opened_to 3) told → WhereTold told (λ before. image ≡ held before) → IsKept image records → WhereTold now (λ history. IsSettled history records)
-opened_settled told now image records is read kept = λ history some.
-    let before = told_of (opened_to 3) told now history is some in
-    let here : IsSettled (opened_to 3 before.0) records = settled_now (opened_to 3 before.0) records (subst (λ (b : List ℕ). IsKept b records) (read before.0 before.1) kept) refl in
-    subst (λ (h : History). IsSettled h records) (sym before.2) here
-
--- a refusal to read is one to open
-pub refused_read : (told now : Option History) (plan plan_now : Option Plan) (image : List ℕ) (why : JournalRefusal) → now ≡ option_map (opened_to 3) told → Passes plan 3 3 → plan_now ≡ option_map (after_calls 3) plan → WhereTold told (λ before. image ≡ held before) → IsReadRefusal image why
-    → RefusesOpen told plan now plan_now why
-refused_read told now plan plan_now image (NotJournal place) is passes goes_on read not = (is, passes, goes_on, λ before some. ap journal_in (sym (read before some)) ∙ not)
-refused_read told now plan plan_now image NoMemory is passes goes_on read not = (3, omega arith, (λ one. absurd (omega (arith, one))), is, passes, goes_on)
-refused_read told now plan plan_now image DeviceFault is passes goes_on read not = absurd not
-refused_read told now plan plan_now image (AlreadyMade count) is passes goes_on read not = absurd not
-refused_read told now plan plan_now image (RecordTooLong count) is passes goes_on read not = absurd not
-refused_read told now plan plan_now image Closed is passes goes_on read not = absurd not

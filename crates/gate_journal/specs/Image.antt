@@ -32,7 +32,7 @@ spelled bodies = mark ++ spelled_records bodies
 
 -- The image spells these records: it is their spelling and then a rest that isn't empty and doesn't begin with an open
 -- gate.
-pub record IsKept (image : List ℕ) (records : List (List ℕ)) : Type 0 where
+pub record Spells (image : List ℕ) (records : List (List ℕ)) : Type 0 where
   pub gate : ℕ
   pub rest : List ℕ
   pub is : image ≡ spelled records ++ gate ∷ rest
@@ -42,7 +42,9 @@ pub record IsKept (image : List ℕ) (records : List (List ℕ)) : Type 0 where
 -- the body behind a gate; None where it runs past the end or is too long
 abbrev pub body_in : List ℕ → Option (List ℕ)
 body_in bytes =
-    option_and_then (λ count. if nat_le count most && nat_le (4 + count) (length bytes) then Some (take count (drop 4 bytes)) else None) (field_at w32 bytes 0)
+    option_and_then
+    (λ count. if nat_le count most && nat_le (4 + count) (length bytes) then Some (take count (drop 4 bytes)) else None)
+    (field_at w32 bytes 0)
 
 -- an open gate stands in front
 abbrev pub begins_open : List ℕ → Bool
@@ -50,9 +52,9 @@ begins_open [] = false
 begins_open (gate ∷ bytes) = is_open gate
 
 -- the records with one more in front, where they were read
-abbrev pub joined : List ℕ → Result (List (List ℕ)) ℕ → Result (List (List ℕ)) ℕ
-joined body (Ok records) = Ok (body ∷ records)
-joined body (Err place) = Err place
+abbrev pub with_first : List ℕ → Result (List (List ℕ)) ℕ → Result (List (List ℕ)) ℕ
+with_first body (Ok records) = Ok (body ∷ records)
+with_first body (Err place) = Err place
 
 -- the records from the gate at a place on, with which the bytes begin; or the place of the first gate that is missing, or
 -- whose record runs past the end or is too long. There are at most so many gates.
@@ -60,7 +62,8 @@ unfoldable pub records_from : ℕ → ℕ → List ℕ → Result (List (List �
 records_from zero place bytes = Err place
 records_from (suc gates) place [] = Err place
 records_from (suc gates) place (gate ∷ bytes) =
-    if is_open gate then unwrap_or (option_map (λ body. joined body (records_from gates (place + 5 + length body) (drop (4 + length body) bytes))) (body_in bytes)) (Err place)
+    if is_open gate then unwrap_or (option_map (λ body. with_first body
+    (records_from gates (place + 5 + length body) (drop (4 + length body) bytes))) (body_in bytes)) (Err place)
     else Ok []
 
 -- what follows the mark; None where the image doesn't begin with it
@@ -78,8 +81,9 @@ kept_records image = result_ok (journal_in image)
 
 -- what an image spells is read, so it spells one list
 abbrev pub SpelledIsRead : Type 0
-SpelledIsRead = (image : List ℕ) (records : List (List ℕ)) → IsKept image records → kept_records image ≡ Some records
+SpelledIsRead = (image : List ℕ) (records : List (List ℕ)) → Spells image records → kept_records image ≡ Some records
 
 -- what is read of bytes is what they spell
 abbrev pub ReadIsSpelled : Type 0
-ReadIsSpelled = (image : List ℕ) (records : List (List ℕ)) → All (λ byte. byte < 2 ^ 8) image → kept_records image ≡ Some records → IsKept image records
+ReadIsSpelled = (image : List ℕ) (records : List (List ℕ))
+    → All (λ byte. byte < 2 ^ 8) image → kept_records image ≡ Some records → Spells image records

@@ -1,7 +1,8 @@
-pub mod Calls
 pub mod Image
+pub mod Steps
 pub mod Journal
-pub mod Sound
-pub mod Laws
-pub mod Read
 pub mod Make
+pub mod Life
+pub mod Laws
+pub mod Inside
+pub mod Sound

@@ -1,9 +1,9 @@
 -- The making of a journal.
 use Rattle.std.specs.Prelude.{◌≡◌, ◌≤◌, ℕ, Bool, true, false, ◌==◌, ◌||◌, nat_lt, if◌then◌else◌, List, [], ◌∷◌, ◌++◌, length, Option, is_some, Result, Ok, Err}
-use Rattle.crash_disk.specs.Disk.{Step, asks_length, reads, writes, syncs, History, held, MayLeave, Plan}
-use Rattle.gate_journal.specs.Calls.{TellsSteps}
+use Rattle.crash_disk.specs.Disk.{Step, asks_length, reads, writes, syncs, History, content, MayLeave, FaultPlan}
+use Rattle.crash_disk.specs.Calls.{WhereTold, passed, failed_after, Made}
 use Rattle.gate_journal.specs.Image.{kept_records}
-use Rattle.gate_journal.specs.Journal.{Keeps, IsSettled, WhereTold}
+use Rattle.gate_journal.specs.Journal.{Keeps, IsSettled}
 use Rattle.gate_journal.specs.declared.refusal.JournalRefusal.{JournalRefusal}
 use Rattle.gate_journal.specs.declared.refusal.JournalRefusal.TheVariants.{AlreadyMade, DeviceFault, NoMemory}
 
@@ -33,28 +33,20 @@ pub record IsBlank (image : List ℕ) : Type 0 where
   pub short : length image ≤ 5
   pub none : is_made image ≡ true → Keeps [] image
 
--- the refusals of a making, and when it finds a journal
-abbrev pub RefusesMake : Option History → JournalRefusal → Type 0
-RefusesMake told (AlreadyMade count) = WhereTold told (λ before. (is_made (held before) ≡ true) × (count ≡ length (held before)))
-RefusesMake told DeviceFault = Unit {0}
-RefusesMake told NoMemory = Unit {0}
-RefusesMake told refusal = ⊥
+-- What a making over an image did that was answered so, and when: all its calls passed, and the image wasn't made, or it
+-- was; the first that failed ended them; or none was made.
+abbrev pub MakesOver : {D : Type 0} → List ℕ → (D → Option History) → (D → Option FaultPlan) → D → Result Unit JournalRefusal → D → Type 0
+MakesOver image told plan old (Ok done) new =
+    (is_made image ≡ false) × Made told plan make_steps (length (make_steps image)) passed old new
+MakesOver image told plan old (Err (AlreadyMade count)) new =
+    (is_made image ≡ true) × (count ≡ length image)
+    × Made told plan make_steps (length (make_steps image)) passed old new
+MakesOver image told plan old (Err DeviceFault) new =
+    (count : ℕ) × Made told plan make_steps (length (make_steps image)) (failed_after count) old new
+MakesOver image told plan old (Err NoMemory) new = new ≡ old
+MakesOver image told plan old (Err why) new = ⊥
 
--- P holds of some image: of the one that the disk holds, where it tells its history
-abbrev pub HoldsSome : Option History → (List ℕ → Type 0) → Type 0
-HoldsSome told P = (image : List ℕ) × WhereTold told (λ before. image ≡ held before) × P image
-
--- What a making over an image told that was answered so, and where it left the plan of faults: all its calls passed, and
--- the image wasn't made; those that look passed, and it was; the first that failed ended them; or none was made.
-abbrev pub MakesOver : List ℕ → Option History → Option Plan → Result Unit JournalRefusal → Option History → Option Plan → Type 0
-MakesOver image told plan (Ok done) now plan_now =
-    (is_made image ≡ false) × TellsSteps {E = JournalRefusal} (make_steps image) told plan (Ok done) now plan_now
-MakesOver image told plan (Err (AlreadyMade count)) now plan_now =
-    (is_made image ≡ true) × (count ≡ length image) × TellsSteps {T = Unit {0}} {E = JournalRefusal} (look_steps image) told plan (Ok tt) now plan_now
-MakesOver image told plan (Err DeviceFault) now plan_now = TellsSteps {T = Unit {0}} (make_steps image) told plan (Err DeviceFault) now plan_now
-MakesOver image told plan (Err NoMemory) now plan_now = (now ≡ told) × (plan_now ≡ plan)
-MakesOver image told plan (Err refusal) now plan_now = ⊥
-
--- what a making told that was answered so, and where it left the plan of faults
-abbrev pub TellsMake : Option History → Option Plan → Result Unit JournalRefusal → Option History → Option Plan → Type 0
-TellsMake told plan result now plan_now = HoldsSome told (λ image. MakesOver image told plan result now plan_now)
+-- what a making did that was answered so: over some image, the one that the disk holds where it tells its history
+abbrev pub Makes : {D : Type 0} → (D → Option History) → (D → Option FaultPlan) → D → Result Unit JournalRefusal → D → Type 0
+Makes told plan old result new =
+    (image : List ℕ) × WhereTold (told old) (λ before. image ≡ content before) × MakesOver image told plan old result new

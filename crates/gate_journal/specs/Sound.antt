@@ -2,7 +2,8 @@
 use Rattle.std.specs.Prelude.{◌≡◌, ◌<◌, ◌≤◌, ℕ, ◌+◌, ◌*◌, ◌^◌, Bool, false, List, length, Option}
 use Rattle.crash_disk.specs.Disk.{History, Room}
 use Rattle.gate_journal.specs.Image.{spelled}
-use Rattle.gate_journal.specs.Journal.{IsSettled, WhereTold}
+use Rattle.crash_disk.specs.Calls.{WhereTold}
+use Rattle.gate_journal.specs.Journal.{IsSettled}
 
 -- the records that the disk holds, with the closed gate behind them
 pub record RestsAt (gate : ℕ) (history : History) : Type 0 where

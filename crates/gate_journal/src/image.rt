@@ -1,7 +1,7 @@
 ghost use Rattle.std.specs.Prelude.{◌≡◌, ◌<◌, ◌^◌, ◌≤◌, ◌+◌, length, drop, is_some, Ok, IfOk, IfErr, IfSome};
 ghost use Rattle.std.specs.Option.{option_copied};
-ghost use Rattle.gate_journal.specs.Image.{body_in, begins_open, after_mark, journal_in, kept_records, spelled, IsKept};
-ghost use Rattle.gate_journal.specs.Read.{IsReadRefusal};
+ghost use Rattle.gate_journal.specs.Image.{body_in, begins_open, after_mark, journal_in, kept_records, spelled, Spells};
+ghost use Rattle.gate_journal.specs.Inside.{IsReadRefusal};
 
 use super::refusal::JournalRefusal;
 use plasma_base::{Bytes, get_u32};
@@ -77,7 +77,7 @@ pub struct Found {
 // Reads the records of an image.
 pub fn read_records(alloc: Global, image: &[u8]) -> Result<Found, JournalRefusal>
     ensures records { IfOk result (λ found. journal_in image.now ≡ Ok found.records.items) }
-    ensures kept { IfOk result (λ found. IsKept image.now found.records.items) }
+    ensures kept { IfOk result (λ found. Spells image.now found.records.items) }
     ensures gate { IfOk result (λ found. found.gate ≡ length (spelled found.records.items)) }
     ensures place { IfOk result (λ found. found.gate + 1 < 2 ^ 64) }
     ensures refused { IfErr result (IsReadRefusal image.now) }

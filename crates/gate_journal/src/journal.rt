@@ -1,11 +1,13 @@
-ghost use Rattle.std.specs.Prelude.{◌≡◌, ◌≢◌, ◌↔◌, ◌<◌, ◌≤◌, ◌+◌, ◌*◌, ◌||◌, max, ℕ, true, false, List, [], ◌∷◌, ◌++◌, length, option_map, Some, None, Err, IsOk, IfOk, IfErr, OnOk, OnErr, IsErrOf};
-ghost use Rattle.crash_disk.specs.Causes.{Rose};
-ghost use Rattle.crash_disk.specs.Disk.{held, after_calls};
+ghost use Rattle.std.specs.Prelude.{◌≡◌, ◌<◌, ◌≤◌, ◌+◌, ◌*◌, max, ℕ, true, false, List, [], ◌∷◌, ◌++◌, length, IsOk, IfOk, IfErr, OnOk, OnErr};
 ghost use Rattle.std.specs.Vec.{vec_capacity};
-ghost use Rattle.gate_journal.specs.Calls.{framed, Passes};
-ghost use Rattle.gate_journal.specs.Image.{most, spelled, kept_records};
-ghost use Rattle.gate_journal.specs.Make.{is_made, IsFresh, RefusesMake, TellsMake};
-ghost use Rattle.gate_journal.specs.Journal.{JournalState, Keeps, KeepsWithOrWithout, LeavesOnly, IsSettled, WhereTold, TellsAppend, opened_to, RefusesOpen, IsAppendRefusal, is_fault};
+ghost use Rattle.plasma_base.specs.Causes.{faults_after};
+ghost use Rattle.crash_disk.specs.Disk.{content, LeavesOnly};
+ghost use Rattle.crash_disk.specs.Calls.{WhereTold, IsStill, passed, Made};
+ghost use Rattle.gate_journal.specs.Image.{most, journal_in};
+ghost use Rattle.gate_journal.specs.Steps.{frame_of, open_steps};
+ghost use Rattle.gate_journal.specs.Make.{IsFresh, Makes};
+ghost use Rattle.gate_journal.specs.Journal.{JournalState, Keeps, KeepsWithOrWithout, IsSettled, is_fault, is_device_fault, fresh_journal, RefusesOpen, has_spare, with_spare, Appends};
+ghost use Rattle.gate_journal.specs.Inside.{with_room_for};
 
 use super::image::{CLOSED_GATE, Found, MOST_BYTES};
 use super::make::make_journal;
@@ -38,9 +40,16 @@ impl<D: Disk> Model for Journal<D> {
     ghost use Rattle.std.specs.Vec.{vec_capacity};
     ghost use Rattle.gate_journal.specs.Sound.{IsSound};
 
-    ghost view = { λ j. record { disk = j.disk; closed = j.closed; spare_bodies = j.spare_bodies; spare_bytes = j.spare_bytes } };
+    ghost view = { λ j. record {
+        disk = j.disk;
+        closed = j.closed;
+        gate = j.gate;
+        spare_bodies = j.spare_bodies;
+        spare_bytes = j.spare_bytes;
+    } };
 
-    ghost invariant = { λ j. IsSound (D.told j.disk) (D.left j.disk) j.gate j.closed j.spare_bodies j.spare_bytes (vec_capacity j.buffer) };
+    ghost invariant = { λ j.
+        IsSound (D.told j.disk) (D.left j.disk) j.gate j.closed j.spare_bodies j.spare_bytes (vec_capacity j.buffer) };
 }
 
 impl<D: Disk> Journal<D> {
@@ -51,12 +60,9 @@ impl<D: Disk> Journal<D> {
     /// `AlreadyMade` comes where the image spells a journal or has more than five bytes, after the calls
     /// that look. The law `stopped_makings` says what a crash leaves of a making that was stopped.
     pub fn make(disk: &mut D) -> Result<(), JournalRefusal>
-        ensures new { OnOk result (WhereTold (D.told disk.old) (λ before. is_made (held before) ≡ false)) }
-        ensures made { OnOk result (WhereTold (D.told disk.new) IsFresh) }
-        ensures refused { IfErr result (RefusesMake (D.told disk.old)) }
-        ensures calls { TellsMake (D.told disk.old) (D.plan disk.old) result (D.told disk.new) (D.plan disk.new) }
-        ensures fault { IsErrOf result JournalRefusal.DeviceFault → Rose (D.faults disk.old) (D.faults disk.new) }
-        ensures later { D.faults disk.old ≤ D.faults disk.new }
+        ensures makes { Makes D.told D.plan disk.old result disk.new }
+        ensures fresh { OnOk result (WhereTold (D.told disk.new) IsFresh) }
+        ensures cause { D.faults disk.new ≡ faults_after (D.faults disk.old) (is_fault result) }
     {
         make_journal(disk)
     }
@@ -69,16 +75,15 @@ impl<D: Disk> Journal<D> {
     /// missing, or whose record runs past the end or is too long; 0 where the image doesn't begin with
     /// the mark. A refusal hands the disk back.
     pub fn open(alloc: Global, disk: D) -> Result<(Journal<D>, Vec<Bytes>), Returned<D>>
-        ensures records { IfOk result (λ opened. WhereTold (D.told disk) (λ before. kept_records (held before) ≡ Some opened.1.items)) }
+        ensures records { IfOk result (λ opened. WhereTold (D.told disk) (λ before. Keeps opened.1.items (content before))) }
         ensures settled { IfOk result (λ opened. WhereTold (D.told opened.0.disk) (λ now. IsSettled now opened.1.items)) }
-        ensures fresh { IfOk result (λ opened. (opened.0.closed ≡ false) × (opened.0.spare_bodies ≡ 0) × (opened.0.spare_bytes ≡ 0)) }
-        ensures calls { IfOk result (λ opened. D.told opened.0.disk ≡ option_map (opened_to 3) (D.told disk)) }
-        ensures passes { IfOk result (λ opened. Passes (D.plan disk) 3 3) }
-        ensures planned { IfOk result (λ opened. D.plan opened.0.disk ≡ option_map (after_calls 3) (D.plan disk)) }
-        ensures later { IfOk result (λ opened. D.faults disk ≤ D.faults opened.0.disk) }
-        ensures refused { IfErr result (λ returned. RefusesOpen (D.told disk) (D.plan disk) (D.told returned.disk) (D.plan returned.disk) returned.why) }
-        ensures refused_later { IfErr result (λ returned. D.faults disk ≤ D.faults returned.disk) }
-        ensures fault { IfErr result (λ returned. returned.why ≡ JournalRefusal.DeviceFault → Rose (D.faults disk) (D.faults returned.disk)) }
+        ensures journal { IfOk result (λ opened. opened.0 ≡ fresh_journal opened.0.disk opened.1.items) }
+        ensures made { IfOk result (λ opened. Made D.told D.plan open_steps 3 passed disk opened.0.disk) }
+        ensures cause { IfOk result (λ opened. D.faults opened.0.disk ≡ D.faults disk) }
+        ensures refused { IfErr result (λ returned.
+            RefusesOpen journal_in D.told D.plan disk returned.why returned.disk) }
+        ensures refused_cause { IfErr result (λ returned.
+            D.faults returned.disk ≡ faults_after (D.faults disk) (is_device_fault returned.why)) }
     {
         let mut disk = disk;
         match load(alloc, &mut disk) {
@@ -117,18 +122,14 @@ impl<D: Disk> Journal<D> {
     /// bytes, or answers `NoMemory` and changes nothing. The room that there was stays. It makes no device
     /// call.
     pub fn reserve(&mut self, bodies: u64, bytes: usize) -> Result<(), NoMemory>
-        ensures bodies { OnOk result (self.new.spare_bodies ≡ max bodies self.old.spare_bodies) }
-        ensures bytes { OnOk result (self.new.spare_bytes ≡ max bytes self.old.spare_bytes) }
-        ensures history { D.told self.new.disk ≡ D.told self.old.disk }
-        ensures plan { D.plan self.new.disk ≡ D.plan self.old.disk }
-        ensures faults { D.faults self.new.disk ≡ D.faults self.old.disk }
-        ensures closed { self.new.closed ≡ self.old.closed }
+        ensures room { OnOk result (self.new ≡ with_spare bodies bytes self.new.disk self.old) }
+        ensures still { IsStill D.told D.plan D.faults self.old.disk self.new.disk }
         ensures err { OnErr result (self.new ≡ self.old) }
     {
         let bodies = bodies.max(self.spare_bodies);
         let bytes = bytes.max(self.spare_bytes);
         let room = room_of(bodies, bytes)?;
-        self.buffer.reserve(room.framed)?;
+        self.buffer.reserve(room.frame)?;
         self.disk.make_room(room.calls, room.bytes)?;
         self.spare_bodies = bodies;
         self.spare_bytes = bytes;
@@ -142,28 +143,14 @@ impl<D: Disk> Journal<D> {
     /// In this order: `Closed` after a device fault; `RecordTooLong` where the body has more than 2^24
     /// bytes; `NoMemory`, not where there is room for the body; `DeviceFault`, which closes the journal.
     pub fn append(&mut self, body: &[u8]) -> Result<(), JournalRefusal>
-        ensures closed { IsErrOf result JournalRefusal.Closed ↔ (self.old.closed ≡ true) }
-        ensures too_long { (count : ℕ) → (IsErrOf result (JournalRefusal.RecordTooLong count)
-            ↔ ((self.old.closed ≡ false) × (most < length body.now) × (count ≡ length body.now))) }
-        ensures memory { 0 < self.old.spare_bodies → length body.now ≤ self.old.spare_bytes → result ≢ Err JournalRefusal.NoMemory }
-        ensures named { IfErr result IsAppendRefusal }
-        ensures fault { IsErrOf result JournalRefusal.DeviceFault → Rose (D.faults self.old.disk) (D.faults self.new.disk) }
-        ensures later { D.faults self.old.disk ≤ D.faults self.new.disk }
-        ensures closes { self.new.closed ≡ (self.old.closed || is_fault result) }
-        ensures unchanged { IfErr result (λ why. why ≢ JournalRefusal.DeviceFault → self.new ≡ self.old) }
-        ensures calls { self.old.closed ≡ false
-            → TellsAppend (D.told self.old.disk) (D.plan self.old.disk) body.now result (D.told self.new.disk) (D.plan self.new.disk) }
-        ensures silent { D.told self.old.disk ≡ None → D.told self.new.disk ≡ None }
-        ensures any_moment { self.old.closed ≡ false → WhereTold (D.told self.old.disk) (λ before.
-            (records : List (List ℕ)) → Keeps records (held before)
-            → WhereTold (D.told self.new.disk) (λ now. LeavesOnly before now (KeepsWithOrWithout records body.now))) }
+        ensures appends { Appends D.told D.plan body.now self.old result self.new }
+        ensures cause { D.faults self.new.disk ≡ faults_after (D.faults self.old.disk) (is_fault result) }
         ensures kept { OnOk result (WhereTold (D.told self.old.disk) (λ before.
-            (records : List (List ℕ)) → Keeps records (held before)
+            (records : List (List ℕ)) → Keeps records (content before)
             → WhereTold (D.told self.new.disk) (λ now. IsSettled now (records ++ body.now ∷ [])))) }
-        ensures spare { OnOk result (0 < self.old.spare_bodies → length body.now ≤ self.old.spare_bytes
-            → (self.new.spare_bodies + 1 ≡ self.old.spare_bodies) × (self.new.spare_bytes ≡ self.old.spare_bytes)) }
-        ensures unreserved { OnOk result ((0 < self.old.spare_bodies → self.old.spare_bytes < length body.now)
-            → (self.new.spare_bodies ≡ self.old.spare_bodies) × (self.new.spare_bytes ≡ max (length body.now) self.old.spare_bytes)) }
+        ensures any_moment { self.old.closed ≡ false → WhereTold (D.told self.old.disk) (λ before.
+            (records : List (List ℕ)) → Keeps records (content before)
+            → WhereTold (D.told self.new.disk) (λ now. LeavesOnly before now (KeepsWithOrWithout records body.now))) }
     {
         if self.closed {
             return Err(JournalRefusal::Closed);
@@ -190,15 +177,9 @@ impl<D: Disk> Journal<D> {
 
     // Makes room for a body of so many bytes, where there is none.
     fn reserve_one(&mut self, bytes: usize) -> Result<(), NoMemory>
-        ensures bodies { OnOk result (0 < self.new.spare_bodies) }
-        ensures bytes { OnOk result (bytes ≤ self.new.spare_bytes) }
-        ensures reserved { 0 < self.old.spare_bodies → bytes ≤ self.old.spare_bytes → IsOk result × (self.new ≡ self.old) }
-        ensures unreserved { OnOk result ((0 < self.old.spare_bodies → self.old.spare_bytes < bytes)
-            → (self.new.spare_bodies ≡ self.old.spare_bodies + 1) × (self.new.spare_bytes ≡ max bytes self.old.spare_bytes)) }
-        ensures history { D.told self.new.disk ≡ D.told self.old.disk }
-        ensures plan { D.plan self.new.disk ≡ D.plan self.old.disk }
-        ensures faults { D.faults self.new.disk ≡ D.faults self.old.disk }
-        ensures closed { self.new.closed ≡ self.old.closed }
+        ensures room { OnOk result (self.new ≡ with_room_for bytes self.new.disk self.old) }
+        ensures reserved { has_spare self.old bytes ≡ true → IsOk result × (self.new ≡ self.old) }
+        ensures still { IsStill D.told D.plan D.faults self.old.disk self.new.disk }
         ensures err { OnErr result (self.new ≡ self.old) }
     {
         if self.spare_bodies > 0 && bytes <= self.spare_bytes {
@@ -214,21 +195,22 @@ impl<D: Disk> Journal<D> {
 // The room that some bodies need.
 #[derive(Clone, Copy)]
 struct RoomOf {
-    framed: usize,
+    frame: usize,
     calls: u64,
     bytes: u64,
 }
 
 // The room for so many bodies of at most so many bytes.
 fn room_of(bodies: u64, bytes: usize) -> Result<RoomOf, NoMemory>
-    ensures { IfOk result (λ room. (room.framed ≡ bytes + 5) × (room.calls ≡ bodies * 4) × (room.bytes ≡ bodies * (bytes + 6))) }
+    ensures { IfOk result (λ room.
+        (room.frame ≡ bytes + 5) × (room.calls ≡ bodies * 4) × (room.bytes ≡ bodies * (bytes + 6))) }
 {
-    let Some(framed) = bytes.checked_add(6) else {
+    let Some(most) = bytes.checked_add(6) else {
         return Err(NoMemory);
     };
-    match (bodies.checked_mul(4), bodies.checked_mul(framed as u64)) {
+    match (bodies.checked_mul(4), bodies.checked_mul(most as u64)) {
         (Some(calls), Some(bytes)) => Ok(RoomOf {
-            framed: framed - 1,
+            frame: most - 1,
             calls,
             bytes,
         }),
@@ -240,7 +222,7 @@ fn room_of(bodies: u64, bytes: usize) -> Result<RoomOf, NoMemory>
 fn frame(buffer: &mut Vec<u8>, body: &[u8])
     requires fits { length body.now + 5 ≤ vec_capacity buffer.old }
     requires short { length body.now ≤ most }
-    ensures items { buffer.new.items ≡ framed body.now }
+    ensures items { buffer.new.items ≡ frame_of body.now }
     ensures room { vec_capacity buffer.old ≤ vec_capacity buffer.new }
 {
     let count = body.len() as u32;

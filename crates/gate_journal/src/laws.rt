@@ -1,5 +1,5 @@
-ghost use Rattle.gate_journal.specs.Laws.{StoppedAppends, StoppedMakings};
 ghost use Rattle.gate_journal.specs.Image.{SpelledIsRead, ReadIsSpelled};
+ghost use Rattle.gate_journal.specs.Laws.{StoppedAppends, AppendsSettle, StoppedOpenings, StoppedMakings, RecordsStay, AppendedRecordsStay, MadeJournalsStay};
 
 /// What an image spells is what is read of it: so an image spells one list of records.
 pub fn spelled_is_read()
@@ -16,9 +16,36 @@ pub fn stopped_appends()
     ensures { StoppedAppends }
 {}
 
-/// What a crash leaves of a making at any of its moments: where the disk held a journal, or more than
-/// five bytes, nothing that it couldn't have left before; else at most five bytes, which are no journal
-/// or one without records.
+/// After the four device calls of an append a settled journal is settled with the new record.
+pub fn appends_settle()
+    ensures { AppendsSettle }
+{}
+
+/// What a crash leaves of an opening at any of its moments, however it went: nothing that it couldn't
+/// have left before.
+pub fn stopped_openings()
+    ensures { StoppedOpenings }
+{}
+
+/// What a crash leaves of a making at any of its moments, however it went: where the disk held a journal,
+/// or more than five bytes, nothing that it couldn't have left before; else at most five bytes, which are
+/// no journal or one without records.
 pub fn stopped_makings()
     ensures { StoppedMakings }
+{}
+
+/// Over every list of makings, openings, appends, faults and crashes: records that a node had once stay.
+/// Each later image of a crash keeps them, and every node that opens the journal later has them.
+pub fn records_stay()
+    ensures { RecordsStay }
+{}
+
+/// What a node appended, and was answered `Ok`, is among what is read later, at its place.
+pub fn appended_records_stay()
+    ensures { AppendedRecordsStay }
+{}
+
+/// A journal that was made never stops to be one: no later opening answers `NotJournal`.
+pub fn made_journals_stay()
+    ensures { MadeJournalsStay }
 {}

@@ -13,5 +13,8 @@ mod steps;
 mod tests;
 
 pub use journal::Journal;
-pub use laws::{read_is_spelled, spelled_is_read, stopped_appends, stopped_makings};
+pub use laws::{
+    appended_records_stay, appends_settle, made_journals_stay, read_is_spelled, records_stay,
+    spelled_is_read, stopped_appends, stopped_makings, stopped_openings,
+};
 pub use refusal::{InitRefusal, JournalRefusal, Returned};

@@ -1,9 +1,9 @@
-ghost use Rattle.std.specs.Prelude.{◌≡◌, ◌≤◌, ◌+◌, length, false, IfOk, IfErr, OnOk, IsErrOf};
-ghost use Rattle.crash_disk.specs.Causes.{HasCause, Rose};
-ghost use Rattle.crash_disk.specs.Disk.{held};
-ghost use Rattle.gate_journal.specs.Calls.{TellsSteps};
-ghost use Rattle.gate_journal.specs.Journal.{WhereTold};
-ghost use Rattle.gate_journal.specs.Make.{is_made, look_steps, HoldsSome, IsFresh, RefusesMake, TellsMake};
+ghost use Rattle.std.specs.Prelude.{◌≡◌, ◌≤◌, ◌+◌, length, is_err, IfOk, OnOk};
+ghost use Rattle.plasma_base.specs.Causes.{faults_after};
+ghost use Rattle.crash_disk.specs.Calls.{WhereTold};
+ghost use Rattle.gate_journal.specs.Journal.{is_fault};
+ghost use Rattle.gate_journal.specs.Make.{is_made, IsFresh, Makes};
+ghost use Rattle.gate_journal.specs.Inside.{OverContent, LooksAt};
 
 use super::image::is_empty_journal;
 use super::refusal::JournalRefusal;
@@ -22,10 +22,10 @@ struct Probe {
 // Asks for the length, and reads an image that could be an empty journal.
 fn look<D: Disk>(disk: &mut D) -> Result<Probe, DiskFailed>
     requires { 2 ≤ (D.left disk.old).calls }
-    ensures looks { HoldsSome (D.told disk.old) (λ image.
+    ensures looks { OverContent (D.told disk.old) (λ image.
         IfOk result (λ probe. (probe.made ≡ is_made image) × (probe.length ≡ length image))
-        × TellsSteps (look_steps image) (D.told disk.old) (D.plan disk.old) result (D.told disk.new) (D.plan disk.new)) }
-    ensures cause { HasCause (D.faults disk.old) (D.faults disk.new) result }
+        × LooksAt image D.told D.plan result disk.old disk.new) }
+    ensures cause { D.faults disk.new ≡ faults_after (D.faults disk.old) (is_err result) }
     ensures calls_left { (D.left disk.old).calls ≤ (D.left disk.new).calls + 2 }
     ensures bytes_left { (D.left disk.old).bytes ≤ (D.left disk.new).bytes }
 {
@@ -44,12 +44,9 @@ fn look<D: Disk>(disk: &mut D) -> Result<Probe, DiskFailed>
 
 // Makes an empty journal where there is none.
 pub fn make_journal<D: Disk>(disk: &mut D) -> Result<(), JournalRefusal>
-    ensures new { OnOk result (WhereTold (D.told disk.old) (λ before. is_made (held before) ≡ false)) }
-    ensures made { OnOk result (WhereTold (D.told disk.new) IsFresh) }
-    ensures refused { IfErr result (RefusesMake (D.told disk.old)) }
-    ensures calls { TellsMake (D.told disk.old) (D.plan disk.old) result (D.told disk.new) (D.plan disk.new) }
-    ensures fault { IsErrOf result JournalRefusal.DeviceFault → Rose (D.faults disk.old) (D.faults disk.new) }
-    ensures later { D.faults disk.old ≤ D.faults disk.new }
+    ensures makes { Makes D.told D.plan disk.old result disk.new }
+    ensures fresh { OnOk result (WhereTold (D.told disk.new) IsFresh) }
+    ensures cause { D.faults disk.new ≡ faults_after (D.faults disk.old) (is_fault result) }
 {
     disk.make_room(4, 5)?;
     let found = look(disk)?;

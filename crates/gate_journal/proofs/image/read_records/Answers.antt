@@ -5,8 +5,9 @@ use Rattle.std.specs.Result.{result_ok}
 use Rattle.std.proofs.lemmas.List.Elements.{All-from_get_or}
 use Rattle.std.proofs.lemmas.Bool.Decides.{nat_tests}
 use Rattle.gate_journal.specs.Image.{body_in, spelled, spelled_record, journal_in}
-use Rattle.gate_journal.proofs.Read.{read_is_spelled, ReadsOn, on_record, on_nothing, on_empty, on_end}
-use Rattle.gate_journal.proofs.Crash.{spelled-push}
+use Rattle.gate_journal.proofs.Read.{ReadsOn, on_record, on_nothing, on_empty, on_end}
+use Rattle.gate_journal.proofs.Spelling.{spelled-push}
+use Rattle.gate_journal.proofs.Front.{read_is_spelled}
 use Rattle.gate_journal.proofs.image.read_records.Goals as goal
 
 pub returns-in_default-body_in-clause-refused : goal.returns-in_default-body_in-clause-refused
