@@ -1,0 +1,7 @@
+mod Roles
+mod Openings
+mod Adding
+mod Courses
+mod Untaken
+pub mod Beginning
+mod Lasting

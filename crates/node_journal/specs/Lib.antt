@@ -1,0 +1,6 @@
+pub mod Role
+pub mod Notes
+pub mod Effect
+pub mod Begin
+pub mod Laws
+pub mod Inside
