@@ -2,19 +2,22 @@
 use Rattle.std.proofs.Common.{◌≡◌, ◌≢◌, ◌≤◌, ◌+◌, ℕ, suc, Bool, true, false, cond, List, [], ◌∷◌, ◌++◌, length, take, Option, Some, None, Result, Ok, Err, refl, sym, ◌∙◌, ap, subst, arith, length-append}
 use Rattle.std.proofs.lemmas.List.{append-nil, take-append-le}
 use Rattle.std.specs.Option.{option_map}
+use Rattle.std.specs.Result.{IfOk, IfErr}
+use Rattle.plasma_base.specs.Causes.{faults_after}
 use Rattle.crash_disk.specs.Disk.{Step, History, content, FaultPlan}
 use Rattle.crash_disk.specs.Calls.{WhereTold, Course, passed, failed_after, stopped_after, after_course, with_made, Made}
 use Rattle.crash_disk.proofs.Calls.{later, made_over, made_there, made_after, made_within, made_stop}
 use Rattle.gate_journal.specs.Image.{most, kept_records}
 use Rattle.gate_journal.specs.Steps.{append_steps, open_steps}
-use Rattle.gate_journal.specs.Journal.{JournalState, Keeps, fresh_journal, Appends}
+use Rattle.gate_journal.specs.Journal.{JournalState, Keeps, IsSettled, fresh_journal, Appended, Appends}
 use Rattle.gate_journal.specs.Make.{is_made, make_steps}
 use Rattle.gate_journal.specs.declared.refusal.JournalRefusal.{JournalRefusal}
 use Rattle.gate_journal.specs.declared.refusal.JournalRefusal.TheVariants.{AlreadyMade, NotJournal, RecordTooLong, DeviceFault, Closed, NoMemory}
 use Rattle.gate_journal.specs.declared.refusal.InitRefusal.{InitRefusal}
 use Rattle.gate_journal.specs.declared.refusal.InitRefusal.TheVariants.{AlreadyMade as InitMade, DeviceFault as InitFault, NoMemory as InitNoMemory}
-use Rattle.node_journal.specs.Begin.{is_taken, image_made, journal_steps, init_steps, InitsOver}
-use Rattle.node_journal.specs.Inside.{init_refusal_of, FindsOver, RefusesEmptyOver}
+use Rattle.node_journal.specs.Begin.{is_taken, image_made, journal_steps, init_steps, InitsOver, is_fault_refusal, BeginsEmpty, RefusesEmpty}
+use Rattle.node_journal.specs.Inside.{init_refusal_of, FindsOver, OpensEmpty, RefusesEmptyOver}
+use Rattle.node_journal.specs.declared.init.NotBegun.{NotBegun}
 use Rattle.node_journal.proofs.Untaken.{kept_untaken, other_taken, making_holds}
 
 module _ {D : Type 0} (told : D → Option History) (plan : D → Option FaultPlan) where
@@ -130,3 +133,43 @@ module _ {D : Type 0} (told : D → Option History) (plan : D → Option FaultPl
         not_appended (RecordTooLong n) now fits same = absurd (omega (arith, fits, same.1))
         not_appended (AlreadyMade n) now fits none = absurd none
         not_appended (NotJournal place) now fits none = absurd none
+
+module _ {D : Type 0} (told : D → Option History) (plan : D → Option FaultPlan) (faults : D → ℕ) {old mid : D} where
+  -- no journal was made
+  pub refuses_making : (why : InitRefusal) → WhereTold (told old) (λ before. FindsOver (content before) told plan old (Err why) mid)
+      → faults mid ≡ faults_after (faults old) (is_fault_refusal why) → RefusesEmpty told plan faults old why mid
+  refuses_making why finds count = record { inits = λ before is. unmade told plan before is why mid (finds before is); count = count }
+
+  module _ (found : ℕ) (finds : WhereTold (told old) (λ before. FindsOver (content before) told plan old (Ok found) mid)) (count : faults mid ≡ faults old) where
+    -- one was opened
+    pub begins_empty : (result : Result (JournalState D) (NotBegun D)) → IfOk result (OpensEmpty told plan faults mid) → IfOk result (BeginsEmpty told plan faults old)
+    begins_empty (Ok journal) opens = record {
+      inits = λ before is. empty_opened told plan before is found (finds before is) opens.kept opens.made;
+      count = opens.count ∙ count;
+      is_fresh = opens.is_fresh;
+      settled = opens.settled;
+    }
+    begins_empty (Err refused) opens = opens
+
+    -- or not
+    pub refuses_empty : (result : Result (JournalState D) (NotBegun D))
+        → IfErr result (λ refused. WhereTold (told mid) (λ before. RefusesEmptyOver (content before) found told plan mid refused.why refused.disk))
+        → IfErr result (λ refused. faults refused.disk ≡ faults_after (faults mid) (is_fault_refusal refused.why))
+        → IfErr result (λ refused. RefusesEmpty told plan faults old refused.why refused.disk)
+    refuses_empty (Ok journal) refuses cause = refuses
+    refuses_empty (Err refused) refuses cause = record {
+      inits = λ before is. not_opened told plan before is found (finds before is) refused.why refused.disk refuses;
+      count = cause ∙ ap (λ (n : ℕ). faults_after n (is_fault_refusal refused.why)) count;
+    }
+
+-- what the disk holds once the identity is appended to an empty journal
+pub begun : {D : Type 0} (told : D → Option History) (plan : D → Option FaultPlan) (journal now : JournalState D) (identity : List ℕ) → WhereTold (told journal.disk) (λ history. IsSettled history [])
+    → Appended told plan identity journal now
+    → WhereTold (told journal.disk) (λ before. (records : List (List ℕ)) → Keeps records (content before)
+    → WhereTold (told now.disk) (λ later. IsSettled later (records ++ identity ∷ [])))
+    → WhereTold (told now.disk) (λ history. IsSettled history (identity ∷ []))
+begun told plan journal now identity settled appended kept = at (told journal.disk) refl
+  where
+    at : (t : Option History) → told journal.disk ≡ t → WhereTold (told now.disk) (λ history. IsSettled history (identity ∷ []))
+    at None is = λ history some. (let none : told now.disk ≡ None = appended.made.calls ∙ ap (option_map _) is in absurd (cc (none, some)))
+    at (Some before) is = λ history some. kept before is [] (settled before is).read history some

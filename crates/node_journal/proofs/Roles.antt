@@ -1,7 +1,8 @@
 -- Records of a role.
-use Rattle.std.proofs.Common.{◌≡◌, ◌<◌, ◌+◌, ◌&&◌, ℕ, suc, Bool, true, false, cond, List, [], ◌∷◌, ◌++◌, length, Result, Ok, Err, refl, sym, ◌∙◌, ap, inl, inr, arith}
+use Rattle.std.proofs.Common.{◌≡◌, ◌<◌, ◌≤◌, ◌+◌, ◌&&◌, ℕ, suc, Bool, true, false, cond, List, [], ◌∷◌, ◌++◌, length, Result, Ok, Err, refl, sym, ◌∙◌, ap, inl, inr, arith}
 use Rattle.std.proofs.lemmas.Bool.{cases_Bool}
 use Rattle.std.specs.List.{list_all, take_while, prefix_len}
+use Rattle.std.proofs.lemmas.List.Sums.{prefix_len-le-length}
 use Rattle.std.proofs.lemmas.List.Folds.{list_all-append, length-prefix_len}
 use Rattle.gate_journal.specs.Image.{spelled}
 use Rattle.node_journal.specs.Role.{Kinds, are_of, front_of, of_kinds}
@@ -69,3 +70,7 @@ not_of kinds records not = at (are_of kinds records) refl
 
 pub of : (kinds : Kinds) (records : List (List ℕ)) → are_of kinds records ≡ true → of_kinds kinds records ≡ Ok records
 of kinds records is = rw is refl
+
+-- the notes in front are no more than all
+pub front_within : (test : List ℕ → Bool) (notes : List (List ℕ)) → prefix_len test notes ≤ length notes
+front_within test notes = prefix_len-le-length test notes

@@ -61,10 +61,10 @@ Fails told plan faults (Some body) old new = AddFailed told plan faults body old
 
 -- What a call did that by its definition adds this record, or none, and that was stopped so, or not.
 abbrev pub Did : {D : Type 0} → (D → Option History) → (D → Option FaultPlan) → (D → ℕ) → Option (List ℕ) → NotesState D → Option Stop → NotesState D → Type 0
-Did told plan faults note old None new = Adds told plan faults note old new
-Did told plan faults note old (Some DeviceFault) new = Fails told plan faults note old new
-Did told plan faults note old (Some Closed) new = (old.closed ≡ true) × (new ≡ old)
-Did told plan faults note old (Some NoMemory) new = (old.closed ≡ false) × (new ≡ old)
+Did told plan faults added old None new = Adds told plan faults added old new
+Did told plan faults added old (Some DeviceFault) new = Fails told plan faults added old new
+Did told plan faults added old (Some Closed) new = (old.closed ≡ true) × (new ≡ old)
+Did told plan faults added old (Some NoMemory) new = (old.closed ≡ false) × (new ≡ old)
 
 -- what stopped a call whose errors are stops
 abbrev pub stopped_by : {T : Type 0} → Result T Stop → Option Stop

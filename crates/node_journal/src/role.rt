@@ -33,6 +33,7 @@ fn notes_count<R: Role>(identity: &[u8], notes: &[Bytes]) -> usize
 }
 
 // The records before the first one that isn't of the role.
+#[tactic(auto, using(crate::proofs::Roles::front_within))]
 fn front_of<R: Role>(records: &[Bytes]) -> &[Bytes]
     ensures { result.now ≡ front_of R.kinds records.now }
 {
