@@ -1,5 +1,5 @@
 -- How device calls go on, one by one and together.
-use Rattle.std.proofs.Common.{◌≡◌, ◌<◌, ◌≤◌, ℕ, zero, suc, ◌+◌, Bool, true, false, List, [], ◌∷◌, ◌++◌, length, take, Option, Some, None, refl, sym, ◌∙◌, ap, subst, inl, inr, arith, length-append}
+use Rattle.std.proofs.Common.{◌≡◌, ◌<◌, ℕ, zero, suc, ◌+◌, true, false, List, [], ◌∷◌, ◌++◌, length, take, Option, Some, None, refl, sym, ◌∙◌, ap, subst, inl, inr, arith, length-append}
 use Rattle.std.specs.Option.{option_map}
 use Rattle.std.proofs.lemmas.Bool.{cases_Bool}
 use Rattle.crash_disk.specs.Disk.{Step, DeviceCall, History, content, with_call, FaultPlan, fails_first, after_one, after_calls, passing}
@@ -22,7 +22,8 @@ one_more made None = refl
 one_more made (Some foretold) = ap (λ (p : FaultPlan). Some p) (sym (after_calls-suc made foretold))
 
 -- calls that all passed, and further ones
-passing-add : (count more : ℕ) (plan : FaultPlan) → passing count plan ≡ count → passing (count + more) plan ≡ count + passing more (after_calls count plan)
+passing-add : (count more : ℕ) (plan : FaultPlan) → passing count plan ≡ count
+    → passing (count + more) plan ≡ count + passing more (after_calls count plan)
 passing-add zero more plan all =
     let none : 0 + more ≡ more = omega arith in
     let same = ap (passing more) (after_calls-zero plan) in
@@ -33,11 +34,18 @@ passing-add (suc count) more plan all = elim (cases_Bool (fails_first plan)) [
       let rest : passing count (after_one plan) ≡ count = omega (arith, passing-passes count plan passes, all) in
       let e : suc count + more ≡ suc (count + more) = omega arith in
       let same = ap (passing more) (after_calls-suc count plan) in
-      ap (λ (n : ℕ). passing n plan) e ∙ omega (arith, passing-passes (count + more) plan passes, passing-add count more (after_one plan) rest, same)
+      ap (λ (n : ℕ). passing n plan) e
+      ∙ omega (
+        arith,
+        passing-passes (count + more) plan passes,
+        passing-add count more (after_one plan) rest,
+        same,
+      )
 ]
 
 -- where one fails, further ones don't count
-passing-short : (count more fewer : ℕ) (plan : FaultPlan) → passing count plan ≡ fewer → fewer < count → passing (count + more) plan ≡ fewer
+passing-short : (count more fewer : ℕ) (plan : FaultPlan) → passing count plan ≡ fewer → fewer < count
+    → passing (count + more) plan ≡ fewer
 passing-short zero more fewer plan is lt = absurd (omega (arith, lt))
 passing-short (suc count) more fewer plan is lt =
     let e : suc count + more ≡ suc (count + more) = omega arith in
@@ -45,29 +53,36 @@ passing-short (suc count) more fewer plan is lt =
       | inl fails ↦ omega (arith, passing-fails (count + more) plan fails, passing-fails count plan fails, is)
       | inr passes ↦
           let one = passing-passes count plan passes in
-          let rest = passing-short count more (passing count (after_one plan)) (after_one plan) refl (omega (arith, one, is, lt)) in
+          let rest = passing-short count more (passing count (after_one plan)) (after_one plan) refl
+          (omega (arith, one, is, lt)) in
           omega (arith, passing-passes (count + more) plan passes, one, rest, is)
     ]
 
 -- calls that all passed, and then the calls behind them
-made_of-all : (front back : List Step) (count : ℕ) (calls : List DeviceCall) → made_of count back (made_of (length front) front calls) ≡ made_of (length front + count) (front ++ back) calls
+made_of-all : (front back : List Step) (count : ℕ) (calls : List DeviceCall)
+    → made_of count back (made_of (length front) front calls) ≡ made_of (length front + count) (front ++ back) calls
 made_of-all [] back count calls = (let e : count ≡ 0 + count = omega arith in ap (λ (n : ℕ). made_of n back calls) e)
 made_of-all (step ∷ front) back count calls =
     let e : suc (length front + count) ≡ suc (length front) + count = omega arith in
-    made_of-all front back count (record { step = step; failed = false } ∷ calls) ∙ ap (λ (n : ℕ). made_of n (step ∷ (front ++ back)) calls) e
+    made_of-all front back count (record { step = step; failed = false } ∷ calls)
+    ∙ ap (λ (n : ℕ). made_of n (step ∷ (front ++ back)) calls) e
 
 -- calls that one ended don't come to those behind them
-made_of-some : (front back : List Step) (count : ℕ) (calls : List DeviceCall) → count < length front → made_of count front calls ≡ made_of count (front ++ back) calls
+made_of-some : (front back : List Step) (count : ℕ) (calls : List DeviceCall) → count < length front
+    → made_of count front calls ≡ made_of count (front ++ back) calls
 made_of-some [] back count calls lt = absurd (omega (arith, lt))
 made_of-some (step ∷ front) back zero calls lt = refl
-made_of-some (step ∷ front) back (suc count) calls lt = made_of-some front back count (record { step = step; failed = false } ∷ calls) (omega (arith, lt))
+made_of-some (step ∷ front) back (suc count) calls lt =
+    made_of-some front back count (record { step = step; failed = false } ∷ calls) (omega (arith, lt))
 
 -- the first calls behind ones that all passed
-take-append_all : (front back : List Step) (count : ℕ) → front ++ take count back ≡ take (length front + count) (front ++ back)
+take-append_all : (front back : List Step) (count : ℕ)
+    → front ++ take count back ≡ take (length front + count) (front ++ back)
 take-append_all [] back count = (let e : count ≡ 0 + count = omega arith in ap (λ (n : ℕ). take n back) e)
 take-append_all (step ∷ front) back count =
     let e : suc (length front + count) ≡ suc (length front) + count = omega arith in
-    ap (λ (l : List Step). step ∷ l) (take-append_all front back count) ∙ ap (λ (n : ℕ). take n (step ∷ (front ++ back))) e
+    ap (λ (l : List Step). step ∷ l) (take-append_all front back count)
+    ∙ ap (λ (n : ℕ). take n (step ∷ (front ++ back))) e
 
 planned_after : (count more : ℕ) (plan : Option FaultPlan)
     → option_map (after_calls more) (option_map (after_calls count) plan) ≡ option_map (after_calls (count + more)) plan
@@ -97,7 +112,8 @@ module _ {D : Type 0} (told : D → Option History) (plan : D → Option FaultPl
       → Made told plan steps most course first new
   made_from {steps = steps} {most = most} {course = course} {new = new} still made = record {
     calls = subst
-        (λ (t : Option History). told new ≡ option_map (λ before. after_course course (steps (content before)) before) t)
+        (λ (t : Option History). told new ≡ option_map
+        (λ before. after_course course (steps (content before)) before) t)
         still.same_calls made.calls;
     planned = subst (λ (p : Option FaultPlan). GoesByPlan most course p (plan new)) still.same_plan made.planned;
   }
@@ -140,7 +156,8 @@ module _ {D : Type 0} (told : D → Option History) (plan : D → Option FaultPl
       at (Some before) = refl
 
   -- no other call, for want of memory or of power
-  pub made_stop : (steps : List Step) (most : ℕ) (disk : D) → Made told plan (λ any. steps) most (stopped_after 0) disk disk
+  pub made_stop : (steps : List Step) (most : ℕ) (disk : D)
+      → Made told plan (λ any. steps) most (stopped_after 0) disk disk
   made_stop steps most disk = record {
     calls = at (told disk);
     planned = (omega arith, (λ foretold is. passing-zero foretold), no_more (plan disk));
@@ -222,7 +239,8 @@ module _ {D : Type 0} (told : D → Option History) (plan : D → Option FaultPl
       len = sym (length-append front back)
 
       at : (t : Option History)
-          → option_map (λ before. after_course course back before) (option_map (λ before. after_course passed front before) t)
+          → option_map (λ before. after_course course back before)
+          (option_map (λ before. after_course passed front before) t)
           ≡ option_map (λ before. after_course (later (length front) course) (front ++ back) before) t
       at None = refl
       at (Some before) = ap (λ (h : History). Some h) (after_all course front back before)
@@ -231,7 +249,8 @@ module _ {D : Type 0} (told : D → Option History) (plan : D → Option FaultPl
       pass count n passes foretold some =
           passing-add (length front) count foretold (first.planned.0 foretold some)
           ∙ ap (λ (m : ℕ). length front + m)
-          (passes (after_calls (length front) foretold) (first.planned.1 ∙ ap (option_map (after_calls (length front))) some))
+          (passes (after_calls (length front) foretold)
+          (first.planned.1 ∙ ap (option_map (after_calls (length front))) some))
 
       on : (count : ℕ) → plan new ≡ option_map (after_calls count) (plan mid)
           → plan new ≡ option_map (after_calls (length front + count)) (plan old)
@@ -261,7 +280,8 @@ module _ {D : Type 0} (told : D → Option History) (plan : D → Option FaultPl
     planned = (
       omega (arith, made.planned.0, len),
       subst (λ (n : ℕ). Passes (plan old) n count) len
-          (λ foretold some. passing-short (length front) (length back) count foretold (made.planned.1 foretold some) made.planned.0),
+          (λ foretold some. passing-short (length front) (length back) count foretold
+          (made.planned.1 foretold some) made.planned.0),
       made.planned.2,
     );
   }

@@ -1,10 +1,9 @@
 -- What a crash leaves where nothing is written since the sync, or nothing at all.
-use Rattle.std.proofs.Common.{◌≡◌, ◌<◌, ◌≤◌, ℕ, Bool, true, false, leb, ltb, ◌&&◌, ◌||◌, List, [], ◌∷◌, ◌++◌, length, get_or, refl, sym, ◌∙◌, ap, subst, arith, length-append}
+use Rattle.std.proofs.Common.{◌≡◌, ◌<◌, ℕ, Bool, true, false, List, [], ◌∷◌, length, get_or, refl, sym, ◌∙◌, ap, arith, length-append}
 use Rattle.std.proofs.lemmas.Bool.Decides.{nat_tests}
 use Rattle.std.proofs.lemmas.Grind.{same_number_lists}
 use Rattle.std.proofs.lemmas.List.{append-nil}
-use Rattle.crash_disk.specs.Disk.{Step, asks_length, reads, writes, syncs, DeviceCall, History, content, synced_content, unsynced_ranges, content_after, synced_content_after, unsynced_ranges_after, is_touched, MayLeave}
-use Rattle.crash_disk.specs.Outcomes.{image_after}
+use Rattle.crash_disk.specs.Disk.{Step, asks_length, reads, writes, syncs, DeviceCall, synced_content, content_after, synced_content_after, unsynced_ranges_after, is_touched}
 use Rattle.crash_disk.specs.declared.outcome.Outcome.TheVariants.{New}
 use Rattle.crash_disk.specs.Laws.{ContentMayBeLeft, SyncedContentIsLeft, FreshDiskLeavesItself}
 use Rattle.crash_disk.proofs.Images.{outcomes}
@@ -15,10 +14,12 @@ content_may_be_left history = outcomes New history
 abbrev IsAll : List ℕ → List DeviceCall → Type 0
 IsAll began calls = unsynced_ranges_after calls ≡ [] → synced_content_after began calls ≡ content_after began calls
 
-all_call : (step : Step) (failed : Bool) (began : List ℕ) (calls : List DeviceCall) → IsAll began calls → IsAll began (record { step = step; failed = failed } ∷ calls)
+all_call : (step : Step) (failed : Bool) (began : List ℕ) (calls : List DeviceCall) → IsAll began calls
+    → IsAll began (record { step = step; failed = failed } ∷ calls)
 all_call asks_length failed began calls all none = all (sym (append-nil (unsynced_ranges_after calls)) ∙ none)
 all_call (reads at count) failed began calls all none = all (sym (append-nil (unsynced_ranges_after calls)) ∙ none)
-all_call (writes at bytes) failed began calls all none = absurd (omega (arith, ap length none, length-append (unsynced_ranges_after calls) ((at, length bytes) ∷ [])))
+all_call (writes at bytes) failed began calls all none =
+    absurd (omega (arith, ap length none, length-append (unsynced_ranges_after calls) ((at, length bytes) ∷ [])))
 all_call syncs true began calls all none = all (sym (append-nil (unsynced_ranges_after calls)) ∙ none)
 all_call syncs false began calls all none = refl
 
@@ -28,7 +29,8 @@ synced_is_content began [] = λ none. refl
 synced_is_content began (call ∷ calls) = all_call call.step call.failed began calls (synced_is_content began calls)
 
 -- where no range is touched, the bytes stay
-pub untouched_same : (bytes image : List ℕ) → length image ≡ length bytes → ((place : ℕ) → is_touched bytes [] place ≡ false → get_or image place 0 ≡ get_or bytes place 0) → image ≡ bytes
+pub untouched_same : (bytes image : List ℕ) → length image ≡ length bytes
+    → ((place : ℕ) → is_touched bytes [] place ≡ false → get_or image place 0 ≡ get_or bytes place 0) → image ≡ bytes
 untouched_same bytes image len same =
     same_number_lists image bytes len
     (λ place lt. same place (let lt' : place < length bytes = omega (arith, lt, len) in grind (arith, nat_tests)))
@@ -37,7 +39,8 @@ pub synced_content_is_left : SyncedContentIsLeft
 synced_content_is_left history image none may =
     let all = synced_is_content history.began history.calls none in
     untouched_same (synced_content history) image (omega (arith, may.no_shorter, may.no_longer, ap length all))
-    (λ place out. may.untouched place (ap (λ (r : List (ℕ × ℕ)). is_touched (synced_content history) r place) none ∙ out))
+    (λ place out. may.untouched place
+    (ap (λ (r : List (ℕ × ℕ)). is_touched (synced_content history) r place) none ∙ out))
     ∙ all
 
 pub fresh_disk_leaves_itself : FreshDiskLeavesItself

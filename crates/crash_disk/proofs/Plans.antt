@@ -13,7 +13,8 @@ unfolding passing
 passing-fails count plan fails = ap (λ (b : Bool). cond b 0 (suc (passing count (after_one plan)))) fails
 
 -- and where it passes
-pub passing-passes : (count : ℕ) (plan : FaultPlan) → fails_first plan ≡ false → passing (suc count) plan ≡ suc (passing count (after_one plan))
+pub passing-passes : (count : ℕ) (plan : FaultPlan) → fails_first plan ≡ false
+    → passing (suc count) plan ≡ suc (passing count (after_one plan))
 unfolding passing
 passing-passes count plan passes = ap (λ (b : Bool). cond b 0 (suc (passing count (after_one plan)))) passes
 
@@ -30,19 +31,24 @@ pub after_calls-suc : (count : ℕ) (plan : FaultPlan) → after_calls (suc coun
 unfolding after_calls
 after_calls-suc count plan = refl
 
-pub after_calls-add : (count more : ℕ) (plan : FaultPlan) → after_calls (count + more) plan ≡ after_calls more (after_calls count plan)
+pub after_calls-add : (count more : ℕ) (plan : FaultPlan)
+    → after_calls (count + more) plan ≡ after_calls more (after_calls count plan)
 unfolding after_calls
 after_calls-add zero more plan = (let e : 0 + more ≡ more = omega arith in ap (λ (n : ℕ). after_calls n plan) e)
 after_calls-add (suc count) more plan =
-    (let e : suc count + more ≡ suc (count + more) = omega arith in ap (λ (n : ℕ). after_calls n plan) e) ∙ after_calls-add count more (after_one plan)
+    (let e : suc count + more ≡ suc (count + more) = omega arith in ap (λ (n : ℕ). after_calls n plan) e)
+    ∙ after_calls-add count more (after_one plan)
 
 -- what is listed and what may still pass after calls
 pub listed-after_calls : (count n : ℕ) (plan : FaultPlan) → (after_calls count plan).listed n ≡ plan.listed (count + n)
 unfolding after_calls
 listed-after_calls zero n plan = (let e : n ≡ 0 + n = omega arith in ap plan.listed e)
-listed-after_calls (suc count) n plan = listed-after_calls count n (after_one plan) ∙ (let e : suc (count + n) ≡ suc count + n = omega arith in ap plan.listed e)
+listed-after_calls (suc count) n plan =
+    listed-after_calls count n (after_one plan)
+    ∙ (let e : suc (count + n) ≡ suc count + n = omega arith in ap plan.listed e)
 
-pub fuse-after_calls : (count : ℕ) (plan : FaultPlan) → (after_calls count plan).fuse ≡ option_map (λ calls. calls - count) plan.fuse
+pub fuse-after_calls : (count : ℕ) (plan : FaultPlan)
+    → (after_calls count plan).fuse ≡ option_map (λ calls. calls - count) plan.fuse
 unfolding after_calls
 fuse-after_calls zero plan = sym (less_nothing plan.fuse)
   where
@@ -51,12 +57,15 @@ fuse-after_calls zero plan = sym (less_nothing plan.fuse)
     less_nothing (Some calls) = (let e : calls - 0 ≡ calls = omega arith in ap (λ (n : ℕ). Some n) e)
 fuse-after_calls (suc count) plan = fuse-after_calls count (after_one plan) ∙ less_more plan.fuse
   where
-    less_more : (fuse : Option ℕ) → option_map (λ calls. calls - count) (option_map (λ calls. calls - 1) fuse) ≡ option_map (λ calls. calls - suc count) fuse
+    less_more : (fuse : Option ℕ)
+        → option_map (λ calls. calls - count) (option_map (λ calls. calls - 1) fuse) ≡ option_map
+        (λ calls. calls - suc count) fuse
     less_more None = refl
     less_more (Some calls) = (let e : calls - 1 - count ≡ calls - suc count = omega arith in ap (λ (n : ℕ). Some n) e)
 
 -- a fuse of so many lets so many pass
-pub passing-fuse : (count calls : ℕ) (plan : FaultPlan) → ((n : ℕ) → plan.listed n ≡ false) → plan.fuse ≡ Some calls → passing count plan ≡ min count calls
+pub passing-fuse : (count calls : ℕ) (plan : FaultPlan) → ((n : ℕ) → plan.listed n ≡ false) → plan.fuse ≡ Some calls
+    → passing count plan ≡ min count calls
 passing-fuse zero calls plan none fuse = passing-zero plan ∙ omega arith
 passing-fuse (suc count) zero plan none fuse =
     let fails : fails_first plan ≡ true = ap (λ f. is_spent f || plan.listed 0) fuse in
@@ -64,14 +73,19 @@ passing-fuse (suc count) zero plan none fuse =
 passing-fuse (suc count) (suc calls) plan none fuse =
     let some : (suc calls == 0) ≡ false = grind (arith, nat_tests) in
     let passes : fails_first plan ≡ false = ap (λ f. is_spent f || plan.listed 0) fuse ∙ (λ i. some i || none 0 i) in
-    let on : (after_one plan).fuse ≡ Some calls = ap (option_map (λ calls. calls - 1)) fuse ∙ (let e : suc calls - 1 ≡ calls = omega arith in ap (λ (n : ℕ). Some n) e) in
+    let on : (after_one plan).fuse ≡ Some calls =
+    ap (option_map (λ calls. calls - 1)) fuse
+    ∙ (let e : suc calls - 1 ≡ calls = omega arith in ap (λ (n : ℕ). Some n) e) in
     omega (arith, passing-passes count plan passes, passing-fuse count calls (after_one plan) (λ n. none (suc n)) on)
 
-pub passing-no_fuse : (count : ℕ) (plan : FaultPlan) → ((n : ℕ) → plan.listed n ≡ false) → plan.fuse ≡ None → passing count plan ≡ count
+pub passing-no_fuse : (count : ℕ) (plan : FaultPlan) → ((n : ℕ) → plan.listed n ≡ false) → plan.fuse ≡ None
+    → passing count plan ≡ count
 passing-no_fuse zero plan none fuse = passing-zero plan
 passing-no_fuse (suc count) plan none fuse =
     let passes : fails_first plan ≡ false = ap (λ f. is_spent f || plan.listed 0) fuse ∙ none 0 in
-    passing-passes count plan passes ∙ ap suc (passing-no_fuse count (after_one plan) (λ n. none (suc n)) (ap (option_map (λ calls. calls - 1)) fuse))
+    passing-passes count plan passes
+    ∙ ap suc (passing-no_fuse count (after_one plan) (λ n. none (suc n))
+    (ap (option_map (λ calls. calls - 1)) fuse))
 
 pub plan_after : AfterCalls
 plan_after count plan = ((λ n. listed-after_calls count n plan), fuse-after_calls count plan)

@@ -8,20 +8,22 @@ abbrev pub WhereTold : Option History → (History → Type 0) → Type 0
 WhereTold told P = (history : History) → told ≡ Some history → P history
 
 -- One device call was made, which failed or passed: exactly as the plan says, where there is one.
-pub record Called {D : Type 0} (told : D → Option History) (plan : D → Option FaultPlan) (step : Step) (failed : Bool) (old new : D) : Type 0 where
+pub record Called {D : Type 0} (told : D → Option History) (plan : D → Option FaultPlan) (step : Step)
+    (failed : Bool) (old new : D) : Type 0 where
   pub history : told new ≡ option_map (with_call step failed) (told old)
   pub fails : (foretold : FaultPlan) → plan old ≡ Some foretold → failed ≡ fails_first foretold
   pub goes_on : plan new ≡ option_map after_one (plan old)
 
 -- the same calls told, the same plan of faults and the same count
-pub record IsStill {D : Type 0} (told : D → Option History) (plan : D → Option FaultPlan) (faults : D → ℕ) (old new : D) : Type 0 where
+pub record IsStill {D : Type 0} (told : D → Option History) (plan : D → Option FaultPlan) (faults : D → ℕ)
+    (old new : D) : Type 0 where
   pub same_calls : told new ≡ told old
   pub same_plan : plan new ≡ plan old
   pub same_count : faults new ≡ faults old
 
--- How the device calls of a call went, and whether it was answered: all passed; so many passed and the next one failed; or so
--- many passed and no other was made, for want of memory or of power. Where there are no more calls than that, all passed and the
--- answer was lost.
+-- How the device calls of a call went, and whether it was answered: all passed; so many passed and the next one failed;
+-- or so many passed and no other was made, for want of memory or of power. Where there are no more calls than that, all
+-- passed and the answer was lost.
 pub data Course : Type 0 where
   passed : Course
   failed_after : ℕ → Course
@@ -56,11 +58,14 @@ GoesByPlan most (stopped_after count) before now =
     (count ≤ most) × Passes before count count × (now ≡ option_map (after_calls count) before)
 
 -- These device calls, so many in all, went so. What they ask for may depend on what the disk holds.
-pub record Made {D : Type 0} (told : D → Option History) (plan : D → Option FaultPlan) (steps : List ℕ → List Step) (most : ℕ) (course : Course) (old new : D) : Type 0 where
+pub record Made {D : Type 0} (told : D → Option History) (plan : D → Option FaultPlan) (steps : List ℕ → List Step)
+    (most : ℕ) (course : Course) (old new : D) : Type 0 where
   pub calls : told new ≡ option_map (λ before. after_course course (steps (content before)) before) (told old)
   pub planned : GoesByPlan most course (plan old) (plan new)
 
 -- These device calls, so many in all, were made up to the first that failed, and answered so.
-abbrev pub MadeUntilFault : {D T E : Type 0} → (D → Option History) → (D → Option FaultPlan) → (List ℕ → List Step) → ℕ → Result T E → D → D → Type 0
+abbrev pub MadeUntilFault : {D T E : Type 0} → (D → Option History) → (D → Option FaultPlan) → (List ℕ → List Step)
+    → ℕ → Result T E → D → D → Type 0
 MadeUntilFault told plan steps most (Ok done) old new = Made told plan steps most passed old new
-MadeUntilFault told plan steps most (Err e) old new = (count : ℕ) × Made told plan steps most (failed_after count) old new
+MadeUntilFault told plan steps most (Err e) old new =
+    (count : ℕ) × Made told plan steps most (failed_after count) old new

@@ -1,5 +1,5 @@
--- What a disk tells of itself, and from that what it holds, what a crash may leave, which calls to come fail, and the room
--- that is left.
+-- What a disk tells of itself, and from that what it holds, what a crash may leave, which calls to come fail, and the
+-- room that is left.
 use Rattle.std.specs.Prelude.{◌≡◌, ℕ, zero, suc, ◌+◌, ◌-◌, ◌≤◌, ◌==◌, Bool, true, false, ◌&&◌, ◌||◌, not, nat_le, nat_lt, if◌then◌else◌, List, [], ◌∷◌, ◌++◌, length, take, drop, slice_index, Option, Some, None, option_map}
 use Rattle.std.specs.List.{list_any}
 
@@ -111,8 +111,8 @@ abbrev pub with_call : Step → Bool → History → History
 with_call step failed history =
     record { began = history.began; calls = record { step = step; failed = failed } ∷ history.calls }
 
--- which device calls to come fail, where a disk foretells it: the listed ones, counted from 0, and, with a fuse, each one
--- after so many
+-- which device calls to come fail, where a disk foretells it: the listed ones, counted from 0, and, with a fuse, each
+-- one after so many
 pub record FaultPlan : Type 0 where
   pub listed : ℕ → Bool
   pub fuse : Option ℕ

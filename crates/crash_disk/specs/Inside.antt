@@ -25,7 +25,8 @@ state_over began log = record {
 abbrev pub state_of : Inside → MemState
 state_of disk = state_over (began_of disk) disk.log
 
--- The lists stand for what the calls left, the ranges lie within the bytes, and there is memory for the room that is left.
+-- The lists stand for what the calls left, the ranges lie within the bytes, and there is memory for the room that is
+-- left.
 pub record IsWhole (disk : Inside) : Type 0 where
   pub holds : disk.bytes.items ≡ content_after (began_of disk) disk.log.calls
   pub ranges : disk.unsynced.items ≡ unsynced_ranges_after disk.log.calls

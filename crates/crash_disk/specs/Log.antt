@@ -6,7 +6,8 @@ use Rattle.crash_disk.specs.Disk.{Step, DeviceCall, fails_first, after_one, Room
 use Rattle.crash_disk.specs.Memory.{plan_at, room_after, told_of, count_written}
 use Rattle.crash_disk.specs.declared.log.CallLog.TheInside.{Inside}
 
--- what a log of device calls stands for: the calls, the newest first; which calls fail and how many did; and the room left
+-- what a log of device calls stands for: the calls, the newest first; which calls fail and how many did; and the room
+-- left
 pub record LogState : Type 0 where
   pub calls : List DeviceCall
   pub fails : List ℕ

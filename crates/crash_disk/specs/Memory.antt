@@ -1,5 +1,5 @@
 -- The disk in memory.
-use Rattle.std.specs.Prelude.{◌≡◌, ℕ, zero, suc, ◌+◌, ◌-◌, Bool, false, ◌==◌, true, max, if◌then◌else◌, List, [], ◌∷◌, length, take, drop, Option, Some, None}
+use Rattle.std.specs.Prelude.{ℕ, zero, suc, ◌+◌, ◌-◌, Bool, ◌==◌, max, List, [], ◌∷◌, length, take, drop, Option, Some, None}
 use Rattle.std.specs.List.{list_any}
 use Rattle.plasma_base.specs.Causes.{counted, faults_after}
 use Rattle.crash_disk.specs.Disk.{Step, asks_length, reads, writes, syncs, DeviceCall, History, fresh_history, with_call, FaultPlan, fails_first, after_one, Room}
@@ -67,7 +67,11 @@ with_room calls bytes disk = record disk { room = room_with calls bytes disk.roo
 
 -- the disk after a crash that left this image: no calls to tell, no fuse and no room
 abbrev pub after_crash : List ℕ → MemState → MemState
-after_crash image disk = record disk { history = fresh_history image; fuse = None; room = record { calls = 0; bytes = 0 } }
+after_crash image disk = record disk {
+  history = fresh_history image;
+  fuse = None;
+  room = record { calls = 0; bytes = 0 };
+}
 
 -- the step of a call that is kept with the number of its bytes, which are the first of these
 abbrev pub step_of : KeptStep → List ℕ → Step
@@ -85,7 +89,8 @@ count_of step = 0
 abbrev pub told_of : List KeptCall → List ℕ → List DeviceCall → List DeviceCall
 told_of [] bytes told = told
 told_of (call ∷ calls) bytes told =
-    told_of calls (drop (count_of call.step) bytes) (record { step = step_of call.step bytes; failed = call.failed } ∷ told)
+    told_of calls (drop (count_of call.step) bytes)
+    (record { step = step_of call.step bytes; failed = call.failed } ∷ told)
 
 -- how many bytes they wrote
 abbrev pub count_written : List KeptCall → ℕ

@@ -5,8 +5,8 @@ use Rattle.crash_disk.specs.Disk.{History, content, synced_content, unsynced_ran
 use Rattle.crash_disk.specs.declared.outcome.Outcome.{Outcome}
 use Rattle.crash_disk.specs.declared.outcome.Outcome.TheVariants.{Old, New, Mix}
 
--- the byte at a place of a mix: the touched places, from the lowest up, take the pattern's bytes in turn, and each other
--- place keeps its synced byte
+-- the byte at a place of a mix: the touched places, from the lowest up, take the pattern's bytes in turn, and each
+-- other place keeps its synced byte
 abbrev pub mix_byte : List ℕ → List (ℕ × ℕ) → List ℕ → ℕ → ℕ
 mix_byte bytes ranges pattern place =
     if is_touched bytes ranges place

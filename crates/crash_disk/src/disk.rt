@@ -72,7 +72,8 @@ pub trait Disk {
     fn make_room(&mut self, calls: u64, bytes: u64) -> Result<(), NoMemory>
         ensures calls { OnOk result (calls ≤ (left self.new).calls) }
         ensures bytes { OnOk result (bytes ≤ (left self.new).bytes) }
-        ensures stays { ((left self.old).calls ≤ (left self.new).calls) × ((left self.old).bytes ≤ (left self.new).bytes) }
+        ensures calls_stay { (left self.old).calls ≤ (left self.new).calls }
+        ensures bytes_stay { (left self.old).bytes ≤ (left self.new).bytes }
         ensures still { IsStill told plan faults self.old self.new }
         ensures err { OnErr result (self.new ≡ self.old) };
 }

@@ -1,4 +1,4 @@
-ghost use Rattle.std.specs.Prelude.{◌≡◌, ◌%◌, false, slice_index, if◌then◌else◌, ◌<◌, ◌+◌, ◌^◌, ◌&&◌, nat_le, nat_lt, length, IfOk};
+ghost use Rattle.std.specs.Prelude.{◌≡◌, ◌%◌, false, slice_index, if◌then◌else◌, ℕ, ◌<◌, ◌≤◌, ◌+◌, ◌^◌, ◌&&◌, nat_le, nat_lt, length, IfOk};
 ghost use Rattle.std.specs.List.{list_any};
 ghost use Rattle.crash_disk.specs.Disk.{is_within, is_touched};
 ghost use Rattle.crash_disk.specs.Outcomes.{mix_of};
@@ -42,6 +42,19 @@ fn next_byte(bytes: &[u8], pattern: &[u8], place: usize, turn: usize, touched: b
     }
 }
 
+// The lowest place where a range begins, or the number of bytes where that is less: no place before it is
+// touched.
+fn first_touched(bytes: &[u8], ranges: &[(u64, usize)]) -> usize
+    ensures within { result ≤ length bytes.now }
+    ensures none { (place : ℕ) → place < result → is_touched bytes.now ranges.now place ≡ false }
+{
+    let mut first = bytes.len();
+    for range in ranges {
+        first = first.min(range.0 as usize);
+    }
+    first
+}
+
 // The synced bytes, so much longer, with the pattern's bytes in turn at the places that are touched.
 pub fn mix(
     alloc: Global,
@@ -55,9 +68,11 @@ pub fn mix(
     ensures { IfOk result (λ image. image.items ≡ mix_of bytes.now ranges.now pattern.now growth) }
 {
     let len = bytes.len() + growth;
-    let mut image = Vec::new(alloc);
+    let first = first_touched(bytes, ranges);
+    let mut image = Vec::with_capacity(alloc, len)?;
+    image.extend_from_slice(&bytes[..first])?;
     let mut turn = 0usize;
-    for place in 0..len {
+    for place in first..len {
         let touched = is_touched(bytes, ranges, place);
         image.push(next_byte(bytes, pattern, place, turn, touched))?;
         turn += usize::from(touched);

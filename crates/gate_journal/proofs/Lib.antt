@@ -3,3 +3,9 @@ mod Spelling
 pub mod Front
 mod Left
 pub mod Crash
+mod OpenCalls
+pub mod Rest
+mod Making
+pub mod Stopped
+pub mod Lives
+mod Appending

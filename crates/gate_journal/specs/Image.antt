@@ -56,8 +56,8 @@ abbrev pub with_first : List ℕ → Result (List (List ℕ)) ℕ → Result (Li
 with_first body (Ok records) = Ok (body ∷ records)
 with_first body (Err place) = Err place
 
--- the records from the gate at a place on, with which the bytes begin; or the place of the first gate that is missing, or
--- whose record runs past the end or is too long. There are at most so many gates.
+-- the records from the gate at a place on, with which the bytes begin; or the place of the first gate that is missing,
+-- or whose record runs past the end or is too long. There are at most so many gates.
 unfoldable pub records_from : ℕ → ℕ → List ℕ → Result (List (List ℕ)) ℕ
 records_from zero place bytes = Err place
 records_from (suc gates) place [] = Err place

@@ -19,7 +19,8 @@ abbrev pub OverContent : Option History → (List ℕ → Type 0) → Type 0
 OverContent told P = (image : List ℕ) × WhereTold told (λ before. image ≡ content before) × P image
 
 -- the calls that look at an image were made up to the first that failed
-abbrev pub LooksAt : {D T E : Type 0} → List ℕ → (D → Option History) → (D → Option FaultPlan) → Result T E → D → D → Type 0
+abbrev pub LooksAt : {D T E : Type 0} → List ℕ → (D → Option History) → (D → Option FaultPlan) → Result T E → D → D
+    → Type 0
 LooksAt image told plan result old new = MadeUntilFault told plan look_steps (length (look_steps image)) result old new
 
 -- the journal with room for a body of so many bytes, over this disk

@@ -1,15 +1,14 @@
 -- A journal on a disk, and what its opening and its appends do.
-use Rattle.std.specs.Prelude.{◌≡◌, ◌≢◌, ◌<◌, ◌≤◌, ◌⊎◌, ℕ, ◌+◌, ◌-◌, max, Bool, true, false, ◌&&◌, nat_lt, nat_le, if◌then◌else◌, List, [], ◌∷◌, ◌++◌, length, take, Option, Some, Result, Ok, Err}
+use Rattle.std.specs.Prelude.{◌≡◌, ◌≢◌, ◌<◌, ◌≤◌, ◌⊎◌, ℕ, ◌+◌, ◌-◌, max, Bool, true, false, ◌&&◌, nat_lt, nat_le, if◌then◌else◌, List, [], ◌∷◌, ◌++◌, length, Option, Some, Result, Ok, Err}
 use Rattle.crash_disk.specs.Disk.{History, content, unsynced_ranges, MayLeave, FaultPlan}
 use Rattle.crash_disk.specs.Calls.{WhereTold, passed, failed_after, stopped_after, Made}
 use Rattle.gate_journal.specs.Image.{most, spelled, Spells, kept_records}
 use Rattle.gate_journal.specs.Steps.{append_steps, open_steps}
 use Rattle.gate_journal.specs.declared.refusal.JournalRefusal.{JournalRefusal}
 use Rattle.gate_journal.specs.declared.refusal.JournalRefusal.TheVariants.{DeviceFault, NoMemory, NotJournal, RecordTooLong, Closed}
-use Rattle.gate_journal.specs.declared.refusal.Returned.{Returned}
 
--- what callers see of a journal: its disk, whether a device fault closed it, the place of the closed gate behind the records,
--- and the room for further bodies
+-- what callers see of a journal: its disk, whether a device fault closed it, the place of the closed gate behind the
+-- records, and the room for further bodies
 pub record JournalState (D : Type 0) : Type 0 where
   pub disk : D
   pub closed : Bool
@@ -25,8 +24,8 @@ Keeps records image = kept_records image ≡ Some records
 abbrev pub KeepsWithOrWithout : List (List ℕ) → List ℕ → List ℕ → Type 0
 KeepsWithOrWithout records body image = Keeps records image ⊎ Keeps (records ++ body ∷ []) image
 
--- The disk holds these records, nothing is written since the last sync that succeeded, and each image of a crash now keeps
--- the records.
+-- The disk holds these records, nothing is written since the last sync that succeeded, and each image of a crash now
+-- keeps the records.
 pub record IsSettled (history : History) (records : List (List ℕ)) : Type 0 where
   pub kept : Spells (content history) records
   pub read : Keeps records (content history)
@@ -50,7 +49,8 @@ fresh_journal disk records =
 
 -- What an opening did that was refused, by a reader of images: of its three device calls one failed; or, for want of
 -- memory, no other was made after none, two or three; or all passed, and the reader refused the image at that place.
-abbrev pub RefusesOpen : {D T : Type 0} → (List ℕ → Result T ℕ) → (D → Option History) → (D → Option FaultPlan) → D → JournalRefusal → D → Type 0
+abbrev pub RefusesOpen : {D T : Type 0} → (List ℕ → Result T ℕ) → (D → Option History) → (D → Option FaultPlan) → D
+    → JournalRefusal → D → Type 0
 RefusesOpen read told plan old DeviceFault new = (count : ℕ) × Made told plan open_steps 3 (failed_after count) old new
 RefusesOpen read told plan old NoMemory new =
     (count : ℕ) × (count ≢ 1) × Made told plan open_steps 3 (stopped_after count) old new
@@ -80,14 +80,16 @@ with_record body disk journal = record journal {
 }
 
 -- an append that went through: all its four device calls passed
-pub record Appended {D : Type 0} (told : D → Option History) (plan : D → Option FaultPlan) (body : List ℕ) (old new : JournalState D) : Type 0 where
+pub record Appended {D : Type 0} (told : D → Option History) (plan : D → Option FaultPlan) (body : List ℕ)
+    (old new : JournalState D) : Type 0 where
   pub was_open : old.closed ≡ false
   pub fits : length body ≤ most
   pub made : Made told plan (λ image. append_steps old.gate body) 4 passed old.disk new.disk
   pub journal : new ≡ with_record body new.disk old
 
 -- an append that met a device fault: it closed the journal
-pub record AppendFailed {D : Type 0} (told : D → Option History) (plan : D → Option FaultPlan) (body : List ℕ) (old new : JournalState D) : Type 0 where
+pub record AppendFailed {D : Type 0} (told : D → Option History) (plan : D → Option FaultPlan) (body : List ℕ)
+    (old new : JournalState D) : Type 0 where
   pub was_open : old.closed ≡ false
   pub fits : length body ≤ most
   pub count : ℕ
@@ -96,7 +98,8 @@ pub record AppendFailed {D : Type 0} (told : D → Option History) (plan : D →
   pub gate : new.gate ≡ old.gate
 
 -- what an append did that was answered so, and when
-abbrev pub Appends : {D : Type 0} → (D → Option History) → (D → Option FaultPlan) → List ℕ → JournalState D → Result Unit JournalRefusal → JournalState D → Type 0
+abbrev pub Appends : {D : Type 0} → (D → Option History) → (D → Option FaultPlan) → List ℕ → JournalState D
+    → Result Unit JournalRefusal → JournalState D → Type 0
 Appends told plan body old (Ok done) new = Appended told plan body old new
 Appends told plan body old (Err DeviceFault) new = AppendFailed told plan body old new
 Appends told plan body old (Err Closed) new = (old.closed ≡ true) × (new ≡ old)

@@ -1,4 +1,5 @@
--- What stopped calls leave, and what holds of a journal over every list of makings, openings, appends, faults and crashes.
+-- What stopped calls leave, and what holds of a journal over every list of makings, openings, appends, faults and
+-- crashes.
 use Rattle.std.specs.Prelude.{◌≡◌, ◌≢◌, ◌≤◌, ℕ, Bool, true, false, ◌&&◌, ◌||◌, nat_le, if◌then◌else◌, List, [], ◌∷◌, ◌++◌, length, slice_index, Some, Err, MatchBool}
 use Rattle.crash_disk.specs.Disk.{History, content, unsynced_ranges, MayLeave, LeavesOnly}
 use Rattle.crash_disk.specs.Calls.{Course, passed, with_made, after_course}
@@ -36,20 +37,21 @@ AppendsSettle = (history : History) (records : List (List ℕ)) (body : List ℕ
     → IsSettled history records → length body ≤ most
     → IsSettled (with_made 4 (append_steps (length (spelled records)) body) history) (records ++ body ∷ [])
 
--- An opening, however it went: each image of a crash at a moment since it began is one that a crash could have left before.
+-- An opening, however it went: each image of a crash at a moment since it began is one that a crash could have left
+-- before.
 abbrev pub StoppedOpenings : Type 0
 StoppedOpenings = (history : History) (course : Course)
     → LeavesOnly history (after_course course (open_steps (content history)) history) (MayLeave history)
 
--- A making, however it went: each image of a crash at a moment since it began is, where the disk held a made image, one that
--- a crash could have left before; else it is blank.
+-- A making, however it went: each image of a crash at a moment since it began is, where the disk held a made image, one
+-- that a crash could have left before; else it is blank.
 abbrev pub StoppedMakings : Type 0
 StoppedMakings = (history : History) (course : Course)
     → LeavesOnly history (after_course course (make_steps (content history)) history)
     (λ image. MatchBool (is_made (content history)) (MayLeave history image) (IsBlank image))
 
--- Once a node has some records, its journal keeps them whatever comes: each image of a crash continues them, and so does
--- what every node has later.
+-- Once a node has some records, its journal keeps them whatever comes: each image of a crash continues them, and so
+-- does what every node has later.
 abbrev pub RecordsStay : Type 0
 RecordsStay = (are : List (List ℕ) → Bool) (disk : History) (earlier later : List Event) (records : List (List ℕ))
     → MayAllCome are (shut disk) (later ++ earlier)

@@ -1,5 +1,5 @@
--- The life of a journal: what is done with it, and what befalls it. A crate above may keep records of a kind of its own,
--- which `are` tests.
+-- The life of a journal: what is done with it, and what befalls it. A crate above may keep records of a kind of its
+-- own, which `are` tests.
 use Rattle.std.specs.Prelude.{◌≡◌, ◌≤◌, ℕ, Bool, true, false, if◌then◌else◌, List, [], ◌∷◌, ◌++◌, length, Option, Some, None}
 use Rattle.std.specs.Option.{option_and_then, option_map, unwrap_or}
 use Rattle.crash_disk.specs.Disk.{History, fresh_history, content, MayLeave}
@@ -15,8 +15,8 @@ pub data Event : Type 0 where
   appends : List ℕ → Course → Event
   crashes : List ℕ → Event
 
--- what the disk tells; whether a fault closed the journal; and its records, from an opening until the node that has them is
--- gone
+-- what the disk tells; whether a fault closed the journal; and its records, from an opening until the node that has
+-- them is gone
 pub record Life : Type 0 where
   pub history : History
   pub closed : Bool
@@ -64,8 +64,8 @@ after_event are (appends body course) life = record {
 }
 after_event are (crashes image) life = shut (fresh_history image)
 
--- Which events may come: a making and an opening always; an append of a body that fits, where the journal is open, no fault
--- closed it and the records stay of the kind; and a crash, with an image that the disk model allows.
+-- Which events may come: a making and an opening always; an append of a body that fits, where the journal is open, no
+-- fault closed it and the records stay of the kind; and a crash, with an image that the disk model allows.
 abbrev pub MayCome : (List (List ℕ) → Bool) → Event → Life → Type 0
 MayCome are (makes course) life = Unit {0}
 MayCome are (opens course) life = Unit {0}

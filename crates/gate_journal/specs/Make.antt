@@ -33,9 +33,10 @@ pub record IsBlank (image : List ℕ) : Type 0 where
   pub short : length image ≤ 5
   pub none : is_made image ≡ true → Keeps [] image
 
--- What a making over an image did that was answered so, and when: all its calls passed, and the image wasn't made, or it
--- was; the first that failed ended them; or none was made.
-abbrev pub MakesOver : {D : Type 0} → List ℕ → (D → Option History) → (D → Option FaultPlan) → D → Result Unit JournalRefusal → D → Type 0
+-- What a making over an image did that was answered so, and when: all its calls passed, and the image wasn't made, or
+-- it was; the first that failed ended them; or none was made.
+abbrev pub MakesOver : {D : Type 0} → List ℕ → (D → Option History) → (D → Option FaultPlan) → D
+    → Result Unit JournalRefusal → D → Type 0
 MakesOver image told plan old (Ok done) new =
     (is_made image ≡ false) × Made told plan make_steps (length (make_steps image)) passed old new
 MakesOver image told plan old (Err (AlreadyMade count)) new =
@@ -47,6 +48,8 @@ MakesOver image told plan old (Err NoMemory) new = new ≡ old
 MakesOver image told plan old (Err why) new = ⊥
 
 -- what a making did that was answered so: over some image, the one that the disk holds where it tells its history
-abbrev pub Makes : {D : Type 0} → (D → Option History) → (D → Option FaultPlan) → D → Result Unit JournalRefusal → D → Type 0
+abbrev pub Makes : {D : Type 0} → (D → Option History) → (D → Option FaultPlan) → D → Result Unit JournalRefusal → D
+    → Type 0
 Makes told plan old result new =
-    (image : List ℕ) × WhereTold (told old) (λ before. image ≡ content before) × MakesOver image told plan old result new
+    (image : List ℕ) × WhereTold (told old)
+    (λ before. image ≡ content before) × MakesOver image told plan old result new

@@ -12,7 +12,8 @@ pub record RestsAt (gate : ℕ) (history : History) : Type 0 where
   pub place : gate ≡ length (spelled records)
 
 -- an open journal rests at its gate, and its disk and its buffer have the room that is spare
-pub record IsSound (told : Option History) (left : Room) (gate : ℕ) (closed : Bool) (bodies bytes capacity : ℕ) : Type 0 where
+pub record IsSound (told : Option History) (left : Room) (gate : ℕ) (closed : Bool)
+    (bodies bytes capacity : ℕ) : Type 0 where
   pub rests : closed ≡ false → WhereTold told (RestsAt gate)
   pub place : gate + 1 < 2 ^ 64
   pub calls : closed ≡ false → bodies * 4 ≤ left.calls

@@ -1,4 +1,4 @@
-ghost use Rattle.std.specs.Prelude.{◌≡◌, ◌<◌, ◌≤◌, ◌+◌, ◌*◌, max, ℕ, true, false, List, [], ◌∷◌, ◌++◌, length, IsOk, IfOk, IfErr, OnOk, OnErr};
+ghost use Rattle.std.specs.Prelude.{◌≡◌, ◌<◌, ◌≤◌, ◌+◌, ◌*◌, max, ℕ, true, false, List, [], ◌∷◌, ◌++◌, length, IfOk, IfErr, OnOk, OnErr};
 ghost use Rattle.std.specs.Vec.{vec_capacity};
 ghost use Rattle.plasma_base.specs.Causes.{faults_after};
 ghost use Rattle.crash_disk.specs.Disk.{content, LeavesOnly};
@@ -41,11 +41,11 @@ impl<D: Disk> Model for Journal<D> {
     ghost use Rattle.gate_journal.specs.Sound.{IsSound};
 
     ghost view = { λ j. record {
-        disk = j.disk;
-        closed = j.closed;
-        gate = j.gate;
-        spare_bodies = j.spare_bodies;
-        spare_bytes = j.spare_bytes;
+      disk = j.disk;
+      closed = j.closed;
+      gate = j.gate;
+      spare_bodies = j.spare_bodies;
+      spare_bytes = j.spare_bytes;
     } };
 
     ghost invariant = { λ j.
@@ -75,8 +75,10 @@ impl<D: Disk> Journal<D> {
     /// missing, or whose record runs past the end or is too long; 0 where the image doesn't begin with
     /// the mark. A refusal hands the disk back.
     pub fn open(alloc: Global, disk: D) -> Result<(Journal<D>, Vec<Bytes>), Returned<D>>
-        ensures records { IfOk result (λ opened. WhereTold (D.told disk) (λ before. Keeps opened.1.items (content before))) }
-        ensures settled { IfOk result (λ opened. WhereTold (D.told opened.0.disk) (λ now. IsSettled now opened.1.items)) }
+        ensures records { IfOk result (λ opened.
+            WhereTold (D.told disk) (λ before. Keeps opened.1.items (content before))) }
+        ensures settled { IfOk result (λ opened.
+            WhereTold (D.told opened.0.disk) (λ now. IsSettled now opened.1.items)) }
         ensures journal { IfOk result (λ opened. opened.0 ≡ fresh_journal opened.0.disk opened.1.items) }
         ensures made { IfOk result (λ opened. Made D.told D.plan open_steps 3 passed disk opened.0.disk) }
         ensures cause { IfOk result (λ opened. D.faults opened.0.disk ≡ D.faults disk) }
@@ -175,14 +177,21 @@ impl<D: Disk> Journal<D> {
         }
     }
 
+    // Whether there is room for a body of so many bytes.
+    fn has_spare(&self, bytes: usize) -> bool
+        ensures { result ≡ has_spare self.now bytes }
+    {
+        self.spare_bodies > 0 && bytes <= self.spare_bytes
+    }
+
     // Makes room for a body of so many bytes, where there is none.
     fn reserve_one(&mut self, bytes: usize) -> Result<(), NoMemory>
         ensures room { OnOk result (self.new ≡ with_room_for bytes self.new.disk self.old) }
-        ensures reserved { has_spare self.old bytes ≡ true → IsOk result × (self.new ≡ self.old) }
+        ensures full { OnErr result (has_spare self.old bytes ≡ false) }
         ensures still { IsStill D.told D.plan D.faults self.old.disk self.new.disk }
         ensures err { OnErr result (self.new ≡ self.old) }
     {
-        if self.spare_bodies > 0 && bytes <= self.spare_bytes {
+        if self.has_spare(bytes) {
             return Ok(());
         }
         let Some(bodies) = self.spare_bodies.checked_add(1) else {

@@ -31,7 +31,8 @@ pub fn read_image<D: Disk>(alloc: Global, disk: &mut D) -> Result<Vec<u8>, Journ
 // Reads the records of a disk, up to the first device call that fails or to want of memory.
 pub fn load<D: Disk>(alloc: Global, disk: &mut D) -> Result<Found, JournalRefusal>
     ensures made { IfOk result (λ found. Made D.told D.plan open_steps 3 passed disk.old disk.new) }
-    ensures records { IfOk result (λ found. WhereTold (D.told disk.old) (λ before. Keeps found.records.items (content before))) }
+    ensures records { IfOk result (λ found.
+        WhereTold (D.told disk.old) (λ before. Keeps found.records.items (content before))) }
     ensures settled { IfOk result (λ found. WhereTold (D.told disk.new) (λ now. IsSettled now found.records.items)) }
     ensures gate { IfOk result (λ found. found.gate ≡ length (spelled found.records.items)) }
     ensures place { IfOk result (λ found. found.gate + 1 < 2 ^ 64) }

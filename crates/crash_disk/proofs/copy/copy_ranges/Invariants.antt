@@ -6,5 +6,6 @@ use Rattle.crash_disk.proofs.copy.copy_ranges.Given as goal
 abbrev pub invariant-loop-range : goal.invariant-loop-range
 invariant-loop-range l = record {
   same : length l.to ≡ length l.from;
-  others : (place : ℕ) → place < length l.from → list_any (is_within place) (drop l.range-index l.ranges) ≡ false → get_or l.from place 0 ≡ get_or l.to place 0;
+  others : (place : ℕ) → place < length l.from → list_any (is_within place) (drop l.range-index l.ranges) ≡ false
+      → get_or l.from place 0 ≡ get_or l.to place 0;
 }

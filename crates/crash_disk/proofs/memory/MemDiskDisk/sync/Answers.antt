@@ -1,4 +1,4 @@
-use Rattle.std.proofs.Common.{◌≡◌, ◌≤◌, ℕ, true, false, length, slice_index, sym, ◌∙◌, ap, arith, List}
+use Rattle.std.proofs.Common.{◌≡◌, ◌≤◌, ℕ, true, length, slice_index, sym, ◌∙◌, ap, arith, List}
 use Rattle.crash_disk.specs.Disk.{History, is_touched}
 use Rattle.crash_disk.specs.Memory.{MemState}
 use Rattle.crash_disk.specs.Inside.{began_of, IsWhole}
@@ -16,7 +16,14 @@ bring_up_to_date-requires-clause-longer c =
     let disk = c.self.inside in
     let w = c.self.invariant in
     let copy = copied disk _ w (ap (λ (s : MemState). s.room.calls) c.self.view_is) c.requires.calls in
-    omega (arith, disk.synced.ok, ap length (w.synced copy), ap length c.deref.ensures.value, ap length w.holds, synced_no_longer (began_of disk) disk.log.calls)
+    omega (
+      arith,
+      disk.synced.ok,
+      ap length (w.synced copy),
+      ap length c.deref.ensures.value,
+      ap length w.holds,
+      synced_no_longer (began_of disk) disk.log.calls,
+    )
 
 pub bring_up_to_date-requires-clause-others : goal.bring_up_to_date-requires-clause-others
 bring_up_to_date-requires-clause-others c = λ place out.
