@@ -9,7 +9,7 @@ use Rattle.gate_journal.specs.Steps.{append_steps}
 use Rattle.gate_journal.specs.Journal.{JournalState, Keeps, KeepsWithOrWithout, IsSettled, with_record, Appended, AppendFailed, Appends, is_device_fault}
 use Rattle.gate_journal.specs.declared.refusal.JournalRefusal.{JournalRefusal}
 use Rattle.gate_journal.specs.declared.refusal.JournalRefusal.TheVariants.{AlreadyMade, NotJournal, RecordTooLong, DeviceFault, Closed, NoMemory}
-use Rattle.gate_journal.proofs.Spelling.{length-spelled-push}
+use Rattle.node_journal.proofs.Spelling.{length-spelled-push}
 use Rattle.node_journal.specs.Role.{Kinds, are_of, may_follow}
 use Rattle.node_journal.specs.Notes.{NotesState, note_steps, KeepsAtAnyMoment, Added, AddFailed, Did}
 use Rattle.node_journal.specs.Inside.{IsSound, stop_of}

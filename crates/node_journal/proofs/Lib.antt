@@ -1,5 +1,6 @@
 mod Roles
 mod Openings
+mod Spelling
 mod Adding
 mod Courses
 mod Untaken

@@ -1,17 +1,18 @@
 -- Images that can be begun, and what a making leaves of them.
-use Rattle.std.proofs.Common.{◌≡◌, ◌≢◌, ◌≤◌, ◌||◌, ℕ, Bool, true, false, cond, eqb, ltb, List, [], ◌∷◌, ◌++◌, length, Option, Some, None, is_some, refl, sym, ◌∙◌, ap, arith}
-use Rattle.std.proofs.lemmas.Bool.{cases_lt, lt-ltb}
+use Rattle.std.proofs.Common.{◌≡◌, ◌≢◌, ◌≤◌, ◌||◌, ℕ, Bool, true, false, cond, eqb, ltb, List, [], ◌∷◌, ◌++◌, length, Option, Some, None, is_some, MatchBool, refl, sym, ◌∙◌, ap, subst, arith}
+use Rattle.std.proofs.lemmas.List.{drop_all}
 use Rattle.std.proofs.lemmas.Bool.Decides.{nat_tests}
-use Rattle.std.specs.Option.{option_map, unwrap_or}
 use Rattle.std.specs.Result.{result_ok}
-use Rattle.crash_disk.specs.Disk.{Step, History, content, asks_length, reads, writes, syncs}
-use Rattle.crash_disk.specs.Calls.{passed, with_made, after_course}
+use Rattle.crash_disk.specs.Disk.{Step, History, fresh_history, content, MayLeave, with_write, asks_length, reads, writes, syncs}
+use Rattle.crash_disk.proofs.Left.{content_may_be_left}
+use Rattle.crash_disk.specs.Calls.{passed, stopped_after, with_made, after_course}
 use Rattle.node_journal.proofs.Courses.{after_both}
 use Rattle.gate_journal.specs.Image.{kept_records, records_from}
 use Rattle.gate_journal.specs.Journal.{Keeps}
 use Rattle.gate_journal.specs.Make.{empty, is_made, look_steps, make_steps, IsBlank}
 use Rattle.gate_journal.proofs.Read.{records_from-end}
-use Rattle.gate_journal.proofs.Making.{not_made, short_blank, empty_written, make_steps-made, make_steps-new}
+use Rattle.gate_journal.proofs.Rest.{leaves_now}
+use Rattle.gate_journal.proofs.Stopped.{stopped_makings}
 use Rattle.node_journal.specs.Begin.{has_content, is_taken, image_made}
 
 -- the empty journal spells no record
@@ -40,8 +41,16 @@ blank_untaken image blank = at (kept_records image) refl
     at None is = ap (has_content (length image)) is ∙ not_less (length image) blank.short
     at (Some records) is = empty_untaken image (blank.none (some_made image records is))
 
+-- an image that isn't made is blank: it is left where a making of it made no call
+unmade_blank : (image : List ℕ) → is_made image ≡ false → IsBlank image
+unmade_blank image new =
+    let disk = fresh_history image in
+    let left = leaves_now disk (stopped_after 0) (make_steps image) (λ b. MatchBool (is_made image) (MayLeave disk b) (IsBlank b))
+    (stopped_makings disk (stopped_after 0)) image (content_may_be_left disk) in
+    subst (λ (b : Bool). MatchBool b (MayLeave disk image) (IsBlank image)) new left
+
 pub unmade_untaken : (image : List ℕ) → is_made image ≡ false → is_taken image ≡ false
-unmade_untaken image is = blank_untaken image (short_blank image (not_made image is))
+unmade_untaken image is = blank_untaken image (unmade_blank image is)
 
 -- what was made of an image keeps no record exactly where the image isn't taken
 pub kept_untaken : (image : List ℕ) → Keeps [] (image_made image) → is_taken image ≡ false
@@ -84,6 +93,10 @@ look_holds image history =
     elim (eqb (length image) 5) as (λ b. let steps : List Step = asks_length ∷ cond b (reads 0 5 ∷ []) [] in
     content (with_made (length steps) steps history) ≡ content history) [ true ↦ refl | false ↦ refl ]
 
+-- five bytes over at most five are all
+empty_written : (old : List ℕ) → length old ≤ 5 → with_write old 0 empty ≡ empty
+empty_written old le = ap (λ (l : List ℕ). empty ++ l) (drop_all 5 old le)
+
 -- what the disk holds after a making
 pub making_holds : (history : History) → content (after_course passed (make_steps (content history)) history) ≡ image_made (content history)
 making_holds history = at (is_made (content history)) refl
@@ -91,12 +104,15 @@ making_holds history = at (is_made (content history)) refl
     c : List ℕ
     c = content history
 
+    steps : (b : Bool) → is_made c ≡ b → make_steps c ≡ cond b (look_steps c) (look_steps c ++ writes 0 empty ∷ syncs ∷ [])
+    steps b is = ap (λ (made : Bool). cond made (look_steps c) (look_steps c ++ writes 0 empty ∷ syncs ∷ [])) is
+
     at : (b : Bool) → is_made c ≡ b → content (after_course passed (make_steps c) history) ≡ image_made c
-    at true is = ap (λ (s : List Step). content (after_course passed s history)) (make_steps-made c is) ∙ look_holds c history ∙ ap (λ (b : Bool). cond b c empty) (sym is)
+    at true is = ap (λ (s : List Step). content (after_course passed s history)) (steps true is) ∙ look_holds c history ∙ ap (λ (b : Bool). cond b c empty) (sym is)
     at false is =
         let looked = with_made (length (look_steps c)) (look_steps c) history in
         let after = after_both (look_steps c) (writes 0 empty ∷ syncs ∷ []) history in
-        ap (λ (s : List Step). content (after_course passed s history)) (make_steps-new c is)
+        ap (λ (s : List Step). content (after_course passed s history)) (steps false is)
         ∙ ap content after
-        ∙ empty_written (content looked) (omega (arith, ap length (look_holds c history), not_made c is))
+        ∙ empty_written (content looked) (omega (arith, ap length (look_holds c history), (unmade_blank c is).short))
         ∙ ap (λ (b : Bool). cond b c empty) (sym is)
