@@ -100,9 +100,12 @@ module _ {D : Type 0} (told : D → Option History) (plan : D → Option FaultPl
           → InitsOver image (init_steps identity) told plan old (Err why) new
       not_begun (InitMade count) new refused =
           let all : journal_steps image ≡ init_steps identity image =
-          sym (ap (λ (b : Bool). journal_steps image ++ cond b [] (append_steps 4 identity)) refused.0 ∙ append-nil (journal_steps image)) in
-          (refused.0, refused.1, over (init_steps identity)
-          (subst (λ (s : List Step). Made told plan (λ any. s) (length s) passed old new) all (there journal_steps refused.2)))
+          sym (ap (λ (b : Bool). journal_steps image ++ cond b [] (append_steps 4 identity)) refused.0 ∙ append-nil (journal_steps image)) in (
+            refused.0,
+            refused.1,
+            over (init_steps identity)
+                (subst (λ (s : List Step). Made told plan (λ any. s) (length s) passed old new) all (there journal_steps refused.2)),
+          )
       not_begun InitFault new refused = (refused.0, over (init_steps identity) (made_within told plan (journal_steps image) back refused.0 (there journal_steps refused.1)))
       not_begun InitNoMemory new refused = (refused.0, over (init_steps identity) (stopped_within (journal_steps image) back refused.0 (there journal_steps refused.1)))
 
@@ -125,10 +128,11 @@ module _ {D : Type 0} (told : D → Option History) (plan : D → Option FaultPl
         pub not_appended : (why : JournalRefusal) (now : JournalState D) → length identity ≤ most → Appends told plan identity journal (Err why) now
             → InitsOver image (init_steps identity) told plan old (Err (init_refusal_of why)) now.disk
         not_appended DeviceFault now fits failed = (length (journal_steps image) + failed.count, more (failed_after failed.count) failed.made)
-        not_appended NoMemory now fits same =
-            (length (journal_steps image) + 0,
-            subst (λ (j : JournalState D). Made told plan (init_steps identity) (length (init_steps identity image)) (stopped_after (length (journal_steps image) + 0)) old j.disk) (sym same.3)
-            (more (stopped_after 0) (made_stop told plan (append_steps journal.gate identity) 4 journal.disk)))
+        not_appended NoMemory now fits same = (
+          length (journal_steps image) + 0,
+          subst (λ (j : JournalState D). Made told plan (init_steps identity) (length (init_steps identity image)) (stopped_after (length (journal_steps image) + 0)) old j.disk) (sym same.3)
+              (more (stopped_after 0) (made_stop told plan (append_steps journal.gate identity) 4 journal.disk)),
+        )
         not_appended Closed now fits same = absurd (cc (ap (λ (j : JournalState D). j.closed) is_fresh, same.0))
         not_appended (RecordTooLong n) now fits same = absurd (omega (arith, fits, same.1))
         not_appended (AlreadyMade n) now fits none = absurd none

@@ -55,8 +55,11 @@ module _ (front back : List Step) (history : History) where
     | inr more ↦
         let rest : ℕ = count - length front in
         let is : count ≡ length front + rest = omega arith in
-        inr (stopped_after rest, over _ _ (
-        ap (λ (n : ℕ). made_of n (take n (front ++ back)) history.calls) is
-        ∙ ap (λ (steps : List Step). made_of (length front + rest) steps history.calls) (take-append_all front back rest)
-        ∙ made_of-all front (take rest back) rest history.calls))
+        inr (
+          stopped_after rest,
+          over _ _ (
+              ap (λ (n : ℕ). made_of n (take n (front ++ back)) history.calls) is
+              ∙ ap (λ (steps : List Step). made_of (length front + rest) steps history.calls) (take-append_all front back rest)
+              ∙ made_of-all front (take rest back) rest history.calls),
+        )
   ]

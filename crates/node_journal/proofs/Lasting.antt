@@ -27,8 +27,13 @@ few_appended identity false = omega arith
 pub inits_make_few_calls : InitsMakeFewCalls
 inits_make_few_calls identity image =
     let back = cond (is_taken image) [] (append_steps 4 identity) in
-    omega (arith, length-append (journal_steps image) back, length-append (make_steps image) (open_steps (image_made image)),
-    few_made (is_made image) (eqb (length image) 5), few_appended identity (is_taken image))
+    omega (
+      arith,
+      length-append (journal_steps image) back,
+      length-append (make_steps image) (open_steps (image_made image)),
+      few_made (is_made image) (eqb (length image) 5),
+      few_appended identity (is_taken image),
+    )
 
 -- the disk after a making that wasn't stopped, and after the opening behind it
 abbrev made : History → History

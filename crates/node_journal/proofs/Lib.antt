@@ -1,4 +1,4 @@
-mod Roles
+pub mod Roles
 mod Openings
 mod Spelling
 mod Adding

@@ -10,11 +10,19 @@ length-spelled_records-push : (records : List (List ℕ)) (body : List ℕ)
     → length (spelled_records (records ++ body ∷ [])) ≡ length (spelled_records records) + (5 + length body)
 length-spelled_records-push [] body = omega (arith, length-append (spelled_record body) [], length-spelled_record body)
 length-spelled_records-push (first ∷ records) body =
-    omega (arith, length-append (spelled_record first) (spelled_records (records ++ body ∷ [])),
-    length-append (spelled_record first) (spelled_records records), length-spelled_records-push records body)
+    omega (
+      arith,
+      length-append (spelled_record first) (spelled_records (records ++ body ∷ [])),
+      length-append (spelled_record first) (spelled_records records),
+      length-spelled_records-push records body,
+    )
 
 pub length-spelled-push : (records : List (List ℕ)) (body : List ℕ)
     → length (spelled (records ++ body ∷ [])) ≡ length (spelled records) + (5 + length body)
 length-spelled-push records body =
-    omega (arith, length-append mark (spelled_records (records ++ body ∷ [])), length-append mark (spelled_records records),
-    length-spelled_records-push records body)
+    omega (
+      arith,
+      length-append mark (spelled_records (records ++ body ∷ [])),
+      length-append mark (spelled_records records),
+      length-spelled_records-push records body,
+    )
