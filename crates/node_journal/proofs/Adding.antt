@@ -25,26 +25,35 @@ AnyMoment told body old new = old.closed ≡ false → WhereTold (told old.disk)
     (records : List (List ℕ)) → Keeps records (content before)
     → WhereTold (told new.disk) (λ now. LeavesOnly before now (KeepsWithOrWithout records body)))
 
-module _ {D : Type 0} (kinds : Kinds) (told : D → Option History) (plan : D → Option FaultPlan) (faults : D → ℕ) (body : List ℕ) (old new : JournalState D) (records : List (List ℕ)) (sound : IsSound kinds (told old.disk) old.closed old.gate records) (any : AnyMoment told body old new) where
+module _ {D : Type 0} (kinds : Kinds) (told : D → Option History) (plan : D → Option FaultPlan) (faults : D → ℕ)
+    (body : List ℕ) (old new : JournalState D) (records : List (List ℕ))
+    (sound : IsSound kinds (told old.disk) old.closed old.gate records) (any : AnyMoment told body old new) where
   -- the same calls, at the place behind the records
-  behind : (course : Course) → Made told plan (λ image. append_steps old.gate body) 4 course old.disk new.disk → Made told plan (note_steps records body) 4 course old.disk new.disk
-  behind course made = subst (λ (g : ℕ). Made told plan (λ image. append_steps g body) 4 course old.disk new.disk) sound.place made
+  behind : (course : Course) → Made told plan (λ image. append_steps old.gate body) 4 course old.disk new.disk
+      → Made told plan (note_steps records body) 4 course old.disk new.disk
+  behind course made = subst (λ (g : ℕ). Made told plan
+      (λ image. append_steps g body) 4 course old.disk new.disk) sound.place made
 
   moments : old.closed ≡ false → KeepsAtAnyMoment records body (told old.disk) (told new.disk)
   moments was_open before is = any was_open before is records (sound.settled was_open before is).read
 
   -- one that went through
-  module _ (appended : Appended told plan body old new) (kept : WhereTold (told old.disk) (λ before. (keeps : List (List ℕ)) → Keeps keeps (content before)
-      → WhereTold (told new.disk) (λ now. IsSettled now (keeps ++ body ∷ [])))) (more : List (List ℕ)) (same : more ≡ records ++ body ∷ []) where
+  module _ (appended : Appended told plan body old new)
+      (kept : WhereTold (told old.disk) (λ before. (keeps : List (List ℕ)) → Keeps keeps (content before)
+      → WhereTold (told new.disk) (λ now. IsSettled now (keeps ++ body ∷ [])))) (more : List (List ℕ))
+      (same : more ≡ records ++ body ∷ []) where
     settled_now : WhereTold (told new.disk) (λ now. IsSettled now more)
     settled_now = at (told old.disk) refl
       where
         at : (t : Option History) → told old.disk ≡ t → WhereTold (told new.disk) (λ now. IsSettled now more)
-        at None is = λ now some. (let none : told new.disk ≡ None = appended.made.calls ∙ ap (option_map _) is in absurd (cc (none, some)))
+        at None is = λ now some. (let none : told new.disk ≡ None = appended.made.calls ∙ ap (option_map _) is in
+            absurd (cc (none, some)))
         at (Some before) is = λ now some.
-            subst (IsSettled now) (sym same) (kept before is records (sound.settled appended.was_open before is).read now some)
+            subst (IsSettled now) (sym same)
+            (kept before is records (sound.settled appended.was_open before is).read now some)
 
-    pub went : faults new.disk ≡ faults old.disk → Added told plan faults body (notes_over old records) (notes_over new more)
+    pub went : faults new.disk ≡ faults old.disk
+        → Added told plan faults body (notes_over old records) (notes_over new more)
     went count = record {
       was_open = appended.was_open;
       fits = appended.fits;
@@ -67,7 +76,8 @@ module _ {D : Type 0} (kinds : Kinds) (told : D → Option History) (plan : D �
 
   -- one that was stopped
   pub stopped : (why : JournalRefusal) → old.closed ≡ false → length body ≤ most
-      → Appends told plan body old (Err why) new → faults new.disk ≡ faults_after (faults old.disk) (is_device_fault why)
+      → Appends told plan body old (Err why) new
+      → faults new.disk ≡ faults_after (faults old.disk) (is_device_fault why)
       → Did told plan faults (Some body) (notes_over old records) (Some (stop_of why)) (notes_over new records)
   stopped DeviceFault was_open fits failed count = record {
     was_open = failed.was_open;
@@ -86,9 +96,17 @@ module _ {D : Type 0} (kinds : Kinds) (told : D → Option History) (plan : D �
   stopped (NotJournal place) was_open fits none count = absurd none
 
   -- the notes stay sound where the journal's disk and gate do
-  pub sound_after : (why : JournalRefusal) → old.closed ≡ false → length body ≤ most → Appends told plan body old (Err why) new → IsSound kinds (told new.disk) new.closed new.gate records
-  sound_after DeviceFault was_open fits failed = record { role = sound.role; place = failed.gate ∙ sound.place; settled = λ open'. absurd (cc (failed.is_closed, open')) }
-  sound_after NoMemory was_open fits same = subst (λ (j : JournalState D). IsSound kinds (told j.disk) j.closed j.gate records) (sym same.3) sound
+  pub sound_after : (why : JournalRefusal) → old.closed ≡ false → length body ≤ most
+      → Appends told plan body old (Err why) new → IsSound kinds (told new.disk) new.closed new.gate records
+  sound_after DeviceFault was_open fits failed =
+      record {
+        role = sound.role;
+        place = failed.gate
+            ∙ sound.place;
+        settled = λ open'. absurd (cc (failed.is_closed, open'));
+      }
+  sound_after NoMemory was_open fits same = subst
+      (λ (j : JournalState D). IsSound kinds (told j.disk) j.closed j.gate records) (sym same.3) sound
   sound_after Closed was_open fits same = absurd (cc (was_open, same.0))
   sound_after (RecordTooLong n) was_open fits same = absurd (omega (arith, fits, same.1))
   sound_after (AlreadyMade n) was_open fits none = absurd none

@@ -41,20 +41,35 @@ module _ {D : Type 0} (told : D → Option History) (plan : D → Option FaultPl
     here : WhereTold (told old) (λ history. image ≡ content history)
     here history some = (let same : before ≡ history = cc (is, some) in ap content same)
 
-    over : (steps : List ℕ → List Step) {course : Course} {new : D} → Made told plan (λ any. steps image) (length (steps image)) course old new → Made told plan steps (length (steps image)) course old new
+    over : (steps : List ℕ → List Step) {course : Course} {new : D}
+        → Made told plan (λ any. steps image) (length (steps image)) course old new
+        → Made told plan steps (length (steps image)) course old new
     over steps made = made_over told plan steps image here made
 
-    there : (steps : List ℕ → List Step) {course : Course} {new : D} → Made told plan steps (length (steps image)) course old new → Made told plan (λ any. steps image) (length (steps image)) course old new
+    there : (steps : List ℕ → List Step) {course : Course} {new : D}
+        → Made told plan steps (length (steps image)) course old new
+        → Made told plan (λ any. steps image) (length (steps image)) course old new
     there steps made = made_there told plan steps image here made
 
     -- a making that was stopped
-    pub unmade : (why : InitRefusal) (new : D) → FindsOver image told plan old (Err why) new → InitsOver image journal_steps told plan old (Err why) new
-    unmade InitFault new made = (made.0, over journal_steps (made_within told plan (make_steps image) (open_steps (image_made image)) made.0 (there make_steps made.1)))
-    unmade InitNoMemory new same = (0, subst (λ (disk : D). Made told plan journal_steps (length (journal_steps image)) (stopped_after 0) old disk) (sym same) (over journal_steps (made_stop told plan (journal_steps image) (length (journal_steps image)) old)))
+    pub unmade : (why : InitRefusal) (new : D) → FindsOver told plan image old (Err why) new
+        → InitsOver told plan journal_steps image old (Err why) new
+    unmade InitFault new made = (
+      made.0,
+      over journal_steps
+          (made_within told plan (make_steps image) (open_steps (image_made image)) made.0 (there make_steps made.1)),
+    )
+    unmade InitNoMemory new same = (
+      0,
+      subst
+          (λ (disk : D). Made told plan journal_steps (length (journal_steps image)) (stopped_after 0) old disk)
+          (sym same)
+          (over journal_steps (made_stop told plan (journal_steps image) (length (journal_steps image)) old)),
+    )
     unmade (InitMade count) new none = absurd none
 
     -- an opening after a making
-    module _ (found : ℕ) {mid : D} (finds : FindsOver image told plan old (Ok found) mid) where
+    module _ (found : ℕ) {mid : D} (finds : FindsOver told plan image old (Ok found) mid) where
       now_told : told mid ≡ Some (after_course passed (make_steps image) before)
       now_told = finds.1.calls ∙ ap (option_map (λ (h : History). after_course passed (make_steps (content h)) h)) is
 
@@ -64,29 +79,36 @@ module _ {D : Type 0} (told : D → Option History) (plan : D → Option FaultPl
           sym (making_holds before) ∙ ap content same
 
       opened : (course : Course) {new : D} → Made told plan open_steps 3 course mid new
-          → Made told plan journal_steps (length (journal_steps image)) (later (length (make_steps image)) course) old new
+          → Made told plan journal_steps (length (journal_steps image))
+          (later (length (make_steps image)) course) old new
       opened course made =
           over journal_steps
           (made_after told plan (make_steps image) (open_steps (image_made image)) course (there make_steps finds.1)
           (made_there told plan open_steps (image_made image) now_holds made))
 
-      pub empty_opened : {new : D} → WhereTold (told mid) (λ history. Keeps [] (content history)) → Made told plan open_steps 3 passed mid new
-          → InitsOver image journal_steps told plan old (Ok tt) new
+      pub empty_opened : {new : D} → WhereTold (told mid) (λ history. Keeps [] (content history))
+          → Made told plan open_steps 3 passed mid new
+          → InitsOver told plan journal_steps image old (Ok tt) new
       empty_opened keeps made =
-          let now = after_course passed (make_steps image) before in
-          (kept_untaken image (subst (Keeps []) (sym (now_holds now now_told)) (keeps now now_told)), opened passed made)
+          let now = after_course passed (make_steps image) before in (
+            kept_untaken image (subst (Keeps []) (sym (now_holds now now_told))
+                (keeps now now_told)),
+            opened passed made,
+          )
 
       pub not_opened : (why : InitRefusal) (new : D)
-          → WhereTold (told mid) (λ history. RefusesEmptyOver (content history) found told plan mid why new)
-          → InitsOver image journal_steps told plan old (Err why) new
+          → WhereTold (told mid) (λ history. RefusesEmptyOver told plan (content history) found mid why new)
+          → InitsOver told plan journal_steps image old (Err why) new
       not_opened why new refuses = at why (refuses now now_told)
         where
           now : History
           now = after_course passed (make_steps image) before
 
-          at : (why : InitRefusal) → RefusesEmptyOver (content now) found told plan mid why new → InitsOver image journal_steps told plan old (Err why) new
+          at : (why : InitRefusal) → RefusesEmptyOver told plan (content now) found mid why new
+              → InitsOver told plan journal_steps image old (Err why) new
           at (InitMade answered) refused =
-              let taken = other_taken image (λ some. refused.1 (ap kept_records (sym (now_holds now now_told)) ∙ some)) in
+              let taken = other_taken image (λ some. refused.1
+              (ap kept_records (sym (now_holds now now_told)) ∙ some)) in
               (taken.0, refused.0 ∙ finds.0 taken.1, opened passed refused.2)
           at InitFault refused = (length (make_steps image) + refused.0, opened (failed_after refused.0) refused.1)
           at InitNoMemory refused = (length (make_steps image) + refused.0, opened (stopped_after refused.0) refused.1)
@@ -96,41 +118,61 @@ module _ {D : Type 0} (told : D → Option History) (plan : D → Option FaultPl
       abbrev back : List Step
       back = cond (is_taken image) [] (append_steps 4 identity)
 
-      pub not_begun : (why : InitRefusal) (new : D) → InitsOver image journal_steps told plan old (Err why) new
-          → InitsOver image (init_steps identity) told plan old (Err why) new
+      pub not_begun : (why : InitRefusal) (new : D) → InitsOver told plan journal_steps image old (Err why) new
+          → InitsOver told plan (init_steps identity) image old (Err why) new
       not_begun (InitMade count) new refused =
           let all : journal_steps image ≡ init_steps identity image =
-          sym (ap (λ (b : Bool). journal_steps image ++ cond b [] (append_steps 4 identity)) refused.0 ∙ append-nil (journal_steps image)) in (
+          sym (ap (λ (b : Bool). journal_steps image ++ cond b [] (append_steps 4 identity)) refused.0
+          ∙ append-nil (journal_steps image)) in (
             refused.0,
             refused.1,
             over (init_steps identity)
-                (subst (λ (s : List Step). Made told plan (λ any. s) (length s) passed old new) all (there journal_steps refused.2)),
+                (subst (λ (s : List Step). Made told plan (λ any. s) (length s) passed old new) all
+                (there journal_steps refused.2)),
           )
-      not_begun InitFault new refused = (refused.0, over (init_steps identity) (made_within told plan (journal_steps image) back refused.0 (there journal_steps refused.1)))
-      not_begun InitNoMemory new refused = (refused.0, over (init_steps identity) (stopped_within (journal_steps image) back refused.0 (there journal_steps refused.1)))
+      not_begun InitFault new refused = (
+        refused.0,
+        over (init_steps identity)
+            (made_within told plan (journal_steps image) back refused.0 (there journal_steps refused.1)),
+      )
+      not_begun InitNoMemory new refused = (
+        refused.0,
+        over (init_steps identity)
+            (stopped_within (journal_steps image) back refused.0 (there journal_steps refused.1)),
+      )
 
       -- an append of the identity to a journal that was
-      module _ (journal : JournalState D) (is_fresh : journal ≡ fresh_journal journal.disk []) (begins : InitsOver image journal_steps told plan old (Ok tt) journal.disk) where
-        more : (course : Course) {new : D} → Made told plan (λ any. append_steps journal.gate identity) 4 course journal.disk new
-            → Made told plan (init_steps identity) (length (init_steps identity image)) (later (length (journal_steps image)) course) old new
+      module _ (journal : JournalState D) (is_fresh : journal ≡ fresh_journal journal.disk [])
+          (begins : InitsOver told plan journal_steps image old (Ok tt) journal.disk) where
+        more : (course : Course) {new : D}
+            → Made told plan (λ any. append_steps journal.gate identity) 4 course journal.disk new
+            → Made told plan (init_steps identity) (length (init_steps identity image))
+            (later (length (journal_steps image)) course) old new
         more course {new = new} made =
             let gate : journal.gate ≡ 4 = ap (λ (j : JournalState D). j.gate) is_fresh in
             let all : init_steps identity image ≡ journal_steps image ++ append_steps 4 identity =
             ap (λ (b : Bool). journal_steps image ++ cond b [] (append_steps 4 identity)) begins.0 in
-            let at_gate = subst (λ (g : ℕ). Made told plan (λ any. append_steps g identity) 4 course journal.disk new) gate made in
+            let at_gate = subst (λ (g : ℕ). Made told plan
+            (λ any. append_steps g identity) 4 course journal.disk new) gate made in
             over (init_steps identity)
-            (subst (λ (s : List Step). Made told plan (λ any. s) (length s) (later (length (journal_steps image)) course) old new) (sym all)
-            (made_after told plan (journal_steps image) (append_steps 4 identity) course (there journal_steps begins.1) at_gate))
+            (subst (λ (s : List Step). Made told plan (λ any. s) (length s)
+            (later (length (journal_steps image)) course) old new) (sym all)
+            (made_after told plan (journal_steps image) (append_steps 4 identity) course
+            (there journal_steps begins.1) at_gate))
 
-        pub appended : (now : JournalState D) → Appends told plan identity journal (Ok tt) now → InitsOver image (init_steps identity) told plan old (Ok tt) now.disk
+        pub appended : (now : JournalState D) → Appends told plan identity journal (Ok tt) now
+            → InitsOver told plan (init_steps identity) image old (Ok tt) now.disk
         appended now done = (begins.0, more passed done.made)
 
-        pub not_appended : (why : JournalRefusal) (now : JournalState D) → length identity ≤ most → Appends told plan identity journal (Err why) now
-            → InitsOver image (init_steps identity) told plan old (Err (init_refusal_of why)) now.disk
-        not_appended DeviceFault now fits failed = (length (journal_steps image) + failed.count, more (failed_after failed.count) failed.made)
+        pub not_appended : (why : JournalRefusal) (now : JournalState D) → length identity ≤ most
+            → Appends told plan identity journal (Err why) now
+            → InitsOver told plan (init_steps identity) image old (Err (init_refusal_of why)) now.disk
+        not_appended DeviceFault now fits failed =
+            (length (journal_steps image) + failed.count, more (failed_after failed.count) failed.made)
         not_appended NoMemory now fits same = (
           length (journal_steps image) + 0,
-          subst (λ (j : JournalState D). Made told plan (init_steps identity) (length (init_steps identity image)) (stopped_after (length (journal_steps image) + 0)) old j.disk) (sym same.3)
+          subst (λ (j : JournalState D). Made told plan (init_steps identity) (length (init_steps identity image))
+              (stopped_after (length (journal_steps image) + 0)) old j.disk) (sym same.3)
               (more (stopped_after 0) (made_stop told plan (append_steps journal.gate identity) 4 journal.disk)),
         )
         not_appended Closed now fits same = absurd (cc (ap (λ (j : JournalState D). j.closed) is_fresh, same.0))
@@ -140,13 +182,17 @@ module _ {D : Type 0} (told : D → Option History) (plan : D → Option FaultPl
 
 module _ {D : Type 0} (told : D → Option History) (plan : D → Option FaultPlan) (faults : D → ℕ) {old mid : D} where
   -- no journal was made
-  pub refuses_making : (why : InitRefusal) → WhereTold (told old) (λ before. FindsOver (content before) told plan old (Err why) mid)
+  pub refuses_making : (why : InitRefusal)
+      → WhereTold (told old) (λ before. FindsOver told plan (content before) old (Err why) mid)
       → faults mid ≡ faults_after (faults old) (is_fault_refusal why) → RefusesEmpty told plan faults old why mid
-  refuses_making why finds count = record { inits = λ before is. unmade told plan before is why mid (finds before is); count = count }
+  refuses_making why finds count =
+      record { inits = λ before is. unmade told plan before is why mid (finds before is); count = count }
 
-  module _ (found : ℕ) (finds : WhereTold (told old) (λ before. FindsOver (content before) told plan old (Ok found) mid)) (count : faults mid ≡ faults old) where
+  module _ (found : ℕ) (finds : WhereTold (told old)
+      (λ before. FindsOver told plan (content before) old (Ok found) mid)) (count : faults mid ≡ faults old) where
     -- one was opened
-    pub begins_empty : (result : Result (JournalState D) (NotBegun D)) → IfOk result (OpensEmpty told plan faults mid) → IfOk result (BeginsEmpty told plan faults old)
+    pub begins_empty : (result : Result (JournalState D) (NotBegun D)) → IfOk result (OpensEmpty told plan faults mid)
+        → IfOk result (BeginsEmpty told plan faults old)
     begins_empty (Ok journal) opens = record {
       inits = λ before is. empty_opened told plan before is found (finds before is) opens.kept opens.made;
       count = opens.count ∙ count;
@@ -157,7 +203,8 @@ module _ {D : Type 0} (told : D → Option History) (plan : D → Option FaultPl
 
     -- or not
     pub refuses_empty : (result : Result (JournalState D) (NotBegun D))
-        → IfErr result (λ refused. WhereTold (told mid) (λ before. RefusesEmptyOver (content before) found told plan mid refused.why refused.disk))
+        → IfErr result (λ refused. WhereTold (told mid)
+        (λ before. RefusesEmptyOver told plan (content before) found mid refused.why refused.disk))
         → IfErr result (λ refused. faults refused.disk ≡ faults_after (faults mid) (is_fault_refusal refused.why))
         → IfErr result (λ refused. RefusesEmpty told plan faults old refused.why refused.disk)
     refuses_empty (Ok journal) refuses cause = refuses
@@ -167,13 +214,16 @@ module _ {D : Type 0} (told : D → Option History) (plan : D → Option FaultPl
     }
 
 -- what the disk holds once the identity is appended to an empty journal
-pub begun : {D : Type 0} (told : D → Option History) (plan : D → Option FaultPlan) (journal now : JournalState D) (identity : List ℕ) → WhereTold (told journal.disk) (λ history. IsSettled history [])
+pub begun : {D : Type 0} (told : D → Option History) (plan : D → Option FaultPlan) (journal now : JournalState D)
+    (identity : List ℕ) → WhereTold (told journal.disk) (λ history. IsSettled history [])
     → Appended told plan identity journal now
     → WhereTold (told journal.disk) (λ before. (records : List (List ℕ)) → Keeps records (content before)
     → WhereTold (told now.disk) (λ later. IsSettled later (records ++ identity ∷ [])))
     → WhereTold (told now.disk) (λ history. IsSettled history (identity ∷ []))
 begun told plan journal now identity settled appended kept = at (told journal.disk) refl
   where
-    at : (t : Option History) → told journal.disk ≡ t → WhereTold (told now.disk) (λ history. IsSettled history (identity ∷ []))
-    at None is = λ history some. (let none : told now.disk ≡ None = appended.made.calls ∙ ap (option_map _) is in absurd (cc (none, some)))
+    at : (t : Option History) → told journal.disk ≡ t
+        → WhereTold (told now.disk) (λ history. IsSettled history (identity ∷ []))
+    at None is = λ history some. (let none : told now.disk ≡ None = appended.made.calls ∙ ap (option_map _) is in
+        absurd (cc (none, some)))
     at (Some before) is = λ history some. kept before is [] (settled before is).read history some

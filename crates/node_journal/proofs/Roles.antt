@@ -18,10 +18,12 @@ pub notes_follow : NotesFollow
 notes_follow kinds [] body is may = absurd (cc is)
 notes_follow kinds (identity ∷ notes) body is may =
     ap (λ (b : Bool). kinds.is_identity identity && b) (list_all-append (kinds.is_note identity) notes (body ∷ []))
-    ∙ both_more (kinds.is_identity identity) (list_all (kinds.is_note identity) notes) (kinds.is_note identity body) is may
+    ∙ both_more (kinds.is_identity identity) (list_all (kinds.is_note identity) notes)
+    (kinds.is_note identity body) is may
 
 -- all pass exactly where the front that passes is all
-all_pass : (test : List ℕ → Bool) (notes : List (List ℕ)) → prefix_len test notes ≡ length notes → list_all test notes ≡ true
+all_pass : (test : List ℕ → Bool) (notes : List (List ℕ)) → prefix_len test notes ≡ length notes
+    → list_all test notes ≡ true
 all_pass test [] is = refl
 all_pass test (body ∷ notes) is = elim (cases_Bool (test body)) [
   | inl passes ↦
@@ -30,7 +32,8 @@ all_pass test (body ∷ notes) is = elim (cases_Bool (test body)) [
   | inr fails ↦ (let none : 0 ≡ suc (length notes) = rw fails at is in absurd (omega (arith, none)))
 ]
 
-pass_all : (test : List ℕ → Bool) (notes : List (List ℕ)) → list_all test notes ≡ true → prefix_len test notes ≡ length notes
+pass_all : (test : List ℕ → Bool) (notes : List (List ℕ)) → list_all test notes ≡ true
+    → prefix_len test notes ≡ length notes
 pass_all test [] is = refl
 pass_all test (body ∷ notes) is = elim (cases_Bool (test body)) [
   | inl passes ↦ (let rest = pass_all test notes (rw passes at is) in rw passes (omega (arith, rest)))
@@ -38,33 +41,40 @@ pass_all test (body ∷ notes) is = elim (cases_Bool (test body)) [
 ]
 
 -- the front is all exactly where there are records and they are of the role
-pub all_front : (kinds : Kinds) (records : List (List ℕ)) → length (front_of kinds records) ≡ length records → 0 < length records → are_of kinds records ≡ true
+pub all_front : (kinds : Kinds) (records : List (List ℕ)) → length (front_of kinds records) ≡ length records
+    → 0 < length records → are_of kinds records ≡ true
 all_front kinds [] is some = absurd (omega (arith, some))
 all_front kinds (identity ∷ notes) is some = at (kinds.is_identity identity) refl
   where
     at : (b : Bool) → kinds.is_identity identity ≡ b → are_of kinds (identity ∷ notes) ≡ true
     at true first =
         let len : suc (length (take_while (kinds.is_note identity) notes)) ≡ suc (length notes) = rw first at is in
-        rw first (all_pass (kinds.is_note identity) notes (omega (arith, len, length-prefix_len (kinds.is_note identity) notes)))
+        rw first (all_pass (kinds.is_note identity) notes
+        (omega (arith, len, length-prefix_len (kinds.is_note identity) notes)))
     at false first = (let none : 0 ≡ suc (length notes) = rw first at is in absurd (omega (arith, none)))
 
-pub front_all : (kinds : Kinds) (records : List (List ℕ)) → are_of kinds records ≡ true → (length (front_of kinds records) ≡ length records) × (0 < length records)
+pub front_all : (kinds : Kinds) (records : List (List ℕ)) → are_of kinds records ≡ true
+    → (length (front_of kinds records) ≡ length records) × (0 < length records)
 front_all kinds [] is = absurd (cc is)
 front_all kinds (identity ∷ notes) is = at (kinds.is_identity identity) refl
   where
-    at : (b : Bool) → kinds.is_identity identity ≡ b → (length (front_of kinds (identity ∷ notes)) ≡ length (identity ∷ notes)) × (0 < length (identity ∷ notes))
+    at : (b : Bool) → kinds.is_identity identity ≡ b
+        → (length (front_of kinds (identity ∷ notes)) ≡ length (identity ∷ notes)) × (0 < length (identity ∷ notes))
     at true first =
         let pass : list_all (kinds.is_note identity) notes ≡ true = rw first at is in
         let len = pass_all (kinds.is_note identity) notes pass in
-        let front : length (front_of kinds (identity ∷ notes)) ≡ suc (length (take_while (kinds.is_note identity) notes)) = rw first refl in
+        let front : length (front_of kinds (identity ∷ notes)) ≡ suc
+        (length (take_while (kinds.is_note identity) notes)) = rw first refl in
         (omega (arith, front, len, length-prefix_len (kinds.is_note identity) notes), omega arith)
     at false first = (let no' : false ≡ true = rw first at is in absurd (cc no'))
 
 -- records whose front isn't all aren't of the role
-pub not_of : (kinds : Kinds) (records : List (List ℕ)) → (are_of kinds records ≡ true → ⊥) → of_kinds kinds records ≡ Err (length (spelled (front_of kinds records)))
+pub not_of : (kinds : Kinds) (records : List (List ℕ)) → (are_of kinds records ≡ true → ⊥)
+    → of_kinds kinds records ≡ Err (length (spelled (front_of kinds records)))
 not_of kinds records not = at (are_of kinds records) refl
   where
-    at : (b : Bool) → are_of kinds records ≡ b → of_kinds kinds records ≡ Err (length (spelled (front_of kinds records)))
+    at : (b : Bool) → are_of kinds records ≡ b
+        → of_kinds kinds records ≡ Err (length (spelled (front_of kinds records)))
     at true is = absurd (not is)
     at false is = rw is refl
 

@@ -45,7 +45,8 @@ blank_untaken image blank = at (kept_records image) refl
 unmade_blank : (image : List ℕ) → is_made image ≡ false → IsBlank image
 unmade_blank image new =
     let disk = fresh_history image in
-    let left = leaves_now disk (stopped_after 0) (make_steps image) (λ b. MatchBool (is_made image) (MayLeave disk b) (IsBlank b))
+    let left = leaves_now disk (stopped_after 0) (make_steps image)
+    (λ b. MatchBool (is_made image) (MayLeave disk b) (IsBlank b))
     (stopped_makings disk (stopped_after 0)) image (content_may_be_left disk) in
     subst (λ (b : Bool). MatchBool b (MayLeave disk image) (IsBlank image)) new left
 
@@ -76,7 +77,8 @@ untaken_kept image is = at (is_made image) refl
     at false new = rw new empty_keeps
 
 -- an image of which another opening is refused is taken, and was there
-pub other_taken : (image : List ℕ) → kept_records (image_made image) ≢ Some [] → (is_taken image ≡ true) × (is_made image ≡ true)
+pub other_taken : (image : List ℕ) → kept_records (image_made image) ≢ Some [] → (is_taken image ≡ true)
+    × (is_made image ≡ true)
 other_taken image not = at (is_taken image) refl
   where
     made : (b : Bool) → is_made image ≡ b → is_made image ≡ true
@@ -88,7 +90,8 @@ other_taken image not = at (is_taken image) refl
     at false is = absurd (not (untaken_kept image is))
 
 -- what a disk holds after a look is what it held
-look_holds : (image : List ℕ) (history : History) → content (with_made (length (look_steps image)) (look_steps image) history) ≡ content history
+look_holds : (image : List ℕ) (history : History)
+    → content (with_made (length (look_steps image)) (look_steps image) history) ≡ content history
 look_holds image history =
     elim (eqb (length image) 5) as (λ b. let steps : List Step = asks_length ∷ cond b (reads 0 5 ∷ []) [] in
     content (with_made (length steps) steps history) ≡ content history) [ true ↦ refl | false ↦ refl ]
@@ -98,17 +101,20 @@ empty_written : (old : List ℕ) → length old ≤ 5 → with_write old 0 empty
 empty_written old le = ap (λ (l : List ℕ). empty ++ l) (drop_all 5 old le)
 
 -- what the disk holds after a making
-pub making_holds : (history : History) → content (after_course passed (make_steps (content history)) history) ≡ image_made (content history)
+pub making_holds : (history : History)
+    → content (after_course passed (make_steps (content history)) history) ≡ image_made (content history)
 making_holds history = at (is_made (content history)) refl
   where
     c : List ℕ
     c = content history
 
-    steps : (b : Bool) → is_made c ≡ b → make_steps c ≡ cond b (look_steps c) (look_steps c ++ writes 0 empty ∷ syncs ∷ [])
+    steps : (b : Bool) → is_made c ≡ b
+        → make_steps c ≡ cond b (look_steps c) (look_steps c ++ writes 0 empty ∷ syncs ∷ [])
     steps b is = ap (λ (made : Bool). cond made (look_steps c) (look_steps c ++ writes 0 empty ∷ syncs ∷ [])) is
 
     at : (b : Bool) → is_made c ≡ b → content (after_course passed (make_steps c) history) ≡ image_made c
-    at true is = ap (λ (s : List Step). content (after_course passed s history)) (steps true is) ∙ look_holds c history ∙ ap (λ (b : Bool). cond b c empty) (sym is)
+    at true is = ap (λ (s : List Step). content (after_course passed s history)) (steps true is)
+        ∙ look_holds c history ∙ ap (λ (b : Bool). cond b c empty) (sym is)
     at false is =
         let looked = with_made (length (look_steps c)) (look_steps c) history in
         let after = after_both (look_steps c) (writes 0 empty ∷ syncs ∷ []) history in

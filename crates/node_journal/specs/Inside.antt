@@ -15,7 +15,8 @@ use Rattle.node_journal.specs.declared.stop.Stop.TheVariants.{Closed as StopClos
 use Rattle.node_journal.specs.Role.{Kinds, are_of, of_kinds}
 
 -- the records are of the role, the journal's gate is behind them, and while no fault closed it the disk keeps them
-pub record IsSound (kinds : Kinds) (told : Option History) (closed : Bool) (gate : ℕ) (records : List (List ℕ)) : Type 0 where
+pub record IsSound (kinds : Kinds) (told : Option History) (closed : Bool) (gate : ℕ) (records : List (List ℕ))
+    : Type 0 where
   pub role : are_of kinds records ≡ true
   pub place : gate ≡ length (spelled records)
   pub settled : closed ≡ false → WhereTold told (λ now. IsSettled now records)
@@ -50,28 +51,32 @@ open_refusal_of count (NotJournal place) = InitMade count
 open_refusal_of count DeviceFault = InitFault
 open_refusal_of count why = InitNoMemory
 
--- What a making over an image did, where a journal that is there is taken for made: the length of what was there is answered.
-abbrev pub FindsOver : {D : Type 0} → List ℕ → (D → Option History) → (D → Option FaultPlan) → D → Result ℕ InitRefusal → D → Type 0
-FindsOver image told plan old (Ok count) new =
-    (is_made image ≡ true → count ≡ length image) × Made told plan make_steps (length (make_steps image)) passed old new
-FindsOver image told plan old (Err InitFault) new =
-    (count : ℕ) × Made told plan make_steps (length (make_steps image)) (failed_after count) old new
-FindsOver image told plan old (Err InitNoMemory) new = new ≡ old
-FindsOver image told plan old (Err why) new = ⊥
+-- over a disk that tells its history and foretells its faults
+module _ {D : Type 0} (told : D → Option History) (plan : D → Option FaultPlan) where
+  -- What a making over an image did, where a journal that is there is taken for made: the length of what was there is
+  -- answered.
+  abbrev pub FindsOver : List ℕ → D → Result ℕ InitRefusal → D → Type 0
+  FindsOver image old (Ok count) new =
+      (is_made image ≡ true → count ≡ length image)
+      × Made told plan make_steps (length (make_steps image)) passed old new
+  FindsOver image old (Err InitFault) new =
+      (count : ℕ) × Made told plan make_steps (length (make_steps image)) (failed_after count) old new
+  FindsOver image old (Err InitNoMemory) new = new ≡ old
+  FindsOver image old (Err why) new = ⊥
 
--- an opening of a journal without records that went through
-pub record OpensEmpty {D : Type 0} (told : D → Option History) (plan : D → Option FaultPlan) (faults : D → ℕ) (old : D) (journal : JournalState D) : Type 0 where
-  pub kept : WhereTold (told old) (λ before. Keeps [] (content before))
-  pub made : Made told plan open_steps 3 passed old journal.disk
-  pub count : faults journal.disk ≡ faults old
-  pub is_fresh : journal ≡ fresh_journal journal.disk []
-  pub settled : WhereTold (told journal.disk) (λ now. IsSettled now [])
+  -- an opening of a journal without records that went through
+  pub record OpensEmpty (faults : D → ℕ) (old : D) (journal : JournalState D) : Type 0 where
+    pub kept : WhereTold (told old) (λ before. Keeps [] (content before))
+    pub made : Made told plan open_steps 3 passed old journal.disk
+    pub count : faults journal.disk ≡ faults old
+    pub is_fresh : journal ≡ fresh_journal journal.disk []
+    pub settled : WhereTold (told journal.disk) (λ now. IsSettled now [])
 
--- what an opening of it did that was refused, over an image of which another length is answered
-abbrev pub RefusesEmptyOver : {D : Type 0} → List ℕ → ℕ → (D → Option History) → (D → Option FaultPlan) → D → InitRefusal → D → Type 0
-RefusesEmptyOver image count told plan old (InitMade answered) new =
-    (answered ≡ count) × (kept_records image ≢ Some []) × Made told plan open_steps 3 passed old new
-RefusesEmptyOver image count told plan old InitFault new =
-    (made : ℕ) × Made told plan open_steps 3 (failed_after made) old new
-RefusesEmptyOver image count told plan old InitNoMemory new =
-    (made : ℕ) × Made told plan open_steps 3 (stopped_after made) old new
+  -- what such an opening did that was refused, over an image, where this length is answered for one with records
+  abbrev pub RefusesEmptyOver : List ℕ → ℕ → D → InitRefusal → D → Type 0
+  RefusesEmptyOver image count old (InitMade answered) new =
+      (answered ≡ count) × (kept_records image ≢ Some []) × Made told plan open_steps 3 passed old new
+  RefusesEmptyOver image count old InitFault new =
+      (made : ℕ) × Made told plan open_steps 3 (failed_after made) old new
+  RefusesEmptyOver image count old InitNoMemory new =
+      (made : ℕ) × Made told plan open_steps 3 (stopped_after made) old new

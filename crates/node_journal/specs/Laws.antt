@@ -20,8 +20,8 @@ InitsMakeFewCalls = (identity image : List ℕ) → length (init_steps identity 
 abbrev pub EachImage : History → (List ℕ → Type 0) → Type 0
 EachImage history P = (image : List ℕ) → MayLeave history image → P image
 
--- what is done with a disk: an empty journal is made or opened; a journal is begun, or begun again; and a crash befalls it,
--- which left this image
+-- what is done with a disk: an empty journal is made or opened; a journal is begun, or begun again; and what befalls
+-- it: a crash, which left this image
 pub data InitEvent : Type 0 where
   prepares : Course → InitEvent
   begins : Course → InitEvent
@@ -49,7 +49,8 @@ MayAllCome identity start [] = Unit {0}
 MayAllCome identity start (event ∷ events) =
     MayAllCome identity start events × MayCome event (after_events identity start events)
 
--- The image can be begun: it is no journal and has at most five bytes, or it spells no record. Or it spells the identity alone.
+-- The image can be begun: it is no journal and has at most five bytes, or it spells no record. Or it spells the
+-- identity alone.
 abbrev pub IsUntakenOrBegun : List ℕ → List ℕ → Type 0
 IsUntakenOrBegun identity image = (is_taken image ≡ false) ⊎ Keeps (identity ∷ []) image
 
@@ -66,13 +67,14 @@ InitsEndBegun = (identity : List ℕ) (disk : History) (events : List InitEvent)
     → EachImage disk (IsUntakenOrBegun identity) → MayAllCome identity disk events
     → EachImage (after_event identity (begins passed) (after_events identity disk events)) (Keeps (identity ∷ []))
 
--- What a crash leaves of a making or opening of an empty journal, however it went: what it could have left before, or an image
--- that can be begun. Where all its calls passed over an image that isn't taken, each image spells no record.
+-- What a crash leaves of a making or opening of an empty journal, however it went: what it could have left before, or
+-- an image that can be begun.
 abbrev pub StoppedPreparations : Type 0
 StoppedPreparations = (history : History) (course : Course)
     → EachImage (after_course course (journal_steps (content history)) history)
     (λ image. MayLeave history image ⊎ (is_taken image ≡ false))
 
+-- Where all its calls passed over an image that can be begun, each image spells no record.
 abbrev pub PreparedJournalsAreEmpty : Type 0
 PreparedJournalsAreEmpty = (history : History) → is_taken (content history) ≡ false
     → EachImage (after_course passed (journal_steps (content history)) history) (Keeps [])

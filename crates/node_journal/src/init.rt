@@ -56,7 +56,7 @@ fn open_refusal_of(length: u64, why: JournalRefusal) -> InitRefusal
 // Makes an empty journal where there is none, and gives the length of the image that was there.
 fn find_or_make<D: Disk>(disk: &mut D) -> Result<u64, InitRefusal>
     ensures finds { WhereTold (D.told disk.old) (λ before.
-        FindsOver (content before) D.told D.plan disk.old result disk.new) }
+        FindsOver D.told D.plan (content before) disk.old result disk.new) }
     ensures cause { D.faults disk.new ≡ faults_after (D.faults disk.old) (is_init_fault result) }
 {
     match Journal::make(disk) {
@@ -69,7 +69,7 @@ fn find_or_make<D: Disk>(disk: &mut D) -> Result<u64, InitRefusal>
 fn open_empty<D: Disk>(alloc: Global, disk: D, length: u64) -> Result<Journal<D>, NotBegun<D>>
     ensures opens { IfOk result (OpensEmpty D.told D.plan D.faults disk) }
     ensures refused { IfErr result (λ refused. WhereTold (D.told disk) (λ before.
-        RefusesEmptyOver (content before) length D.told D.plan disk refused.why refused.disk)) }
+        RefusesEmptyOver D.told D.plan (content before) length disk refused.why refused.disk)) }
     ensures cause { IfErr result (λ refused.
         D.faults refused.disk ≡ faults_after (D.faults disk) (is_fault_refusal refused.why)) }
 {
@@ -115,7 +115,7 @@ pub fn begin_journal<D: Disk>(alloc: Global, disk: D) -> Result<Journal<D>, NotB
 /// comes as for `begin_journal`; `DeviceFault` where a device call failed.
 pub fn begin<D: Disk>(alloc: Global, disk: D, identity: &[u8]) -> (D, Result<(), InitRefusal>)
     requires { length identity.now ≤ most }
-    ensures inits { Inits (init_steps identity.now) D.told D.plan disk result.1 result.0 }
+    ensures inits { Inits D.told D.plan (init_steps identity.now) disk result.1 result.0 }
     ensures begun { OnOk result.1 (WhereTold (D.told result.0) (λ now. IsSettled now (identity.now ∷ []))) }
     ensures cause { D.faults result.0 ≡ faults_after (D.faults disk) (is_init_fault result.1) }
 {

@@ -54,9 +54,9 @@ impl<D: Disk, R: Role> Notes<D, R> {
     /// record isn't of the role, with the place of the gate of the first such record; without any record
     /// it is place 4, where the identity is missing. A refusal hands the disk back.
     pub fn open(alloc: Global, disk: D) -> Result<Notes<D, R>, Returned<D>>
-        ensures opened { IfOk result (Opened R.kinds D.told D.plan D.faults disk) }
+        ensures opened { IfOk result (Opened D.told D.plan D.faults R.kinds disk) }
         ensures refused { IfErr result (λ returned.
-            RefusesRole R.kinds D.told D.plan D.faults disk returned.why returned.disk) }
+            RefusesRole D.told D.plan D.faults R.kinds disk returned.why returned.disk) }
     {
         let (journal, records) = match Journal::open(alloc, disk) {
             Ok(opened) => opened,

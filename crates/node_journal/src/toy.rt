@@ -74,9 +74,9 @@ impl<D: Disk> Model for Counter<D> {
 impl<D: Disk> Counter<D> {
     // Opens the counter of a disk.
     pub fn open(alloc: Global, disk: D) -> Result<Counter<D>, Returned<D>>
-        ensures opened { IfOk result (Opened counter_kinds D.told D.plan D.faults disk) }
+        ensures opened { IfOk result (Opened D.told D.plan D.faults counter_kinds disk) }
         ensures refused { IfErr result (λ returned.
-            RefusesRole counter_kinds D.told D.plan D.faults disk returned.why returned.disk) }
+            RefusesRole D.told D.plan D.faults counter_kinds disk returned.why returned.disk) }
     {
         match Notes::open(alloc, disk) {
             Ok(notes) => Ok(Counter { alloc, notes }),
