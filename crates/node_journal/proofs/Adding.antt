@@ -1,17 +1,17 @@
 -- What an append to the journal of notes is for the notes.
-use Rattle.std.proofs.Common.{◌≡◌, ◌<◌, ◌≤◌, ◌+◌, ℕ, Bool, true, false, List, [], ◌∷◌, ◌++◌, length, Option, Some, None, Result, Ok, Err, refl, sym, ◌∙◌, ap, subst, arith}
+use Rattle.std.proofs.Common.{◌≡◌, ◌≤◌, ◌+◌, ℕ, true, false, List, [], ◌∷◌, ◌++◌, length, Option, Some, None, Err, refl, sym, ◌∙◌, ap, subst, arith}
 use Rattle.std.specs.Option.{option_map}
 use Rattle.plasma_base.specs.Causes.{faults_after}
 use Rattle.crash_disk.specs.Disk.{History, content, FaultPlan, LeavesOnly}
 use Rattle.crash_disk.specs.Calls.{WhereTold, Course, passed, failed_after, Made}
 use Rattle.gate_journal.specs.Image.{most, spelled}
 use Rattle.gate_journal.specs.Steps.{append_steps}
-use Rattle.gate_journal.specs.Journal.{JournalState, Keeps, KeepsWithOrWithout, IsSettled, with_record, Appended, AppendFailed, Appends, is_device_fault}
+use Rattle.gate_journal.specs.Journal.{JournalState, Keeps, KeepsWithOrWithout, IsSettled, Appended, Appends, is_device_fault}
 use Rattle.gate_journal.specs.declared.refusal.JournalRefusal.{JournalRefusal}
 use Rattle.gate_journal.specs.declared.refusal.JournalRefusal.TheVariants.{AlreadyMade, NotJournal, RecordTooLong, DeviceFault, Closed, NoMemory}
 use Rattle.node_journal.proofs.Spelling.{length-spelled-push}
 use Rattle.node_journal.specs.Role.{Kinds, are_of, may_follow}
-use Rattle.node_journal.specs.Notes.{NotesState, note_steps, KeepsAtAnyMoment, Added, AddFailed, Did}
+use Rattle.node_journal.specs.Notes.{NotesState, note_steps, KeepsAtAnyMoment, Added, Did}
 use Rattle.node_journal.specs.Inside.{IsSound, stop_of}
 use Rattle.node_journal.proofs.Roles.{notes_follow}
 

@@ -1,5 +1,5 @@
 -- The device calls of an init: a making, an opening, and an append.
-use Rattle.std.proofs.Common.{◌≡◌, ◌≢◌, ◌≤◌, ◌+◌, ℕ, suc, Bool, true, false, cond, List, [], ◌∷◌, ◌++◌, length, take, Option, Some, None, Result, Ok, Err, refl, sym, ◌∙◌, ap, subst, arith, length-append}
+use Rattle.std.proofs.Common.{◌≡◌, ◌≤◌, ◌+◌, ℕ, Bool, cond, List, [], ◌∷◌, ◌++◌, length, take, Option, Some, None, Result, Ok, Err, refl, sym, ◌∙◌, ap, subst, arith, length-append}
 use Rattle.std.proofs.lemmas.List.{append-nil, take-append-le}
 use Rattle.std.specs.Option.{option_map}
 use Rattle.std.specs.Result.{IfOk, IfErr}
@@ -10,7 +10,7 @@ use Rattle.crash_disk.proofs.Calls.{later, made_over, made_there, made_after, ma
 use Rattle.gate_journal.specs.Image.{most, kept_records}
 use Rattle.gate_journal.specs.Steps.{append_steps, open_steps}
 use Rattle.gate_journal.specs.Journal.{JournalState, Keeps, IsSettled, fresh_journal, Appended, Appends}
-use Rattle.gate_journal.specs.Make.{is_made, make_steps}
+use Rattle.gate_journal.specs.Make.{make_steps}
 use Rattle.gate_journal.specs.declared.refusal.JournalRefusal.{JournalRefusal}
 use Rattle.gate_journal.specs.declared.refusal.JournalRefusal.TheVariants.{AlreadyMade, NotJournal, RecordTooLong, DeviceFault, Closed, NoMemory}
 use Rattle.gate_journal.specs.declared.refusal.InitRefusal.{InitRefusal}

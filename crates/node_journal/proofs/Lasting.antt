@@ -1,6 +1,6 @@
 -- What a crash leaves of inits, however they went.
-use Rattle.std.proofs.Common.{◌≡◌, ◌≤◌, ◌⊎◌, ◌+◌, ℕ, zero, suc, Bool, true, false, cond, eqb, List, [], ◌∷◌, ◌++◌, length, MatchBool, refl, sym, ◌∙◌, ap, subst, inl, inr, arith, length-append}
-use Rattle.crash_disk.specs.Disk.{Step, asks_length, reads, writes, syncs, History, fresh_history, content, MayLeave}
+use Rattle.std.proofs.Common.{◌≡◌, ◌≤◌, ◌⊎◌, ℕ, zero, suc, Bool, true, false, cond, eqb, List, [], ◌∷◌, ◌++◌, length, MatchBool, refl, sym, ap, subst, inl, inr, arith, length-append}
+use Rattle.crash_disk.specs.Disk.{Step, asks_length, reads, writes, syncs, History, content, MayLeave}
 use Rattle.crash_disk.specs.Calls.{Course, passed, failed_after, stopped_after, after_course}
 use Rattle.crash_disk.proofs.Left.{content_may_be_left, fresh_disk_leaves_itself}
 use Rattle.gate_journal.specs.Image.{most}

@@ -1,15 +1,14 @@
 -- The opening of notes.
 use Rattle.std.proofs.Common.{◌≡◌, ◌∙◌, ℕ, true, List, Option, Some, Result, Ok, Err, refl, sym, ap, arith}
 use Rattle.std.specs.Result.{result_ok}
-use Rattle.plasma_base.specs.Causes.{faults_after}
 use Rattle.crash_disk.specs.Disk.{History, content, FaultPlan}
 use Rattle.crash_disk.specs.Calls.{WhereTold, passed, Made}
-use Rattle.gate_journal.specs.Image.{kept_records, journal_in}
+use Rattle.gate_journal.specs.Image.{journal_in}
 use Rattle.gate_journal.specs.Steps.{open_steps}
 use Rattle.gate_journal.specs.Journal.{Keeps, RefusesOpen}
 use Rattle.gate_journal.specs.declared.refusal.JournalRefusal.{JournalRefusal}
 use Rattle.gate_journal.specs.declared.refusal.JournalRefusal.TheVariants.{AlreadyMade, NotJournal, RecordTooLong, DeviceFault, Closed, NoMemory}
-use Rattle.node_journal.specs.Role.{Kinds, are_of, of_kinds, read_of_kinds, role_in}
+use Rattle.node_journal.specs.Role.{Kinds, are_of, read_of_kinds, role_in}
 use Rattle.node_journal.specs.Notes.{RefusesRole}
 use Rattle.node_journal.specs.Inside.{IsRoleRefusal}
 use Rattle.node_journal.proofs.Roles.{of}

@@ -1,5 +1,5 @@
 -- The spelling of one more record.
-use Rattle.std.proofs.Common.{◌≡◌, ◌+◌, ℕ, List, [], ◌∷◌, ◌++◌, length, ap, arith, length-append}
+use Rattle.std.proofs.Common.{◌≡◌, ◌+◌, ℕ, List, [], ◌∷◌, ◌++◌, length, arith, length-append}
 use Rattle.std.specs.Int.{w32, to_be_bytes}
 use Rattle.gate_journal.specs.Image.{mark, spelled_record, spelled_records, spelled}
 

@@ -1,5 +1,5 @@
 -- A role's records: first its identity, and then notes.
-use Rattle.std.specs.Prelude.{ℕ, Bool, true, false, ◌&&◌, if◌then◌else◌, List, [], ◌∷◌, length, Result, Ok, Err}
+use Rattle.std.specs.Prelude.{ℕ, Bool, false, ◌&&◌, if◌then◌else◌, List, [], ◌∷◌, length, Result, Ok, Err}
 use Rattle.std.specs.List.{list_all, take_while}
 use Rattle.gate_journal.specs.Image.{spelled, journal_in}
 

@@ -1,4 +1,4 @@
-use Rattle.std.proofs.Common.{[], ◌∷◌, ℕ, Ok, Err, sym, ◌∙◌, ap, subst}
+use Rattle.std.proofs.Common.{[], ◌∷◌, Ok, Err, sym, subst}
 use Rattle.crash_disk.specs.Disk.{content}
 use Rattle.crash_disk.specs.Calls.{WhereTold}
 use Rattle.gate_journal.specs.Journal.{IsSettled}
