@@ -1,0 +1,229 @@
+-- The device calls of an init: a making, an opening, and an append.
+use Rattle.std.proofs.Common.{◌≡◌, ◌≤◌, ◌+◌, ℕ, Bool, cond, List, [], ◌∷◌, ◌++◌, length, take, Option, Some, None, Result, Ok, Err, refl, sym, ◌∙◌, ap, subst, arith, length-append}
+use Rattle.std.proofs.lemmas.List.{append-nil, take-append-le}
+use Rattle.std.specs.Option.{option_map}
+use Rattle.std.specs.Result.{IfOk, IfErr}
+use Rattle.plasma_base.specs.Causes.{faults_after}
+use Rattle.crash_disk.specs.Disk.{Step, History, content, FaultPlan}
+use Rattle.crash_disk.specs.Calls.{WhereTold, Course, passed, failed_after, stopped_after, after_course, with_made, Made}
+use Rattle.crash_disk.proofs.Calls.{later, made_over, made_there, made_after, made_within, made_stop}
+use Rattle.gate_journal.specs.Image.{most, kept_records}
+use Rattle.gate_journal.specs.Steps.{append_steps, open_steps}
+use Rattle.gate_journal.specs.Journal.{JournalState, Keeps, IsSettled, fresh_journal, Appended, Appends}
+use Rattle.gate_journal.specs.Make.{make_steps}
+use Rattle.gate_journal.specs.declared.refusal.JournalRefusal.{JournalRefusal}
+use Rattle.gate_journal.specs.declared.refusal.JournalRefusal.TheVariants.{AlreadyMade, NotJournal, RecordTooLong, DeviceFault, Closed, NoMemory}
+use Rattle.gate_journal.specs.declared.refusal.InitRefusal.{InitRefusal}
+use Rattle.gate_journal.specs.declared.refusal.InitRefusal.TheVariants.{AlreadyMade as InitMade, DeviceFault as InitFault, NoMemory as InitNoMemory}
+use Rattle.node_journal.specs.Begin.{is_taken, image_made, journal_steps, init_steps, InitsOver, is_fault_refusal, BeginsEmpty, RefusesEmpty}
+use Rattle.node_journal.specs.Inside.{init_refusal_of, FindsOver, OpensEmpty, RefusesEmptyOver}
+use Rattle.node_journal.specs.declared.init.NotBegun.{NotBegun}
+use Rattle.node_journal.proofs.Untaken.{kept_untaken, other_taken, making_holds}
+
+module _ {D : Type 0} (told : D → Option History) (plan : D → Option FaultPlan) where
+  -- calls that want of memory ended are the first of longer ones
+  stopped_within : (front back : List Step) (count : ℕ) {old new : D}
+      → Made told plan (λ any. front) (length front) (stopped_after count) old new
+      → Made told plan (λ any. front ++ back) (length (front ++ back)) (stopped_after count) old new
+  stopped_within front back count {old = old} made = record {
+    calls =
+        let le : count ≤ length front = made.planned.0 in
+        let same : take count front ≡ take count (front ++ back) = rw take-append-le refl in
+        made.calls ∙ ap (λ (steps : List Step). option_map (λ before. with_made count steps before) (told old)) same;
+    planned = (omega (arith, made.planned.0, length-append front back), made.planned.1, made.planned.2);
+  }
+
+  -- over what a disk holds
+  module _ (before : History) {old : D} (is : told old ≡ Some before) where
+    abbrev image : List ℕ
+    image = content before
+
+    here : WhereTold (told old) (λ history. image ≡ content history)
+    here history some = (let same : before ≡ history = cc (is, some) in ap content same)
+
+    over : (steps : List ℕ → List Step) {course : Course} {new : D}
+        → Made told plan (λ any. steps image) (length (steps image)) course old new
+        → Made told plan steps (length (steps image)) course old new
+    over steps made = made_over told plan steps image here made
+
+    there : (steps : List ℕ → List Step) {course : Course} {new : D}
+        → Made told plan steps (length (steps image)) course old new
+        → Made told plan (λ any. steps image) (length (steps image)) course old new
+    there steps made = made_there told plan steps image here made
+
+    -- a making that was stopped
+    pub unmade : (why : InitRefusal) (new : D) → FindsOver told plan image old (Err why) new
+        → InitsOver told plan journal_steps image old (Err why) new
+    unmade InitFault new made = (
+      made.0,
+      over journal_steps
+          (made_within told plan (make_steps image) (open_steps (image_made image)) made.0 (there make_steps made.1)),
+    )
+    unmade InitNoMemory new same = (
+      0,
+      subst
+          (λ (disk : D). Made told plan journal_steps (length (journal_steps image)) (stopped_after 0) old disk)
+          (sym same)
+          (over journal_steps (made_stop told plan (journal_steps image) (length (journal_steps image)) old)),
+    )
+    unmade (InitMade count) new none = absurd none
+
+    -- an opening after a making
+    module _ (found : ℕ) {mid : D} (finds : FindsOver told plan image old (Ok found) mid) where
+      now_told : told mid ≡ Some (after_course passed (make_steps image) before)
+      now_told = finds.1.calls ∙ ap (option_map (λ (h : History). after_course passed (make_steps (content h)) h)) is
+
+      now_holds : WhereTold (told mid) (λ history. image_made image ≡ content history)
+      now_holds history some =
+          let same : after_course passed (make_steps image) before ≡ history = cc (now_told, some) in
+          sym (making_holds before) ∙ ap content same
+
+      opened : (course : Course) {new : D} → Made told plan open_steps 3 course mid new
+          → Made told plan journal_steps (length (journal_steps image))
+          (later (length (make_steps image)) course) old new
+      opened course made =
+          over journal_steps
+          (made_after told plan (make_steps image) (open_steps (image_made image)) course (there make_steps finds.1)
+          (made_there told plan open_steps (image_made image) now_holds made))
+
+      pub empty_opened : {new : D} → WhereTold (told mid) (λ history. Keeps [] (content history))
+          → Made told plan open_steps 3 passed mid new
+          → InitsOver told plan journal_steps image old (Ok tt) new
+      empty_opened keeps made =
+          let now = after_course passed (make_steps image) before in (
+            kept_untaken image (subst (Keeps []) (sym (now_holds now now_told))
+                (keeps now now_told)),
+            opened passed made,
+          )
+
+      pub not_opened : (why : InitRefusal) (new : D)
+          → WhereTold (told mid) (λ history. RefusesEmptyOver told plan (content history) found mid why new)
+          → InitsOver told plan journal_steps image old (Err why) new
+      not_opened why new refuses = at why (refuses now now_told)
+        where
+          now : History
+          now = after_course passed (make_steps image) before
+
+          at : (why : InitRefusal) → RefusesEmptyOver told plan (content now) found mid why new
+              → InitsOver told plan journal_steps image old (Err why) new
+          at (InitMade answered) refused =
+              let taken = other_taken image (λ some. refused.1
+              (ap kept_records (sym (now_holds now now_told)) ∙ some)) in
+              (taken.0, refused.0 ∙ finds.0 taken.1, opened passed refused.2)
+          at InitFault refused = (length (make_steps image) + refused.0, opened (failed_after refused.0) refused.1)
+          at InitNoMemory refused = (length (make_steps image) + refused.0, opened (stopped_after refused.0) refused.1)
+
+    -- an init whose journal wasn't made or opened
+    module _ (identity : List ℕ) where
+      abbrev back : List Step
+      back = cond (is_taken image) [] (append_steps 4 identity)
+
+      pub not_begun : (why : InitRefusal) (new : D) → InitsOver told plan journal_steps image old (Err why) new
+          → InitsOver told plan (init_steps identity) image old (Err why) new
+      not_begun (InitMade count) new refused =
+          let all : journal_steps image ≡ init_steps identity image =
+          sym (ap (λ (b : Bool). journal_steps image ++ cond b [] (append_steps 4 identity)) refused.0
+          ∙ append-nil (journal_steps image)) in (
+            refused.0,
+            refused.1,
+            over (init_steps identity)
+                (subst (λ (s : List Step). Made told plan (λ any. s) (length s) passed old new) all
+                (there journal_steps refused.2)),
+          )
+      not_begun InitFault new refused = (
+        refused.0,
+        over (init_steps identity)
+            (made_within told plan (journal_steps image) back refused.0 (there journal_steps refused.1)),
+      )
+      not_begun InitNoMemory new refused = (
+        refused.0,
+        over (init_steps identity)
+            (stopped_within (journal_steps image) back refused.0 (there journal_steps refused.1)),
+      )
+
+      -- an append of the identity to a journal that was
+      module _ (journal : JournalState D) (is_fresh : journal ≡ fresh_journal journal.disk [])
+          (begins : InitsOver told plan journal_steps image old (Ok tt) journal.disk) where
+        more : (course : Course) {new : D}
+            → Made told plan (λ any. append_steps journal.gate identity) 4 course journal.disk new
+            → Made told plan (init_steps identity) (length (init_steps identity image))
+            (later (length (journal_steps image)) course) old new
+        more course {new = new} made =
+            let gate : journal.gate ≡ 4 = ap (λ (j : JournalState D). j.gate) is_fresh in
+            let all : init_steps identity image ≡ journal_steps image ++ append_steps 4 identity =
+            ap (λ (b : Bool). journal_steps image ++ cond b [] (append_steps 4 identity)) begins.0 in
+            let at_gate = subst (λ (g : ℕ). Made told plan
+            (λ any. append_steps g identity) 4 course journal.disk new) gate made in
+            over (init_steps identity)
+            (subst (λ (s : List Step). Made told plan (λ any. s) (length s)
+            (later (length (journal_steps image)) course) old new) (sym all)
+            (made_after told plan (journal_steps image) (append_steps 4 identity) course
+            (there journal_steps begins.1) at_gate))
+
+        pub appended : (now : JournalState D) → Appends told plan identity journal (Ok tt) now
+            → InitsOver told plan (init_steps identity) image old (Ok tt) now.disk
+        appended now done = (begins.0, more passed done.made)
+
+        pub not_appended : (why : JournalRefusal) (now : JournalState D) → length identity ≤ most
+            → Appends told plan identity journal (Err why) now
+            → InitsOver told plan (init_steps identity) image old (Err (init_refusal_of why)) now.disk
+        not_appended DeviceFault now fits failed =
+            (length (journal_steps image) + failed.count, more (failed_after failed.count) failed.made)
+        not_appended NoMemory now fits same = (
+          length (journal_steps image) + 0,
+          subst (λ (j : JournalState D). Made told plan (init_steps identity) (length (init_steps identity image))
+              (stopped_after (length (journal_steps image) + 0)) old j.disk) (sym same.3)
+              (more (stopped_after 0) (made_stop told plan (append_steps journal.gate identity) 4 journal.disk)),
+        )
+        not_appended Closed now fits same = absurd (cc (ap (λ (j : JournalState D). j.closed) is_fresh, same.0))
+        not_appended (RecordTooLong n) now fits same = absurd (omega (arith, fits, same.1))
+        not_appended (AlreadyMade n) now fits none = absurd none
+        not_appended (NotJournal place) now fits none = absurd none
+
+module _ {D : Type 0} (told : D → Option History) (plan : D → Option FaultPlan) (faults : D → ℕ) {old mid : D} where
+  -- no journal was made
+  pub refuses_making : (why : InitRefusal)
+      → WhereTold (told old) (λ before. FindsOver told plan (content before) old (Err why) mid)
+      → faults mid ≡ faults_after (faults old) (is_fault_refusal why) → RefusesEmpty told plan faults old why mid
+  refuses_making why finds count =
+      record { inits = λ before is. unmade told plan before is why mid (finds before is); count = count }
+
+  module _ (found : ℕ) (finds : WhereTold (told old)
+      (λ before. FindsOver told plan (content before) old (Ok found) mid)) (count : faults mid ≡ faults old) where
+    -- one was opened
+    pub begins_empty : (result : Result (JournalState D) (NotBegun D)) → IfOk result (OpensEmpty told plan faults mid)
+        → IfOk result (BeginsEmpty told plan faults old)
+    begins_empty (Ok journal) opens = record {
+      inits = λ before is. empty_opened told plan before is found (finds before is) opens.kept opens.made;
+      count = opens.count ∙ count;
+      is_fresh = opens.is_fresh;
+      settled = opens.settled;
+    }
+    begins_empty (Err refused) opens = opens
+
+    -- or not
+    pub refuses_empty : (result : Result (JournalState D) (NotBegun D))
+        → IfErr result (λ refused. WhereTold (told mid)
+        (λ before. RefusesEmptyOver told plan (content before) found mid refused.why refused.disk))
+        → IfErr result (λ refused. faults refused.disk ≡ faults_after (faults mid) (is_fault_refusal refused.why))
+        → IfErr result (λ refused. RefusesEmpty told plan faults old refused.why refused.disk)
+    refuses_empty (Ok journal) refuses cause = refuses
+    refuses_empty (Err refused) refuses cause = record {
+      inits = λ before is. not_opened told plan before is found (finds before is) refused.why refused.disk refuses;
+      count = cause ∙ ap (λ (n : ℕ). faults_after n (is_fault_refusal refused.why)) count;
+    }
+
+-- what the disk holds once the identity is appended to an empty journal
+pub begun : {D : Type 0} (told : D → Option History) (plan : D → Option FaultPlan) (journal now : JournalState D)
+    (identity : List ℕ) → WhereTold (told journal.disk) (λ history. IsSettled history [])
+    → Appended told plan identity journal now
+    → WhereTold (told journal.disk) (λ before. (records : List (List ℕ)) → Keeps records (content before)
+    → WhereTold (told now.disk) (λ later. IsSettled later (records ++ identity ∷ [])))
+    → WhereTold (told now.disk) (λ history. IsSettled history (identity ∷ []))
+begun told plan journal now identity settled appended kept = at (told journal.disk) refl
+  where
+    at : (t : Option History) → told journal.disk ≡ t
+        → WhereTold (told now.disk) (λ history. IsSettled history (identity ∷ []))
+    at None is = λ history some. (let none : told now.disk ≡ None = appended.made.calls ∙ ap (option_map _) is in
+        absurd (cc (none, some)))
+    at (Some before) is = λ history some. kept before is [] (settled before is).read history some

@@ -1,0 +1,8 @@
+pub mod Roles
+mod Openings
+mod Spelling
+mod Adding
+mod Courses
+mod Untaken
+pub mod Beginning
+mod Lasting

@@ -1,0 +1,74 @@
+-- The beginning of a node's journal, or of an empty one.
+use Rattle.std.specs.Prelude.{◌≡◌, ℕ, Bool, true, false, nat_lt, if◌then◌else◌, List, [], ◌∷◌, ◌++◌, length, Option, Some, None, Result, Ok, Err}
+use Rattle.plasma_base.specs.Causes.{faults_after}
+use Rattle.crash_disk.specs.Disk.{Step, History, content, FaultPlan}
+use Rattle.crash_disk.specs.Calls.{WhereTold, passed, failed_after, stopped_after, Made}
+use Rattle.gate_journal.specs.Image.{kept_records}
+use Rattle.gate_journal.specs.Journal.{JournalState, IsSettled, fresh_journal}
+use Rattle.gate_journal.specs.Steps.{append_steps, open_steps}
+use Rattle.gate_journal.specs.Make.{empty, is_made, make_steps}
+use Rattle.gate_journal.specs.declared.refusal.InitRefusal.{InitRefusal}
+use Rattle.gate_journal.specs.declared.refusal.InitRefusal.TheVariants.{AlreadyMade, DeviceFault, NoMemory}
+
+-- an image of so many bytes, of which these records are read, can't be begun: it spells one or more, or it spells no
+-- list and has more than five bytes
+abbrev pub has_content : ℕ → Option (List (List ℕ)) → Bool
+has_content count None = nat_lt 5 count
+has_content count (Some []) = false
+has_content count (Some (body ∷ bodies)) = true
+
+abbrev pub is_taken : List ℕ → Bool
+is_taken image = has_content (length image) (kept_records image)
+
+-- the image after the making of a journal that is already there or is made
+abbrev pub image_made : List ℕ → List ℕ
+image_made image = if is_made image then image else empty
+
+-- the device calls up to an open journal: an empty one is made where there is none, and what is there is opened
+abbrev pub journal_steps : List ℕ → List Step
+journal_steps image = make_steps image ++ open_steps (image_made image)
+
+-- those of an init: where the journal is empty the identity is appended
+abbrev pub init_steps : List ℕ → List ℕ → List Step
+init_steps identity image = journal_steps image ++ (if is_taken image then [] else append_steps 4 identity)
+
+-- the refusal, or the answer, is a device fault
+abbrev pub is_fault_refusal : InitRefusal → Bool
+is_fault_refusal DeviceFault = true
+is_fault_refusal why = false
+
+abbrev pub is_init_fault : {T : Type 0} → Result T InitRefusal → Bool
+is_init_fault (Ok done) = false
+is_init_fault (Err why) = is_fault_refusal why
+
+-- over a disk that tells its history and foretells its faults
+module _ {D : Type 0} (told : D → Option History) (plan : D → Option FaultPlan) where
+  -- What an init over an image did that makes these device calls and was answered so, and when: all its calls passed,
+  -- and the image wasn't taken, or it was; the first that failed ended them; or want of memory did.
+  abbrev pub InitsOver : (List ℕ → List Step) → List ℕ → D → Result Unit InitRefusal → D → Type 0
+  InitsOver steps image old (Ok done) new =
+      (is_taken image ≡ false) × Made told plan steps (length (steps image)) passed old new
+  InitsOver steps image old (Err (AlreadyMade count)) new =
+      (is_taken image ≡ true) × (count ≡ length image) × Made told plan steps (length (steps image)) passed old new
+  InitsOver steps image old (Err DeviceFault) new =
+      (count : ℕ) × Made told plan steps (length (steps image)) (failed_after count) old new
+  InitsOver steps image old (Err NoMemory) new =
+      (count : ℕ) × Made told plan steps (length (steps image)) (stopped_after count) old new
+
+  -- what an init did, where the disk tells what it holds
+  abbrev pub Inits : (List ℕ → List Step) → D → Result Unit InitRefusal → D → Type 0
+  Inits steps old result new = WhereTold (told old) (λ before. InitsOver steps (content before) old result new)
+
+  -- and counts them
+  module _ (faults : D → ℕ) where
+    -- An empty journal that was made or opened, and is open: each image of a crash now spells no record.
+    pub record BeginsEmpty (old : D) (journal : JournalState D) : Type 0 where
+      pub inits : Inits journal_steps old (Ok tt) journal.disk
+      pub count : faults journal.disk ≡ faults old
+      pub is_fresh : journal ≡ fresh_journal journal.disk []
+      pub settled : WhereTold (told journal.disk) (λ now. IsSettled now [])
+
+    -- no journal was made or opened
+    pub record RefusesEmpty (old : D) (why : InitRefusal) (new : D) : Type 0 where
+      pub inits : Inits journal_steps old (Err why) new
+      pub count : faults new ≡ faults_after (faults old) (is_fault_refusal why)

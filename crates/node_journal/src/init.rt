@@ -1,0 +1,135 @@
+ghost use Rattle.std.specs.Prelude.{◌≡◌, ◌≤◌, [], ◌∷◌, length, IfOk, IfErr, OnOk};
+ghost use Rattle.plasma_base.specs.Causes.{faults_after};
+ghost use Rattle.crash_disk.specs.Disk.{content};
+ghost use Rattle.crash_disk.specs.Calls.{WhereTold};
+ghost use Rattle.gate_journal.specs.Image.{most};
+ghost use Rattle.gate_journal.specs.Journal.{IsSettled};
+ghost use Rattle.node_journal.specs.Begin.{init_steps, Inits, is_fault_refusal, is_init_fault, BeginsEmpty, RefusesEmpty};
+ghost use Rattle.node_journal.specs.Inside.{init_refusal_of, length_found, open_refusal_of, FindsOver, OpensEmpty, RefusesEmptyOver};
+
+use crash_disk::Disk;
+use gate_journal::{InitRefusal, Journal, JournalRefusal, Returned};
+use std::alloc::Global;
+
+// The length of the image of an empty journal.
+const EMPTY_LENGTH: u64 = 5;
+
+/// A disk on which no empty journal was made or opened, and why.
+#[derive(Drop)]
+pub struct NotBegun<D> {
+    pub disk: D,
+    pub why: InitRefusal,
+}
+
+// What a refusal is for an init that stands on an append.
+fn init_refusal_of(why: JournalRefusal) -> InitRefusal
+    ensures { result ≡ init_refusal_of why }
+{
+    match why {
+        JournalRefusal::DeviceFault => InitRefusal::DeviceFault,
+        _ => InitRefusal::NoMemory,
+    }
+}
+
+// The length of what is there, where a making was refused for that.
+fn length_found(why: JournalRefusal) -> Result<u64, InitRefusal>
+    ensures { result ≡ length_found why }
+{
+    match why {
+        JournalRefusal::AlreadyMade { length } => Ok(length),
+        JournalRefusal::DeviceFault => Err(InitRefusal::DeviceFault),
+        _ => Err(InitRefusal::NoMemory),
+    }
+}
+
+// What an opening's refusal is for an init over an image of this length.
+fn open_refusal_of(length: u64, why: JournalRefusal) -> InitRefusal
+    ensures { result ≡ open_refusal_of length why }
+{
+    match why {
+        JournalRefusal::NotJournal { .. } => InitRefusal::AlreadyMade { length },
+        JournalRefusal::DeviceFault => InitRefusal::DeviceFault,
+        _ => InitRefusal::NoMemory,
+    }
+}
+
+// Makes an empty journal where there is none, and gives the length of the image that was there.
+fn find_or_make<D: Disk>(disk: &mut D) -> Result<u64, InitRefusal>
+    ensures finds { WhereTold (D.told disk.old) (λ before.
+        FindsOver D.told D.plan (content before) disk.old result disk.new) }
+    ensures cause { D.faults disk.new ≡ faults_after (D.faults disk.old) (is_init_fault result) }
+{
+    match Journal::make(disk) {
+        Ok(()) => Ok(EMPTY_LENGTH),
+        Err(why) => length_found(why),
+    }
+}
+
+// Opens a journal without records, which syncs it. The image had this length.
+fn open_empty<D: Disk>(alloc: Global, disk: D, length: u64) -> Result<Journal<D>, NotBegun<D>>
+    ensures opens { IfOk result (OpensEmpty D.told D.plan D.faults disk) }
+    ensures refused { IfErr result (λ refused. WhereTold (D.told disk) (λ before.
+        RefusesEmptyOver D.told D.plan (content before) length disk refused.why refused.disk)) }
+    ensures cause { IfErr result (λ refused.
+        D.faults refused.disk ≡ faults_after (D.faults disk) (is_fault_refusal refused.why)) }
+{
+    let (journal, records) = match Journal::open(alloc, disk) {
+        Ok(opened) => opened,
+        Err(returned) => {
+            let Returned { disk, why } = returned;
+            let why = open_refusal_of(length, why);
+            return Err(NotBegun { disk, why });
+        }
+    };
+    if records.is_empty() {
+        return Ok(journal);
+    }
+    Err(NotBegun {
+        disk: journal.take_disk(),
+        why: InitRefusal::AlreadyMade { length },
+    })
+}
+
+/// Makes an empty journal, or opens one that stands, which syncs it: each image that a crash may leave
+/// then spells no record. Device calls: those of `Journal::make` and of `Journal::open`, up to the first
+/// that fails or to want of memory. A call that was stopped may be repeated.
+///
+/// `AlreadyMade` comes where the image spells one or more records, or spells no list of records and has
+/// more than five bytes, with its length. It yields to a `DeviceFault` of the same call.
+pub fn begin_journal<D: Disk>(alloc: Global, disk: D) -> Result<Journal<D>, NotBegun<D>>
+    ensures begins { IfOk result (BeginsEmpty D.told D.plan D.faults disk) }
+    ensures refused { IfErr result (λ refused.
+        RefusesEmpty D.told D.plan D.faults disk refused.why refused.disk) }
+{
+    let mut disk = disk;
+    match find_or_make(&mut disk) {
+        Ok(length) => open_empty(alloc, disk, length),
+        Err(why) => Err(NotBegun { disk, why }),
+    }
+}
+
+/// Begins a node's journal with its identity: as `begin_journal`, and then the identity is appended. At
+/// `Ok` each image that a crash may leave spells the identity alone. At most sixteen device calls.
+///
+/// A call that was stopped may be repeated (`inits_may_be_repeated`, `inits_end_begun`). `AlreadyMade`
+/// comes as for `begin_journal`; `DeviceFault` where a device call failed.
+pub fn begin<D: Disk>(alloc: Global, disk: D, identity: &[u8]) -> (D, Result<(), InitRefusal>)
+    requires { length identity.now ≤ most }
+    ensures inits { Inits D.told D.plan (init_steps identity.now) disk result.1 result.0 }
+    ensures begun { OnOk result.1 (WhereTold (D.told result.0) (λ now. IsSettled now (identity.now ∷ []))) }
+    ensures cause { D.faults result.0 ≡ faults_after (D.faults disk) (is_init_fault result.1) }
+{
+    let mut journal = match begin_journal(alloc, disk) {
+        Ok(journal) => journal,
+        Err(refused) => {
+            let NotBegun { disk, why } = refused;
+            return (disk, Err(why));
+        }
+    };
+    let appended = journal.append(identity);
+    let disk = journal.take_disk();
+    match appended {
+        Ok(()) => (disk, Ok(())),
+        Err(why) => (disk, Err(init_refusal_of(why))),
+    }
+}
