@@ -42,7 +42,7 @@ module _ {D : Type 0} (kinds : Kinds) (told : D → Option History) (plan : D �
   pub refused_role : (records : List (List ℕ)) (why : JournalRefusal)
       → WhereTold (told old) (λ before. Keeps records (content before))
       → Made told plan open_steps 3 passed old new → faults new ≡ faults old → IsRoleRefusal kinds records (Some why)
-      → RefusesRole told plan faults kinds old why new
+      → RefusesRole told plan faults (role_in kinds) old why new
   refused_role records (NotJournal place) keeps made count not = record {
     refused = (
       made,

@@ -7,7 +7,6 @@ use Rattle.gate_journal.specs.Image.{most, spelled}
 use Rattle.gate_journal.specs.Steps.{append_steps, open_steps}
 use Rattle.gate_journal.specs.Journal.{KeepsWithOrWithout, IsSettled, RefusesOpen, is_device_fault}
 use Rattle.gate_journal.specs.declared.refusal.JournalRefusal.{JournalRefusal}
-use Rattle.node_journal.specs.Role.{Kinds, role_in}
 use Rattle.node_journal.specs.declared.stop.Stop.{Stop}
 use Rattle.node_journal.specs.declared.stop.Stop.TheVariants.{Closed, NoMemory, DeviceFault}
 
@@ -74,16 +73,17 @@ module _ {D : Type 0} (told : D → Option History) (plan : D → Option FaultPl
   Did added old (Some Closed) new = (old.closed ≡ true) × (new ≡ old)
   Did added old (Some NoMemory) new = (old.closed ≡ false) × (new ≡ old)
 
-  -- An opening that went through: all three device calls passed, and the records are those of the role that the image
-  -- kept.
-  pub record Opened (kinds : Kinds) (old : D) (new : NotesState D) : Type 0 where
-    pub kept : WhereTold (told old) (λ before. role_in kinds (content before) ≡ Ok new.records)
+  -- An opening that went through: all three device calls passed, and the records are those that the role's reader of
+  -- images gives.
+  pub record Opened (read : List ℕ → Result (List (List ℕ)) ℕ) (old : D) (new : NotesState D) : Type 0 where
+    pub kept : WhereTold (told old) (λ before. read (content before) ≡ Ok new.records)
     pub made : Made told plan open_steps 3 passed old new.disk
     pub count : faults new.disk ≡ faults old
     pub is_open : new.closed ≡ false
     pub settled : WhereTold (told new.disk) (λ now. IsSettled now new.records)
 
-  -- An opening that was refused: as that of a journal whose records are of the role.
-  pub record RefusesRole (kinds : Kinds) (old : D) (why : JournalRefusal) (new : D) : Type 0 where
-    pub refused : RefusesOpen (role_in kinds) told plan old why new
+  -- An opening that was refused, by the role's reader of images or before it.
+  pub record RefusesRole (read : List ℕ → Result (List (List ℕ)) ℕ) (old : D) (why : JournalRefusal) (new : D)
+      : Type 0 where
+    pub refused : RefusesOpen read told plan old why new
     pub count : faults new ≡ faults_after (faults old) (is_device_fault why)

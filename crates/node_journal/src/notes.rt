@@ -2,7 +2,7 @@ ghost use Rattle.std.specs.Prelude.{◌≡◌, ◌≤◌, true, false, length, S
 ghost use Rattle.crash_disk.specs.Calls.{WhereTold};
 ghost use Rattle.gate_journal.specs.Image.{most};
 ghost use Rattle.gate_journal.specs.Journal.{IsSettled};
-ghost use Rattle.node_journal.specs.Role.{are_of, may_follow};
+ghost use Rattle.node_journal.specs.Role.{are_of, may_follow, role_in};
 ghost use Rattle.node_journal.specs.Notes.{Did, stopped_by, Opened, RefusesRole};
 ghost use Rattle.node_journal.specs.Inside.{stop_of};
 
@@ -54,9 +54,9 @@ impl<D: Disk, R: Role> Notes<D, R> {
     /// record isn't of the role, with the place of the gate of the first such record; without any record
     /// it is place 4, where the identity is missing. A refusal hands the disk back.
     pub fn open(alloc: Global, disk: D) -> Result<Notes<D, R>, Returned<D>>
-        ensures opened { IfOk result (Opened D.told D.plan D.faults R.kinds disk) }
+        ensures opened { IfOk result (Opened D.told D.plan D.faults (role_in R.kinds) disk) }
         ensures refused { IfErr result (λ returned.
-            RefusesRole D.told D.plan D.faults R.kinds disk returned.why returned.disk) }
+            RefusesRole D.told D.plan D.faults (role_in R.kinds) disk returned.why returned.disk) }
     {
         let (journal, records) = match Journal::open(alloc, disk) {
             Ok(opened) => opened,

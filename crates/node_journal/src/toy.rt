@@ -1,5 +1,6 @@
 ghost use Rattle.std.specs.Prelude.{◌≡◌, [], ◌∷◌, IfOk, IfErr};
 ghost use Rattle.node_journal.specs.Notes.{Did, stopped_by, Opened, RefusesRole};
+ghost use Rattle.node_journal.specs.Role.{role_in};
 ghost use Rattle.node_journal.specs.Toy.{is_number_of, counter_kinds, number_in, value_of, add_effect};
 
 use super::notes::Notes;
@@ -74,9 +75,9 @@ impl<D: Disk> Model for Counter<D> {
 impl<D: Disk> Counter<D> {
     // Opens the counter of a disk.
     pub fn open(alloc: Global, disk: D) -> Result<Counter<D>, Returned<D>>
-        ensures opened { IfOk result (Opened D.told D.plan D.faults counter_kinds disk) }
+        ensures opened { IfOk result (Opened D.told D.plan D.faults (role_in counter_kinds) disk) }
         ensures refused { IfErr result (λ returned.
-            RefusesRole D.told D.plan D.faults counter_kinds disk returned.why returned.disk) }
+            RefusesRole D.told D.plan D.faults (role_in counter_kinds) disk returned.why returned.disk) }
     {
         match Notes::open(alloc, disk) {
             Ok(notes) => Ok(Counter { alloc, notes }),
