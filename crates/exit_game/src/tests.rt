@@ -1,5 +1,6 @@
-ghost use Rattle.std.specs.Prelude.{◌≡◌, ◌∷◌, [], false, OnOk, OnErr};
+ghost use Rattle.std.specs.Prelude.{◌≡◌, ℕ, [], false, OnOk};
 ghost use Rattle.exit_game.specs.Games.{slots_in};
+ghost use Rattle.exit_game.specs.Slots.{slot_at, IsUnchallengedAt};
 
 use super::*;
 use plasma_base::NoMemory;
@@ -44,26 +45,30 @@ fn challenge(block: u64) -> Challenge
 
 // Starts the exit in a game without slots.
 fn start(game: &mut Game, slot: Slot) -> Result<(), NoMemory>
-    requires { slots_in game.old slot.coin ≡ [] }
-    ensures ok { OnOk result (slots_in game.new slot.coin ≡ slot ∷ []) }
-    ensures err { OnErr result (slots_in game.new slot.coin ≡ []) }
+    requires none { slots_in game.old slot.coin ≡ [] }
+    requires coin { slot.coin ≡ 1 }
+    requires block { slot.block ≡ 4 }
+    requires challenges { slot.challenges ≡ [] }
+    ensures { OnOk result ((block : ℕ) → IsUnchallengedAt block (slot_at 4 (slots_in game.new 1))) }
 {
     game.start(slot)
 }
 
 #[test]
-fn a_start(rt: HostRuntime) -> Result<(), Fail> {
+fn a_challenged_exit(rt: HostRuntime) -> Result<(), Fail> {
     let mut game = Game::new(rt.alloc());
     assert!(rt; game.slot(1, 4).is_none());
     start(&mut game, slot(rt.alloc()))?;
-    assert!(rt; game.slot(1, 4).is_some());
+    game.before(1, 4, challenge(2))?;
     assert!(rt; game.slot(1, 5).is_none());
     assert!(rt; game.slot(2, 4).is_none());
+    let challenged = game.slot(1, 4).map(|slot| slot.challenges.as_slice().len());
+    assert_eq!(rt; challenged, Some(1));
     Ok(())
 }
 
 #[test]
-fn a_challenge(rt: HostRuntime) -> Result<(), Fail> {
+fn challenges_are_answered(rt: HostRuntime) -> Result<(), Fail> {
     let mut challenges = Challenges::new(rt.alloc());
     challenges.push(challenge(2))?;
     challenges.push(challenge(1))?;
