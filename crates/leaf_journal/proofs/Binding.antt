@@ -1,86 +1,86 @@
--- What an append tells of a bind.
-use Rattle.std.proofs.Common.{◌≡◌, ◌≢◌, ◌<◌, ℕ, Bool, true, false, List, [], ◌∷◌, ◌++◌, length, Option, Some, None, Result, Ok, Err, refl, subst, arith}
-use Rattle.std.specs.Result.{is_err, IfErr, IsErrOf}
-use Rattle.std.specs.Option.{option_map}
-use Rattle.crash_disk.specs.Disk.{History}
-use Rattle.gate_journal.specs.Calls.{with_made, append_steps}
-use Rattle.gate_journal.specs.Image.{spelled}
-use Rattle.gate_journal.specs.Journal.{JournalState, IsSettled, WhereTold, IsAppendRefusal, AppendsTo}
-use Rattle.gate_journal.specs.declared.refusal.JournalRefusal.{JournalRefusal}
-use Rattle.gate_journal.specs.declared.refusal.JournalRefusal.TheVariants.{AlreadyMade, NotJournal, RecordTooLong, DeviceFault, Closed, NoMemory}
-use Rattle.leaf_journal.specs.Messages.{messages_of}
-use Rattle.leaf_journal.specs.Life.{Course, passed, gone, closes, messages_after, binds}
-use Rattle.leaf_journal.specs.Laws.{Stay}
-use Rattle.leaf_journal.specs.Leaves.{living, GoesOn}
-use Rattle.leaf_journal.specs.Sound.{IsSound}
-use Rattle.leaf_journal.proofs.Fitting.{HasLength, Fits, messages_fit, fitting, fits-push}
-use Rattle.leaf_journal.proofs.Images.{appended}
-use Rattle.leaf_journal.proofs.Lives.{itself, append_stays, settled_stays}
+-- The records that bind and migrate, behind others.
+use Rattle.std.proofs.Common.{◌≡◌, ◌<◌, ◌≤◌, ◌+◌, ℕ, true, false, List, [], ◌∷◌, ◌++◌, length, take, drop, refl, ◌∙◌, ap, inl, inr, arith, length-append}
+use Rattle.std.specs.Prelude.{◌||◌}
+use Rattle.std.specs.Int.{w32, to_be_bytes}
+use Rattle.std.specs.Str.{bytes_eq}
+use Rattle.std.proofs.lemmas.Bool.{cases_Bool, eq-eqb, lt-ltb, le-leb}
+use Rattle.std.proofs.lemmas.List.{take_at, drop_at}
+use Rattle.std.proofs.lemmas.List.Folds.{list_any-append}
+use Rattle.std.proofs.lemmas.Slice.Eq.{bytes_eq-Decides}
+use Rattle.leaf_journal.specs.Records.{binding_record, is_marked, is_marker, marker, may_follow, MayBind, messages_of, with_number}
+use Rattle.leaf_journal.proofs.Messages.{other_length}
+use Rattle.leaf_journal.proofs.Form.{more-marked, more-unmarked, more-mark}
 
--- a refused append of a message for which there was room met a fault
-pub only_fault : (r : Result Unit JournalRefusal) → is_err r ≡ true → IfErr r IsAppendRefusal → (IsErrOf r Closed → ⊥) → ((count : ℕ) → IsErrOf r (RecordTooLong count) → ⊥) → r ≢ Err NoMemory → r ≡ Err DeviceFault
-only_fault (Ok done) err named open_still short memory = absurd (cc err)
-only_fault (Err DeviceFault) err named open_still short memory = refl
-only_fault (Err Closed) err named open_still short memory = absurd (open_still refl)
-only_fault (Err (RecordTooLong count)) err named open_still short memory = absurd (short count refl)
-only_fault (Err NoMemory) err named open_still short memory = absurd (memory refl)
-only_fault (Err (AlreadyMade count)) err named open_still short memory = absurd named
-only_fault (Err (NotJournal place)) err named open_still short memory = absurd named
+module _ (records : List (List ℕ)) (message : List ℕ) where
+  abbrev q : ℕ
+  q = length (messages_of records)
 
-pub all_ok : (r : Result Unit JournalRefusal) → is_err r ≡ false → r ≡ Ok tt
-all_ok (Ok done) err = refl
-all_ok (Err why) err = absurd (cc err)
+  second_follows : (leaves : ℕ) → is_marked records ≡ true → 1 ≤ length message → length message ≤ 128 → q < leaves
+      → may_follow leaves records (with_number q message) ≡ true
+  second_follows leaves marked least most leaf =
+      let whole : length (with_number q message) ≡ 4 + length message = length-append (to_be_bytes w32 q) message in
+      let front : take 4 (with_number q message) ≡ to_be_bytes w32 q = take_at (to_be_bytes w32 q) message 4 refl in
+      let number : bytes_eq (take 4 (with_number q message)) (to_be_bytes w32 q) ≡ true = (bytes_eq-Decides _ _).1
+      front in
+      rw (
+        marked,
+        number,
+        le-leb 5 (length (with_number q message)) (omega (arith, whole, least)),
+        le-leb
+            (length (with_number q message)) 132 (omega (arith, whole, most)),
+        lt-ltb q leaves leaf,
+      ) refl
 
--- what holds of each history that is told now
-pub now_told : (P : History → Type 0) (f : History → History) (told now : Option History) → now ≡ option_map f told → WhereTold told (λ history. P (f history)) → WhereTold now P
-now_told P f None now is holds = λ later also. absurd (cc (is, also))
-now_told P f (Some history) now is holds = λ later also. (let same : f history ≡ later = cc (is, also) in subst P same (holds history refl))
+  plain : length message ≡ 116 → is_marker message ≡ false
+  plain whole = other_length message (λ four. omega (arith, whole, four))
 
--- an open journal that has a leaf left
-pub record IsReady (told : Option History) (leaves : ℕ) (old : List (List ℕ)) : Type 0 where
-  pub fits : Fits leaves old
-  pub room : length old < leaves
-  pub settled : WhereTold told (λ history. IsSettled history old)
+  first_follows : (leaves : ℕ) → is_marked records ≡ false → length message ≡ 116 → q < leaves
+      → may_follow leaves records message ≡ true
+  first_follows leaves not_marked whole leaf = rw (not_marked, plain whole, eq-eqb _ _ whole, lt-ltb q leaves leaf)
+      refl
 
-pub ready : {D : Type 0} {told : Option History} {journal : JournalState D} {key : List ℕ} {leaves : ℕ} {old : List (List ℕ)} {capacity : ℕ} → IsSound told journal key leaves old capacity
-    → journal.closed ≡ false → (count : ℕ) → count ≡ length old → (count ≡ leaves → ⊥) → IsReady told leaves old
-ready {leaves = leaves} {old = old} sound open' count is some =
-    let fits = (messages_fit leaves old old sound.are).1 in
-    record { fits = fits; room = omega (arith, fits.within, is, some); settled = sound.settled open' }
+  lengths : MayBind records message → is_marked records ≡ false → length message ≡ 116
+  lengths (inl whole) not_marked = whole
+  lengths (inr second) not_marked = absurd (cc (second.0, not_marked))
 
--- a bind of a message by such a journal
-module _ {leaves : ℕ} {old : List (List ℕ)} {told : Option History} (ready' : IsReady told leaves old) (message : List ℕ) (has : HasLength message) (now : Option History) where
-  abbrev after : Course → History → History
-  after course history = gone course (append_steps (length (spelled old)) message) history
+  bounds : MayBind records message → (1 ≤ length message) × (length message ≤ 128)
+  bounds (inl whole) = (omega (arith, whole), omega (arith, whole))
+  bounds (inr second) = (second.1, second.2)
 
-  more_fits : Fits leaves (old ++ message ∷ [])
-  more_fits = fits-push leaves old message ready'.fits ready'.room has
+  -- a record that binds may follow, and binds the message to the next leaf
+  pub binding_follows : (leaves : ℕ) → MayBind records message → q < leaves
+      → may_follow leaves records (binding_record records message) ≡ true
+  binding_follows leaves may leaf = elim (cases_Bool (is_marked records)) [
+    | inl marked ↦ (let is : binding_record records message ≡ with_number q message = rw marked refl in
+        ap (may_follow leaves records) is ∙ second_follows leaves marked (bounds may).0 (bounds may).1 leaf)
+    | inr not_marked ↦ (let is : binding_record records message ≡ message = rw not_marked refl in
+        ap (may_follow leaves records) is ∙ first_follows leaves not_marked (lengths may not_marked) leaf)
+  ]
 
-  -- the calls of an append to the messages
-  pub told_now : (count : ℕ) → (told ≡ None → now ≡ None) → AppendsTo told message count now → now ≡ option_map (with_made count (append_steps (length (spelled old)) message)) told
-  told_now count silent to = at told refl
-    where
-      at : (t : Option History) → told ≡ t → now ≡ option_map (with_made count (append_steps (length (spelled old)) message)) t
-      at None is = silent is
-      at (Some history) is = to history is old (ready'.settled history is).read
+  pub binding-messages : MayBind records message → messages_of (records ++ binding_record records message ∷ []) ≡
+      messages_of records ++ message ∷ []
+  binding-messages may = elim (cases_Bool (is_marked records)) [
+    | inl marked ↦ (let is : binding_record records message ≡ with_number q message = rw marked refl in
+        more-marked records (binding_record records message) marked
+        ∙ ap (λ (l : List ℕ). messages_of records ++ drop 4 l ∷ []) is
+        ∙ ap (λ (l : List ℕ). messages_of records ++ l ∷ []) (drop_at (to_be_bytes w32 q) message 4 refl))
+    | inr not_marked ↦ (let is : binding_record records message ≡ message = rw not_marked refl in
+        ap (λ (l : List ℕ). messages_of (records ++ l ∷ [])) is
+        ∙ more-unmarked records message not_marked (plain (lengths may not_marked)))
+  ]
 
-  pub life_goes_on : (course : Course) (was_closed now_closed : Bool) (messages : List (List ℕ)) → was_closed ≡ false → now_closed ≡ closes course → Some messages ≡ messages_after course message (Some old)
-      → now ≡ option_map (after course) told → GoesOn leaves (binds message course) told (living was_closed old) now (living now_closed messages)
-  life_goes_on course was_closed now_closed messages was now_is are is =
-      (is, λ history also. ((has, was, (old, refl, ready'.room)), (λ i. record { history = after course history; closed = now_is i; messages = are i })))
+-- so may the marker, which binds none
+pub marker_follows : (leaves : ℕ) (records : List (List ℕ)) → is_marked records ≡ false
+    → may_follow leaves records marker ≡ true
+marker_follows leaves records not_marked = rw not_marked refl
 
-  pub old_stay : (course : Course) → now ≡ option_map (after course) told → WhereTold now (Stay leaves old)
-  old_stay course is =
-      now_told (Stay leaves old) (after course) told now is
-      (λ history also. append_stays leaves history old old message course (ready'.settled history also) ready'.fits more_fits has (itself old))
+pub marker-messages : (records : List (List ℕ)) → is_marked records ≡ false
+    → messages_of (records ++ marker ∷ []) ≡ messages_of records
+marker-messages records not_marked = more-mark records marker (record { unmarked = not_marked; mark = refl })
 
-  pub now_settled : now ≡ option_map (after passed) told → WhereTold now (λ history. IsSettled history (old ++ message ∷ []))
-  now_settled is =
-      now_told (λ history. IsSettled history (old ++ message ∷ [])) (after passed) told now is
-      (λ history also. appended history old message (ready'.settled history also) (omega (arith, has)))
-
-  pub more_stay : now ≡ option_map (after passed) told → WhereTold now (Stay leaves (old ++ message ∷ []))
-  more_stay is history also = settled_stays leaves history (old ++ message ∷ []) (now_settled is history also) more_fits
-
-  pub more_are : messages_of leaves (old ++ message ∷ []) ≡ Ok (old ++ message ∷ [])
-  more_are = fitting leaves (old ++ message ∷ []) more_fits
+pub marker-marked : (records : List (List ℕ)) → is_marked (records ++ marker ∷ []) ≡ true
+marker-marked records = list_any-append is_marker records (marker ∷ []) ∙ or_true (is_marked records)
+  where
+    or_true : (b : _) → (b || true) ≡ true
+    or_true true = refl
+    or_true false = refl

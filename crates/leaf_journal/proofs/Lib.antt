@@ -1,4 +1,5 @@
-mod Fitting
-mod Images
-mod Lives
-mod Binding
+pub mod Messages
+pub mod Form
+pub mod Binding
+pub mod Lives
+pub mod Adding

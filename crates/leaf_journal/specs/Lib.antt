@@ -1,5 +1,4 @@
-pub mod Messages
-pub mod Life
+pub mod Records
 pub mod Leaves
 pub mod Laws
 pub mod Sound

@@ -1,30 +1,51 @@
--- What holds of the leaves of every key.
-use Rattle.std.specs.Prelude.{◌≡◌, ◌<◌, ◌≤◌, ℕ, ◌+◌, false, List, length, Option, Ok, Err}
+-- What holds of the records of every key's leaves, in memory and on a disk.
+use Rattle.std.specs.Prelude.{◌≡◌, ◌<◌, ◌≤◌, ℕ, zero, suc, ◌+◌, false, if◌then◌else◌, List, [], ◌∷◌, length, Option, Ok, Err}
 use Rattle.crash_disk.specs.Disk.{History}
-use Rattle.gate_journal.specs.Journal.{JournalState, IsSettled, WhereTold}
+use Rattle.crash_disk.specs.Calls.{WhereTold}
+use Rattle.gate_journal.specs.Image.{spelled}
+use Rattle.gate_journal.specs.Journal.{JournalState, IsSettled}
+use Rattle.gate_journal.specs.Life.{Stay}
 use Rattle.gate_journal.specs.declared.refusal.JournalRefusal.{JournalRefusal}
 use Rattle.gate_journal.specs.declared.refusal.JournalRefusal.TheVariants.{NotJournal, NoMemory}
-use Rattle.leaf_journal.specs.Messages.{message_length, messages_of}
-use Rattle.leaf_journal.specs.Laws.{Stay}
+use Rattle.leaf_journal.specs.Records.{are_leaf_records, is_marker, leaf_records}
 use Rattle.leaf_journal.specs.Leaves.{leaves_of}
 
--- The journal keeps the messages, also where a fault closed it; while it is open it keeps no other, and there is room for
--- those of all leaves.
-pub record IsSound {D : Type 0} (told : Option History) (journal : JournalState D) (key : List ℕ) (leaves : ℕ) (messages : List (List ℕ)) (capacity : ℕ) : Type 0 where
-  pub count : leaves ≡ leaves_of key
-  pub are : messages_of leaves messages ≡ Ok messages
-  pub stay : WhereTold told (Stay leaves messages)
-  pub settled : journal.closed ≡ false → WhereTold told (λ history. IsSettled history messages)
-  pub bodies : journal.closed ≡ false → leaves ≤ length messages + journal.spare_bodies
-  pub bytes : journal.closed ≡ false → message_length ≤ journal.spare_bytes
-  pub room : leaves ≤ capacity
+-- the number of records before the marker, which are all where there is none
+unfoldable pub first_count : List (List ℕ) → ℕ
+first_count [] = zero
+first_count (body ∷ records) = if is_marker body then zero else suc (first_count records)
+
+-- the records of a key with so many leaves
+pub record LeafRecordsState : Type 0 where
+  pub leaves : ℕ
+  pub records : List (List ℕ)
+
+-- the records are those of the leaves, the ones before the marker are counted, and there is room for all and the
+-- marker
+pub record AreSound (leaves : ℕ) (records : List (List ℕ)) (first capacity : ℕ) : Type 0 where
+  pub are : leaf_records leaves records ≡ Ok records
+  pub count : first ≡ first_count records
+  pub few : leaves ≤ 1024
+  pub room : leaves + 1 ≤ capacity
+
+-- The journal keeps the records, also where a fault closed it; while it is open it keeps no other, its gate is behind
+-- them, and there is room for those of all leaves and the marker.
+pub record IsSound {D : Type 0} (told : Option History) (journal : JournalState D) (key : List ℕ)
+    (kept : LeafRecordsState) : Type 0 where
+  pub count : kept.leaves ≡ leaves_of key
+  pub are : leaf_records kept.leaves kept.records ≡ Ok kept.records
+  pub stay : WhereTold told (Stay (are_leaf_records kept.leaves) kept.records)
+  pub settled : journal.closed ≡ false → WhereTold told (λ history. IsSettled history kept.records)
+  pub gate : journal.closed ≡ false → journal.gate ≡ length (spelled kept.records)
+  pub bodies : journal.closed ≡ false → kept.leaves + 1 ≤ length kept.records + journal.spare_bodies
+  pub bytes : journal.closed ≡ false → 132 ≤ journal.spare_bytes
 
 -- the leaf is one of the key's
 abbrev pub IsBound : List ℕ → ℕ → Type 0
 IsBound key leaf = leaf < leaves_of key
 
--- why records weren't read as messages: not all are, with the place of the first; or want of memory
-abbrev pub IsMessagesRefusal : ℕ → List (List ℕ) → JournalRefusal → Type 0
-IsMessagesRefusal leaves records (NotJournal place) = messages_of leaves records ≡ Err place
-IsMessagesRefusal leaves records NoMemory = Unit {0}
-IsMessagesRefusal leaves records refusal = ⊥
+-- why records weren't taken as those of leaves: they aren't, with the place of the first that isn't; or want of memory
+abbrev pub IsFormRefusal : ℕ → List (List ℕ) → JournalRefusal → Type 0
+IsFormRefusal leaves records (NotJournal place) = leaf_records leaves records ≡ Err place
+IsFormRefusal leaves records NoMemory = Unit {0}
+IsFormRefusal leaves records refusal = ⊥

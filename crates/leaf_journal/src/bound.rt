@@ -3,6 +3,7 @@ ghost use Rattle.lms_sign.specs.Types.{signature_length};
 ghost use Rattle.lms_sign.specs.Tree.{public_key_of, signature_of};
 ghost use Rattle.lms_sign.specs.Valid.{IsValid};
 
+use super::short::ShortBytes;
 use lms_sign::{SecretKey, sign};
 use std::marker::Model;
 
@@ -12,7 +13,7 @@ use std::marker::Model;
 pub struct Bound {
     pub(crate) key: [u8; 56],
     pub(crate) leaf: u32,
-    pub(crate) message: [u8; 116],
+    pub(crate) message: ShortBytes,
 }
 
 impl Model for Bound {
@@ -42,11 +43,11 @@ impl Bound {
         self.leaf
     }
 
-    /// The message, 116 bytes.
-    pub fn message(&self) -> &[u8; 116]
+    /// The message, of 1 to 128 bytes.
+    pub fn message(&self) -> &[u8]
         ensures { result.now ≡ self.now.message }
     {
-        &self.message
+        self.message.as_slice()
     }
 
     /// Writes the leaf's signature of the message (RFC 8554, section 5.4.1). The key has to be the one
@@ -59,6 +60,6 @@ impl Bound {
     {
         let leaves = key.leaves();
         prove!(self.leaf < leaves);
-        sign(key, self.leaf, &self.message, out);
+        sign(key, self.leaf, self.message.as_slice(), out);
     }
 }

@@ -1,6 +1,6 @@
-ghost use Rattle.leaf_journal.specs.Laws.{BoundMessagesStay, ALeafHasOneMessage, MadeJournalsStay};
+ghost use Rattle.leaf_journal.specs.Laws.{BoundMessagesStay, ALeafHasOneMessage, MadeJournalsStay, StoppedBinds, StoppedMigrations};
 
-/// Over every list of openings, binds, faults and crashes: a leaf has one message.
+/// Over every list of openings, binds, migrations, faults and crashes: a leaf has one message.
 pub fn a_leaf_has_one_message()
     ensures { ALeafHasOneMessage }
 {}
@@ -11,7 +11,18 @@ pub fn bound_messages_stay()
     ensures { BoundMessagesStay }
 {}
 
-/// After its making a journal never stops to be one of these leaves.
+/// A journal of these leaves never stops to be one: no later opening answers `NotJournal`.
 pub fn made_journals_stay()
     ensures { MadeJournalsStay }
+{}
+
+/// Whether a leaf is bound after a crash of a bind that was stopped after so many of its device calls.
+pub fn stopped_binds()
+    ensures { StoppedBinds }
+{}
+
+/// Whether the marker is there after a crash of a migration that was stopped after so many of its device
+/// calls. No message changes.
+pub fn stopped_migrations()
+    ensures { StoppedMigrations }
 {}

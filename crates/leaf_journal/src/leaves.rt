@@ -1,35 +1,37 @@
-ghost use Rattle.std.specs.Prelude.{◌≡◌, ◌≢◌, ◌↔◌, ◌<◌, ◌≤◌, ◌||◌, ◌+◌, ◌++◌, ◌∷◌, [], ℕ, true, false, length, if◌then◌else◌, is_ok, option_map, Some, Ok, IfOk, IfErr, OnOk, IsErrOf};
-ghost use Rattle.std.specs.Option.{OnSome};
+ghost use Rattle.std.specs.Prelude.{◌≡◌, ◌≤◌, ◌++◌, ◌∷◌, ◌+◌, ℕ, [], true, false, length, if◌then◌else◌, is_ok, is_err, option_map, Ok, IfOk, IfErr, OnOk, OnErr};
+ghost use Rattle.std.specs.Option.{OnSome, option_copied};
 ghost use Rattle.std.specs.List.{slice_get};
-ghost use Rattle.std.specs.Option.{option_copied};
-ghost use Rattle.crash_disk.specs.Causes.{Rose};
-ghost use Rattle.crash_disk.specs.Disk.{held};
-ghost use Rattle.gate_journal.specs.Journal.{KeepsWithOrWithout, LeavesOnly, IsSettled, WhereTold};
+ghost use Rattle.plasma_base.specs.Causes.{faults_after};
+ghost use Rattle.crash_disk.specs.Disk.{content};
+ghost use Rattle.crash_disk.specs.Calls.{WhereTold, IsStill, passed, Made};
+ghost use Rattle.gate_journal.specs.Steps.{open_steps};
+ghost use Rattle.gate_journal.specs.Journal.{IsSettled, RefusesOpen, is_device_fault, with_spare};
+ghost use Rattle.gate_journal.specs.Life.{Stay};
 ghost use Rattle.lms_sign.specs.Tree.{public_key_of};
-ghost use Rattle.std.specs.Vec.{vec_capacity};
-ghost use Rattle.leaf_journal.specs.Messages.{message_length, messages_of, messages_in};
-ghost use Rattle.leaf_journal.specs.Sound.{IsMessagesRefusal};
-ghost use Rattle.leaf_journal.specs.Laws.{Stay};
-ghost use Rattle.leaf_journal.specs.Leaves.{leaves_of, living, Opens, RefusesOpen, TellsBind, is_fault};
+ghost use Rattle.leaf_journal.specs.Records.{are_leaf_records, is_marked, leaf_records, leaf_records_in, marker, may_follow, MayBind, messages_of};
+ghost use Rattle.leaf_journal.specs.Leaves.{leaves_of, Adds, FailsToAdd, Binds, Migrates, is_fault, is_migrate_fault};
+ghost use Rattle.leaf_journal.specs.Sound.{IsFormRefusal};
 
 use super::bound::Bound;
-use super::messages::read_messages;
-use super::refusal::BindRefusal;
-use crash_disk::Disk;
+use super::reading::read_records;
+use super::records::{LeafRecords, MARKER};
+use super::refusal::{BindRefusal, MigrateRefusal};
+use super::short::ShortBytes;
+use crash_disk::{Disk, DiskFailed};
 use gate_journal::{Journal, JournalRefusal, Returned};
 use lms_sign::SecretKey;
 use plasma_base::Bytes;
 use std::alloc::Global;
 use std::marker::Model;
 
-/// The leaves of a key, and the messages that they are bound to, in a journal on a disk: the record's
-/// number is the leaf's. A device fault closes it until its disk is taken back and opened again.
+/// The leaves of a key, and the messages that they are bound to, in a journal on a disk. Before its marker
+/// record `PGL2` each record is a message of 116 bytes, behind it each is the leaf's number in four bytes
+/// and a message of 1 to 128 bytes. A device fault closes it until its disk is taken back and opened again.
 #[derive(Drop)]
 pub struct Leaves<D: Disk> {
     journal: Journal<D>,
     key: [u8; 56],
-    leaves: u32,
-    messages: Vec<[u8; 116]>,
+    records: LeafRecords,
 }
 
 impl<D: Disk> Model for Leaves<D> {
@@ -37,82 +39,95 @@ impl<D: Disk> Model for Leaves<D> {
 
     ghost Value = { LeavesState D };
 
-    ghost use Rattle.std.specs.Vec.{vec_capacity};
     ghost use Rattle.leaf_journal.specs.Sound.{IsSound};
 
-    ghost view = { λ l. record { disk = l.journal.disk; closed = l.journal.closed; key = l.key; messages = l.messages.items } };
+    ghost view = { λ l. record {
+      disk = l.journal.disk;
+      closed = l.journal.closed;
+      key = l.key;
+      records = l.records.records;
+    } };
 
-    ghost invariant = { λ l. IsSound (D.told l.journal.disk) l.journal l.key l.leaves l.messages.items (vec_capacity l.messages) };
+    ghost invariant = { λ l. IsSound (D.told l.journal.disk) l.journal l.key l.records };
 }
 
-// The messages by leaf, in a list that is empty and has room for all leaves, and room in the journal for
-// those of the other leaves.
+// The records of a journal as those of leaves, and room in it for those of the other leaves and the marker.
 fn prepare<D: Disk>(
     journal: &mut Journal<D>,
-    leaves: u32,
-    records: &[Bytes],
-    room: Vec<[u8; 116]>,
-) -> Result<Vec<[u8; 116]>, JournalRefusal>
-    requires empty { room.items ≡ [] }
-    requires room { leaves ≤ vec_capacity room }
-    ensures messages { IfOk result (λ messages. messages_of leaves records.now ≡ Ok messages.items) }
-    ensures room { IfOk result (λ messages. leaves ≤ vec_capacity messages) }
-    ensures bodies { IfOk result (λ messages. leaves ≤ length messages.items + journal.new.spare_bodies) }
-    ensures bytes { OnOk result (message_length ≤ journal.new.spare_bytes) }
-    ensures history { D.told journal.new.disk ≡ D.told journal.old.disk }
-    ensures faults { D.faults journal.new.disk ≡ D.faults journal.old.disk }
-    ensures plan { D.plan journal.new.disk ≡ D.plan journal.old.disk }
-    ensures closed { journal.new.closed ≡ journal.old.closed }
-    ensures refused { IfErr result (IsMessagesRefusal leaves records.now) }
+    none: LeafRecords,
+    bodies: &[Bytes],
+) -> Result<LeafRecords, JournalRefusal>
+    requires { none.records ≡ [] }
+    ensures records { IfOk result (λ kept. leaf_records none.leaves bodies.now ≡ Ok kept.records) }
+    ensures leaves { IfOk result (λ kept. kept.leaves ≡ none.leaves) }
+    ensures room { IfOk result (λ kept. (others : ℕ) × (others + length kept.records ≡ kept.leaves + 1)
+        × (journal.new ≡ with_spare others 132 journal.new.disk journal.old)) }
+    ensures still { IsStill D.told D.plan D.faults journal.old.disk journal.new.disk }
+    ensures refused { IfErr result (IsFormRefusal none.leaves bodies.now) }
 {
-    let messages = read_messages(leaves, records, room)?;
-    let others = u64::from(leaves).saturating_sub(messages.len() as u64);
-    journal.reserve(others, 116)?;
-    Ok(messages)
+    let kept = match read_records(none, bodies) {
+        Ok(kept) => kept,
+        Err(place) => return Err(JournalRefusal::NotJournal { place }),
+    };
+    journal.reserve(kept.others(), 132)?;
+    Ok(kept)
 }
 
 impl<D: Disk> Leaves<D> {
-    /// Opens the journal of a key's leaves, and takes the memory for all of them. At `Ok` each image that
-    /// a crash may leave keeps the messages at their leaves, and so it stays (`bound_messages_stay`).
-    /// Device calls: those of `Journal::open`.
+    /// Opens the journal of a key's leaves, and takes the memory for all of them and the marker. At `Ok`
+    /// each image that a crash may leave keeps the messages at their leaves, and so it stays
+    /// (`bound_messages_stay`). Device calls: those of `Journal::open`.
     ///
     /// `NotJournal` comes where the image spells no records, as `Journal::open` says, and else where a
-    /// record isn't 116 bytes long or is one past the number of leaves, with the place of the gate of the
-    /// first such record. A refusal hands the disk back.
+    /// record breaks the form, with the place of the gate of the first one: before the marker one that
+    /// neither has 116 bytes nor is the marker; behind it one that hasn't 5 to 132 bytes, or whose number
+    /// isn't its place among the messages; and a message past the number of leaves. A refusal hands the
+    /// disk back.
     pub fn open(alloc: Global, disk: D, key: &SecretKey) -> Result<Leaves<D>, Returned<D>>
-        ensures messages { IfOk result (λ opened. WhereTold (D.told disk) (λ before. messages_in (leaves_of (public_key_of key.now)) (held before) ≡ Ok opened.messages)) }
-        ensures key { IfOk result (λ opened. opened.key ≡ public_key_of key.now) }
-        ensures not_closed { IfOk result (λ opened. opened.closed ≡ false) }
-        ensures settled { IfOk result (λ opened. WhereTold (D.told opened.disk) (λ now. IsSettled now opened.messages)) }
-        ensures tells { IfOk result (λ opened. Opens (leaves_of (public_key_of key.now)) (D.told disk) (D.plan disk)
-            (D.told opened.disk) (D.plan opened.disk) (living opened.closed opened.messages)) }
-        ensures later { IfOk result (λ opened. D.faults disk ≤ D.faults opened.disk) }
-        ensures refused { IfErr result (λ returned. RefusesOpen (leaves_of (public_key_of key.now)) (D.told disk) (D.plan disk)
-            (D.told returned.disk) (D.plan returned.disk) returned.why) }
-        ensures refused_later { IfErr result (λ returned. D.faults disk ≤ D.faults returned.disk) }
-        ensures fault { IfErr result (λ returned. returned.why ≡ JournalRefusal.DeviceFault → Rose (D.faults disk) (D.faults returned.disk)) }
+        ensures records { IfOk result (λ opened. WhereTold (D.told disk) (λ before.
+            leaf_records_in (leaves_of (public_key_of key.now)) (content before) ≡ Ok opened.records)) }
+        ensures leaves { IfOk result (λ opened. opened
+            ≡ record { disk = opened.disk; closed = false; key = public_key_of key.now; records = opened.records }) }
+        ensures settled { IfOk result (λ opened. WhereTold (D.told opened.disk) (λ now. IsSettled now opened.records)) }
+        ensures made { IfOk result (λ opened. Made D.told D.plan open_steps 3 passed disk opened.disk) }
+        ensures cause { IfOk result (λ opened. D.faults opened.disk ≡ D.faults disk) }
+        ensures refused { IfErr result (λ returned.
+            RefusesOpen (leaf_records_in (leaves_of (public_key_of key.now)))
+            D.told D.plan disk returned.why returned.disk) }
+        ensures refused_cause { IfErr result (λ returned.
+            D.faults returned.disk ≡ faults_after (D.faults disk) (is_device_fault returned.why)) }
     {
-        let leaves = key.leaves();
-        let Ok(room) = Vec::with_capacity(alloc, leaves as usize) else {
+        let Ok(none) = LeafRecords::new(alloc, key.leaves()) else {
             let why = JournalRefusal::NoMemory;
             return Err(Returned { disk, why });
         };
-        let (mut journal, records) = match Journal::open(alloc, disk) {
+        let (mut journal, bodies) = match Journal::open(alloc, disk) {
             Ok(opened) => opened,
             Err(returned) => return Err(returned),
         };
-        match prepare(&mut journal, leaves, &records, room) {
-            Ok(messages) => Ok(Leaves {
+        match prepare(&mut journal, none, &bodies) {
+            Ok(records) => Ok(Leaves {
                 journal,
                 key: key.public(),
-                leaves,
-                messages,
+                records,
             }),
             Err(why) => Err(Returned {
                 disk: journal.take_disk(),
                 why,
             }),
         }
+    }
+
+    /// What holds of all leaves: their records have the form, an open journal is settled with them, and each
+    /// image that a crash may leave continues them, also where a fault closed the journal.
+    pub fn is_whole(&self)
+        ensures are { leaf_records (leaves_of self.now.key) self.now.records ≡ Ok self.now.records }
+        ensures settled { self.now.closed ≡ false →
+            WhereTold (D.told self.now.disk) (λ now. IsSettled now self.now.records) }
+        ensures stay { WhereTold (D.told self.now.disk)
+            (Stay (are_leaf_records (leaves_of self.now.key)) self.now.records) }
+    {
+        let _ = &self.key;
     }
 
     /// Whether a device fault closed the journal.
@@ -122,74 +137,114 @@ impl<D: Disk> Leaves<D> {
         self.journal.is_closed()
     }
 
-    /// Binds the next leaf to a message. At `Ok` each image that a crash may leave keeps the message at
-    /// this leaf, and so it stays (`bound_messages_stay`); a crash at a moment of this call leaves the
-    /// messages with the new one or without. Device calls: those of `Journal::append`, and none where
-    /// `KeySpent` or `Closed` is answered. It takes no memory.
+    /// Whether the marker is there.
+    pub fn marked(&self) -> bool
+        ensures { result ≡ is_marked self.now.records }
+    {
+        self.records.is_marked()
+    }
+
+    /// Binds the next leaf to a message of 116 bytes or, where the marker is there, of 1 to 128. At `Ok`
+    /// each image that a crash may leave keeps the message at this leaf, and so it stays
+    /// (`bound_messages_stay`); `stopped_binds` says what a crash leaves of a bind that was stopped. Device
+    /// calls: those of `Journal::append`, and none where `KeySpent` or `Closed` is answered. It takes no
+    /// memory.
     ///
     /// In this order: `Closed` after a device fault; `KeySpent` where every leaf is bound;
     /// `DeviceFault`, which closes the journal.
-    pub fn bind(&mut self, message: &[u8; 116]) -> Result<Bound, BindRefusal>
-        ensures closed { IsErrOf result BindRefusal.Closed ↔ (self.old.closed ≡ true) }
-        ensures spent { (count : ℕ) → (IsErrOf result (BindRefusal.KeySpent count)
-            ↔ ((self.old.closed ≡ false) × (length self.old.messages ≡ leaves_of self.old.key) × (count ≡ length self.old.messages))) }
-        ensures fault { IsErrOf result BindRefusal.DeviceFault → Rose (D.faults self.old.disk) (D.faults self.new.disk) }
-        ensures later { D.faults self.old.disk ≤ D.faults self.new.disk }
-        ensures unchanged { IfErr result (λ why. why ≢ BindRefusal.DeviceFault → self.new ≡ self.old) }
-        ensures shows { IfOk result (λ bound. bound ≡ record { key = self.old.key; leaf = length self.old.messages; message = message.now }) }
-        ensures messages { self.new.messages ≡ (if is_ok result then self.old.messages ++ message.now ∷ [] else self.old.messages) }
-        ensures key { self.new.key ≡ self.old.key }
-        ensures closes { self.new.closed ≡ (self.old.closed || is_fault result) }
-        ensures kept { OnOk result (WhereTold (D.told self.new.disk) (λ now. IsSettled now self.new.messages)) }
-        ensures tells { TellsBind D.told D.plan message.now self.old result self.new }
-        ensures any_moment { self.old.closed ≡ false → WhereTold (D.told self.old.disk) (λ before.
-            WhereTold (D.told self.new.disk) (λ now. LeavesOnly before now (KeepsWithOrWithout self.old.messages message.now))) }
+    pub fn bind(&mut self, message: &[u8]) -> Result<Bound, BindRefusal>
+        requires { MayBind self.old.records message.now }
+        ensures binds { Binds D.told D.plan message.now self.old result self.new }
+        ensures messages { messages_of self.new.records
+            ≡ (if is_ok result then messages_of self.old.records ++ message.now ∷ []
+            else messages_of self.old.records) }
+        ensures cause { D.faults self.new.disk ≡ faults_after (D.faults self.old.disk) (is_fault result) }
     {
-        if self.journal.is_closed() {
+        if self.is_closed() {
             return Err(BindRefusal::Closed);
         }
-        if self.messages.len() == self.leaves as usize {
-            return Err(BindRefusal::KeySpent { used: self.leaves });
+        let used = self.used();
+        if self.records.is_spent() {
+            return Err(BindRefusal::KeySpent { used });
         }
-        if self.journal.append(message).is_err() {
-            return Err(BindRefusal::DeviceFault);
+        let body = self.records.binding_record(message);
+        match self.add(body) {
+            Ok(()) => Ok(Bound {
+                key: self.key,
+                leaf: used,
+                message: ShortBytes::of(message),
+            }),
+            Err(DiskFailed) => Err(BindRefusal::DeviceFault),
         }
-        let leaf = self.messages.len() as u32;
-        self.messages.push(*message).unwrap();
-        Ok(Bound {
-            key: self.key,
-            leaf,
-            message: *message,
-        })
+    }
+
+    /// Adds the marker, behind which records have the second form. No leaf and no message changes. Device
+    /// calls: those of `Journal::append`, and none where `Closed` or `AlreadyNew` is answered. It takes no
+    /// memory.
+    ///
+    /// In this order: `Closed` after a device fault; `AlreadyNew` where the marker is there;
+    /// `DeviceFault`, which closes the journal.
+    pub fn migrate(&mut self) -> Result<(), MigrateRefusal>
+        ensures migrates { Migrates D.told D.plan self.old result self.new }
+        ensures messages { messages_of self.new.records ≡ messages_of self.old.records }
+        ensures marked { OnOk result (is_marked self.new.records ≡ true) }
+        ensures cause { D.faults self.new.disk ≡ faults_after (D.faults self.old.disk) (is_migrate_fault result) }
+    {
+        if self.is_closed() {
+            return Err(MigrateRefusal::Closed);
+        }
+        if self.marked() {
+            return Err(MigrateRefusal::AlreadyNew);
+        }
+        match self.add(ShortBytes::of(&MARKER)) {
+            Ok(()) => Ok(()),
+            Err(DiskFailed) => Err(MigrateRefusal::DeviceFault),
+        }
+    }
+
+    // Appends a record that may follow, of an open journal, and takes it into memory.
+    fn add(&mut self, body: ShortBytes) -> Result<(), DiskFailed>
+        requires open { self.old.closed ≡ false }
+        requires follows { may_follow (leaves_of self.old.key) self.old.records body ≡ true }
+        ensures adds { OnOk result (Adds D.told D.plan body self.old self.new) }
+        ensures fails { OnErr result (FailsToAdd D.told D.plan body self.old self.new) }
+        ensures cause { D.faults self.new.disk ≡ faults_after (D.faults self.old.disk) (is_err result) }
+    {
+        if self.journal.append(body.as_slice()).is_err() {
+            return Err(DiskFailed);
+        }
+        self.records.push(body);
+        Ok(())
     }
 
     /// The bound message of a leaf, ready to be signed again; `None` where that leaf isn't bound. It takes
     /// no memory.
     pub fn again(&self, q: u32) -> Option<Bound>
-        ensures value { result ≡ option_map (λ message. record { key = self.now.key; leaf = q; message = message }) (slice_get self.now.messages q) }
-        ensures kept { OnSome result (WhereTold (D.told self.now.disk) (Stay (leaves_of self.now.key) self.now.messages)) }
+        ensures value { result ≡ option_map
+            (λ message. record { key = self.now.key; leaf = q; message = message })
+            (slice_get (messages_of self.now.records) q) }
     {
-        let message = self.messages.get(q as usize)?;
+        let message = self.records.message(q)?;
         Some(Bound {
             key: self.key,
             leaf: q,
-            message: *message,
+            message: ShortBytes::of(message),
         })
     }
 
     /// The message that a leaf is bound to, lent; `None` where that leaf isn't bound.
-    pub fn record(&self, q: u32) -> Option<&[u8; 116]>
-        ensures { option_copied result ≡ slice_get self.now.messages q }
+    pub fn record(&self, q: u32) -> Option<&[u8]>
+        ensures { option_copied result ≡ slice_get (messages_of self.now.records) q }
     {
-        self.messages.get(q as usize)
+        self.records.message(q)
     }
 
     /// The number of bound leaves, which are the first ones.
     pub fn used(&self) -> u32
-        ensures value { result ≡ length self.now.messages }
+        ensures value { result ≡ length (messages_of self.now.records) }
         ensures within { result ≤ leaves_of self.now.key }
     {
-        self.messages.len() as u32
+        self.records.used()
     }
 
     /// The disk, handed back.

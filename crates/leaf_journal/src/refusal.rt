@@ -9,7 +9,21 @@ pub enum BindRefusal {
     /// A device call failed. The message may be kept or not.
     #[error("device fault")]
     DeviceFault,
-    /// A device call failed in an earlier bind.
+    /// A device call failed in an earlier call.
+    #[error("closed")]
+    Closed,
+}
+
+/// Why the marker wasn't added. A refusal other than `DeviceFault` changed nothing.
+#[derive(Debug, Clone, Copy, PartialEq, Eq, Error)]
+pub enum MigrateRefusal {
+    /// The marker is there.
+    #[error("already new")]
+    AlreadyNew,
+    /// A device call failed. The marker may be kept or not.
+    #[error("device fault")]
+    DeviceFault,
+    /// A device call failed in an earlier call.
     #[error("closed")]
     Closed,
 }

@@ -1,12 +1,11 @@
 -- The nodes that a tree keeps are the digests of the parts of its map.
-use Rattle.std.proofs.Common.{◌≡◌, ◌≢◌, ℕ, zero, suc, ◌+◌, ◌/◌, ◌^◌, ◌<◌, ◌≤◌, ◌==◌, nat_eq, Bool, true, false, List, [], ◌∷◌, length, slice_index_or, Option, Some, None, refl, sym, ap, ◌∙◌, inl, inr, arith}
+use Rattle.std.proofs.Common.{◌≡◌, ◌≢◌, ℕ, ◌/◌, ◌^◌, ◌<◌, ◌≤◌, ◌==◌, List, [], slice_index_or, refl, sym, ap, ◌∙◌, inl, inr, arith}
 use Rattle.std.specs.HashMap.{HashMap}
-use Rattle.std.specs.List.{All}
 use Rattle.std.specs.Option.{unwrap_or}
 use Rattle.std.specs.Str.{bytes_eq}
 use Rattle.std.proofs.lemmas.Bool.{cases_Bool, eqb-true, eqb-false}
 use Rattle.std.proofs.lemmas.Slice.Eq.{bytes_eq-Decides}
-use Rattle.sparse_merkle.specs.TreeDigest.{node_string, with_leaf, subtree_digest, default_digest, root_of, IsMap, AreDefaults}
+use Rattle.sparse_merkle.specs.TreeDigest.{node_string, with_leaf, subtree_digest, root_of, AreDefaults}
 use Rattle.sparse_merkle.specs.declared.tree.Entry.{Entry}
 use Rattle.sparse_merkle.proofs.TreeLaws.{IsMap-with_leaf, default_digest-suc}
 use Rattle.merkle_pages.specs.Nodes.{part_at, KeepsNodes}
@@ -15,7 +14,8 @@ use Rattle.merkle_pages.specs.declared.pages.PageName.{PageName}
 use Rattle.merkle_pages.proofs.PageLaws.{place-level, prefix-from, name_at-prefix, place_at-prefix, page_node-none}
 use Rattle.merkle_pages.proofs.PartLaws.{part_at-same, part_at-whole, part_at-other, part_at-empty}
 
-pub KeepsNodes-none : {S T : Type 0} (dig : List ℕ → List ℕ) (entries : List Entry) (defaults : List (List ℕ)) (root : List ℕ)
+pub KeepsNodes-none : {S T : Type 0} (dig : List ℕ → List ℕ) (entries : List Entry) (defaults : List (List ℕ))
+    (root : List ℕ)
     (pages : HashMap PageName (HashMap ℕ (List ℕ) S) T) → entries ≡ [] → AreDefaults dig defaults
     → root ≡ dig (node_string (slice_index_or defaults 63 []) (slice_index_or defaults 63 [])) → pages.entries ≡ []
     → KeepsNodes dig entries defaults root pages
@@ -28,18 +28,11 @@ KeepsNodes-none dig entries defaults root pages none are root_is empty = record 
   });
   defaults_are = are;
   root_is = root_is ∙ rw (none, are 63 (omega arith)) (sym (default_digest-suc dig 63));
-  nodes = λ level coin lt. rw (page_node-none pages (name_at level coin) (place_at level coin) empty, none, part_at-empty level coin) (are level lt);
-}
-
--- pages with the same nodes
-pub KeepsNodes-same : {S T : Type 0} (dig : List ℕ → List ℕ) (entries : List Entry) (defaults : List (List ℕ)) (root : List ℕ)
-    (old new : HashMap PageName (HashMap ℕ (List ℕ) S) T) → KeepsNodes dig entries defaults root old
-    → ((name : PageName) (place : ℕ) → page_node new name place ≡ page_node old name place) → KeepsNodes dig entries defaults root new
-KeepsNodes-same dig entries defaults root old new h same = record {
-  map = h.map;
-  defaults_are = h.defaults_are;
-  root_is = h.root_is;
-  nodes = λ level coin lt. rw (same (name_at level coin) (place_at level coin)) (h.nodes level coin lt);
+  nodes = λ level coin lt. rw (
+    page_node-none pages (name_at level coin) (place_at level coin) empty,
+    none,
+    part_at-empty level coin,
+  ) (are level lt);
 }
 
 kept-read : (digest default : List ℕ) → unwrap_or (kept_digest digest default) default ≡ digest
@@ -49,10 +42,12 @@ kept-read digest default = elim (cases_Bool (bytes_eq digest default)) [
 ]
 
 -- a put that sets the digests of its coin's way up
-pub KeepsNodes-put : {S T : Type 0} (dig : List ℕ → List ℕ) (entries : List Entry) (defaults digests : List (List ℕ)) (root : List ℕ)
+pub KeepsNodes-put : {S T : Type 0} (dig : List ℕ → List ℕ) (entries : List Entry) (defaults digests : List (List ℕ))
+    (root : List ℕ)
     (old roomy new : HashMap PageName (HashMap ℕ (List ℕ) S) T) (coin : ℕ) (leaf : List ℕ) → coin < 2 ^ 64
     → KeepsNodes dig entries defaults root old
-    → ((level : ℕ) → level ≤ 64 → slice_index_or digests level [] ≡ subtree_digest dig level (part_at level coin (with_leaf entries coin leaf)))
+    → ((level : ℕ) → level ≤ 64 → slice_index_or digests level [] ≡ subtree_digest dig level
+    (part_at level coin (with_leaf entries coin leaf)))
     → ((name : PageName) (place : ℕ) → page_node roomy name place ≡ page_node old name place)
     → SetsPages coin digests defaults 64 roomy new
     → KeepsNodes dig (with_leaf entries coin leaf) defaults (slice_index_or digests 64 []) new
@@ -71,7 +66,8 @@ KeepsNodes-put dig entries defaults digests root old roomy new coin leaf lt h di
               place_at-prefix level other coin e,
               sets.set level in_tree,
               part_at-same other coin level (with_leaf entries coin leaf) e,
-            ) (kept-read (slice_index_or digests level []) (slice_index_or defaults level []) ∙ digests_are level (omega arith))
+            ) (kept-read (slice_index_or digests level []) (slice_index_or defaults level [])
+            ∙ digests_are level (omega arith))
         | inr isnt ↦
             let ne : other / 2 ^ level ≢ coin / 2 ^ level = eqb-false _ _ isnt in
             rw (
@@ -82,7 +78,8 @@ KeepsNodes-put dig entries defaults digests root old roomy new coin leaf lt h di
       ];
     }
   where
-    elsewhere : (level other : ℕ) → other / 2 ^ level ≢ coin / 2 ^ level → (k : ℕ) → k < 64 → name_at level other ≡ name_at k coin
+    elsewhere : (level other : ℕ) → other / 2 ^ level ≢ coin / 2 ^ level → (k : ℕ) → k < 64
+        → name_at level other ≡ name_at k coin
         → place_at level other ≢ place_at k coin
     elsewhere level other ne k below name place =
         let page : level / 16 ≡ k / 16 = ap (λ (n : PageName). n.number) name in
@@ -90,7 +87,9 @@ KeepsNodes-put dig entries defaults digests root old roomy new coin leaf lt h di
         ne (prefix-from level other coin (rw (← e) at name) (rw (← e) at place))
 
 pub node-root : {S T : Type 0} (dig : List ℕ → List ℕ) (entries : List Entry) (defaults : List (List ℕ)) (root : List ℕ)
-    (pages : HashMap PageName (HashMap ℕ (List ℕ) S) T) (level coin : ℕ) → coin < 2 ^ 64 → level ≡ 64 → KeepsNodes dig entries defaults root pages
+    (pages : HashMap PageName (HashMap ℕ (List ℕ) S) T) (level coin : ℕ) → coin < 2 ^ 64 → level ≡ 64
+    → KeepsNodes dig entries defaults root pages
     → root ≡ subtree_digest dig level (part_at level coin entries)
 unfolding root_of
-node-root dig entries defaults root pages level coin lt top h = rw (top, part_at-whole coin entries lt h.map.small) h.root_is
+node-root dig entries defaults root pages level coin lt top h = rw (top, part_at-whole coin entries lt h.map.small)
+    h.root_is

@@ -1,5 +1,5 @@
 -- Pages as functions from a name and a place to a node.
-use Rattle.std.proofs.Common.{◌≡◌, ◌≢◌, ℕ, zero, suc, ◌+◌, ◌-◌, ◌*◌, ◌/◌, ◌%◌, ◌^◌, ◌<◌, ◌≤◌, ◌==◌, ◌&&◌, nat_eq, Bool, true, false, cond, List, [], length, slice_index_or, IsSome, IfSome, Option, Some, None, refl, sym, ap, ◌∙◌, inl, inr, arith}
+use Rattle.std.proofs.Common.{◌≡◌, ◌≢◌, ℕ, suc, ◌+◌, ◌-◌, ◌*◌, ◌/◌, ◌%◌, ◌^◌, ◌<◌, ◌≤◌, ◌==◌, nat_eq, true, false, cond, List, [], length, slice_index_or, Some, None, refl, sym, ap, ◌∙◌, inl, inr, arith}
 use Rattle.std.specs.HashMap.{HashMap, get, spare}
 use Rattle.std.proofs.Math.Nat.{pow-succ', div-add-mod}
 use Rattle.std.proofs.lemmas.Bool.{cases_Bool, cases_lt, eqb-true, and_parts, eq-eqb, ne_eqb, and_from, and_left}
@@ -18,15 +18,19 @@ name_of-same number other bits more e f = rw (e, f) refl
 pub same_name-true : (one other : PageName) → same_name one other ≡ true → one ≡ other
 same_name-true one other h =
     let parts = and_parts (one.number == other.number) (one.bits == other.bits) h in
-    name_of-same one.number other.number one.bits other.bits (eqb-true one.number other.number parts.0) (eqb-true one.bits other.bits parts.1)
+    name_of-same one.number other.number one.bits other.bits (eqb-true one.number other.number parts.0)
+    (eqb-true one.bits other.bits parts.1)
 
 -- the pages with that page under that name
-abbrev pub PutsPage : {S T : Type 0} → HashMap PageName (HashMap ℕ (List ℕ) S) T → HashMap PageName (HashMap ℕ (List ℕ) S) T → PageName
+abbrev pub PutsPage : {S T : Type 0} → HashMap PageName (HashMap ℕ (List ℕ) S) T
+    → HashMap PageName (HashMap ℕ (List ℕ) S) T → PageName
     → HashMap ℕ (List ℕ) S → Type 0
-PutsPage old new name page = (other : PageName) → get same_name new other ≡ cond (same_name name other) (Some page) (get same_name old other)
+PutsPage old new name page = (other : PageName) → get same_name new other ≡ cond (same_name name other) (Some page)
+    (get same_name old other)
 
 -- a page with the same nodes changes no node
-pub page_node-same : {S T : Type 0} (old new : HashMap PageName (HashMap ℕ (List ℕ) S) T) (name : PageName) (page made : HashMap ℕ (List ℕ) S)
+pub page_node-same : {S T : Type 0} (old new : HashMap PageName (HashMap ℕ (List ℕ) S) T) (name : PageName)
+    (page made : HashMap ℕ (List ℕ) S)
     → Some page ≡ get same_name old name → PutsPage old new name made
     → ((place : ℕ) → get nat_eq made place ≡ get nat_eq page place)
     → (other : PageName) (place : ℕ) → page_node new other place ≡ page_node old other place
@@ -39,7 +43,8 @@ page_node-same old new name page made there puts same other place = elim (cases_
 ]
 
 -- a page without a node in place of none changes no node
-pub page_node-empty : {S T : Type 0} (old new : HashMap PageName (HashMap ℕ (List ℕ) S) T) (name : PageName) (made : HashMap ℕ (List ℕ) S)
+pub page_node-empty : {S T : Type 0} (old new : HashMap PageName (HashMap ℕ (List ℕ) S) T) (name : PageName)
+    (made : HashMap ℕ (List ℕ) S)
     → None ≡ get same_name old name → PutsPage old new name made
     → ((place : ℕ) → get nat_eq made place ≡ None)
     → (other : PageName) (place : ℕ) → page_node new other place ≡ page_node old other place
@@ -63,10 +68,12 @@ page_node-removed old new name empty removes other place = elim (cases_Bool (sam
   | inr isnt ↦ rw (removes other, isnt) refl
 ]
 
-get-empty : {S : Type 0} (page : HashMap ℕ (List ℕ) S) (place : ℕ) → length page.entries ≡ 0 → get nat_eq page place ≡ None
+get-empty : {S : Type 0} (page : HashMap ℕ (List ℕ) S) (place : ℕ) → length page.entries ≡ 0
+    → get nat_eq page place ≡ None
 get-empty page place none = rw (nil_from_length page.entries none) refl
 
-pub page_node-bare : {S T : Type 0} (pages : HashMap PageName (HashMap ℕ (List ℕ) S) T) (name : PageName) (page : HashMap ℕ (List ℕ) S)
+pub page_node-bare : {S T : Type 0} (pages : HashMap PageName (HashMap ℕ (List ℕ) S) T) (name : PageName)
+    (page : HashMap ℕ (List ℕ) S)
     → Some page ≡ get same_name pages name → length page.entries ≡ 0 → (place : ℕ) → page_node pages name place ≡ None
 page_node-bare pages name page there none place = rw (← there) (get-empty page place none)
 
@@ -77,7 +84,8 @@ pub HasRoom-same : {S T : Type 0} (old new : HashMap PageName (HashMap ℕ (List
     → get same_name new name ≡ get same_name old name → HasRoom old name → HasRoom new name
 HasRoom-same old new name e h = rw e h
 
-pub spare-room : {S T : Type 0} (pages : HashMap PageName (HashMap ℕ (List ℕ) S) T) (name : PageName) (page : HashMap ℕ (List ℕ) S)
+pub spare-room : {S T : Type 0} (pages : HashMap PageName (HashMap ℕ (List ℕ) S) T) (name : PageName)
+    (page : HashMap ℕ (List ℕ) S)
     → HasRoom pages name → Some page ≡ get same_name pages name → 16 ≤ spare page
 spare-room pages name page h there = let room = h.1 in rw (← there) at room
 
@@ -92,15 +100,18 @@ page_node-get old new name place e = rw e refl
 same_name-self : (name : PageName) → same_name name name ≡ true
 same_name-self name = and_from _ _ (eq-eqb name.number name.number refl) (eq-eqb name.bits name.bits refl)
 
-pub page_node-put : {S T : Type 0} (old new : HashMap PageName (HashMap ℕ (List ℕ) S) T) (name : PageName) (page : HashMap ℕ (List ℕ) S) (place : ℕ)
+pub page_node-put : {S T : Type 0} (old new : HashMap PageName (HashMap ℕ (List ℕ) S) T) (name : PageName)
+    (page : HashMap ℕ (List ℕ) S) (place : ℕ)
     → PutsPage old new name page → page_node new name place ≡ get nat_eq page place
 page_node-put old new name page place puts = rw (puts name, same_name-self name) refl
 
-pub page_node-there : {S T : Type 0} (old : HashMap PageName (HashMap ℕ (List ℕ) S) T) (name : PageName) (page : HashMap ℕ (List ℕ) S) (place : ℕ)
+pub page_node-there : {S T : Type 0} (old : HashMap PageName (HashMap ℕ (List ℕ) S) T) (name : PageName)
+    (page : HashMap ℕ (List ℕ) S) (place : ℕ)
     → Some page ≡ get same_name old name → page_node old name place ≡ get nat_eq page place
 page_node-there old name page place there = rw (← there) refl
 
-pub get-other : {S T : Type 0} (old new : HashMap PageName (HashMap ℕ (List ℕ) S) T) (name other : PageName) (page : HashMap ℕ (List ℕ) S)
+pub get-other : {S T : Type 0} (old new : HashMap PageName (HashMap ℕ (List ℕ) S) T) (name other : PageName)
+    (page : HashMap ℕ (List ℕ) S)
     → PutsPage old new name page → same_name name other ≡ false → get same_name new other ≡ get same_name old other
 get-other old new name other page puts apart = rw (puts other, apart) refl
 
@@ -126,7 +137,8 @@ place-below one other coin more lt =
     omega arith
 
 -- levels of one page whose places are one are one
-pub place-level : (one other coin more : ℕ) → one / 16 ≡ other / 16 → place_at one coin ≡ place_at other more → one ≡ other
+pub place-level : (one other coin more : ℕ) → one / 16 ≡ other / 16 → place_at one coin ≡ place_at other more
+    → one ≡ other
 place-level one other coin more page same = elim (cases_lt (one % 16) (other % 16)) [
   | inl below ↦ absurd (omega (arith, place-below one other coin more below))
   | inr above ↦ elim (cases_lt (other % 16) (one % 16)) [
@@ -136,19 +148,22 @@ place-level one other coin more page same = elim (cases_lt (one % 16) (other % 1
 ]
 
 -- coins with one page and place at a level agree from the level on
-pub prefix-from : (level coin other : ℕ) → name_at level coin ≡ name_at level other → place_at level coin ≡ place_at level other
+pub prefix-from : (level coin other : ℕ) → name_at level coin ≡ name_at level other
+    → place_at level coin ≡ place_at level other
     → coin / 2 ^ level ≡ other / 2 ^ level
 prefix-from level coin other name place =
     let width = 16 - level % 16 in
     let top : level + width ≡ 16 * (level / 16) + 16 = omega arith in
-    let bits : coin / 2 ^ (16 * (level / 16) + 16) ≡ other / 2 ^ (16 * (level / 16) + 16) = ap (λ (n : PageName). n.bits) name in
+    let bits : coin / 2 ^ (16 * (level / 16) + 16) ≡ other / 2 ^ (16 * (level / 16) + 16) =
+    ap (λ (n : PageName). n.bits) name in
     let high : coin / 2 ^ level / 2 ^ width ≡ other / 2 ^ level / 2 ^ width =
     shr-shr coin level width ∙ rw top bits ∙ sym (shr-shr other level width) in
     let low : coin / 2 ^ level % 2 ^ width ≡ other / 2 ^ level % 2 ^ width = omega arith in
     sym (div-add-mod (coin / 2 ^ level) (2 ^ width)) ∙ rw (high, low) (div-add-mod (other / 2 ^ level) (2 ^ width))
 
 -- coins that agree from a level on have one page and place there
-pub name_at-prefix : (level coin other : ℕ) → coin / 2 ^ level ≡ other / 2 ^ level → name_at level coin ≡ name_at level other
+pub name_at-prefix : (level coin other : ℕ) → coin / 2 ^ level ≡ other / 2 ^ level
+    → name_at level coin ≡ name_at level other
 name_at-prefix level coin other e =
     let width = 16 - level % 16 in
     let top : level + width ≡ 16 * (level / 16) + 16 = omega arith in
@@ -156,7 +171,8 @@ name_at-prefix level coin other e =
     rw (← top) (sym (shr-shr coin level width) ∙ ap (λ (q : ℕ). q / 2 ^ width) e ∙ shr-shr other level width) in
     name_of-same (level / 16) (level / 16) _ _ refl bits
 
-pub place_at-prefix : (level coin other : ℕ) → coin / 2 ^ level ≡ other / 2 ^ level → place_at level coin ≡ place_at level other
+pub place_at-prefix : (level coin other : ℕ) → coin / 2 ^ level ≡ other / 2 ^ level
+    → place_at level coin ≡ place_at level other
 place_at-prefix level coin other e = rw e refl
 
 -- ---- the nodes of a way up, level by level
@@ -168,10 +184,12 @@ SetsNodes-none coin digests defaults low page = record {
   stays = λ place apart. refl;
 }
 
-pub SetsNodes-more : {S : Type 0} (coin : ℕ) (digests defaults : List (List ℕ)) (number level : ℕ) (old page new : HashMap ℕ (List ℕ) S)
+pub SetsNodes-more : {S : Type 0} (coin : ℕ) (digests defaults : List (List ℕ)) (number level : ℕ)
+    (old page new : HashMap ℕ (List ℕ) S)
     → 16 * number ≤ level → level < 16 * number + 16
     → SetsNodes coin digests defaults (16 * number) level old page
-    → get nat_eq new (place_at level coin) ≡ kept_digest (slice_index_or digests level []) (slice_index_or defaults level [])
+    → get nat_eq new (place_at level coin) ≡ kept_digest (slice_index_or digests level [])
+    (slice_index_or defaults level [])
     → ((other : ℕ) → other ≢ place_at level coin → get nat_eq new other ≡ get nat_eq page other)
     → SetsNodes coin digests defaults (16 * number) (level + 1) old new
 SetsNodes-more coin digests defaults number level old page new from below sets here elsewhere = record {
@@ -182,25 +200,31 @@ SetsNodes-more coin digests defaults number level old page new from below sets h
         elsewhere (place_at k coin) (λ e. ne (place-level k level coin coin page_is e)) ∙ sets.set k low under
     | inr at_level ↦ let e : k ≡ level = omega arith in rw e here
   ];
-  stays = λ place apart. elsewhere place (apart level from (omega arith)) ∙ sets.stays place (λ k low high. apart k low (omega arith));
+  stays = λ place apart. elsewhere place (apart level from (omega arith))
+      ∙ sets.stays place (λ k low high. apart k low (omega arith));
 }
 
 -- what is done in one page
-pub record SetsPage {S T : Type 0} (coin : ℕ) (digests defaults : List (List ℕ)) (number : ℕ) (old new : HashMap PageName (HashMap ℕ (List ℕ) S) T) : Type 0 where
+pub record SetsPage {S T : Type 0} (coin : ℕ) (digests defaults : List (List ℕ)) (number : ℕ)
+    (old new : HashMap PageName (HashMap ℕ (List ℕ) S) T) : Type 0 where
   pub set : (level : ℕ) → 16 * number ≤ level → level < 16 * number + 16
-      → page_node new (name_in number coin) (place_at level coin) ≡ kept_digest (slice_index_or digests level []) (slice_index_or defaults level [])
+      → page_node new (name_in number coin) (place_at level coin) ≡ kept_digest (slice_index_or digests level [])
+      (slice_index_or defaults level [])
   pub stays : (place : ℕ) → ((level : ℕ) → 16 * number ≤ level → level < 16 * number + 16 → place ≢ place_at level coin)
       → page_node new (name_in number coin) place ≡ page_node old (name_in number coin) place
-  pub others : (other : PageName) → same_name (name_in number coin) other ≡ false → get same_name new other ≡ get same_name old other
+  pub others : (other : PageName) → same_name (name_in number coin) other ≡ false
+      → get same_name new other ≡ get same_name old other
 
-pub SetsPages-none : {S T : Type 0} (coin : ℕ) (digests defaults : List (List ℕ)) (pages : HashMap PageName (HashMap ℕ (List ℕ) S) T)
+pub SetsPages-none : {S T : Type 0} (coin : ℕ) (digests defaults : List (List ℕ))
+    (pages : HashMap PageName (HashMap ℕ (List ℕ) S) T)
     → SetsPages coin digests defaults 0 pages pages
 SetsPages-none coin digests defaults pages = record {
   set = λ level below. absurd (omega arith);
   stays = λ name place apart. refl;
 }
 
-pub SetsPages-more : {S T : Type 0} (coin : ℕ) (digests defaults : List (List ℕ)) (number : ℕ) (first old mid new : HashMap PageName (HashMap ℕ (List ℕ) S) T)
+pub SetsPages-more : {S T : Type 0} (coin : ℕ) (digests defaults : List (List ℕ)) (number : ℕ)
+    (first old mid new : HashMap PageName (HashMap ℕ (List ℕ) S) T)
     → SetsPages coin digests defaults (16 * number) first old → SetsPage coin digests defaults number old mid
     → ((name : PageName) (place : ℕ) → page_node new name place ≡ page_node mid name place)
     → SetsPages coin digests defaults (16 * (number + 1)) first new
@@ -208,7 +232,8 @@ SetsPages-more coin digests defaults number first old mid new sets one same = re
   set = λ level below. same (name_at level coin) (place_at level coin) ∙ elim (cases_lt level (16 * number)) [
     | inl under ↦
         let ne : number ≢ level / 16 = omega arith in
-        page_node-get old mid (name_at level coin) (place_at level coin) (one.others (name_at level coin) (name_in-apart number (level / 16) coin ne))
+        page_node-get old mid (name_at level coin) (place_at level coin)
+        (one.others (name_at level coin) (name_in-apart number (level / 16) coin ne))
         ∙ sets.set level under
     | inr above ↦
         let e : level / 16 ≡ number = omega arith in
@@ -218,8 +243,10 @@ SetsPages-more coin digests defaults number first old mid new sets one same = re
     | inl is ↦
         let e : name_in number coin ≡ name = same_name-true (name_in number coin) name is in
         let middle : page_node mid name place ≡ page_node old name place =
-        rw e at (one.stays place (λ level from below. let page_is : level / 16 ≡ number = omega arith in apart level (omega arith) (sym e ∙ rw page_is refl))) in
+        rw e at (one.stays place (λ level from below. let page_is : level / 16 ≡ number =
+        omega arith in apart level (omega arith) (sym e ∙ rw page_is refl))) in
         middle ∙ sets.stays name place (λ level below. apart level (omega arith))
-    | inr isnt ↦ page_node-get old mid name place (one.others name isnt) ∙ sets.stays name place (λ level below. apart level (omega arith))
+    | inr isnt ↦ page_node-get old mid name place (one.others name isnt)
+        ∙ sets.stays name place (λ level below. apart level (omega arith))
   ];
 }

@@ -18,7 +18,8 @@ pub record HashedMap (H : Type 0) : Type 0 where
   pub entries : List Entry
 
 -- the root and the nodes of the levels below it are kept: what no page keeps is the default of its level
-pub record KeepsNodes {S T : Type 0} (dig : List ℕ → List ℕ) (entries : List Entry) (defaults : List (List ℕ)) (root : List ℕ)
+pub record KeepsNodes {S T : Type 0} (dig : List ℕ → List ℕ) (entries : List Entry) (defaults : List (List ℕ))
+    (root : List ℕ)
     (pages : HashMap PageName (HashMap ℕ (List ℕ) S) T) : Type 0 where
   pub map : IsMap entries
   pub defaults_are : AreDefaults dig defaults

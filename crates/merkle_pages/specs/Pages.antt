@@ -2,7 +2,7 @@
 -- above it. Its nodes are numbered as in a heap, in which 1 would be the node above the page.
 use Rattle.std.specs.Prelude.{◌≡◌, ◌≢◌, ℕ, ◌+◌, ◌-◌, ◌*◌, ◌/◌, ◌%◌, ◌^◌, ◌<◌, ◌≤◌, ◌==◌, ◌&&◌, nat_eq, Bool, List, [], slice_index_or, Option, Some, None, IsSome, IfSome, if◌then◌else◌}
 use Rattle.std.specs.HashMap.{HashMap, get, spare}
-use Rattle.std.specs.Option.{option_and_then, unwrap_or}
+use Rattle.std.specs.Option.{option_and_then}
 use Rattle.std.specs.Str.{bytes_eq}
 use Rattle.merkle_pages.specs.declared.pages.PageName.{PageName}
 
@@ -28,9 +28,11 @@ kept_digest digest default = if bytes_eq digest default then None else Some dige
 
 -- the page has at the places of these levels on the way up from a coin what is kept of their digests, and at all
 -- other places what it had
-pub record SetsNodes {S : Type 0} (coin : ℕ) (digests defaults : List (List ℕ)) (low high : ℕ) (old new : HashMap ℕ (List ℕ) S) : Type 0 where
+pub record SetsNodes {S : Type 0} (coin : ℕ) (digests defaults : List (List ℕ)) (low high : ℕ)
+    (old new : HashMap ℕ (List ℕ) S) : Type 0 where
   pub set : (level : ℕ) → low ≤ level → level < high
-      → get nat_eq new (place_at level coin) ≡ kept_digest (slice_index_or digests level []) (slice_index_or defaults level [])
+      → get nat_eq new (place_at level coin) ≡ kept_digest (slice_index_or digests level [])
+      (slice_index_or defaults level [])
   pub stays : (place : ℕ) → ((level : ℕ) → low ≤ level → level < high → place ≢ place_at level coin)
       → get nat_eq new place ≡ get nat_eq old place
 
@@ -44,9 +46,11 @@ module _ {S T : Type 0} where
   HasRoom pages name = IsSome (get same_name pages name) × IfSome (get same_name pages name) (λ page. 16 ≤ spare page)
 
   -- the same of the pages, for the levels below that one
-  pub record SetsPages (coin : ℕ) (digests defaults : List (List ℕ)) (high : ℕ) (old new : HashMap PageName (HashMap ℕ (List ℕ) S) T) : Type 0 where
+  pub record SetsPages (coin : ℕ) (digests defaults : List (List ℕ)) (high : ℕ)
+      (old new : HashMap PageName (HashMap ℕ (List ℕ) S) T) : Type 0 where
     pub set : (level : ℕ) → level < high
-        → page_node new (name_at level coin) (place_at level coin) ≡ kept_digest (slice_index_or digests level []) (slice_index_or defaults level [])
+        → page_node new (name_at level coin) (place_at level coin) ≡ kept_digest (slice_index_or digests level [])
+        (slice_index_or defaults level [])
     pub stays : (name : PageName) (place : ℕ)
         → ((level : ℕ) → level < high → name ≡ name_at level coin → place ≢ place_at level coin)
         → page_node new name place ≡ page_node old name place

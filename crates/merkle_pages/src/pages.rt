@@ -105,7 +105,8 @@ fn keep_page(
     ensures set { (level : ℕ) → 16 * number ≤ level → level < 16 * number + 16
         → page_node pages.new (name_in number coin) (place_at level coin)
         ≡ kept_digest (slice_index_or digests.now level []) (slice_index_or defaults.now level []) }
-    ensures stays { (place : ℕ) → ((level : ℕ) → 16 * number ≤ level → level < 16 * number + 16 → place ≢ place_at level coin)
+    ensures stays { (place : ℕ)
+        → ((level : ℕ) → 16 * number ≤ level → level < 16 * number + 16 → place ≢ place_at level coin)
         → page_node pages.new (name_in number coin) place ≡ page_node pages.old (name_in number coin) place }
     ensures others { (other : PageName) → same_name (name_in number coin) other ≡ false
         → get same_name pages.new other ≡ get same_name pages.old other }

@@ -37,11 +37,13 @@ fn agree_at<H: Hash32 + Copy>(
     let proof = paged.prove(coin)?;
     let one = proof_bytes(alloc, &plain.prove(&h, coin)?)?;
     let other = proof_bytes(alloc, &proof)?;
-    Ok(plain.root(&h) == *paged.root()
-        && leaf == paged.leaf(coin).unwrap_or(&[])
-        && *paged.node(0, coin) == leaf_digest(&h, leaf)
-        && one.as_slice() == other.as_slice()
-        && opens(&h, paged.root(), coin, leaf, &proof))
+    Ok(
+        plain.root(&h) == *paged.root()
+            && leaf == paged.leaf(coin).unwrap_or(&[])
+            && *paged.node(0, coin) == leaf_digest(&h, leaf)
+            && one.as_slice() == other.as_slice()
+            && opens(&h, paged.root(), coin, leaf, &proof),
+    )
 }
 
 // Whether both trees agree over rounds of puts, the later ones with removals, at so many coins.

@@ -118,7 +118,8 @@ impl<H: Hash32 + Copy> PagedTree<H> {
     /// The proof of what the map has at the coin, a leaf or none. It makes no digest.
     pub fn prove(&self, coin: u64) -> Result<Proof, NoMemory>
         ensures path { IfOk result
-            (λ proof. proof_path (H.digest_of self.now.hash) proof ≡ path_to (H.digest_of self.now.hash) coin self.now.entries) }
+            (λ proof. proof_path (H.digest_of self.now.hash) proof
+            ≡ path_to (H.digest_of self.now.hash) coin self.now.entries) }
         ensures opens { IfOk result (λ proof. IsTrue
             (is_opening (H.digest_of self.now.hash) (root_of (H.digest_of self.now.hash) self.now.entries) coin
             (leaf_of self.now.entries coin) (proof_path (H.digest_of self.now.hash) proof))) }
@@ -134,7 +135,8 @@ impl<H: Hash32 + Copy> PagedTree<H> {
     // The digests on the way up from a coin, from its leaf to the root, once it has that leaf.
     fn digests_with(&self, coin: u64, leaf: &[u8]) -> [[u8; 32]; 65]
         ensures { (level : ℕ) → level ≤ 64 → slice_index_or result level []
-            ≡ subtree_digest (H.digest_of self.now.hash) level (part_at level coin (with_leaf self.now.entries coin leaf.now)) }
+            ≡ subtree_digest (H.digest_of self.now.hash) level
+            (part_at level coin (with_leaf self.now.entries coin leaf.now)) }
     {
         let mut digests = [[0; 32]; 65];
         digests[0] = leaf_digest(&self.hash, leaf);

@@ -1,5 +1,5 @@
-use Rattle.leaf_journal.proofs.Lives.{made_journals_stay}
+use Rattle.leaf_journal.proofs.Lives.{leaves_stay}
 use Rattle.leaf_journal.proofs.laws.made_journals_stay.Goals as goal
 
 pub returns : goal.returns
-returns c = made_journals_stay
+returns c = leaves_stay

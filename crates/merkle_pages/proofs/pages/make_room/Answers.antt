@@ -1,21 +1,19 @@
-use Rattle.std.proofs.Common.{rules, ◌≡◌, ℕ, None, nat_eq, refl, ◌∙◌, sym, ap, arith}
-use Rattle.std.proofs.lemmas.Grind.{common_steps}
-use Rattle.std.specs.HashMap.{HashMap, get}
-use Rattle.merkle_pages.specs.Pages.{same_name}
-use Rattle.merkle_pages.specs.declared.pages.PageName.{PageName}
+use Rattle.std.proofs.Common.{rules, refl}
 use Rattle.merkle_pages.proofs.PageLaws.{page_node-same, page_node-empty}
 use Rattle.merkle_pages.proofs.pages.make_room.Goals as goal
 
 pub returns-in_err-reserve-clause-same : goal.returns-in_err-reserve-clause-same
 returns-in_err-reserve-clause-same c =
     let written = c.get_mut.follows.holds c.reserve.new.self in
-    page_node-same c.args.pages.now (c.get_mut.follows.lender c.reserve.new.self) c.args.name c.in-Some.page.now c.reserve.new.self
+    page_node-same c.args.pages.now (c.get_mut.follows.lender c.reserve.new.self) c.args.name c.in-Some.page.now
+    c.reserve.new.self
     c.in-Some.ensures.value (written.3 (search rules)).0 c.in_err-reserve.ensures.entries.2
 
 pub returns-in-Some-clause-same : goal.returns-in-Some-clause-same
 returns-in-Some-clause-same c =
     let written = c.get_mut.follows.holds c.reserve.new.self in
-    page_node-same c.args.pages.now (c.get_mut.follows.lender c.reserve.new.self) c.args.name c.in-Some.page.now c.reserve.new.self
+    page_node-same c.args.pages.now (c.get_mut.follows.lender c.reserve.new.self) c.args.name c.in-Some.page.now
+    c.reserve.new.self
     c.in-Some.ensures.value (written.3 (search rules)).0 c.in_ok-reserve.ensures.entries.2
 
 pub returns-clause-same : goal.returns-clause-same

@@ -10,8 +10,10 @@ loop-level-init c = record {
 
 pub loop-level-preserved : goal.loop-level-preserved
 loop-level-preserved c = record {
-  sets = SetsNodes-more c.args.coin c.args.digests.now c.args.defaults.now c.args.number c.loop-level.level c.args.page.now c.loop-level.page c.set_node.new.page
-      (omega arith) (omega arith) c.loop-level.invariant.sets (rw (← c.place.ensures) c.set_node.ensures.here) (rw (← c.place.ensures) c.set_node.ensures.elsewhere);
+  sets = SetsNodes-more c.args.coin c.args.digests.now c.args.defaults.now c.args.number c.loop-level.level
+      c.args.page.now c.loop-level.page c.set_node.new.page
+      (omega arith) (omega arith) c.loop-level.invariant.sets (rw (← c.place.ensures) c.set_node.ensures.here)
+      (rw (← c.place.ensures) c.set_node.ensures.elsewhere);
   room = omega arith;
 }
 

@@ -7,5 +7,6 @@ abbrev pub invariant-loop-level : goal.invariant-loop-level
 invariant-loop-level g l = record {
   long : length l.digests ≡ 65;
   right : (level : ℕ) → level ≤ l.level → slice_index_or l.digests level []
-      ≡ subtree_digest (g.H.Hash32.digest_of l.self.hash) level (part_at level l.coin (with_leaf l.self.entries l.coin l.leaf));
+      ≡ subtree_digest (g.H.Hash32.digest_of l.self.hash) level
+      (part_at level l.coin (with_leaf l.self.entries l.coin l.leaf));
 }

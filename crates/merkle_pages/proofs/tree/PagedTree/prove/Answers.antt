@@ -1,4 +1,4 @@
-use Rattle.std.proofs.Common.{◌≡◌, ◌≢◌, ◌<◌, ◌^◌, ℕ, [], length, slice_index_or, ◌∙◌, below_more, arith, length-set, get_or-set_other, get_or-set_same}
+use Rattle.std.proofs.Common.{◌≡◌, ◌≢◌, ◌<◌, ◌^◌, [], length, ◌∙◌, below_more, arith, length-set, get_or-set_other, get_or-set_same}
 use Rattle.std.specs.Int.Bits.{bit_xor}
 use Rattle.sparse_merkle.specs.TreeDigest.{IsMap, AreDefaults, path_to}
 use Rattle.sparse_merkle.proofs.ProofLaws.{proof_path-made, opens-made, is_canonical-made}
@@ -14,7 +14,8 @@ loop-level-preserved g c =
     record {
       long = length-set path level c.node.result.now ∙ long;
       right = below_more _ level
-          (λ k lt. let ne : k ≢ level = omega arith in rw (get_or-set_other path level k c.node.result.now [] ne) (c.loop-level.invariant.right k lt))
+          (λ k lt. let ne : k ≢ level = omega arith in rw (get_or-set_other path level k c.node.result.now [] ne)
+          (c.loop-level.invariant.right k lt))
           (rw (get_or-set_same path level c.node.result.now [] within) (rw c.sibling_coin.ensures at c.node.ensures));
     }
 
@@ -23,17 +24,23 @@ returns-clause-path g c =
     let dig = g.H.Hash32.digest_of c.args.self.now.hash in
     let map : IsMap c.args.self.now.entries = rw (← c.self.view_is) c.self.invariant.map in
     let are : AreDefaults dig c.self.inside.defaults = rw (← c.self.view_is) c.self.invariant.defaults_are in
-    let path = path_to-from dig c.args.coin c.args.self.now.entries (λ k. bit_xor c.args.coin (2 ^ k)) c.loop-level.path (omega arith) map.small
-    (λ k lt. IsSibling-xor c.args.coin k (omega arith) lt) c.loop-level.invariant.long (λ k lt. c.loop-level.invariant.right k (omega arith)) in
-    proof_path-made c.of_path.result dig c.self.inside.defaults c.loop-level.path (path_to dig c.args.coin c.args.self.now.entries) are c.loop-level.invariant.long path
+    let path = path_to-from dig c.args.coin c.args.self.now.entries (λ k. bit_xor c.args.coin (2 ^ k)) c.loop-level.path
+    (omega arith) map.small
+    (λ k lt. IsSibling-xor c.args.coin k (omega arith) lt) c.loop-level.invariant.long
+    (λ k lt. c.loop-level.invariant.right k (omega arith)) in
+    proof_path-made c.of_path.result dig c.self.inside.defaults c.loop-level.path
+    (path_to dig c.args.coin c.args.self.now.entries) are c.loop-level.invariant.long path
     c.of_path.ensures
 
 pub returns-clause-opens : goal.returns-clause-opens
 returns-clause-opens g c =
     let map : IsMap c.args.self.now.entries = rw (← c.self.view_is) c.self.invariant.map in
-    opens-made c.of_path.result (g.H.Hash32.digest_of c.args.self.now.hash) c.args.coin c.args.self.now.entries (omega arith) map (returns-clause-path g c)
+    opens-made c.of_path.result (g.H.Hash32.digest_of c.args.self.now.hash) c.args.coin c.args.self.now.entries
+    (omega arith) map (returns-clause-path g c)
 
 pub returns-clause-canonical : goal.returns-clause-canonical
 returns-clause-canonical g c =
-    let are : AreDefaults (g.H.Hash32.digest_of c.args.self.now.hash) c.self.inside.defaults = rw (← c.self.view_is) c.self.invariant.defaults_are in
-    is_canonical-made c.of_path.result (g.H.Hash32.digest_of c.args.self.now.hash) c.self.inside.defaults c.loop-level.path are c.of_path.ensures
+    let are : AreDefaults (g.H.Hash32.digest_of c.args.self.now.hash) c.self.inside.defaults =
+    rw (← c.self.view_is) c.self.invariant.defaults_are in
+    is_canonical-made c.of_path.result (g.H.Hash32.digest_of c.args.self.now.hash) c.self.inside.defaults
+    c.loop-level.path are c.of_path.ensures

@@ -8,5 +8,6 @@ abbrev pub invariant-loop-level : goal.invariant-loop-level
 invariant-loop-level g l = record {
   long : length l.path ≡ 64;
   right : (level : ℕ) → level < l.level → slice_index_or l.path level []
-      ≡ subtree_digest (g.H.Hash32.digest_of l.self.hash) level (part_at level (bit_xor l.coin (2 ^ level)) l.self.entries);
+      ≡ subtree_digest (g.H.Hash32.digest_of l.self.hash) level
+      (part_at level (bit_xor l.coin (2 ^ level)) l.self.entries);
 }

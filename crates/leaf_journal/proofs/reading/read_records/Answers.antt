@@ -1,0 +1,91 @@
+use Rattle.std.proofs.Common.{◌≡◌, false, ◌<◌, ◌+◌, ◌∙◌, ℕ, List, suc, [], ◌∷◌, ◌++◌, length, take, get_or, refl, sym, ap, arith}
+use Rattle.std.proofs.lemmas.List.{take_all, get_or_default}
+use Rattle.std.proofs.Math.Seq.{take-suc}
+use Rattle.gate_journal.specs.Image.{spelled}
+use Rattle.leaf_journal.specs.Records.{may_follow}
+use Rattle.leaf_journal.specs.Sound.{LeafRecordsState}
+use Rattle.leaf_journal.proofs.Form.{are_few, count_within, refused_at, spelled-count}
+use Rattle.leaf_journal.proofs.reading.read_records.Goals as goal
+
+pub loop-body-init : goal.loop-body-init
+loop-body-init c = record {
+  front = c.requires;
+  are = c.is_whole.ensures.are;
+  leaves = refl;
+  few = c.is_whole.ensures.few;
+  place = rw c.requires refl;
+}
+
+pub overflow_add-place : goal.overflow_add-place
+overflow_add-place c =
+    let short = c.may_follow.ensures.short c.if-not-may_follow.false in
+    omega (arith, c.len.ensures, ap length c.as_slice.ensures, short)
+
+pub overflow_add-place-in-loop-body : goal.overflow_add-place-in-loop-body
+overflow_add-place-in-loop-body c =
+    let kept = c.loop-body.kept in
+    let short = c.may_follow.ensures.short c.if-not-may_follow.false in
+    let few = are_few kept.leaves kept.records kept.records c.loop-body.invariant.are in
+    let count = count_within kept.leaves kept.records c.loop-body.invariant.are in
+    omega (
+      arith,
+      c.len.ensures,
+      ap length c.as_slice.ensures,
+      short,
+      few.short,
+      count,
+      c.loop-body.invariant.place,
+      c.loop-body.invariant.few,
+    )
+
+pub loop-body-preserved : goal.loop-body-preserved
+loop-body-preserved c =
+    let kept = c.loop-body.kept in
+    let index = c.loop-body.body-index in
+    let records = c.args.records.now in
+    let within : index < length records = c.loop-body-test.true in
+    let is_body : c.of.result ≡ get_or records index [] =
+    c.of.ensures ∙ c.as_slice-in-loop-body.ensures ∙ c.body-item.is
+    ∙ get_or_default records index c.body-item.result [] within in
+    let next : take (index + 1) records ≡ take index records ++ get_or records index [] ∷ [] =
+    (let same : index + 1 ≡ suc index = omega arith in ap (λ (n : ℕ). take n records) same)
+    ∙ take-suc records index [] within in
+    let pushed : c.push.new.self.records ≡ kept.records ++ c.of.result ∷ [] = ap (λ (s : LeafRecordsState). s.records)
+    c.push.ensures in
+    let leaves : c.push.new.self.leaves ≡ kept.leaves = ap (λ (s : LeafRecordsState). s.leaves) c.push.ensures in
+    let length_is : length c.of.result ≡ c.len.result = omega
+    (arith, c.len.ensures, ap length c.of.ensures, ap length c.as_slice-in-loop-body.ensures) in
+    record {
+      front = pushed ∙ (λ i. c.loop-body.invariant.front i ++ is_body i ∷ []) ∙ sym next;
+      are = c.is_whole-in-loop-body.ensures.are;
+      leaves = leaves ∙ c.loop-body.invariant.leaves;
+      few = c.is_whole-in-loop-body.ensures.few;
+      place = omega (
+        arith,
+        c.loop-body.invariant.place,
+        ap (λ (l : List (List ℕ)). length (spelled l)) pushed,
+        spelled-count kept.records c.of.result,
+        length_is,
+      );
+    }
+
+pub returns-clause-records : goal.returns-clause-records
+returns-clause-records c =
+    let index = c.loop-body.body-index in
+    let records = c.args.records.now in
+    let all : c.loop-body.kept.records ≡ records = c.loop-body.invariant.front
+    ∙ take_all index records (omega (arith, c.loop-body-test.false)) in
+    rw (← c.loop-body.invariant.leaves, ← all) c.loop-body.invariant.are
+
+pub returns-then-not-may_follow-clause-refused : goal.returns-then-not-may_follow-clause-refused
+returns-then-not-may_follow-clause-refused c =
+    let kept = c.loop-body.kept in
+    let index = c.loop-body.body-index in
+    let records = c.args.records.now in
+    let within : index < length records = c.loop-body-test.true in
+    let is_body : c.as_slice.result.now ≡ get_or records index [] = c.as_slice.ensures ∙ c.body-item.is
+    ∙ get_or_default records index c.body-item.result [] within in
+    let may : may_follow kept.leaves kept.records (get_or records index []) ≡ false = rw (← is_body)
+    (sym c.may_follow.ensures.value ∙ c.if-not-may_follow.true) in
+    rw (← c.loop-body.invariant.leaves) (refused_at kept.leaves records kept.records index c.loop-body.place
+    c.loop-body.invariant.front c.loop-body.invariant.are within may c.loop-body.invariant.place)

@@ -1,0 +1,12 @@
+use Rattle.std.proofs.Common.{◌≡◌, ◌∙◌, sym, ap, arith, length}
+use Rattle.leaf_journal.specs.Records.{is_marked}
+use Rattle.leaf_journal.specs.Sound.{LeafRecordsState}
+use Rattle.leaf_journal.proofs.Messages.{is_marked-count}
+use Rattle.leaf_journal.proofs.records.LeafRecords.is_marked.Goals as goal
+
+pub returns : goal.returns
+returns c =
+    let records = c.self.inside.records.items in
+    let same = ap (λ (s : LeafRecordsState). is_marked s.records) c.self.view_is in
+    let len : c.len.result ≡ length records = omega (arith, c.len.ensures, c.self.inside.records.ok) in
+    rw (len, c.self.invariant.count) (sym (is_marked-count records) ∙ same)
