@@ -68,6 +68,32 @@ fn a_challenged_exit(rt: HostRuntime) -> Result<(), Fail> {
 }
 
 #[test]
+fn exits_leave(rt: HostRuntime) -> Result<(), Fail> {
+    let mut game = Game::new(rt.alloc());
+    start(&mut game, slot(rt.alloc()))?;
+    if game.slot(1, 4).is_some() {
+        let finished = game.finish(1, 4);
+        assert_eq!(rt; finished.parent, 3);
+    }
+    assert!(rt; game.slot(1, 4).is_none());
+    let mut second = Game::new(rt.alloc());
+    start(&mut second, slot(rt.alloc()))?;
+    if second.slot(1, 4).is_some() {
+        let spent = second.after(1, 4);
+        assert_eq!(rt; spent.parent, 3);
+    }
+    assert!(rt; second.slot(1, 4).is_none());
+    let mut third = Game::new(rt.alloc());
+    start(&mut third, slot(rt.alloc()))?;
+    if third.slot(1, 4).is_some() {
+        let spent = third.between(1, 4);
+        assert_eq!(rt; spent.parent, 3);
+    }
+    assert!(rt; third.slot(1, 4).is_none());
+    Ok(())
+}
+
+#[test]
 fn challenges_are_answered(rt: HostRuntime) -> Result<(), Fail> {
     let mut challenges = Challenges::new(rt.alloc());
     challenges.push(challenge(2))?;
