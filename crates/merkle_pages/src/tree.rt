@@ -2,7 +2,7 @@ ghost use Rattle.std.specs.Prelude.{◌≡◌, ◌≢◌, ◌<◌, ◌≤◌, �
 ghost use Rattle.std.specs.Int.Bits.{bit_xor};
 ghost use Rattle.sparse_merkle.specs.MaskedPath.{proof_path, is_canonical};
 ghost use Rattle.sparse_merkle.specs.Opening.{is_opening};
-ghost use Rattle.sparse_merkle.specs.TreeDigest.{leaf_of, with_leaf, root_of, path_to, subtree_digest};
+ghost use Rattle.sparse_merkle.specs.TreeDigest.{leaf_of, with_leaf, root_of, path_to, subtree_digest, IsMap};
 ghost use Rattle.merkle_pages.specs.Nodes.{part_at};
 
 use super::pages::{Pages, keep_nodes, kept_node, make_rooms};
@@ -63,7 +63,8 @@ impl<H: Hash32 + Copy> PagedTree<H> {
 
     /// The coins and their leaves, in rising order of coins.
     pub fn entries(&self) -> &[Entry]
-        ensures { result.now ≡ self.now.entries }
+        ensures entries { result.now ≡ self.now.entries }
+        ensures map { IsMap self.now.entries }
     {
         self.leaves.entries()
     }
