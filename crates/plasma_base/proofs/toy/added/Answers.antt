@@ -1,4 +1,4 @@
-use Rattle.std.proofs.Common.{◌∙◌, arith}
+use Rattle.std.proofs.Common.{◌∙◌}
 use Rattle.plasma_base.proofs.ToyLaws.{group_sum-empty, group_sum-step}
 use Rattle.plasma_base.proofs.toy.added.Goals as goal
 

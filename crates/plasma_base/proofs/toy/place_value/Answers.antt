@@ -1,4 +1,4 @@
-use Rattle.std.proofs.Common.{◌^◌, ◌≤◌, ◌<◌, arith}
+use Rattle.std.proofs.Common.{◌^◌, ◌≤◌, arith}
 use Rattle.plasma_base.proofs.ToyLaws.{power-small}
 use Rattle.plasma_base.proofs.toy.place_value.Goals as goal
 
