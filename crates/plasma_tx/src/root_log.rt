@@ -1,7 +1,7 @@
-ghost use Rattle.std.specs.Prelude.{◌≡◌, ◌∷◌, [], IfOk, OnOk, OnErr, reverse};
+ghost use Rattle.std.specs.Prelude.{◌≡◌, ◌<◌, ◌^◌, ◌∷◌, [], IfOk, OnOk, OnErr, reverse};
 ghost use Rattle.plasma_tx.specs.Chain.{with_log};
 ghost use Rattle.plasma_tx.specs.Keeps.{item_at};
-ghost use Rattle.plasma_tx.specs.Views.{now, blocks, block_at, coin_at, is_withdrawn, exits_of};
+ghost use Rattle.plasma_tx.specs.Views.{now, blocks, coins, block_at, coin_at, is_withdrawn, exits_of};
 
 use super::call::RootCall;
 use super::exits::push_reserved;
@@ -96,9 +96,18 @@ impl RootLog {
 
     /// The number of blocks: each Deposit and each Commit made one.
     pub fn blocks(&self) -> u64
-        ensures { result ≡ blocks self.now.log }
+        ensures is { result ≡ blocks self.now.log }
+        ensures limit { result < 2 ^ 63 }
     {
         self.kept.blocks.len() as u64
+    }
+
+    /// The number of coins: each Deposit made one.
+    pub fn coins(&self) -> u64
+        ensures is { result ≡ coins self.now.log }
+        ensures limit { result < 2 ^ 63 }
+    {
+        self.kept.coins.len() as u64
     }
 
     /// Block `n`, counted from 1; `None` exactly where there is no such block.

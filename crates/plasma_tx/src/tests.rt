@@ -249,7 +249,7 @@ fn blocks_and_coins_of_a_log(rt: HostRuntime) -> Result<(), Fail> {
         log.push(RootCall::Commit { account: 9, root })?;
         log.push(RootCall::Tick { now: amount })?;
     }
-    assert_eq!(rt; log.blocks(), 4);
+    assert_eq!(rt; (log.blocks(), log.coins()), (4, 2));
     assert_eq!(rt; log.block(0), None);
     assert_eq!(rt; log.block(3), Some(BlockView::DepositOf { coin: 2 }));
     assert_eq!(rt; log.block(4), Some(BlockView::Root { root }));

@@ -13,6 +13,7 @@ use Rattle.plasma_tx.specs.declared.call.Shown.TheVariants.{Deposit as AtDeposit
 use Rattle.plasma_tx.specs.declared.call.RootCall.{RootCall}
 use Rattle.plasma_tx.specs.declared.views.BlockView.{BlockView}
 use Rattle.plasma_tx.specs.declared.views.BlockView.TheVariants.{DepositOf, Root}
+use Rattle.plasma_tx.specs.Chain.{Chain}
 use Rattle.plasma_tx.specs.Openings.{leaf_in, opening_in}
 use Rattle.plasma_tx.specs.Transfer.{transfer_in, is_signed_by}
 use Rattle.plasma_tx.specs.Views.{block_at, coin_at}
@@ -41,6 +42,10 @@ pub record Rules : Type 0 where
   pub tag : List ℕ
   pub operator : ℕ
   pub most_blocks : ℕ
+
+-- what the contract of a chain was made with
+abbrev pub rules_of : Chain → Rules
+rules_of chain = record { tag = chain.tag; operator = chain.operator; most_blocks = chain.most_blocks }
 
 -- the root of a block that was committed
 abbrev pub root_in : BlockView → Option (List ℕ)
