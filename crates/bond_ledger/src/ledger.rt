@@ -66,6 +66,14 @@ impl Ledger {
         self.sums(account).balance
     }
 
+    /// All money ever funded: at most 2 ^ 62. It takes no memory.
+    pub fn funded(&self) -> u64
+        ensures is { result ≡ funded_in self.now }
+        ensures limit { result ≤ MOST_MONEY }
+    {
+        self.funded
+    }
+
     /// Adds new money to a known account's balance. `SumTooLarge` comes exactly where all money ever
     /// funded would pass 2 ^ 62, and changes nothing. It takes no memory.
     pub fn fund(&mut self, account: u64, amount: u64) -> Result<(), SumTooLarge>

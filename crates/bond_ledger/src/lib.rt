@@ -3,11 +3,13 @@
 #![tactic(auto)]
 
 mod entries;
+mod laws;
 mod ledger;
 #[cfg(test)]
 mod tests;
 
 pub use entries::Sums;
+pub use laws::held_money_is_of_known_accounts;
 pub use ledger::{Ledger, NoFunds, SumTooLarge};
 
 /// The most money that is ever funded: 2 ^ 62.

@@ -49,6 +49,7 @@ fn money_moves(rt: HostRuntime) -> Result<(), Fail> {
     );
     assert_eq!(rt; ledger.hold(3, 1), Err(NoFunds { has: 0, needs: 1 }));
     assert_eq!(rt; (ledger.balance(1), ledger.balance(2)), (700, 200));
+    assert_eq!(rt; ledger.funded(), 1000);
     Ok(())
 }
 
