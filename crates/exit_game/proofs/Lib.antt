@@ -1,1 +1,2 @@
 pub mod SlotLists
+pub mod TakenBack

@@ -2,3 +2,4 @@ pub mod Challenges
 pub mod Slots
 pub mod SlotMaps
 pub mod Games
+pub mod Laws

@@ -1,5 +1,5 @@
 -- The slots of one coin, in the order of their starts.
-use Rattle.std.specs.Prelude.{◌≡◌, ℕ, ◌==◌, not, false, if◌then◌else◌, List, [], ◌∷◌, ◌++◌, Option, Some, None, find, filter, map}
+use Rattle.std.specs.Prelude.{◌≡◌, ℕ, ◌==◌, not, false, if◌then◌else◌, List, [], ◌∷◌, ◌++◌, ◌-◌, length, take, Option, Some, None, find, filter, map}
 use Rattle.std.specs.List.{list_any}
 use Rattle.exit_game.specs.declared.challenges.Challenge.{Challenge}
 use Rattle.exit_game.specs.declared.slot.Slot.{Slot}
@@ -24,6 +24,10 @@ with_challenge challenge slot = record slot { challenges = slot.challenges ++ ch
 -- the slot with its challenge at the block answered
 abbrev pub with_answer : ℕ → Slot → Slot
 with_answer block slot = record slot { challenges = map (answered_at block) slot.challenges }
+
+-- the slot without its last challenge; where it has none, the slot as it is
+abbrev pub without_last : Slot → Slot
+without_last slot = record slot { challenges = take (length slot.challenges - 1) slot.challenges }
 
 -- no two slots are at one block
 abbrev pub AreDistinct : List Slot → Type 0

@@ -1,5 +1,6 @@
-ghost use Rattle.std.specs.Prelude.{◌≡◌, ◌++◌, ◌∷◌, [], map, OnOk, OnErr};
-ghost use Rattle.exit_game.specs.Challenges.{answered_at};
+ghost use Rattle.std.specs.Prelude.{◌≡◌, ◌-◌, ◌++◌, ◌∷◌, [], length, take, map, OnOk, OnErr};
+ghost use Rattle.std.specs.List.{list_all};
+ghost use Rattle.exit_game.specs.Challenges.{answered_at, challenge_at};
 
 use plasma_base::NoMemory;
 use plasma_tx::Owner;
@@ -49,6 +50,23 @@ impl Challenges {
         self.items.as_slice()
     }
 
+    /// The challenge at the block; `None` exactly where there is none. It takes no memory.
+    pub fn at(&self, block: u64) -> Option<Challenge>
+        ensures { result ≡ challenge_at block self.now }
+    {
+        self.items
+            .iter()
+            .copied()
+            .find(|challenge| challenge.block == block)
+    }
+
+    /// Whether each is answered. It takes no memory.
+    pub fn are_answered(&self) -> bool
+        ensures { result ≡ list_all (λ challenge. challenge.answered) self.now }
+    {
+        self.items.iter().all(|challenge| challenge.answered)
+    }
+
     // Adds a challenge. `NoMemory` changes nothing.
     pub(crate) fn push(&mut self, challenge: Challenge) -> Result<(), NoMemory>
         ensures ok { OnOk result (self.new ≡ self.old ++ challenge ∷ []) }
@@ -63,6 +81,13 @@ impl Challenges {
         ensures { self.new ≡ map (answered_at block) self.old }
     {
         answer_all(&mut self.items, block);
+    }
+
+    // Takes the last challenge back; where there is none, nothing changes.
+    pub(crate) fn take_back(&mut self)
+        ensures { self.new ≡ take (length self.old - 1) self.old }
+    {
+        let _ = self.items.pop();
     }
 }
 

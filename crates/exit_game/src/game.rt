@@ -3,7 +3,7 @@ ghost use Rattle.std.specs.Prelude.{◌≡◌, ◌≤◌, ℕ, ◌==◌, ◌++�
 ghost use Rattle.std.specs.Option.{option_copied};
 ghost use Rattle.std.specs.Ordering.{nat_cmp};
 ghost use Rattle.std.specs.BTreeMap.{get};
-ghost use Rattle.exit_game.specs.Slots.{slot_at, without_slot, with_slot_changed, with_challenge, with_answer, IsUnchallengedAt, IsOpenAt};
+ghost use Rattle.exit_game.specs.Slots.{slot_at, without_slot, with_slot_changed, with_challenge, with_answer, without_last, IsUnchallengedAt, IsOpenAt};
 
 use super::challenges::Challenge;
 use super::slot::Slot;
@@ -64,6 +64,19 @@ impl Game {
     {
         match self.coins.get_mut(&coin) {
             Some(slots) => slots.challenge(block, challenge),
+            None => unreachable!(),
+        }
+    }
+
+    /// Takes the last challenge of the exit's slot back, for a caller that put one and then couldn't go on;
+    /// a slot without challenges stays as it is. It takes no memory.
+    pub fn unchallenge(&mut self, coin: u64, block: u64)
+        requires { IsSome (slot_at block (slots_in self.old coin)) }
+        ensures { HasSlots self.old self.new coin
+            (with_slot_changed block without_last (slots_in self.old coin)) }
+    {
+        match self.coins.get_mut(&coin) {
+            Some(slots) => slots.unchallenge(block),
             None => unreachable!(),
         }
     }

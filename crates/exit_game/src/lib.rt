@@ -3,6 +3,7 @@
 
 mod challenges;
 mod game;
+mod laws;
 mod slot;
 mod slots;
 #[cfg(test)]
@@ -10,4 +11,5 @@ mod tests;
 
 pub use challenges::{Challenge, Challenges};
 pub use game::Game;
+pub use laws::a_last_challenge_is_taken_back;
 pub use slot::Slot;

@@ -1,6 +1,6 @@
 ghost use Rattle.std.specs.Prelude.{◌≡◌, ◌≤◌, ◌<◌, ◌==◌, ◌++◌, ◌∷◌, [], None, Some, IsSome, position, OnOk, OnErr};
 ghost use Rattle.std.specs.Option.{option_copied};
-ghost use Rattle.exit_game.specs.Slots.{AreDistinct, slot_at, without_slot, with_slot_changed, with_challenge, with_answer};
+ghost use Rattle.exit_game.specs.Slots.{AreDistinct, slot_at, without_slot, with_slot_changed, with_challenge, with_answer, without_last};
 
 use super::challenges::Challenge;
 use super::slot::Slot;
@@ -69,6 +69,14 @@ impl Slots {
         answer_slot(&mut self.items, block, challenged);
     }
 
+    // Takes the last challenge of the slot at the block back.
+    pub fn unchallenge(&mut self, block: u64)
+        requires { IsSome (slot_at block self.old) }
+        ensures { self.new ≡ with_slot_changed block without_last self.old }
+    {
+        unchallenge_slot(&mut self.items, block);
+    }
+
     // Takes the slot at the block out.
     pub fn take(&mut self, block: u64) -> Slot
         requires { IsSome (slot_at block self.old) }
@@ -106,6 +114,16 @@ fn answer_slot(slots: &mut Vec<Slot>, block: u64, challenged: u64)
     if let Some(place) = place_of(slots.as_slice(), block) {
         let slot = &mut slots[place];
         slot.challenges.answer(challenged);
+    }
+}
+
+fn unchallenge_slot(slots: &mut Vec<Slot>, block: u64)
+    requires { AreDistinct slots.old.items }
+    ensures { slots.new.items ≡ with_slot_changed block without_last slots.old.items }
+{
+    if let Some(place) = place_of(slots.as_slice(), block) {
+        let slot = &mut slots[place];
+        slot.challenges.take_back();
     }
 }
 
