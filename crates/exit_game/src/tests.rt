@@ -1,6 +1,6 @@
 ghost use Rattle.std.specs.Prelude.{◌≡◌, ℕ, [], false, OnOk};
 ghost use Rattle.exit_game.specs.Games.{slots_in};
-ghost use Rattle.exit_game.specs.Slots.{slot_at, IsUnchallengedAt};
+ghost use Rattle.exit_game.specs.Slots.{slot_at, IsUnchallengedAt, IsOpenAt};
 
 use super::*;
 use plasma_base::NoMemory;
@@ -54,6 +54,16 @@ fn start(game: &mut Game, slot: Slot) -> Result<(), NoMemory>
     game.start(slot)
 }
 
+// Puts an open challenge at block 2 to the exit of coin 1 at block 4.
+fn challenge_exit(game: &mut Game, challenge: Challenge) -> Result<(), NoMemory>
+    requires block { challenge.block ≡ 2 }
+    requires open_still { challenge.answered ≡ false }
+    requires none { IsUnchallengedAt 2 (slot_at 4 (slots_in game.old 1)) }
+    ensures { OnOk result (IsOpenAt 2 (slot_at 4 (slots_in game.new 1))) }
+{
+    game.before(1, 4, challenge)
+}
+
 #[test]
 fn a_challenged_exit(rt: HostRuntime) -> Result<(), Fail> {
     let mut game = Game::new(rt.alloc());
@@ -64,6 +74,32 @@ fn a_challenged_exit(rt: HostRuntime) -> Result<(), Fail> {
     assert!(rt; game.slot(2, 4).is_none());
     let challenged = game.slot(1, 4).map(|slot| slot.challenges.as_slice().len());
     assert_eq!(rt; challenged, Some(1));
+    Ok(())
+}
+
+#[test]
+fn a_challenge_is_answered(rt: HostRuntime) -> Result<(), Fail> {
+    let mut game = Game::new(rt.alloc());
+    start(&mut game, slot(rt.alloc()))?;
+    challenge_exit(&mut game, challenge(2))?;
+    let before = game.slot(1, 4).map(|slot| slot.challenges.are_answered());
+    assert_eq!(rt; before, Some(false));
+    game.respond(1, 4, 2);
+    let after = game.slot(1, 4).map(|slot| slot.challenges.are_answered());
+    assert_eq!(rt; after, Some(true));
+    Ok(())
+}
+
+#[test]
+fn a_challenge_is_taken_back(rt: HostRuntime) -> Result<(), Fail> {
+    let mut game = Game::new(rt.alloc());
+    start(&mut game, slot(rt.alloc()))?;
+    game.before(1, 4, challenge(2))?;
+    if game.slot(1, 4).is_some() {
+        game.unchallenge(1, 4);
+    }
+    let left = game.slot(1, 4).map(|slot| slot.challenges.as_slice().len());
+    assert_eq!(rt; left, Some(0));
     Ok(())
 }
 
@@ -99,10 +135,22 @@ fn challenges_are_answered(rt: HostRuntime) -> Result<(), Fail> {
     challenges.push(challenge(2))?;
     challenges.push(challenge(1))?;
     challenges.answer(1);
+    assert_eq!(rt;
+        challenges.at(1).map(|challenge| challenge.answered),
+        Some(true)
+    );
+    assert_eq!(rt; challenges.at(2), Some(challenge(2)));
+    assert_eq!(rt; challenges.at(3), None);
+    assert!(rt; !challenges.are_answered());
     let answered: [bool; 2] = [false, true];
     for (challenge, want) in challenges.as_slice().iter().zip(answered.iter()) {
         assert_eq!(rt; challenge.answered, *want);
     }
     assert_eq!(rt; challenges.as_slice().len(), 2);
+    challenges.answer(2);
+    assert!(rt; challenges.are_answered());
+    challenges.take_back();
+    assert_eq!(rt; challenges.at(1), None);
+    assert!(rt; challenges.at(2).is_some());
     Ok(())
 }

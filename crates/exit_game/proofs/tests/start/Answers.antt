@@ -1,5 +1,6 @@
-use Rattle.std.proofs.Common.{◌≡◌, ℕ, List, [], ◌∷◌, Result, Ok, Err, OnOk, refl, sym, ◌∙◌}
+use Rattle.std.proofs.Common.{◌≡◌, ℕ, List, [], ◌∷◌, refl, sym, ◌∙◌}
 use Rattle.std.proofs.lemmas.Bool.{eq-eqb}
+use Rattle.std.proofs.lemmas.Result.{on_ok_weaker}
 use Rattle.exit_game.specs.declared.slot.Slot.{Slot}
 use Rattle.exit_game.specs.Slots.{slot_at, IsUnchallengedAt}
 use Rattle.exit_game.proofs.tests.start.Goals as goal
@@ -9,14 +10,9 @@ unchallenged : (slots : List Slot) (slot : Slot) (block : ℕ) → slots ≡ slo
     → IsUnchallengedAt block (slot_at 4 slots)
 unchallenged slots slot block is at none = rw (is, eq-eqb slot.block 4 at) (rw none refl)
 
--- what follows from an Ok
-on-ok : {A E : Type 0} {P Q : Type 0} (r : Result A E) → (P → Q) → OnOk r P → OnOk r Q
-on-ok (Ok a) f p = f p
-on-ok (Err e) f p = tt
-
 pub returns : goal.returns
 returns c =
-    on-ok c.start.result
+    on_ok_weaker c.start.result
     (λ has block. unchallenged _ c.args.slot block
     (has 1 ∙ rw (eq-eqb 1 c.args.slot.coin (sym c.requires.coin), c.requires.none) refl) c.requires.block
     c.requires.challenges) c.start.ensures.ok
