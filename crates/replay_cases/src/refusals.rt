@@ -1,6 +1,8 @@
 use super::runs::{KEY, replay_output};
+use plasma_base::Sha;
+use plasma_tx::{Answer, Refusal, RootCall};
 use replay_run::Status;
-use root_contract::{Answer, Contract, Refusal, RootCall};
+use root_contract::Contract;
 use std::test::Fail;
 
 /// A key that reads, as bytes.
@@ -74,7 +76,7 @@ fn the_contract_answers_and_keeps_its_log(rt: HostRuntime) -> Result<(), Fail> {
         key: KEY_BYTES,
     };
     let calls = [
-        (deposit, poor, 0, 0),
+        (deposit.copy()?, poor, 0, 0),
         (
             RootCall::Fund {
                 account: 1,
@@ -118,7 +120,7 @@ fn the_contract_answers_and_keeps_its_log(rt: HostRuntime) -> Result<(), Fail> {
         ),
     ];
     for (call, answer, balance, length) in calls {
-        assert_eq!(rt; contract.call(&call), answer);
+        assert_eq!(rt; contract.call(&Sha, &call), answer);
         assert_eq!(rt; contract.balance(1), balance);
         assert_eq!(rt; contract.log().events().len(), length);
     }

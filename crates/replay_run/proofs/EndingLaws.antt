@@ -2,7 +2,8 @@
 use Rattle.std.proofs.Common.{◌≡◌, ℕ, zero, suc, ◌+◌, ◌≤◌, ◌==◌, ◌&&◌, ◌||◌, nat_lt, not, Bool, true, false, if◌then◌else◌, List, [], ◌∷◌, length, Option, Some, None, Result, Ok, Err, inl, inr, refl, sym, ap, ◌∙◌, subst, arith}
 use Rattle.std.specs.Prelude.{is_none, option_and_then}
 use Rattle.std.proofs.lemmas.Bool.{ne_eqb, and_parts, not-true}
-use Rattle.deposit_rules.specs.Chain.{Chain}
+use Rattle.plasma_tx.specs.Chain.{Chain}
+use Rattle.root_rules.specs.Shown.{Tests}
 use Rattle.replay_run.specs.declared.reply.Ending.{Ending}
 use Rattle.replay_run.specs.declared.reply.Ending.TheVariants.{Complete, BadLine, ReadFault, TooLong}
 use Rattle.std.proofs.lemmas.Bool.{true≢false, ltb-false}
@@ -13,87 +14,90 @@ use Rattle.replay_run.specs.Trace.{Request, Begins, Enters, Asks, request_in, An
 use Rattle.replay_run.specs.Endings.{is_chain_line, IsAnswered, EndsAt, EndsBy, EndingsHaveTheirCause}
 
 -- a step is made of a `chain` line where there is no chain yet, and of another line where there is one
-steps-where : (state : Option Chain) (line : Request) (answered : AnsweredLine) → step state line ≡ Some answered
+steps-where : (tests : Tests) (state : Option Chain) (line : Request) (answered : AnsweredLine)
+    → step tests state line ≡ Some answered
     → is_chain_line line ≡ is_none state
 unfolding step
-steps-where None (Begins tag operator most) answered is = refl
-steps-where None (Asks account) answered is = absurd (cc)
-steps-where None (Enters call) answered is = absurd (cc)
-steps-where (Some chain) (Begins tag operator most) answered is = absurd (cc)
-steps-where (Some chain) line answered is = refl
+steps-where tests None (Begins tag operator most) answered is = refl
+steps-where tests None (Asks account) answered is = absurd (cc)
+steps-where tests None (Enters call) answered is = absurd (cc)
+steps-where tests (Some chain) (Begins tag operator most) answered is = absurd (cc)
+steps-where tests (Some chain) line answered is = refl
 
-stops-where : (state : Option Chain) (line : Request) → step state line ≡ None
+stops-where : (tests : Tests) (state : Option Chain) (line : Request) → step tests state line ≡ None
     → is_chain_line line ≡ not (is_none state)
 unfolding step
-stops-where None (Begins tag operator most) is = absurd (cc)
-stops-where None line is = refl
-stops-where (Some chain) (Begins tag operator most) is = refl
-stops-where (Some chain) (Asks account) is = absurd (cc)
-stops-where (Some chain) (Enters call) is = absurd (cc)
+stops-where tests None (Begins tag operator most) is = absurd (cc)
+stops-where tests None line is = refl
+stops-where tests (Some chain) (Begins tag operator most) is = refl
+stops-where tests (Some chain) (Asks account) is = absurd (cc)
+stops-where tests (Some chain) (Enters call) is = absurd (cc)
 
 -- what one line does: it ends the run for its cause, or it is answered
 LineDoes : Bool → ℕ → ℕ → List ℕ → Result AnsweredLine Ending → Type 0
 LineDoes ended n start line (Ok answered) = IsAnswered n start line
 LineDoes ended n start line (Err ending) = EndsAt ended n start line ending
 
-by-step : (ended : Bool) (n start : ℕ) (state : Option Chain) (line : List ℕ) → is_none state ≡ (n == 1)
+by-step : (tests : Tests) (ended : Bool) (n start : ℕ) (state : Option Chain) (line : List ℕ) → is_none state ≡ (n == 1)
     → is_too_long n start line ≡ false → (spelled : Request) → request_in (text_of line) ≡ Some spelled
-    → (o : Option AnsweredLine) → step state spelled ≡ o → LineDoes ended n start line (step_or (BadLine n) o)
+    → (o : Option AnsweredLine) → step tests state spelled ≡ o → LineDoes ended n start line (step_or (BadLine n) o)
 unfolding LineDoes
-by-step ended n start state line first fits spelled spells None is =
-    (refl, fits, inr (spelled, spells, stops-where state spelled is ∙ ap not first))
-by-step ended n start state line first fits spelled spells (Some answered) is =
-    record { fits = fits; spelled = spelled; spells = spells; placed = steps-where state spelled answered is ∙ first }
+by-step tests ended n start state line first fits spelled spells None is =
+    (refl, fits, inr (spelled, spells, stops-where tests state spelled is ∙ ap not first))
+by-step tests ended n start state line first fits spelled spells (Some answered) is =
+    let placed = steps-where tests state spelled answered is ∙ first in
+    record { fits = fits; spelled = spelled; spells = spells; placed = placed }
 
-by-text : (ended : Bool) (n start : ℕ) (state : Option Chain) (line : List ℕ) → is_none state ≡ (n == 1)
+by-text : (tests : Tests) (ended : Bool) (n start : ℕ) (state : Option Chain) (line : List ℕ) → is_none state ≡ (n == 1)
     → is_too_long n start line ≡ false → (o : Option Request) → request_in (text_of line) ≡ o
-    → LineDoes ended n start line (step_or (BadLine n) (option_and_then (step state) o))
+    → LineDoes ended n start line (step_or (BadLine n) (option_and_then (step tests state) o))
 unfolding LineDoes
-by-text ended n start state line first fits None is = (refl, fits, inl is)
-by-text ended n start state line first fits (Some spelled) is =
-    by-step ended n start state line first fits spelled is (step state spelled) refl
+by-text tests ended n start state line first fits None is = (refl, fits, inl is)
+by-text tests ended n start state line first fits (Some spelled) is =
+    by-step tests ended n start state line first fits spelled is (step tests state spelled) refl
 
-line-does : (ended : Bool) (n start : ℕ) (state : Option Chain) (line : List ℕ) → is_none state ≡ (n == 1)
-    → LineDoes ended n start line (line_step ended n start state line)
+line-does : (tests : Tests) (ended : Bool) (n start : ℕ) (state : Option Chain) (line : List ℕ)
+    → is_none state ≡ (n == 1)
+    → LineDoes ended n start line (line_step tests ended n start state line)
 unfolding line_step LineDoes
-line-does ended n start state line first =
+line-does tests ended n start state line first =
     (elim (is_too_long n start line) as (λ t. is_too_long n start line ≡ t → LineDoes ended n start line
     (if t then Err (TooLong n) else (if not ended && not (is_whole line) then Err ReadFault else step_or (BadLine n)
-    (option_and_then (step state) (request_in (text_of line)))))) [
+    (option_and_then (step tests state) (request_in (text_of line)))))) [
       | true ↦ λ long. (refl, long)
       | false ↦ λ fits. (elim (not ended && not (is_whole line)) as
           (λ t. (not ended && not (is_whole line)) ≡ t → LineDoes ended n start line
           (if t then Err ReadFault else step_or (BadLine n)
-          (option_and_then (step state) (request_in (text_of line))))) [
+          (option_and_then (step tests state) (request_in (text_of line))))) [
             | true ↦ λ dropped. let parts =
                 and_parts (not ended) (not (is_whole line)) dropped
                 in (fits, not-true ended parts.0, not-true (is_whole line) parts.1)
-            | false ↦ λ kept. by-text ended n start state line first fits (request_in (text_of line)) refl
+            | false ↦ λ kept. by-text tests ended n start state line first fits (request_in (text_of line)) refl
           ]) refl
     ]) refl
 
-trace-ends : (ended : Bool) (n start : ℕ) (state : Option Chain) (lines : List (List ℕ)) → 1 ≤ n
+trace-ends : (tests : Tests) (ended : Bool) (n start : ℕ) (state : Option Chain) (lines : List (List ℕ)) → 1 ≤ n
     → is_none state ≡ (n == 1)
-    → let trace = trace_from ended n start state lines in
+    → let trace = trace_from tests ended n start state lines in
     EndsBy ended n start lines (length trace.lines) trace.ending
 unfolding trace_from EndsBy LineDoes
-trace-ends ended n start state [] low first = refl
-trace-ends ended n start state (line ∷ lines) low first =
-    let more : Chain → Trace = λ chain. trace_from ended (n + 1) (start + length line) (Some chain) lines in
-    (elim (line_step ended n start state line) as
+trace-ends tests ended n start state [] low first = refl
+trace-ends tests ended n start state (line ∷ lines) low first =
+    let more : Chain → Trace = λ chain. trace_from tests ended (n + 1) (start + length line) (Some chain) lines in
+    (elim (line_step tests ended n start state line) as
     (λ r. LineDoes ended n start line r
     → EndsBy ended n start (line ∷ lines) (length (trace_at n r more).lines) (trace_at n r more).ending) [
       | Ok answered ↦ λ does. (
         does,
-        trace-ends ended (n + 1) (start + length line) (Some answered.chain) lines
+        trace-ends tests ended (n + 1) (start + length line) (Some answered.chain) lines
             (omega arith) (sym (ne_eqb (n + 1) 1 (omega arith))),
       )
       | Err ending ↦ λ does. does
-    ]) (line-does ended n start state line first)
+    ]) (line-does tests ended n start state line first)
 
 pub endings_have_causes : EndingsHaveTheirCause
 unfolding trace_of
-endings_have_causes bytes ended = trace-ends ended 1 0 None _ (omega arith) refl
+endings_have_causes tests bytes ended = trace-ends tests ended 1 0 None _ (omega arith) refl
 
 fits_of : (a b c : Bool) → (a || b || c) ≡ false → c ≡ false
 fits_of true b c wrong = absurd (true≢false wrong)
@@ -122,11 +126,11 @@ fault-within ended n start (line ∷ lines) (suc more) cut low on =
     let rest = fault-within ended (n + 1) (start + length line) lines more cut.2 next on.1 in
     (rest.0, omega (arith, rest.1))
 
-pub fault-is : (bytes : List ℕ) (ended : Bool) → (trace_of bytes ended).ending ≡ ReadFault
+pub fault-is : (tests : Tests) (bytes : List ℕ) (ended : Bool) → (trace_of tests bytes ended).ending ≡ ReadFault
     → (ended ≡ false) × (length bytes ≤ MOST_INPUT_BYTES)
-fault-is bytes ended is =
+fault-is tests bytes ended is =
     let h = fault-within ended 1 0 (lines_in bytes) _ (lines-are_cut bytes) (omega arith)
-    (subst (EndsBy ended 1 0 (lines_in bytes) _) is (endings_have_causes bytes ended)) in
+    (subst (EndsBy ended 1 0 (lines_in bytes) _) is (endings_have_causes tests bytes ended)) in
     (h.0, omega (arith, h.1, size_of-lines_in bytes))
 
 complete-at : (ended : Bool) (n start : ℕ) (lines : List (List ℕ)) (answered : ℕ)
@@ -140,7 +144,8 @@ complete-at ended n start (line ∷ lines) (suc more) on =
     complete-at ended (n + 1) (start + length line) lines more on.1
 
 -- a run that is complete was at its input's end
-pub complete-is : (bytes : List ℕ) (ended : Bool) → (trace_of bytes ended).ending ≡ Complete → ended ≡ true
-complete-is bytes ended is =
+pub complete-is : (tests : Tests) (bytes : List ℕ) (ended : Bool) → (trace_of tests bytes ended).ending ≡ Complete
+    → ended ≡ true
+complete-is tests bytes ended is =
     complete-at ended 1 0 (lines_in bytes) _
-    (subst (EndsBy ended 1 0 (lines_in bytes) _) is (endings_have_causes bytes ended))
+    (subst (EndsBy ended 1 0 (lines_in bytes) _) is (endings_have_causes tests bytes ended))

@@ -1,13 +1,37 @@
 -- The first line of an input ends at the first line feed.
-use Rattle.std.proofs.Common.{◌≡◌, ℕ, suc, ◌+◌, ◌-◌, ◌<◌, ◌≤◌, ◌==◌, true, false, cond, not, if◌then◌else◌, List, [], ◌∷◌, length, take, drop, refl, sym, ap, ◌∙◌, arith, add-one}
+use Rattle.std.proofs.Common.{◌≡◌, ℕ, suc, inl, inr, Bool, ◌+◌, ◌-◌, ◌<◌, ◌≤◌, ◌==◌, true, false, cond, not, if◌then◌else◌, List, [], ◌∷◌, length, take, drop, refl, sym, ap, ◌∙◌, arith, add-one}
 use Rattle.std.proofs.Math.Numerals.{one-add}
 use Rattle.std.specs.List.{position_or_len}
 use Rattle.std.specs.Prelude.{slice_index}
 use Rattle.std.proofs.Common.{position, Some, None}
-use Rattle.std.proofs.lemmas.Bool.{true≢false}
+use Rattle.std.proofs.lemmas.Bool.{true≢false, cases_lt, lt-ltb, le-ltb}
 use Rattle.std.proofs.lemmas.List.{length-take, length-drop}
-use Rattle.root_contract.proofs.Places.{position-is, position-none}
 use Rattle.replay_run.specs.Lines.{lines_in, is_feed, is_whole, before_lines, CutsLine}
+
+-- the place of the first that passes is where the search ends
+position-is : {X : Type 0} (p : X → Bool) (xs : List X) (i : ℕ) → position p xs ≡ Some i → position_or_len p xs ≡ i
+position-is p xs i found =
+    elim (cases_lt (position_or_len p xs) (length xs)) [
+      | inl below ↦ same (position_or_len p xs) i (simp (lt-ltb (position_or_len p xs) (length xs) below) at found)
+      | inr above ↦ absurd (none_some i (simp (le-ltb (position_or_len p xs) (length xs) above) at found))
+    ]
+  where
+    same : (x y : ℕ) → Some x ≡ Some y → x ≡ y
+    same x y e = cc
+
+    none_some : (x : ℕ) → None ≡ Some x → ⊥
+    none_some x e = cc
+
+position-none : {X : Type 0} (p : X → Bool) (xs : List X) → position p xs ≡ None → length xs ≤ position_or_len p xs
+position-none p xs found =
+    elim (cases_lt (position_or_len p xs) (length xs)) [
+      | inl below ↦ absurd (some_none (position_or_len p xs)
+          (simp (lt-ltb (position_or_len p xs) (length xs) below) at found))
+      | inr above ↦ above
+    ]
+  where
+    some_none : (x : ℕ) → Some x ≡ None → ⊥
+    some_none x e = cc
 
 -- with a line feed, the first line ends behind it
 pub lines_in-cut : (bytes : List ℕ) → position_or_len is_feed bytes < length bytes

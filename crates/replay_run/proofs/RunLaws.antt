@@ -7,7 +7,8 @@ use Rattle.std.proofs.lemmas.List.{take-append-drop, append-nil}
 use Rattle.plasma_outside.specs.declared.sink.SinkRefusal.{SinkRefusal}
 use Rattle.plasma_outside.specs.declared.sink.SinkRefusal.TheVariants.{Failed, NoMemory as WantsMemory}
 use Rattle.plasma_outside.specs.Outside.{Puts, Takes}
-use Rattle.deposit_rules.specs.Chain.{Chain}
+use Rattle.plasma_tx.specs.Chain.{Chain}
+use Rattle.root_rules.specs.Shown.{Tests, tests_by}
 use Rattle.replay_run.specs.declared.reply.Reply.{Reply}
 use Rattle.replay_run.specs.declared.reply.Ending.{Ending}
 use Rattle.replay_run.specs.declared.reply.Ending.TheVariants.{Complete, BadLine, ReadFault, TooLong}
@@ -125,27 +126,28 @@ pub going-first : (before : Option (List ℕ)) (all : Trace) → Going before be
 going-first before all = record { put = []; wrote = wrote-none before; lines = refl; ends = refl }
 
 -- the trace at a line whose step is known
-at-line : (ended : Bool) (n start : ℕ) (state : Option Chain) (line : List ℕ) (lines : List (List ℕ))
-    (step : Result AnsweredLine Ending) → line_step ended n start state line ≡ step
-    → trace_from ended n start state (line ∷ lines) ≡ trace_at n step
-    (λ chain. trace_from ended (n + 1) (start + length line) (Some chain) lines)
+at-line : (tests : Tests) (ended : Bool) (n start : ℕ) (state : Option Chain) (line : List ℕ) (lines : List (List ℕ))
+    (step : Result AnsweredLine Ending) → line_step tests ended n start state line ≡ step
+    → trace_from tests ended n start state (line ∷ lines) ≡ trace_at n step
+    (λ chain. trace_from tests ended (n + 1) (start + length line) (Some chain) lines)
 unfolding trace_from
-at-line ended n start state line lines step is =
-    ap (λ s. trace_at n s (λ chain. trace_from ended (n + 1) (start + length line) (Some chain) lines)) is
+at-line tests ended n start state line lines step is =
+    ap (λ s. trace_at n s (λ chain. trace_from tests ended (n + 1) (start + length line) (Some chain) lines)) is
 
-pub going-on : (before after : Option (List ℕ)) (text : List ℕ) (ended : Bool) (n start : ℕ) (state : Option Chain)
+pub going-on : (tests : Tests) (before after : Option (List ℕ)) (text : List ℕ) (ended : Bool) (n start : ℕ)
+    (state : Option Chain)
     (line : List ℕ) (lines : List (List ℕ)) (all : Trace) (chain : Chain) (reply : Reply)
-    → Going before after text (trace_from ended n start state (line ∷ lines)) all
-    → line_step ended n start state line ≡ Ok (record { chain = chain; reply = reply })
+    → Going before after text (trace_from tests ended n start state (line ∷ lines)) all
+    → line_step tests ended n start state line ≡ Ok (record { chain = chain; reply = reply })
     → Going before after (text ++ trace_line_text (record { line = n; reply = reply }))
-    (trace_from ended (n + 1) (start + length line) (Some chain) lines) all
-going-on before after text ended n start state line lines all chain reply going is =
-    let next : Trace = trace_from ended (n + 1) (start + length line) (Some chain) lines in
+    (trace_from tests ended (n + 1) (start + length line) (Some chain) lines) all
+going-on tests before after text ended n start state line lines all chain reply going is =
+    let next : Trace = trace_from tests ended (n + 1) (start + length line) (Some chain) lines in
     let own : List ℕ = trace_line_text (record { line = n; reply = reply }) in
     let here : Trace = record { lines = record { line = n; reply = reply } ∷ next.lines; ending = next.ending } in
     let old : Going before after text here all =
     subst (λ t. Going before after text t all)
-    (at-line ended n start state line lines (Ok (record { chain = chain; reply = reply })) is) going in
+    (at-line tests ended n start state line lines (Ok (record { chain = chain; reply = reply })) is) going in
     record {
       put = old.put;
       wrote = old.wrote;
@@ -153,14 +155,15 @@ going-on before after text ended n start state line lines all chain reply going 
       ends = old.ends;
     }
 
-pub going-ends : (before after : Option (List ℕ)) (text : List ℕ) (ended : Bool) (n start : ℕ) (state : Option Chain)
+pub going-ends : (tests : Tests) (before after : Option (List ℕ)) (text : List ℕ) (ended : Bool) (n start : ℕ)
+    (state : Option Chain)
     (line : List ℕ) (lines : List (List ℕ)) (all : Trace) (ending : Ending)
-    → Going before after text (trace_from ended n start state (line ∷ lines)) all
-    → line_step ended n start state line ≡ Err ending → GathersAnswers before after text all ending
+    → Going before after text (trace_from tests ended n start state (line ∷ lines)) all
+    → line_step tests ended n start state line ≡ Err ending → GathersAnswers before after text all ending
 unfolding answers_text
-going-ends before after text ended n start state line lines all ending going is =
+going-ends tests before after text ended n start state line lines all ending going is =
     let old : Going before after text (record { lines = []; ending = ending }) all =
-    subst (λ t. Going before after text t all) (at-line ended n start state line lines (Err ending) is) going in
+    subst (λ t. Going before after text t all) (at-line tests ended n start state line lines (Err ending) is) going in
     record {
       ends = old.ends;
       put = old.put;
@@ -168,11 +171,12 @@ going-ends before after text ended n start state line lines all ending going is 
       whole = ap (λ x. old.put ++ x) (sym (append-nil text)) ∙ old.lines;
     }
 
-pub going-out : (before after : Option (List ℕ)) (text : List ℕ) (ended : Bool) (n start : ℕ) (state : Option Chain)
-    (all : Trace) → Going before after text (trace_from ended n start state []) all
+pub going-out : (tests : Tests) (before after : Option (List ℕ)) (text : List ℕ) (ended : Bool) (n start : ℕ)
+    (state : Option Chain)
+    (all : Trace) → Going before after text (trace_from tests ended n start state []) all
     → GathersAnswers before after text all (if ended then Complete else ReadFault)
 unfolding trace_from answers_text
-going-out before after text ended n start state all going =
+going-out tests before after text ended n start state all going =
     record {
       ends = going.ends;
       put = going.put;
@@ -238,35 +242,38 @@ part-err (Err e) P p = p
 
 -- ---- the loop over the lines of an input of so many bytes
 
-module _ (before after : Option (List ℕ)) (text : List ℕ) (ended : Bool) (n size : ℕ) (state : Option Chain)
+module _ (tests : Tests) (before after : Option (List ℕ)) (text : List ℕ) (ended : Bool) (n size : ℕ)
+    (state : Option Chain)
     (rest : List ℕ) (all : Trace) (going : Going before after text
-    (trace_from ended n (size - length rest) state (lines_in rest)) all) where
+    (trace_from tests ended n (size - length rest) state (lines_in rest)) all) where
   pub going-next : (line later : List ℕ) (new : Option Chain) (reply : Reply) → CutsLine rest line later
-      → length rest ≤ size → AnswersLine (line_step ended n (size - length rest) state line) new (Ok reply)
+      → length rest ≤ size → AnswersLine (line_step tests ended n (size - length rest) state line) new (Ok reply)
       → Going before after (text ++ trace_line_text (record { line = n; reply = reply }))
-      (trace_from ended (n + 1) (size - length later) new (lines_in later)) all
+      (trace_from tests ended (n + 1) (size - length later) new (lines_in later)) all
   going-next line later new reply cut shorter answers =
       let next =
-      going-on before after text ended n (size - length rest) state line (lines_in later) all answers.0 reply
+      going-on tests before after text ended n (size - length rest) state line (lines_in later) all answers.0 reply
       (rw cut.lines at going) answers.2 in
       let place : size - length rest + length line ≡ size - length later = omega (arith, cut.sizes) in
       subst (λ (p : ℕ × Option Chain). Going before after
       (text ++ trace_line_text (record { line = n; reply = reply }))
-      (trace_from ended (n + 1) p.0 p.1 (lines_in later)) all) (λ i. (place i, sym answers.1 i)) next
+      (trace_from tests ended (n + 1) p.0 p.1 (lines_in later)) all) (λ i. (place i, sym answers.1 i)) next
 
   pub going-last : (line later : List ℕ) (ending : Ending) → CutsLine rest line later
-      → line_step ended n (size - length rest) state line ≡ Err ending → GathersAnswers before after text all ending
+      → line_step tests ended n (size - length rest) state line ≡ Err ending
+      → GathersAnswers before after text all ending
   going-last line later ending cut is =
-      going-ends before after text ended n (size - length rest) state line (lines_in later) all ending
+      going-ends tests before after text ended n (size - length rest) state line (lines_in later) all ending
       (rw cut.lines at going) is
 
   pub going-over : rest ≡ [] → GathersAnswers before after text all (if ended then Complete else ReadFault)
   unfolding lines_in trace_from
-  going-over none = going-out before after text ended n (size - length rest) state all (rw none at going)
+  going-over none = going-out tests before after text ended n (size - length rest) state all (rw none at going)
 
   pub stops-here : WroteFront before after (whole_text all)
   stops-here =
-      going-stops before after after text (trace_from ended n (size - length rest) state (lines_in rest)) all going
+      going-stops before after after text
+      (trace_from tests ended n (size - length rest) state (lines_in rest)) all going
       (front-none after text)
 
 pub answered-here : (before after : Option (List ℕ)) (text : List ℕ) (all : Trace) (ending : Ending)
@@ -327,28 +334,31 @@ module _ (bytes : List ℕ) (ended : Bool) (Reads : Bool → Type 0)
         | inr long ↦ absurd (omega (arith, cut.1, long.1))
       ]
 
-  reads-by : (ending : Ending) → (trace_of bytes ended).ending ≡ ending → ReadsBy (status_of ending) Reads
-  reads-by Complete is = subst (λ e. ReadsInput (Ok e) (length bytes) Reads) (complete-is bytes ended is) reads
-  reads-by (BadLine n) is = reads-either
-  reads-by ReadFault is = reads-fault (fault-is bytes ended is)
-  reads-by (TooLong n) is = reads-either
-
-  pub reads-replayed : (ending : Ending) → ending ≡ (trace_of bytes ended).ending → ReadsBy (status_of ending) Reads
-  reads-replayed ending is = reads-by ending (sym is)
-
   pub reads-stopped : (refusal : SinkRefusal) → ReadsBy (status_of_refusal refusal) Reads
   reads-stopped Failed = reads-either
   reads-stopped WantsMemory = reads-either
 
+  reads-by : (tests : Tests) (ending : Ending) → (trace_of tests bytes ended).ending ≡ ending
+      → ReadsBy (status_of ending) Reads
+  reads-by tests Complete is =
+      subst (λ e. ReadsInput (Ok e) (length bytes) Reads) (complete-is tests bytes ended is) reads
+  reads-by tests (BadLine n) is = reads-either
+  reads-by tests ReadFault is = reads-fault (fault-is tests bytes ended is)
+  reads-by tests (TooLong n) is = reads-either
+
+  pub reads-replayed : (tests : Tests) (ending : Ending) → ending ≡ (trace_of tests bytes ended).ending
+      → ReadsBy (status_of ending) Reads
+  reads-replayed tests ending is = reads-by tests ending (sym is)
+
   -- why a replay's input failed
-  pub failed-of : (replay_output bytes ended).status ≡ ReadFaultStatus → Reads true
-  failed-of is = by-ending (trace_of bytes ended).ending refl is
+  pub failed-of : (dig : List ℕ → List ℕ) → (replay_output dig bytes ended).status ≡ ReadFaultStatus → Reads true
+  failed-of dig is = by-ending (trace_of (tests_by dig) bytes ended).ending refl is
     where
-      by-ending : (ending : Ending) → (trace_of bytes ended).ending ≡ ending → status_of ending ≡ ReadFaultStatus
-          → Reads true
+      by-ending : (ending : Ending) → (trace_of (tests_by dig) bytes ended).ending ≡ ending
+          → status_of ending ≡ ReadFaultStatus → Reads true
       by-ending Complete at wrong = absurd (cc)
       by-ending (BadLine n) at wrong = absurd (cc)
-      by-ending ReadFault at same = reads-by ReadFault at
+      by-ending ReadFault at same = reads-by (tests_by dig) ReadFault at
       by-ending (TooLong n) at wrong = absurd (cc)
 
 -- a source that wasn't touched
@@ -366,30 +376,31 @@ reads-unfailed WriteFault Reads no_fault reads = (false, reads)
 reads-unfailed NoMemory Reads no_fault reads = (false, reads)
 reads-unfailed TooLongStatus Reads no_fault reads = (false, reads)
 
-module _ (left later before after : Option (List ℕ)) (bytes : List ℕ) (ended : Bool) (failed : Type 0)
-    (gave : Gave left later bytes ended) (why : (replay_output bytes ended).status ≡ ReadFaultStatus → failed) where
+module _ (dig : List ℕ → List ℕ) (left later before after : Option (List ℕ)) (bytes : List ℕ) (ended : Bool)
+    (failed : Type 0)
+    (gave : Gave left later bytes ended) (why : (replay_output dig bytes ended).status ≡ ReadFaultStatus → failed) where
   pub ran-replay :
-      (ending : Ending) → ending ≡ (trace_of bytes ended).ending
-      → Wrote before after (whole_text (trace_of bytes ended))
-      → RanOver replay_output left later before after failed (status_of ending)
+      (ending : Ending) → ending ≡ (trace_of (tests_by dig) bytes ended).ending
+      → Wrote before after (whole_text (trace_of (tests_by dig) bytes ended))
+      → RanOver (replay_output dig) left later before after failed (status_of ending)
   ran-replay ending is wrote = record {
     bytes = bytes;
     ended = ended;
     gave = gave;
     ends =
-        subst (λ e. EndsAs (replay_output bytes ended) (status_of e) before after failed) (sym is)
-        (ends-whole (replay_output bytes ended) before after failed why wrote);
+        subst (λ e. EndsAs (replay_output dig bytes ended) (status_of e) before after failed) (sym is)
+        (ends-whole (replay_output dig bytes ended) before after failed why wrote);
   }
 
   pub ran-stopped :
-      (refusal : SinkRefusal) → WroteFront before after (whole_text (trace_of bytes ended))
-      → RanOver replay_output left later before after failed (status_of_refusal refusal)
+      (refusal : SinkRefusal) → WroteFront before after (whole_text (trace_of (tests_by dig) bytes ended))
+      → RanOver (replay_output dig) left later before after failed (status_of_refusal refusal)
   ran-stopped refusal front = record {
     bytes = bytes;
     ended = ended;
     gave = gave;
     ends =
-        ends-stopped refusal (replay_output bytes ended) before after failed
+        ends-stopped refusal (replay_output dig bytes ended) before after failed
         (record { front = front; fault = λ is. inl (why is) });
   }
 
@@ -430,38 +441,40 @@ ends-wide output NoMemory before after failed ends = stops-wide output before af
 
 -- a run that took nothing from its source
 pub ran-unread :
-    (words : List (List ℕ)) (left before after : Option (List ℕ)) (failed : Type 0) (form : Option Form)
+    (dig : List ℕ → List ℕ) (words : List (List ℕ)) (left before after : Option (List ℕ)) (failed : Type 0)
+    (form : Option Form)
     (status : Status)
-    → form ≡ form_of words → EndsAs (form_output form [] false) status before after ⊥
-    → RanOver (output_of words) left left before after failed status
+    → form ≡ form_of words → EndsAs (form_output dig form [] false) status before after ⊥
+    → RanOver (output_of dig words) left left before after failed status
 unfolding output_of
-ran-unread words left before after failed form status is ends = record {
+ran-unread dig words left before after failed form status is ends = record {
   bytes = [];
   ended = false;
   gave = gave-none left;
   ends =
-      subst (λ f. EndsAs (form_output f [] false) status before after failed) is
-      (ends-wide (form_output form [] false) status before after failed ends);
+      subst (λ f. EndsAs (form_output dig f [] false) status before after failed) is
+      (ends-wide (form_output dig form [] false) status before after failed ends);
 }
 
 pub ran-form :
-    (words : List (List ℕ)) (left later before after : Option (List ℕ)) (failed : Type 0) (status : Status)
-    → Some Replay ≡ form_of words → RanOver replay_output left later before after failed status
-    → RanOver (output_of words) left later before after failed status
+    (dig : List ℕ → List ℕ) (words : List (List ℕ)) (left later before after : Option (List ℕ)) (failed : Type 0)
+    (status : Status)
+    → Some Replay ≡ form_of words → RanOver (replay_output dig) left later before after failed status
+    → RanOver (output_of dig words) left later before after failed status
 unfolding output_of
-ran-form words left later before after failed status is ran = record {
+ran-form dig words left later before after failed status is ran = record {
   bytes = ran.bytes;
   ended = ran.ended;
   gave = ran.gave;
-  ends = subst (λ f. EndsAs (form_output f ran.bytes ran.ended) status before after failed) is ran.ends;
+  ends = subst (λ f. EndsAs (form_output dig f ran.bytes ran.ended) status before after failed) is ran.ends;
 }
 
 pub ran-nothing :
-    (words : List (List ℕ)) (left before : Option (List ℕ)) (failed : Type 0)
-    → RanOver (output_of words) left left before before failed NoMemory
-ran-nothing words left before failed = record {
+    (dig : List ℕ → List ℕ) (words : List (List ℕ)) (left before : Option (List ℕ)) (failed : Type 0)
+    → RanOver (output_of dig words) left left before before failed NoMemory
+ran-nothing dig words left before failed = record {
   bytes = [];
   ended = false;
   gave = gave-none left;
-  ends = stops-unwritten (output_of words [] false) before failed;
+  ends = stops-unwritten (output_of dig words [] false) before failed;
 }

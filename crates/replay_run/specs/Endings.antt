@@ -1,5 +1,6 @@
 -- Why a replay ends, by its lines alone: the limits, the grammar and the rule of declarations.
 use Rattle.std.specs.Prelude.{◌≡◌, ℕ, zero, suc, ◌+◌, ◌==◌, ◌⊎◌, not, Bool, true, false, if◌then◌else◌, List, [], ◌∷◌, length, Some, None}
+use Rattle.root_rules.specs.Shown.{Tests}
 use Rattle.replay_run.specs.declared.reply.Ending.{Ending}
 use Rattle.replay_run.specs.declared.reply.Ending.TheVariants.{Complete, BadLine, ReadFault, TooLong}
 use Rattle.replay_run.specs.Lines.{lines_in, is_whole, text_of, is_too_long}
@@ -43,5 +44,5 @@ EndsBy ended n start (line ∷ lines) (suc more) ending =
 -- A replay ends for the first cause that its lines have, whatever the contract answers, and it has a reply to each line
 -- before.
 abbrev pub EndingsHaveTheirCause : Type 0
-EndingsHaveTheirCause = (bytes : List ℕ) (ended : Bool)
-    → EndsBy ended 1 0 (lines_in bytes) (length (trace_of bytes ended).lines) (trace_of bytes ended).ending
+EndingsHaveTheirCause = (tests : Tests) (bytes : List ℕ) (ended : Bool)
+    → EndsBy ended 1 0 (lines_in bytes) (length (trace_of tests bytes ended).lines) (trace_of tests bytes ended).ending

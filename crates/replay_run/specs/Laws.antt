@@ -1,13 +1,15 @@
 -- What holds of the lines of an input and of the replies of a trace, in words of their own.
 use Rattle.std.specs.Prelude.{◌≡◌, ◌≢◌, ◌⊎◌, ℕ, ◌+◌, Bool, List, [], ◌∷◌, ◌++◌, take, slice_get, EachIndex, Option, Some, None, option_map}
 use Rattle.std.specs.List.{All, concat, filter_map}
-use Rattle.deposit_rules.specs.declared.call.RootCall.{RootCall}
-use Rattle.deposit_rules.specs.Table.{Rules, answer_to, log_after_all}
-use Rattle.deposit_rules.specs.Money.{balance_of}
+use Rattle.plasma_tx.specs.declared.call.RootCall.{RootCall}
+use Rattle.root_rules.specs.Shown.{Tests, Rules}
+use Rattle.root_rules.specs.Table.{answer_to}
+use Rattle.root_rules.specs.Laws.{log_after_all}
+use Rattle.root_rules.specs.Money.{balance_of}
 use Rattle.replay_run.specs.declared.reply.Reply.{Reply}
 use Rattle.replay_run.specs.declared.reply.Reply.TheVariants.{Chain as ChainReply, Money, Answered}
 use Rattle.replay_run.specs.Lines.{lines_in, text_of}
-use Rattle.replay_run.specs.Trace.{Request, Begins, Enters, Asks, request_in, TraceLine, trace_of}
+use Rattle.replay_run.specs.Trace.{Request, Begins, Enters, Asks, request_in, TraceLine, tag_of, trace_of}
 
 -- bytes without a line feed
 abbrev pub HasNoFeed : List ℕ → Type 0
@@ -34,38 +36,42 @@ LinesAreTheBytes = (bytes : List ℕ) → (concat (lines_in bytes) ≡ bytes) ×
 abbrev pub LinesAreOneCut : Type 0
 LinesAreOneCut = (lines : List (List ℕ)) → AreLines lines → lines_in (concat lines) ≡ lines
 
--- the call that a line makes, if it makes one
-abbrev pub call_by : Request → Option RootCall
-call_by (Begins tag operator most) = None
-call_by (Enters call) = Some call
-call_by (Asks account) = None
+-- the call that a line makes under these tests, if it makes one
+abbrev pub call_by : Tests → Request → Option (Tests × RootCall)
+call_by tests (Begins tag operator most) = None
+call_by tests (Enters call) = Some (tests, call)
+call_by tests (Asks account) = None
 
 -- the calls of these lines, in their order
-abbrev pub calls_of : List Request → List RootCall
-calls_of lines = filter_map call_by lines
+abbrev pub calls_of : Tests → List Request → List (Tests × RootCall)
+calls_of tests lines = filter_map (call_by tests) lines
 
 -- the reply to a line where these calls were accepted before: the contract's answer, a balance, or that the chain
 -- was begun
-abbrev pub reply_to : Rules → List RootCall → Request → Reply
-reply_to rules log (Begins tag operator most) = ChainReply
-reply_to rules log (Enters call) = Answered (answer_to rules log call)
-reply_to rules log (Asks account) = Money (balance_of log account)
+abbrev pub reply_to : Tests → Rules → List RootCall → Request → Reply
+reply_to tests rules log (Begins tag operator most) = ChainReply
+reply_to tests rules log (Enters call) = Answered (answer_to tests rules log call)
+reply_to tests rules log (Asks account) = Money (balance_of log account)
 
 -- what the lines of an input ask for; a replay ends before the first that asks for nothing
 abbrev pub lines_spelled : List ℕ → List Request
 lines_spelled bytes = filter_map (λ line. request_in (text_of line)) (lines_in bytes)
 
 -- the trace line of the i-th of these lines, counted from 0: its number, and its reply after the calls of those before
-abbrev pub trace_line_of : Rules → List Request → ℕ → Option TraceLine
-trace_line_of rules lines i =
-    let log = log_after_all rules [] (calls_of (take i lines)) in
-    option_map (λ line. record { line = i + 1; reply = reply_to rules log line }) (slice_get lines i)
+abbrev pub trace_line_of : Tests → Rules → List Request → ℕ → Option TraceLine
+trace_line_of tests rules lines i =
+    let log = log_after_all rules [] (calls_of tests (take i lines)) in
+    option_map (λ line. record { line = i + 1; reply = reply_to tests rules log line }) (slice_get lines i)
+
+-- the rules of the contract that a `chain` line makes
+abbrev pub rules_by : ℕ → ℕ → ℕ → Rules
+rules_by tag operator most = record { tag = tag_of tag; operator = operator; most_blocks = most }
 
 -- A schedule that begins with a `chain` line is answered line by line, each after the calls of the lines before it.
 abbrev pub RepliesFollowTheCalls : Type 0
 RepliesFollowTheCalls =
-    (bytes : List ℕ) (ended : Bool) (tag operator most : ℕ) (rest : List Request)
+    (tests : Tests) (bytes : List ℕ) (ended : Bool) (tag operator most : ℕ) (rest : List Request)
     → lines_spelled bytes ≡ Begins tag operator most ∷ rest
-    → EachIndex (trace_of bytes ended).lines (λ i.
-    slice_get (trace_of bytes ended).lines i
-    ≡ trace_line_of (record { operator = operator; most_blocks = most }) (lines_spelled bytes) i)
+    → EachIndex (trace_of tests bytes ended).lines (λ i.
+    slice_get (trace_of tests bytes ended).lines i
+    ≡ trace_line_of tests (rules_by tag operator most) (lines_spelled bytes) i)

@@ -1,5 +1,6 @@
 pub mod Forms
 pub mod Lines
+pub mod Calls
 pub mod Trace
 pub mod Endings
 pub mod Text

@@ -1,5 +1,6 @@
 -- What a run writes and how it ends, as a function of the words and of the bytes that were read.
 use Rattle.std.specs.Prelude.{ℕ, Bool, if◌then◌else◌, List, [], ◌∷◌, ◌++◌, codes, Option, Some, None}
+use Rattle.root_rules.specs.Shown.{tests_by}
 use Rattle.replay_run.specs.declared.status.Status.{Status}
 use Rattle.replay_run.specs.declared.status.Status.TheVariants.{Done, Usage, BadLine as BadLineStatus, ReadFault as ReadFaultStatus, WriteFault as WriteFaultStatus, NoMemory as NoMemoryStatus, TooLong as TooLongStatus}
 use Rattle.plasma_outside.specs.declared.sink.SinkRefusal.{SinkRefusal}
@@ -33,10 +34,10 @@ status_of (BadLine n) = BadLineStatus
 status_of ReadFault = ReadFaultStatus
 status_of (TooLong n) = TooLongStatus
 
--- `replay`: the answers of the trace of the input, and the status and the line of what ended it
-abbrev pub replay_output : List ℕ → Bool → Output
-replay_output bytes ended =
-    let trace = trace_of bytes ended in record {
+-- `replay` under a digest: the answers of the trace of the input, and the status and the line of what ended it
+abbrev pub replay_output : (List ℕ → List ℕ) → List ℕ → Bool → Output
+replay_output dig bytes ended =
+    let trace = trace_of (tests_by dig) bytes ended in record {
       status = status_of trace.ending;
       answers = answers_text trace;
       last = ending_text trace.ending;
@@ -56,11 +57,11 @@ status_of_refusal Failed = WriteFaultStatus
 status_of_refusal NoMemory = NoMemoryStatus
 
 -- the output of a form over these bytes; `ended` says that the input was read to its end. `verify` reads nothing
-abbrev pub form_output : Option Form → List ℕ → Bool → Output
-form_output None bytes ended = usage_output
-form_output (Some Replay) bytes ended = replay_output bytes ended
-form_output (Some (Verify key message signature)) bytes ended = verify_output (is_verified key message signature)
+abbrev pub form_output : (List ℕ → List ℕ) → Option Form → List ℕ → Bool → Output
+form_output dig None bytes ended = usage_output
+form_output dig (Some Replay) bytes ended = replay_output dig bytes ended
+form_output dig (Some (Verify key message signature)) bytes ended = verify_output (is_verified key message signature)
 
--- the output of a run with these words over these bytes
-unfoldable pub output_of : List (List ℕ) → List ℕ → Bool → Output
-output_of words bytes ended = form_output (form_of words) bytes ended
+-- the output of a run under a digest with these words over these bytes
+unfoldable pub output_of : (List ℕ → List ℕ) → List (List ℕ) → List ℕ → Bool → Output
+output_of dig words bytes ended = form_output dig (form_of words) bytes ended

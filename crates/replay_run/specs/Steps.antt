@@ -1,6 +1,6 @@
 -- What the calls that step a replay answer.
 use Rattle.std.specs.Prelude.{◌≡◌, Option, Some, Result, Ok, Err}
-use Rattle.deposit_rules.specs.Chain.{Chain}
+use Rattle.plasma_tx.specs.Chain.{Chain}
 use Rattle.replay_run.specs.declared.reply.Reply.{Reply}
 use Rattle.replay_run.specs.declared.reply.Ending.{Ending}
 use Rattle.replay_run.specs.Trace.{AnsweredLine}

@@ -2,10 +2,10 @@
 use Rattle.std.specs.Prelude.{ℕ, List, [], ◌∷◌, ◌++◌, codes}
 use Rattle.std.specs.List.{flat_map}
 use Rattle.line_forms.specs.Tokens.{number_text}
-use Rattle.deposit_rules.specs.declared.call.Answer.{Answer}
-use Rattle.deposit_rules.specs.declared.call.Answer.TheVariants.{Funded, Ticked, Deposited, Started, Paid, Dropped, Refused, NoMemory}
-use Rattle.deposit_rules.specs.declared.call.Refusal.{Refusal}
-use Rattle.deposit_rules.specs.declared.call.Refusal.TheVariants.{SumTooLarge, ClockBack, ClockTooLarge, BadAmount, BadKey, NoFunds, TooManyBlocks, NoCoin, Withdrawn, BadBlock, NotOwner, ExitStands, NoExit, Early}
+use Rattle.plasma_tx.specs.declared.answer.Answer.{Answer}
+use Rattle.plasma_tx.specs.declared.answer.Answer.TheVariants.{Funded, Ticked, Deposited, Committed, Started, Cancelled, Challenged, Responded, Paid, Dropped, Refused, NoMemory}
+use Rattle.plasma_tx.specs.declared.answer.Refusal.{Refusal}
+use Rattle.plasma_tx.specs.declared.answer.Refusal.TheVariants.{SumTooLarge, ClockBack, ClockTooLarge, BadAmount, BadKey, NoFunds, TooManyBlocks, NotOperator, NoCoin, Withdrawn, BadBlock, NotOwner, ExitStands, BadOpening, NotChild, BadSignature, NoExit, Late, ChallengeStands, NoChallenge, Answered as ChallengeAnswered, Early}
 use Rattle.replay_run.specs.declared.reply.Reply.{Reply}
 use Rattle.replay_run.specs.declared.reply.Reply.TheVariants.{Chain, Money, Answered}
 use Rattle.replay_run.specs.declared.reply.Ending.{Ending}
@@ -29,12 +29,20 @@ refusal_text BadAmount = phrase (codes "refused bad-amount") []
 refusal_text BadKey = phrase (codes "refused bad-key") []
 refusal_text (NoFunds has needs) = phrase (codes "refused no-funds") (has ∷ needs ∷ [])
 refusal_text TooManyBlocks = phrase (codes "refused too-many-blocks") []
+refusal_text NotOperator = phrase (codes "refused not-operator") []
 refusal_text NoCoin = phrase (codes "refused no-coin") []
 refusal_text Withdrawn = phrase (codes "refused withdrawn") []
 refusal_text BadBlock = phrase (codes "refused bad-block") []
 refusal_text NotOwner = phrase (codes "refused not-owner") []
 refusal_text ExitStands = phrase (codes "refused exit-stands") []
+refusal_text BadOpening = phrase (codes "refused bad-opening") []
+refusal_text NotChild = phrase (codes "refused not-child") []
+refusal_text BadSignature = phrase (codes "refused bad-signature") []
 refusal_text NoExit = phrase (codes "refused no-exit") []
+refusal_text Late = phrase (codes "refused late") []
+refusal_text ChallengeStands = phrase (codes "refused challenge-stands") []
+refusal_text NoChallenge = phrase (codes "refused no-challenge") []
+refusal_text ChallengeAnswered = phrase (codes "refused answered") []
 refusal_text (Early opens) = phrase (codes "refused early") (opens ∷ [])
 
 -- an answer of the contract; want of memory is never one
@@ -42,7 +50,11 @@ abbrev pub answer_text : Answer → List ℕ
 answer_text Funded = phrase (codes "funded") []
 answer_text Ticked = phrase (codes "ticked") []
 answer_text (Deposited coin block) = phrase (codes "deposited") (coin ∷ block ∷ [])
+answer_text (Committed block) = phrase (codes "committed") (block ∷ [])
 answer_text (Started opens) = phrase (codes "started") (opens ∷ [])
+answer_text Cancelled = phrase (codes "cancelled") []
+answer_text (Challenged until) = phrase (codes "challenged") (until ∷ [])
+answer_text Responded = phrase (codes "responded") []
 answer_text Paid = phrase (codes "paid") []
 answer_text Dropped = phrase (codes "dropped") []
 answer_text (Refused why) = refusal_text why

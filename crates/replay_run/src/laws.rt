@@ -12,15 +12,17 @@ pub fn lines_are_the_bytes()
 {}
 
 /// A replay answers line by line: reply i is the contract's answer to the call of line i, or the
-/// balance that it asks for, after the calls of the lines before it that were accepted.
+/// balance that it asks for, after the calls of the lines before it that were accepted. So it is for
+/// all tests of openings and signatures, and hence under every digest.
 pub fn replies_follow_the_calls()
     ensures { RepliesFollowTheCalls }
 {}
 
 /// A replay ends for the first cause that its lines have: a line that passes a limit, else one that
-/// isn't in the grammar or breaks the rule of declarations; a read fault comes only where the input
-/// wasn't read to its end, and a replay is complete only where all its lines were answered. Each line
-/// before that one has a reply, and no other.
+/// isn't in the grammar, names a wallet or a mail item, or breaks the rule of declarations; a read fault
+/// comes only where the input wasn't read to its end, and a replay is complete only where all its lines
+/// were answered. Each line before that one has a reply, and no other. So it is for all tests of
+/// openings and signatures.
 pub fn endings_have_their_cause()
     ensures { EndingsHaveTheirCause }
 {}

@@ -1,6 +1,7 @@
 //! What the program does: a run reads its words and its input, and writes its output.
 #![tactic(auto)]
 
+mod calls;
 mod form;
 mod input;
 mod laws;
@@ -16,7 +17,7 @@ pub use laws::{
     the_limits_are_these_numbers,
 };
 pub use status::Status;
-pub use top::run;
+pub use top::{run, run_with};
 
 /// The most lines of an input.
 pub const MOST_LINES: u64 = 200_000;

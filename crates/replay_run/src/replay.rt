@@ -1,6 +1,7 @@
 ghost use Rattle.std.specs.Prelude.{◌≡◌, [], IfOk, OnOk, OnErr};
 ghost use Rattle.plasma_base.specs.Causes.{faults_after};
 ghost use Rattle.plasma_outside.specs.Outside.{is_failed};
+ghost use Rattle.root_rules.specs.Shown.{tests_by};
 ghost use Rattle.replay_run.specs.Trace.{trace_of};
 ghost use Rattle.replay_run.specs.Runs.{Wrote, WroteFront, GathersAnswers, whole_text};
 
@@ -8,6 +9,7 @@ use super::input::next_line;
 use super::reply::Ending;
 use super::steps::answer_line;
 use super::text::{push_ending, push_trace_line};
+use plasma_base::Hash32;
 use plasma_outside::{Sink, SinkRefusal};
 use std::alloc::Global;
 
@@ -28,20 +30,23 @@ fn put_text<K: Sink>(sink: &mut K, text: &mut Vec<u8>) -> Result<(), SinkRefusal
 
 /// Answers the lines of an input into a sink: the text of the trace, and what ended it. `ended` says
 /// that the input was read to its end.
-pub fn replay<K: Sink>(
+pub fn replay<H: Hash32, K: Sink>(
+    h: &H,
     alloc: Global,
     input: &[u8],
     ended: bool,
     sink: &mut K,
 ) -> Result<Ending, SinkRefusal>
-    ensures done { IfOk result (λ ending. ending ≡ (trace_of input.now ended).ending) }
-    ensures wrote { OnOk result (Wrote (K.taken sink.old) (K.taken sink.new) (whole_text (trace_of input.now ended))) }
+    ensures done { IfOk result (λ ending. ending ≡ (trace_of (tests_by (H.digest_of h.now)) input.now ended).ending) }
+    ensures wrote { OnOk result (Wrote (K.taken sink.old) (K.taken sink.new)
+        (whole_text (trace_of (tests_by (H.digest_of h.now)) input.now ended))) }
     ensures stopped { OnErr result
-        (WroteFront (K.taken sink.old) (K.taken sink.new) (whole_text (trace_of input.now ended))) }
+        (WroteFront (K.taken sink.old) (K.taken sink.new)
+        (whole_text (trace_of (tests_by (H.digest_of h.now)) input.now ended))) }
     ensures cause { K.faults sink.new ≡ faults_after (K.faults sink.old) (is_failed result) }
 {
     let mut text = Vec::new(alloc);
-    let ending = answer_lines(alloc, input, ended, &mut text, sink)?;
+    let ending = answer_lines(h, alloc, input, ended, &mut text, sink)?;
     push_ending(&mut text, &ending)?;
     put_text(sink, &mut text)?;
     Ok(ending)
@@ -49,7 +54,8 @@ pub fn replay<K: Sink>(
 
 /// Answers the lines of an input, up to what ends them. Full chunks of the text are put; the rest of
 /// it is left in `text`.
-fn answer_lines<K: Sink>(
+fn answer_lines<H: Hash32, K: Sink>(
+    h: &H,
     alloc: Global,
     input: &[u8],
     ended: bool,
@@ -58,9 +64,11 @@ fn answer_lines<K: Sink>(
 ) -> Result<Ending, SinkRefusal>
     requires { text.old.items ≡ [] }
     ensures answered { IfOk result
-        (GathersAnswers (K.taken sink.old) (K.taken sink.new) text.new.items (trace_of input.now ended)) }
+        (GathersAnswers (K.taken sink.old) (K.taken sink.new) text.new.items
+        (trace_of (tests_by (H.digest_of h.now)) input.now ended)) }
     ensures stopped { OnErr result
-        (WroteFront (K.taken sink.old) (K.taken sink.new) (whole_text (trace_of input.now ended))) }
+        (WroteFront (K.taken sink.old) (K.taken sink.new)
+        (whole_text (trace_of (tests_by (H.digest_of h.now)) input.now ended))) }
     ensures cause { K.faults sink.new ≡ faults_after (K.faults sink.old) (is_failed result) }
 {
     let mut state = None;
@@ -68,7 +76,7 @@ fn answer_lines<K: Sink>(
     let mut number = 1;
     while let Some((line, after)) = next_line(rest) {
         let start = (input.len() - rest.len()) as u64;
-        match answer_line(alloc, &mut state, number, start, line, ended)? {
+        match answer_line(h, alloc, &mut state, number, start, line, ended)? {
             Ok(reply) => push_trace_line(text, number, &reply)?,
             Err(ending) => return Ok(ending),
         }

@@ -1,4 +1,4 @@
-use root_contract::Answer;
+use plasma_tx::Answer;
 
 /// What a line is answered.
 #[derive(Debug, Clone, Copy, PartialEq, Eq)]

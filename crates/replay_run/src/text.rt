@@ -4,7 +4,7 @@ ghost use Rattle.replay_run.specs.Text.{phrase, refusal_text, answer_text, reply
 use super::reply::{Ending, Reply};
 use line_forms::push_number;
 use plasma_base::NoMemory;
-use root_contract::{Answer, Refusal};
+use plasma_tx::{Answer, Refusal};
 
 /// Puts words, and numbers after them, at the end.
 fn push_phrase(out: &mut Vec<u8>, words: &[u8], numbers: &[u64]) -> Result<(), NoMemory>
@@ -29,12 +29,20 @@ fn push_refusal(out: &mut Vec<u8>, refusal: &Refusal) -> Result<(), NoMemory>
         Refusal::BadKey => push_phrase(out, b"refused bad-key", &[]),
         Refusal::NoFunds { has, needs } => push_phrase(out, b"refused no-funds", &[has, needs]),
         Refusal::TooManyBlocks => push_phrase(out, b"refused too-many-blocks", &[]),
+        Refusal::NotOperator => push_phrase(out, b"refused not-operator", &[]),
         Refusal::NoCoin => push_phrase(out, b"refused no-coin", &[]),
         Refusal::Withdrawn => push_phrase(out, b"refused withdrawn", &[]),
         Refusal::BadBlock => push_phrase(out, b"refused bad-block", &[]),
         Refusal::NotOwner => push_phrase(out, b"refused not-owner", &[]),
         Refusal::ExitStands => push_phrase(out, b"refused exit-stands", &[]),
+        Refusal::BadOpening => push_phrase(out, b"refused bad-opening", &[]),
+        Refusal::NotChild => push_phrase(out, b"refused not-child", &[]),
+        Refusal::BadSignature => push_phrase(out, b"refused bad-signature", &[]),
         Refusal::NoExit => push_phrase(out, b"refused no-exit", &[]),
+        Refusal::Late => push_phrase(out, b"refused late", &[]),
+        Refusal::ChallengeStands => push_phrase(out, b"refused challenge-stands", &[]),
+        Refusal::NoChallenge => push_phrase(out, b"refused no-challenge", &[]),
+        Refusal::Answered => push_phrase(out, b"refused answered", &[]),
         Refusal::Early { opens } => push_phrase(out, b"refused early", &[opens]),
     }
 }
@@ -46,7 +54,11 @@ fn push_answer(out: &mut Vec<u8>, answer: &Answer) -> Result<(), NoMemory>
         Answer::Funded => push_phrase(out, b"funded", &[]),
         Answer::Ticked => push_phrase(out, b"ticked", &[]),
         Answer::Deposited { coin, block } => push_phrase(out, b"deposited", &[*coin, *block]),
+        Answer::Committed { block } => push_phrase(out, b"committed", &[*block]),
         Answer::Started { opens } => push_phrase(out, b"started", &[*opens]),
+        Answer::Cancelled => push_phrase(out, b"cancelled", &[]),
+        Answer::Challenged { until } => push_phrase(out, b"challenged", &[*until]),
+        Answer::Responded => push_phrase(out, b"responded", &[]),
         Answer::Paid => push_phrase(out, b"paid", &[]),
         Answer::Dropped => push_phrase(out, b"dropped", &[]),
         Answer::Refused(refusal) => push_refusal(out, refusal),

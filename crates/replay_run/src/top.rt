@@ -1,4 +1,5 @@
 ghost use Rattle.std.specs.Prelude.{◌≡◌, ◌≢◌, [], true, false, map, string_bytes};
+ghost use Rattle.sha2.specs.Sha256.{sha256};
 ghost use Rattle.plasma_base.specs.Causes.{faults_after};
 ghost use Rattle.replay_run.specs.Forms.{form_of, is_verified, reads_input};
 ghost use Rattle.replay_run.specs.Output.{output_of, replay_output, verify_output};
@@ -8,7 +9,7 @@ use super::form::{Form, form_of, is_verified};
 use super::input::take_all;
 use super::replay::replay;
 use super::status::Status;
-use plasma_base::Bytes;
+use plasma_base::{Bytes, Hash32, Sha};
 use plasma_outside::{Sink, Source};
 use std::alloc::Global;
 
@@ -17,6 +18,7 @@ const USAGE: &[u8] =
     b"usage: plasma replay | brief | wallet | operator | watcher | init | make | verify\n";
 
 /// Runs the program: reads the words that stand after its name and the source, and writes to the sink.
+/// Openings are judged by SHA-256 (FIPS 180-4).
 ///
 /// `replay` reads a schedule and writes the text of its trace. `verify <key> <message> <signature>`
 /// reads nothing and writes `valid` or `invalid`. Other words are no form: the run ends as `Usage`,
@@ -28,7 +30,7 @@ pub fn run<S: Source, K: Sink>(
     sink: &mut K,
 ) -> Status
     // The status and what was written are a function of the words and of the bytes that the source gave.
-    ensures output { RanOver (output_of (map string_bytes words.now))
+    ensures output { RanOver (output_of sha256 (map string_bytes words.now))
         (S.left source.old) (S.left source.new) (K.taken sink.old) (K.taken sink.new)
         (ReadsToFault (S.faults source.old) (S.faults source.new) (S.failed_last source.new) true) result }
 
@@ -42,10 +44,29 @@ pub fn run<S: Source, K: Sink>(
     // A fault of the sink is answered, and no other answer comes where it had one.
     ensures sink_faults { K.faults sink.new ≡ faults_after (K.faults sink.old) (is_write_fault result) }
 {
+    run_with(&Sha, alloc, words, source, sink)
+}
+
+/// Runs the program as `run` does, with openings judged by this digest.
+pub fn run_with<H: Hash32, S: Source, K: Sink>(
+    h: &H,
+    alloc: Global,
+    words: &[String],
+    source: &mut S,
+    sink: &mut K,
+) -> Status
+    ensures output { RanOver (output_of (H.digest_of h.now) (map string_bytes words.now))
+        (S.left source.old) (S.left source.new) (K.taken sink.old) (K.taken sink.new)
+        (ReadsToFault (S.faults source.old) (S.faults source.new) (S.failed_last source.new) true) result }
+    ensures unread { reads_input (form_of (map string_bytes words.now)) ≡ false → source.new ≡ source.old }
+    ensures source_faults { ReadsBy result
+        (ReadsToFault (S.faults source.old) (S.faults source.new) (S.failed_last source.new)) }
+    ensures sink_faults { K.faults sink.new ≡ faults_after (K.faults sink.old) (is_write_fault result) }
+{
     match form_of(alloc, words) {
         Err(_) => Status::NoMemory,
         Ok(None) => put_line(sink, USAGE, Status::Usage),
-        Ok(Some(Form::Replay)) => run_replay(alloc, source, sink),
+        Ok(Some(Form::Replay)) => run_replay(h, alloc, source, sink),
         Ok(
             Some(
                 Form::Verify {
@@ -72,8 +93,14 @@ fn run_verify<K: Sink>(key: &Bytes, message: &Bytes, signature: &Bytes, sink: &m
 }
 
 /// Runs `replay`.
-fn run_replay<S: Source, K: Sink>(alloc: Global, source: &mut S, sink: &mut K) -> Status
-    ensures output { RanOver replay_output (S.left source.old) (S.left source.new) (K.taken sink.old) (K.taken sink.new)
+fn run_replay<H: Hash32, S: Source, K: Sink>(
+    h: &H,
+    alloc: Global,
+    source: &mut S,
+    sink: &mut K,
+) -> Status
+    ensures output { RanOver (replay_output (H.digest_of h.now))
+        (S.left source.old) (S.left source.new) (K.taken sink.old) (K.taken sink.new)
         (ReadsToFault (S.faults source.old) (S.faults source.new) (S.failed_last source.new) true) result }
     ensures source_faults { ReadsBy result
         (ReadsToFault (S.faults source.old) (S.faults source.new) (S.failed_last source.new)) }
@@ -83,7 +110,7 @@ fn run_replay<S: Source, K: Sink>(alloc: Global, source: &mut S, sink: &mut K) -
     let Ok(ended) = take_all(source, &mut input) else {
         return Status::NoMemory;
     };
-    match replay(alloc, &input, ended, sink) {
+    match replay(h, alloc, &input, ended, sink) {
         Ok(ending) => Status::of_ending(ending),
         Err(refusal) => Status::of_refusal(refusal),
     }

@@ -1,2 +1,9 @@
-pub mod Places
-mod Kept
+pub mod SlotLemmas
+pub mod Agreeing
+pub mod Moving
+pub mod Standing
+pub mod SettlingLemmas
+pub mod Finishing
+pub mod Showing
+pub mod Judged
+pub mod Called

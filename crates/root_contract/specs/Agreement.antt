@@ -1,56 +1,26 @@
--- The contract's fields are what its log says.
-use Rattle.std.specs.Prelude.{◌≡◌, ℕ, ◌≤◌, ◌==◌, List, length}
-use Rattle.std.specs.List.{AllByRecursion, list_any}
-use Rattle.deposit_rules.specs.declared.TheConstants.{LAST_TIME, MOST_MONEY}
-use Rattle.deposit_rules.specs.declared.call.Coin.{Coin}
-use Rattle.deposit_rules.specs.declared.call.Exit.{Exit}
-use Rattle.deposit_rules.specs.Views.{now, blocks, coins, coin_at, exits, is_withdrawn}
-use Rattle.deposit_rules.specs.Money.{balance_of, funded}
-use Rattle.deposit_rules.specs.Chain.{Chain, rules_of}
-use Rattle.deposit_rules.specs.Laws.{IsLegal}
-use Rattle.root_contract.specs.Entries.{amount_in}
-use Rattle.root_contract.specs.Lists.{coin_in}
+-- The game and the ledger of a contract are what its log says.
+use Rattle.std.specs.Prelude.{◌≡◌, ℕ, map}
+use Rattle.exit_game.specs.declared.game.Game.{Game}
+use Rattle.exit_game.specs.Games.{slots_in}
+use Rattle.bond_ledger.specs.declared.ledger.Ledger.{Ledger}
+use Rattle.bond_ledger.specs.Ledger.{balance_in, held_in, funded_in}
+use Rattle.plasma_tx.specs.Chain.{Chain}
+use Rattle.plasma_tx.specs.Views.{exits}
+use Rattle.root_rules.specs.Shown.{rules_of}
+use Rattle.root_rules.specs.Money.{balance_of, held_of, funded}
+use Rattle.root_rules.specs.Table.{IsLegal}
+use Rattle.root_contract.specs.Exits.{as_exit, exits_of_coin}
 use Rattle.root_contract.specs.declared.contract.Contract.TheInside.{Inside}
 
--- the fields beside the log, as plain lists and numbers
-pub record State : Type 0 where
-  pub clock : ℕ
-  pub coins : List Coin
-  pub exits : List Exit
-  pub withdrawn : List ℕ
-  pub balances : ℕ → ℕ
-  pub funded : ℕ
-
--- the fields of a contract as such
-abbrev pub state_of : Inside → State
-state_of a = record {
-  clock = a.clock;
-  coins = a.coins.items;
-  exits = a.exits.items;
-  withdrawn = a.withdrawn.items;
-  balances = amount_in a.balances;
-  funded = a.funded;
-}
-
--- the exit started when the clock showed a time
-abbrev pub IsStarted : Exit → Type 0
-IsStarted exit = exit.start ≤ LAST_TIME
-
--- each field is what the log says, and the numbers keep their limits
-pub record Agrees (chain : Chain) (s : State) : Type 0 where
+-- each call of the log was accepted; the game has the standing exits of each coin, the ledger each account's balance,
+-- what is held of it, and all that was funded
+pub record Agrees (chain : Chain) (game : Game) (ledger : Ledger) : Type 0 where
   pub legal : IsLegal (rules_of chain) chain.log
-  pub clock : s.clock ≡ now chain.log
-  pub clock_limit : s.clock ≤ LAST_TIME
-  pub coin_count : length s.coins ≡ coins chain.log
-  pub block_count : blocks chain.log ≡ coins chain.log
-  pub coins_are : (c : ℕ) → coin_in s.coins c ≡ coin_at chain.log c
-  pub exits_are : s.exits ≡ exits chain.log
-  pub started : AllByRecursion IsStarted s.exits
-  pub paid : (c : ℕ) → list_any (λ x. x == c) s.withdrawn ≡ is_withdrawn chain.log c
-  pub balances_are : (a : ℕ) → s.balances a ≡ balance_of chain.log a
-  pub funded_is : s.funded ≡ funded chain.log
-  pub funded_limit : s.funded ≤ MOST_MONEY
+  pub slots_are : (coin : ℕ) → map as_exit (slots_in game coin) ≡ exits_of_coin coin (exits chain.log)
+  pub balances_are : (account : ℕ) → balance_in ledger account ≡ balance_of chain.log account
+  pub helds_are : (account : ℕ) → held_in ledger account ≡ held_of chain.log account
+  pub funds_are : funded_in ledger ≡ funded chain.log
 
 -- so it is of a contract
 abbrev pub IsContract : Inside → Type 0
-IsContract a = Agrees a.log (state_of a)
+IsContract a = Agrees a.log a.game a.ledger

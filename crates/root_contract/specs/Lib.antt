@@ -1,3 +1,5 @@
-pub mod Entries
-pub mod Lists
+pub mod Exits
 pub mod Agreement
+pub mod Judging
+pub mod Changes
+pub mod Settling

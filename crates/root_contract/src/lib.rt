@@ -1,10 +1,15 @@
-//! The root contract: it keeps the log of accepted calls and answers each further call by the rules
-//! of `deposit_rules`, whose types it passes on.
+//! The root contract: it keeps the log of accepted calls and answers each further call by the rules of
+//! `root_rules`. Beside the log it keeps the standing exits and each account's money.
 #![tactic(auto)]
 
-mod balances;
+mod calls;
 mod contract;
-mod lists;
+mod effects;
+mod exits;
+mod judging;
+mod settling;
+mod shown;
+mod stop;
+mod views;
 
 pub use contract::Contract;
-pub use deposit_rules::{Answer, Coin, Exit, Owner, Refusal, RootCall, RootLog};

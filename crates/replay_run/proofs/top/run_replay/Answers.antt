@@ -12,19 +12,19 @@ returns-in_default-clause-output g c = record {
 pub returns-in-Ok-replay-clause-output : goal.returns-in-Ok-replay-clause-output
 returns-in-Ok-replay-clause-output g c =
     rw c.of_ending.ensures.status
-    (ran-replay _ _ _ _ _ _ _ c.in-Ok.ensures.gave (failed-of _ _ _ c.in-Ok.ensures.reads) _
+    (ran-replay _ _ _ _ _ _ _ _ c.in-Ok.ensures.gave (failed-of _ _ _ c.in-Ok.ensures.reads _) _
     (rw c.deref.ensures.value at c.in-Ok-replay.ensures.done)
     (rw c.deref.ensures.value at c.in-Ok-replay.ensures.wrote))
 
 pub returns-in-Ok-replay-clause-source_faults : goal.returns-in-Ok-replay-clause-source_faults
 returns-in-Ok-replay-clause-source_faults g c =
     rw c.of_ending.ensures.status
-    (reads-replayed _ _ _ c.in-Ok.ensures.reads _ (rw c.deref.ensures.value at c.in-Ok-replay.ensures.done))
+    (reads-replayed _ _ _ c.in-Ok.ensures.reads _ _ (rw c.deref.ensures.value at c.in-Ok-replay.ensures.done))
 
 pub returns-clause-output : goal.returns-clause-output
 returns-clause-output g c =
     rw c.of_refusal.ensures.status
-    (ran-stopped _ _ _ _ _ _ _ c.in-Ok.ensures.gave (failed-of _ _ _ c.in-Ok.ensures.reads) _
+    (ran-stopped _ _ _ _ _ _ _ _ c.in-Ok.ensures.gave (failed-of _ _ _ c.in-Ok.ensures.reads _) _
     (rw c.deref.ensures.value at c.in-Err.ensures.stopped))
 
 pub returns-clause-source_faults : goal.returns-clause-source_faults

@@ -1,22 +1,30 @@
-use Rattle.std.proofs.Common.{◌+◌, length, ◌-◌, ◌∙◌, ap, arith}
-use Rattle.root_contract.specs.Entries.{amount_in}
-use Rattle.root_contract.proofs.Kept.{kept-Deposit, sets-one, deposit-le}
+use Rattle.std.proofs.Common.{◌+◌, ◌∙◌, sym, refl}
+use Rattle.plasma_tx.specs.declared.answer.Answer.TheVariants.{Deposited}
+use Rattle.plasma_tx.specs.declared.call.RootCall.TheVariants.{Deposit}
+use Rattle.plasma_tx.specs.Views.{blocks, coins}
+use Rattle.root_rules.specs.Table.{answer_to}
+use Rattle.root_contract.proofs.Called.{no_tests, takes-stopped, accepted, deposit-changes}
 use Rattle.root_contract.proofs.contract.Contract.deposit.Goals as goal
 
-pub overflow_sub-had : goal.overflow_sub-had
-overflow_sub-had c = omega (
-  arith,
-  c.in_ok-know.ensures.same c.args.account,
-  deposit-le _ _ c.self.invariant c.args.account c.args.amount c.args.key (rw (← c.self.view_is) at c.requires),
-)
+pub returns-in_err-judge_deposit : goal.returns-in_err-judge_deposit
+unfolding answer_to
+returns-in_err-judge_deposit c = λ tests.
+    takes-stopped tests c.args.self.now (Deposit c.args.account c.args.amount c.args.key) (Unit {0})
+    (λ x. Deposited (coins c.args.self.now.log + 1) (blocks c.args.self.now.log + 1)) c.in_err-judge_deposit.field-0.0
+    c.from_residual.result c.from_residual.ensures.1 c.in_err-judge_deposit.ensures
 
-pub invariant_of-self-2 : goal.invariant_of-self-2
-invariant_of-self-2 c =
-    let same = c.in_ok-know.ensures.same in
-    rw (c.in_ok-push.ensures.ok, c.push_reserved.ensures, c.in_ok-reserve.ensures.items)
-    (kept-Deposit _ _ c.self.invariant c.args.account c.args.amount c.args.key (amount_in c.set.new.self)
-    (c.len.result + 1)
-    (omega (arith, c.len.ensures, c.reserve.new.self.ok.0, ap length c.in_ok-reserve.ensures.items))
-    (rw (← c.self.view_is) at c.requires)
-    (sets-one (amount_in c.self.inside.balances) (amount_in c.know.new.self) (amount_in c.set.new.self) c.args.account _
-    _ same (ap (λ x. x - c.args.amount) (c.amount-had.ensures ∙ same c.args.account)) c.set.ensures))
+pub hold-requires : goal.hold-requires
+unfolding answer_to
+hold-requires c =
+    deposit-changes c.args.self.now c.args.account c.args.amount c.args.key
+    (accepted no_tests c.args.self.now (Deposit c.args.account c.args.amount c.args.key) (Deposited
+    (coins c.args.self.now.log + 1) (blocks c.args.self.now.log + 1)) c.in_ok-judge_deposit.ensures refl)
+
+pub returns : goal.returns
+unfolding answer_to
+returns c = λ tests. (
+  (λ i. Deposited (c.coin_count.ensures.is i + 1) (c.block_count.ensures.is i + 1))
+      ∙ sym c.in_ok-judge_deposit.ensures,
+  refl,
+  c.in_ok-hold.ensures.ok,
+)

@@ -1,23 +1,30 @@
-use Rattle.std.proofs.Common.{◌+◌, ◌∙◌, ap}
-use Rattle.root_contract.specs.Entries.{amount_in}
-use Rattle.root_contract.proofs.Kept.{kept-Finish, sets-one, payment-is}
+use Rattle.std.proofs.Common.{sym}
+use Rattle.plasma_tx.specs.declared.answer.Answer.{Answer}
+use Rattle.plasma_tx.specs.declared.call.RootCall.TheVariants.{Finish}
+use Rattle.root_rules.specs.Table.{answer_to}
+use Rattle.root_contract.proofs.Called.{no_tests, takes-stopped, accepted, finish-stands, finish-changes}
 use Rattle.root_contract.proofs.contract.Contract.finish.Goals as goal
 
-pub unreachable-requires : goal.unreachable-requires
-unreachable-requires c = payment-is _ _ c.self.invariant c.args.account c.args.coin c.args.block
-    (rw (← c.self.view_is) at c.requires) (rw (← c.self.view_is) at c.in_default.ensures.pays)
+pub returns-in_err-answer : goal.returns-in_err-answer
+unfolding answer_to
+returns-in_err-answer c = λ tests.
+    takes-stopped tests c.args.self.now (Finish c.args.account c.args.coin c.args.exit) Answer (λ x. x)
+    c.in_err-answer.field-0.0 c.from_residual.result c.from_residual.ensures.1 c.in_err-answer.ensures.answer
 
-pub invariant_of-self-2 : goal.invariant_of-self-2
-invariant_of-self-2 c =
-    let same = c.in_ok-know.ensures.same in
-    let payment = c.in-Some.payment in
-    rw (
-      c.in_ok-push.ensures.ok,
-      c.push_reserved.ensures,
-      c.remove_exit.ensures,
-      c.in_ok-reserve.ensures.items,
-    ) (kept-Finish _ _ c.self.invariant c.args.account c.args.coin c.args.block payment
-    (amount_in c.set.new.self) (rw (← c.self.view_is) at c.requires)
-    (rw (← c.self.view_is) at c.in-Some.ensures.pays)
-    (sets-one (amount_in c.self.inside.balances) (amount_in c.know.new.self) (amount_in c.set.new.self) payment.account
-    _ _ same (ap (λ x. x + payment.amount) (c.amount-had.ensures ∙ same payment.account)) c.set.ensures))
+pub settle-requires-clause-stands : goal.settle-requires-clause-stands
+unfolding answer_to
+settle-requires-clause-stands c =
+    finish-stands c.args.self.now c.args.account c.args.coin c.args.exit
+    (accepted no_tests c.args.self.now (Finish c.args.account c.args.coin c.args.exit) c.in_ok-answer.answer
+    c.in_ok-answer.ensures.answer c.in_ok-answer.ensures.accepted)
+
+pub settle-requires-clause-changes : goal.settle-requires-clause-changes
+unfolding answer_to
+settle-requires-clause-changes c =
+    finish-changes c.args.self.now c.args.account c.args.coin c.args.exit
+    (accepted no_tests c.args.self.now (Finish c.args.account c.args.coin c.args.exit) c.in_ok-answer.answer
+    c.in_ok-answer.ensures.answer c.in_ok-answer.ensures.accepted)
+
+pub returns : goal.returns
+unfolding answer_to
+returns c = λ tests. (sym c.in_ok-answer.ensures.answer, c.in_ok-answer.ensures.accepted, c.in_ok-settle.ensures.ok)

@@ -1,26 +1,22 @@
-use Rattle.std.proofs.Common.{◌+◌, ◌∙◌, ap, arith}
-use Rattle.root_contract.specs.Entries.{amount_in}
-use Rattle.root_contract.proofs.Kept.{kept-Fund, sets-one, balance-le, funded-fits}
+use Rattle.std.proofs.Common.{sym, refl}
+use Rattle.plasma_tx.specs.declared.answer.Answer.TheVariants.{Funded}
+use Rattle.plasma_tx.specs.declared.call.RootCall.TheVariants.{Fund}
+use Rattle.root_rules.specs.Table.{answer_to}
+use Rattle.root_contract.proofs.Called.{no_tests, takes-stopped, accepted}
 use Rattle.root_contract.proofs.contract.Contract.fund.Goals as goal
 
-pub overflow_add-had : goal.overflow_add-had
-overflow_add-had c =
-    let is = rw (← c.self.view_is) at c.requires in
-    omega (
-      arith,
-      c.in_ok-know.ensures.same c.args.account,
-      balance-le _ _ c.self.invariant c.args.account,
-      funded-fits _ _ c.self.invariant c.args.account c.args.amount is,
-    )
+pub returns-in_err-judge_fund : goal.returns-in_err-judge_fund
+unfolding answer_to
+returns-in_err-judge_fund c = λ tests.
+    takes-stopped tests c.args.self.now (Fund c.args.account c.args.amount) (Unit {0})
+    (λ _. Funded) c.in_err-judge_fund.field-0.0
+    c.from_residual.result c.from_residual.ensures.1 c.in_err-judge_fund.ensures
 
-pub overflow_add-self : goal.overflow_add-self
-overflow_add-self c =
-    omega (arith, funded-fits _ _ c.self.invariant c.args.account c.args.amount (rw (← c.self.view_is) at c.requires))
+pub fund_account-requires : goal.fund_account-requires
+unfolding answer_to
+fund_account-requires c =
+    accepted no_tests c.args.self.now (Fund c.args.account c.args.amount) Funded c.in_ok-judge_fund.ensures refl
 
-pub invariant_of-self-2 : goal.invariant_of-self-2
-invariant_of-self-2 c =
-    let same = c.in_ok-know.ensures.same in
-    rw c.in_ok-push.ensures.ok (kept-Fund _ _ c.self.invariant c.args.account c.args.amount (amount_in c.set.new.self)
-    (rw (← c.self.view_is) at c.requires)
-    (sets-one (amount_in c.self.inside.balances) (amount_in c.know.new.self) (amount_in c.set.new.self) c.args.account _
-    _ same (ap (λ x. x + c.args.amount) (c.amount-had.ensures ∙ same c.args.account)) c.set.ensures))
+pub returns : goal.returns
+unfolding answer_to
+returns c = λ tests. (sym c.in_ok-judge_fund.ensures, refl, c.in_ok-fund_account.ensures.ok)

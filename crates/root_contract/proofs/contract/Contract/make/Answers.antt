@@ -1,16 +1,7 @@
 use Rattle.std.proofs.Common.{ap}
-use Rattle.root_contract.specs.Entries.{amount_in}
-use Rattle.root_contract.proofs.Kept.{kept-none}
+use Rattle.root_contract.proofs.Agreeing.{agrees-none}
 use Rattle.root_contract.proofs.contract.Contract.make.Goals as goal
 
 pub invariant_of-result : goal.invariant_of-result
-invariant_of-result c = kept-none _ _ (ap (λ chain. chain.log) c.make.ensures)
-    (λ i. record {
-      clock = 0;
-      coins = c.new.ensures.items i;
-      exits = c.new-2.ensures.items i;
-      withdrawn =
-          c.new-3.ensures.items i;
-      balances = amount_in c.new-4.result;
-      funded = 0;
-    }) c.new-4.ensures
+invariant_of-result c = agrees-none c.make.result c.new.result c.new-2.result (ap (λ chain. chain.log) c.make.ensures)
+    c.new.ensures c.new-2.ensures.balances c.new-2.ensures.helds c.new-2.ensures.funds

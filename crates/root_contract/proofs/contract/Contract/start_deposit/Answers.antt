@@ -1,21 +1,33 @@
-use Rattle.std.proofs.Common.{◌-◌, ◌∙◌, ap, arith}
-use Rattle.deposit_rules.specs.declared.TheConstants.{EXIT_BOND}
-use Rattle.root_contract.specs.Entries.{amount_in}
-use Rattle.root_contract.proofs.Kept.{kept-StartDeposit, sets-one, bond-le}
+use Rattle.std.proofs.Common.{◌+◌, ◌∙◌, sym, refl, ap}
+use Rattle.plasma_tx.specs.declared.owner.Owner.{Owner}
+use Rattle.plasma_tx.specs.declared.answer.Answer.TheVariants.{Started}
+use Rattle.plasma_tx.specs.declared.call.RootCall.TheVariants.{StartDeposit}
+use Rattle.plasma_tx.specs.Views.{now}
+use Rattle.root_rules.specs.declared.TheConstants.{EXIT_PERIOD}
+use Rattle.root_rules.specs.Table.{answer_to}
+use Rattle.root_contract.proofs.Called.{no_tests, takes-stopped, accepted, start_deposit-changes}
 use Rattle.root_contract.proofs.contract.Contract.start_deposit.Goals as goal
 
-pub overflow_sub-had : goal.overflow_sub-had
-overflow_sub-had c = omega (
-  arith,
-  c.in_ok-know.ensures.same c.args.account,
-  bond-le _ _ c.self.invariant c.args.account c.args.coin c.args.block (rw (← c.self.view_is) at c.requires),
-)
+pub returns-in_err-owner : goal.returns-in_err-owner
+unfolding answer_to
+returns-in_err-owner c = λ tests.
+    takes-stopped tests c.args.self.now (StartDeposit c.args.account c.args.coin c.args.block) Owner
+    (λ x. Started (now c.args.self.now.log + EXIT_PERIOD)) c.in_err-owner.field-0.0 c.from_residual.result
+    c.from_residual.ensures.1 c.in_err-owner.ensures.answer
 
-pub invariant_of-self-2 : goal.invariant_of-self-2
-invariant_of-self-2 c =
-    let same = c.in_ok-know.ensures.same in
-    rw (c.in_ok-push.ensures.ok, c.push_reserved.ensures, c.in_ok-reserve.ensures.items)
-    (kept-StartDeposit _ _ c.self.invariant c.args.account c.args.coin c.args.block (amount_in c.set.new.self)
-    (rw (← c.self.view_is) at c.requires)
-    (sets-one (amount_in c.self.inside.balances) (amount_in c.know.new.self) (amount_in c.set.new.self) c.args.account _
-    _ same (ap (λ x. x - EXIT_BOND) (c.amount-had.ensures ∙ same c.args.account)) c.set.ensures))
+pub start-requires-clause-changes : goal.start-requires-clause-changes
+unfolding answer_to
+start-requires-clause-changes c =
+    start_deposit-changes c.args.self.now c.args.account c.args.coin c.args.block c.in_ok-owner.owner
+    c.new_slot-slot.result
+    (accepted no_tests c.args.self.now (StartDeposit c.args.account c.args.coin c.args.block)
+    (Started (now c.args.self.now.log + EXIT_PERIOD)) c.in_ok-owner.ensures.answer refl)
+    c.in_ok-owner.ensures.owner c.new_slot-slot.ensures
+
+pub returns : goal.returns
+unfolding answer_to
+returns c = λ tests. (
+  ap (λ x. Started (x + EXIT_PERIOD)) c.clock-opens.ensures.is ∙ sym c.in_ok-owner.ensures.answer,
+  refl,
+  c.in_ok-start.ensures.ok,
+)

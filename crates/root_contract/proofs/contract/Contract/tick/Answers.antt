@@ -1,6 +1,21 @@
-use Rattle.root_contract.proofs.Kept.{kept-Tick}
+use Rattle.std.proofs.Common.{sym, refl}
+use Rattle.plasma_tx.specs.declared.answer.Answer.TheVariants.{Ticked}
+use Rattle.plasma_tx.specs.declared.call.RootCall.TheVariants.{Tick}
+use Rattle.root_rules.specs.Table.{answer_to}
+use Rattle.root_contract.proofs.Called.{no_tests, takes-stopped, accepted, tick-changes}
 use Rattle.root_contract.proofs.contract.Contract.tick.Goals as goal
 
-pub invariant_of-self-2 : goal.invariant_of-self-2
-invariant_of-self-2 c =
-    rw c.in_ok-push.ensures.ok (kept-Tick _ _ c.self.invariant c.args.now (rw (← c.self.view_is) at c.requires))
+pub returns-in_err-judge_tick : goal.returns-in_err-judge_tick
+unfolding answer_to
+returns-in_err-judge_tick c = λ tests.
+    takes-stopped tests c.args.self.now (Tick c.args.now) (Unit {0}) (λ _. Ticked) c.in_err-judge_tick.field-0.0
+    c.from_residual.result c.from_residual.ensures.1 c.in_err-judge_tick.ensures
+
+pub keep-requires : goal.keep-requires
+unfolding answer_to
+keep-requires c = tick-changes c.args.self.now c.args.now
+    (accepted no_tests c.args.self.now (Tick c.args.now) Ticked c.in_ok-judge_tick.ensures refl)
+
+pub returns : goal.returns
+unfolding answer_to
+returns c = λ tests. (sym c.in_ok-judge_tick.ensures, refl, c.in_ok-keep.ensures.ok)

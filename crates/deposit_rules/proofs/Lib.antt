@@ -1,7 +1,0 @@
-pub mod Accepted
-pub mod Sums
-pub mod Exits
-mod Moves
-pub mod Kept
-pub mod Stands
-pub mod Withdrawn

@@ -1,5 +1,0 @@
-pub mod Views
-pub mod Money
-pub mod Table
-pub mod Chain
-pub mod Laws

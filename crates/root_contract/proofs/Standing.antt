@@ -1,0 +1,183 @@
+-- The slots of a contract's game are the exits that stand by its log.
+use Rattle.std.proofs.Common.{◌≡◌, ℕ, ◌==◌, ◌≤◌, false, List, [], ◌∷◌, ◌++◌, map, Option, Some, None, refl, sym, ap, ◌∙◌, subst, inl, inr, find, arith, rules, Bor}
+use Rattle.std.specs.Prelude.{IsSome, IfSome}
+use Rattle.std.specs.List.{AllByRecursion}
+use Rattle.std.specs.Option.{option_map, option_copied}
+use Rattle.std.proofs.lemmas.Bool.{cases_eq, eq-eqb, ne_eqb}
+use Rattle.std.proofs.lemmas.List.Folds.{find-append}
+use Rattle.exit_game.specs.declared.challenges.Challenge.{Challenge as Kept}
+use Rattle.exit_game.specs.declared.slot.Slot.{Slot}
+use Rattle.exit_game.specs.declared.game.Game.{Game}
+use Rattle.exit_game.specs.Challenges.{challenge_at as kept_at}
+use Rattle.exit_game.specs.Slots.{slot_at, without_slot, with_slot_changed, with_challenge, without_last, IsUnchallengedAt, IsOpenAt}
+use Rattle.exit_game.specs.Games.{slots_in, HasSlots}
+use Rattle.exit_game.proofs.TakenBack.{last_is_taken_back}
+use Rattle.bond_ledger.specs.declared.ledger.Ledger.{Ledger}
+use Rattle.plasma_tx.specs.Chain.{Chain}
+use Rattle.plasma_tx.specs.Views.{now, Exit, Challenge, is_exit, exits, exit_at}
+use Rattle.root_rules.specs.declared.TheConstants.{LAST_TIME}
+use Rattle.root_rules.specs.Shown.{rules_of}
+use Rattle.root_rules.specs.Laws.{IsDatedBy}
+use Rattle.root_rules.proofs.Bounds.{times_are_bounded}
+use Rattle.root_rules.proofs.Each.{some_same, all-found}
+use Rattle.root_contract.specs.Exits.{as_exit, as_challenge, IsDated, IsUnchallenged, IsOpen}
+use Rattle.root_contract.specs.Agreement.{Agrees}
+use Rattle.root_contract.proofs.SlotLemmas.{found, challenge-found}
+
+-- the slot of a name is the exit of that name
+pub slot-is : (chain : Chain) (game : Game) (ledger : Ledger) (c e : ℕ) → Agrees chain game ledger
+    → option_map as_exit (slot_at e (slots_in game c)) ≡ exit_at chain.log c e
+unfolding exit_at
+slot-is chain game ledger c e agrees = found c e (slots_in game c) (exits chain.log) (agrees.slots_are c)
+
+no_slot : (slot : Option Slot) (exit : Option Exit) → option_map as_exit slot ≡ exit → exit ≡ None → slot ≡ None
+no_slot None exit is none = refl
+no_slot (Some slot) exit is none = absurd (cc)
+
+some_slot : (slot : Option Slot) (exit : Option Exit) → option_map as_exit slot ≡ exit → IsSome exit → IsSome slot
+some_slot None exit is some = subst (λ (x : Option Exit). IsSome x) (sym is) some
+some_slot (Some slot) exit is some = search rules
+
+no_kept : (found : Option Kept) → option_map as_challenge found ≡ None → found ≡ None
+no_kept None none = refl
+no_kept (Some kept) none = absurd (cc)
+
+pub none-slot : (chain : Chain) (game : Game) (ledger : Ledger) (c e : ℕ) → Agrees chain game ledger
+    → exit_at chain.log c e ≡ None → slot_at e (slots_in game c) ≡ None
+none-slot chain game ledger c e agrees none =
+    no_slot (slot_at e (slots_in game c)) (exit_at chain.log c e) (slot-is chain game ledger c e agrees) none
+
+pub stands-slot : (chain : Chain) (game : Game) (ledger : Ledger) (c e : ℕ) → Agrees chain game ledger
+    → IsSome (exit_at chain.log c e) → IsSome (slot_at e (slots_in game c))
+stands-slot chain game ledger c e agrees stands =
+    some_slot (slot_at e (slots_in game c)) (exit_at chain.log c e) (slot-is chain game ledger c e agrees) stands
+
+-- a slot that was added is there
+pub added-there : (slots : List Slot) (slot : Slot) → slot_at slot.block slots ≡ None
+    → IsSome (slot_at slot.block (slots ++ slot ∷ []))
+added-there slots slot none =
+    grind (
+      arith,
+      find-append {X = Slot} (λ (x : Slot). x.block == slot.block) slots (slot ∷ []),
+      none,
+      eq-eqb slot.block
+          slot.block refl,
+    )
+
+without-added : (slots : List Slot) (slot : Slot) → slot_at slot.block slots ≡ None
+    → without_slot slot.block (slots ++ slot ∷ []) ≡ slots
+without-added [] slot none = simp (eq-eqb slot.block slot.block refl)
+without-added (first ∷ slots) slot none = grind (
+  arith,
+  none,
+  eq-eqb slot.block slot.block refl,
+  without-added
+      slots slot,
+)
+
+-- the own coin's slots
+pub own : (old new : Game) (c : ℕ) (slots : List Slot) → HasSlots old new c slots → slots_in new c ≡ slots
+own old new c slots has = simp (eq-eqb c c refl) at (has c)
+
+-- a start that is taken back changes nothing
+pub start-taken-back : (old mid new : Game) (slot : Slot) → slot_at slot.block (slots_in old slot.coin) ≡ None
+    → HasSlots old mid slot.coin (slots_in old slot.coin ++ slot ∷ [])
+    → HasSlots mid new slot.coin (without_slot slot.block (slots_in mid slot.coin))
+    → (k : ℕ) → slots_in new k ≡ slots_in old k
+start-taken-back old mid new slot none started ended k =
+    elim (cases_eq k slot.coin) [
+      | inl same ↦ simp (eq-eqb k slot.coin same) at (ended k)
+          ∙ ap (without_slot slot.block) (own old mid slot.coin _ started)
+          ∙ without-added (slots_in old slot.coin) slot none ∙ ap (slots_in old) (sym same)
+      | inr other ↦ simp (ne_eqb k slot.coin other) at (ended k) ∙ simp (ne_eqb k slot.coin other) at (started k)
+    ]
+
+-- ---- challenges
+
+unchallenged_slot : (b : ℕ) (slot : Option Slot) (exit : Option Exit) → option_map as_exit slot ≡ exit
+    → IsUnchallenged b exit → IsUnchallengedAt b slot
+unchallenged_slot b None exit is none = absurd (subst (IsUnchallenged b) (sym is) none)
+unchallenged_slot b (Some slot) exit is none =
+    no_kept (kept_at b slot.challenges) (challenge-found b slot.challenges ∙ subst (IsUnchallenged b) (sym is) none)
+
+pub unchallenged-slot : (chain : Chain) (game : Game) (ledger : Ledger) (c e b : ℕ) → Agrees chain game ledger
+    → IsUnchallenged b (exit_at chain.log c e) → IsUnchallengedAt b (slot_at e (slots_in game c))
+unchallenged-slot chain game ledger c e b agrees none =
+    unchallenged_slot b (slot_at e (slots_in game c)) (exit_at chain.log c e)
+    (slot-is chain game ledger c e agrees) none
+
+open_kept : (found : Option Kept) (challenge : Challenge) → option_map as_challenge found ≡ Some challenge
+    → challenge.answered ≡ false → (kept : Kept) × (found ≡ Some kept) × (kept.answered ≡ false)
+open_kept None challenge is open_still = absurd (cc)
+open_kept (Some kept) challenge is open_still =
+    let same : as_challenge kept ≡ challenge = some_same (as_challenge kept) challenge is in
+    (kept, refl, ap (λ (x : Challenge). x.answered) same ∙ open_still)
+
+open_slot : (b : ℕ) (slot : Option Slot) (exit : Option Exit) → option_map as_exit slot ≡ exit → IsOpen b exit
+    → IsOpenAt b slot
+open_slot b None exit is opened = absurd (subst (IsOpen b) (sym is) opened)
+open_slot b (Some slot) exit is opened =
+    let there = subst (IsOpen b) (sym is) opened in
+    open_kept (kept_at b slot.challenges) there.0 (challenge-found b slot.challenges ∙ there.1) there.2
+
+pub open-slot : (chain : Chain) (game : Game) (ledger : Ledger) (c e b : ℕ) → Agrees chain game ledger
+    → IsOpen b (exit_at chain.log c e) → IsOpenAt b (slot_at e (slots_in game c))
+open-slot chain game ledger c e b agrees opened =
+    open_slot b (slot_at e (slots_in game c)) (exit_at chain.log c e) (slot-is chain game ledger c e agrees) opened
+
+-- a slot that was challenged is there
+pub challenged-there : (b e : ℕ) (kept : Kept) (slots : List Slot) → IsUnchallengedAt b (slot_at e slots)
+    → IsSome (slot_at e (with_slot_changed e (with_challenge kept) slots))
+challenged-there b e kept [] none = absurd none
+challenged-there b e kept (slot ∷ slots) none = grind (arith, none, challenged-there b e kept slots)
+
+-- a challenge that is taken back changes nothing
+pub challenge-taken-back : (old mid new : Game) (c e : ℕ) (kept : Kept)
+    → HasSlots old mid c (with_slot_changed e (with_challenge kept) (slots_in old c))
+    → HasSlots mid new c (with_slot_changed e without_last (slots_in mid c))
+    → (k : ℕ) → slots_in new k ≡ slots_in old k
+challenge-taken-back old mid new c e kept begun ended k =
+    elim (cases_eq k c) [
+      | inl same ↦ simp (eq-eqb k c same) at (ended k)
+          ∙ ap (with_slot_changed e without_last) (own old mid c _ begun)
+          ∙ last_is_taken_back (slots_in old c) e kept ∙ ap (slots_in old) (sym same)
+      | inr other ↦ simp (ne_eqb k c other) at (ended k) ∙ simp (ne_eqb k c other) at (begun k)
+    ]
+
+-- ---- times
+
+dated_challenges : (time : ℕ) → time ≤ LAST_TIME → (xs : List Kept)
+    → AllByRecursion (λ (challenge : Challenge). challenge.at ≤ time) (map as_challenge xs)
+    → AllByRecursion (λ (kept : Kept). kept.at ≤ LAST_TIME) xs
+dated_challenges time limit [] all = tt
+dated_challenges time limit (x ∷ xs) all = (omega arith, dated_challenges time limit xs all.1)
+
+dated_found : (time : ℕ) → time ≤ LAST_TIME → (L : List Exit) (c e : ℕ) (found : Option (Bor Slot))
+    → AllByRecursion (IsDatedBy time) L → option_map as_exit (option_copied found) ≡ find (is_exit c e) L
+    → IfSome found (λ slot. IsDated slot.now)
+dated_found time limit L c e None all is = tt
+dated_found time limit L c e (Some slot) all is =
+    let dated = (all-found (IsDatedBy time) (is_exit c e) L (as_exit slot.now) all (sym is)).0 in
+    record { start = omega (arith, dated.0); challenges = dated_challenges time limit slot.now.challenges dated.1 }
+
+-- no time of a slot is past the clock's limit
+pub slot-dated : (chain : Chain) (game : Game) (ledger : Ledger) (c e : ℕ) → Agrees chain game ledger
+    → (result : Option (Bor Slot)) → option_copied result ≡ slot_at e (slots_in game c)
+    → IfSome result (λ slot. IsDated slot.now)
+unfolding exit_at
+slot-dated chain game ledger c e agrees result is =
+    let bounded = times_are_bounded (rules_of chain) chain.log agrees.legal in
+    dated_found (now chain.log) bounded.0 (exits chain.log) c e result bounded.1
+    (ap (option_map as_exit) is ∙ slot-is chain game ledger c e agrees)
+
+found_dated : (b : ℕ) (xs : List Kept) (found : Option Kept) → AllByRecursion (λ
+    (kept : Kept). kept.at ≤ LAST_TIME) xs
+    → found ≡ kept_at b xs → IfSome found (λ kept. kept.at ≤ LAST_TIME)
+found_dated b xs None all is = tt
+found_dated b xs (Some kept) all is =
+    (all-found (λ (kept : Kept). kept.at ≤ LAST_TIME) (λ (kept : Kept). kept.block == b) xs kept all (sym is)).0
+
+-- no time of a challenge of a slot is past it
+pub challenge-dated : (slot : Slot) (b : ℕ) → IsDated slot → (found : Option Kept) → found ≡ kept_at b slot.challenges
+    → IfSome found (λ kept. kept.at ≤ LAST_TIME)
+challenge-dated slot b dated found is = found_dated b slot.challenges found dated.challenges is

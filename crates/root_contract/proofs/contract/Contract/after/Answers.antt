@@ -1,0 +1,27 @@
+use Rattle.std.proofs.Common.{sym, refl}
+use Rattle.plasma_tx.specs.declared.answer.Answer.TheVariants.{Cancelled}
+use Rattle.plasma_tx.specs.declared.call.RootCall.TheVariants.{After}
+use Rattle.root_rules.specs.Shown.{tests_by}
+use Rattle.root_rules.specs.Table.{answer_to}
+use Rattle.plasma_tx.specs.declared.owner.Owner.{Owner}
+use Rattle.root_contract.proofs.Called.{takes-stopped, accepted, after-changes}
+use Rattle.root_contract.proofs.contract.Contract.after.Goals as goal
+
+pub returns-in_err-judge_after : goal.returns-in_err-judge_after
+unfolding answer_to
+returns-in_err-judge_after g c =
+    takes-stopped (tests_by (g.H.Hash32.digest_of c.args.h.now)) c.args.self.now
+    (After c.args.account c.args.coin c.args.exit c.args.spend.now) (Owner)
+    (λ x. Cancelled) c.in_err-judge_after.field-0.0
+    c.from_residual.result c.from_residual.ensures.1 c.in_err-judge_after.ensures
+
+pub cancel-requires-clause-changes : goal.cancel-requires-clause-changes
+unfolding answer_to
+cancel-requires-clause-changes g c =
+    rw (c.in_ok-copy.ensures) (after-changes c.args.self.now c.args.account c.args.coin c.args.exit c.args.spend.now
+    (accepted (tests_by (g.H.Hash32.digest_of c.args.h.now)) c.args.self.now
+    (After c.args.account c.args.coin c.args.exit c.args.spend.now) (Cancelled) c.in_ok-judge_after.ensures refl))
+
+pub returns : goal.returns
+unfolding answer_to
+returns g c = (sym c.in_ok-judge_after.ensures, refl, rw (c.in_ok-copy.ensures) at c.in_ok-cancel.ensures.ok)

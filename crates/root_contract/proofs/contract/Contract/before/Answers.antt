@@ -1,0 +1,52 @@
+use Rattle.std.proofs.Common.{◌+◌, ◌∙◌, false, sym, refl, ap}
+use Rattle.plasma_tx.specs.declared.owner.Owner.{Owner}
+use Rattle.plasma_tx.specs.declared.answer.Answer.TheVariants.{Challenged}
+use Rattle.plasma_tx.specs.declared.call.RootCall.TheVariants.{Before}
+use Rattle.plasma_tx.specs.Views.{now}
+use Rattle.root_rules.specs.declared.TheConstants.{RESPONSE_WINDOW}
+use Rattle.root_rules.specs.Shown.{tests_by}
+use Rattle.root_rules.specs.Table.{answer_to}
+use Rattle.root_contract.proofs.Called.{takes-stopped, accepted, before-none, before-changes}
+use Rattle.root_contract.proofs.contract.Contract.before.Goals as goal
+
+pub returns-in_err-owner : goal.returns-in_err-owner
+unfolding answer_to
+returns-in_err-owner g c =
+    takes-stopped (tests_by (g.H.Hash32.digest_of c.args.h.now)) c.args.self.now
+    (Before c.args.account c.args.coin c.args.exit c.args.shown.now) Owner
+    (λ x. Challenged (now c.args.self.now.log + RESPONSE_WINDOW)) c.in_err-owner.field-0.0 c.from_residual.result
+    c.from_residual.ensures.1 c.in_err-owner.ensures.answer
+
+pub challenge-requires-clause-none : goal.challenge-requires-clause-none
+unfolding answer_to
+challenge-requires-clause-none g c =
+    rw (c.block.ensures)
+    (before-none c.args.self.now c.args.account c.args.coin c.args.exit c.args.shown.now
+    (accepted (tests_by (g.H.Hash32.digest_of c.args.h.now)) c.args.self.now
+    (Before c.args.account c.args.coin c.args.exit c.args.shown.now)
+    (Challenged (now c.args.self.now.log + RESPONSE_WINDOW)) c.in_ok-owner.ensures.answer refl))
+
+pub challenge-requires-clause-changes : goal.challenge-requires-clause-changes
+unfolding answer_to
+challenge-requires-clause-changes g c =
+    rw (c.in_ok-copy.ensures)
+    (before-changes c.args.self.now c.args.account c.args.coin c.args.exit c.args.shown.now
+    (record {
+      block = c.block.result;
+      owner = c.in_ok-owner.owner;
+      by = c.args.account;
+      at = c.now.result;
+      answered = false;
+    }) (rw (c.self.view_is) at c.self.invariant.legal)
+    (accepted (tests_by (g.H.Hash32.digest_of c.args.h.now)) c.args.self.now
+    (Before c.args.account c.args.coin c.args.exit c.args.shown.now)
+    (Challenged (now c.args.self.now.log + RESPONSE_WINDOW)) c.in_ok-owner.ensures.answer refl)
+    c.block.ensures c.in_ok-owner.ensures.owner refl (rw (c.self.view_is) at c.now.ensures) refl)
+
+pub returns : goal.returns
+unfolding answer_to
+returns g c = (
+  ap (λ x. Challenged (x + RESPONSE_WINDOW)) c.clock-until.ensures.is ∙ sym c.in_ok-owner.ensures.answer,
+  refl,
+  rw (c.in_ok-copy.ensures) at c.in_ok-challenge.ensures.ok,
+)

@@ -1,0 +1,9 @@
+use Rattle.std.proofs.Common.{arith}
+use Rattle.root_rules.specs.Shown.{rules_of}
+use Rattle.root_rules.proofs.Bounds.{times_are_bounded}
+use Rattle.root_contract.proofs.contract.Contract.clock.Goals as goal
+
+pub returns-clause-limit : goal.returns-clause-limit
+returns-clause-limit c =
+    let bounded = times_are_bounded (rules_of c.self.inside.log) c.self.inside.log.log c.self.invariant.legal in
+    omega (arith, bounded.0, c.now.ensures)

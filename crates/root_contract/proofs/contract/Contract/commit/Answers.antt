@@ -1,0 +1,30 @@
+use Rattle.std.proofs.Common.{◌+◌, ◌∙◌, sym, refl, ap}
+use Rattle.plasma_tx.specs.declared.answer.Answer.TheVariants.{Committed}
+use Rattle.plasma_tx.specs.declared.call.RootCall.TheVariants.{Commit}
+use Rattle.plasma_tx.specs.Views.{blocks}
+use Rattle.root_rules.specs.Table.{answer_to}
+use Rattle.root_contract.proofs.Called.{no_tests, takes-stopped, accepted, commit-changes}
+use Rattle.root_contract.proofs.contract.Contract.commit.Goals as goal
+
+pub returns-in_err-judge_commit : goal.returns-in_err-judge_commit
+unfolding answer_to
+returns-in_err-judge_commit c = λ tests.
+    takes-stopped tests c.args.self.now (Commit c.args.account c.args.root) (Unit {0}) (λ x. Committed
+    (blocks c.args.self.now.log + 1)) c.in_err-judge_commit.field-0.0
+    c.from_residual.result c.from_residual.ensures.1 c.in_err-judge_commit.ensures
+
+pub keep-requires : goal.keep-requires
+unfolding answer_to
+keep-requires c =
+    commit-changes c.args.self.now c.args.account c.args.root
+    (accepted no_tests c.args.self.now (Commit c.args.account c.args.root) (Committed
+    (blocks c.args.self.now.log + 1)) c.in_ok-judge_commit.ensures refl)
+
+pub returns : goal.returns
+unfolding answer_to
+returns c = λ tests. (
+  ap (λ x. Committed (x + 1)) c.block_count-block.ensures.is
+      ∙ sym c.in_ok-judge_commit.ensures,
+  refl,
+  c.in_ok-keep.ensures.ok,
+)

@@ -1,0 +1,10 @@
+use Rattle.std.proofs.Common.{◌∙◌, sym}
+use Rattle.root_rules.specs.Shown.{tests_by, rules_of}
+use Rattle.root_rules.proofs.Accepted.{owners_are_read}
+use Rattle.root_contract.proofs.contract.Contract.judge_before.Goals as goal
+
+pub returns-clause-owner : goal.returns-clause-owner
+returns-clause-owner g c =
+    let chain = c.args.self.now in
+    sym (owners_are_read (tests_by (g.H.Hash32.digest_of c.args.h.now)) (rules_of chain) chain.log c.args.coin
+    c.args.shown.now c.in-Some-2.owner (sym c.in_ok-owner.ensures ∙ c.in-Some-2.is))

@@ -1,0 +1,40 @@
+use Rattle.std.proofs.Common.{ℕ, sym, refl}
+use Rattle.plasma_tx.specs.declared.answer.Answer.TheVariants.{Responded}
+use Rattle.plasma_tx.specs.declared.call.RootCall.TheVariants.{Respond}
+use Rattle.root_rules.specs.Shown.{tests_by}
+use Rattle.root_rules.specs.Table.{answer_to}
+use Rattle.root_contract.proofs.Called.{takes-stopped, accepted, respond-open, respond-changes}
+use Rattle.root_contract.proofs.contract.Contract.respond.Goals as goal
+
+pub returns-in_err-by : goal.returns-in_err-by
+unfolding answer_to
+returns-in_err-by g c =
+    takes-stopped (tests_by (g.H.Hash32.digest_of c.args.h.now)) c.args.self.now
+    (Respond c.args.account c.args.coin c.args.exit c.args.challenged c.args.spend.now) ℕ (λ x. Responded)
+    c.in_err-by.field-0.0 c.from_residual.result c.from_residual.ensures.1 c.in_err-by.ensures.answer
+
+pub answer_challenge-requires-clause-open_still : goal.answer_challenge-requires-clause-open_still
+unfolding answer_to
+answer_challenge-requires-clause-open_still g c =
+    respond-open c.args.self.now c.args.account c.args.coin c.args.exit c.args.challenged c.args.spend.now
+    (accepted (tests_by (g.H.Hash32.digest_of c.args.h.now)) c.args.self.now
+    (Respond c.args.account c.args.coin c.args.exit c.args.challenged c.args.spend.now) Responded
+    c.in_ok-by.ensures.answer refl)
+
+pub answer_challenge-requires-clause-changes : goal.answer_challenge-requires-clause-changes
+unfolding answer_to
+answer_challenge-requires-clause-changes g c =
+    rw (c.in_ok-copy.ensures)
+    (respond-changes c.args.self.now c.args.account c.args.coin c.args.exit c.args.challenged c.args.spend.now
+    c.in_ok-by.by
+    (accepted (tests_by (g.H.Hash32.digest_of c.args.h.now)) c.args.self.now
+    (Respond c.args.account c.args.coin c.args.exit c.args.challenged c.args.spend.now) Responded
+    c.in_ok-by.ensures.answer refl) c.in_ok-by.ensures.by)
+
+pub returns : goal.returns
+unfolding answer_to
+returns g c = (
+  sym c.in_ok-by.ensures.answer,
+  refl,
+  rw (c.in_ok-copy.ensures) at c.in_ok-answer_challenge.ensures.ok,
+)

@@ -1,0 +1,38 @@
+use Rattle.std.proofs.Common.{◌+◌, ◌∙◌, sym, refl, ap}
+use Rattle.plasma_tx.specs.declared.answer.Answer.TheVariants.{Started}
+use Rattle.plasma_tx.specs.declared.call.RootCall.TheVariants.{StartSpend}
+use Rattle.plasma_tx.specs.Views.{now}
+use Rattle.root_rules.specs.declared.TheConstants.{EXIT_PERIOD}
+use Rattle.root_rules.specs.Shown.{tests_by}
+use Rattle.root_rules.specs.Table.{answer_to}
+use Rattle.root_contract.specs.declared.judging.Owners.{Owners}
+use Rattle.root_contract.proofs.Called.{takes-stopped, accepted, start_spend-changes}
+use Rattle.root_contract.proofs.contract.Contract.start_spend.Goals as goal
+
+pub returns-in_err-owners : goal.returns-in_err-owners
+unfolding answer_to
+returns-in_err-owners g c =
+    takes-stopped (tests_by (g.H.Hash32.digest_of c.args.h.now)) c.args.self.now
+    (StartSpend c.args.account c.args.coin c.args.parent.now c.args.exit.now) Owners
+    (λ x. Started (now c.args.self.now.log + EXIT_PERIOD)) c.in_err-owners.field-0.0 c.from_residual.result
+    c.from_residual.ensures.1 c.in_err-owners.ensures.answer
+
+pub start-requires-clause-changes : goal.start-requires-clause-changes
+unfolding answer_to
+start-requires-clause-changes g c =
+    rw (c.in_ok-copy.ensures, c.in_ok-copy-2.ensures)
+    (start_spend-changes c.args.self.now c.args.account c.args.coin c.args.parent.now c.args.exit.now
+    c.in_ok-owners.owners.exit c.in_ok-owners.owners.parent c.block.result c.new_slot-slot.result
+    (accepted (tests_by (g.H.Hash32.digest_of c.args.h.now)) c.args.self.now
+    (StartSpend c.args.account c.args.coin c.args.parent.now c.args.exit.now)
+    (Started (now c.args.self.now.log + EXIT_PERIOD)) c.in_ok-owners.ensures.answer refl)
+    c.in_ok-owners.ensures.exit c.in_ok-owners.ensures.parent c.in_ok-owners.ensures.account c.block.ensures
+    c.new_slot-slot.ensures)
+
+pub returns : goal.returns
+unfolding answer_to
+returns g c = (
+  ap (λ x. Started (x + EXIT_PERIOD)) c.clock-opens.ensures.is ∙ sym c.in_ok-owners.ensures.answer,
+  refl,
+  rw (c.in_ok-copy.ensures, c.in_ok-copy-2.ensures) at c.in_ok-start.ensures.ok,
+)

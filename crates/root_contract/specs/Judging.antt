@@ -1,0 +1,46 @@
+-- What judging a call finds, and what a call does to a contract.
+use Rattle.std.specs.Prelude.{◌≡◌, ℕ, not, true, List, [], ◌∷◌, Option, Some, Result, Ok, Err}
+use Rattle.plasma_tx.specs.declared.owner.Owner.{Owner}
+use Rattle.plasma_tx.specs.declared.signed_tx.SignedTx.{SignedTx}
+use Rattle.plasma_tx.specs.declared.call.RootCall.{RootCall}
+use Rattle.plasma_tx.specs.declared.answer.Answer.{Answer}
+use Rattle.plasma_tx.specs.declared.answer.Answer.TheVariants.{Refused as IsRefused, NoMemory as WantsMemory}
+use Rattle.plasma_tx.specs.Chain.{Chain, with_log}
+use Rattle.plasma_tx.specs.declared.answer.Refusal.TheVariants.{NotChild, BadSignature}
+use Rattle.root_rules.specs.Shown.{Tests, rules_of, spends, signs}
+use Rattle.root_rules.specs.Table.{Cause, shows_none, answer_to, is_accepted}
+use Rattle.root_contract.specs.declared.stop.Stop.{Stop}
+use Rattle.root_contract.specs.declared.stop.Stop.TheVariants.{Refused, NoMemory}
+
+-- a call is to be answered so: by its effect, or by the refusal; nothing is said where memory ran out
+abbrev pub Judges : {A : Type 0} → Answer → (A → Answer) → Result A Stop → Type 0
+Judges answer effect (Ok found) = answer ≡ effect found
+Judges answer effect (Err (Refused why)) = answer ≡ IsRefused why
+Judges answer effect (Err NoMemory) = Unit {0}
+
+-- the causes that a transfer which has to spend the block of a parent may have, in the table's order
+abbrev pub spend_causes : Tests → ℕ → Owner → Option SignedTx → List Cause
+spend_causes tests parent owner spend =
+    (
+    shows_none spend
+    ∷ (not (spends parent spend), NotChild)
+    ∷ (not (signs tests (Some owner) spend), BadSignature)
+    ∷ []
+    )
+
+-- the answer of the table to the call
+abbrev pub table_answer : Tests → Chain → RootCall → Answer
+table_answer tests chain call = answer_to tests (rules_of chain) chain.log call
+
+-- an accepted call is appended to the log; a refusal and want of memory change nothing
+abbrev pub Takes : Tests → Chain → Chain → RootCall → Result Answer Stop → Type 0
+Takes tests old new call (Ok answer) =
+    (answer ≡ table_answer tests old call) × (is_accepted answer ≡ true) × (new ≡ with_log old (call ∷ old.log))
+Takes tests old new call (Err (Refused why)) = (table_answer tests old call ≡ IsRefused why) × (new ≡ old)
+Takes tests old new call (Err NoMemory) = new ≡ old
+
+-- the answer of a call that was taken, or wasn't
+abbrev pub answer_of : Result Answer Stop → Answer
+answer_of (Ok answer) = answer
+answer_of (Err (Refused why)) = IsRefused why
+answer_of (Err NoMemory) = WantsMemory
