@@ -59,6 +59,43 @@ fn bad_lines_end_the_run(rt: HostRuntime) -> Result<(), Fail> {
 }
 
 #[test]
+fn tokens_that_are_no_hex_end_the_run(rt: HostRuntime) -> Result<(), Fail> {
+    let alloc = rt.alloc();
+    // A name or an item in a hex's place; and a deposit where only an opening may stand.
+    let lines = [
+        "call 1 deposit 5 u",
+        "call 1 deposit 5 #1",
+        "call 1 commit #1",
+        "call 1 exit 1 1 - 2 #2",
+        "call 1 exit 1 1 - 2 u",
+        "call 1 exit 1 1 - 2 -",
+        "call 1 exit 1 1 #2 2 0x",
+        "call 1 exit 1 1 u 2 0x",
+        "call 1 after 1 1 2 #2",
+        "call 1 after 1 1 2 u",
+        "call 1 after 1 1 2 -",
+        "call 1 between 1 3 2 #2",
+        "call 1 before 1 3 1 #2",
+        "call 1 before 1 3 1 u",
+        "call 1 respond 1 3 1 2 #2",
+        "call 1 respond 1 3 1 2 -",
+    ];
+    for line in lines {
+        let mut schedule = b"chain 1 9 100\nfund 1 5\n".to_vec(alloc)?;
+        schedule.extend_from_slice(line.as_bytes())?;
+        schedule.extend_from_slice(b"\nmoney 1\n")?;
+        let (status, sink) = replay_output(alloc, &schedule)?;
+        assert_eq!(rt; status, Status::BadLine, "{line}");
+        assert_eq!(rt;
+            sink.bytes(),
+            b"1 chain\n2 funded\nbad line 3\n".as_slice(),
+            "{line}"
+        );
+    }
+    Ok(())
+}
+
+#[test]
 fn long_inputs_end_the_run(rt: HostRuntime) -> Result<(), Fail> {
     let alloc = rt.alloc();
     // A line of as many bytes as a line may have is merely bad; one more byte is too many.

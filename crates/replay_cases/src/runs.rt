@@ -3,10 +3,6 @@ use replay_run::{Status, run};
 use std::alloc::Global;
 use std::test::Fail;
 
-/// A key that reads, as a hex.
-pub const KEY: &str =
-    "0x0000000500000004000000000000000000000000000000000000000000000000000000000000000000000000000000000000000000000000";
-
 /// The deposit and its exit, whose last lines depend on when the exit is finished.
 pub const DEPOSIT_AND_EXIT: &str = "chain 1 9 100
 fund 1 1000

@@ -81,9 +81,9 @@ fn changed_signatures_and_keys_are_invalid(rt: HostRuntime) -> Result<(), Fail> 
     let alloc = rt.alloc();
     let key = take_hex(alloc, KEY.as_bytes())?;
     let signature = take_hex(alloc, SIGNATURE.as_bytes())?;
-    // Of the signature: the leaf 63, the one-time type 3, the LMS type 6, a chain. Of the key: its LMS
+    // Of the signature: the leaves 32 and 63, the one-time type 3, the LMS type 6, a chain. Of the key: its LMS
     // type 6, its one-time type 3, its root.
-    for (place, change) in [(3, 32), (7, 7), (1131, 3), (40, 1)] {
+    for (place, change) in [(3, 63), (3, 32), (7, 7), (1131, 3), (40, 1)] {
         let signature = with_change(alloc, &signature, place, change)?;
         let (status, sink) = verify_output(alloc, &key, b"abc", &signature)?;
         assert_eq!(rt; status, Status::Done);
