@@ -2,3 +2,4 @@ pub mod Records
 pub mod Leaves
 pub mod Laws
 pub mod Sound
+pub mod NodeWords
