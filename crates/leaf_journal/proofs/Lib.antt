@@ -3,3 +3,4 @@ pub mod Form
 pub mod Binding
 pub mod Lives
 pub mod Adding
+pub mod NodeWords

@@ -1,6 +1,7 @@
 //! The leaves of a key over a disk: each signs at most one message, whatever fails or crashes.
 #![tactic(auto)]
 
+mod adaptors;
 mod bound;
 mod laws;
 mod leaves;
@@ -11,6 +12,10 @@ mod short;
 #[cfg(test)]
 mod tests;
 
+pub use adaptors::{
+    bind_answers, binds_in_node_words, migration_answers, migrations_in_node_words,
+    openings_in_node_words, refusals_in_node_words,
+};
 pub use bound::Bound;
 pub use laws::{
     a_leaf_has_one_message, bound_messages_stay, made_journals_stay, stopped_binds,
