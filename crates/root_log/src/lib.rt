@@ -1,0 +1,21 @@
+//! A root contract's log as text: the first line names the chain, and each further line is a call.
+//! A line is read into a log, and a call is printed as a line. The calls are taken at their word.
+#![tactic(auto)]
+
+mod calls;
+mod first_line;
+mod laws;
+mod lines;
+mod refusal;
+#[cfg(test)]
+mod tests;
+mod text;
+
+pub use calls::call_of;
+pub use first_line::{MOST_BLOCKS, TAG_BYTES};
+pub use laws::{
+    a_call_has_one_spelling, a_chain_has_one_spelling, a_printed_call_is_read_back,
+    a_printed_chain_is_read_back, the_first_line_has_these_numbers,
+};
+pub use refusal::LogRefusal;
+pub use text::{print_call, print_chain, read_chain, read_line};

@@ -1,0 +1,74 @@
+ghost use Rattle.std.specs.Prelude.{◌≡◌, ◌≤◌, ◌++◌, Some, None, Err, IfOk, OnOk, OnErr};
+ghost use Rattle.root_log.specs.Grammar.{call_in, call_text, chain_in, chain_text, IsLogCall, appended};
+
+use super::calls::call_of_line;
+use super::first_line::{FirstLine, MOST_BLOCKS};
+use super::lines::line_of;
+use super::refusal::LogRefusal;
+use plasma_base::NoMemory;
+use plasma_tx::{RootCall, RootLog};
+use std::alloc::Global;
+
+/// The empty log of the chain that the first line of a log names, without a line feed:
+/// `chain <hex of 32 bytes> <operator> <most>`, where `most` is from 1 to `MOST_BLOCKS`. It refuses
+/// `BadEvent` exactly where the line isn't in the grammar.
+#[tactic(auto, unfolding(crate::specs::Grammar::chain_in))]
+pub fn read_chain(alloc: Global, line: &[u8]) -> Result<RootLog, LogRefusal>
+    ensures found { IfOk result (λ log. chain_in line.now ≡ Some log) }
+    ensures bad { result ≡ Err LogRefusal.BadEvent → chain_in line.now ≡ None }
+{
+    let first: FirstLine = line_forms::read(alloc, line)?;
+    Ok(RootLog::make(alloc, first.tag, first.operator, first.most))
+}
+
+/// Puts the first line of a log at the end, without a line feed. Where memory runs out nothing
+/// changes.
+#[tactic(auto, unfolding(crate::specs::Grammar::chain_text))]
+pub fn print_chain(log: &RootLog, out: &mut Vec<u8>) -> Result<(), NoMemory>
+    requires least { 1 ≤ log.now.most_blocks }
+    requires most { log.now.most_blocks ≤ MOST_BLOCKS }
+    ensures ok { OnOk result (out.new.items ≡ out.old.items ++ chain_text log.now) }
+    ensures err { OnErr result (out.new.items ≡ out.old.items) }
+{
+    let first = FirstLine {
+        tag: log.tag(),
+        operator: log.operator(),
+        most: log.most_blocks(),
+    };
+    line_forms::print(&first, out)
+}
+
+// The call that a line spells.
+#[tactic(auto, unfolding(crate::specs::Grammar::call_in))]
+fn read_call(alloc: Global, line: &[u8]) -> Result<RootCall, LogRefusal>
+    ensures found { IfOk result (λ call. call_in line.now ≡ Some call) }
+    ensures bad { result ≡ Err LogRefusal.BadEvent → call_in line.now ≡ None }
+{
+    let line = schedule_text::read(alloc, line)?;
+    call_of_line(line).ok_or(LogRefusal::BadEvent)
+}
+
+/// Appends the call that a line spells, without a line feed: a `fund`, `tick` or `call` line of a
+/// schedule with each key and each opening a hex. The log takes it at its word, so any call is
+/// appended, also one that no contract accepted. It refuses `BadEvent` exactly where the line isn't in
+/// the grammar; a refusal leaves the log as it was.
+pub fn read_line(alloc: Global, log: &mut RootLog, line: &[u8]) -> Result<(), LogRefusal>
+    ensures ok { OnOk result (appended log.old line.now ≡ Some log.new) }
+    ensures bad { result ≡ Err LogRefusal.BadEvent → call_in line.now ≡ None }
+    ensures err { OnErr result (log.new ≡ log.old) }
+{
+    let call = read_call(alloc, line)?;
+    Ok(log.push(call)?)
+}
+
+/// Puts the line of a call at the end, without a line feed; `read_line` reads it as that call. Where
+/// memory runs out nothing changes.
+#[tactic(auto, unfolding(crate::specs::Grammar::call_text))]
+pub fn print_call(call: &RootCall, out: &mut Vec<u8>) -> Result<(), NoMemory>
+    ensures ok { OnOk result (out.new.items ≡ out.old.items ++ call_text call.now) }
+    ensures read_back { call_in (call_text call.now) ≡ Some call.now }
+    ensures err { OnErr result (out.new.items ≡ out.old.items) }
+{
+    let line = line_of(*out.allocator(), call)?;
+    schedule_text::print(&line, out)
+}
