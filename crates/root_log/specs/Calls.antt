@@ -50,14 +50,10 @@ call_of_line _ = None
 
 -- ---- the line of a call
 
--- the bytes of an opening as a token
-abbrev pub bytes_token : RawOpening → HexOrItem
-bytes_token opening = HexOrItem.Hex opening.bytes
-
 -- what is shown as a token; the block stands in the line for itself
 abbrev pub shown_token : Shown → ShownToken
 shown_token (Shown.Deposit block) = ShownToken.Deposit
-shown_token (Shown.Spend opening) = ShownToken.Bytes (bytes_token opening)
+shown_token (Shown.Spend opening) = ShownToken.Bytes (HexOrItem.Hex opening.bytes)
 
 -- the line of a call
 abbrev pub line_of : RootCall → Line
@@ -67,13 +63,13 @@ line_of (RootCall.Deposit account amount key) = Line.Call account (CallForm.Depo
 line_of (RootCall.Commit account root) = Line.Call account (CallForm.Commit root)
 line_of (RootCall.StartDeposit account coin block) = Line.Call account (CallForm.Start coin block)
 line_of (RootCall.StartSpend account coin parent exit) =
-    Line.Call account (CallForm.Exit coin (block_of parent) (shown_token parent) exit.block (bytes_token exit))
+    Line.Call account (CallForm.Exit coin (block_of parent) (shown_token parent) exit.block (HexOrItem.Hex exit.bytes))
 line_of (RootCall.After account coin exit spend) =
-    Line.Call account (CallForm.After coin exit spend.block (bytes_token spend))
+    Line.Call account (CallForm.After coin exit spend.block (HexOrItem.Hex spend.bytes))
 line_of (RootCall.Between account coin exit spend) =
-    Line.Call account (CallForm.Between coin exit spend.block (bytes_token spend))
+    Line.Call account (CallForm.Between coin exit spend.block (HexOrItem.Hex spend.bytes))
 line_of (RootCall.Before account coin exit shown) =
     Line.Call account (CallForm.Before coin exit (block_of shown) (shown_token shown))
 line_of (RootCall.Respond account coin exit challenged spend) =
-    Line.Call account (CallForm.Respond coin exit challenged spend.block (bytes_token spend))
+    Line.Call account (CallForm.Respond coin exit challenged spend.block (HexOrItem.Hex spend.bytes))
 line_of (RootCall.Finish account coin exit) = Line.Call account (CallForm.Finish coin exit)

@@ -44,6 +44,10 @@ first_lines = record { names = map (λ row. (row.0.now, row.1)) FIRST_NAMES; row
 abbrev pub first_parts : FirstLine → Parts FirstName FirstLine first_lines
 first_parts first = of first_lines FirstName.Chain first.tag first.operator first.most
 
+-- which first lines are in the grammar
+abbrev pub IsFirstLine : FirstLine → Type 0
+IsFirstLine first = AreParts first_lines (first_parts first)
+
 -- the first line of a chain's log
 abbrev pub first_of : Chain → FirstLine
 first_of chain = record { tag = chain.tag; operator = chain.operator; most = chain.most_blocks }
@@ -54,7 +58,7 @@ chain_of first = record { tag = first.tag; operator = first.operator; most_block
 
 -- whether the first line of a chain's log is in the grammar
 abbrev pub IsLogChain : Chain → Type 0
-IsLogChain chain = AreParts first_lines (first_parts (first_of chain))
+IsLogChain chain = IsFirstLine (first_of chain)
 
 -- the one spelling of a first line
 unfoldable pub chain_text : Chain → List ℕ

@@ -1,5 +1,6 @@
 ghost use Rattle.std.specs.Prelude.{◌≡◌, ◌≤◌, ◌++◌, Some, None, Err, IfOk, OnOk, OnErr};
-ghost use Rattle.root_log.specs.Grammar.{call_in, call_text, chain_in, chain_text, IsLogCall, appended};
+ghost use Rattle.line_forms.specs.Tokens.{AreBytes};
+ghost use Rattle.root_log.specs.Grammar.{call_in, call_text, chain_in, chain_text, IsLogChain, appended};
 
 use super::calls::call_of_line;
 use super::first_line::{FirstLine, MOST_BLOCKS};
@@ -16,6 +17,7 @@ use std::alloc::Global;
 pub fn read_chain(alloc: Global, line: &[u8]) -> Result<RootLog, LogRefusal>
     ensures found { IfOk result (λ log. chain_in line.now ≡ Some log) }
     ensures bad { result ≡ Err LogRefusal.BadEvent → chain_in line.now ≡ None }
+    ensures grammar { IfOk result IsLogChain }
 {
     let first: FirstLine = line_forms::read(alloc, line)?;
     Ok(RootLog::make(alloc, first.tag, first.operator, first.most))
@@ -30,13 +32,20 @@ pub fn print_chain(log: &RootLog, out: &mut Vec<u8>) -> Result<(), NoMemory>
     ensures ok { OnOk result (out.new.items ≡ out.old.items ++ chain_text log.now) }
     ensures err { OnErr result (out.new.items ≡ out.old.items) }
 {
+    let tag = log.tag();
+    each_has_eight_bits(&tag);
     let first = FirstLine {
-        tag: log.tag(),
+        tag,
         operator: log.operator(),
         most: log.most_blocks(),
     };
     line_forms::print(&first, out)
 }
+
+// What holds of all bytes, said of these. It does nothing.
+fn each_has_eight_bits(bytes: &[u8])
+    ensures { AreBytes bytes.now }
+{}
 
 // The call that a line spells.
 #[tactic(auto, unfolding(crate::specs::Grammar::call_in))]
@@ -66,7 +75,7 @@ pub fn read_line(alloc: Global, log: &mut RootLog, line: &[u8]) -> Result<(), Lo
 #[tactic(auto, unfolding(crate::specs::Grammar::call_text))]
 pub fn print_call(call: &RootCall, out: &mut Vec<u8>) -> Result<(), NoMemory>
     ensures ok { OnOk result (out.new.items ≡ out.old.items ++ call_text call.now) }
-    ensures read_back { call_in (call_text call.now) ≡ Some call.now }
+    ensures read_back { OnOk result (call_in (call_text call.now) ≡ Some call.now) }
     ensures err { OnErr result (out.new.items ≡ out.old.items) }
 {
     let line = line_of(*out.allocator(), call)?;
