@@ -1,5 +1,6 @@
-ghost use Rattle.std.specs.Prelude.{◌≡◌, ◌≤◌, ◌++◌, Some, None, Err, IfOk, OnOk, OnErr};
+ghost use Rattle.std.specs.Prelude.{◌≡◌, ◌≤◌, [], ◌++◌, Some, None, Err, IfOk, OnOk, OnErr};
 ghost use Rattle.line_forms.specs.Tokens.{AreBytes};
+ghost use Rattle.plasma_tx.specs.Chain.{with_log};
 ghost use Rattle.root_log.specs.Grammar.{call_in, call_text, chain_in, chain_text, IsLogChain, appended};
 
 use super::calls::call_of_line;
@@ -23,13 +24,14 @@ pub fn read_chain(alloc: Global, line: &[u8]) -> Result<RootLog, LogRefusal>
     Ok(RootLog::make(alloc, first.tag, first.operator, first.most))
 }
 
-/// Puts the first line of a log at the end, without a line feed. Where memory runs out nothing
-/// changes.
+/// Puts the first line of a log at the end, without a line feed; `read_chain` reads it as the log
+/// without its calls. Where memory runs out nothing changes.
 #[tactic(auto, unfolding(crate::specs::Grammar::chain_text))]
 pub fn print_chain(log: &RootLog, out: &mut Vec<u8>) -> Result<(), NoMemory>
     requires least { 1 ≤ log.now.most_blocks }
     requires most { log.now.most_blocks ≤ MOST_BLOCKS }
     ensures ok { OnOk result (out.new.items ≡ out.old.items ++ chain_text log.now) }
+    ensures read_back { OnOk result (chain_in (chain_text log.now) ≡ Some (with_log log.now [])) }
     ensures err { OnErr result (out.new.items ≡ out.old.items) }
 {
     let tag = log.tag();
