@@ -1,5 +1,5 @@
 -- Calls and their lines: each is made of the other.
-use Rattle.std.proofs.Common.{◌≡◌, Some, None, refl, subst}
+use Rattle.std.proofs.Common.{◌≡◌, Some, refl, subst}
 use Rattle.plasma_tx.specs.declared.call.Shown.{Shown}
 use Rattle.plasma_tx.specs.declared.call.RootCall.{RootCall}
 use Rattle.schedule_text.specs.declared.line.Line.{Line}
@@ -7,7 +7,7 @@ use Rattle.schedule_text.specs.declared.line.CallForm.{CallForm}
 use Rattle.line_forms.specs.declared.tokens.HexOrName.{HexOrName}
 use Rattle.line_forms.specs.declared.tokens.HexOrItem.{HexOrItem}
 use Rattle.line_forms.specs.declared.tokens.ShownToken.{ShownToken}
-use Rattle.root_log.specs.Calls.{call_of, call_of_line, line_of}
+use Rattle.root_log.specs.Calls.{call_of_line, line_of}
 
 -- the line of a call is that call
 pub call_of_line-line_of : (call : RootCall) → call_of_line (line_of call) ≡ Some call

@@ -1,5 +1,5 @@
 -- What is printed is read, and what is read is printed so.
-use Rattle.std.proofs.Common.{◌≡◌, ℕ, false, List, [], Some, refl, subst, sym, ap, ◌∙◌, rules}
+use Rattle.std.proofs.Common.{◌≡◌, ℕ, false, List, [], Some, refl, subst, ap, ◌∙◌, rules}
 use Rattle.std.specs.Option.{option_and_then}
 use Rattle.line_forms.specs.Forms.{value_in, text_of}
 use Rattle.line_forms.specs.Laws.{IsRow, IsMade, IsTable}

@@ -1,5 +1,4 @@
 use Rattle.std.proofs.Common.{subst, sym}
-use Rattle.plasma_tx.specs.Chain.{Chain}
 use Rattle.root_log.specs.Grammar.{IsLogChain}
 use Rattle.root_log.proofs.GrammarLaws.{first_table}
 use Rattle.root_log.proofs.text.read_chain.Goals as goal
