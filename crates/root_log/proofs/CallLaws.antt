@@ -44,7 +44,8 @@ line_of-call_of_line (Line.Call account (CallForm.Between coin exit block (HexOr
     is_line_of _ _ call refl h
 line_of-call_of_line (Line.Call account (CallForm.Before coin exit block ShownToken.Deposit)) call h =
     is_line_of _ _ call refl h
-line_of-call_of_line (Line.Call account (CallForm.Before coin exit block (ShownToken.Bytes (HexOrItem.Hex bytes)))) call h =
+line_of-call_of_line
+    (Line.Call account (CallForm.Before coin exit block (ShownToken.Bytes (HexOrItem.Hex bytes)))) call h =
     is_line_of _ _ call refl h
 line_of-call_of_line (Line.Call account (CallForm.Respond coin exit challenged block (HexOrItem.Hex bytes))) call h =
     is_line_of _ _ call refl h

@@ -1,9 +1,18 @@
 ghost use Rattle.std.specs.Prelude.{◌≡◌, ℕ, List, [], Some};
 ghost use Rattle.plasma_tx.specs.Chain.{Chain, with_log};
 ghost use Rattle.plasma_tx.specs.declared.call.RootCall.{RootCall};
+ghost use Rattle.schedule_text.specs.declared.line.Line.{Line};
+ghost use Rattle.root_log.specs.Calls.{call_of_line, line_of};
 ghost use Rattle.root_log.specs.Grammar.{IsLogCall, call_text, call_in, IsLogChain, chain_text, chain_in};
 
 use super::first_line::{MOST_BLOCKS, TAG_BYTES};
+
+/// A law: a call and its line in a schedule are made of each other. Each call has a line, which is that
+/// call; and a line that is a call is the line of that call alone.
+pub fn a_call_and_its_line_are_one()
+    ensures call { (call : RootCall) → call_of_line (line_of call) ≡ Some call }
+    ensures line { (line : Line) (call : RootCall) → call_of_line line ≡ Some call → line ≡ line_of call }
+{}
 
 /// A law: what a call is printed as is read back as that call.
 pub fn a_printed_call_is_read_back()

@@ -14,8 +14,8 @@ mod text;
 pub use calls::call_of;
 pub use first_line::{MOST_BLOCKS, TAG_BYTES};
 pub use laws::{
-    a_call_has_one_spelling, a_chain_has_one_spelling, a_printed_call_is_read_back,
-    a_printed_chain_is_read_back, the_first_line_has_these_numbers,
+    a_call_and_its_line_are_one, a_call_has_one_spelling, a_chain_has_one_spelling,
+    a_printed_call_is_read_back, a_printed_chain_is_read_back, the_first_line_has_these_numbers,
 };
 pub use refusal::LogRefusal;
 pub use text::{print_call, print_chain, read_chain, read_line};
