@@ -1,6 +1,5 @@
 pub mod Forms
 pub mod Lines
-pub mod Calls
 pub mod Trace
 pub mod Endings
 pub mod Text

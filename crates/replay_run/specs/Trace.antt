@@ -15,7 +15,7 @@ use Rattle.replay_run.specs.declared.reply.Reply.TheVariants.{Chain as ChainRepl
 use Rattle.replay_run.specs.declared.reply.Ending.{Ending}
 use Rattle.replay_run.specs.declared.reply.Ending.TheVariants.{Complete, BadLine, ReadFault, TooLong}
 use Rattle.replay_run.specs.Lines.{lines_in, is_whole, text_of, is_too_long}
-use Rattle.replay_run.specs.Calls.{call_of}
+use Rattle.root_log.specs.Calls.{call_of}
 
 -- the tag that a number stands for: 24 zero bytes and the number's eight
 abbrev pub tag_of : ℕ → List ℕ

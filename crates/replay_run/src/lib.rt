@@ -1,7 +1,6 @@
 //! What the program does: a run reads its words and its input, and writes its output.
 #![tactic(auto)]
 
-mod calls;
 mod form;
 mod input;
 mod laws;

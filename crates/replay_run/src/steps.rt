@@ -5,12 +5,12 @@ ghost use Rattle.replay_run.specs.Lines.{is_whole, text_of, is_too_long};
 ghost use Rattle.replay_run.specs.Trace.{tag_of, request_of, chain_step, call_step, money_step, step, text_step, line_step};
 ghost use Rattle.replay_run.specs.Steps.{Steps, AnswersLine};
 
-use super::calls::call_of;
 use super::reply::{Ending, Reply};
 use super::{MOST_INPUT_BYTES, MOST_LINE_BYTES, MOST_LINES};
 use plasma_base::{Hash32, NoMemory};
 use plasma_tx::{Answer, RootCall};
 use root_contract::Contract;
+use root_log::call_of;
 use schedule_text::{Line, LineRefusal, read};
 use std::alloc::Global;
 
