@@ -1,4 +1,5 @@
-ghost use Rattle.std.specs.Prelude.{◌≡◌, ◌+◌, ◌∷◌, [], true, IfOk};
+ghost use Rattle.std.specs.Prelude.{◌≡◌, ◌+◌, ◌∷◌, [], true, Some, IfOk};
+ghost use Rattle.std.specs.Option.{option_map};
 ghost use Rattle.plasma_tx.specs.Views.{now, exit_at, challenge_at, owner_of};
 ghost use Rattle.root_rules.specs.Shown.{tests_by, rules_of, shown_tx, shown_owner};
 ghost use Rattle.root_rules.specs.Money.{challenge_of, answered_bond, moved};
@@ -22,9 +23,11 @@ impl Contract {
         exit: u64,
         spend: &RawOpening,
     ) -> Result<Owner, Stop>
-        ensures { let tests = tests_by (H.digest_of h.now) in let log = self.now.log in
+        ensures answer { let tests = tests_by (H.digest_of h.now) in let log = self.now.log in
             Judges (where_exit (exit_at log coin exit) (λ x. decided (after_causes tests log x spend.now.block
             (shown_tx tests (rules_of self.now) log coin spend.now)) Answer.Cancelled)) (λ _. Answer.Cancelled) result }
+        ensures to { IfOk result (λ to. option_map (λ tx. tx.body.to)
+            (shown_tx (tests_by (H.digest_of h.now)) (rules_of self.now) self.now.log coin spend.now) ≡ Some to) }
     {
         let Some(slot) = self.exit_at(coin, exit) else {
             return Err(Stop::Refused(Refusal::NoExit));
@@ -46,9 +49,11 @@ impl Contract {
         exit: u64,
         spend: &RawOpening,
     ) -> Result<Owner, Stop>
-        ensures { let tests = tests_by (H.digest_of h.now) in let log = self.now.log in
+        ensures answer { let tests = tests_by (H.digest_of h.now) in let log = self.now.log in
             Judges (where_exit (exit_at log coin exit) (λ x. decided (between_causes tests log x spend.now.block
             (shown_tx tests (rules_of self.now) log coin spend.now)) Answer.Cancelled)) (λ _. Answer.Cancelled) result }
+        ensures to { IfOk result (λ to. option_map (λ tx. tx.body.to)
+            (shown_tx (tests_by (H.digest_of h.now)) (rules_of self.now) self.now.log coin spend.now) ≡ Some to) }
     {
         let Some(slot) = self.exit_at(coin, exit) else {
             return Err(Stop::Refused(Refusal::NoExit));

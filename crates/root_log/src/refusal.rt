@@ -26,10 +26,9 @@ impl From<NoMemory> for LogRefusal {
 }
 
 impl From<LineRefusal> for LogRefusal {
-    ghost use Rattle.line_forms.specs.declared.refusal.LineRefusal.{LineRefusal};
-    ghost use Rattle.root_log.specs.declared.refusal.LogRefusal.{LogRefusal};
+    ghost use Rattle.root_log.specs.Refusals.{refusal_of};
 
-    ghost from_gives = { λ refusal result. result ≡ LogRefusal.BadEvent → refusal ≡ LineRefusal.BadLine };
+    ghost from_gives = { λ refusal result. result ≡ refusal_of refusal };
 
     fn from(refusal: LineRefusal) -> LogRefusal {
         match refusal {

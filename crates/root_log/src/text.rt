@@ -12,8 +12,8 @@ use plasma_tx::{RootCall, RootLog};
 use std::alloc::Global;
 
 /// The empty log of the chain that the first line of a log names, without a line feed:
-/// `chain <hex of 32 bytes> <operator> <most>`, where `most` is from 1 to `MOST_BLOCKS`. It refuses
-/// `BadEvent` exactly where the line isn't in the grammar.
+/// `chain <hex of 32 bytes> <operator> <most>`, where `most` is from 1 to `MOST_BLOCKS`. Unless memory
+/// runs out it refuses `BadEvent` exactly where the line isn't in the grammar.
 #[tactic(auto, unfolding(crate::specs::Grammar::chain_in))]
 pub fn read_chain(alloc: Global, line: &[u8]) -> Result<RootLog, LogRefusal>
     ensures found { IfOk result (λ log. chain_in line.now ≡ Some log) }
@@ -61,8 +61,8 @@ fn read_call(alloc: Global, line: &[u8]) -> Result<RootCall, LogRefusal>
 
 /// Appends the call that a line spells, without a line feed: a `fund`, `tick` or `call` line of a
 /// schedule with each key and each opening a hex. The log takes it at its word, so any call is
-/// appended, also one that no contract accepted. It refuses `BadEvent` exactly where the line isn't in
-/// the grammar; a refusal leaves the log as it was.
+/// appended, also one that no contract accepted. Unless memory runs out it refuses `BadEvent` exactly
+/// where the line isn't in the grammar; a refusal leaves the log as it was.
 pub fn read_line(alloc: Global, log: &mut RootLog, line: &[u8]) -> Result<(), LogRefusal>
     ensures ok { OnOk result (appended log.old line.now ≡ Some log.new) }
     ensures bad { result ≡ Err LogRefusal.BadEvent → call_in line.now ≡ None }

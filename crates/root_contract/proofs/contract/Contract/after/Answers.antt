@@ -13,15 +13,15 @@ returns-in_err-judge_after g c =
     takes-stopped (tests_by (g.H.Hash32.digest_of c.args.h.now)) c.args.self.now
     (After c.args.account c.args.coin c.args.exit c.args.spend.now) (Owner)
     (λ x. Cancelled) c.in_err-judge_after.field-0.0
-    c.from_residual.result c.from_residual.ensures.1 c.in_err-judge_after.ensures
+    c.from_residual.result c.from_residual.ensures.1 c.in_err-judge_after.ensures.answer
 
 pub cancel-requires-clause-changes : goal.cancel-requires-clause-changes
 unfolding answer_to
 cancel-requires-clause-changes g c =
     rw (c.in_ok-copy.ensures) (after-changes c.args.self.now c.args.account c.args.coin c.args.exit c.args.spend.now
     (accepted (tests_by (g.H.Hash32.digest_of c.args.h.now)) c.args.self.now
-    (After c.args.account c.args.coin c.args.exit c.args.spend.now) (Cancelled) c.in_ok-judge_after.ensures refl))
+    (After c.args.account c.args.coin c.args.exit c.args.spend.now) (Cancelled) c.in_ok-judge_after.ensures.answer refl))
 
 pub returns : goal.returns
 unfolding answer_to
-returns g c = (sym c.in_ok-judge_after.ensures, refl, rw (c.in_ok-copy.ensures) at c.in_ok-cancel.ensures.ok)
+returns g c = (sym c.in_ok-judge_after.ensures.answer, refl, rw (c.in_ok-copy.ensures) at c.in_ok-cancel.ensures.ok)

@@ -6,8 +6,8 @@ use Rattle.root_contract.specs.Exits.{as_exit}
 use Rattle.root_contract.proofs.Judged.{between-judged}
 use Rattle.root_contract.proofs.contract.Contract.judge_between.Goals as goal
 
-pub returns : goal.returns
-returns g c =
+pub returns-clause-answer : goal.returns-clause-answer
+returns-clause-answer g c =
     between-judged (tests_by (g.H.Hash32.digest_of c.args.h.now)) c.args.self.now.log _
     (as_exit c.in-Some.slot.now) c.args.spend.now.block _ c.judge_spend.result
     c.in-Some.ensures.is (sym c.is_over.ensures ∙ c.if-is_over.false)
