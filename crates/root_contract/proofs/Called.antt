@@ -1,5 +1,5 @@
 -- What each kind of accepted call changes, and what is answered.
-use Rattle.std.proofs.Common.{◌≡◌, ℕ, Bool, true, false, if◌then◌else◌, List, [], ◌∷◌, ◌++◌, Option, Some, None, Result, Ok, Err, refl, sym, ap, ◌∙◌, subst}
+use Rattle.std.proofs.Common.{◌≡◌, ℕ, Bool, true, false, if◌then◌else◌, List, [], ◌∷◌, ◌++◌, Option, Some, None, Result, Ok, Err, refl, sym, ap, ◌∙◌, subst, ◌||◌}
 use Rattle.std.specs.Prelude.{IsErrAnd, is_some, ◌≢◌}
 use Rattle.std.proofs.lemmas.Bool.{false≢true}
 use Rattle.exit_game.specs.declared.challenges.Challenge.{Challenge as Kept}
@@ -26,9 +26,13 @@ use Rattle.root_rules.proofs.Bounds.{responds_answer}
 use Rattle.root_contract.specs.declared.stop.Stop.{Stop}
 use Rattle.root_contract.specs.declared.stop.Stop.TheVariants.{Refused, NoMemory}
 use Rattle.root_contract.specs.Exits.{as_exit, as_challenge, IsUnchallenged, IsOpen}
-use Rattle.root_contract.specs.Judging.{Judges, Takes, table_answer, answer_of}
+use Rattle.root_contract.specs.Judging.{Judges, Takes, table_answer, answer_of, shows_opening, may_want}
 use Rattle.root_contract.specs.Changes.{Changes, IsAccepted}
 use Rattle.root_contract.proofs.SlotLemmas.{without-none}
+
+or_right : (x y : Bool) → y ≡ true → (x || y) ≡ true
+or_right true y is = refl
+or_right false y is = is
 
 -- tests that no opening and no signature passes, for a call that shows none
 pub no_tests : Tests
@@ -37,12 +41,27 @@ no_tests = record { opens = λ root coin opening. false; is_signed = λ tx owner
 -- a call that a judge stops isn't taken
 pub takes-stopped : (tests : Tests) (chain : Chain) (call : RootCall) (A : Type 0) (effect : A → Answer) (why : Stop)
     (result : Result Answer Stop) → IsErrAnd result (λ stop. stop ≡ why)
-    → Judges (table_answer tests chain call) effect (Err why) → Takes tests chain chain call result
-takes-stopped tests chain call A effect why (Ok answer) is judged = absurd is
-takes-stopped tests chain call A effect (Refused why) (Err stop) is judged =
+    → Judges (table_answer tests chain call) effect (Err why) → (why ≡ NoMemory → may_want tests chain call ≡ true)
+    → Takes tests chain chain call result
+takes-stopped tests chain call A effect why (Ok answer) is judged may = absurd is
+takes-stopped tests chain call A effect (Refused why) (Err stop) is judged may =
     subst (λ (s : Stop). Takes tests chain chain call (Err s)) (sym is) (judged, refl)
-takes-stopped tests chain call A effect NoMemory (Err stop) is judged =
-    subst (λ (s : Stop). Takes tests chain chain call (Err s)) (sym is) refl
+takes-stopped tests chain call A effect NoMemory (Err stop) is judged may =
+    subst (λ (s : Stop). Takes tests chain chain call (Err s)) (sym is) (refl, may refl)
+
+-- memory ran out, where it may be taken
+pub takes-unheld : (tests : Tests) (old new : Chain) (call : RootCall) (result : Result Answer Stop)
+    → IsErrAnd result (λ stop. stop ≡ NoMemory) → new ≡ old → may_want tests old call ≡ true
+    → Takes tests old new call result
+takes-unheld tests old new call (Ok answer) is same may = absurd is
+takes-unheld tests old new call (Err stop) is same may =
+    subst (λ (s : Stop). Takes tests old new call (Err s)) (sym is) (same, may)
+
+-- memory may be taken for a call that is accepted
+pub accepted-may : (tests : Tests) (chain : Chain) (call : RootCall) (effect : Answer)
+    → table_answer tests chain call ≡ effect → is_accepted effect ≡ true → may_want tests chain call ≡ true
+accepted-may tests chain call effect is accepts =
+    or_right (shows_opening call) (is_accepted (table_answer tests chain call)) (ap is_accepted is ∙ accepts)
 
 pub accepted : (tests : Tests) (chain : Chain) (call : RootCall) (effect : Answer)
     → table_answer tests chain call ≡ effect → is_accepted effect ≡ true → IsAccepted chain call
@@ -320,4 +339,11 @@ pub call-no_memory : (tests : Tests) (old new : Chain) (call : RootCall) (taken 
 call-no_memory tests old new call (Ok answer) takes is =
     absurd (false≢true (ap is_accepted (sym is) ∙ takes.1))
 call-no_memory tests old new call (Err (Refused why)) takes is = takes.1
-call-no_memory tests old new call (Err NoMemory) takes is = takes
+call-no_memory tests old new call (Err NoMemory) takes is = takes.0
+
+pub call-memory : (tests : Tests) (old new : Chain) (call : RootCall) (taken : Result Answer Stop)
+    → Takes tests old new call taken → answer_of taken ≡ WantsMemory → may_want tests old call ≡ true
+call-memory tests old new call (Ok answer) takes is =
+    absurd (false≢true (ap is_accepted (sym is) ∙ takes.1))
+call-memory tests old new call (Err (Refused why)) takes is = absurd (cc)
+call-memory tests old new call (Err NoMemory) takes is = takes.1

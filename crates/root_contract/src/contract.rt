@@ -1,9 +1,9 @@
-ghost use Rattle.std.specs.Prelude.{◌≡◌, ◌≢◌, []};
+ghost use Rattle.std.specs.Prelude.{◌≡◌, ◌≢◌, [], true};
 ghost use Rattle.plasma_tx.specs.Chain.{with_log};
 ghost use Rattle.root_rules.specs.Shown.{tests_by, rules_of};
 ghost use Rattle.root_rules.specs.Money.{balance_of};
 ghost use Rattle.root_rules.specs.Table.{answer_to, log_after, IsLegal};
-ghost use Rattle.root_contract.specs.Judging.{Takes};
+ghost use Rattle.root_contract.specs.Judging.{Takes, may_want};
 
 use super::stop::{Stop, answer_of};
 use bond_ledger::Ledger;
@@ -72,6 +72,11 @@ impl Contract {
         ensures log { result ≢ Answer.NoMemory → self.new
             ≡ with_log self.old (log_after (tests_by (H.digest_of h.now)) (rules_of self.old) self.old.log call.now) }
         ensures no_memory { result ≡ Answer.NoMemory → self.new ≡ self.old }
+
+        // Memory runs out only of a call that may show an opening, or that is accepted: no other refusal
+        // hides behind it.
+        ensures memory { result ≡ Answer.NoMemory
+            → may_want (tests_by (H.digest_of h.now)) self.old call.now ≡ true }
     {
         answer_of(self.take(h, call))
     }

@@ -1,4 +1,4 @@
-ghost use Rattle.std.specs.Prelude.{◌≡◌, ◌+◌, ◌∷◌, [], true, Some, IfOk};
+ghost use Rattle.std.specs.Prelude.{◌≡◌, ◌≢◌, Err, ◌+◌, ◌∷◌, [], true, Some, IfOk};
 ghost use Rattle.std.specs.Option.{option_map};
 ghost use Rattle.plasma_tx.specs.Views.{now, exit_at, challenge_at, owner_of};
 ghost use Rattle.root_rules.specs.Shown.{tests_by, rules_of, shown_tx, shown_owner};
@@ -151,6 +151,7 @@ impl Contract {
             Judges (where_exit (exit_at log coin exit) (λ x. decided (finish_causes log x) (finish_effect log coin x)))
             (λ answer. answer) result }
         ensures accepted { IfOk result (λ answer. is_accepted answer ≡ true) }
+        ensures never { result ≢ Err Stop.NoMemory }
     {
         let Some(slot) = self.exit_at(coin, exit) else {
             return Err(Stop::Refused(Refusal::NoExit));

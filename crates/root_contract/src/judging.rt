@@ -1,4 +1,4 @@
-ghost use Rattle.std.specs.Prelude.{◌≡◌, ◌+◌, ◌∷◌, [], Some, IfOk};
+ghost use Rattle.std.specs.Prelude.{◌≡◌, ◌≢◌, Err, ◌+◌, ◌∷◌, [], Some, IfOk};
 ghost use Rattle.std.specs.Option.{option_map};
 ghost use Rattle.plasma_tx.specs.declared.answer.Answer.{Answer};
 ghost use Rattle.plasma_tx.specs.Views.{now, blocks, coins, coin_at, owner_of, owner_of_coin, owner_of_opening};
@@ -23,7 +23,8 @@ pub struct Owners {
 // Each of these finds the first cause by which a call is refused, in the order of the table.
 impl Contract {
     pub(crate) fn judge_fund(&self, amount: u64) -> Result<(), Stop>
-        ensures { Judges (decided (fund_causes self.now.log amount) Answer.Funded) (λ _. Answer.Funded) result }
+        ensures answer { Judges (decided (fund_causes self.now.log amount) Answer.Funded) (λ _. Answer.Funded) result }
+        ensures never { result ≢ Err Stop.NoMemory }
     {
         if MOST_MONEY - self.funded() < amount {
             return Err(Stop::Refused(Refusal::SumTooLarge));
@@ -32,7 +33,8 @@ impl Contract {
     }
 
     pub(crate) fn judge_tick(&self, time: u64) -> Result<(), Stop>
-        ensures { Judges (decided (tick_causes self.now.log time) Answer.Ticked) (λ _. Answer.Ticked) result }
+        ensures answer { Judges (decided (tick_causes self.now.log time) Answer.Ticked) (λ _. Answer.Ticked) result }
+        ensures never { result ≢ Err Stop.NoMemory }
     {
         let now = self.clock();
         if time < now {
@@ -50,9 +52,10 @@ impl Contract {
         amount: u64,
         key: &[u8; 56],
     ) -> Result<(), Stop>
-        ensures { let effect = Answer.Deposited (coins self.now.log + 1) (blocks self.now.log + 1) in Judges
+        ensures answer { let effect = Answer.Deposited (coins self.now.log + 1) (blocks self.now.log + 1) in Judges
             (decided (deposit_causes (rules_of self.now) self.now.log account amount key.now) effect) (λ _. effect)
             result }
+        ensures never { result ≢ Err Stop.NoMemory }
     {
         if amount == 0 {
             return Err(Stop::Refused(Refusal::BadAmount));
@@ -71,8 +74,9 @@ impl Contract {
     }
 
     pub(crate) fn judge_commit(&self, account: u64) -> Result<(), Stop>
-        ensures { let effect = Answer.Committed (blocks self.now.log + 1) in Judges
+        ensures answer { let effect = Answer.Committed (blocks self.now.log + 1) in Judges
             (decided (commit_causes (rules_of self.now) self.now.log account) effect) (λ _. effect) result }
+        ensures never { result ≢ Err Stop.NoMemory }
     {
         if account != self.log.operator() {
             return Err(Stop::Refused(Refusal::NotOperator));
@@ -95,6 +99,7 @@ impl Contract {
             (λ made. decided (start_deposit_causes self.now.log account coin block made) effect)) (λ _. effect)
             result }
         ensures owner { IfOk result (λ owner. owner ≡ owner_of_coin (coin_at self.now.log coin)) }
+        ensures never { result ≢ Err Stop.NoMemory }
     {
         let Some(made) = self.coin_at(coin) else {
             return Err(Stop::Refused(Refusal::NoCoin));

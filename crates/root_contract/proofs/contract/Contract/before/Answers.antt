@@ -6,7 +6,7 @@ use Rattle.plasma_tx.specs.Views.{now}
 use Rattle.root_rules.specs.declared.TheConstants.{RESPONSE_WINDOW}
 use Rattle.root_rules.specs.Shown.{tests_by}
 use Rattle.root_rules.specs.Table.{answer_to}
-use Rattle.root_contract.proofs.Called.{takes-stopped, accepted, before-none, before-changes}
+use Rattle.root_contract.proofs.Called.{takes-stopped, takes-unheld, accepted, before-none, before-changes}
 use Rattle.root_contract.proofs.contract.Contract.before.Goals as goal
 
 pub returns-in_err-owner : goal.returns-in_err-owner
@@ -15,7 +15,7 @@ returns-in_err-owner g c =
     takes-stopped (tests_by (g.H.Hash32.digest_of c.args.h.now)) c.args.self.now
     (Before c.args.account c.args.coin c.args.exit c.args.shown.now) Owner
     (λ x. Challenged (now c.args.self.now.log + RESPONSE_WINDOW)) c.in_err-owner.field-0.0 c.from_residual.result
-    c.from_residual.ensures.1 c.in_err-owner.ensures.answer
+    c.from_residual.ensures.1 c.in_err-owner.ensures.answer (λ is. refl)
 
 pub challenge-requires-clause-none : goal.challenge-requires-clause-none
 unfolding answer_to
@@ -42,6 +42,21 @@ challenge-requires-clause-changes g c =
     (Before c.args.account c.args.coin c.args.exit c.args.shown.now)
     (Challenged (now c.args.self.now.log + RESPONSE_WINDOW)) c.in_ok-owner.ensures.answer refl)
     c.block.ensures c.in_ok-owner.ensures.owner refl (rw (c.self.view_is) at c.now.ensures) refl)
+
+pub returns-in_err-copy : goal.returns-in_err-copy
+unfolding answer_to
+returns-in_err-copy g c =
+    takes-unheld (tests_by (g.H.Hash32.digest_of c.args.h.now)) c.args.self.now _
+    (Before c.args.account c.args.coin c.args.exit c.args.shown.now)
+    c.from_residual-in_err-copy.result c.from_residual-in_err-copy.ensures.1 refl refl
+
+pub returns-in_err-challenge : goal.returns-in_err-challenge
+unfolding answer_to
+returns-in_err-challenge g c =
+    takes-unheld (tests_by (g.H.Hash32.digest_of c.args.h.now)) c.args.self.now _
+    (Before c.args.account c.args.coin c.args.exit c.args.shown.now)
+    c.from_residual-in_err-challenge.result c.from_residual-in_err-challenge.ensures.1
+    c.in_err-challenge.ensures.err refl
 
 pub returns : goal.returns
 unfolding answer_to

@@ -4,7 +4,7 @@ use Rattle.plasma_tx.specs.declared.call.RootCall.TheVariants.{Between}
 use Rattle.root_rules.specs.Shown.{tests_by}
 use Rattle.root_rules.specs.Table.{answer_to}
 use Rattle.plasma_tx.specs.declared.owner.Owner.{Owner}
-use Rattle.root_contract.proofs.Called.{takes-stopped, accepted, between-changes}
+use Rattle.root_contract.proofs.Called.{takes-stopped, takes-unheld, accepted, between-changes}
 use Rattle.root_contract.proofs.contract.Contract.between.Goals as goal
 
 pub returns-in_err-judge_between : goal.returns-in_err-judge_between
@@ -13,14 +13,29 @@ returns-in_err-judge_between g c =
     takes-stopped (tests_by (g.H.Hash32.digest_of c.args.h.now)) c.args.self.now
     (Between c.args.account c.args.coin c.args.exit c.args.spend.now) (Owner)
     (λ x. Cancelled) c.in_err-judge_between.field-0.0
-    c.from_residual.result c.from_residual.ensures.1 c.in_err-judge_between.ensures.answer
+    c.from_residual.result c.from_residual.ensures.1 c.in_err-judge_between.ensures.answer (λ is. refl)
 
 pub cancel-requires-clause-changes : goal.cancel-requires-clause-changes
 unfolding answer_to
 cancel-requires-clause-changes g c =
     rw (c.in_ok-copy.ensures) (between-changes c.args.self.now c.args.account c.args.coin c.args.exit c.args.spend.now
     (accepted (tests_by (g.H.Hash32.digest_of c.args.h.now)) c.args.self.now
-    (Between c.args.account c.args.coin c.args.exit c.args.spend.now) (Cancelled) c.in_ok-judge_between.ensures.answer refl))
+    (Between c.args.account c.args.coin c.args.exit c.args.spend.now) (Cancelled)
+    c.in_ok-judge_between.ensures.answer refl))
+
+pub returns-in_err-copy : goal.returns-in_err-copy
+unfolding answer_to
+returns-in_err-copy g c =
+    takes-unheld (tests_by (g.H.Hash32.digest_of c.args.h.now)) c.args.self.now _
+    (Between c.args.account c.args.coin c.args.exit c.args.spend.now)
+    c.from_residual-in_err-copy.result c.from_residual-in_err-copy.ensures.1 refl refl
+
+pub returns-in_err-cancel : goal.returns-in_err-cancel
+unfolding answer_to
+returns-in_err-cancel g c =
+    takes-unheld (tests_by (g.H.Hash32.digest_of c.args.h.now)) c.args.self.now _
+    (Between c.args.account c.args.coin c.args.exit c.args.spend.now)
+    c.from_residual-in_err-cancel.result c.from_residual-in_err-cancel.ensures.1 c.in_err-cancel.ensures.err refl
 
 pub returns : goal.returns
 unfolding answer_to

@@ -1,11 +1,11 @@
-use Rattle.std.proofs.Common.{◌+◌, ◌∙◌, sym, refl, ap}
+use Rattle.std.proofs.Common.{◌+◌, ◌∙◌, sym, refl, ap, Err}
 use Rattle.plasma_tx.specs.declared.owner.Owner.{Owner}
 use Rattle.plasma_tx.specs.declared.answer.Answer.TheVariants.{Started}
 use Rattle.plasma_tx.specs.declared.call.RootCall.TheVariants.{StartDeposit}
 use Rattle.plasma_tx.specs.Views.{now}
 use Rattle.root_rules.specs.declared.TheConstants.{EXIT_PERIOD}
 use Rattle.root_rules.specs.Table.{answer_to}
-use Rattle.root_contract.proofs.Called.{no_tests, takes-stopped, accepted, start_deposit-changes}
+use Rattle.root_contract.proofs.Called.{no_tests, takes-stopped, takes-unheld, accepted-may, accepted, start_deposit-changes}
 use Rattle.root_contract.proofs.contract.Contract.start_deposit.Goals as goal
 
 pub returns-in_err-owner : goal.returns-in_err-owner
@@ -14,6 +14,7 @@ returns-in_err-owner c = λ tests.
     takes-stopped tests c.args.self.now (StartDeposit c.args.account c.args.coin c.args.block) Owner
     (λ x. Started (now c.args.self.now.log + EXIT_PERIOD)) c.in_err-owner.field-0.0 c.from_residual.result
     c.from_residual.ensures.1 c.in_err-owner.ensures.answer
+    (λ is. absurd (c.judge_start_deposit.ensures.never (c.in_err-owner.was ∙ ap Err is)))
 
 pub start-requires-clause-changes : goal.start-requires-clause-changes
 unfolding answer_to
@@ -23,6 +24,14 @@ start-requires-clause-changes c =
     (accepted no_tests c.args.self.now (StartDeposit c.args.account c.args.coin c.args.block)
     (Started (now c.args.self.now.log + EXIT_PERIOD)) c.in_ok-owner.ensures.answer refl)
     c.in_ok-owner.ensures.owner c.new_slot-slot.ensures
+
+pub returns-in_err-start : goal.returns-in_err-start
+unfolding answer_to
+returns-in_err-start c = λ tests.
+    takes-unheld tests c.args.self.now _ (StartDeposit c.args.account c.args.coin c.args.block)
+    c.from_residual-in_err-start.result c.from_residual-in_err-start.ensures.1 c.in_err-start.ensures.err
+    (accepted-may tests c.args.self.now (StartDeposit c.args.account c.args.coin c.args.block) (Started
+    (now c.args.self.now.log + EXIT_PERIOD)) c.in_ok-owner.ensures.answer refl)
 
 pub returns : goal.returns
 unfolding answer_to

@@ -6,7 +6,7 @@ use Rattle.root_rules.specs.declared.TheConstants.{EXIT_PERIOD}
 use Rattle.root_rules.specs.Shown.{tests_by}
 use Rattle.root_rules.specs.Table.{answer_to}
 use Rattle.root_contract.specs.declared.judging.Owners.{Owners}
-use Rattle.root_contract.proofs.Called.{takes-stopped, accepted, start_spend-changes}
+use Rattle.root_contract.proofs.Called.{takes-stopped, takes-unheld, accepted, start_spend-changes}
 use Rattle.root_contract.proofs.contract.Contract.start_spend.Goals as goal
 
 pub returns-in_err-owners : goal.returns-in_err-owners
@@ -15,7 +15,7 @@ returns-in_err-owners g c =
     takes-stopped (tests_by (g.H.Hash32.digest_of c.args.h.now)) c.args.self.now
     (StartSpend c.args.account c.args.coin c.args.parent.now c.args.exit.now) Owners
     (λ x. Started (now c.args.self.now.log + EXIT_PERIOD)) c.in_err-owners.field-0.0 c.from_residual.result
-    c.from_residual.ensures.1 c.in_err-owners.ensures.answer
+    c.from_residual.ensures.1 c.in_err-owners.ensures.answer (λ is. refl)
 
 pub start-requires-clause-changes : goal.start-requires-clause-changes
 unfolding answer_to
@@ -28,6 +28,27 @@ start-requires-clause-changes g c =
     (Started (now c.args.self.now.log + EXIT_PERIOD)) c.in_ok-owners.ensures.answer refl)
     c.in_ok-owners.ensures.exit c.in_ok-owners.ensures.parent c.in_ok-owners.ensures.account c.block.ensures
     c.new_slot-slot.ensures)
+
+pub returns-in_err-copy : goal.returns-in_err-copy
+unfolding answer_to
+returns-in_err-copy g c =
+    takes-unheld (tests_by (g.H.Hash32.digest_of c.args.h.now)) c.args.self.now _
+    (StartSpend c.args.account c.args.coin c.args.parent.now c.args.exit.now)
+    c.from_residual-in_err-copy.result c.from_residual-in_err-copy.ensures.1 refl refl
+
+pub returns-in_err-copy-2 : goal.returns-in_err-copy-2
+unfolding answer_to
+returns-in_err-copy-2 g c =
+    takes-unheld (tests_by (g.H.Hash32.digest_of c.args.h.now)) c.args.self.now _
+    (StartSpend c.args.account c.args.coin c.args.parent.now c.args.exit.now)
+    c.from_residual-in_err-copy-2.result c.from_residual-in_err-copy-2.ensures.1 refl refl
+
+pub returns-in_err-start : goal.returns-in_err-start
+unfolding answer_to
+returns-in_err-start g c =
+    takes-unheld (tests_by (g.H.Hash32.digest_of c.args.h.now)) c.args.self.now _
+    (StartSpend c.args.account c.args.coin c.args.parent.now c.args.exit.now)
+    c.from_residual-in_err-start.result c.from_residual-in_err-start.ensures.1 c.in_err-start.ensures.err refl
 
 pub returns : goal.returns
 unfolding answer_to
