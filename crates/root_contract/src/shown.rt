@@ -5,7 +5,7 @@ ghost use Rattle.root_rules.specs.Shown.{tests_by, rules_of, opens_root, shown_t
 use super::contract::Contract;
 use plasma_base::{Hash32, NoMemory};
 use plasma_tx::{Opening, OpeningRefusal, Owner, RawOpening, Shown, SignedTx, leaf_tx};
-use sparse_merkle::opens;
+use sparse_merkle::{defaults, opens_with_defaults};
 use std::alloc::Global;
 
 impl Contract {
@@ -53,7 +53,7 @@ impl Contract {
     }
 }
 
-// The opening, read, where it opens the root at the coin.
+// The opening, read, where it opens the root at the coin. The defaults are made once.
 fn opened<H: Hash32>(
     alloc: Global,
     h: &H,
@@ -65,12 +65,13 @@ fn opened<H: Hash32>(
         is_some read ≡ opens_root (H.digest_of h.now) root.now coin (opening_in (H.digest_of h.now) opening.now)) }
     ensures leaf { IfOk result (λ read. IfSome read (λ opened. opened.leaf ≡ leaf_in opening.now.bytes)) }
 {
-    let read = match opening.open_up(alloc, h) {
+    let defaults = defaults(h);
+    let read = match opening.open_up_with_defaults(alloc, h, &defaults) {
         Ok(read) => read,
         Err(OpeningRefusal::Unreadable) => return Ok(None),
         Err(OpeningRefusal::NoMemory) => return Err(NoMemory),
     };
-    if !opens(h, root, coin, read.leaf.as_slice(), &read.proof) {
+    if !opens_with_defaults(h, &defaults, root, coin, read.leaf.as_slice(), &read.proof) {
         return Ok(None);
     }
     Ok(Some(read))

@@ -4,4 +4,4 @@ use Rattle.root_contract.proofs.shown.opened.Goals as goal
 
 pub returns-clause-leaf : goal.returns-clause-leaf
 returns-clause-leaf g c = sym (leaf-shown (g.H.Hash32.digest_of c.args.h.now) c.args.opening.now c.in-Ok.read (sym
-    (c.open_up.ensures (λ wrong. absurd (cc))) ∙ c.in-Ok.is))
+    (c.open_up_with_defaults.ensures (λ wrong. absurd (cc))) ∙ c.in-Ok.is))
