@@ -16,6 +16,11 @@ pub record NotesState (D : Type 0) : Type 0 where
   pub closed : Bool
   pub records : List (List ℕ)
 
+-- a node's notes, and the value of the role that they are of
+pub record NotesAndRole (D R : Type 0) : Type 0 where
+  pub notes : NotesState D
+  pub role : R
+
 -- the device calls of an append behind these records
 abbrev pub note_steps : List (List ℕ) → List ℕ → List ℕ → List Step
 note_steps records body image = append_steps (length (spelled records)) body

@@ -1,5 +1,5 @@
 -- A counter, a node for tests. It adds amounts, and keeps the sum in each record.
-use Rattle.std.specs.Prelude.{ℕ, ◌+◌, ◌-◌, ◌==◌, Bool, false, nat_lt, if◌then◌else◌, List, [], ◌∷◌, length, Option, Some, None}
+use Rattle.std.specs.Prelude.{ℕ, ◌+◌, ◌-◌, ◌==◌, ◌&&◌, Bool, false, nat_lt, if◌then◌else◌, List, [], ◌∷◌, length, Option, Some, None}
 use Rattle.std.specs.Option.{option_map, unwrap_or}
 use Rattle.std.specs.List.{slice_get}
 use Rattle.node_journal.specs.Role.{Kinds}
@@ -10,14 +10,17 @@ abbrev pub is_number_of : ℕ → List ℕ → Bool
 is_number_of kind (first ∷ number ∷ []) = first == kind
 is_number_of kind body = false
 
--- an identity with the first number, and then sums
-abbrev pub counter_kinds : Kinds
-counter_kinds = record { is_identity = is_number_of 1; is_note = λ identity body. is_number_of 2 body }
-
 -- the number of a record
 abbrev pub number_in : List ℕ → ℕ
 number_in (kind ∷ number ∷ []) = number
 number_in body = 0
+
+-- an identity with this first number, and then sums
+abbrev pub counter_kinds : ℕ → Kinds
+counter_kinds first = record {
+  is_identity = λ body. is_number_of 1 body && (number_in body == first);
+  is_note = λ identity body. is_number_of 2 body;
+}
 
 -- the counter's value: the number of its last record
 abbrev pub value_of : List (List ℕ) → ℕ

@@ -8,42 +8,43 @@ use gate_journal::JournalRefusal;
 use plasma_base::Bytes;
 
 /// The kinds of record that the nodes of a role keep: the first record is the node's identity, and each
-/// other one is a note, which may depend on the identity.
-pub trait Role {
+/// other one is a note, which may depend on the identity. Both may depend on the role's value, which a node
+/// is opened with.
+pub trait Role: Drop {
     /// The two tests, as contracts see them.
-    ghost kinds: { Kinds };
+    ghost kinds: { Self → Kinds };
 
     /// Whether the body is an identity of the role.
-    fn is_identity(body: &[u8]) -> bool
-        ensures { result ≡ kinds.is_identity body.now };
+    fn is_identity(&self, body: &[u8]) -> bool
+        ensures { result ≡ (kinds self.now).is_identity body.now };
 
     /// Whether the body is a note of the role behind this identity.
-    fn is_note(identity: &[u8], body: &[u8]) -> bool
-        ensures { result ≡ kinds.is_note identity.now body.now };
+    fn is_note(&self, identity: &[u8], body: &[u8]) -> bool
+        ensures { result ≡ (kinds self.now).is_note identity.now body.now };
 }
 
 // How many notes stand in front that fit the identity.
-fn notes_count<R: Role>(identity: &[u8], notes: &[Bytes]) -> usize
-    ensures { result ≡ prefix_len (R.kinds.is_note identity.now) notes.now }
+fn notes_count<R: Role>(role: &R, identity: &[u8], notes: &[Bytes]) -> usize
+    ensures { result ≡ prefix_len ((R.kinds role.now).is_note identity.now) notes.now }
 {
     notes
         .iter()
-        .take_while(|note| R::is_note(identity, note.as_slice()))
+        .take_while(|note| role.is_note(identity, note.as_slice()))
         .count()
 }
 
 // The records before the first one that isn't of the role.
 #[tactic(auto, using(crate::proofs::Roles::front_within))]
-fn front_of<R: Role>(records: &[Bytes]) -> &[Bytes]
-    ensures { result.now ≡ front_of R.kinds records.now }
+fn front_of<'a, R: Role>(role: &R, records: &'a [Bytes]) -> &'a [Bytes]
+    ensures { result.now ≡ front_of (R.kinds role.now) records.now }
 {
     let Some((identity, notes)) = records.split_first() else {
         return records;
     };
-    if !R::is_identity(identity.as_slice()) {
+    if !role.is_identity(identity.as_slice()) {
         return &records[..0];
     }
-    let count = notes_count::<R>(identity.as_slice(), notes);
+    let count = notes_count(role, identity.as_slice(), notes);
     &records[..count + 1]
 }
 
@@ -59,10 +60,10 @@ fn gate_behind(records: &[Bytes]) -> Option<u64>
 }
 
 // Why the records aren't those of a role, where they aren't.
-pub fn role_refusal<R: Role>(records: &[Bytes]) -> Option<JournalRefusal>
-    ensures { IsRoleRefusal R.kinds records.now result }
+pub fn role_refusal<R: Role>(role: &R, records: &[Bytes]) -> Option<JournalRefusal>
+    ensures { IsRoleRefusal (R.kinds role.now) records.now result }
 {
-    let front = front_of::<R>(records);
+    let front = front_of(role, records);
     if !front.is_empty() && front.len() == records.len() {
         return None;
     }

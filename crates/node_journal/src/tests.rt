@@ -27,7 +27,7 @@ fn mix(alloc: Global, byte: u8) -> Result<Outcome, Fail>
 
 // The counter of a disk.
 fn opened(alloc: Global, disk: MemDisk) -> Result<Counter<MemDisk>, Fail> {
-    match Counter::open(alloc, disk) {
+    match Counter::open(alloc, disk, 7) {
         Ok(counter) => Ok(counter),
         Err(returned) => Err(returned.why.into()),
     }
@@ -104,13 +104,13 @@ fn inits_over_images(rt: HostRuntime) -> Result<(), Fail> {
     Ok(())
 }
 
-// The value of the counter that an image spells, or why there is none.
+// The value of the counter from 7 on that an image spells, or why there is none.
 fn value_in(
     alloc: Global,
     image: &[u8],
     fails: &[u64],
 ) -> Result<Result<u8, JournalRefusal>, Fail> {
-    match Counter::open(alloc, disk_of(alloc, image, fails)?) {
+    match Counter::open(alloc, disk_of(alloc, image, fails)?, 7) {
         Ok(counter) => Ok(Ok(counter.value())),
         Err(returned) => Ok(Err(returned.why)),
     }
@@ -132,6 +132,8 @@ fn records_of_other_kinds(rt: HostRuntime) -> Result<(), Fail> {
     }
     let no_identity = [0x50, 0x47, 0x4a, 0x31, 0xa5, 0, 0, 0, 2, 2, 7, 0];
     assert_eq!(rt; value_in(alloc, &no_identity, &[])?, not_journal(4));
+    let from_eight = [0x50, 0x47, 0x4a, 0x31, 0xa5, 0, 0, 0, 2, 1, 8, 0];
+    assert_eq!(rt; value_in(alloc, &from_eight, &[])?, not_journal(4));
     for call in 1..4 {
         assert_eq!(rt;
             value_in(alloc, &BEGUN, &[call])?,

@@ -12,9 +12,11 @@ use plasma_base::{Bytes, NoMemory};
 use std::alloc::Global;
 use std::marker::Model;
 
-// The role of a counter.
+// The role of a counter that begins at this number.
 #[derive(Clone, Copy)]
-pub struct CounterRole;
+pub struct CounterRole {
+    first: u8,
+}
 
 // Whether a record is of a kind.
 fn is_number_of(kind: u8, body: &[u8]) -> bool
@@ -29,13 +31,13 @@ fn is_number_of(kind: u8, body: &[u8]) -> bool
 impl Role for CounterRole {
     ghost use Rattle.node_journal.specs.Toy.{counter_kinds};
 
-    ghost kinds = { counter_kinds };
+    ghost kinds = { λ role. counter_kinds role.first };
 
-    fn is_identity(body: &[u8]) -> bool {
-        is_number_of(1, body)
+    fn is_identity(&self, body: &[u8]) -> bool {
+        is_number_of(1, body) && number_in(body) == self.first
     }
 
-    fn is_note(_identity: &[u8], body: &[u8]) -> bool {
+    fn is_note(&self, _identity: &[u8], body: &[u8]) -> bool {
         is_number_of(2, body)
     }
 }
@@ -69,17 +71,17 @@ impl<D: Disk> Model for Counter<D> {
 
     ghost Value = { NotesState D };
 
-    ghost view = { λ n. n.notes };
+    ghost view = { λ n. n.notes.notes };
 }
 
 impl<D: Disk> Counter<D> {
-    // Opens the counter of a disk.
-    pub fn open(alloc: Global, disk: D) -> Result<Counter<D>, Returned<D>>
-        ensures opened { IfOk result (Opened D.told D.plan D.faults (role_in counter_kinds) disk) }
+    // Opens the counter of a disk, which began at this number.
+    pub fn open(alloc: Global, disk: D, first: u8) -> Result<Counter<D>, Returned<D>>
+        ensures opened { IfOk result (Opened D.told D.plan D.faults (role_in (counter_kinds first)) disk) }
         ensures refused { IfErr result (λ returned.
-            RefusesRole D.told D.plan D.faults (role_in counter_kinds) disk returned.why returned.disk) }
+            RefusesRole D.told D.plan D.faults (role_in (counter_kinds first)) disk returned.why returned.disk) }
     {
-        match Notes::open(alloc, disk) {
+        match Notes::open(alloc, disk, CounterRole { first }) {
             Ok(notes) => Ok(Counter { alloc, notes }),
             Err(returned) => Err(returned),
         }

@@ -12,12 +12,13 @@ returns-then-front-records g c =
     let len : length c.front_of-front.result.now ≡ length records = c.if-front-records.true in
     let some : 0 < length c.front_of-front.result.now = grind
     (arith, nat_tests, c.is_empty.ensures, c.if-not-is_empty.true) in
-    all_front g.R.Role.kinds records (sym (ap length c.front_of-front.ensures) ∙ len) (omega (arith, some, len))
+    all_front (g.R.Role.kinds c.args.role.now) records (sym (ap length c.front_of-front.ensures) ∙ len)
+    (omega (arith, some, len))
 
 pub returns-in-Some : goal.returns-in-Some
 returns-in-Some g c =
     let records = c.args.records.now in
-    let kinds = g.R.Role.kinds in
+    let kinds = g.R.Role.kinds c.args.role.now in
     let not : are_of kinds records ≡ true → ⊥ = λ are.
     let all = front_all kinds records are in
     let len = ap length c.front_of-front.ensures in
