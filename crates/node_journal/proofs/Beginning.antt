@@ -1,5 +1,5 @@
 -- The device calls of an init: a making, an opening, and an append.
-use Rattle.std.proofs.Common.{◌≡◌, ◌≤◌, ◌+◌, ℕ, Bool, cond, List, [], ◌∷◌, ◌++◌, length, take, Option, Some, None, Result, Ok, Err, refl, sym, ◌∙◌, ap, subst, arith, length-append}
+use Rattle.std.proofs.Common.{◌≡◌, ◌≤◌, ◌+◌, ℕ, Bool, cond, List, [], ◌∷◌, ◌++◌, length, take, Option, Some, None, Result, Ok, Err, inr, refl, sym, ◌∙◌, ap, subst, arith, length-append}
 use Rattle.std.proofs.lemmas.List.{append-nil, take-append-le}
 use Rattle.std.specs.Option.{option_map}
 use Rattle.std.specs.Result.{IfOk, IfErr}
@@ -7,16 +7,14 @@ use Rattle.plasma_base.specs.Causes.{faults_after}
 use Rattle.crash_disk.specs.Disk.{Step, History, content, FaultPlan}
 use Rattle.crash_disk.specs.Calls.{WhereTold, Course, passed, failed_after, stopped_after, after_course, with_made, Made}
 use Rattle.crash_disk.proofs.Calls.{later, made_over, made_there, made_after, made_within, made_stop}
-use Rattle.gate_journal.specs.Image.{most, kept_records}
+use Rattle.gate_journal.specs.Image.{kept_records}
 use Rattle.gate_journal.specs.Steps.{append_steps, open_steps}
-use Rattle.gate_journal.specs.Journal.{JournalState, Keeps, IsSettled, fresh_journal, Appended, Appends}
+use Rattle.gate_journal.specs.Journal.{JournalState, Keeps, IsSettled, Appended}
 use Rattle.gate_journal.specs.Make.{make_steps}
-use Rattle.gate_journal.specs.declared.refusal.JournalRefusal.{JournalRefusal}
-use Rattle.gate_journal.specs.declared.refusal.JournalRefusal.TheVariants.{AlreadyMade, NotJournal, RecordTooLong, DeviceFault, Closed, NoMemory}
 use Rattle.gate_journal.specs.declared.refusal.InitRefusal.{InitRefusal}
 use Rattle.gate_journal.specs.declared.refusal.InitRefusal.TheVariants.{AlreadyMade as InitMade, DeviceFault as InitFault, NoMemory as InitNoMemory}
-use Rattle.node_journal.specs.Begin.{is_taken, image_made, journal_steps, init_steps, InitsOver, is_fault_refusal, BeginsEmpty, RefusesEmpty}
-use Rattle.node_journal.specs.Inside.{init_refusal_of, FindsOver, OpensEmpty, RefusesEmptyOver}
+use Rattle.node_journal.specs.Begin.{is_taken, image_made, journal_steps, init_steps, InitsOver, StopsBehindOver, is_fault_refusal, is_init_fault, BeginsEmpty, RefusesEmpty, PassesInit, BeginsPair}
+use Rattle.node_journal.specs.Inside.{FindsOver, AppendsIdentity, OpensEmpty, RefusesEmptyOver}
 use Rattle.node_journal.specs.declared.init.NotBegun.{NotBegun}
 use Rattle.node_journal.proofs.Untaken.{kept_untaken, other_taken, making_holds}
 
@@ -142,43 +140,52 @@ module _ {D : Type 0} (told : D → Option History) (plan : D → Option FaultPl
       )
 
       -- an append of the identity to a journal that was
-      module _ (journal : JournalState D) (is_fresh : journal ≡ fresh_journal journal.disk [])
-          (begins : InitsOver told plan journal_steps image old (Ok tt) journal.disk) where
-        more : (course : Course) {new : D}
-            → Made told plan (λ any. append_steps journal.gate identity) 4 course journal.disk new
+      module _ {mid : D} (begins : InitsOver told plan journal_steps image old (Ok tt) mid) where
+        more : (course : Course) {new : D} → Made told plan (λ any. append_steps 4 identity) 4 course mid new
             → Made told plan (init_steps identity) (length (init_steps identity image))
             (later (length (journal_steps image)) course) old new
         more course {new = new} made =
-            let gate : journal.gate ≡ 4 = ap (λ (j : JournalState D). j.gate) is_fresh in
             let all : init_steps identity image ≡ journal_steps image ++ append_steps 4 identity =
             ap (λ (b : Bool). journal_steps image ++ cond b [] (append_steps 4 identity)) begins.0 in
-            let at_gate = subst (λ (g : ℕ). Made told plan
-            (λ any. append_steps g identity) 4 course journal.disk new) gate made in
             over (init_steps identity)
             (subst (λ (s : List Step). Made told plan (λ any. s) (length s)
             (later (length (journal_steps image)) course) old new) (sym all)
             (made_after told plan (journal_steps image) (append_steps 4 identity) course
-            (there journal_steps begins.1) at_gate))
+            (there journal_steps begins.1) made))
 
-        pub appended : (now : JournalState D) → Appends told plan identity journal (Ok tt) now
-            → InitsOver told plan (init_steps identity) image old (Ok tt) now.disk
-        appended now done = (begins.0, more passed done.made)
+        pub passes_init : (new : D) → AppendsIdentity told plan identity mid (Ok tt) new
+            → InitsOver told plan (init_steps identity) image old (Ok tt) new
+        passes_init new made = (begins.0, more passed made)
 
-        pub not_appended : (why : JournalRefusal) (now : JournalState D) → length identity ≤ most
-            → Appends told plan identity journal (Err why) now
-            → InitsOver told plan (init_steps identity) image old (Err (init_refusal_of why)) now.disk
-        not_appended DeviceFault now fits failed =
-            (length (journal_steps image) + failed.count, more (failed_after failed.count) failed.made)
-        not_appended NoMemory now fits same = (
-          length (journal_steps image) + 0,
-          subst (λ (j : JournalState D). Made told plan (init_steps identity) (length (init_steps identity image))
-              (stopped_after (length (journal_steps image) + 0)) old j.disk) (sym same.3)
-              (more (stopped_after 0) (made_stop told plan (append_steps journal.gate identity) 4 journal.disk)),
-        )
-        not_appended Closed now fits same = absurd (cc (ap (λ (j : JournalState D). j.closed) is_fresh, same.0))
-        not_appended (RecordTooLong n) now fits same = absurd (omega (arith, fits, same.1))
-        not_appended (AlreadyMade n) now fits none = absurd none
-        not_appended (NotJournal place) now fits none = absurd none
+        pub stops_behind : (why : InitRefusal) (new : D) → AppendsIdentity told plan identity mid (Err why) new
+            → StopsBehindOver told plan identity image old why new
+        stops_behind InitFault new made =
+            let count = length (journal_steps image) + made.0 in
+            (count, begins.0, omega arith, more (failed_after made.0) made.1)
+        stops_behind InitNoMemory new same =
+            let none : length (journal_steps image) + 0 ≡ length (journal_steps image) = omega arith in (
+              begins.0,
+              subst (λ (n : ℕ). Made told plan (init_steps identity) (length (init_steps identity image))
+                  (stopped_after n) old new) none
+                  (subst (λ (disk : D). Made told plan (init_steps identity) (length (init_steps identity image))
+                  (stopped_after (length (journal_steps image) + 0)) old disk) (sym same)
+                  (more (stopped_after 0) (made_stop told plan (append_steps 4 identity) 4 mid))),
+            )
+        stops_behind (InitMade count) new none = absurd none
+
+      -- an init that was stopped behind its journal was stopped
+      behind_stops : (why : InitRefusal) (new : D) → StopsBehindOver told plan identity image old why new
+          → InitsOver told plan (init_steps identity) image old (Err why) new
+      behind_stops InitFault new stopped = (stopped.0, stopped.3)
+      behind_stops InitNoMemory new stopped = (length (journal_steps image), stopped.1)
+      behind_stops (InitMade count) new none = absurd none
+
+      -- what an append that was answered so is for the init
+      pub init_appended : {mid : D} → InitsOver told plan journal_steps image old (Ok tt) mid
+          → (result : Result Unit InitRefusal) (new : D) → AppendsIdentity told plan identity mid result new
+          → InitsOver told plan (init_steps identity) image old result new
+      init_appended begins (Ok done) new made = passes_init begins new made
+      init_appended begins (Err why) new made = behind_stops why new (stops_behind begins why new made)
 
 module _ {D : Type 0} (told : D → Option History) (plan : D → Option FaultPlan) (faults : D → ℕ) {old mid : D} where
   -- no journal was made
@@ -227,3 +234,28 @@ begun told plan journal now identity settled appended kept = at (told journal.di
     at None is = λ history some. (let none : told now.disk ≡ None = appended.made.calls ∙ ap (option_map _) is in
         absurd (cc (none, some)))
     at (Some before) is = λ history some. kept before is [] (settled before is).read history some
+
+-- an append of the identity behind the journals of the notes and of the leaves
+module _ {D E : Type 0} (told : D → Option History) (plan : D → Option FaultPlan) (faults : D → ℕ)
+    (leaves_told : E → Option History) (leaves_plan : E → Option FaultPlan) (leaves_faults : E → ℕ)
+    (identity : List ℕ) {notes mid new_notes : D} {leaves new_leaves : E}
+    (begins : PassesInit told plan faults journal_steps notes mid)
+    (beside : PassesInit leaves_told leaves_plan leaves_faults journal_steps leaves new_leaves) where
+  pub pair_appended : (result : Result Unit InitRefusal) → AppendsIdentity told plan identity mid result new_notes
+      → faults new_notes ≡ faults_after (faults mid) (is_init_fault result)
+      → BeginsPair told plan faults leaves_told leaves_plan leaves_faults identity notes leaves result
+      new_notes new_leaves
+  pair_appended (Ok done) appends count = (
+    record {
+      inits = λ before is. passes_init told plan before is identity (begins.inits before is) new_notes appends;
+      count = count ∙ begins.count;
+    },
+    beside,
+  )
+  pair_appended (Err why) appends count = inr (inr (
+    record {
+      stopped = λ before is. stops_behind told plan before is identity (begins.inits before is) why new_notes appends;
+      count = count ∙ ap (λ (n : ℕ). faults_after n (is_fault_refusal why)) begins.count;
+    },
+    beside,
+  ))

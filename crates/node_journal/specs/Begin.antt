@@ -1,5 +1,5 @@
 -- The beginning of a node's journal, or of an empty one.
-use Rattle.std.specs.Prelude.{◌≡◌, ℕ, Bool, true, false, nat_lt, if◌then◌else◌, List, [], ◌∷◌, ◌++◌, length, Option, Some, None, Result, Ok, Err}
+use Rattle.std.specs.Prelude.{◌≡◌, ◌≤◌, ◌⊎◌, ℕ, Bool, true, false, nat_lt, if◌then◌else◌, List, [], ◌∷◌, ◌++◌, length, Option, Some, None, Result, Ok, Err}
 use Rattle.plasma_base.specs.Causes.{faults_after}
 use Rattle.crash_disk.specs.Disk.{Step, History, content, FaultPlan}
 use Rattle.crash_disk.specs.Calls.{WhereTold, passed, failed_after, stopped_after, Made}
@@ -59,6 +59,18 @@ module _ {D : Type 0} (told : D → Option History) (plan : D → Option FaultPl
   abbrev pub Inits : (List ℕ → List Step) → D → Result Unit InitRefusal → D → Type 0
   Inits steps old result new = WhereTold (told old) (λ before. InitsOver steps (content before) old result new)
 
+  -- What an init over an image did that made or opened its journal and was stopped behind it: a device call of the
+  -- append was the first that failed, or memory ran out before the append made any.
+  abbrev pub StopsBehindOver : List ℕ → List ℕ → D → InitRefusal → D → Type 0
+  StopsBehindOver identity image old DeviceFault new =
+      (count : ℕ) × (is_taken image ≡ false) × (length (journal_steps image) ≤ count)
+      × Made told plan (init_steps identity) (length (init_steps identity image)) (failed_after count) old new
+  StopsBehindOver identity image old NoMemory new =
+      (is_taken image ≡ false)
+      × Made told plan (init_steps identity) (length (init_steps identity image))
+      (stopped_after (length (journal_steps image))) old new
+  StopsBehindOver identity image old why new = ⊥
+
   -- and counts them
   module _ (faults : D → ℕ) where
     -- An empty journal that was made or opened, and is open: each image of a crash now spells no record.
@@ -72,3 +84,30 @@ module _ {D : Type 0} (told : D → Option History) (plan : D → Option FaultPl
     pub record RefusesEmpty (old : D) (why : InitRefusal) (new : D) : Type 0 where
       pub inits : Inits journal_steps old (Err why) new
       pub count : faults new ≡ faults_after (faults old) (is_fault_refusal why)
+
+    -- an init whose device calls all passed, over an image that wasn't taken
+    pub record PassesInit (steps : List ℕ → List Step) (old new : D) : Type 0 where
+      pub inits : Inits steps old (Ok tt) new
+      pub count : faults new ≡ faults old
+
+    -- an init that made or opened its journal and was stopped behind it
+    pub record StopsBehind (identity : List ℕ) (old : D) (why : InitRefusal) (new : D) : Type 0 where
+      pub stopped : WhereTold (told old) (λ before. StopsBehindOver identity (content before) old why new)
+      pub count : faults new ≡ faults_after (faults old) (is_fault_refusal why)
+
+-- over the disk of a node's notes and that of a key's leaves
+module _ {D E : Type 0} (told : D → Option History) (plan : D → Option FaultPlan) (faults : D → ℕ)
+    (leaves_told : E → Option History) (leaves_plan : E → Option FaultPlan) (leaves_faults : E → ℕ) where
+  -- What an init of notes and of leaves did that was answered so. At Ok both journals were made or opened and the
+  -- identity was appended to the notes. Else the notes' journal wasn't made or opened, and the leaves stay; or it was,
+  -- and the leaves' journal wasn't; or both were, and the append was stopped.
+  abbrev pub BeginsPair : List ℕ → D → E → Result Unit InitRefusal → D → E → Type 0
+  BeginsPair identity notes leaves (Ok done) new_notes new_leaves =
+      PassesInit told plan faults (init_steps identity) notes new_notes
+      × PassesInit leaves_told leaves_plan leaves_faults journal_steps leaves new_leaves
+  BeginsPair identity notes leaves (Err why) new_notes new_leaves =
+      (RefusesEmpty told plan faults notes why new_notes × (new_leaves ≡ leaves))
+      ⊎ (PassesInit told plan faults journal_steps notes new_notes
+      × RefusesEmpty leaves_told leaves_plan leaves_faults leaves why new_leaves)
+      ⊎ (StopsBehind told plan faults identity notes why new_notes
+      × PassesInit leaves_told leaves_plan leaves_faults journal_steps leaves new_leaves)

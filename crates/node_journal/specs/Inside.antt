@@ -3,7 +3,7 @@ use Rattle.std.specs.Prelude.{◌≡◌, ◌≢◌, ℕ, Bool, true, false, List
 use Rattle.crash_disk.specs.Disk.{History, content, FaultPlan}
 use Rattle.crash_disk.specs.Calls.{WhereTold, passed, failed_after, stopped_after, Made}
 use Rattle.gate_journal.specs.Image.{spelled, kept_records}
-use Rattle.gate_journal.specs.Steps.{open_steps}
+use Rattle.gate_journal.specs.Steps.{append_steps, open_steps}
 use Rattle.gate_journal.specs.Make.{is_made, make_steps}
 use Rattle.gate_journal.specs.Journal.{JournalState, Keeps, IsSettled, fresh_journal}
 use Rattle.gate_journal.specs.declared.refusal.JournalRefusal.{JournalRefusal}
@@ -63,6 +63,14 @@ module _ {D : Type 0} (told : D → Option History) (plan : D → Option FaultPl
       (count : ℕ) × Made told plan make_steps (length (make_steps image)) (failed_after count) old new
   FindsOver image old (Err InitNoMemory) new = new ≡ old
   FindsOver image old (Err why) new = ⊥
+
+  -- what an append of an identity to an empty journal did that was answered so
+  abbrev pub AppendsIdentity : List ℕ → D → Result Unit InitRefusal → D → Type 0
+  AppendsIdentity identity old (Ok done) new = Made told plan (λ image. append_steps 4 identity) 4 passed old new
+  AppendsIdentity identity old (Err InitFault) new =
+      (count : ℕ) × Made told plan (λ image. append_steps 4 identity) 4 (failed_after count) old new
+  AppendsIdentity identity old (Err InitNoMemory) new = new ≡ old
+  AppendsIdentity identity old (Err why) new = ⊥
 
   -- an opening of a journal without records that went through
   pub record OpensEmpty (faults : D → ℕ) (old : D) (journal : JournalState D) : Type 0 where

@@ -3,9 +3,9 @@ ghost use Rattle.plasma_base.specs.Causes.{faults_after};
 ghost use Rattle.crash_disk.specs.Disk.{content};
 ghost use Rattle.crash_disk.specs.Calls.{WhereTold};
 ghost use Rattle.gate_journal.specs.Image.{most};
-ghost use Rattle.gate_journal.specs.Journal.{IsSettled};
-ghost use Rattle.node_journal.specs.Begin.{init_steps, Inits, is_fault_refusal, is_init_fault, BeginsEmpty, RefusesEmpty};
-ghost use Rattle.node_journal.specs.Inside.{init_refusal_of, length_found, open_refusal_of, FindsOver, OpensEmpty, RefusesEmptyOver};
+ghost use Rattle.gate_journal.specs.Journal.{IsSettled, fresh_journal};
+ghost use Rattle.node_journal.specs.Begin.{init_steps, Inits, is_fault_refusal, is_init_fault, BeginsEmpty, RefusesEmpty, BeginsPair};
+ghost use Rattle.node_journal.specs.Inside.{init_refusal_of, length_found, open_refusal_of, FindsOver, AppendsIdentity, OpensEmpty, RefusesEmptyOver};
 
 use crash_disk::Disk;
 use gate_journal::{InitRefusal, Journal, JournalRefusal, Returned};
@@ -108,6 +108,24 @@ pub fn begin_journal<D: Disk>(alloc: Global, disk: D) -> Result<Journal<D>, NotB
     }
 }
 
+// Appends the identity to an empty journal, and hands the disk back.
+fn append_identity<D: Disk>(journal: Journal<D>, identity: &[u8]) -> (D, Result<(), InitRefusal>)
+    requires fits { length identity.now ≤ most }
+    requires fresh { journal ≡ fresh_journal journal.disk [] }
+    requires settled { WhereTold (D.told journal.disk) (λ now. IsSettled now []) }
+    ensures appends { AppendsIdentity D.told D.plan identity.now journal.disk result.1 result.0 }
+    ensures begun { OnOk result.1 (WhereTold (D.told result.0) (λ now. IsSettled now (identity.now ∷ []))) }
+    ensures cause { D.faults result.0 ≡ faults_after (D.faults journal.disk) (is_init_fault result.1) }
+{
+    let mut journal = journal;
+    let appended = journal.append(identity);
+    let disk = journal.take_disk();
+    match appended {
+        Ok(()) => (disk, Ok(())),
+        Err(why) => (disk, Err(init_refusal_of(why))),
+    }
+}
+
 /// Begins a node's journal with its identity: as `begin_journal`, and then the identity is appended. At
 /// `Ok` each image that a crash may leave spells the identity alone. At most sixteen device calls.
 ///
@@ -119,17 +137,53 @@ pub fn begin<D: Disk>(alloc: Global, disk: D, identity: &[u8]) -> (D, Result<(),
     ensures begun { OnOk result.1 (WhereTold (D.told result.0) (λ now. IsSettled now (identity.now ∷ []))) }
     ensures cause { D.faults result.0 ≡ faults_after (D.faults disk) (is_init_fault result.1) }
 {
-    let mut journal = match begin_journal(alloc, disk) {
+    match begin_journal(alloc, disk) {
+        Ok(journal) => append_identity(journal, identity),
+        Err(refused) => {
+            let NotBegun { disk, why } = refused;
+            (disk, Err(why))
+        }
+    }
+}
+
+/// Begins a node with a key: the journal of its notes and that of its leaves, in this order, each as
+/// `begin_journal`, and then the identity is appended to the notes. At `Ok` each image that a crash may
+/// leave of the notes spells the identity alone, and each of the leaves spells no record. At most sixteen
+/// device calls on each disk, up to the first that fails or to want of memory.
+///
+/// `AlreadyMade` comes exactly where an image spells one or more records, or spells no list of records and
+/// has more than five bytes. The length is that image's, and the notes' where both are so. It yields to a
+/// `DeviceFault` of the same call, and to want of memory.
+///
+/// A call that was stopped may be repeated: on the notes' disk it is an event of `inits_may_be_repeated`;
+/// `stopped_preparations` and `prepared_journals_are_empty` are of the leaves' disk. No device call of the
+/// append is made before the leaves' journal was made or opened.
+pub fn begin_pair<D: Disk, E: Disk>(
+    alloc: Global,
+    notes: D,
+    leaves: E,
+    identity: &[u8],
+) -> (D, E, Result<(), InitRefusal>)
+    requires { length identity.now ≤ most }
+    ensures inits { BeginsPair D.told D.plan D.faults E.told E.plan E.faults identity.now
+        notes leaves result.2 result.0 result.1 }
+    ensures begun { OnOk result.2 (WhereTold (D.told result.0) (λ now. IsSettled now (identity.now ∷ []))) }
+    ensures empty { OnOk result.2 (WhereTold (E.told result.1) (λ now. IsSettled now [])) }
+{
+    let journal = match begin_journal(alloc, notes) {
         Ok(journal) => journal,
         Err(refused) => {
             let NotBegun { disk, why } = refused;
-            return (disk, Err(why));
+            return (disk, leaves, Err(why));
         }
     };
-    let appended = journal.append(identity);
-    let disk = journal.take_disk();
-    match appended {
-        Ok(()) => (disk, Ok(())),
-        Err(why) => (disk, Err(init_refusal_of(why))),
-    }
+    let leaves = match begin_journal(alloc, leaves) {
+        Ok(leaves) => leaves.take_disk(),
+        Err(refused) => {
+            let NotBegun { disk, why } = refused;
+            return (journal.take_disk(), disk, Err(why));
+        }
+    };
+    let (notes, appended) = append_identity(journal, identity);
+    (notes, leaves, appended)
 }

@@ -13,7 +13,7 @@ mod tests;
 mod toy;
 
 pub use gate_journal::InitRefusal;
-pub use init::{NotBegun, begin, begin_journal};
+pub use init::{NotBegun, begin, begin_journal, begin_pair};
 pub use laws::{
     inits_end_begun, inits_make_few_calls, inits_may_be_repeated, notes_follow,
     prepared_journals_are_empty, stopped_preparations,

@@ -104,6 +104,23 @@ fn inits_over_images(rt: HostRuntime) -> Result<(), Fail> {
     Ok(())
 }
 
+#[test]
+fn a_pair_is_begun_once(rt: HostRuntime) -> Result<(), Fail> {
+    let alloc = rt.alloc();
+    let made = |length| Err(InitRefusal::AlreadyMade { length });
+    let (notes, leaves) = (disk_of(alloc, &[], &[])?, disk_of(alloc, &[], &[])?);
+    let (notes, leaves, begun) = begin_pair(alloc, notes, leaves, &IDENTITY);
+    assert_eq!(rt; begun, Ok(()));
+    let (_, _, again) = begin_pair(alloc, notes, leaves, &IDENTITY);
+    assert_eq!(rt; again, made(12));
+    for (image, length) in [(BEGUN.split_at(0).0, 7), (BEGUN.as_slice(), 12)] {
+        let leaves = disk_of(alloc, BEGUN.split_at(7).0, &[])?;
+        let (_, _, refused) = begin_pair(alloc, disk_of(alloc, image, &[])?, leaves, &IDENTITY);
+        assert_eq!(rt; refused, made(length));
+    }
+    Ok(())
+}
+
 // The value of the counter from 7 on that an image spells, or why there is none.
 fn value_in(
     alloc: Global,
