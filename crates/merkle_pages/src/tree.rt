@@ -2,6 +2,7 @@ ghost use Rattle.std.specs.Prelude.{◌≡◌, ◌≢◌, ◌<◌, ◌≤◌, �
 ghost use Rattle.std.specs.Int.Bits.{bit_xor};
 ghost use Rattle.sparse_merkle.specs.MaskedPath.{proof_path, is_canonical};
 ghost use Rattle.sparse_merkle.specs.Opening.{is_opening};
+ghost use Rattle.sparse_merkle.specs.PathProof.{proof_of_path};
 ghost use Rattle.sparse_merkle.specs.TreeDigest.{leaf_of, with_leaf, root_of, path_to, subtree_digest, IsMap};
 ghost use Rattle.merkle_pages.specs.Nodes.{part_at};
 
@@ -125,6 +126,9 @@ impl<H: Hash32 + Copy> PagedTree<H> {
             (is_opening (H.digest_of self.now.hash) (root_of (H.digest_of self.now.hash) self.now.entries) coin
             (leaf_of self.now.entries coin) (proof_path (H.digest_of self.now.hash) proof))) }
         ensures canonical { IfOk result (λ proof. IsTrue (is_canonical (H.digest_of self.now.hash) proof)) }
+        ensures is { IfOk result
+            (λ proof. proof ≡ proof_of_path (H.digest_of self.now.hash)
+            (path_to (H.digest_of self.now.hash) coin self.now.entries)) }
     {
         let mut path = [[0; 32]; 64];
         for level in 0..64 {

@@ -1,6 +1,7 @@
 use Rattle.std.proofs.Common.{◌≡◌, ◌≢◌, ◌<◌, ◌^◌, [], length, ◌∙◌, below_more, arith, length-set, get_or-set_other, get_or-set_same}
 use Rattle.std.specs.Int.Bits.{bit_xor}
 use Rattle.sparse_merkle.specs.TreeDigest.{IsMap, AreDefaults, path_to}
+use Rattle.sparse_merkle.proofs.PathProof.{proof_of_path-made}
 use Rattle.sparse_merkle.proofs.ProofLaws.{proof_path-made, opens-made, is_canonical-made}
 use Rattle.merkle_pages.proofs.PartLaws.{IsSibling-xor, path_to-from}
 use Rattle.merkle_pages.proofs.tree.PagedTree.prove.Goals as goal
@@ -44,3 +45,11 @@ returns-clause-canonical g c =
     rw (← c.self.view_is) c.self.invariant.defaults_are in
     is_canonical-made c.of_path.result (g.H.Hash32.digest_of c.args.self.now.hash) c.self.inside.defaults
     c.loop-level.path are c.of_path.ensures
+
+pub returns-clause-is : goal.returns-clause-is
+returns-clause-is g c =
+    let dig = g.H.Hash32.digest_of c.args.self.now.hash in
+    let are : AreDefaults dig c.self.inside.defaults = rw (← c.self.view_is) c.self.invariant.defaults_are in
+    proof_of_path-made c.of_path.result dig c.self.inside.defaults c.loop-level.path
+    (path_to dig c.args.coin c.args.self.now.entries) are c.loop-level.invariant.long c.of_path.ensures
+    (returns-clause-path g c)
