@@ -122,3 +122,35 @@ fn bad_calls_leave_the_log_as_it_was(rt: HostRuntime) -> Result<(), Fail> {
     assert_eq!(rt; log.events().len(), 1);
     Ok(())
 }
+
+// A deposit, its exit and the end of the exit, each line with its line feed.
+const DEPOSIT_AND_EXIT: &[u8] = b"chain 0x0000000000000000000000000000000000000000000000000000000000000001 9 100
+fund 1 1000
+call 1 deposit 300 0x0000000500000004000000000000000000000000000000000000000000000000000000000000000000000000000000000000000000000000
+call 1 start 1 1
+tick 907200
+call 1 finish 1 1
+";
+
+#[test]
+fn a_log_is_printed_with_the_bytes_it_was_read_from(rt: HostRuntime) -> Result<(), Fail> {
+    let alloc = rt.alloc();
+    let mut lines = DEPOSIT_AND_EXIT.split(|byte| *byte == b'\n');
+    let mut log = read_chain(alloc, lines.next().unwrap_or(b""))?;
+    for line in lines {
+        if !line.is_empty() {
+            read_line(alloc, &mut log, line)?;
+        }
+    }
+    assert_eq!(rt; log.now(), 907_200);
+    assert!(rt; log.withdrawn(1));
+    let mut out = Vec::new(alloc);
+    print_chain(&log, &mut out)?;
+    for call in log.events() {
+        out.push(b'\n')?;
+        print_call(call, &mut out)?;
+    }
+    out.push(b'\n')?;
+    assert_eq!(rt; out.as_slice(), DEPOSIT_AND_EXIT);
+    Ok(())
+}

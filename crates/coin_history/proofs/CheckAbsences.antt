@@ -1,0 +1,137 @@
+-- An absence, opening by opening.
+use Rattle.std.proofs.Common.{◌≡◌, ℕ, ◌+◌, ◌<◌, ◌≤◌, ◌==◌, not, Bool, true, false, if◌then◌else◌, List, [], ◌∷◌, length, get_or, drop, Some, None, Ok, Err, refl, sym, ap, ◌∙◌, subst}
+use Rattle.std.specs.Prelude.{Result}
+use Rattle.plasma_tx.specs.declared.call.RootCall.{RootCall}
+use Rattle.plasma_tx.specs.declared.opening.RawOpening.{RawOpening}
+use Rattle.root_rules.specs.Shown.{Tests}
+use Rattle.coin_history.specs.History.{leaf_of_opening, is_absent}
+use Rattle.coin_history.specs.declared.refusal.HistoryRefusal.{HistoryRefusal}
+use Rattle.coin_history.specs.declared.refusal.HistoryRefusal.TheVariants.{MissingBlock, NotAbsent}
+use Rattle.coin_history.specs.Bundles.{AreRising}
+use Rattle.coin_history.specs.Checking.{first_cause, is_asked, opening_at, lowest_failure, above, unless_failed, opening_causes, failure_of_absence}
+use Rattle.coin_history.specs.Inside.{NoneIsAsked, IsFirstAsked}
+use Rattle.coin_history.proofs.CheckFacts.{Passed, first-here, first-later, failed-none, failed-some, absent-from, missing-next, failing-next, holding-next, missing-last, holding-last, passed-start, asked-high}
+
+-- what is answered of a bundle whose tip is the last block
+abbrev pub absence_by : Tests → List RootCall → ℕ → ℕ → ℕ → List RawOpening → Result Unit HistoryRefusal
+absence_by tests log coin after last openings =
+    unless_failed
+    (lowest_failure (λ n. failure_of_absence tests log coin after last n (opening_at openings n)) (above last
+    openings)) tt
+
+-- Of what is gone over, which are the openings, so many were passed: nothing fails below this number.
+pub record Cleared (tests : Tests) (log : List RootCall) (coin after last : ℕ) (openings items : List RawOpening)
+    (i number : ℕ) : Type 0 where
+  pub same : items ≡ openings
+  pub passed : Passed (failure_of_absence tests log coin after last) openings (drop i items) number
+
+pub cleared-start : (tests : Tests) (log : List RootCall) (coin after last : ℕ) (openings items : List RawOpening)
+    → AreRising openings → items ≡ openings → Cleared tests log coin after last openings items 0 0
+cleared-start tests log coin after last openings items rising same = record {
+  same = same;
+  passed = subst (λ (xs : List RawOpening). Passed (failure_of_absence tests log coin after last) openings xs 0)
+      (sym same)
+      (passed-start (failure_of_absence tests log coin after last) (is_asked log after last) (λ n. refl) openings
+      rising);
+}
+
+-- a block before the next opening is asked
+pub cleared-missing : {tests : Tests} {log : List RootCall} {coin after last : ℕ} {openings items : List RawOpening}
+    {i number : ℕ} → Cleared tests log coin after last openings items i number
+    → (o : RawOpening) → i < length items → o ≡ get_or items i o
+    → (n : ℕ) → IsFirstAsked (is_asked log after last) number o.block n
+    → absence_by tests log coin after last openings ≡ Err (MissingBlock n)
+cleared-missing {tests} {log} {coin} {after} {last} {openings} {items} {i} {number} cleared o inside is n first =
+    missing-next (failure_of_absence tests log coin after last) (is_asked log after last) (λ m. refl) openings
+    items last tt i
+    o number n (record { same = cleared.same; inside = inside; is = is }) cleared.passed first
+
+-- the next opening isn't asked, or doesn't open its block's root
+pub cleared-unopened : {tests : Tests} {log : List RootCall} {coin after last : ℕ} {openings items : List RawOpening}
+    {i number : ℕ} → Cleared tests log coin after last openings items i number
+    → (o : RawOpening) → i < length items → o ≡ get_or items i o
+    → NoneIsAsked (is_asked log after last) number o.block
+    → (why : HistoryRefusal) → Err why ≡ unless_failed
+    (first_cause (opening_causes tests log coin (is_asked log after last o.block) o)) (leaf_of_opening o)
+    → absence_by tests log coin after last openings ≡ Err why
+cleared-unopened {tests} {log} {coin} {after} {last} {openings} {items} {i} {number} cleared o inside is none why
+    fails =
+    failing-next (failure_of_absence tests log coin after last) (is_asked log after last) (λ m. refl) openings
+    items last tt i
+    o number why (record { same = cleared.same; inside = inside; is = is }) cleared.passed none
+    (first-here (opening_causes tests log coin (is_asked log after last o.block) o)
+    ((not (is_absent o), NotAbsent o.block) ∷ []) why
+    (failed-some (first_cause (opening_causes tests log coin (is_asked log after last o.block) o)) (leaf_of_opening o)
+    why (sym fails)))
+
+-- what the opening fails by where it opens the root, by whether its leaf has bytes
+presence-opened : (tests : Tests) (log : List RootCall) (coin after last : ℕ) (o : RawOpening) (leaf : List ℕ)
+    (empty : Bool) → Ok leaf ≡ unless_failed
+    (first_cause (opening_causes tests log coin (is_asked log after last o.block) o)) (leaf_of_opening o)
+    → (length leaf == 0) ≡ empty
+    → failure_of_absence tests log coin after last o.block (Some o) ≡ (if not empty then Some (NotAbsent o.block)
+    else None)
+presence-opened tests log coin after last o leaf empty opens is =
+    let read = failed-none (first_cause (opening_causes tests log coin (is_asked log after last o.block) o))
+    (leaf_of_opening o) leaf (sym opens) in
+    first-later (opening_causes tests log coin (is_asked log after last o.block) o)
+    ((not (is_absent o), NotAbsent o.block) ∷ []) read.0
+    ∙ ap (λ (b : Bool). if not b then Some (NotAbsent o.block) else None)
+    (absent-from leaf o empty (sym read.1) is)
+
+-- the next opening opens the root to a leaf with bytes
+pub cleared-present : {tests : Tests} {log : List RootCall} {coin after last : ℕ} {openings items : List RawOpening}
+    {i number : ℕ} → Cleared tests log coin after last openings items i number
+    → (o : RawOpening) → i < length items → o ≡ get_or items i o
+    → NoneIsAsked (is_asked log after last) number o.block
+    → (leaf : List ℕ) → Ok leaf ≡ unless_failed
+    (first_cause (opening_causes tests log coin (is_asked log after last o.block) o)) (leaf_of_opening o)
+    → (length leaf == 0) ≡ false
+    → absence_by tests log coin after last openings ≡ Err (NotAbsent o.block)
+cleared-present {tests} {log} {coin} {after} {last} {openings} {items} {i} {number} cleared o inside is none leaf opens
+    bytes =
+    failing-next (failure_of_absence tests log coin after last) (is_asked log after last) (λ m. refl) openings
+    items last tt i
+    o number (NotAbsent o.block) (record { same = cleared.same; inside = inside; is = is }) cleared.passed none
+    (presence-opened tests log coin after last o leaf false opens bytes)
+
+-- it opens the root to an empty leaf
+pub cleared-next : {tests : Tests} {log : List RootCall} {coin after last : ℕ} {openings items : List RawOpening}
+    {i number : ℕ} → Cleared tests log coin after last openings items i number
+    → (o : RawOpening) → i < length items → o ≡ get_or items i o
+    → NoneIsAsked (is_asked log after last) number o.block
+    → (leaf : List ℕ) → Ok leaf ≡ unless_failed
+    (first_cause (opening_causes tests log coin (is_asked log after last o.block) o)) (leaf_of_opening o)
+    → (length leaf == 0) ≡ true
+    → (behind : ℕ) → behind ≡ o.block + 1 → Cleared tests log coin after last openings items (i + 1) behind
+cleared-next {tests} {log} {coin} {after} {last} {openings} {items} {i} {number} cleared o inside is none leaf opens
+    empty behind above-it = record {
+      same = cleared.same;
+      passed = subst (λ (m : ℕ). Passed (failure_of_absence tests log coin after last) openings (drop (i + 1) items) m)
+          (sym above-it)
+          (holding-next (failure_of_absence tests log coin after last) (is_asked log after last) (λ m. refl)
+          openings items last
+          i o number (record { same = cleared.same; inside = inside; is = is }) cleared.passed none
+          (presence-opened tests log coin after last o leaf true opens empty));
+    }
+
+-- a block behind all openings is asked
+pub cleared-behind : {tests : Tests} {log : List RootCall} {coin after last : ℕ} {openings items : List RawOpening}
+    {i number : ℕ} → Cleared tests log coin after last openings items i number → length items ≤ i
+    → (end : ℕ) → end ≡ last + 1 → (n : ℕ) → IsFirstAsked (is_asked log after last) number end n
+    → absence_by tests log coin after last openings ≡ Err (MissingBlock n)
+cleared-behind {tests} {log} {coin} {after} {last} {openings} {items} {i} {number} cleared long end is n first =
+    missing-last (failure_of_absence tests log coin after last) (is_asked log after last) (λ m. refl) openings
+    items last tt i
+    number n long cleared.passed (subst (λ (m : ℕ). IsFirstAsked (is_asked log after last) number m n) is first)
+
+-- none is
+pub cleared-end : {tests : Tests} {log : List RootCall} {coin after last : ℕ} {openings items : List RawOpening}
+    {i number : ℕ} → Cleared tests log coin after last openings items i number → length items ≤ i
+    → (end : ℕ) → end ≡ last + 1 → NoneIsAsked (is_asked log after last) number end
+    → absence_by tests log coin after last openings ≡ Ok tt
+cleared-end {tests} {log} {coin} {after} {last} {openings} {items} {i} {number} cleared long end is none =
+    holding-last (failure_of_absence tests log coin after last) (is_asked log after last) (λ m. refl) openings
+    items last tt i
+    number long cleared.passed (subst (λ (m : ℕ). NoneIsAsked (is_asked log after last) number m) is none)
+    (asked-high log after last)

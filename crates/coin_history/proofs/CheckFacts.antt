@@ -1,0 +1,323 @@
+-- What the check of a bundle rests on: the blocks that are asked for, and the openings that were passed.
+use Rattle.std.proofs.Common.{◌≡◌, ℕ, zero, suc, ◌+◌, ◌<◌, ◌≤◌, ◌==◌, Bool, true, false, if◌then◌else◌, List, [], ◌∷◌, ◌++◌, length, get_or, drop, Option, Some, None, Ok, Err, inl, inr, refl, sym, ap, ◌∙◌, subst, arith}
+use Rattle.std.specs.Prelude.{is_some, nat_lt, Result}
+use Rattle.std.specs.Option.{option_or, option_and_then}
+use Rattle.std.proofs.lemmas.List.{drop_more, drop_all}
+use Rattle.std.proofs.lemmas.Bool.{cases_eq, cases_lt, eq-eqb, ne_eqb, and_parts, false_from_ne_true}
+use Rattle.plasma_tx.specs.declared.call.RootCall.{RootCall}
+use Rattle.plasma_tx.specs.declared.opening.RawOpening.{RawOpening}
+use Rattle.plasma_tx.specs.declared.opening.Opening.{Opening}
+use Rattle.plasma_tx.specs.Openings.{leaf_in, opening_in}
+use Rattle.plasma_tx.proofs.OpeningTexts.{leaf-shown}
+use Rattle.sparse_merkle.specs.MaskedPath.{proof_path}
+use Rattle.sparse_merkle.specs.Opening.{is_opening}
+use Rattle.plasma_tx.specs.declared.views.BlockView.{BlockView}
+use Rattle.plasma_tx.specs.declared.views.CoinView.{CoinView}
+use Rattle.plasma_tx.specs.declared.call.RootCall.TheVariants.{Deposit, Commit}
+use Rattle.plasma_tx.specs.Views.{blocks, coins, block_at, coin_at, new_coin}
+use Rattle.plasma_tx.proofs.Names.{some_same}
+use Rattle.root_rules.specs.Shown.{tests_by, root_at, root_in}
+use Rattle.coin_history.specs.History.{is_committed, opens_block, leaf_of_opening, is_empty, is_absent}
+use Rattle.coin_history.specs.declared.refusal.HistoryRefusal.{HistoryRefusal}
+use Rattle.coin_history.specs.declared.refusal.HistoryRefusal.TheVariants.{MissingBlock}
+use Rattle.coin_history.specs.Bundles.{AreRising}
+use Rattle.coin_history.specs.Checking.{Cause, first_cause, is_asked, opening_at, missing, lowest_failure, above, unless_failed, may_be_tip}
+use Rattle.coin_history.specs.Inside.{NoneIsAsked, IsFirstAsked}
+pub use Rattle.coin_history.proofs.HistoryOpenings.{asked-parts, lowest-none_from, lowest-some_from, Up, up-rising, up-weaker, at-head, past-head, below-none, above-block}
+
+-- ---- the blocks that are asked for
+
+-- none is asked up to low, and none above high
+pub asked-low : (log : List RootCall) (low high n : ℕ) → n ≤ low → is_asked log low high n ≡ false
+asked-low log low high n le = false_from_ne_true (is_asked log low high n)
+    (λ asked. let parts = asked-parts log low high n asked in omega (arith, parts.1))
+
+pub asked-high : (log : List RootCall) (low high n : ℕ) → high < n → is_asked log low high n ≡ false
+asked-high log low high n more = false_from_ne_true (is_asked log low high n)
+    (λ asked. let parts = asked-parts log low high n asked in omega (arith, parts.2))
+
+-- the leaf of an opening that was read and opens the root of its block
+pub open-leaf : (dig : List ℕ → List ℕ) (log : List RootCall) (coin : ℕ) (raw : RawOpening) (root : List ℕ)
+    (opening : Opening) → root_at log raw.block ≡ Some root → opening_in dig raw ≡ Ok opening
+    → is_opening dig root coin opening.leaf (proof_path dig opening.proof) ≡ true
+    → Some opening.leaf ≡ (if opens_block (tests_by dig) log coin raw then Some (leaf_of_opening raw) else None)
+open-leaf dig log coin raw root opening is reads opens =
+    let shown : leaf_in raw.bytes ≡ opening.leaf = leaf-shown dig raw opening reads in
+    rw (is, reads, opens) (ap Some (sym shown))
+
+pub empty-is : (leaf : List ℕ) → is_empty leaf ≡ true → leaf ≡ []
+empty-is [] is = refl
+empty-is (byte ∷ bytes) is = absurd (cc is)
+
+-- a leaf is empty where it has no bytes
+pub empty-from : (leaf : List ℕ) → (length leaf == 0) ≡ is_empty leaf
+empty-from [] = refl
+empty-from (byte ∷ bytes) = ne_eqb (length (byte ∷ bytes)) 0 (λ e. omega arith)
+
+-- the leaf of an opening is empty where it has no bytes
+pub absent-from : (leaf : List ℕ) (opening : RawOpening) (b : Bool) → leaf ≡ leaf_of_opening opening
+    → (length leaf == 0) ≡ b → is_absent opening ≡ b
+absent-from leaf opening b shown is = ap is_empty (sym shown) ∙ sym (empty-from leaf) ∙ is
+
+-- ---- causes
+
+-- the first cause of two lists is the first of the one, or else of the other
+pub first-append : (causes others : List Cause)
+    → first_cause (causes ++ others) ≡ option_or (first_cause causes) (first_cause others)
+first-append [] others = refl
+first-append (cause ∷ causes) others =
+    elim cause.0 as
+    (λ b. (if b then Some cause.1 else first_cause (causes ++ others))
+    ≡ option_or (if b then Some cause.1 else first_cause causes) (first_cause others)) [
+      | true ↦ refl
+      | false ↦ first-append causes others
+    ]
+
+pub first-here : (causes others : List Cause) (why : HistoryRefusal) → first_cause causes ≡ Some why
+    → first_cause (causes ++ others) ≡ Some why
+first-here causes others why is =
+    first-append causes others ∙ ap (λ (o : Option HistoryRefusal). option_or o (first_cause others)) is
+
+pub first-later : (causes others : List Cause) → first_cause causes ≡ None
+    → first_cause (causes ++ others) ≡ first_cause others
+first-later causes others is =
+    first-append causes others ∙ ap (λ (o : Option HistoryRefusal). option_or o (first_cause others)) is
+
+pub refusal-same : {A : Type 0} (why other : HistoryRefusal)
+    → ◌≡◌ {A = Result A HistoryRefusal} (Err why) (Err other) → why ≡ other
+refusal-same why other is = cc
+
+-- what is answered where nothing failed, and what failed where that is answered
+pub failed-none : {A : Type 0} (failure : Option HistoryRefusal) (answer other : A)
+    → unless_failed failure answer ≡ Ok other → (failure ≡ None) × (answer ≡ other)
+failed-none None answer other is = (refl, cc)
+failed-none (Some why) answer other is = absurd (cc is)
+
+pub failed-some : {A : Type 0} (failure : Option HistoryRefusal) (answer : A) (why : HistoryRefusal)
+    → unless_failed failure answer ≡ Err why → failure ≡ Some why
+failed-some None answer why is = absurd (cc is)
+failed-some (Some other) answer why is = cc
+
+-- ---- the lowest failure
+
+-- ---- rising blocks
+
+-- ---- the opening of a block
+
+-- ---- the number above all
+
+pub above-at : (block : ℕ) (openings : List RawOpening) (i : ℕ) (o : RawOpening) → i < length openings
+    → o ≡ get_or openings i o → o.block < above block openings
+unfolding above
+above-at block openings i o less is =
+    subst (λ (x : RawOpening). x.block < above block openings) (sym is) (each openings i less)
+  where
+    each : (os : List RawOpening) (k : ℕ) → k < length os → (get_or os k o).block < above block os
+    each [] k long = absurd (omega arith)
+    each (x ∷ xs) zero long = omega arith
+    each (x ∷ xs) (suc k) long = omega (arith, each xs k (omega arith))
+
+-- ---- openings that were passed
+
+-- Of openings, those before the rest were passed: below this number nothing fails, and at it or above the rest has
+-- the openings.
+pub record Passed (failure : ℕ → Option RawOpening → Option HistoryRefusal) (openings rest : List RawOpening)
+    (passed : ℕ) : Type 0 where
+  pub up : Up passed rest
+  pub found : (n : ℕ) → passed ≤ n → opening_at openings n ≡ opening_at rest n
+  pub clear : (n : ℕ) → n < passed → failure n (opening_at openings n) ≡ None
+
+-- what is left at an index of openings
+pub rest-at : (openings : List RawOpening) (i : ℕ) (o : RawOpening) → i < length openings
+    → o ≡ get_or openings i o → drop i openings ≡ o ∷ drop (i + 1) openings
+rest-at openings i o less is =
+    drop_more openings i o less ∙ ap (λ (x : RawOpening). x ∷ drop (i + 1) openings) (sym is)
+
+module _ (failure : ℕ → Option RawOpening → Option HistoryRefusal) (asked : ℕ → Bool)
+    (unopened : (n : ℕ) → failure n None ≡ missing (asked n) n) (openings : List RawOpening) where
+  pub passed-start : AreRising openings → Passed failure openings openings 0
+  passed-start rising = record {
+    up = up-rising openings rising;
+    found = λ n le. refl;
+    clear = λ n less. absurd (omega arith);
+  }
+
+  unasked : (n : ℕ) → asked n ≡ false → failure n None ≡ None
+  unasked n is = unopened n ∙ ap (λ (b : Bool). missing b n) is
+
+  -- nothing fails below a number where the rest begins there or above, and none was asked between
+  clear-below : (rest : List RawOpening) (passed to : ℕ) → Passed failure openings rest passed → Up to rest
+      → NoneIsAsked asked passed to → (n : ℕ) → n < to → failure n (opening_at openings n) ≡ None
+  clear-below rest passed to are up none n less = elim (cases_lt n passed) [
+    | inl below ↦ are.clear n below
+    | inr more ↦ ap (failure n) (are.found n more ∙ below-none to rest up n less) ∙ unasked n (none n more less)
+  ]
+
+  -- the first block that is asked and passed over is the lowest failure
+  pub refused-missing : (rest : List RawOpening) (passed to n : ℕ) → Passed failure openings rest passed → Up to rest
+      → IsFirstAsked asked passed to n → (top : ℕ) → n < top
+      → lowest_failure (λ m. failure m (opening_at openings m)) top ≡ Some (MissingBlock n)
+  refused-missing rest passed to n are up first top less =
+      lowest-some_from (λ m. failure m (opening_at openings m)) top n (MissingBlock n) less
+      (ap (failure n) (are.found n first.low ∙ below-none to rest up n first.high) ∙ unopened n
+      ∙ ap (λ (b : Bool). missing b n) first.is)
+      (clear-below rest passed n are (up-weaker n to rest (omega (arith, first.high)) up) first.first)
+
+  -- where the next opening fails, that is the lowest failure
+  pub refused-opened : (o : RawOpening) (rest : List RawOpening) (passed : ℕ) (why : HistoryRefusal)
+      → Passed failure openings (o ∷ rest) passed → NoneIsAsked asked passed o.block
+      → failure o.block (Some o) ≡ Some why → (top : ℕ) → o.block < top
+      → lowest_failure (λ m. failure m (opening_at openings m)) top ≡ Some why
+  refused-opened o rest passed why are none fails top less =
+      lowest-some_from (λ m. failure m (opening_at openings m)) top o.block why less
+      (ap (failure o.block) (are.found o.block are.up.0 ∙ at-head o.block o rest refl) ∙ fails)
+      (clear-below (o ∷ rest) passed o.block are (omega arith, are.up.1) none)
+
+  pub passed-next : (o : RawOpening) (rest : List RawOpening) (passed : ℕ)
+      → Passed failure openings (o ∷ rest) passed → NoneIsAsked asked passed o.block
+      → failure o.block (Some o) ≡ None → Passed failure openings rest (o.block + 1)
+  passed-next o rest passed are none holds = record {
+    up = up-weaker (o.block + 1) (suc o.block) rest (omega arith) are.up.1;
+    found = λ n le. are.found n (omega (arith, are.up.0)) ∙ past-head n o rest (λ e. omega arith);
+    clear = λ n less. elim (cases_lt n o.block) [
+      | inl below ↦ clear-below (o ∷ rest) passed o.block are (omega arith, are.up.1) none n below
+      | inr more ↦
+          let e : o.block ≡ n = omega arith in
+          subst (λ (m : ℕ). failure m (opening_at openings m) ≡ None) e
+          (ap (failure o.block) (are.found o.block are.up.0 ∙ at-head o.block o rest refl) ∙ holds)
+    ];
+  }
+
+  -- nothing fails where all were passed and none is asked behind them
+  pub passed-all : (passed to : ℕ) → Passed failure openings [] passed → NoneIsAsked asked passed to
+      → ((n : ℕ) → to ≤ n → asked n ≡ false) → (top : ℕ)
+      → lowest_failure (λ m. failure m (opening_at openings m)) top ≡ None
+  passed-all passed to are none behind top =
+      lowest-none_from (λ m. failure m (opening_at openings m)) top (λ n less. elim (cases_lt n to) [
+        | inl below ↦ clear-below [] passed to are tt none n below
+        | inr more ↦ elim (cases_lt n passed) [
+          | inl low ↦ are.clear n low
+          | inr high ↦ ap (failure n) (are.found n high) ∙ unasked n (behind n more)
+        ]
+      ])
+
+-- the opening at an index of what is gone over, which are these openings
+pub record IsAt (openings items : List RawOpening) (i : ℕ) (o : RawOpening) : Type 0 where
+  pub same : items ≡ openings
+  pub inside : i < length items
+  pub is : o ≡ get_or items i o
+
+module _ (failure : ℕ → Option RawOpening → Option HistoryRefusal) (asked : ℕ → Bool)
+    (unopened : (n : ℕ) → failure n None ≡ missing (asked n) n) (openings items : List RawOpening) (high : ℕ) where
+  pub at-index : (i : ℕ) (o : RawOpening) (passed : ℕ) → IsAt openings items i o
+      → Passed failure openings (drop i items) passed → Passed failure openings (o ∷ drop (i + 1) items) passed
+  at-index i o passed at are =
+      subst (λ (rest : List RawOpening). Passed failure openings rest passed) (rest-at items i o at.inside at.is) are
+
+  at-above : (i : ℕ) (o : RawOpening) → IsAt openings items i o → o.block < above high openings
+  at-above i o at =
+      subst (λ (xs : List RawOpening). o.block < above high xs) at.same (above-at high items i o at.inside at.is)
+
+  -- what is answered where a block before the next opening is asked
+  pub missing-next : {A : Type 0} (answer : A) (i : ℕ) (o : RawOpening) (passed n : ℕ) → IsAt openings items i o
+      → Passed failure openings (drop i items) passed → IsFirstAsked asked passed o.block n
+      → unless_failed (lowest_failure (λ m. failure m (opening_at openings m)) (above high openings)) answer
+      ≡ Err (MissingBlock n)
+  missing-next answer i o passed n at are first =
+      let here = at-index i o passed at are in
+      ap (λ (failed : Option HistoryRefusal). unless_failed failed answer)
+      (refused-missing failure asked unopened openings (o ∷ drop (i + 1) items) passed o.block n here
+      (omega arith, here.up.1) first (above high openings) (omega (arith, first.high, at-above i o at)))
+
+  -- where the next opening fails
+  pub failing-next : {A : Type 0} (answer : A) (i : ℕ) (o : RawOpening) (passed : ℕ) (why : HistoryRefusal)
+      → IsAt openings items i o → Passed failure openings (drop i items) passed
+      → NoneIsAsked asked passed o.block → failure o.block (Some o) ≡ Some why
+      → unless_failed (lowest_failure (λ m. failure m (opening_at openings m)) (above high openings)) answer
+      ≡ Err why
+  failing-next answer i o passed why at are none fails =
+      ap (λ (failed : Option HistoryRefusal). unless_failed failed answer)
+      (refused-opened failure asked unopened openings o (drop (i + 1) items) passed why (at-index i o passed at are)
+      none fails (above high openings) (at-above i o at))
+
+  -- where it doesn't, it is passed
+  pub holding-next : (i : ℕ) (o : RawOpening) (passed : ℕ) → IsAt openings items i o
+      → Passed failure openings (drop i items) passed → NoneIsAsked asked passed o.block
+      → failure o.block (Some o) ≡ None → Passed failure openings (drop (i + 1) items) (o.block + 1)
+  holding-next i o passed at are none holds =
+      passed-next failure asked unopened openings o (drop (i + 1) items) passed (at-index i o passed at are) none holds
+
+  all-passed : (i passed : ℕ) → length items ≤ i → Passed failure openings (drop i items) passed
+      → Passed failure openings [] passed
+  all-passed i passed long are =
+      subst (λ (rest : List RawOpening). Passed failure openings rest passed) (drop_all i items long) are
+
+  -- where a block behind all openings is asked
+  pub missing-last : {A : Type 0} (answer : A) (i passed n : ℕ) → length items ≤ i
+      → Passed failure openings (drop i items) passed → IsFirstAsked asked passed (high + 1) n
+      → unless_failed (lowest_failure (λ m. failure m (opening_at openings m)) (above high openings)) answer
+      ≡ Err (MissingBlock n)
+  missing-last answer i passed n long are first =
+      ap (λ (failed : Option HistoryRefusal). unless_failed failed answer)
+      (refused-missing failure asked unopened openings [] passed (high + 1) n (all-passed i passed long are) tt first
+      (above high openings) (omega (arith, first.high, above-block high openings)))
+
+  -- where none is
+  pub holding-last : {A : Type 0} (answer : A) (i passed : ℕ) → length items ≤ i
+      → Passed failure openings (drop i items) passed → NoneIsAsked asked passed (high + 1)
+      → ((n : ℕ) → high < n → asked n ≡ false)
+      → unless_failed (lowest_failure (λ m. failure m (opening_at openings m)) (above high openings)) answer
+      ≡ Ok answer
+  holding-last answer i passed long are none behind =
+      ap (λ (failed : Option HistoryRefusal). unless_failed failed answer)
+      (passed-all failure asked unopened openings passed (high + 1) (all-passed i passed long are) none
+      (λ n more. behind n (omega arith)) (above high openings))
+
+-- ---- blocks of a log
+
+-- a block that was made is one of the log's, and so is the deposit block of a coin
+block-made : (log : List RootCall) (n : ℕ) (view : BlockView) → block_at log n ≡ Some view → n ≤ blocks log
+unfolding block_at blocks
+block-made [] n view is = absurd (cc is)
+block-made (Deposit account amount key ∷ log) n view is = elim (cases_eq n (blocks log + 1)) [
+  | inl e ↦ omega arith
+  | inr apart ↦
+      let below = block-made log n view (simp (ne_eqb n (blocks log + 1) apart) at is) in omega (arith, below)
+]
+block-made (Commit account root ∷ log) n view is = elim (cases_eq n (blocks log + 1)) [
+  | inl e ↦ omega arith
+  | inr apart ↦
+      let below = block-made log n view (simp (ne_eqb n (blocks log + 1) apart) at is) in omega (arith, below)
+]
+block-made (call ∷ log) n view is = block-made log n view is
+
+deposit-made : (log : List RootCall) (coin : ℕ) (made : CoinView) → coin_at log coin ≡ Some made
+    → made.deposit ≤ blocks log
+unfolding coin_at blocks
+deposit-made [] coin made is = absurd (cc is)
+deposit-made (Deposit account amount key ∷ log) coin made is = elim (cases_eq coin (coins log + 1)) [
+  | inl e ↦ subst (λ (x : CoinView). x.deposit ≤ blocks log + 1)
+      (some_same (new_coin log account amount key) made (simp (eq-eqb coin (coins log + 1) e) at is)) (omega arith)
+  | inr apart ↦
+      let below = deposit-made log coin made (simp (ne_eqb coin (coins log + 1) apart) at is) in omega (arith, below)
+]
+deposit-made (Commit account root ∷ log) coin made is =
+    let below = deposit-made log coin made is in omega (arith, below)
+deposit-made (call ∷ log) coin made is = deposit-made log coin made is
+
+committed-made : (log : List RootCall) (n : ℕ) → is_committed log n ≡ true → n ≤ blocks log
+committed-made log n is =
+    (elim (block_at log n) as (λ view. block_at log n ≡ view → is_some (option_and_then root_in view) ≡ true
+    → n ≤ blocks log) [
+      | None ↦ λ none wrong. absurd (cc wrong)
+      | Some view ↦ λ some committed. block-made log n view some
+    ]) refl is
+
+-- a tip that may be one is a block of the log
+pub tip-made : (log : List RootCall) (coin tip : ℕ) (made : CoinView) → coin_at log coin ≡ Some made
+    → may_be_tip log made.deposit tip ≡ true → tip ≤ blocks log
+tip-made log coin tip made is may = elim (cases_eq tip made.deposit) [
+  | inl e ↦ omega (arith, deposit-made log coin made is)
+  | inr apart ↦ committed-made log tip
+      (and_parts (is_committed log tip) (nat_lt made.deposit tip) (simp (ne_eqb tip made.deposit apart) at may)).0
+]

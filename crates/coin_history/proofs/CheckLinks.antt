@@ -1,0 +1,398 @@
+-- The links of openings that were passed, and what the next opening fails by.
+use Rattle.std.proofs.Common.{◌≡◌, ℕ, suc, ◌+◌, ◌<◌, ◌≤◌, ◌==◌, Bool, true, false, if◌then◌else◌, List, [], ◌∷◌, ◌++◌, length, get_or, drop, Option, Some, None, Ok, Err, refl, sym, ap, ◌∙◌, subst, filter, append_assoc, arith}
+use Rattle.std.specs.Prelude.{nat_lt, Result}
+use Rattle.std.specs.Option.{option_or, option_map, option_to_list}
+use Rattle.std.specs.List.{cons_option}
+use Rattle.std.proofs.lemmas.List.{drop_all, append-nil}
+use Rattle.std.proofs.lemmas.List.Elements.{filter-append}
+use Rattle.std.proofs.lemmas.Bool.{lt-ltb, le-ltb}
+use Rattle.plasma_tx.specs.declared.call.RootCall.{RootCall}
+use Rattle.plasma_tx.specs.declared.opening.RawOpening.{RawOpening}
+use Rattle.plasma_tx.specs.declared.signed_tx.SignedTx.{SignedTx}
+use Rattle.plasma_tx.specs.declared.links.Link.{Link}
+use Rattle.plasma_tx.specs.declared.links.Links.{Links}
+use Rattle.plasma_tx.specs.declared.views.CoinView.{CoinView}
+use Rattle.plasma_tx.specs.Links.{tip_of, last_owner_of}
+use Rattle.plasma_tx.specs.Transfer.{transfer_in}
+use Rattle.plasma_tx.proofs.Leaves.{empty-none}
+use Rattle.root_rules.specs.Shown.{Tests, Rules, spends}
+use Rattle.coin_history.specs.declared.bundle.Bundle.{Bundle}
+use Rattle.coin_history.specs.History.{leaf_of_opening, is_absent, transfer_of, link_of, links_in, links_of}
+use Rattle.coin_history.specs.declared.refusal.HistoryRefusal.{HistoryRefusal}
+use Rattle.coin_history.specs.declared.refusal.HistoryRefusal.TheVariants.{MissingBlock, NotLink, BadSignature}
+use Rattle.coin_history.specs.Bundles.{AreRising}
+use Rattle.coin_history.specs.Checking.{first_cause, is_asked, opening_at, lowest_failure, above, unless_failed, opening_causes, links_before, link_causes, failure_in}
+use Rattle.coin_history.specs.Inside.{NoneIsAsked, IsFirstAsked, links_with}
+use Rattle.coin_history.proofs.CheckFacts.{Up, Passed, IsAt, at-index, rest-at, first-append, failed-none, failed-some, empty-is, missing-next, failing-next, holding-next, missing-last, holding-last, passed-start, asked-high}
+
+-- ---- links
+
+-- the link is before block n
+abbrev pub is_before : ℕ → Link → Bool
+is_before n link = nat_lt link.block n
+
+-- The links of openings are these spends, which those before the rest show, and the links of the rest; so are those
+-- before a block that wasn't passed.
+pub record Collected (rules : Rules) (coin : ℕ) (openings rest : List RawOpening) (passed : ℕ)
+    (spends : List Link) : Type 0 where
+  pub all : links_in rules coin openings ≡ spends ++ links_in rules coin rest
+  pub before : (n : ℕ) → passed ≤ n → filter (is_before n) (links_in rules coin openings)
+      ≡ spends ++ filter (is_before n) (links_in rules coin rest)
+
+pub collected-start : (rules : Rules) (coin : ℕ) (openings : List RawOpening)
+    → Collected rules coin openings openings 0 []
+collected-start rules coin openings = record { all = refl; before = λ n le. refl }
+
+links-cons : (rules : Rules) (coin : ℕ) (o : RawOpening) (rest : List RawOpening)
+    → links_in rules coin (o ∷ rest) ≡ option_to_list (link_of rules coin o) ++ links_in rules coin rest
+unfolding links_in
+links-cons rules coin o rest =
+    elim (link_of rules coin o) as
+    (λ l. cons_option l (links_in rules coin rest) ≡ option_to_list l ++ links_in rules coin rest) [
+      | None ↦ refl
+      | Some link ↦ refl
+    ]
+
+-- of a link that an opening shows, the ones before a number are all where the opening is before it, else none
+filter-of : (rules : Rules) (coin n : ℕ) (o : RawOpening) (b : Bool) → nat_lt o.block n ≡ b
+    → filter (is_before n) (option_to_list (link_of rules coin o))
+    ≡ (if b then option_to_list (link_of rules coin o) else [])
+filter-of rules coin n o b is =
+    elim (transfer_of rules coin o) as
+    (λ t. filter (is_before n)
+    (option_to_list (option_map (λ tx. record { block = o.block; tx = tx; opening = o }) t))
+    ≡ (if b then option_to_list (option_map (λ tx. record { block = o.block; tx = tx; opening = o }) t) else [])) [
+      | None ↦ (elim b as (λ x. ◌≡◌ {A = List Link} [] (if x then [] else [])) [ true ↦ refl | false ↦ refl ])
+      | Some tx ↦
+          let link : Link = record { block = o.block; tx = tx; opening = o } in
+          ap (λ (x : Bool). if x then link ∷ [] else []) is
+    ]
+
+-- links of openings at a block or above are none of those before it
+later-none : (rules : Rules) (coin n low : ℕ) (rest : List RawOpening) → n ≤ low → Up low rest
+    → filter (is_before n) (links_in rules coin rest) ≡ []
+unfolding links_in
+later-none rules coin n low [] le up = refl
+later-none rules coin n low (o ∷ os) le up =
+    let not-before : nat_lt o.block n ≡ false = le-ltb o.block n (omega (arith, up.0)) in
+    ap (filter (is_before n)) (links-cons rules coin o os)
+    ∙ filter-append (is_before n) (option_to_list (link_of rules coin o)) (links_in rules coin os)
+    ∙ ap (λ (xs : List Link). xs ++ filter (is_before n) (links_in rules coin os))
+    (filter-of rules coin n o false not-before)
+    ∙ later-none rules coin n (suc o.block) os (omega (arith, up.0)) up.1
+
+pub collected-next : (rules : Rules) (coin : ℕ) (openings : List RawOpening) (o : RawOpening)
+    (rest : List RawOpening) (passed : ℕ) (spends : List Link)
+    → Collected rules coin openings (o ∷ rest) passed spends → passed ≤ o.block
+    → Collected rules coin openings rest (o.block + 1) (spends ++ option_to_list (link_of rules coin o))
+collected-next rules coin openings o rest passed spends are le = record {
+  all = are.all ∙ ap (λ (xs : List Link). spends ++ xs) (links-cons rules coin o rest)
+      ∙ sym (append_assoc spends (option_to_list (link_of rules coin o)) (links_in rules coin rest));
+  before = λ n more.
+      let is-before : nat_lt o.block n ≡ true = lt-ltb o.block n (omega arith) in
+      are.before n (omega arith)
+      ∙ ap (λ (xs : List Link). spends ++ xs)
+      (ap (filter (is_before n)) (links-cons rules coin o rest)
+      ∙ filter-append (is_before n) (option_to_list (link_of rules coin o))
+      (links_in rules coin rest)
+      ∙ ap (λ (xs : List Link). xs ++ filter (is_before n) (links_in rules coin rest))
+      (filter-of rules coin n o true is-before))
+      ∙ sym (append_assoc spends (option_to_list (link_of rules coin o))
+      (filter (is_before n) (links_in rules coin rest)));
+}
+
+-- the links before the next opening's block are the spends
+pub links-at : (rules : Rules) (made : CoinView) (bundle : Bundle) (o : RawOpening) (rest : List RawOpening)
+    (passed : ℕ) (spends : List Link) → Collected rules bundle.coin bundle.openings (o ∷ rest) passed spends
+    → Up passed (o ∷ rest)
+    → links_before o.block (links_of rules made bundle) ≡ links_with bundle.coin made spends
+links-at rules made bundle o rest passed spends are up =
+    ap (links_with bundle.coin made)
+    (are.before o.block up.0
+    ∙ ap (λ (xs : List Link). spends ++ xs)
+    (later-none rules bundle.coin o.block o.block (o ∷ rest) (omega arith) (omega arith, up.1))
+    ∙ append-nil spends)
+
+-- what the next opening fails by, after the spends before it
+pub failure-at : (tests : Tests) (rules : Rules) (log : List RootCall) (made : CoinView) (bundle : Bundle)
+    (o : RawOpening) (rest : List RawOpening) (passed : ℕ) (spends : List Link)
+    → Collected rules bundle.coin bundle.openings (o ∷ rest) passed spends → Up passed (o ∷ rest)
+    → failure_in tests rules log bundle.tip (links_of rules made bundle) o.block (Some o)
+    ≡ option_or
+    (first_cause (opening_causes tests log bundle.coin (is_asked log made.deposit bundle.tip o.block) o))
+    (first_cause (link_causes tests rules bundle.tip (links_with bundle.coin made spends) o))
+failure-at tests rules log made bundle o rest passed spends are up =
+    first-append (opening_causes tests log bundle.coin (is_asked log made.deposit bundle.tip o.block) o)
+    (link_causes tests rules bundle.tip (links_before o.block (links_of rules made bundle)) o)
+    ∙ ap (λ (links : Links). option_or
+    (first_cause (opening_causes tests log bundle.coin (is_asked log made.deposit bundle.tip o.block) o))
+    (first_cause (link_causes tests rules bundle.tip links o)))
+    (links-at rules made bundle o rest passed spends are up)
+
+-- ---- the next link
+
+-- what an opening fails by as the next link, and the transfer that it shows where it doesn't fail
+abbrev pub next_of : Tests → Rules → ℕ → Links → RawOpening → Result (Option SignedTx) HistoryRefusal
+next_of tests rules tip before opening =
+    unless_failed (first_cause (link_causes tests rules tip before opening)) (transfer_of rules before.coin opening)
+
+module _ (tests : Tests) (rules : Rules) (tip : ℕ) (before : Links) (opening : RawOpening) where
+  pub next-absent : is_absent opening ≡ true → (opening.block == tip) ≡ false
+      → next_of tests rules tip before opening ≡ Ok None
+  next-absent is other =
+      let none : transfer_of rules before.coin opening ≡ None =
+      ap (transfer_in rules.tag before.coin opening.block) (empty-is (leaf_of_opening opening) is)
+      ∙ empty-none rules.tag before.coin opening.block in
+      rw (is, other) (ap Ok none)
+
+  pub next-apart : is_absent opening ≡ false → spends (tip_of before) (transfer_of rules before.coin opening) ≡ false
+      → next_of tests rules tip before opening ≡ Err (NotLink opening.block)
+  next-apart is apart = rw (is, apart)
+
+  pub next-unsigned : (tx : SignedTx) → is_absent opening ≡ false → transfer_of rules before.coin opening ≡ Some tx
+      → (tx.body.parent == tip_of before) ≡ true → tests.is_signed tx (last_owner_of before) ≡ false
+      → next_of tests rules tip before opening ≡ Err (BadSignature opening.block)
+  next-unsigned tx is shown spends-it unsigned = rw (is, shown, spends-it, unsigned)
+
+  pub next-link : (tx : SignedTx) → is_absent opening ≡ false → transfer_of rules before.coin opening ≡ Some tx
+      → (tx.body.parent == tip_of before) ≡ true → tests.is_signed tx (last_owner_of before) ≡ true
+      → next_of tests rules tip before opening ≡ Ok (Some tx)
+  next-link tx is shown spends-it signed = rw (is, shown, spends-it, signed)
+
+-- the transfer that was read from an opening's leaf
+pub transfer-from : (rules : Rules) (coin : ℕ) (opening : RawOpening) (tag leaf : List ℕ) (read : Option SignedTx)
+    (tx : SignedTx) → tag ≡ rules.tag → leaf ≡ leaf_of_opening opening
+    → read ≡ transfer_in tag coin opening.block leaf → read ≡ Some tx → transfer_of rules coin opening ≡ Some tx
+transfer-from rules coin opening tag leaf read tx tag-is leaf-is read-is some =
+    let same : transfer_in tag coin opening.block leaf ≡ transfer_of rules coin opening =
+    λ i. transfer_in (tag-is i) coin opening.block (leaf-is i) in
+    sym same ∙ sym read-is ∙ some
+
+-- ---- the next opening of a history
+
+module _ (tests : Tests) (rules : Rules) (log : List RootCall) (made : CoinView) (bundle : Bundle)
+    (items : List RawOpening) (i : ℕ) (o : RawOpening) (passed : ℕ) (spends : List Link)
+    (place : IsAt bundle.openings items i o)
+    (are : Passed (failure_in tests rules log bundle.tip (links_of rules made bundle)) bundle.openings (drop i items)
+    passed)
+    (collected : Collected rules bundle.coin bundle.openings (drop i items) passed spends) where
+  here : Passed (failure_in tests rules log bundle.tip (links_of rules made bundle)) bundle.openings
+      (o ∷ drop (i + 1) items) passed
+  here = at-index (failure_in tests rules log bundle.tip (links_of rules made bundle))
+      (is_asked log made.deposit bundle.tip) (λ n. refl) bundle.openings items bundle.tip i o passed place are
+
+  links-here : Collected rules bundle.coin bundle.openings (o ∷ drop (i + 1) items) passed spends
+  links-here = subst (λ (rest : List RawOpening). Collected rules bundle.coin bundle.openings rest passed spends)
+      (rest-at items i o place.inside place.is) collected
+
+  -- it fails by the causes of every opening, or else as the next link after the spends
+  failure-next : failure_in tests rules log bundle.tip (links_of rules made bundle) o.block (Some o)
+      ≡ option_or
+      (first_cause (opening_causes tests log bundle.coin (is_asked log made.deposit bundle.tip o.block) o))
+      (first_cause (link_causes tests rules bundle.tip (links_with bundle.coin made spends) o))
+  failure-next =
+      failure-at tests rules log made bundle o (drop (i + 1) items) passed spends links-here here.up
+
+  pub fails-opened : (leaf : List ℕ) (why : HistoryRefusal) → unless_failed
+      (first_cause (opening_causes tests log bundle.coin (is_asked log made.deposit bundle.tip o.block) o)) leaf
+      ≡ Err why → failure_in tests rules log bundle.tip (links_of rules made bundle) o.block (Some o) ≡ Some why
+  fails-opened leaf why is =
+      failure-next ∙ ap (λ (f : Option HistoryRefusal). option_or f
+      (first_cause (link_causes tests rules bundle.tip (links_with bundle.coin made spends) o)))
+      (failed-some (first_cause
+      (opening_causes tests log bundle.coin (is_asked log made.deposit bundle.tip o.block) o)) leaf why is)
+
+  -- where it opens, it fails as the next link does
+  pub fails-linked : (leaf read : List ℕ) → unless_failed
+      (first_cause (opening_causes tests log bundle.coin (is_asked log made.deposit bundle.tip o.block) o)) leaf
+      ≡ Ok read → failure_in tests rules log bundle.tip (links_of rules made bundle) o.block (Some o)
+      ≡ first_cause (link_causes tests rules bundle.tip (links_with bundle.coin made spends) o)
+  fails-linked leaf read is =
+      failure-next ∙ ap (λ (f : Option HistoryRefusal). option_or f
+      (first_cause (link_causes tests rules bundle.tip (links_with bundle.coin made spends) o)))
+      (failed-none (first_cause
+      (opening_causes tests log bundle.coin (is_asked log made.deposit bundle.tip o.block) o)) leaf read is).0
+
+  pub collected-past : Collected rules bundle.coin bundle.openings (drop (i + 1) items) (o.block + 1)
+      (spends ++ option_to_list (link_of rules bundle.coin o))
+  collected-past = collected-next rules bundle.coin bundle.openings o (drop (i + 1) items) passed spends links-here
+      here.up.0
+
+-- the link of an opening that shows a transfer
+abbrev pub as_link : RawOpening → SignedTx → Link
+as_link opening tx = record { block = opening.block; tx = tx; opening = opening }
+
+-- the links of a bundle whose openings were all passed
+pub collected-all : (rules : Rules) (made : CoinView) (bundle : Bundle) (items : List RawOpening) (i passed : ℕ)
+    (spends : List Link) → length items ≤ i
+    → Collected rules bundle.coin bundle.openings (drop i items) passed spends
+    → links_with bundle.coin made spends ≡ links_of rules made bundle
+unfolding links_in
+collected-all rules made bundle items i passed spends long are =
+    let past : Collected rules bundle.coin bundle.openings [] passed spends =
+    subst (λ (rest : List RawOpening). Collected rules bundle.coin bundle.openings rest passed spends)
+    (drop_all i items long) are in
+    ap (links_with bundle.coin made) (sym (past.all ∙ append-nil spends))
+
+-- ---- a history, opening by opening
+
+-- what is answered of a bundle whose tip may be one
+abbrev pub answer_of : Tests → Rules → List RootCall → CoinView → Bundle → Result Links HistoryRefusal
+answer_of tests rules log made bundle =
+    unless_failed
+    (lowest_failure
+    (λ n. failure_in tests rules log bundle.tip (links_of rules made bundle) n (opening_at bundle.openings n))
+    (above bundle.tip bundle.openings))
+    (links_of rules made bundle)
+
+-- Of what is gone over, which are the bundle's openings, so many were passed: nothing fails below this number, and
+-- they show these spends.
+pub record Walked (tests : Tests) (rules : Rules) (log : List RootCall) (made : CoinView) (bundle : Bundle)
+    (items : List RawOpening) (i number : ℕ) (spends : List Link) : Type 0 where
+  pub same : items ≡ bundle.openings
+  pub passed : Passed (failure_in tests rules log bundle.tip (links_of rules made bundle)) bundle.openings
+      (drop i items) number
+  pub collected : Collected rules bundle.coin bundle.openings (drop i items) number spends
+
+pub walked-start : (tests : Tests) (rules : Rules) (log : List RootCall) (made : CoinView) (bundle : Bundle)
+    (items : List RawOpening) (spends : List Link) → AreRising bundle.openings → items ≡ bundle.openings
+    → spends ≡ [] → Walked tests rules log made bundle items 0 0 spends
+walked-start tests rules log made bundle items spends rising same none = record {
+  same = same;
+  passed = subst
+      (λ (xs : List RawOpening). Passed (failure_in tests rules log bundle.tip (links_of rules made bundle))
+      bundle.openings xs 0) (sym same)
+      (passed-start (failure_in tests rules log bundle.tip (links_of rules made bundle))
+      (is_asked log made.deposit bundle.tip) (λ n. refl) bundle.openings rising);
+  collected = subst (λ (xs : List RawOpening). Collected rules bundle.coin bundle.openings xs 0 spends) (sym same)
+      (subst (λ (xs : List Link). Collected rules bundle.coin bundle.openings bundle.openings 0 xs) (sym none)
+      (collected-start rules bundle.coin bundle.openings));
+}
+
+-- a block before the next opening is asked
+pub walked-missing : {tests : Tests} {rules : Rules} {log : List RootCall} {made : CoinView} {bundle : Bundle}
+    {items : List RawOpening} {i number : ℕ} {spends : List Link}
+    → Walked tests rules log made bundle items i number spends
+    → (o : RawOpening) → i < length items → o ≡ get_or items i o
+    → (n : ℕ) → IsFirstAsked (is_asked log made.deposit bundle.tip) number o.block n
+    → answer_of tests rules log made bundle ≡ Err (MissingBlock n)
+walked-missing {tests} {rules} {log} {made} {bundle} {items} {i} {number} walked o inside is n first =
+    missing-next (failure_in tests rules log bundle.tip (links_of rules made bundle))
+    (is_asked log made.deposit bundle.tip) (λ m. refl) bundle.openings items bundle.tip (links_of rules made
+    bundle) i o
+    number n (record { same = walked.same; inside = inside; is = is }) walked.passed first
+
+-- the next opening isn't asked, or doesn't open its block's root
+pub walked-unopened : {tests : Tests} {rules : Rules} {log : List RootCall} {made : CoinView} {bundle : Bundle}
+    {items : List RawOpening} {i number : ℕ} {spends : List Link}
+    → Walked tests rules log made bundle items i number spends
+    → (o : RawOpening) → i < length items → o ≡ get_or items i o
+    → NoneIsAsked (is_asked log made.deposit bundle.tip) number o.block
+    → (why : HistoryRefusal) → Err why ≡ unless_failed
+    (first_cause (opening_causes tests log bundle.coin (is_asked log made.deposit bundle.tip o.block) o))
+    (leaf_of_opening o)
+    → answer_of tests rules log made bundle ≡ Err why
+walked-unopened {tests} {rules} {log} {made} {bundle} {items} {i} {number} {spends} walked o inside is none why fails =
+    let place : IsAt bundle.openings items i o = record { same = walked.same; inside = inside; is = is } in
+    failing-next (failure_in tests rules log bundle.tip (links_of rules made bundle))
+    (is_asked log made.deposit bundle.tip) (λ m. refl) bundle.openings items bundle.tip (links_of rules made
+    bundle) i o
+    number why place walked.passed none
+    (fails-opened tests rules log made bundle items i o number spends place walked.passed walked.collected
+    (leaf_of_opening o) why (sym fails))
+
+-- the next opening opens the root, and isn't the next link
+pub walked-unlinked : {tests : Tests} {rules : Rules} {log : List RootCall} {made : CoinView} {bundle : Bundle}
+    {items : List RawOpening} {i number : ℕ} {spends : List Link}
+    → Walked tests rules log made bundle items i number spends
+    → (o : RawOpening) → i < length items → o ≡ get_or items i o
+    → NoneIsAsked (is_asked log made.deposit bundle.tip) number o.block
+    → (leaf : List ℕ) → Ok leaf ≡ unless_failed
+    (first_cause (opening_causes tests log bundle.coin (is_asked log made.deposit bundle.tip o.block) o))
+    (leaf_of_opening o)
+    → (lent : List Link) → lent ≡ spends
+    → (why : HistoryRefusal) → Err why ≡ next_of tests rules bundle.tip (links_with bundle.coin made lent) o
+    → answer_of tests rules log made bundle ≡ Err why
+walked-unlinked {tests} {rules} {log} {made} {bundle} {items} {i} {number} {spends} walked o inside is none leaf opens
+    lent equal why fails =
+    let place : IsAt bundle.openings items i o = record { same = walked.same; inside = inside; is = is } in
+    failing-next (failure_in tests rules log bundle.tip (links_of rules made bundle))
+    (is_asked log made.deposit bundle.tip) (λ m. refl) bundle.openings items bundle.tip (links_of rules made
+    bundle) i o
+    number why place walked.passed none
+    (fails-linked tests rules log made bundle items i o number spends place walked.passed walked.collected
+    (leaf_of_opening o) leaf (sym opens)
+    ∙ ap (λ (xs : List Link). first_cause (link_causes tests rules bundle.tip (links_with bundle.coin made xs) o))
+    (sym equal)
+    ∙ failed-some (first_cause (link_causes tests rules bundle.tip (links_with bundle.coin made lent) o))
+    (transfer_of rules bundle.coin o) why (sym fails))
+
+-- the next opening opens the root, and is empty or the next link
+pub walked-next : {tests : Tests} {rules : Rules} {log : List RootCall} {made : CoinView} {bundle : Bundle}
+    {items : List RawOpening} {i number : ℕ} {spends : List Link}
+    → Walked tests rules log made bundle items i number spends
+    → (o : RawOpening) → i < length items → o ≡ get_or items i o
+    → NoneIsAsked (is_asked log made.deposit bundle.tip) number o.block
+    → (leaf : List ℕ) → Ok leaf ≡ unless_failed
+    (first_cause (opening_causes tests log bundle.coin (is_asked log made.deposit bundle.tip o.block) o))
+    (leaf_of_opening o)
+    → (lent : List Link) → lent ≡ spends
+    → (next : Option SignedTx) → Ok next ≡ next_of tests rules bundle.tip (links_with bundle.coin made lent) o
+    → (grown : List Link) → grown ≡ spends ++ option_to_list (option_map (as_link o) next)
+    → (behind : ℕ) → behind ≡ o.block + 1 → Walked tests rules log made bundle items (i + 1) behind grown
+walked-next {tests} {rules} {log} {made} {bundle} {items} {i} {number} {spends} walked o inside is none leaf opens
+    lent equal next holds grown adds behind after =
+    let place : IsAt bundle.openings items i o = record { same = walked.same; inside = inside; is = is } in
+    let linked = failed-none (first_cause (link_causes tests rules bundle.tip (links_with bundle.coin made lent) o))
+    (transfer_of rules bundle.coin o) next (sym holds) in
+    let gives : grown ≡ spends ++ option_to_list (link_of rules bundle.coin o) =
+    adds ∙ ap (λ (t : Option SignedTx). spends ++ option_to_list (option_map (as_link o) t)) (sym linked.1) in
+    record {
+      same = walked.same;
+      passed = subst
+          (λ (m : ℕ). Passed (failure_in tests rules log bundle.tip (links_of rules made bundle)) bundle.openings
+          (drop (i + 1) items) m) (sym after)
+          (holding-next (failure_in tests rules log bundle.tip (links_of rules made bundle))
+          (is_asked log made.deposit bundle.tip) (λ m. refl) bundle.openings items bundle.tip i o number place
+          walked.passed none
+          (fails-linked tests rules log made bundle items i o number spends place walked.passed walked.collected
+          (leaf_of_opening o) leaf (sym opens)
+          ∙ ap (λ (xs : List Link). first_cause (link_causes tests rules bundle.tip
+          (links_with bundle.coin made xs) o)) (sym equal)
+          ∙ linked.0));
+      collected = subst
+          (λ (m : ℕ). Collected rules bundle.coin bundle.openings (drop (i + 1) items) m grown) (sym after)
+          (subst (λ (xs : List Link). Collected rules bundle.coin bundle.openings (drop (i + 1) items) (o.block +
+          1) xs)
+          (sym gives)
+          (collected-past tests rules log made bundle items i o number spends place walked.passed walked.collected));
+    }
+
+-- a block behind all openings is asked
+pub walked-behind : {tests : Tests} {rules : Rules} {log : List RootCall} {made : CoinView} {bundle : Bundle}
+    {items : List RawOpening} {i number : ℕ} {spends : List Link}
+    → Walked tests rules log made bundle items i number spends → length items ≤ i
+    → (end : ℕ) → end ≡ bundle.tip + 1
+    → (n : ℕ) → IsFirstAsked (is_asked log made.deposit bundle.tip) number end n
+    → answer_of tests rules log made bundle ≡ Err (MissingBlock n)
+walked-behind {tests} {rules} {log} {made} {bundle} {items} {i} {number} walked long end after n first =
+    missing-last (failure_in tests rules log bundle.tip (links_of rules made bundle))
+    (is_asked log made.deposit bundle.tip) (λ m. refl) bundle.openings items bundle.tip (links_of rules made bundle) i
+    number n long walked.passed
+    (subst (λ (m : ℕ). IsFirstAsked (is_asked log made.deposit bundle.tip) number m n) after first)
+
+-- none is
+pub walked-end : {tests : Tests} {rules : Rules} {log : List RootCall} {made : CoinView} {bundle : Bundle}
+    {items : List RawOpening} {i number : ℕ} {spends : List Link}
+    → Walked tests rules log made bundle items i number spends → length items ≤ i
+    → (end : ℕ) → end ≡ bundle.tip + 1 → NoneIsAsked (is_asked log made.deposit bundle.tip) number end
+    → (all : List Link) → all ≡ spends
+    → answer_of tests rules log made bundle ≡ Ok (links_with bundle.coin made all)
+walked-end {tests} {rules} {log} {made} {bundle} {items} {i} {number} {spends} walked long end after none all equal =
+    holding-last (failure_in tests rules log bundle.tip (links_of rules made bundle))
+    (is_asked log made.deposit bundle.tip) (λ m. refl) bundle.openings items bundle.tip (links_of rules made bundle) i
+    number long walked.passed
+    (subst (λ (m : ℕ). NoneIsAsked (is_asked log made.deposit bundle.tip) number m) after none)
+    (asked-high log made.deposit bundle.tip)
+    ∙ ap Ok (sym (ap (links_with bundle.coin made) equal
+    ∙ collected-all rules made bundle items i number spends long walked.collected))

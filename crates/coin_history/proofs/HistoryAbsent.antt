@@ -1,0 +1,147 @@
+-- The check passes a bundle exactly where it shows that its coin is absent.
+use Rattle.std.proofs.Common.{◌≡◌, ℕ, suc, ◌<◌, ◌==◌, not, Bool, true, false, if◌then◌else◌, List, [], ◌∷◌, ◌++◌, Option, Some, None, Err, refl, sym, ap, ◌∙◌, subst, arith}
+use Rattle.std.specs.List.{AllByRecursion}
+use Rattle.std.proofs.lemmas.Bool.{eqb-true, eq-eqb, true≢false, false_from_ne_true, not-false}
+use Rattle.std.proofs.lemmas.List.Elements.{recursion_from_All, All-from_recursion}
+use Rattle.plasma_tx.specs.declared.opening.RawOpening.{RawOpening}
+use Rattle.plasma_tx.specs.declared.call.RootCall.{RootCall}
+use Rattle.root_rules.specs.Shown.{Tests}
+use Rattle.coin_history.specs.declared.refusal.HistoryRefusal.{HistoryRefusal}
+use Rattle.coin_history.specs.declared.refusal.HistoryRefusal.TheVariants.{UnknownBlock, NotAbsent}
+use Rattle.coin_history.specs.Bundles.{AreRising}
+use Rattle.coin_history.specs.History.{opens_block, is_absent}
+use Rattle.coin_history.specs.Checking.{is_asked, opening_at, missing, opening_causes, lowest_failure, above, unless_failed, failure_of_absence, absence_of}
+use Rattle.coin_history.specs.Laws.{OnlyAbsencesPass, AbsencesPass}
+use Rattle.coin_history.proofs.HistoryOpenings.{Up, opening-own, opening-between, lowest-none, lowest-none_from, up-rising, each-found, found-each, above-block, found-below, asked-parts, AreAsked, are-asked, blocks-from_asked, asked-from_blocks, found-block}
+use Rattle.coin_history.proofs.HistoryLinks.{every-weaker}
+use Rattle.coin_history.proofs.HistoryFound.{causes-none, none-causes, missing-none, answered}
+
+-- ---- absences
+
+-- nothing is wrong with an opening of absences
+pub record IsAbsentRight (tests : Tests) (log : List RootCall) (coin after last : ℕ) (o : RawOpening) : Type 0 where
+  pub asked : is_asked log after last o.block ≡ true
+  pub opens : opens_block tests log coin o ≡ true
+  pub absent : is_absent o ≡ true
+
+module _ (tests : Tests) (log : List RootCall) (coin after last : ℕ) where
+  pub absent-from_none : (o : RawOpening) → failure_of_absence tests log coin after last o.block (Some o) ≡ None
+      → IsAbsentRight tests log coin after last o
+  absent-from_none o is =
+      let all = causes-none (opening_causes tests log coin (is_asked log after last o.block) o
+      ++ (not (is_absent o), NotAbsent o.block) ∷ []) is in
+      record {
+        asked = not-false (is_asked log after last o.block) all.0;
+        opens = not-false (opens_block tests log coin o) all.1.0;
+        absent = not-false (is_absent o) all.1.1.0;
+      }
+
+  pub none-from_absent : (o : RawOpening) → IsAbsentRight tests log coin after last o
+      → failure_of_absence tests log coin after last o.block (Some o) ≡ None
+  none-from_absent o right =
+      none-causes (opening_causes tests log coin (is_asked log after last o.block) o
+      ++ (not (is_absent o), NotAbsent o.block) ∷ [])
+      (ap not right.asked, (ap not right.opens, (ap not right.absent, tt)))
+
+module _ (tests : Tests) (log : List RootCall) (coin after last : ℕ) (openings : List RawOpening) where
+  pub absent-each : AreRising openings
+      → ((n : ℕ) → n < above last openings
+      → failure_of_absence tests log coin after last n (opening_at openings n) ≡ None)
+      → AllByRecursion (IsAbsentRight tests log coin after last) openings
+  absent-each rising none =
+      each-found (IsAbsentRight tests log coin after last) 0 openings (up-rising openings rising)
+      (λ n o found.
+      let at = found-block openings n o found in
+      absent-from_none tests log coin after last o
+      (subst (λ (k : ℕ). failure_of_absence tests log coin after last k (Some o) ≡ None) (sym at)
+      (ap (failure_of_absence tests log coin after last n) (sym found)
+      ∙ none n (found-below last openings n o found))))
+
+  pub absent-asked : AreRising openings
+      → ((n : ℕ) → n < above last openings
+      → failure_of_absence tests log coin after last n (opening_at openings n) ≡ None)
+      → AreAsked log after last openings
+  absent-asked rising none =
+      let asked = every-weaker (IsAbsentRight tests log coin after last) (λ o. is_asked log after last o.block ≡ true)
+      (λ o is. is.asked) openings (absent-each rising none) in
+      are-asked log after last openings rising asked
+      (λ n absent. false_from_ne_true (is_asked log after last n)
+      (λ is. let parts = asked-parts log after last n is in
+      true≢false (sym is ∙ missing-none (is_asked log after last n) n
+      (ap (failure_of_absence tests log coin after last n) (sym absent)
+      ∙ none n (omega (arith, parts.2, above-block last openings))))))
+
+  -- where each opening is right, and each block without one isn't asked, nothing fails
+  pub none-present : AllByRecursion (IsAbsentRight tests log coin after last) openings
+      → ((n : ℕ) → opening_at openings n ≡ None → is_asked log after last n ≡ false)
+      → (n : ℕ) → failure_of_absence tests log coin after last n (opening_at openings n) ≡ None
+  none-present right other n =
+      (elim (opening_at openings n) as (λ o. opening_at openings n ≡ o
+      → failure_of_absence tests log coin after last n o ≡ None) [
+        | None ↦ λ absent. ap (λ (b : Bool). missing b n) (other n absent)
+        | Some x ↦ λ found.
+            let r = found-each (IsAbsentRight tests log coin after last) openings n x right found in
+            subst (λ (k : ℕ). failure_of_absence tests log coin after last k (Some x) ≡ None) r.0
+            (none-from_absent tests log coin after last x r.1)
+      ]) refl
+
+-- what is wrong at the block of an opening of rising ones, and at a block between two that follow each other
+pub presence-at : (tests : Tests) (log : List RootCall) (coin after last : ℕ)
+    (front : List RawOpening) (o : RawOpening) (rest : List RawOpening) → AreRising (front ++ o ∷ rest)
+    → failure_of_absence tests log coin after last o.block (opening_at (front ++ o ∷ rest) o.block)
+    ≡ failure_of_absence tests log coin after last o.block (Some o)
+presence-at tests log coin after last front o rest rising =
+    ap (failure_of_absence tests log coin after last o.block) (opening-own front o rest rising)
+
+pub presence-between : (tests : Tests) (log : List RootCall) (coin after last : ℕ)
+    (front rest : List RawOpening) (n : ℕ) → AllByRecursion (λ o. o.block < n) front → Up (suc n) rest
+    → failure_of_absence tests log coin after last n (opening_at (front ++ rest) n)
+    ≡ missing (is_asked log after last n) n
+presence-between tests log coin after last front rest n less up =
+    ap (failure_of_absence tests log coin after last n) (opening-between front rest n less up)
+
+every-absent : (tests : Tests) (log : List RootCall) (coin after last : ℕ) (os : List RawOpening)
+    → AllByRecursion (λ o. is_asked log after last o.block ≡ true) os
+    → AllByRecursion (λ o. opens_block tests log coin o ≡ true) os
+    → AllByRecursion (λ o. is_absent o ≡ true) os
+    → AllByRecursion (IsAbsentRight tests log coin after last) os
+every-absent tests log coin after last [] asked opens absent = tt
+every-absent tests log coin after last (o ∷ os) asked opens absent = (
+  record { asked = asked.0; opens = opens.0; absent = absent.0 },
+  every-absent tests log coin after last os asked.1 opens.1 absent.1,
+)
+
+pub absences_are_found : OnlyAbsencesPass
+unfolding absence_of
+absences_are_found tests log after last bundle rising is =
+    let failures = λ (n : ℕ). failure_of_absence tests log bundle.coin after last n (opening_at bundle.openings n) in
+    let parts = answered (bundle.tip == last) (lowest_failure failures (above last bundle.openings)) tt tt
+    (UnknownBlock bundle.tip) is in
+    let none = lowest-none failures (above last bundle.openings) parts.1 in
+    let right = absent-each tests log bundle.coin after last bundle.openings rising none in (
+      eqb-true bundle.tip last parts.0,
+      record {
+        blocks = blocks-from_asked log after last bundle.openings
+            (absent-asked tests log bundle.coin after last bundle.openings rising none);
+        opened = All-from_recursion (λ o. opens_block tests log bundle.coin o ≡ true) bundle.openings
+            (every-weaker (IsAbsentRight tests log bundle.coin after last)
+            (λ o. opens_block tests log bundle.coin o ≡ true) (λ o r. r.opens) bundle.openings right);
+        empty = All-from_recursion (λ o. is_absent o ≡ true) bundle.openings
+            (every-weaker (IsAbsentRight tests log bundle.coin after last) (λ o. is_absent o ≡ true)
+            (λ o r. r.absent) bundle.openings right);
+      },
+    )
+
+pub absences_pass : AbsencesPass
+unfolding absence_of
+absences_pass tests log after last bundle e is =
+    let failures = λ (n : ℕ). failure_of_absence tests log bundle.coin after last n (opening_at bundle.openings n) in
+    let asked = asked-from_blocks log after last bundle.openings is.blocks in
+    let right = every-absent tests log bundle.coin after last bundle.openings asked.each
+    (recursion_from_All (λ o. opens_block tests log bundle.coin o ≡ true) bundle.openings is.opened)
+    (recursion_from_All (λ o. is_absent o ≡ true) bundle.openings is.empty) in
+    let none = lowest-none_from failures (above last bundle.openings)
+    (λ n less. none-present tests log bundle.coin after last bundle.openings right asked.other n) in
+    ap (λ (b : Bool). if b then unless_failed (lowest_failure failures (above last bundle.openings)) tt
+    else Err (UnknownBlock bundle.tip)) (eq-eqb bundle.tip last e)
+    ∙ ap (λ (o : Option HistoryRefusal). unless_failed o tt) none

@@ -1,0 +1,309 @@
+-- The check answers a bundle its links exactly where it is a history with these links.
+use Rattle.std.proofs.Common.{◌≡◌, ℕ, suc, ◌<◌, ◌≤◌, ◌==◌, ◌&&◌, not, Bool, true, false, if◌then◌else◌, List, [], ◌∷◌, ◌++◌, Option, Some, None, Ok, Err, inl, inr, refl, sym, ap, ◌∙◌, subst, arith, filter}
+use Rattle.std.specs.Prelude.{is_some, nat_lt, ◌||◌}
+use Rattle.std.specs.List.{AllByRecursion}
+use Rattle.std.proofs.lemmas.Bool.{eqb-true, eq-eqb, and_from, or_cases, or_right, lt-ltb, le-leb, true≢false, false_from_ne_true, not-false}
+use Rattle.std.proofs.lemmas.List.Elements.{recursion_from_All, All-from_recursion}
+use Rattle.plasma_tx.specs.declared.opening.RawOpening.{RawOpening}
+use Rattle.plasma_tx.specs.declared.signed_tx.SignedTx.{SignedTx}
+use Rattle.plasma_tx.specs.declared.links.Link.{Link}
+use Rattle.plasma_tx.specs.declared.links.Links.{Links}
+use Rattle.plasma_tx.specs.declared.call.RootCall.{RootCall}
+use Rattle.plasma_tx.specs.declared.views.CoinView.{CoinView}
+use Rattle.plasma_tx.specs.Links.{tip_of}
+use Rattle.plasma_tx.specs.Views.{coin_at}
+use Rattle.plasma_tx.proofs.Names.{some_same}
+use Rattle.root_rules.specs.Shown.{Tests, Rules, spends}
+use Rattle.coin_history.specs.declared.bundle.Bundle.{Bundle}
+use Rattle.coin_history.specs.declared.refusal.HistoryRefusal.{HistoryRefusal}
+use Rattle.coin_history.specs.declared.refusal.HistoryRefusal.TheVariants.{UnknownBlock}
+use Rattle.coin_history.specs.Bundles.{AreRising}
+use Rattle.coin_history.specs.History.{is_committed, opens_block, is_absent, transfer_of, links_in, links_of, AreLinked, IsHistory}
+use Rattle.coin_history.specs.Checking.{Cause, first_cause, is_asked, opening_at, missing, opening_causes, links_before, is_next, is_next_signed, link_causes, failure_in, lowest_failure, above, unless_failed, may_be_tip, checked, where_made, history_of}
+use Rattle.coin_history.specs.Laws.{OnlyHistoriesPass, HistoriesPass}
+use Rattle.coin_history.proofs.HistoryOpenings.{Up, opening-own, opening-between, lowest-none, lowest-none_from, Up, up-rising, up-each, each-found, found-each, above-block, found-below, asked-parts, AreAsked, are-asked, nothing-asked, blocks-from_asked, asked-from_blocks, found-block, rising-up}
+use Rattle.coin_history.proofs.HistoryLinks.{links_before-front, every-weaker, tip_from, tip-is, absent-none, none-linked, IsLeaf, IsNext, IsSome, linked, are-next, tip-reached, tip-found}
+
+-- ---- causes
+
+pub causes-none : (causes : List Cause) → first_cause causes ≡ None → AllByRecursion (λ cause. cause.0 ≡ false) causes
+causes-none [] is = tt
+causes-none (cause ∷ causes) is =
+    (elim cause.0 as (λ b. cause.0 ≡ b → (if b then Some cause.1 else first_cause causes) ≡ None
+    → (cause.0 ≡ false) × AllByRecursion (λ cause. cause.0 ≡ false) causes) [
+      | true ↦ λ holds wrong. absurd (cc wrong)
+      | false ↦ λ fails same. (fails, causes-none causes same)
+    ]) refl is
+
+pub none-causes : (causes : List Cause) → AllByRecursion (λ cause. cause.0 ≡ false) causes → first_cause causes ≡ None
+none-causes [] all = refl
+none-causes (cause ∷ causes) all =
+    ap (λ (b : Bool). if b then Some cause.1 else first_cause causes) all.0 ∙ none-causes causes all.1
+
+-- nothing is wrong with an opening of a history
+pub record IsRight (tests : Tests) (rules : Rules) (log : List RootCall) (tip : ℕ) (links : Links)
+    (o : RawOpening) : Type 0 where
+  pub asked : is_asked log links.deposit tip o.block ≡ true
+  pub opens : opens_block tests log links.coin o ≡ true
+  pub next : IsNext tests rules tip (links_before o.block links) o
+
+pub right-from_none : (tests : Tests) (rules : Rules) (log : List RootCall) (tip : ℕ) (links : Links) (o : RawOpening)
+    → failure_in tests rules log tip links o.block (Some o) ≡ None → IsRight tests rules log tip links o
+right-from_none tests rules log tip links o is =
+    let all = causes-none (opening_causes tests log links.coin (is_asked log links.deposit tip o.block) o
+    ++ link_causes tests rules tip (links_before o.block links) o) is in
+    record {
+      asked = not-false (is_asked log links.deposit tip o.block) all.0;
+      opens = not-false (opens_block tests log links.coin o) all.1.0;
+      next = (
+        not-false (is_next rules tip (links_before o.block links) o) all.1.1.0,
+        not-false (is_next_signed tests rules (links_before o.block links) o) all.1.1.1.0,
+      );
+    }
+
+pub none-from_right : (tests : Tests) (rules : Rules) (log : List RootCall) (tip : ℕ) (links : Links) (o : RawOpening)
+    → IsRight tests rules log tip links o → failure_in tests rules log tip links o.block (Some o) ≡ None
+none-from_right tests rules log tip links o right =
+    none-causes (opening_causes tests log links.coin (is_asked log links.deposit tip o.block) o
+    ++ link_causes tests rules tip (links_before o.block links) o)
+    (ap not right.asked, (ap not right.opens, (ap not right.next.0, (ap not right.next.1, tt))))
+
+pub missing-none : (asked : Bool) (n : ℕ) → missing asked n ≡ None → asked ≡ false
+missing-none true n is = absurd (cc is)
+missing-none false n is = refl
+
+-- what is wrong at the block of an opening of rising ones, and at a block between two that follow each other
+pub failure-at : (tests : Tests) (rules : Rules) (log : List RootCall) (tip : ℕ) (links : Links)
+    (front : List RawOpening) (o : RawOpening) (rest : List RawOpening) → AreRising (front ++ o ∷ rest)
+    → links.spends ≡ links_in rules links.coin (front ++ o ∷ rest)
+    → failure_in tests rules log tip links o.block (opening_at (front ++ o ∷ rest) o.block)
+    ≡ first_cause (opening_causes tests log links.coin (is_asked log links.deposit tip o.block) o
+    ++ link_causes tests rules tip (record links { spends = links_in rules links.coin front }) o)
+failure-at tests rules log tip links front o rest rising is =
+    ap (failure_in tests rules log tip links o.block) (opening-own front o rest rising)
+    ∙ ap (λ (l : List Link). first_cause
+    (opening_causes tests log links.coin (is_asked log links.deposit tip o.block) o
+    ++ link_causes tests rules tip (record links { spends = l }) o))
+    (ap (filter (λ (link : Link). nat_lt link.block o.block)) is
+    ∙ links_before-front rules links.coin front o rest rising)
+
+pub failure-between : (tests : Tests) (rules : Rules) (log : List RootCall) (tip : ℕ) (links : Links)
+    (front rest : List RawOpening) (n : ℕ) → AllByRecursion (λ o. o.block < n) front → Up (suc n) rest
+    → failure_in tests rules log tip links n (opening_at (front ++ rest) n)
+    ≡ missing (is_asked log links.deposit tip n) n
+failure-between tests rules log tip links front rest n less up =
+    ap (failure_in tests rules log tip links n) (opening-between front rest n less up)
+
+-- ---- a history that is found
+
+-- what an answer tells
+pub answered : {A : Type 0} (may : Bool) (failed : Option HistoryRefusal) (answer other : A) (why : HistoryRefusal)
+    → (if may then unless_failed failed answer else Err why) ≡ Ok other
+    → (may ≡ true) × (failed ≡ None) × (answer ≡ other)
+answered true None answer other why is = (refl, refl, cc)
+answered true (Some wrong) answer other why is = absurd (cc is)
+answered false failed answer other why is = absurd (cc is)
+
+-- openings of which none fails are right, and those of the blocks asked
+module _ (tests : Tests) (rules : Rules) (log : List RootCall) (tip : ℕ) (links : Links)
+    (openings : List RawOpening) where
+  pub right-each : AreRising openings
+      → ((n : ℕ) → n < above tip openings → failure_in tests rules log tip links n (opening_at openings n) ≡ None)
+      → AllByRecursion (IsRight tests rules log tip links) openings
+  right-each rising none =
+      each-found (IsRight tests rules log tip links) 0 openings (up-rising openings rising)
+      (λ n o found.
+      let at = found-block openings n o found in
+      right-from_none tests rules log tip links o
+      (subst (λ (k : ℕ). failure_in tests rules log tip links k (Some o) ≡ None) (sym at)
+      (ap (failure_in tests rules log tip links n) (sym found) ∙ none n (found-below tip openings n o found))))
+
+  pub asked-each : AreRising openings
+      → ((n : ℕ) → n < above tip openings → failure_in tests rules log tip links n (opening_at openings n) ≡ None)
+      → AreAsked log links.deposit tip openings
+  asked-each rising none =
+      let right = right-each rising none in
+      let asked = every-weaker (IsRight tests rules log tip links) (λ o. is_asked log links.deposit tip o.block ≡ true)
+      (λ o is. is.asked) openings right in
+      are-asked log links.deposit tip openings rising asked
+      (λ n absent. false_from_ne_true (is_asked log links.deposit tip n)
+      (λ is. let parts = asked-parts log links.deposit tip n is in
+      true≢false (sym is ∙ missing-none (is_asked log links.deposit tip n) n
+      (ap (failure_in tests rules log tip links n) (sym absent)
+      ∙ none n (omega (arith, parts.2, above-block tip openings))))))
+
+-- an opening that is next at the tip is a link
+tip-some : (block tip k : ℕ) (a : Bool) (t : Option SignedTx) → block ≡ tip
+    → (if a then not (block == tip) else spends k t) ≡ true → IsSome t
+tip-some block tip k true t e next = absurd (true≢false (sym next ∙ ap not (eq-eqb block tip e)))
+tip-some block tip k false None e next = next
+tip-some block tip k false (Some tx) e next = refl
+
+found-made : (tests : Tests) (rules : Rules) (log : List RootCall) (bundle : Bundle) (links : Links) (made : CoinView)
+    → AreRising bundle.openings → coin_at log bundle.coin ≡ Some made
+    → checked tests rules log bundle (links_of rules made bundle) ≡ Ok links → IsHistory tests rules log bundle links
+found-made tests rules log bundle links made rising coin is =
+    let own : Links = links_of rules made bundle in
+    let failures = λ (n : ℕ). failure_in tests rules log bundle.tip own n (opening_at bundle.openings n) in
+    let parts = answered (may_be_tip log made.deposit bundle.tip)
+    (lowest_failure failures (above bundle.tip bundle.openings)) own links _ is in
+    let none = lowest-none failures (above bundle.tip bundle.openings) parts.1 in
+    let right = right-each tests rules log bundle.tip own bundle.openings rising none in
+    let asked = asked-each tests rules log bundle.tip own bundle.openings rising none in
+    let both = linked tests rules bundle.tip own 0 [] bundle.openings tt (up-rising bundle.openings rising) refl
+    (every-weaker (IsRight tests rules log bundle.tip own)
+    (λ o. IsNext tests rules bundle.tip (links_before o.block own) o) (λ o r. r.next) bundle.openings right) in
+    subst (IsHistory tests rules log bundle) parts.2
+    (record {
+      made = made;
+      coin = coin;
+      blocks = blocks-from_asked log made.deposit bundle.tip bundle.openings asked;
+      opened = All-from_recursion (λ o. opens_block tests log bundle.coin o ≡ true) bundle.openings
+          (every-weaker (IsRight tests rules log bundle.tip own) (λ o. opens_block tests log bundle.coin o ≡ true)
+          (λ o r. r.opens) bundle.openings right);
+      leaves = All-from_recursion (IsLeaf rules bundle.coin) bundle.openings both.0;
+      shown = refl;
+      linked = both.1;
+      tip = tip-is own ∙ at-tip asked right parts.0;
+    })
+  where
+    at-tip : AreAsked log made.deposit bundle.tip bundle.openings
+        → AllByRecursion (IsRight tests rules log bundle.tip (links_of rules made bundle)) bundle.openings
+        → may_be_tip log made.deposit bundle.tip ≡ true
+        → tip_from made.deposit (links_in rules bundle.coin bundle.openings) ≡ bundle.tip
+    at-tip asked right may =
+        elim (or_cases (bundle.tip == made.deposit)
+        (is_committed log bundle.tip && nat_lt made.deposit bundle.tip) may) [
+          | inl same ↦
+              let e = eqb-true bundle.tip made.deposit same in
+              ap (λ (xs : List RawOpening). tip_from made.deposit (links_in rules bundle.coin xs))
+              (nothing-asked log made.deposit bundle.tip bundle.openings asked.each e)
+              ∙ ap (tip_from made.deposit) (none-linked rules bundle.coin) ∙ sym e
+          | inr after ↦
+              let is = and_from (is_committed log bundle.tip && nat_lt made.deposit bundle.tip)
+              _ after (le-leb bundle.tip bundle.tip (omega arith)) in
+              (elim (opening_at bundle.openings bundle.tip) as (λ o. opening_at bundle.openings bundle.tip ≡ o
+              → tip_from made.deposit (links_in rules bundle.coin bundle.openings) ≡ bundle.tip) [
+                | None ↦ λ absent. absurd (true≢false (sym is ∙ asked.other bundle.tip absent))
+                | Some x ↦ λ found.
+                    let r = found-each (IsRight tests rules log bundle.tip (links_of rules made bundle))
+                    bundle.openings bundle.tip x right found in
+                    tip-reached rules bundle.coin bundle.tip (suc made.deposit) made.deposit bundle.openings asked.up
+                    (every-weaker (λ o. is_asked log made.deposit bundle.tip o.block ≡ true)
+                    (λ o. o.block ≤ bundle.tip)
+                    (λ o a. (asked-parts log made.deposit bundle.tip o.block a).2) bundle.openings asked.each)
+                    x found
+                    (tip-some x.block bundle.tip _ (is_absent x) (transfer_of rules bundle.coin x) r.0 r.1.next.0)
+              ]) refl
+        ]
+
+pub histories_are_found : OnlyHistoriesPass
+unfolding history_of
+histories_are_found tests rules log bundle links rising is =
+    (elim (coin_at log bundle.coin) as (λ o. coin_at log bundle.coin ≡ o
+    → where_made o (λ made. checked tests rules log bundle (links_of rules made bundle)) ≡ Ok links
+    → IsHistory tests rules log bundle links) [
+      | None ↦ λ none wrong. absurd (cc wrong)
+      | Some made ↦ λ coin same. found-made tests rules log bundle links made rising coin same
+    ]) refl is
+
+-- ---- a history passes
+
+-- where each opening is right, and each block without one isn't asked, nothing fails
+pub none-fails : (tests : Tests) (rules : Rules) (log : List RootCall) (tip : ℕ) (links : Links)
+    (openings : List RawOpening) → AllByRecursion (IsRight tests rules log tip links) openings
+    → ((n : ℕ) → opening_at openings n ≡ None → is_asked log links.deposit tip n ≡ false)
+    → (n : ℕ) → failure_in tests rules log tip links n (opening_at openings n) ≡ None
+none-fails tests rules log tip links openings right other n =
+    (elim (opening_at openings n) as (λ o. opening_at openings n ≡ o
+    → failure_in tests rules log tip links n o ≡ None) [
+      | None ↦ λ absent. ap (λ (b : Bool). missing b n) (other n absent)
+      | Some x ↦ λ found.
+          let r = found-each (IsRight tests rules log tip links) openings n x right found in
+          subst (λ (k : ℕ). failure_in tests rules log tip links k (Some x) ≡ None) r.0
+          (none-from_right tests rules log tip links x r.1)
+    ]) refl
+
+-- an empty leaf isn't at the tip
+pub absent-apart : (rules : Rules) (coin tip deposit : ℕ) (os : List RawOpening) → Up (suc deposit) os
+    → tip_from deposit (links_in rules coin os) ≡ tip
+    → AllByRecursion (λ o. is_absent o ≡ true → o.block ≡ tip → ⊥) os
+absent-apart rules coin tip deposit os up is =
+    each-found (λ o. is_absent o ≡ true → o.block ≡ tip → ⊥) (suc deposit) os up
+    (λ n o found absent at.
+    let own = found-each (λ x. suc deposit ≤ x.block) os n o (up-each (suc deposit) os up) found in
+    elim (tip-found rules coin tip (suc deposit) deposit os up is) [
+      | inl e ↦ absurd (omega (arith, own.1))
+      | inr shown ↦
+          let e : n ≡ tip = sym own.0 ∙ at in
+          let same : Some o ≡ Some shown.0 = sym found ∙ ap (opening_at os) e ∙ shown.1 in
+          absurd (true≢false (sym shown.2
+          ∙ ap is_some (absent-none rules coin shown.0 (subst (λ (y : RawOpening). is_absent y ≡ true)
+          (some_same o shown.0 same) absent))))
+    ])
+
+-- the tip of a history may be one
+tip-may : (log : List RootCall) (rules : Rules) (coin tip deposit : ℕ) (os : List RawOpening)
+    → AreAsked log deposit tip os → tip_from deposit (links_in rules coin os) ≡ tip → may_be_tip log deposit tip ≡ true
+tip-may log rules coin tip deposit os asked is =
+    elim (tip-found rules coin tip (suc deposit) deposit os asked.up is) [
+      | inl e ↦ ap (λ (b : Bool). b || (is_committed log tip && nat_lt deposit tip)) (eq-eqb tip deposit (sym e))
+      | inr shown ↦
+          let at = found-each (λ o. is_asked log deposit tip o.block ≡ true) os tip shown.0 asked.each shown.1 in
+          let parts = asked-parts log deposit tip tip
+          (subst (λ (k : ℕ). is_asked log deposit tip k ≡ true) at.0 at.1) in
+          or_right (tip == deposit) (is_committed log tip && nat_lt deposit tip)
+          (and_from (is_committed log tip) (nat_lt deposit tip) parts.0 (lt-ltb deposit tip parts.1))
+    ]
+
+every-right : (tests : Tests) (rules : Rules) (log : List RootCall) (tip : ℕ) (links : Links) (os : List RawOpening)
+    → AllByRecursion (λ o. is_asked log links.deposit tip o.block ≡ true) os
+    → AllByRecursion (λ o. opens_block tests log links.coin o ≡ true) os
+    → AllByRecursion (λ o. IsNext tests rules tip (links_before o.block links) o) os
+    → AllByRecursion (IsRight tests rules log tip links) os
+every-right tests rules log tip links [] asked opens next = tt
+every-right tests rules log tip links (o ∷ os) asked opens next = (
+  record { asked = asked.0; opens = opens.0; next = next.0 },
+  every-right tests rules log tip links os asked.1 opens.1 next.1,
+)
+
+-- each opening of a history is right
+pub history-right : (tests : Tests) (rules : Rules) (log : List RootCall) (bundle : Bundle) (links : Links)
+    (is : IsHistory tests rules log bundle links)
+    → AllByRecursion (IsRight tests rules log bundle.tip (links_of rules is.made bundle)) bundle.openings
+history-right tests rules log bundle links is =
+    let own : Links = links_of rules is.made bundle in
+    let asked = asked-from_blocks log is.made.deposit bundle.tip bundle.openings is.blocks in
+    let last : tip_of own ≡ bundle.tip = ap tip_of (sym is.shown) ∙ is.tip in
+    every-right tests rules log bundle.tip own bundle.openings asked.each
+    (recursion_from_All (λ o. opens_block tests log bundle.coin o ≡ true) bundle.openings is.opened)
+    (are-next tests rules bundle.tip own (suc is.made.deposit) [] bundle.openings tt asked.up refl
+    (recursion_from_All (IsLeaf rules bundle.coin) bundle.openings is.leaves)
+    (absent-apart rules bundle.coin bundle.tip is.made.deposit bundle.openings asked.up (sym (tip-is own) ∙ last))
+    (subst (λ (x : Links). AreLinked tests x.deposit x.owner x.spends) is.shown is.linked))
+
+pub histories_pass : HistoriesPass
+unfolding history_of
+histories_pass tests rules log bundle links is =
+    let own : Links = links_of rules is.made bundle in
+    let asked = asked-from_blocks log is.made.deposit bundle.tip bundle.openings is.blocks in
+    let failures = λ (n : ℕ). failure_in tests rules log bundle.tip own n (opening_at bundle.openings n) in
+    let last : tip_of own ≡ bundle.tip = ap tip_of (sym is.shown) ∙ is.tip in
+    let may = tip-may log rules bundle.coin bundle.tip is.made.deposit bundle.openings asked
+    (sym (tip-is own) ∙ last) in
+    let none = lowest-none_from failures (above bundle.tip bundle.openings)
+    (λ n less. none-fails tests rules log bundle.tip own bundle.openings
+    (history-right tests rules log bundle links is) asked.other n) in
+    ap (λ (o : Option CoinView). where_made o (λ made. checked tests rules log bundle (links_of rules made bundle)))
+    is.coin
+    ∙ ap (λ (b : Bool). if b then unless_failed
+    (lowest_failure failures (above bundle.tip bundle.openings)) own else Err (UnknownBlock bundle.tip)) may
+    ∙ ap (λ (o : Option HistoryRefusal). unless_failed o own) none
+    ∙ ap Ok (sym is.shown)
+
+-- the blocks of a history rise
+pub history-rises : (tests : Tests) (rules : Rules) (log : List RootCall) (bundle : Bundle) (links : Links)
+    → IsHistory tests rules log bundle links → AreRising bundle.openings
+history-rises tests rules log bundle links is =
+    let asked = asked-from_blocks log is.made.deposit bundle.tip bundle.openings is.blocks in
+    rising-up (suc is.made.deposit) bundle.openings asked.up

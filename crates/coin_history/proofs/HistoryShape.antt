@@ -1,0 +1,86 @@
+-- The links of a history rise from its deposit on, its tip is a link, and with the deposit as tip it is bare.
+use Rattle.std.proofs.Common.{◌≡◌, ℕ, suc, ◌<◌, ◌≤◌, true, false, List, [], ◌∷◌, map, Some, None, sym, ap, ◌∙◌, subst, arith}
+use Rattle.std.specs.Option.{option_map}
+use Rattle.std.specs.List.{AllPairs, AllByRecursion, cons_option}
+use Rattle.std.proofs.lemmas.Bool.{false_from_ne_true}
+use Rattle.std.proofs.lemmas.List.Elements.{All-from_recursion}
+use Rattle.std.proofs.lemmas.List.Kept.{AllPairs-cons}
+use Rattle.plasma_tx.specs.declared.opening.RawOpening.{RawOpening}
+use Rattle.plasma_tx.specs.declared.links.Link.{Link}
+use Rattle.plasma_tx.specs.declared.links.Links.{Links}
+use Rattle.plasma_tx.specs.Links.{tip_of}
+use Rattle.root_rules.specs.Shown.{Rules}
+use Rattle.coin_history.specs.History.{is_absent, transfer_of, links_in, links_of}
+use Rattle.coin_history.specs.Laws.{LinksRise, DepositsAreBare, TipsAreLinks}
+use Rattle.coin_history.proofs.HistoryOpenings.{Up, nothing-asked, asked-from_blocks}
+use Rattle.coin_history.proofs.HistoryLinks.{every-weaker, tip-is, with_tx, none-linked}
+use Rattle.coin_history.proofs.HistoryFound.{absent-apart}
+
+-- ---- rising numbers
+
+-- the numbers rise strictly, the first one at low or above
+abbrev Rise : ℕ → List ℕ → Type 0
+Rise low [] = Unit {0}
+Rise low (n ∷ ns) = (low ≤ n) × Rise (suc n) ns
+
+rise-weaker : (low high : ℕ) (ns : List ℕ) → low ≤ high → Rise high ns → Rise low ns
+rise-weaker low high [] le rise = tt
+rise-weaker low high (n ∷ ns) le rise = (omega (arith, rise.0), rise.1)
+
+rise-each : (low : ℕ) (ns : List ℕ) → Rise (suc low) ns → AllByRecursion (λ n. low < n) ns
+rise-each low [] rise = tt
+rise-each low (n ∷ ns) rise =
+    (omega (arith, rise.0), rise-each low ns (rise-weaker (suc low) (suc n) ns (omega (arith, rise.0)) rise.1))
+
+rise-pairs : (low : ℕ) (ns : List ℕ) → Rise low ns → AllPairs (λ earlier later. earlier < later) ns
+rise-pairs low [] rise = λ i j d less long. absurd (omega arith)
+rise-pairs low (n ∷ ns) rise =
+    AllPairs-cons (λ earlier later. earlier < later) n ns
+    (All-from_recursion (λ m. n < m) ns (rise-each n ns rise.1)) (rise-pairs (suc n) ns rise.1)
+
+-- the blocks of the links of rising openings
+abbrev blocks_of_links : List Link → List ℕ
+blocks_of_links links = map (λ link. link.block) links
+
+rise-links : (rules : Rules) (coin low : ℕ) (os : List RawOpening) → Up low os
+    → Rise low (blocks_of_links (links_in rules coin os))
+unfolding links_in
+rise-links rules coin low [] up = tt
+rise-links rules coin low (o ∷ os) up =
+    let rest = rise-links rules coin (suc o.block) os up.1 in
+    elim (transfer_of rules coin o) as (λ t.
+    Rise low (blocks_of_links (cons_option (option_map (with_tx o) t) (links_in rules coin os)))) [
+      | None ↦ rise-weaker low (suc o.block) (blocks_of_links (links_in rules coin os)) (omega (arith, up.0)) rest
+      | Some tx ↦ (up.0, rest)
+    ]
+
+-- ---- the laws
+
+pub links_rise : LinksRise
+links_rise tests rules log bundle links is =
+    let asked = asked-from_blocks log is.made.deposit bundle.tip bundle.openings is.blocks in
+    subst (λ (l : Links). AllPairs (λ earlier later. earlier < later) (l.deposit ∷ blocks_of_links l.spends))
+    (sym is.shown)
+    (rise-pairs is.made.deposit (is.made.deposit ∷ blocks_of_links (links_in rules bundle.coin bundle.openings))
+    (omega arith, rise-links rules bundle.coin (suc is.made.deposit) bundle.openings asked.up))
+
+pub deposits_are_bare : DepositsAreBare
+deposits_are_bare tests rules log bundle links is e =
+    let asked = asked-from_blocks log is.made.deposit bundle.tip bundle.openings is.blocks in
+    let none = nothing-asked log is.made.deposit bundle.tip bundle.openings asked.each
+    (e ∙ ap (λ (l : Links). l.deposit) is.shown) in (
+      none,
+      ap (λ (l : Links). l.spends) is.shown ∙ ap (links_in rules bundle.coin) none
+          ∙ none-linked rules bundle.coin,
+    )
+
+pub tips_are_links : TipsAreLinks
+tips_are_links tests rules log bundle links is =
+    let own : Links = links_of rules is.made bundle in
+    let asked = asked-from_blocks log is.made.deposit bundle.tip bundle.openings is.blocks in
+    let last : tip_of own ≡ bundle.tip = ap tip_of (sym is.shown) ∙ is.tip in
+    All-from_recursion (λ o. o.block ≡ bundle.tip → is_absent o ≡ false) bundle.openings
+    (every-weaker (λ o. is_absent o ≡ true → o.block ≡ bundle.tip → ⊥)
+    (λ o. o.block ≡ bundle.tip → is_absent o ≡ false)
+    (λ o apart at. false_from_ne_true (is_absent o) (λ absent. apart absent at)) bundle.openings
+    (absent-apart rules bundle.coin bundle.tip is.made.deposit bundle.openings asked.up (sym (tip-is own) ∙ last)))

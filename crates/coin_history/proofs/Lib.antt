@@ -1,0 +1,12 @@
+pub mod BundleLaws
+pub mod HistoryOpenings
+pub mod HistoryLinks
+pub mod HistoryFound
+pub mod HistoryAbsent
+pub mod HistoryGrow
+pub mod HistoryAgree
+pub mod CheckFacts
+pub mod CheckAbsences
+pub mod CheckLinks
+pub mod HistoryShape
+pub mod HistoryRefusals

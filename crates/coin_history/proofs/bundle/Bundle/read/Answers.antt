@@ -1,0 +1,27 @@
+use Rattle.std.proofs.Common.{◌<◌, ◌≤◌, length, arith}
+use Rattle.std.proofs.lemmas.List.Elements.{All-from_get_or}
+use Rattle.coin_history.proofs.BundleLaws.{items_in-ok, items_in-spelled}
+use Rattle.coin_history.proofs.bundle.Bundle.read.Goals as goal
+
+pub returns-clause-rising : goal.returns-clause-rising
+returns-clause-rising c =
+    let long : 20 ≤ length c.args.bytes.now = omega (arith, c.in_ok-count.ensures.0) in
+    (items_in-ok c.args.bytes.now 20 0 c.in_ok-count.count
+    (record { openings = c.in_ok-openings.openings; place = c.in_ok-openings.end }) long
+    c.in_ok-openings.ensures.ok).rising
+
+pub returns-clause-count : goal.returns-clause-count
+returns-clause-count c =
+    let long : 20 ≤ length c.args.bytes.now = omega (arith, c.in_ok-count.ensures.0) in
+    let read = items_in-ok c.args.bytes.now 20 0 c.in_ok-count.count
+    (record { openings = c.in_ok-openings.openings; place = c.in_ok-openings.end }) long
+    c.in_ok-openings.ensures.ok in
+    omega (arith, read.counted)
+
+pub returns-clause-lengths : goal.returns-clause-lengths
+returns-clause-lengths c =
+    let long : 20 ≤ length c.args.bytes.now = omega (arith, c.in_ok-count.ensures.0) in
+    let small = All-from_get_or (λ byte. byte < 256) c.args.bytes.now 0 (λ i lt. omega (arith, c.type_inv.bytes i)) in
+    (items_in-spelled c.args.bytes.now small 20 0 c.in_ok-count.count
+    (record { openings = c.in_ok-openings.openings; place = c.in_ok-openings.end }) long
+    c.in_ok-openings.ensures.ok).lengths

@@ -1,0 +1,159 @@
+-- What holds of histories and absences.
+use Rattle.std.specs.Prelude.{◌≡◌, ◌≢◌, ◌⊎◌, ℕ, ◌<◌, ◌≤◌, ◌&&◌, Bool, true, false, nat_lt, nat_le, List, [], ◌∷◌, map, filter, length, take, Some, Ok, Err}
+use Rattle.std.specs.List.{All, AllPairs, Contains}
+use Rattle.plasma_tx.specs.declared.opening.RawOpening.{RawOpening}
+use Rattle.plasma_tx.specs.declared.signed_tx.SignedTx.{SignedTx}
+use Rattle.plasma_tx.specs.declared.links.Link.{Link}
+use Rattle.plasma_tx.specs.declared.links.Links.{Links}
+use Rattle.plasma_tx.specs.declared.call.RootCall.{RootCall}
+use Rattle.plasma_tx.specs.Links.{tip_of}
+use Rattle.plasma_tx.specs.Views.{blocks}
+use Rattle.root_rules.specs.Shown.{Tests, Rules, root_at}
+use Rattle.coin_history.specs.declared.bundle.Bundle.{Bundle}
+use Rattle.coin_history.specs.declared.refusal.HistoryRefusal.{HistoryRefusal}
+use Rattle.coin_history.specs.declared.refusal.HistoryRefusal.TheVariants.{BadBundle, NoCoin, UnknownBlock, MissingBlock, BadOpening, NotLink, BadSignature, NotAbsent}
+use Rattle.coin_history.specs.Bundles.{AreRising, bundle_in}
+use Rattle.coin_history.specs.History.{is_absent, leaf_of_opening, IsHistory, IsAbsent}
+use Rattle.coin_history.specs.Checking.{history_of, absence_of}
+
+-- a bundle whose blocks rise is answered its links exactly where it is a history with these links
+abbrev pub OnlyHistoriesPass : Type 0
+OnlyHistoriesPass = (tests : Tests) (rules : Rules) (log : List RootCall) (bundle : Bundle) (links : Links)
+    → AreRising bundle.openings → history_of tests rules log bundle ≡ Ok links → IsHistory tests rules log bundle links
+
+abbrev pub HistoriesPass : Type 0
+HistoriesPass = (tests : Tests) (rules : Rules) (log : List RootCall) (bundle : Bundle) (links : Links)
+    → IsHistory tests rules log bundle links → history_of tests rules log bundle ≡ Ok links
+
+-- the same for absences
+abbrev pub OnlyAbsencesPass : Type 0
+OnlyAbsencesPass = (tests : Tests) (log : List RootCall) (after last : ℕ) (bundle : Bundle) → AreRising bundle.openings
+    → absence_of tests log after last bundle ≡ Ok tt
+    → (bundle.tip ≡ last) × IsAbsent tests log bundle.coin after last bundle.openings
+
+abbrev pub AbsencesPass : Type 0
+AbsencesPass = (tests : Tests) (log : List RootCall) (after last : ℕ) (bundle : Bundle) → bundle.tip ≡ last
+    → IsAbsent tests log bundle.coin after last bundle.openings → absence_of tests log after last bundle ≡ Ok tt
+
+-- a history determines its links
+abbrev pub HistoriesHaveOneMeaning : Type 0
+HistoriesHaveOneMeaning = (tests : Tests) (rules : Rules) (log : List RootCall) (bundle : Bundle)
+    (links others : Links)
+    → IsHistory tests rules log bundle links → IsHistory tests rules log bundle others → links ≡ others
+
+-- a history stays the same history, and absences stay, as the log grows
+abbrev pub HistoriesStay : Type 0
+HistoriesStay = (tests : Tests) (rules : Rules) (log : List RootCall) (call : RootCall) (bundle : Bundle)
+    (links : Links)
+    → IsHistory tests rules log bundle links → IsHistory tests rules (call ∷ log) bundle links
+
+abbrev pub AbsencesStay : Type 0
+AbsencesStay = (tests : Tests) (log : List RootCall) (call : RootCall) (coin after last : ℕ)
+    (openings : List RawOpening)
+    → last ≤ blocks log → IsAbsent tests log coin after last openings
+    → IsAbsent tests (call ∷ log) coin after last openings
+
+-- the first links, and what of a bundle is up to a block
+abbrev pub first_links : ℕ → Links → Links
+first_links count links = record links { spends = take count links.spends }
+
+abbrev pub up_to : ℕ → Bundle → Bundle
+up_to block bundle =
+    record bundle { tip = block; openings = filter (λ opening. nat_le opening.block block) bundle.openings }
+
+-- what a history has up to one of its links, or up to the deposit, is a history
+abbrev pub HistoriesHaveBeginnings : Type 0
+HistoriesHaveBeginnings = (tests : Tests) (rules : Rules) (log : List RootCall) (bundle : Bundle) (links : Links)
+    (count : ℕ)
+    → count ≤ length links.spends → IsHistory tests rules log bundle links
+    → IsHistory tests rules log (up_to (tip_of (first_links count links)) bundle) (first_links count links)
+
+-- two openings of one root at the coin to different leaves, one of each list
+pub record ShowTwoLeaves (tests : Tests) (log : List RootCall) (coin : ℕ) (openings others : List RawOpening)
+    : Type 0 where
+  pub one : RawOpening
+  pub other : RawOpening
+  pub root : List ℕ
+  pub is_one : Contains openings one
+  pub is_other : Contains others other
+  pub one_block : one.block ≡ other.block
+  pub has_root : root_at log one.block ≡ Some root
+  pub one_opens : tests.opens root coin one ≡ true
+  pub other_opens : tests.opens root coin other ≡ true
+  pub differ : leaf_of_opening one ≢ leaf_of_opening other
+
+-- a link without the bytes that show it
+abbrev pub block_and_tx : Link → ℕ × SignedTx
+block_and_tx link = (link.block, link.tx)
+
+-- Two histories of one coin, of which one may reach further, have the same leaves up to the nearer tip, and so the
+-- same links and the same absences, or they show two openings of one root to different leaves.
+abbrev pub HistoriesAgree : Type 0
+HistoriesAgree = (tests : Tests) (rules : Rules) (log : List RootCall) (bundle other : Bundle) (links others : Links)
+    → IsHistory tests rules log bundle links → IsHistory tests rules log other others
+    → bundle.coin ≡ other.coin → bundle.tip ≤ other.tip
+    → ((map leaf_of_opening bundle.openings ≡ map leaf_of_opening (up_to bundle.tip other).openings)
+    × (map block_and_tx links.spends
+    ≡ map block_and_tx (filter (λ link. nat_le link.block bundle.tip) others.spends)))
+    ⊎ ShowTwoLeaves tests log bundle.coin bundle.openings other.openings
+
+-- a history has no link in a block in which openings show the coin absent, or they show two leaves of one root
+abbrev pub AbsencesExcludeLinks : Type 0
+AbsencesExcludeLinks = (tests : Tests) (rules : Rules) (log : List RootCall) (bundle : Bundle) (links : Links)
+    (after last : ℕ) (openings : List RawOpening)
+    → IsHistory tests rules log bundle links → IsAbsent tests log bundle.coin after last openings
+    → All (λ link. (nat_lt after link.block && nat_le link.block last) ≡ false) links.spends
+    ⊎ ShowTwoLeaves tests log bundle.coin bundle.openings openings
+
+-- the blocks of a history's links rise strictly from its deposit on
+abbrev pub LinksRise : Type 0
+LinksRise = (tests : Tests) (rules : Rules) (log : List RootCall) (bundle : Bundle) (links : Links)
+    → IsHistory tests rules log bundle links
+    → AllPairs (λ earlier later. earlier < later) (links.deposit ∷ map (λ link. link.block) links.spends)
+
+-- with the deposit as tip there are neither openings nor links
+abbrev pub DepositsAreBare : Type 0
+DepositsAreBare = (tests : Tests) (rules : Rules) (log : List RootCall) (bundle : Bundle) (links : Links)
+    → IsHistory tests rules log bundle links → bundle.tip ≡ links.deposit
+    → (bundle.openings ≡ []) × (links.spends ≡ [])
+
+-- the leaf of the tip isn't empty
+abbrev pub TipsAreLinks : Type 0
+TipsAreLinks = (tests : Tests) (rules : Rules) (log : List RootCall) (bundle : Bundle) (links : Links)
+    → IsHistory tests rules log bundle links
+    → All (λ opening. opening.block ≡ bundle.tip → is_absent opening ≡ false) bundle.openings
+
+-- ---- refusals
+
+-- a refusal of a reader, of a history and of absences
+abbrev pub is_of_reader : HistoryRefusal → Bool
+is_of_reader (BadBundle place) = true
+is_of_reader why = false
+
+abbrev pub is_of_history : HistoryRefusal → Bool
+is_of_history NoCoin = true
+is_of_history (UnknownBlock n) = true
+is_of_history (MissingBlock n) = true
+is_of_history (BadOpening n) = true
+is_of_history (NotLink n) = true
+is_of_history (BadSignature n) = true
+is_of_history why = false
+
+abbrev pub is_of_absence : HistoryRefusal → Bool
+is_of_absence (UnknownBlock n) = true
+is_of_absence (MissingBlock n) = true
+is_of_absence (BadOpening n) = true
+is_of_absence (NotAbsent n) = true
+is_of_absence why = false
+
+-- each is refused by its own refusals alone
+abbrev pub ReadersRefusals : Type 0
+ReadersRefusals = (bytes : List ℕ) (why : HistoryRefusal) → bundle_in bytes ≡ Err why → is_of_reader why ≡ true
+
+abbrev pub HistoriesRefusals : Type 0
+HistoriesRefusals = (tests : Tests) (rules : Rules) (log : List RootCall) (bundle : Bundle) (why : HistoryRefusal)
+    → history_of tests rules log bundle ≡ Err why → is_of_history why ≡ true
+
+abbrev pub AbsencesRefusals : Type 0
+AbsencesRefusals = (tests : Tests) (log : List RootCall) (after last : ℕ) (bundle : Bundle) (why : HistoryRefusal)
+    → absence_of tests log after last bundle ≡ Err why → is_of_absence why ≡ true

@@ -1,0 +1,5 @@
+pub mod Bundles
+pub mod History
+pub mod Checking
+pub mod Laws
+pub mod Inside

@@ -1,0 +1,27 @@
+//! The history of a coin: what committed blocks have at it since its deposit, as a bundle of openings,
+//! and the check that the bundle shows the coin's whole history up to its tip.
+#![tactic(auto)]
+
+mod absence;
+mod bundle;
+mod checking;
+mod coverage;
+#[cfg(test)]
+mod history_tests;
+mod laws;
+mod reading;
+mod refusal;
+mod spelling;
+#[cfg(test)]
+mod tests;
+
+pub use absence::absent;
+pub use bundle::{Bundle, Openings};
+pub use checking::check;
+pub use laws::{
+    a_history_has_its_shape, absences_are_checked, absences_exclude_links, histories_agree,
+    histories_are_checked, histories_have_beginnings, histories_have_one_meaning, histories_stay,
+    refusals_are_their_own,
+};
+pub use refusal::HistoryRefusal;
+pub use spelling::bundles_have_one_spelling;

@@ -1,0 +1,206 @@
+-- Leaves as transfers, the trees of roots, and how often a root is sealed and committed.
+use Rattle.std.proofs.Common.{◌≡◌, ◌⊎◌, ℕ, zero, suc, ◌+◌, ◌<◌, ◌≤◌, ◌==◌, ◌||◌, not, Bool, true, false, if◌then◌else◌, List, [], ◌∷◌, ◌++◌, length, find, filter, Contains, Option, Some, None, Ok, inl, inr, refl, sym, ap, ◌∙◌, arith}
+use Rattle.std.specs.List.{list_any, AllByRecursion}
+use Rattle.std.specs.Option.{option_and_then}
+use Rattle.std.specs.Str.{bytes_eq}
+use Rattle.std.proofs.lemmas.Bool.{cases_eq, eq-eqb, ne_eqb, and_from, or_cases, or_parts, true≢false, false≢true}
+use Rattle.std.proofs.lemmas.List.Elements.{All-from_recursion, All-contains}
+use Rattle.std.proofs.lemmas.Slice.Eq.{bytes_eq-Decides}
+use Rattle.sparse_merkle.specs.declared.tree.Entry.{Entry}
+use Rattle.sparse_merkle.specs.TreeDigest.{root_of}
+use Rattle.plasma_tx.specs.declared.signed_tx.SignedTx.{SignedTx}
+use Rattle.plasma_tx.specs.declared.call.RootCall.{RootCall}
+use Rattle.plasma_tx.specs.declared.call.RootCall.TheVariants.{Deposit, Commit}
+use Rattle.plasma_tx.specs.declared.views.BlockView.TheVariants.{DepositOf, Root}
+use Rattle.plasma_tx.specs.Spelling.{signed_in}
+use Rattle.plasma_tx.specs.Transfer.{may_stand_in, kept_transfer, transfer_in}
+use Rattle.plasma_tx.specs.Views.{blocks, coins, block_at}
+use Rattle.plasma_tx.proofs.Names.{some_same}
+use Rattle.plasma_tx.proofs.Spellings.{signed_in-ok}
+use Rattle.root_rules.specs.Shown.{root_in, root_at}
+use Rattle.coin_history.specs.History.{is_empty}
+use Rattle.coin_history.proofs.HistoryGrow.{block_at-le, root_at-grown}
+use Rattle.operator_rules.specs.Trees.{coin_named, tree_of, commits, is_root_committed}
+use Rattle.operator_rules.specs.Acts.{times_sealed}
+
+-- ---- leaves
+
+pub leaf_cases : (leaf : List ℕ) → (leaf ≡ []) ⊎ (not (is_empty leaf) ≡ true)
+leaf_cases [] = inl refl
+leaf_cases (byte ∷ bytes) = inr refl
+
+pub filled-not : (leaf : List ℕ) → not (is_empty leaf) ≡ true → leaf ≡ [] → ⊥
+filled-not leaf filled empty = false≢true (ap (λ (l : List ℕ). not (is_empty l)) (sym empty) ∙ filled)
+
+pub empty-from : (leaf : List ℕ) → not (is_empty leaf) ≡ false → leaf ≡ []
+empty-from [] is = refl
+empty-from (byte ∷ bytes) is = absurd (true≢false is)
+
+-- a leaf that spells a transfer of the coin is one of each block that the transfer may stand in
+pub transfer-from_signed : (tag leaf : List ℕ) (c n : ℕ) (tx : SignedTx) → signed_in tag leaf ≡ Ok tx
+    → tx.body.coin ≡ c → may_stand_in n tx.body.last ≡ true → transfer_in tag c n leaf ≡ Some tx
+unfolding transfer_in
+transfer-from_signed tag leaf c n tx is coin_is in_time =
+    ap (kept_transfer c n) is
+    ∙ ap (λ (b : Bool). if b then Some tx else None)
+    (and_from (tx.body.coin == c) (may_stand_in n tx.body.last) (eq-eqb tx.body.coin c coin_is) in_time)
+
+pub coin-named : (tag bytes : List ℕ) (tx : SignedTx) → signed_in tag bytes ≡ Ok tx → tx.body.coin ≡ coin_named bytes
+coin-named tag bytes tx is = ap (λ (t : SignedTx). t.body.coin) (signed_in-ok tag bytes tx is).1
+
+-- ---- what is found
+
+abbrev pub one_if : Bool → ℕ
+one_if b = if b then 1 else 0
+
+module _ {X : Type 0} (p : X → Bool) where
+  found-has : (xs : List X) (x : X) → find p xs ≡ Some x → Contains xs x × (p x ≡ true)
+  found-has [] x is = absurd (cc is)
+  found-has (y ∷ ys) x is =
+      (elim (p y) as (λ b. p y ≡ b → (if b then Some y else find p ys) ≡ Some x
+      → Contains (y ∷ ys) x × (p x ≡ true)) [
+        | true ↦ λ on same. let e = some_same y x same in ((zero, omega arith, e), ap p (sym e) ∙ on)
+        | false ↦ λ off same.
+            let r = found-has ys x same in ((suc r.0.0, omega (arith, r.0.1), r.0.2), r.1)
+      ]) refl is
+
+  found-more : (xs ys : List X) (x : X) → find p xs ≡ Some x → find p (xs ++ ys) ≡ Some x
+  found-more [] ys x is = absurd (cc is)
+  found-more (y ∷ rest) ys x is =
+      (elim (p y) as (λ b. (if b then Some y else find p rest) ≡ Some x
+      → (if b then Some y else find p (rest ++ ys)) ≡ Some x) [
+        | true ↦ λ same. same
+        | false ↦ λ same. found-more rest ys x same
+      ]) is
+
+  found-some : (xs : List X) → 1 ≤ length (filter p xs) → (x : X) × (find p xs ≡ Some x)
+  found-some [] some = absurd (omega (arith, some))
+  found-some (y ∷ ys) some =
+      (elim (p y) as (λ b. 1 ≤ length (if b then y ∷ filter p ys else filter p ys)
+      → (x : X) × ((if b then Some y else find p ys) ≡ Some x)) [
+        | true ↦ λ e. (y, refl)
+        | false ↦ λ e. found-some ys e
+      ]) some
+
+  pub any-counted : (xs : List X) → list_any p xs ≡ true → 1 ≤ length (filter p xs)
+  any-counted [] is = absurd (false≢true is)
+  any-counted (y ∷ ys) is =
+      (elim (p y) as (λ b. (b || list_any p ys) ≡ true → 1 ≤ length (if b then y ∷ filter p ys else filter p ys)) [
+        | true ↦ λ e. omega arith
+        | false ↦ λ e. any-counted ys e
+      ]) is
+
+  none-each : (xs : List X) → list_any p xs ≡ false → AllByRecursion (λ x. p x ≡ false) xs
+  none-each [] is = tt
+  none-each (y ∷ ys) is = let parts = or_parts (p y) (list_any p ys) is in (parts.0, none-each ys parts.1)
+
+  pub none-has : (xs : List X) (x : X) → list_any p xs ≡ false → Contains xs x → p x ≡ false
+  none-has xs x is has =
+      All-contains (λ x. p x ≡ false) xs x (All-from_recursion (λ x. p x ≡ false) xs (none-each xs is)) has
+
+  pub count-push : (xs : List X) (x : X)
+      → length (filter p (xs ++ x ∷ [])) ≡ length (filter p xs) + one_if (p x)
+  count-push [] x = elim (p x) as (λ b. length (if b then x ∷ [] else []) ≡ 0 + one_if b) [
+    | true ↦ refl
+    | false ↦ refl
+  ]
+  count-push (y ∷ ys) x =
+      let rest = count-push ys x in
+      elim (p y) as (λ b. length (if b then y ∷ filter p (ys ++ x ∷ []) else filter p (ys ++ x ∷ []))
+      ≡ length (if b then y ∷ filter p ys else filter p ys) + one_if (p x)) [
+        | true ↦ omega (arith, rest)
+        | false ↦ rest
+      ]
+
+-- ---- trees of roots
+
+module _ (dig : List ℕ → List ℕ) where
+  abbrev has_root : List ℕ → List Entry → Bool
+  has_root root tree = bytes_eq (root_of dig tree) root
+
+  pub tree_of-has : (sealed : List (List Entry)) (root : List ℕ) (tree : List Entry)
+      → tree_of dig sealed root ≡ Some tree → Contains sealed tree × (root_of dig tree ≡ root)
+  unfolding tree_of
+  tree_of-has sealed root tree is =
+      let r = found-has (has_root root) sealed tree is in
+      (r.0, (bytes_eq-Decides (root_of dig tree) root).0 r.1)
+
+  -- one more tree changes no root's tree
+  pub tree_of-grow : (sealed : List (List Entry)) (t : List Entry) (root : List ℕ) (tree : List Entry)
+      → tree_of dig sealed root ≡ Some tree → tree_of dig (sealed ++ t ∷ []) root ≡ Some tree
+  unfolding tree_of
+  tree_of-grow sealed t root tree is = found-more (has_root root) sealed (t ∷ []) tree is
+
+  -- a root that is sealed has a tree
+  pub sealed-tree : (sealed : List (List Entry)) (root : List ℕ) → 1 ≤ times_sealed dig sealed root
+      → (tree : List Entry) × (tree_of dig sealed root ≡ Some tree)
+  unfolding tree_of
+  sealed-tree sealed root some = found-some (has_root root) sealed some
+
+-- ---- blocks
+
+pub blocks-up : (log : List RootCall) (call : RootCall)
+    → (blocks log ≤ blocks (call ∷ log)) × (blocks (call ∷ log) ≤ blocks log + 1)
+unfolding blocks
+blocks-up log (Deposit account amount key) = (omega arith, omega arith)
+blocks-up log (Commit account root) = (omega arith, omega arith)
+blocks-up log call = (omega arith, omega arith)
+
+pub root_at-le : (log : List RootCall) (n : ℕ) (root : List ℕ) → root_at log n ≡ Some root → n ≤ blocks log
+root_at-le log n root is =
+    (elim (block_at log n) as (λ o. block_at log n ≡ o → option_and_then root_in o ≡ Some root → n ≤ blocks log) [
+      | None ↦ λ none wrong. absurd (cc wrong)
+      | Some block ↦ λ some same. block_at-le log n block some
+    ]) refl is
+
+pub root_at-none : (log : List RootCall) (n : ℕ) → blocks log < n → root_at log n ≡ None
+root_at-none log n over = by (root_at log n) refl
+  where
+    by : (o : Option (List ℕ)) → root_at log n ≡ o → o ≡ None
+    by None is = refl
+    by (Some root) is = absurd (omega (arith, root_at-le log n root is))
+
+-- a commit makes the next block
+pub root_at-new : (account : ℕ) (root : List ℕ) (log : List RootCall)
+    → root_at (Commit account root ∷ log) (suc (blocks log)) ≡ Some root
+unfolding block_at
+root_at-new account root log =
+    ap (λ (b : Bool). option_and_then root_in (if b then Some (Root root) else block_at log (suc (blocks log))))
+    (eq-eqb (suc (blocks log)) (blocks log + 1) (omega arith))
+
+-- a deposit makes none that is committed
+pub root_at-deposit : (account amount : ℕ) (key : List ℕ) (log : List RootCall) (n : ℕ)
+    → root_at (Deposit account amount key ∷ log) n ≡ root_at log n
+unfolding block_at
+root_at-deposit account amount key log n =
+    elim (cases_eq n (blocks log + 1)) [
+      | inl e ↦
+          ap (λ (b : Bool). option_and_then root_in (if b then Some (DepositOf (coins log + 1)) else block_at log n))
+          (eq-eqb n (blocks log + 1) e)
+          ∙ sym (root_at-none log n (omega arith))
+      | inr apart ↦
+          ap (λ (b : Bool). option_and_then root_in (if b then Some (DepositOf (coins log + 1)) else block_at log n))
+          (ne_eqb n (blocks log + 1) apart)
+    ]
+
+-- a committed root is that of a block
+pub committed-block : (log : List RootCall) (root : List ℕ) → is_root_committed log root ≡ true
+    → (k : ℕ) × (root_at log (suc k) ≡ Some root) × (suc k ≤ blocks log)
+unfolding blocks
+committed-block [] root is = absurd (false≢true is)
+committed-block (call ∷ log) root is =
+    elim (or_cases (commits root call) (is_root_committed log root) is) [
+      | inl here ↦ new call here
+      | inr before ↦
+          let m = committed-block log root before in
+          (m.0, root_at-grown log call (suc m.0) m.2 ∙ m.1, omega (arith, m.2, (blocks-up log call).0))
+    ]
+  where
+    new : (call : RootCall) → commits root call ≡ true
+        → (k : ℕ) × (root_at (call ∷ log) (suc k) ≡ Some root) × (suc k ≤ blocks (call ∷ log))
+    new (Commit account committed) here = (
+      blocks log,
+      root_at-new account committed log ∙ ap (λ (r : List ℕ). Some r) ((bytes_eq-Decides committed root).0 here),
+      omega arith,
+    )
+    new call here = absurd (false≢true here)

@@ -1,0 +1,12 @@
+//! What a wallet makes of a coin: nothing, or it holds it, is sending it, or is leaving with it.
+#![tactic(auto)]
+
+mod coin_state;
+mod laws;
+mod notes;
+#[cfg(test)]
+mod tests;
+
+pub use coin_state::{CoinState, state};
+pub use laws::{a_state_is_its_sentence, kept_coins_are_held};
+pub use notes::{CoinTip, LeafNumbers, LeafRecord, Notes, Tips};

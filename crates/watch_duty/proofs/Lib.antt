@@ -1,0 +1,6 @@
+pub mod Members
+pub mod Shown
+pub mod Dues
+pub mod GuardLinks
+pub mod Accepts
+pub mod OneChallenge

@@ -1,0 +1,7 @@
+use Rattle.std.proofs.Common.{◌≡◌, drop}
+use Rattle.watch_duty.specs.Duty.{next_link}
+use Rattle.watch_duty.proofs.watch.next_link.Given as goal
+
+abbrev pub invariant-loop-link : goal.invariant-loop-link
+invariant-loop-link l =
+    next_link l.block l.last (drop l.link-index l.spends) ≡ next_link l.block l.fn.deposit l.spends

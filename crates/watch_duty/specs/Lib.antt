@@ -1,0 +1,3 @@
+pub mod Duty
+pub mod Watches
+pub mod Laws

@@ -1,0 +1,13 @@
+//! The calls that are due: what a guardian of coins enters against the standing exits of a log.
+#![tactic(auto)]
+
+mod due;
+mod guard;
+mod laws;
+#[cfg(test)]
+mod tests;
+mod watch;
+
+pub use due::{duty, push_due};
+pub use guard::Guard;
+pub use laws::{due_calls_are_accepted, nothing_is_due_without_exits, one_challenge_is_due};
