@@ -15,7 +15,7 @@ use Rattle.gate_journal.specs.declared.refusal.JournalRefusal.{JournalRefusal}
 use Rattle.gate_journal.specs.declared.refusal.JournalRefusal.TheVariants.{AlreadyMade, NotJournal, RecordTooLong, DeviceFault, Closed, NoMemory}
 use Rattle.gate_journal.proofs.Lives.{in_from}
 use Rattle.gate_journal.proofs.Rest.{leaves_now}
-use Rattle.leaf_journal.specs.Records.{are_leaf_records, leaf_records, may_follow}
+use Rattle.leaf_journal.specs.Records.{are_leaf_records, every_message, leaf_records, may_follow}
 use Rattle.leaf_journal.specs.Leaves.{LeavesState, leaves_of, KeepsAtAnyMoment, Adds, FailsToAdd}
 use Rattle.leaf_journal.specs.Sound.{LeafRecordsState, IsSound}
 use Rattle.leaf_journal.proofs.Form.{all_same, one_more, count_within, follows_short, spelled-count}
@@ -75,7 +75,7 @@ ready_from {kept = kept} sound is body follows = record {
 module _ {D : Type 0} {journal : JournalState D} {leaves : ℕ} {records : List (List ℕ)} {body : List ℕ}
     (ready : IsReady journal leaves records body) where
   pub more_are : leaf_records leaves (records ++ body ∷ []) ≡ Ok (records ++ body ∷ [])
-  more_are = one_more leaves records body ready.are ready.follows
+  more_are = one_more every_message leaves records body ready.are ready.follows
 
   pub spare : has_spare journal (length body) ≡ true
   spare =
@@ -247,7 +247,7 @@ module _ {D : Type 0} (told : D → Option History) (new : JournalState D) (kept
     (read : leaf_records leaves bodies ≡ Ok kept.records)
     (settled : WhereTold (told new.disk) (λ now. IsSettled now bodies)) where
   same : bodies ≡ kept.records
-  same = all_same leaves bodies kept.records read
+  same = all_same every_message leaves bodies kept.records read
 
   pub opened_settled : WhereTold (told new.disk) (λ now. IsSettled now kept.records)
   opened_settled = subst (λ (l : List (List ℕ)). WhereTold (told new.disk) (λ now. IsSettled now l)) same settled

@@ -7,85 +7,92 @@ use Rattle.std.proofs.lemmas.List.{take-append-drop}
 use Rattle.std.proofs.Math.Seq.{drop-cons}
 use Rattle.std.proofs.lemmas.Slice.Eq.{bytes_eq-Decides}
 use Rattle.gate_journal.specs.Image.{spelled, spelled_record, spelled_records}
-use Rattle.leaf_journal.specs.Records.{first_length, has_number, is_marked, is_marker, leaf_records, may_follow, messages_of, records_behind}
+use Rattle.leaf_journal.specs.Records.{every_message, first_length, has_number, is_marked, is_marker, leaf_records, leaf_records_of, may_follow, may_follow_of, messages_of, records_behind_of}
 use Rattle.leaf_journal.proofs.Messages.{messages-append, messages-count, marker_length}
 
--- one step of a reading
-step_on : (leaves : ℕ) (before : List (List ℕ)) (body : List ℕ) (records : List (List ℕ))
-    → may_follow leaves before body ≡ true → records_behind leaves before (body ∷ records) ≡ records_behind leaves
-    (before ++ body ∷ []) records
-unfolding records_behind
-step_on leaves before body records may = rw may refl
+-- over a test that each message has to pass
+module _ (is_message : List ℕ → Bool) (leaves : ℕ) where
+  -- one step of a reading
+  pub step_on : (before : List (List ℕ)) (body : List ℕ) (records : List (List ℕ))
+      → may_follow_of is_message leaves before body ≡ true
+      → records_behind_of is_message leaves before (body ∷ records)
+      ≡ records_behind_of is_message leaves (before ++ body ∷ []) records
+  unfolding records_behind_of
+  step_on before body records may = rw may refl
 
-pub step_out : (leaves : ℕ) (before : List (List ℕ)) (body : List ℕ) (records : List (List ℕ))
-    → may_follow leaves before body ≡ false → records_behind leaves before (body ∷ records) ≡ Err
-    (length (spelled before))
-unfolding records_behind
-step_out leaves before body records may = rw may refl
+  pub step_out : (before : List (List ℕ)) (body : List ℕ) (records : List (List ℕ))
+      → may_follow_of is_message leaves before body ≡ false
+      → records_behind_of is_message leaves before (body ∷ records) ≡ Err (length (spelled before))
+  unfolding records_behind_of
+  step_out before body records may = rw may refl
 
--- a reading that goes through gives what was before and the records, and keeps what each record that may follow keeps
-module _ (leaves : ℕ) where
+  -- a reading that goes through gives what was before and the records, and keeps what each record that may follow
+  -- keeps
   pub behind-keeps : (P : List (List ℕ) → Type 0) → ((before : List (List ℕ)) (body : List ℕ) → P before
-      → may_follow leaves before body ≡ true → P (before ++ body ∷ []))
-      → (before records all : List (List ℕ)) → records_behind leaves before records ≡ Ok all → P before → P all
-  unfolding records_behind
+      → may_follow_of is_message leaves before body ≡ true → P (before ++ body ∷ []))
+      → (before records all : List (List ℕ)) → records_behind_of is_message leaves before records ≡ Ok all
+      → P before → P all
+  unfolding records_behind_of
   behind-keeps P step before [] all is here = (let same : before ≡ all = cc is in subst P same here)
-  behind-keeps P step before (body ∷ records) all is here = elim (cases_Bool (may_follow leaves before body)) [
-    | inl may ↦ behind-keeps P step (before ++ body ∷ []) records all
-        (sym (step_on leaves before body records may) ∙ is) (step before body here may)
-    | inr not ↦ absurd (let out = step_out leaves before body records not in cc (out, is))
-  ]
+  behind-keeps P step before (body ∷ records) all is here =
+      elim (cases_Bool (may_follow_of is_message leaves before body)) [
+        | inl may ↦ behind-keeps P step (before ++ body ∷ []) records all
+            (sym (step_on before body records may) ∙ is) (step before body here may)
+        | inr not ↦ absurd (let out = step_out before body records not in cc (out, is))
+      ]
 
-  behind-all : (before records all : List (List ℕ)) → records_behind leaves before records ≡ Ok all
+  pub behind-all : (before records all : List (List ℕ)) → records_behind_of is_message leaves before records ≡ Ok all
       → before ++ records ≡ all
-  unfolding records_behind
+  unfolding records_behind_of
   behind-all before [] all is = append-nil before ∙ cc is
-  behind-all before (body ∷ records) all is = elim (cases_Bool (may_follow leaves before body)) [
+  behind-all before (body ∷ records) all is = elim (cases_Bool (may_follow_of is_message leaves before body)) [
     | inl may ↦ sym (append_assoc before (body ∷ []) records)
-        ∙ behind-all (before ++ body ∷ []) records all (sym (step_on leaves before body records may) ∙ is)
-    | inr not ↦ absurd (let out = step_out leaves before body records not in cc (out, is))
+        ∙ behind-all (before ++ body ∷ []) records all (sym (step_on before body records may) ∙ is)
+    | inr not ↦ absurd (let out = step_out before body records not in cc (out, is))
   ]
 
-  pub behind-append : (before records all more : List (List ℕ)) → records_behind leaves before records ≡ Ok all
-      → records_behind leaves before (records ++ more) ≡ records_behind leaves all more
-  unfolding records_behind
+  pub behind-append : (before records all more : List (List ℕ))
+      → records_behind_of is_message leaves before records ≡ Ok all
+      → records_behind_of is_message leaves before (records ++ more) ≡ records_behind_of is_message leaves all more
+  unfolding records_behind_of
   behind-append before [] all more is = (let same : before ≡ all = cc is in ap
-      (λ (l : List (List ℕ)). records_behind leaves l more) same)
-  behind-append before (body ∷ records) all more is = elim (cases_Bool (may_follow leaves before body)) [
-    | inl may ↦ step_on leaves before body (records ++ more) may
-        ∙ behind-append (before ++ body ∷ []) records all more (sym (step_on leaves before body records may) ∙ is)
-    | inr not ↦ absurd (let out = step_out leaves before body records not in cc (out, is))
+      (λ (l : List (List ℕ)). records_behind_of is_message leaves l more) same)
+  behind-append before (body ∷ records) all more is = elim (cases_Bool (may_follow_of is_message leaves before body)) [
+    | inl may ↦ step_on before body (records ++ more) may
+        ∙ behind-append (before ++ body ∷ []) records all more (sym (step_on before body records may) ∙ is)
+    | inr not ↦ absurd (let out = step_out before body records not in cc (out, is))
   ]
 
-  pub all_same : (records all : List (List ℕ)) → leaf_records leaves records ≡ Ok all → records ≡ all
+  pub all_same : (records all : List (List ℕ)) → leaf_records_of is_message leaves records ≡ Ok all → records ≡ all
   all_same records all is = behind-all [] records all is
 
-  pub one_more : (records : List (List ℕ)) (body : List ℕ) → leaf_records leaves records ≡ Ok records
-      → may_follow leaves records body ≡ true
-      → leaf_records leaves (records ++ body ∷ []) ≡ Ok (records ++ body ∷ [])
-  unfolding records_behind
-  one_more records body are may = behind-append [] records records (body ∷ []) are ∙ step_on leaves records body [] may
+  pub one_more : (records : List (List ℕ)) (body : List ℕ) → leaf_records_of is_message leaves records ≡ Ok records
+      → may_follow_of is_message leaves records body ≡ true
+      → leaf_records_of is_message leaves (records ++ body ∷ []) ≡ Ok (records ++ body ∷ [])
+  unfolding records_behind_of
+  one_more records body are may = behind-append [] records records (body ∷ []) are ∙ step_on records body [] may
 
   -- where a reading stops
   pub refused_at : (records kept : List (List ℕ)) (index place : ℕ) → kept ≡ take index records
-      → leaf_records leaves kept ≡ Ok kept → index < length records
-      → may_follow leaves kept (get_or records index []) ≡ false → place ≡ length (spelled kept)
-      → leaf_records leaves records ≡ Err place
+      → leaf_records_of is_message leaves kept ≡ Ok kept → index < length records
+      → may_follow_of is_message leaves kept (get_or records index []) ≡ false → place ≡ length (spelled kept)
+      → leaf_records_of is_message leaves records ≡ Err place
   refused_at records kept index place is are within may there =
       let body = get_or records index [] in
       let rest = drop (suc index) records in
       let split : records ≡ kept ++ body ∷ rest = sym (take-append-drop index records)
       ∙ (λ i. sym is i ++ drop-cons records index [] within i) in
-      ap (leaf_records leaves) split ∙ behind-append [] kept kept (body ∷ rest) are
-      ∙ step_out leaves kept body rest may ∙ ap (λ (n : ℕ). Err n) (sym there)
+      ap (leaf_records_of is_message leaves) split ∙ behind-append [] kept kept (body ∷ rest) are
+      ∙ step_out kept body rest may ∙ ap (λ (n : ℕ). Err n) (sym there)
 
   -- and records go on alone by one that may follow
-  pub follows : (records all : List (List ℕ)) (body : List ℕ) → leaf_records leaves records ≡ Ok records
-      → leaf_records leaves (records ++ body ∷ []) ≡ Ok all → may_follow leaves records body ≡ true
-  follows records all body are is = elim (cases_Bool (may_follow leaves records body)) [
+  pub follows : (records all : List (List ℕ)) (body : List ℕ) → leaf_records_of is_message leaves records ≡ Ok records
+      → leaf_records_of is_message leaves (records ++ body ∷ []) ≡ Ok all
+      → may_follow_of is_message leaves records body ≡ true
+  follows records all body are is = elim (cases_Bool (may_follow_of is_message leaves records body)) [
     | inl may ↦ may
     | inr not ↦ absurd (let out = behind-append [] records records (body ∷ []) are
-        ∙ step_out leaves records body [] not in cc (out, is))
+        ∙ step_out records body [] not in cc (out, is))
   ]
 
 -- what a record that may follow is
@@ -223,7 +230,7 @@ few_step leaves before body few may = record {
 }
 
 pub are_few : (leaves : ℕ) (records all : List (List ℕ)) → leaf_records leaves records ≡ Ok all → AreFew leaves all
-are_few leaves records all are = behind-keeps leaves (AreFew leaves) (few_step leaves) [] records all are
+are_few leaves records all are = behind-keeps every_message leaves (AreFew leaves) (few_step leaves) [] records all are
     (record { within = omega arith; short = omega arith })
 
 pub count_within : (leaves : ℕ) (records : List (List ℕ)) → leaf_records leaves records ≡ Ok records

@@ -15,7 +15,7 @@ use Rattle.gate_journal.specs.Laws.{is_added}
 use Rattle.gate_journal.specs.Life.{records_in, Continue}
 use Rattle.gate_journal.proofs.Lives.{in_keeps, records_stay, made_journals_stay}
 use Rattle.gate_journal.proofs.Crash.{stopped_appends}
-use Rattle.leaf_journal.specs.Records.{are_leaf_records, binding_record, is_marked, leaf_records, leaf_records_in, leaf_records_read, marker, messages_of}
+use Rattle.leaf_journal.specs.Records.{are_leaf_records, binding_record, every_message, is_marked, leaf_records, leaf_records_in, leaf_records_read, marker, messages_of}
 use Rattle.leaf_journal.specs.Laws.{ALeafHasOneMessage, BoundMessagesStay, MadeJournalsStay as LeavesStay, StoppedBinds, StoppedMigrations, life_after}
 use Rattle.leaf_journal.proofs.Messages.{messages-append}
 use Rattle.leaf_journal.proofs.Form.{all_same, one_more, follows_short}
@@ -45,7 +45,8 @@ are_kind leaves records is = at (leaf_records leaves records) refl is
   where
     at : (r : Result (List (List ℕ)) ℕ) → leaf_records leaves records ≡ r → is_ok r ≡ true
         → leaf_records leaves records ≡ Ok records
-    at (Ok all) read is = read ∙ ap (λ (l : List (List ℕ)). Ok l) (sym (all_same leaves records all read))
+    at (Ok all) read is = read
+        ∙ ap (λ (l : List (List ℕ)). Ok l) (sym (all_same every_message leaves records all read))
     at (Err place) read is = absurd (cc is)
 
 in_life : (leaves : ℕ) (image : List ℕ) (records : List (List ℕ))
@@ -102,7 +103,7 @@ stopped_binds leaves history records message count outcome settled are may leaf 
       | true ↦ λ keeps. (
         records ++ body ∷ [],
         in_image leaves image (records ++ body ∷ []) keeps
-            (one_more leaves records body are follows),
+            (one_more every_message leaves records body are follows),
         binding-messages records message may,
       )
       | false ↦ λ keeps. (records, in_image leaves image records keeps are, refl)
@@ -118,7 +119,7 @@ stopped_migrations leaves history records count outcome settled are not_marked p
       | true ↦ λ keeps. (
         records ++ marker ∷ [],
         in_image leaves image (records ++ marker ∷ []) keeps
-            (one_more leaves records marker are follows),
+            (one_more every_message leaves records marker are follows),
         marker-messages records not_marked,
         marker-marked records,
       )

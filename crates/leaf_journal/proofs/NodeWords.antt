@@ -7,9 +7,9 @@ use Rattle.gate_journal.specs.Image.{most}
 use Rattle.node_journal.specs.Notes.{Added, AddFailed}
 use Rattle.leaf_journal.specs.declared.refusal.BindRefusal.TheVariants.{KeySpent, DeviceFault, Closed}
 use Rattle.leaf_journal.specs.declared.refusal.MigrateRefusal.TheVariants.{AlreadyNew, DeviceFault as MigrateFault, Closed as MigrateClosed}
-use Rattle.leaf_journal.specs.Records.{binding_record, marker, MayBind, messages_of}
+use Rattle.leaf_journal.specs.Records.{binding_record, leaf_records_in, marker, MayBind, messages_of}
 use Rattle.leaf_journal.specs.Leaves.{LeavesState, leaves_of, used_of, Adds, FailsToAdd}
-use Rattle.leaf_journal.specs.NodeWords.{notes_of, has_leaf, BindsInNodeWords, MigrationsInNodeWords, OpeningsInNodeWords, RefusalsInNodeWords, BindAnswers, MigrationAnswers}
+use Rattle.leaf_journal.specs.NodeWords.{notes_of, has_leaf, BindsInNodeWords, MigrationsInNodeWords, OpeningsInNodeWords, RefusalsInNodeWords, OpeningsOfInNodeWords, RefusalsOfInNodeWords, BindAnswers, MigrationAnswers}
 use Rattle.leaf_journal.proofs.Form.{follows_short}
 use Rattle.leaf_journal.proofs.Binding.{binding_follows}
 
@@ -81,8 +81,8 @@ migrations_in_node_words told plan faults old new (Err MigrateFault) did cause =
 migrations_in_node_words told plan faults old new (Err MigrateClosed) did cause = (did.0, ap notes_of did.1)
 migrations_in_node_words told plan faults old new (Err AlreadyNew) did cause = rw did.1 (did.0, ap notes_of did.2)
 
-pub openings_in_node_words : {D : Type 0} → OpeningsInNodeWords D
-openings_in_node_words told plan faults leaves key disk opened kept is settled made count = record {
+pub openings_of_in_node_words : {D : Type 0} → OpeningsOfInNodeWords D
+openings_of_in_node_words told plan faults read key disk opened kept is settled made count = record {
   kept = kept;
   made = made;
   count = count;
@@ -90,8 +90,19 @@ openings_in_node_words told plan faults leaves key disk opened kept is settled m
   settled = settled;
 }
 
+pub refusals_of_in_node_words : {D : Type 0} → RefusalsOfInNodeWords D
+refusals_of_in_node_words told plan faults read disk new why refused count = record {
+  refused = refused;
+  count = count;
+}
+
+pub openings_in_node_words : {D : Type 0} → OpeningsInNodeWords D
+openings_in_node_words told plan faults leaves =
+    openings_of_in_node_words told plan faults (leaf_records_in leaves)
+
 pub refusals_in_node_words : {D : Type 0} → RefusalsInNodeWords D
-refusals_in_node_words told plan faults leaves disk new why refused count = record { refused = refused; count = count }
+refusals_in_node_words told plan faults leaves =
+    refusals_of_in_node_words told plan faults (leaf_records_in leaves)
 
 pub bind_answers : {D : Type 0} → BindAnswers D
 bind_answers told plan message old new (Ok bound) did no_stop = rw (has_leaf-left old did.0) (ap Ok did.1)

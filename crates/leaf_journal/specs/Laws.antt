@@ -1,6 +1,6 @@
 -- What holds of a journal of leaves over every list of makings, openings, binds, migrations, faults and crashes. A
 -- bind and a migration are appends: of the record that binds a message to the next leaf, and of the marker.
-use Rattle.std.specs.Prelude.{◌≡◌, ◌≢◌, ◌<◌, ℕ, if◌then◌else◌, List, [], ◌∷◌, ◌++◌, length, Option, Some, Ok, Err, false}
+use Rattle.std.specs.Prelude.{◌≡◌, ◌↔◌, ◌≢◌, ◌<◌, ℕ, Bool, if◌then◌else◌, List, [], ◌∷◌, ◌++◌, length, Option, Some, Ok, Err, false}
 use Rattle.std.specs.Option.{option_and_then}
 use Rattle.std.specs.List.{slice_get}
 use Rattle.crash_disk.specs.Disk.{History, content, MayLeave}
@@ -12,7 +12,7 @@ use Rattle.gate_journal.specs.Steps.{append_steps}
 use Rattle.gate_journal.specs.Journal.{IsSettled}
 use Rattle.gate_journal.specs.Laws.{is_added}
 use Rattle.gate_journal.specs.Life.{Event, Life, shut, after_events, MayAllCome, Continue, Stay}
-use Rattle.leaf_journal.specs.Records.{are_leaf_records, binding_record, is_marked, leaf_records, leaf_records_in, marker, MayBind, messages_of}
+use Rattle.leaf_journal.specs.Records.{are_leaf_records, binding_record, is_marked, leaf_records, leaf_records_in, leaf_records_in_of, marker, MayBind, MessagesPass, messages_of}
 
 -- the life of a journal of so many leaves after events, the newest first, from a disk on which it isn't open
 abbrev pub life_after : ℕ → History → List Event → Life
@@ -76,3 +76,10 @@ StoppedMigrations = (leaves : ℕ) (history : History) (records : List (List ℕ
     → (let image = image_after outcome (with_made count (append_steps (length (spelled records)) marker) history) in
     (kept : List (List ℕ)) × (leaf_records_in leaves image ≡ Ok kept)
     × (messages_of kept ≡ messages_of records) × (is_marked kept ≡ is_added count outcome))
+
+-- The records of an image whose messages pass a test are its records of leaves, where each message passes. So an
+-- opening that asks for a kind refuses a journal of leaves only where it binds a message that isn't of the kind.
+abbrev pub KindRecords : Type 0
+KindRecords = (is_message : List ℕ → Bool) (leaves : ℕ) (image : List ℕ) (records : List (List ℕ))
+    → (leaf_records_in_of is_message leaves image ≡ Ok records)
+    ↔ ((leaf_records_in leaves image ≡ Ok records) × MessagesPass is_message records)

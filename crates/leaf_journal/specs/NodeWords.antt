@@ -91,6 +91,25 @@ module _ (D : Type 0) where
       → faults new ≡ faults_after (faults disk) (is_device_fault why)
       → RefusesRole told plan faults (leaf_records_in leaves) disk why new
 
+  -- an opening by another reader of images, as that of leaves whose messages are of a kind, is so too
+  abbrev pub OpeningsOfInNodeWords : Type 0
+  OpeningsOfInNodeWords = (told : D → Option History) (plan : D → Option FaultPlan) (faults : D → ℕ)
+      (read : List ℕ → Result (List (List ℕ)) ℕ) (key : List ℕ) (disk : D) (opened : LeavesState D)
+      → WhereTold (told disk) (λ before. read (content before) ≡ Ok opened.records)
+      → opened ≡ record { disk = opened.disk; closed = false; key = key; records = opened.records }
+      → WhereTold (told opened.disk) (λ now. IsSettled now opened.records)
+      → Made told plan open_steps 3 passed disk opened.disk
+      → faults opened.disk ≡ faults disk
+      → Opened told plan faults read disk (notes_of opened)
+
+  -- and so is a refused one
+  abbrev pub RefusalsOfInNodeWords : Type 0
+  RefusalsOfInNodeWords = (told : D → Option History) (plan : D → Option FaultPlan) (faults : D → ℕ)
+      (read : List ℕ → Result (List (List ℕ)) ℕ) (disk new : D) (why : JournalRefusal)
+      → RefusesOpen read told plan disk why new
+      → faults new ≡ faults_after (faults disk) (is_device_fault why)
+      → RefusesRole told plan faults read disk why new
+
   -- a bind that wasn't stopped is answered by its definition
   abbrev pub BindAnswers : Type 0
   BindAnswers = (told : D → Option History) (plan : D → Option FaultPlan) (message : List ℕ) (old new : LeavesState D)

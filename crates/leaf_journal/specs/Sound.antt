@@ -1,5 +1,5 @@
 -- What holds of the records of every key's leaves, in memory and on a disk.
-use Rattle.std.specs.Prelude.{◌≡◌, ◌<◌, ◌≤◌, ℕ, zero, suc, ◌+◌, false, if◌then◌else◌, List, [], ◌∷◌, length, Option, Ok, Err}
+use Rattle.std.specs.Prelude.{◌≡◌, ◌<◌, ◌≤◌, ℕ, zero, suc, ◌+◌, Bool, false, if◌then◌else◌, List, [], ◌∷◌, length, Option, Ok, Err}
 use Rattle.crash_disk.specs.Disk.{History}
 use Rattle.crash_disk.specs.Calls.{WhereTold}
 use Rattle.gate_journal.specs.Image.{spelled}
@@ -7,7 +7,7 @@ use Rattle.gate_journal.specs.Journal.{JournalState, IsSettled}
 use Rattle.gate_journal.specs.Life.{Stay}
 use Rattle.gate_journal.specs.declared.refusal.JournalRefusal.{JournalRefusal}
 use Rattle.gate_journal.specs.declared.refusal.JournalRefusal.TheVariants.{NotJournal, NoMemory}
-use Rattle.leaf_journal.specs.Records.{are_leaf_records, is_marker, leaf_records}
+use Rattle.leaf_journal.specs.Records.{are_leaf_records, is_marker, leaf_records, leaf_records_of}
 use Rattle.leaf_journal.specs.Leaves.{leaves_of}
 
 -- the number of records before the marker, which are all where there is none
@@ -44,8 +44,9 @@ pub record IsSound {D : Type 0} (told : Option History) (journal : JournalState 
 abbrev pub IsBound : List ℕ → ℕ → Type 0
 IsBound key leaf = leaf < leaves_of key
 
--- why records weren't taken as those of leaves: they aren't, with the place of the first that isn't; or want of memory
-abbrev pub IsFormRefusal : ℕ → List (List ℕ) → JournalRefusal → Type 0
-IsFormRefusal leaves records (NotJournal place) = leaf_records leaves records ≡ Err place
-IsFormRefusal leaves records NoMemory = Unit {0}
-IsFormRefusal leaves records refusal = ⊥
+-- why records weren't taken as those of leaves, whose messages pass a test: they aren't, with the place of the first
+-- that isn't; or want of memory
+abbrev pub IsFormRefusal : (List ℕ → Bool) → ℕ → List (List ℕ) → JournalRefusal → Type 0
+IsFormRefusal is_message leaves records (NotJournal place) = leaf_records_of is_message leaves records ≡ Err place
+IsFormRefusal is_message leaves records NoMemory = Unit {0}
+IsFormRefusal is_message leaves records refusal = ⊥

@@ -1,4 +1,4 @@
-ghost use Rattle.leaf_journal.specs.NodeWords.{BindsInNodeWords, MigrationsInNodeWords, OpeningsInNodeWords, RefusalsInNodeWords, BindAnswers, MigrationAnswers};
+ghost use Rattle.leaf_journal.specs.NodeWords.{BindsInNodeWords, MigrationsInNodeWords, OpeningsInNodeWords, OpeningsOfInNodeWords, RefusalsInNodeWords, RefusalsOfInNodeWords, BindAnswers, MigrationAnswers};
 
 use crash_disk::Disk;
 
@@ -22,6 +22,17 @@ pub fn openings_in_node_words<D: Disk>()
 /// An opening of leaves that was refused is a refused one of a node's notes.
 pub fn refusals_in_node_words<D: Disk>()
     ensures { RefusalsInNodeWords D }
+{}
+
+/// An opening that went through by another reader of images, as that of leaves whose messages are of a kind,
+/// is one of a node's notes with this reader.
+pub fn openings_of_in_node_words<D: Disk>()
+    ensures { OpeningsOfInNodeWords D }
+{}
+
+/// An opening that was refused by another reader of images is a refused one of a node's notes.
+pub fn refusals_of_in_node_words<D: Disk>()
+    ensures { RefusalsOfInNodeWords D }
 {}
 
 /// The answer of a bind that wasn't stopped is the one of its definition.

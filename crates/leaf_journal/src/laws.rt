@@ -1,4 +1,4 @@
-ghost use Rattle.leaf_journal.specs.Laws.{BoundMessagesStay, ALeafHasOneMessage, MadeJournalsStay, StoppedBinds, StoppedMigrations};
+ghost use Rattle.leaf_journal.specs.Laws.{BoundMessagesStay, ALeafHasOneMessage, MadeJournalsStay, StoppedBinds, StoppedMigrations, KindRecords};
 
 /// Over every list of openings, binds, migrations, faults and crashes: a leaf has one message.
 pub fn a_leaf_has_one_message()
@@ -25,4 +25,10 @@ pub fn stopped_binds()
 /// calls. No message changes.
 pub fn stopped_migrations()
     ensures { StoppedMigrations }
+{}
+
+/// What an opening that asks for a kind takes is what one takes that doesn't, where each message is of the
+/// kind.
+pub fn kind_records()
+    ensures { KindRecords }
 {}

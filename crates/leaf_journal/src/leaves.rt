@@ -8,11 +8,12 @@ ghost use Rattle.gate_journal.specs.Steps.{open_steps};
 ghost use Rattle.gate_journal.specs.Journal.{IsSettled, RefusesOpen, is_device_fault, with_spare};
 ghost use Rattle.gate_journal.specs.Life.{Stay};
 ghost use Rattle.lms_sign.specs.Tree.{public_key_of};
-ghost use Rattle.leaf_journal.specs.Records.{are_leaf_records, is_marked, leaf_records, leaf_records_in, marker, may_follow, MayBind, messages_of};
+ghost use Rattle.leaf_journal.specs.Records.{are_leaf_records, is_marked, leaf_records, leaf_records_in, leaf_records_in_of, leaf_records_of, marker, may_follow, MayBind, MessagesPass, messages_of};
 ghost use Rattle.leaf_journal.specs.Leaves.{leaves_of, Adds, FailsToAdd, Binds, Migrates, is_fault, is_migrate_fault};
 ghost use Rattle.leaf_journal.specs.Sound.{IsFormRefusal};
 
 use super::bound::Bound;
+use super::kind::{EveryMessage, MessageKind};
 use super::reading::read_records;
 use super::records::{LeafRecords, MARKER};
 use super::refusal::{BindRefusal, MigrateRefusal};
@@ -51,21 +52,22 @@ impl<D: Disk> Model for Leaves<D> {
     ghost invariant = { λ l. IsSound (D.told l.journal.disk) l.journal l.key l.records };
 }
 
-// The records of a journal as those of leaves, and room in it for those of the other leaves and the marker.
-fn prepare<D: Disk>(
+// The records of a journal as those of leaves whose messages are of a kind, and room in it for those of the
+// other leaves and the marker.
+fn prepare<K: MessageKind, D: Disk>(
     journal: &mut Journal<D>,
     none: LeafRecords,
     bodies: &[Bytes],
 ) -> Result<LeafRecords, JournalRefusal>
     requires { none.records ≡ [] }
-    ensures records { IfOk result (λ kept. leaf_records none.leaves bodies.now ≡ Ok kept.records) }
+    ensures records { IfOk result (λ kept. leaf_records_of K.is_message none.leaves bodies.now ≡ Ok kept.records) }
     ensures leaves { IfOk result (λ kept. kept.leaves ≡ none.leaves) }
     ensures room { IfOk result (λ kept. (others : ℕ) × (others + length kept.records ≡ kept.leaves + 1)
         × (journal.new ≡ with_spare others 132 journal.new.disk journal.old)) }
     ensures still { IsStill D.told D.plan D.faults journal.old.disk journal.new.disk }
-    ensures refused { IfErr result (IsFormRefusal none.leaves bodies.now) }
+    ensures refused { IfErr result (IsFormRefusal K.is_message none.leaves bodies.now) }
 {
-    let kept = match read_records(none, bodies) {
+    let kept = match read_records::<K>(none, bodies) {
         Ok(kept) => kept,
         Err(place) => return Err(JournalRefusal::NotJournal { place }),
     };
@@ -88,12 +90,41 @@ impl<D: Disk> Leaves<D> {
             leaf_records_in (leaves_of (public_key_of key.now)) (content before) ≡ Ok opened.records)) }
         ensures leaves { IfOk result (λ opened. opened
             ≡ record { disk = opened.disk; closed = false; key = public_key_of key.now; records = opened.records }) }
-        ensures settled { IfOk result (λ opened. WhereTold (D.told opened.disk) (λ now. IsSettled now opened.records)) }
+        ensures settled { IfOk result (λ opened.
+            WhereTold (D.told opened.disk) (λ now. IsSettled now opened.records)) }
         ensures made { IfOk result (λ opened. Made D.told D.plan open_steps 3 passed disk opened.disk) }
         ensures cause { IfOk result (λ opened. D.faults opened.disk ≡ D.faults disk) }
         ensures refused { IfErr result (λ returned.
             RefusesOpen (leaf_records_in (leaves_of (public_key_of key.now)))
             D.told D.plan disk returned.why returned.disk) }
+        ensures refused_cause { IfErr result (λ returned.
+            D.faults returned.disk ≡ faults_after (D.faults disk) (is_device_fault returned.why)) }
+    {
+        Leaves::open_of::<EveryMessage>(alloc, disk, key)
+    }
+
+    /// Opens the journal of a key's leaves, whose messages have to be of a kind, as `open` does. At `Ok`
+    /// each message is of the kind.
+    ///
+    /// `NotJournal` comes where the image spells no records, as `Journal::open` says, and else where a
+    /// record breaks the form, as `open` says, or binds a message that isn't of the kind, with the place of
+    /// the gate of the first one that does either. A refusal hands the disk back.
+    pub fn open_of<K: MessageKind>(
+        alloc: Global,
+        disk: D,
+        key: &SecretKey,
+    ) -> Result<Leaves<D>, Returned<D>>
+        ensures records { IfOk result (λ opened. WhereTold (D.told disk) (λ before. leaf_records_in_of K.is_message
+            (leaves_of (public_key_of key.now)) (content before) ≡ Ok opened.records)) }
+        ensures leaves { IfOk result (λ opened. opened
+            ≡ record { disk = opened.disk; closed = false; key = public_key_of key.now; records = opened.records }) }
+        ensures kind { IfOk result (λ opened. MessagesPass K.is_message opened.records) }
+        ensures settled { IfOk result (λ opened.
+            WhereTold (D.told opened.disk) (λ now. IsSettled now opened.records)) }
+        ensures made { IfOk result (λ opened. Made D.told D.plan open_steps 3 passed disk opened.disk) }
+        ensures cause { IfOk result (λ opened. D.faults opened.disk ≡ D.faults disk) }
+        ensures refused { IfErr result (λ returned. RefusesOpen (leaf_records_in_of K.is_message
+            (leaves_of (public_key_of key.now))) D.told D.plan disk returned.why returned.disk) }
         ensures refused_cause { IfErr result (λ returned.
             D.faults returned.disk ≡ faults_after (D.faults disk) (is_device_fault returned.why)) }
     {
@@ -105,7 +136,7 @@ impl<D: Disk> Leaves<D> {
             Ok(opened) => opened,
             Err(returned) => return Err(returned),
         };
-        match prepare(&mut journal, none, &bodies) {
+        match prepare::<K, D>(&mut journal, none, &bodies) {
             Ok(records) => Ok(Leaves {
                 journal,
                 key: key.public(),

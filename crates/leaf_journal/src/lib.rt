@@ -3,6 +3,7 @@
 
 mod adaptors;
 mod bound;
+mod kind;
 mod laws;
 mod leaves;
 mod reading;
@@ -14,11 +15,13 @@ mod tests;
 
 pub use adaptors::{
     bind_answers, binds_in_node_words, migration_answers, migrations_in_node_words,
-    openings_in_node_words, refusals_in_node_words,
+    openings_in_node_words, openings_of_in_node_words, refusals_in_node_words,
+    refusals_of_in_node_words,
 };
 pub use bound::Bound;
+pub use kind::MessageKind;
 pub use laws::{
-    a_leaf_has_one_message, bound_messages_stay, made_journals_stay, stopped_binds,
+    a_leaf_has_one_message, bound_messages_stay, kind_records, made_journals_stay, stopped_binds,
     stopped_migrations,
 };
 pub use leaves::Leaves;

@@ -1,8 +1,9 @@
 ghost use Rattle.std.specs.Prelude.{◌≡◌, true, not, ◌||◌, ◌≤◌, ◌+◌, ◌<◌, ◌==◌, ◌++◌, ◌∷◌, [], length, Ok, IfOk};
 ghost use Rattle.std.specs.Option.{option_copied, IfSome, OnSome};
 ghost use Rattle.std.specs.List.{slice_get};
-ghost use Rattle.leaf_journal.specs.Records.{MayBind, binding_record, has_number, is_marked, is_marker, leaf_records, marker, may_follow, messages_of};
+ghost use Rattle.leaf_journal.specs.Records.{MayBind, binding_record, has_number, is_marked, is_marker, leaf_records, marker, may_follow, may_follow_of, messages_of};
 
+use super::kind::MessageKind;
 use super::short::ShortBytes;
 use plasma_base::NoMemory;
 use std::alloc::Global;
@@ -131,16 +132,18 @@ impl LeafRecords {
         Some(record.as_slice())
     }
 
-    /// Whether a record may follow.
-    pub fn may_follow(&self, body: &[u8]) -> bool
-        ensures value { result ≡ may_follow self.now.leaves self.now.records body.now }
+    /// Whether a record may follow, where messages are of a kind.
+    pub fn may_follow<K: MessageKind>(&self, body: &[u8]) -> bool
+        ensures value { result ≡ may_follow_of K.is_message self.now.leaves self.now.records body.now }
+        ensures form { result ≡ true → may_follow self.now.leaves self.now.records body.now ≡ true }
         ensures short { result ≡ true → length body.now ≤ 132 }
     {
         let q = self.used();
         if self.is_marked() {
-            has_number(q, body) && q < self.leaves
+            has_number(q, body) && q < self.leaves && K::is_message(&body[4..])
         } else {
-            is_marker(body) || (body.len() == FIRST_LENGTH && q < self.leaves)
+            is_marker(body)
+                || (body.len() == FIRST_LENGTH && q < self.leaves && K::is_message(body))
         }
     }
 

@@ -1,9 +1,10 @@
-ghost use Rattle.std.specs.Prelude.{IfOk};
+ghost use Rattle.std.specs.Prelude.{IfOk, [], ◌∷◌, nat_eq};
+ghost use Rattle.std.specs.List.{starts_with};
 ghost use Rattle.crash_disk.specs.Outcomes.{HasPattern};
 
 use super::*;
 use crash_disk::{MemDisk, Outcome};
-use gate_journal::JournalRefusal;
+use gate_journal::{JournalRefusal, Returned};
 use lms_sign::{LmsTypes, PublicKey, SecretKey, verify};
 use plasma_base::Bytes;
 use std::alloc::Global;
@@ -273,22 +274,33 @@ fn second(alloc: Global, q: u8, count: usize) -> Result<Vec<u8>, Fail> {
     Ok(body)
 }
 
-// How many leaves are bound in a journal of these records, or why it isn't opened.
-fn read(
-    alloc: Global,
-    key: &SecretKey,
-    bodies: &[Vec<u8>],
-) -> Result<Result<u32, JournalRefusal>, Fail> {
+// The image of a journal of these records.
+fn image_of(alloc: Global, bodies: &[Vec<u8>]) -> Result<Vec<u8>, Fail> {
     let mut image = b"PGJ1".as_slice().to_vec(alloc)?;
     for body in bodies {
         image.extend_from_slice(&[0xa5, 0, 0, 0, u8::try_from(body.len())?])?;
         image.extend_from_slice(body)?;
     }
     image.push(0)?;
-    match Leaves::open(alloc, disk_of(alloc, &image, &[])?, key) {
-        Ok(leaves) => Ok(Ok(leaves.used())),
-        Err(returned) => Ok(Err(returned.why)),
+    Ok(image)
+}
+
+// How many leaves are bound, or why they weren't opened.
+fn used_of(opened: Result<Leaves<MemDisk>, Returned<MemDisk>>) -> Result<u32, JournalRefusal> {
+    match opened {
+        Ok(leaves) => Ok(leaves.used()),
+        Err(returned) => Err(returned.why),
     }
+}
+
+// How many leaves are bound in a journal of these records, or why it isn't opened.
+fn read(
+    alloc: Global,
+    key: &SecretKey,
+    bodies: &[Vec<u8>],
+) -> Result<Result<u32, JournalRefusal>, Fail> {
+    let disk = disk_of(alloc, &image_of(alloc, bodies)?, &[])?;
+    Ok(used_of(Leaves::open(alloc, disk, key)))
 }
 
 // So many records: one of 116 bytes, the marker, and this one.
@@ -348,5 +360,47 @@ fn broken_forms(rt: HostRuntime) -> Result<(), Fail> {
         bodies.push(second(alloc, q, 1)?)?;
     }
     assert_eq!(rt; read(alloc, &key, &bodies)?, not_journal(333));
+    Ok(())
+}
+
+// The messages whose first byte is 7.
+struct Sevens;
+
+impl MessageKind for Sevens {
+    ghost is_message = { λ message. starts_with nat_eq message (7 ∷ []) };
+
+    fn is_message(message: &[u8]) -> bool {
+        message.starts_with(&[7])
+    }
+}
+
+#[test]
+fn another_kind(rt: HostRuntime) -> Result<(), Fail> {
+    let alloc = rt.alloc();
+    let key = new_key(alloc)?;
+    // One of another kind between good ones, and behind them one that breaks the form.
+    let mut bodies = Vec::new(alloc);
+    for (byte, count) in [(7u8, 116), (3, 116), (7, 116), (7, 115)] {
+        bodies.push(vec![in alloc; byte; count]?)?;
+    }
+    let not_journal = |place: u64| -> Result<u32, JournalRefusal> {
+        Err(JournalRefusal::NotJournal { place })
+    };
+    let disk = disk_of(alloc, &image_of(alloc, &bodies)?, &[])?;
+    assert_eq!(rt;
+        used_of(Leaves::open_of::<Sevens>(alloc, disk, &key)),
+        not_journal(125)
+    );
+    assert_eq!(rt; read(alloc, &key, &bodies)?, not_journal(367));
+    // Behind the marker the number isn't of the message.
+    let mut leaves = open_leaves(alloc, disk_of(alloc, &EMPTY, &[])?, &key)?;
+    leaves.bind(&[7; 116])?;
+    leaves.migrate()?;
+    leaves.bind(&[7; 20])?;
+    let disk = leaves.take_disk();
+    assert_eq!(rt;
+        used_of(Leaves::open_of::<Sevens>(alloc, disk, &key)),
+        Ok(2)
+    );
     Ok(())
 }

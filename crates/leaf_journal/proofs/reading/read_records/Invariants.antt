@@ -1,12 +1,13 @@
 use Rattle.std.proofs.Common.{◌≡◌, ◌≤◌, Ok, take, length}
 use Rattle.gate_journal.specs.Image.{spelled}
-use Rattle.leaf_journal.specs.Records.{leaf_records}
+use Rattle.leaf_journal.specs.Records.{leaf_records, leaf_records_of}
 use Rattle.leaf_journal.proofs.reading.read_records.Given as goal
 
 abbrev pub invariant-loop-body : goal.invariant-loop-body
-invariant-loop-body l = record {
+invariant-loop-body g l = record {
   front : l.kept.records ≡ take l.body-index l.records;
   are : leaf_records l.kept.leaves l.kept.records ≡ Ok l.kept.records;
+  kind : leaf_records_of g.K.MessageKind.is_message l.kept.leaves l.kept.records ≡ Ok l.kept.records;
   leaves : l.kept.leaves ≡ l.fn.none.leaves;
   few : l.kept.leaves ≤ 1024;
   place : l.place ≡ length (spelled l.kept.records);

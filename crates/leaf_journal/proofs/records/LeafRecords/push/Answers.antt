@@ -1,6 +1,6 @@
 use Rattle.std.proofs.Common.{rules, ◌≡◌, true, ◌∙◌, ℕ, not, List, [], ◌∷◌, ◌++◌, Ok, ap, sym, subst, refl, arith, length-append}
 use Rattle.std.specs.Prelude.{◌||◌}
-use Rattle.leaf_journal.specs.Records.{is_marked, is_marker, leaf_records, may_follow}
+use Rattle.leaf_journal.specs.Records.{every_message, is_marked, is_marker, leaf_records, may_follow}
 use Rattle.leaf_journal.specs.Sound.{LeafRecordsState, first_count}
 use Rattle.leaf_journal.proofs.Messages.{byte_le, byte-not, first-append, first_le}
 use Rattle.leaf_journal.proofs.Form.{one_more, count_within}
@@ -29,7 +29,7 @@ unwrap-requires c =
     let same_leaves : leaves ≡ c.args.self.now.leaves = ap (λ (s : LeafRecordsState). s.leaves) c.self.view_is in
     let may : may_follow leaves records c.args.body ≡ true = rw (same, same_leaves) c.requires in
     let more = count_within leaves (records ++ c.args.body ∷ [])
-    (one_more leaves records c.args.body c.self.invariant.are may) in
+    (one_more every_message leaves records c.args.body c.self.invariant.are may) in
     c.push.ensures.succeeds (omega (
       arith,
       more,
@@ -52,7 +52,7 @@ invariant_of-self c =
     c.is_first-is_first.ensures ∙ rw (c.as_slice.ensures.value, same) refl in
     record {
       are = subst (λ (l : List (List ℕ)). leaf_records leaves l ≡ Ok l) (sym pushed)
-          (one_more leaves records body c.self.invariant.are may);
+          (one_more every_message leaves records body c.self.invariant.are may);
       count = rw (pushed, first-append, c.from.ensures, flag, c.self.invariant.count)
           (byte-not (is_marked records || is_marker body) (first_count records));
       few = c.self.invariant.few;
