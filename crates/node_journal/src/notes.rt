@@ -69,7 +69,7 @@ impl<D: Disk, R: Role> Notes<D, R> {
             Ok(opened) => opened,
             Err(returned) => return Err(returned),
         };
-        match role_refusal(&role, &records) {
+        match role_refusal(alloc, &role, &records) {
             None => Ok(Notes {
                 journal,
                 records,

@@ -3,16 +3,16 @@ use Rattle.std.proofs.lemmas.Bool.Decides.{nat_tests}
 use Rattle.gate_journal.specs.Image.{spelled}
 use Rattle.node_journal.specs.Role.{are_of}
 use Rattle.node_journal.proofs.Roles.{all_front, front_all, not_of}
-use Rattle.node_journal.proofs.role.role_refusal.Goals.{else-not-is_empty-via-then-not-is_empty+else-front-records, else-not-is_empty-via-else-not-is_empty}
-use Rattle.node_journal.proofs.role.role_refusal.Goals as goal
+use Rattle.node_journal.proofs.role.front_refusal.Goals.{else-not-is_empty-via-then-not-is_empty+else-front-records, else-not-is_empty-via-else-not-is_empty}
+use Rattle.node_journal.proofs.role.front_refusal.Goals as goal
 
 pub returns-then-front-records : goal.returns-then-front-records
 returns-then-front-records g c =
     let records = c.args.records.now in
-    let len : length c.front_of-front.result.now ≡ length records = c.if-front-records.true in
-    let some : 0 < length c.front_of-front.result.now = grind
+    let len : length c.args.front.now ≡ length records = c.if-front-records.true in
+    let some : 0 < length c.args.front.now = grind
     (arith, nat_tests, c.is_empty.ensures, c.if-not-is_empty.true) in
-    all_front (g.R.Role.kinds c.args.role.now) records (sym (ap length c.front_of-front.ensures) ∙ len)
+    all_front (g.R.Role.kinds c.args.role.now) records (sym (ap length c.requires) ∙ len)
     (omega (arith, some, len))
 
 pub returns-in-Some : goal.returns-in-Some
@@ -21,7 +21,7 @@ returns-in-Some g c =
     let kinds = g.R.Role.kinds c.args.role.now in
     let not : are_of kinds records ≡ true → ⊥ = λ are.
     let all = front_all kinds records are in
-    let len = ap length c.front_of-front.ensures in
+    let len = ap length c.requires in
     elim c.else-not-is_empty.branch [
       | else-not-is_empty-via-then-not-is_empty+else-front-records w ↦ absurd
           (omega (arith, w.if-front-records.false, len, all.0))
@@ -29,4 +29,4 @@ returns-in-Some g c =
           (grind (arith, nat_tests, c.is_empty.ensures, w.if-not-is_empty.false, len, all.0, all.1))
     ] in
     not_of kinds records not
-    ∙ ap (λ (l : _). Err (length (spelled l))) (sym c.front_of-front.ensures) ∙ ap Err (sym c.in-Some.ensures)
+    ∙ ap (λ (l : _). Err (length (spelled l))) (sym c.requires) ∙ ap Err (sym c.in-Some.ensures)
