@@ -16,12 +16,13 @@ use Rattle.plasma_tx.specs.declared.views.CoinView.{CoinView}
 use Rattle.plasma_tx.specs.declared.call.RootCall.TheVariants.{Deposit, Commit}
 use Rattle.plasma_tx.specs.Views.{blocks, coins, block_at, coin_at, new_coin}
 use Rattle.plasma_tx.proofs.Names.{some_same}
-use Rattle.root_rules.specs.Shown.{tests_by, root_at, root_in}
-use Rattle.coin_history.specs.History.{is_committed, opens_block, leaf_of_opening, is_empty, is_absent}
+use Rattle.root_rules.specs.Shown.{Tests, Rules, tests_by, root_at, root_in}
+use Rattle.coin_history.specs.declared.bundle.Bundle.{Bundle}
+use Rattle.coin_history.specs.History.{is_committed, opens_block, leaf_of_opening, is_empty, is_absent, links_in, tagged}
 use Rattle.coin_history.specs.declared.refusal.HistoryRefusal.{HistoryRefusal}
 use Rattle.coin_history.specs.declared.refusal.HistoryRefusal.TheVariants.{MissingBlock}
 use Rattle.coin_history.specs.Bundles.{AreRising}
-use Rattle.coin_history.specs.Checking.{Cause, first_cause, is_asked, opening_at, missing, lowest_failure, above, unless_failed, may_be_tip}
+use Rattle.coin_history.specs.Checking.{Cause, first_cause, is_asked, opening_at, missing, lowest_failure, above, unless_failed, may_be_tip, history_of}
 use Rattle.coin_history.specs.Inside.{NoneIsAsked, IsFirstAsked}
 pub use Rattle.coin_history.proofs.HistoryOpenings.{asked-parts, lowest-none_from, lowest-some_from, Up, up-rising, up-weaker, at-head, past-head, below-none, above-block}
 
@@ -321,3 +322,9 @@ tip-made log coin tip made is may = elim (cases_eq tip made.deposit) [
   | inr apart ↦ committed-made log tip
       (and_parts (is_committed log tip) (nat_lt made.deposit tip) (simp (ne_eqb tip made.deposit apart) at may)).0
 ]
+
+-- of the rules the tag alone matters
+pub tagged-same : (tests : Tests) (rules : Rules) (log : List RootCall) (bundle : Bundle)
+    → history_of tests (tagged rules.tag) log bundle ≡ history_of tests rules log bundle
+unfolding history_of links_in
+tagged-same tests rules log bundle = refl

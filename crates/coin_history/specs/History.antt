@@ -49,6 +49,10 @@ is_absent opening = is_empty (leaf_of_opening opening)
 
 -- ---- links
 
+-- the rules of a chain with this tag; of histories the tag alone matters
+abbrev pub tagged : List ℕ → Rules
+tagged tag = record { tag = tag; operator = 0; most_blocks = 0 }
+
 -- the transfer of its block, with this tag and coin, that an opening's leaf spells
 abbrev pub transfer_of : Rules → ℕ → RawOpening → Option SignedTx
 transfer_of rules coin opening = transfer_in rules.tag coin opening.block (leaf_of_opening opening)

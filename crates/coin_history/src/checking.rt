@@ -4,7 +4,7 @@ ghost use Rattle.plasma_tx.specs.Links.{tip_of, last_owner_of};
 ghost use Rattle.plasma_tx.specs.Views.{blocks};
 ghost use Rattle.root_rules.specs.Shown.{tests_by, rules_of};
 ghost use Rattle.coin_history.specs.Bundles.{AreRising};
-ghost use Rattle.coin_history.specs.History.{leaf_of_opening, transfer_of, links_of};
+ghost use Rattle.coin_history.specs.History.{tagged, leaf_of_opening, transfer_of, links_of};
 ghost use Rattle.coin_history.specs.Checking.{opening_at, lowest_failure, above, unless_failed, first_cause, link_causes, failure_in, may_be_tip, history_of};
 ghost use Rattle.coin_history.specs.Inside.{links_with};
 
@@ -26,7 +26,6 @@ use std::alloc::Global;
 /// `NotLink` where its leaf is neither empty nor the next transfer, or is empty at the tip, and
 /// `BadSignature` where the owner before didn't sign the transfer. Each opening is read once, and
 /// memory is taken for the links and for the opening that is looked at.
-#[tactic(auto, unfolding(crate::specs::Checking::history_of))]
 pub fn check<H: Hash32>(
     alloc: Global,
     h: &H,
@@ -37,13 +36,29 @@ pub fn check<H: Hash32>(
     ensures { result ≢ Err HistoryRefusal.NoMemory
         → result ≡ history_of (tests_by (H.digest_of h.now)) (rules_of log.now) log.now.log bundle.now }
 {
+    check_tagged(alloc, h, &log.tag(), log, bundle)
+}
+
+/// As `check`, where the transfers are to have this tag: the log's own isn't asked for.
+#[tactic(auto, unfolding(crate::specs::Checking::history_of))]
+pub fn check_tagged<H: Hash32>(
+    alloc: Global,
+    h: &H,
+    tag: &[u8; 32],
+    log: &RootLog,
+    bundle: &Bundle,
+) -> Result<Links, HistoryRefusal>
+    requires rising { AreRising bundle.now.openings }
+    ensures { result ≢ Err HistoryRefusal.NoMemory
+        → result ≡ history_of (tests_by (H.digest_of h.now)) (tagged tag.now) log.now.log bundle.now }
+{
     let Some(made) = log.coin(bundle.coin) else {
         return Err(HistoryRefusal::NoCoin);
     };
     if !may_be_tip(log, made.deposit, bundle.tip) {
         return Err(HistoryRefusal::UnknownBlock { n: bundle.tip });
     }
-    links_of(alloc, h, log, &made, bundle)
+    links_of(alloc, h, tag, log, &made, bundle)
 }
 
 // Whether the block is the deposit block, or a committed one after it.
@@ -57,15 +72,16 @@ fn may_be_tip(log: &RootLog, deposit: u64, tip: u64) -> bool
 fn links_of<H: Hash32>(
     alloc: Global,
     h: &H,
+    tag: &[u8; 32],
     log: &RootLog,
     made: &CoinView,
     bundle: &Bundle,
 ) -> Result<Links, HistoryRefusal>
     requires rising { AreRising bundle.now.openings }
     requires made { bundle.now.tip ≤ blocks log.now.log }
-    ensures { result ≢ Err HistoryRefusal.NoMemory → let links = links_of (rules_of log.now) made.now bundle.now in
+    ensures { result ≢ Err HistoryRefusal.NoMemory → let links = links_of (tagged tag.now) made.now bundle.now in
         result ≡ unless_failed
-        (lowest_failure (λ n. failure_in (tests_by (H.digest_of h.now)) (rules_of log.now) log.now.log bundle.now.tip
+        (lowest_failure (λ n. failure_in (tests_by (H.digest_of h.now)) (tagged tag.now) log.now.log bundle.now.tip
         links n (opening_at bundle.now.openings n))
         (above bundle.now.tip bundle.now.openings))
         links }
@@ -84,7 +100,7 @@ fn links_of<H: Hash32>(
         let leaf = leaf_at(alloc, h, &defaults, log, span, bundle.coin, opening)?;
         let next = next_tx(
             alloc,
-            log,
+            tag,
             made,
             bundle,
             spends.as_slice(),
@@ -109,7 +125,7 @@ fn links_of<H: Hash32>(
 // empty. A signature is tested only where the transfer spends the last link.
 fn next_tx(
     alloc: Global,
-    log: &RootLog,
+    tag: &[u8; 32],
     made: &CoinView,
     bundle: &Bundle,
     spends: &[Link],
@@ -118,9 +134,9 @@ fn next_tx(
 ) -> Result<Option<SignedTx>, HistoryRefusal>
     requires { leaf.now ≡ leaf_of_opening opening.now }
     ensures { (dig : List ℕ → List ℕ) → result ≢ Err HistoryRefusal.NoMemory → result ≡ unless_failed
-        (first_cause (link_causes (tests_by dig) (rules_of log.now) bundle.now.tip
+        (first_cause (link_causes (tests_by dig) (tagged tag.now) bundle.now.tip
         (links_with bundle.now.coin made.now spends.now) opening.now))
-        (transfer_of (rules_of log.now) bundle.now.coin opening.now) }
+        (transfer_of (tagged tag.now) bundle.now.coin opening.now) }
 {
     let n = opening.block;
     if leaf.is_empty() {
@@ -129,7 +145,7 @@ fn next_tx(
         }
         return Ok(None);
     }
-    let Some(tx) = leaf_tx(alloc, &log.tag(), bundle.coin, n, leaf)? else {
+    let Some(tx) = leaf_tx(alloc, tag, bundle.coin, n, leaf)? else {
         return Err(HistoryRefusal::NotLink { n });
     };
     if tx.body.parent != tip(made, spends) {

@@ -89,11 +89,7 @@ fn front_refusal<R: Role>(role: &R, front: &[Bytes], records: &[Bytes]) -> Optio
 }
 
 // Why the records aren't those of a role, where they aren't.
-pub fn role_refusal<R: Role>(
-    alloc: Global,
-    role: &R,
-    records: &[Bytes],
-) -> Option<JournalRefusal>
+pub fn role_refusal<R: Role>(alloc: Global, role: &R, records: &[Bytes]) -> Option<JournalRefusal>
     ensures { IsRoleRefusal (R.kinds role.now) records.now result }
 {
     match front_of(alloc, role, records) {

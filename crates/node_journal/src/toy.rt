@@ -37,12 +37,7 @@ impl Role for CounterRole {
         is_number_of(1, body) && number_in(body) == self.first
     }
 
-    fn is_note(
-        &self,
-        _alloc: Global,
-        _identity: &[u8],
-        body: &[u8],
-    ) -> Result<bool, NoMemory> {
+    fn is_note(&self, _alloc: Global, _identity: &[u8], body: &[u8]) -> Result<bool, NoMemory> {
         Ok(is_number_of(2, body))
     }
 }

@@ -1,8 +1,14 @@
-use Rattle.std.proofs.Common.{sym, ◌∙◌}
-use Rattle.coin_history.proofs.CheckFacts.{tip-made}
+use Rattle.std.proofs.Common.{List, ℕ, sym, ◌∙◌, ap}
+use Rattle.root_rules.specs.Shown.{tests_by, rules_of}
+use Rattle.coin_history.specs.History.{tagged}
+use Rattle.coin_history.specs.Checking.{history_of}
+use Rattle.coin_history.proofs.CheckFacts.{tagged-same}
 use Rattle.coin_history.proofs.checking.check.Goals as goal
 
-pub links_of-requires-clause-made : goal.links_of-requires-clause-made
-links_of-requires-clause-made g c =
-    tip-made c.args.log.now.log c.args.bundle.now.coin c.args.bundle.now.tip c.in-Some.made
-    (sym c.coin.ensures ∙ c.in-Some.is) (sym c.may_be_tip.ensures ∙ c.if-not-may_be_tip.false)
+pub returns : goal.returns
+returns g c given =
+    let tests = tests_by (g.H.Hash32.digest_of c.args.h.now) in
+    let log = c.args.log.now in
+    c.check_tagged.ensures given
+    ∙ ap (λ (tag : List ℕ). history_of tests (tagged tag) log.log c.args.bundle.now) c.tag.ensures
+    ∙ tagged-same tests (rules_of log) log.log c.args.bundle.now

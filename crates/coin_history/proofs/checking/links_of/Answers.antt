@@ -1,14 +1,15 @@
 use Rattle.std.proofs.Common.{◌≡◌, Err, sym, ap, ◌∙◌}
 use Rattle.std.proofs.lemmas.Result.{err_from_is_err_and}
-use Rattle.root_rules.specs.Shown.{tests_by, rules_of}
+use Rattle.root_rules.specs.Shown.{tests_by}
 use Rattle.coin_history.specs.declared.refusal.HistoryRefusal.TheVariants.{NoMemory}
+use Rattle.coin_history.specs.History.{tagged}
 use Rattle.coin_history.proofs.CheckFacts.{refusal-same}
 use Rattle.coin_history.proofs.CheckLinks.{walked-start, walked-missing, walked-unopened, walked-unlinked, walked-next, walked-behind, walked-end}
 use Rattle.coin_history.proofs.checking.links_of.Goals as goal
 
 pub loop-opening-init : goal.loop-opening-init
 loop-opening-init g c =
-    walked-start (tests_by (g.H.Hash32.digest_of c.args.h.now)) (rules_of c.args.log.now) c.args.log.now.log
+    walked-start (tests_by (g.H.Hash32.digest_of c.args.h.now)) (tagged c.args.tag.now) c.args.log.now.log
     c.args.made.now c.args.bundle.now c.as_slice-opening-items.result.now c.new-spends.result.items c.requires.rising
     c.as_slice-opening-items.ensures c.new-spends.ensures.items
 

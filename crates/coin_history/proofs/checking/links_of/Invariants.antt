@@ -1,8 +1,9 @@
-use Rattle.root_rules.specs.Shown.{tests_by, rules_of}
+use Rattle.root_rules.specs.Shown.{tests_by}
+use Rattle.coin_history.specs.History.{tagged}
 use Rattle.coin_history.proofs.CheckLinks.{Walked}
 use Rattle.coin_history.proofs.checking.links_of.Given as goal
 
 abbrev pub invariant-loop-opening : goal.invariant-loop-opening
 invariant-loop-opening g l =
-    Walked (tests_by (g.H.Hash32.digest_of l.h)) (rules_of l.log) l.log.log l.made l.bundle l.opening-items
+    Walked (tests_by (g.H.Hash32.digest_of l.h)) (tagged l.tag) l.log.log l.made l.bundle l.opening-items
     l.opening-index l.passed l.spends.items

@@ -1,0 +1,4 @@
+pub mod Kept
+pub mod Watcher
+pub mod WalletRecords
+pub mod Wallet

@@ -1,0 +1,11 @@
+//! What wallets and watchers do, as definitions: their records, and for each command its answer, the record
+//! that it adds and what it makes, by the records and the log.
+#![tactic(auto)]
+
+mod answers;
+mod identity;
+mod refusal;
+
+pub use answers::{Accepted, Reclaimed, Sent};
+pub use identity::WalletIdentity;
+pub use refusal::{WalletRefusal, WatcherRefusal};

@@ -1,0 +1,155 @@
+-- What an offer answers and adds.
+use Rattle.std.proofs.Common.{◌≡◌, ℕ, ◌==◌, ◌++◌, not, Bool, true, false, if◌then◌else◌, List, [], ◌∷◌, Option, Some, None, Result, Ok, Err, refl, sym, ap, ◌∙◌}
+use Rattle.std.specs.Prelude.{MatchResult, nat_le}
+use Rattle.std.specs.List.{AllByRecursion}
+use Rattle.node_journal.specs.declared.stop.Stop.{Stop}
+use Rattle.node_journal.specs.declared.stop.Stop.TheVariants.{Closed, NoMemory, DeviceFault}
+use Rattle.node_journal.specs.Effect.{Effect, only, first_cause, unless}
+use Rattle.node_journal.specs.Role.{are_of}
+use Rattle.node_journal.specs.Notes.{NotesState, Did}
+use Rattle.crash_disk.specs.Disk.{History, FaultPlan}
+use Rattle.plasma_tx.specs.declared.signed_tx.SignedTx.{SignedTx}
+use Rattle.plasma_tx.specs.declared.signed_tx.TxRefusal.{TxRefusal}
+use Rattle.plasma_tx.specs.declared.call.RootCall.{RootCall}
+use Rattle.plasma_tx.specs.declared.views.CoinView.{CoinView}
+use Rattle.plasma_tx.specs.Spelling.{signed_in}
+use Rattle.plasma_tx.specs.Transfer.{is_signed_by}
+use Rattle.plasma_tx.specs.Views.{blocks, coin_at}
+use Rattle.operator_rules.specs.declared.refusal.OfferRefusal.{OfferRefusal}
+use Rattle.operator_rules.specs.declared.refusal.OfferRefusal.TheVariants.{NotTransfer, NoCoin, WrongParent, BadSignature, TooLate, PoolHasCoin, DeviceFault as FaultOffer, Closed as ClosedOffer, NoMemory as NoMemoryOffer}
+use Rattle.operator_rules.specs.Records.{Offered, note_text, operator_kinds, who_is}
+use Rattle.operator_rules.specs.Trees.{Forest, coin_named, is_waiting}
+use Rattle.operator_rules.specs.Walk.{Place, present}
+use Rattle.operator_rules.specs.Commands.{forest_in, late_causes, offer_causes, offer_at, offer_of, offer_effect}
+use Rattle.operator_rules.proofs.Trees.{coin-named}
+use Rattle.operator_core.specs.State.{offer_stop}
+use Rattle.operator_core.specs.Inside.{AddsRecord, offer_refusal}
+use Rattle.operator_core.proofs.Adds.{adds_offered}
+
+pub offer_stop-refusal : (stop : Stop) → offer_stop (Err (offer_refusal stop)) ≡ Some stop
+offer_stop-refusal Closed = refl
+offer_stop-refusal NoMemory = refl
+offer_stop-refusal DeviceFault = refl
+
+-- a coin is answered with its note, and a refusal of the rules without
+IsFine : List ℕ → Effect (Result ℕ OfferRefusal) → Type 0
+IsFine bytes effect =
+    MatchResult effect.answer (λ coin. (effect.note ≡ Some (note_text (Offered bytes))) × (coin ≡ coin_named bytes))
+    (λ why. (effect.note ≡ None) × (offer_stop (Err why) ≡ None))
+
+first-fine : (causes : List (Bool × OfferRefusal)) (why : OfferRefusal)
+    → AllByRecursion (λ cause. offer_stop (Err cause.1) ≡ None) causes → first_cause causes ≡ Some why
+    → offer_stop (Err why) ≡ None
+first-fine [] why all is = absurd (cc is)
+first-fine (cause ∷ causes) why all is =
+    (elim cause.0 as (λ b. (if b then Some cause.1 else first_cause causes) ≡ Some why → offer_stop (Err why) ≡ None) [
+      | true ↦ λ same. (let e : cause.1 ≡ why = cc same in ap (λ (w : OfferRefusal). offer_stop (Err w)) (sym e) ∙
+          all.0)
+      | false ↦ λ rest. first-fine causes why all.1 rest
+    ]) is
+
+unless-fine : (bytes : List ℕ) (failed : Option OfferRefusal) (effect : Effect (Result ℕ OfferRefusal))
+    → IsFine bytes effect → ((why : OfferRefusal) → failed ≡ Some why → offer_stop (Err why) ≡ None)
+    → IsFine bytes (unless failed effect)
+unfolding IsFine
+unless-fine bytes None effect fine rules = fine
+unless-fine bytes (Some why) effect fine rules = (refl, rules why refl)
+
+causes-fine : (count : ℕ) (tx : SignedTx) (tip : Place) (waiting : Bool)
+    → AllByRecursion (λ cause. offer_stop (Err cause.1) ≡ None) (offer_causes count tx tip waiting)
+causes-fine count tx tip waiting =
+    elim tx.body.last as (λ last. AllByRecursion (λ cause. offer_stop (Err cause.1) ≡ None)
+    (((not (tx.body.parent == tip.block), WrongParent tip.block)
+    ∷ (not (is_signed_by tx tip.owner), BadSignature)
+    ∷ late_causes count last)
+    ++ (waiting, PoolHasCoin) ∷ [])) [
+      | None ↦ (refl, (refl, (refl, tt)))
+      | Some last ↦ (refl, (refl, (refl, (refl, tt))))
+    ]
+
+module _ (dig : List ℕ → List ℕ) (tag : List ℕ) (log : List RootCall) (forest : Forest) (bytes : List ℕ) where
+  at-fine : (tx : SignedTx) (made : Option CoinView) → tx.body.coin ≡ coin_named bytes
+      → IsFine bytes (offer_at dig tag log forest bytes tx made)
+  unfolding IsFine
+  at-fine tx None named = (refl, refl)
+  at-fine tx (Some made) named =
+      let causes = offer_causes (blocks log) tx (present dig tag log forest.sealed tx.body.coin made)
+      (is_waiting dig log forest tx.body.coin) in
+      unless-fine bytes (first_cause causes)
+      (record { answer = Ok tx.body.coin; note = Some (note_text (Offered bytes)) })
+      (refl, named)
+      (λ why is. first-fine causes why (causes-fine (blocks log) tx
+      (present dig tag log forest.sealed tx.body.coin made) (is_waiting dig log forest tx.body.coin)) is)
+
+  of-fine : (read : Result SignedTx TxRefusal) → signed_in tag bytes ≡ read
+      → IsFine bytes (offer_of dig tag log forest bytes read)
+  unfolding IsFine
+  of-fine (Err why) is = (refl, refl)
+  of-fine (Ok tx) is = at-fine tx (coin_at log tx.body.coin) (coin-named tag bytes tx is)
+
+offer-fine : (dig : List ℕ → List ℕ) (records : List (List ℕ)) (log : List RootCall) (bytes : List ℕ)
+    → IsFine bytes (offer_effect dig records log bytes)
+unfolding offer_effect
+offer-fine dig records log bytes =
+    of-fine dig (who_is records).tag log (forest_in records) bytes (signed_in (who_is records).tag bytes) refl
+
+fine-ok : (bytes : List ℕ) (answer : Result ℕ OfferRefusal) (added : Option (List ℕ)) (coin : ℕ)
+    → IsFine bytes (record { answer = answer; note = added }) → Ok coin ≡ answer
+    → (added ≡ Some (note_text (Offered bytes))) × (coin ≡ coin_named bytes)
+unfolding IsFine
+fine-ok bytes (Ok named) added coin fine is = (fine.0, (let e : coin ≡ named = cc is in e) ∙ fine.1)
+fine-ok bytes (Err why) added coin fine is = absurd (cc is)
+
+fine-err : (bytes : List ℕ) (answer : Result ℕ OfferRefusal) (added : Option (List ℕ)) (why : OfferRefusal)
+    → IsFine bytes (record { answer = answer; note = added }) → Err why ≡ answer
+    → (added ≡ None) × (offer_stop (Err why) ≡ None)
+unfolding IsFine
+fine-err bytes (Ok named) added why fine is = absurd (cc is)
+fine-err bytes (Err other) added why fine is =
+    (fine.0, ap (λ (w : OfferRefusal). offer_stop (Err w)) (let e : why ≡ other = cc is in e) ∙ fine.1)
+
+module _ (dig : List ℕ → List ℕ) (records : List (List ℕ)) (log : List RootCall) (bytes : List ℕ) where
+  -- a coin that is answered is the one that the bytes name, and their note is added
+  pub offered_note : (coin : ℕ) → Ok coin ≡ (offer_effect dig records log bytes).answer
+      → (offer_effect dig records log bytes).note ≡ Some (note_text (Offered bytes))
+  offered_note coin is =
+      (fine-ok bytes (offer_effect dig records log bytes).answer (offer_effect dig records log bytes).note coin
+      (offer-fine dig records log bytes) is).0
+
+  pub offered_adds : (coin : ℕ) → are_of operator_kinds records ≡ true
+      → Ok coin ≡ (offer_effect dig records log bytes).answer
+      → AddsRecord records (note_text (Offered bytes)) (Some (coin, bytes))
+  offered_adds coin are is =
+      let fine = fine-ok bytes (offer_effect dig records log bytes).answer (offer_effect dig records log
+      bytes).note coin
+      (offer-fine dig records log bytes) is in
+      rw fine.1 (adds_offered dig records log bytes are fine.0)
+
+  -- a refusal that is answered adds nothing, and is no stop
+  pub refused_note : (why : OfferRefusal) → Err why ≡ (offer_effect dig records log bytes).answer
+      → ((offer_effect dig records log bytes).note ≡ None) × (offer_stop (Err why) ≡ None)
+  refused_note why is =
+      fine-err bytes (offer_effect dig records log bytes).answer (offer_effect dig records log bytes).note why
+      (offer-fine dig records log bytes) is
+
+-- what an offer did that was refused before its record was added
+pub did_refused : {D : Type 0} (told : D → Option History) (plan : D → Option FaultPlan) (faults : D → ℕ)
+    (added : Option (List ℕ)) (old : NotesState D) (why : OfferRefusal) → old.closed ≡ false
+    → ((why ≡ NoMemoryOffer → ⊥) → (added ≡ None) × (offer_stop (Err why) ≡ None))
+    → Did told plan faults added old (offer_stop (Err why)) old
+did_refused told plan faults added old why is_open ruled = at why ruled
+  where
+    stays : added ≡ None → Did told plan faults added old None old
+    stays none = rw none (is_open, refl)
+
+    at : (w : OfferRefusal) → ((w ≡ NoMemoryOffer → ⊥) → (added ≡ None) × (offer_stop (Err w) ≡ None))
+        → Did told plan faults added old (offer_stop (Err w)) old
+    at NotTransfer rule = stays (rule (λ e. cc e)).0
+    at NoCoin rule = stays (rule (λ e. cc e)).0
+    at (WrongParent tip) rule = stays (rule (λ e. cc e)).0
+    at BadSignature rule = stays (rule (λ e. cc e)).0
+    at (TooLate last) rule = stays (rule (λ e. cc e)).0
+    at PoolHasCoin rule = stays (rule (λ e. cc e)).0
+    at FaultOffer rule = (let wrong : Some DeviceFault ≡ None = (rule (λ e. cc e)).1 in absurd (cc wrong))
+    at ClosedOffer rule = (let wrong : Some Closed ≡ None = (rule (λ e. cc e)).1 in absurd (cc wrong))
+    at NoMemoryOffer rule = (is_open, refl)

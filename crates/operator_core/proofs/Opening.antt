@@ -1,0 +1,48 @@
+-- Openings and beginnings that are given up for want of memory.
+use Rattle.std.proofs.Common.{◌≡◌, ℕ, List, [], length, Option, Some, None, option_map, Result, Err, refl, inl, arith}
+use Rattle.crash_disk.specs.Disk.{Step, History, content, FaultPlan}
+use Rattle.crash_disk.specs.Calls.{stopped_after, after_course, Made}
+use Rattle.crash_disk.proofs.Calls.{made_stop}
+use Rattle.gate_journal.specs.declared.refusal.JournalRefusal.TheVariants.{NoMemory as JournalNoMemory}
+use Rattle.gate_journal.specs.declared.refusal.InitRefusal.TheVariants.{NoMemory}
+use Rattle.node_journal.specs.Begin.{Inits, journal_steps, BeginsPair}
+use Rattle.node_journal.specs.Notes.{NotesState, Opened, RefusesRole}
+
+pub given_up : {D : Type 0} (told : D → Option History) (plan : D → Option FaultPlan) (faults : D → ℕ)
+    (read : List ℕ → Result (List (List ℕ)) ℕ) (old : D) (new : NotesState D)
+    → Opened told plan faults read old new → RefusesRole told plan faults read old JournalNoMemory new.disk
+given_up told plan faults read old new opened = record {
+  refused = (
+    3,
+    (λ one. absurd (omega (arith, one))),
+    record {
+      calls = opened.made.calls;
+      planned = (omega arith, opened.made.planned.0, opened.made.planned.1);
+    },
+  );
+  count = opened.count;
+}
+
+module _ {D : Type 0} (told : D → Option History) (plan : D → Option FaultPlan) where
+  -- no device call was made
+  nothing_made : (steps : List ℕ → List Step) (most : ℕ) (disk : D)
+      → Made told plan steps most (stopped_after 0) disk disk
+  nothing_made steps most disk = record {
+    calls = at (told disk);
+    planned = (made_stop told plan [] most disk).planned;
+  }
+    where
+      at : (t : Option History) → t ≡ option_map (λ before. after_course (stopped_after 0) (steps (content before))
+          before) t
+      at None = refl
+      at (Some before) = refl
+
+  pub no_init : (steps : List ℕ → List Step) (disk : D) → Inits told plan steps disk (Err NoMemory) disk
+  no_init steps disk = λ before is. (0, nothing_made steps (length (steps (content before))) disk)
+
+  pub no_pair : {E : Type 0} (leaves_told : E → Option History) (leaves_plan : E → Option FaultPlan) (faults : D → ℕ)
+      (leaves_faults : E → ℕ) (identity : List ℕ) (disk : D) (leaves : E)
+      → BeginsPair told plan faults leaves_told leaves_plan leaves_faults identity disk leaves (Err NoMemory) disk
+      leaves
+  no_pair leaves_told leaves_plan faults leaves_faults identity disk leaves =
+      inl (record { inits = no_init journal_steps disk; count = refl }, refl)

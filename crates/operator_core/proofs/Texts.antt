@@ -1,0 +1,61 @@
+-- Records as bytes.
+use Rattle.std.proofs.Common.{◌≡◌, ◌≢◌, ◌≤◌, ℕ, Bool, true, false, if◌then◌else◌, List, [], ◌∷◌, ◌++◌, length, Option, Some, None, Result, Ok, Err, refl, ◌∙◌, ap, sym, inl, inr, arith, append_assoc}
+use Rattle.std.specs.Prelude.{slice_range, nat_lt, not, ◌||◌, nat_eq}
+use Rattle.std.specs.Result.{is_ok}
+use Rattle.std.proofs.lemmas.Bool.{cases_Bool}
+use Rattle.std.specs.Str.{bytes_eq}
+use Rattle.std.proofs.lemmas.Slice.Eq.{bytes_eq-Decides}
+use Rattle.plasma_tx.specs.declared.body.Body.{Body}
+use Rattle.plasma_tx.specs.declared.signed_tx.TxRefusal.{TxRefusal}
+use Rattle.plasma_tx.specs.declared.signed_tx.TxRefusal.TheVariants.{Short, BadMark, BadTag}
+use Rattle.plasma_tx.specs.Spelling.{signed_in, body_in, body_length, body_at_start, with_signature, has_second_mark}
+use Rattle.plasma_tx.proofs.Spellings.{Fits, body_in-ok}
+use Rattle.plasma_tx.proofs.Parts.{length-range}
+use Rattle.operator_rules.specs.Records.{is_read, spells_transfer}
+use Rattle.operator_core.specs.Texts.{offered_coin}
+
+-- a body is read where a signed transfer is
+pub read_same : (tag bytes : List ℕ) → spells_transfer tag bytes ≡ is_ok (body_in tag bytes)
+unfolding signed_in
+read_same tag bytes = at (body_in tag bytes)
+  where
+    at : (r : Result Body TxRefusal) → is_read (with_signature bytes r) ≡ is_ok r
+    at (Ok body) = refl
+    at (Err why) = refl
+
+-- a body that is read has the tag at its place
+pub no_transfer : (bytes : List ℕ) → spells_transfer [] bytes ≡ false
+no_transfer bytes = read_same [] bytes ∙ at (body_in [] bytes) refl
+  where
+    none : Fits [] bytes → ⊥
+    none fits =
+        let long = fits.long in
+        let no_tag : length (slice_range bytes 4 36) ≡ 0 = ap (λ (xs : List ℕ). length xs) fits.tagged in
+        let tag = length-range bytes 4 36 (omega arith)
+        (elim (cases_Bool (has_second_mark bytes)) [
+          | inl is ↦ (let h : 124 ≤ length bytes = rw is at long in omega (arith, h))
+          | inr isnt ↦ (let h : 116 ≤ length bytes = rw isnt at long in omega (arith, h))
+        ]) in
+        omega (arith, tag, no_tag)
+
+    at : (r : Result Body TxRefusal) → body_in [] bytes ≡ r → is_ok r ≡ false
+    at (Ok body) is = absurd (none (body_in-ok [] bytes body is).0)
+    at (Err why) is = refl
+
+-- the coin of what is read
+pub coin_read : (tag bytes : List ℕ) (body : Body) → body_in tag bytes ≡ Ok body
+    → Some body.coin ≡ offered_coin tag bytes
+coin_read tag bytes body is =
+    let read : spells_transfer tag bytes ≡ true = read_same tag bytes ∙ ap (λ (r : Result Body TxRefusal). is_ok r)
+    is in
+    rw (read, (body_in-ok tag bytes body is).1) refl
+
+pub not_read : (tag bytes : List ℕ) (why : TxRefusal) → body_in tag bytes ≡ Err why → offered_coin tag bytes ≡ None
+not_read tag bytes why is =
+    let unread : spells_transfer tag bytes ≡ false = read_same tag bytes ∙ ap (λ (r : Result Body TxRefusal). is_ok
+    r) is in
+    rw unread refl
+
+-- one way to group
+pub grouped : (a b c d : List ℕ) → ((a ++ b) ++ c) ++ d ≡ a ++ (b ++ (c ++ d))
+grouped a b c d = append_assoc (a ++ b) c d ∙ append_assoc a b (c ++ d)

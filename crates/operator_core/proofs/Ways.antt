@@ -1,0 +1,265 @@
+-- The committed blocks one after another.
+use Rattle.std.proofs.Common.{◌≡◌, ℕ, zero, suc, ◌+◌, ◌-◌, ◌<◌, ◌≤◌, Bool, true, false, not, nat_lt, if◌then◌else◌, List, [], ◌∷◌, ◌++◌, length, filter, Option, Some, None, Result, Ok, Err, refl, sym, ap, ◌∙◌, inl, inr, arith, append_assoc, append-nil}
+use Rattle.std.specs.List.{range_with_len, AllPairs}
+use Rattle.std.proofs.lemmas.List.{get_or-map, length-map}
+use Rattle.std.proofs.lemmas.List.FromFn.{length-range_with_len, get_or-range_with_len}
+use Rattle.std.proofs.lemmas.List.Kept.{AllPairs-filter}
+use Rattle.std.proofs.lemmas.Bool.{cases_Bool, cases_lt, lt-ltb, le-ltb}
+use Rattle.std.proofs.lemmas.List.Elements.{filter-append}
+use Rattle.sparse_merkle.specs.declared.tree.Entry.{Entry}
+use Rattle.plasma_tx.specs.declared.opening.RawOpening.{RawOpening}
+use Rattle.plasma_tx.specs.declared.call.RootCall.{RootCall}
+use Rattle.plasma_tx.specs.declared.views.CoinView.{CoinView}
+use Rattle.plasma_tx.specs.Views.{blocks}
+use Rattle.coin_history.specs.History.{is_committed, committed_blocks, blocks_of}
+use Rattle.coin_history.specs.Bundles.{AreRising}
+use Rattle.operator_rules.specs.declared.refusal.ProveRefusal.{ProveRefusal}
+use Rattle.operator_rules.specs.Trees.{tree_at, opening_in_tree}
+use Rattle.operator_rules.specs.Walk.{Place, start_of, moved_by, transfer_at, place_at, present}
+use Rattle.operator_rules.specs.Commands.{prove_by, with_opening, openings_of}
+
+-- ---- the walk
+
+module _ (dig : List ℕ → List ℕ) (tag : List ℕ) (log : List RootCall) (sealed : List (List Entry)) (coin : ℕ)
+    (made : CoinView) where
+  pub place-early : (n : ℕ) → n ≤ made.deposit → place_at dig tag log sealed coin made n ≡ start_of made
+  unfolding place_at
+  place-early zero le = refl
+  place-early (suc n) le = rw (le-ltb made.deposit (suc n) le) refl
+
+  pub place-next : (n : ℕ) → made.deposit ≤ n
+      → place_at dig tag log sealed coin made (n + 1)
+      ≡ moved_by (n + 1) (place_at dig tag log sealed coin made n) (transfer_at dig tag log sealed coin (n + 1))
+  unfolding place_at
+  place-next n le =
+      let e : n + 1 ≡ suc n = omega arith in
+      rw (e, lt-ltb made.deposit (suc n) (omega arith)) refl
+
+  pub place-last : (n : ℕ) → made.deposit ≤ n → blocks log ≤ n → (made.deposit < n → n ≤ blocks log)
+      → place_at dig tag log sealed coin made n ≡ present dig tag log sealed coin made
+  place-last n low high within = elim (cases_lt made.deposit n) [
+    | inl after ↦
+        ap (λ (k : ℕ). place_at dig tag log sealed coin made k)
+        (let last = within after in let e : n ≡ blocks log = omega arith in e)
+    | inr le ↦ place-early n le ∙ sym (place-early (blocks log) (omega arith))
+  ]
+
+-- ---- committed blocks
+
+range-append : (start one other : ℕ)
+    → range_with_len start (one + other) ≡ range_with_len start one ++ range_with_len (start + one) other
+range-append start zero other =
+    (λ i. range_with_len (let e : start ≡ start + 0 = omega arith in e i) (let e : 0 + other ≡ other = omega arith
+    in e i))
+range-append start (suc one) other =
+    let e : suc one + other ≡ suc (one + other) = omega arith in
+    let f : start + 1 + one ≡ start + suc one = omega arith in
+    rw e (ap (λ (rest : List ℕ). start ∷ rest) (range-append (start + 1) one other
+    ∙ ap (λ (from : ℕ). range_with_len (start + 1) one ++ range_with_len from other) f))
+
+module _ (log : List RootCall) where
+  pub committed-split : (after middle last : ℕ) → after ≤ middle → middle ≤ last
+      → committed_blocks log after last ≡ committed_blocks log after middle ++ committed_blocks log middle last
+  unfolding committed_blocks
+  committed-split after middle last low high =
+      let count : last - after ≡ (middle - after) + (last - middle) = omega arith in
+      let start : after + 1 + (middle - after) ≡ middle + 1 = omega arith in
+      ap (λ (n : ℕ). filter (is_committed log) (range_with_len (after + 1) n)) count
+      ∙ ap (λ (xs : List ℕ). filter (is_committed log) xs) (range-append (after + 1) (middle - after) (last - middle))
+      ∙ ap (λ (n : ℕ). filter (is_committed log) (range_with_len (after + 1) (middle - after)
+      ++ range_with_len n (last - middle))) start
+      ∙ filter-append (is_committed log) (range_with_len (after + 1) (middle - after))
+      (range_with_len (middle + 1) (last - middle))
+
+  pub committed-none : (after last : ℕ) → last ≤ after → committed_blocks log after last ≡ []
+  unfolding committed_blocks
+  committed-none after last le =
+      let none : last - after ≡ 0 = omega arith in
+      ap (λ (n : ℕ). filter (is_committed log) (range_with_len (after + 1) n)) none
+
+  pub committed-one : (n : ℕ) → committed_blocks log n (n + 1) ≡ (if is_committed log (n + 1) then (n + 1) ∷ []
+      else [])
+  unfolding committed_blocks
+  committed-one n =
+      let one : n + 1 - n ≡ 1 = omega arith in
+      ap (λ (k : ℕ). filter (is_committed log) (range_with_len (n + 1) k)) one
+
+-- ---- their openings
+
+module _ (dig : List ℕ → List ℕ) (log : List RootCall) (sealed : List (List Entry)) (coin : ℕ) where
+  abbrev opening_of : ℕ → Result RawOpening ProveRefusal
+  opening_of n = prove_by dig coin n (tree_at dig log sealed n)
+
+  -- these openings before what the others have
+  abbrev pub behind : List RawOpening → Result (List RawOpening) ProveRefusal → Result (List RawOpening) ProveRefusal
+  behind openings (Err why) = Err why
+  behind openings (Ok others) = Ok (openings ++ others)
+
+  record Parts (o : Result RawOpening ProveRefusal) (r : Result (List RawOpening) ProveRefusal) (openings : List
+      RawOpening)
+      : Type 0 where
+    first : RawOpening
+    rest : List RawOpening
+    first_is : o ≡ Ok first
+    rest_is : r ≡ Ok rest
+    whole : first ∷ rest ≡ openings
+
+  parts : (o : Result RawOpening ProveRefusal) (r : Result (List RawOpening) ProveRefusal) (openings : List RawOpening)
+      → with_opening o r ≡ Ok openings → Parts o r openings
+  parts (Err why) r openings is = absurd (cc is)
+  parts (Ok first) (Err why) openings is = absurd (cc is)
+  parts (Ok first) (Ok rest) openings is =
+      record { first = first; rest = rest; first_is = refl; rest_is = refl; whole = cc is }
+
+  behind-none : (r : Result (List RawOpening) ProveRefusal) → r ≡ behind [] r
+  behind-none (Err why) = refl
+  behind-none (Ok others) = refl
+
+  behind-more : (first : RawOpening) (rest : List RawOpening) (r : Result (List RawOpening) ProveRefusal)
+      → with_opening (Ok first) (behind rest r) ≡ behind (first ∷ rest) r
+  behind-more first rest (Err why) = refl
+  behind-more first rest (Ok others) = refl
+
+  openings-append : (ns ms : List ℕ) (openings : List RawOpening)
+      → openings_of dig log sealed coin ns ≡ Ok openings
+      → openings_of dig log sealed coin (ns ++ ms) ≡ behind openings (openings_of dig log sealed coin ms)
+  unfolding openings_of
+  openings-append [] ms openings is =
+      let e : [] ≡ openings = cc is in
+      behind-none (openings_of dig log sealed coin ms)
+      ∙ ap (λ (front : List RawOpening). behind front (openings_of dig log sealed coin ms)) e
+  openings-append (n ∷ ns) ms openings is =
+      let p = parts (opening_of n) (openings_of dig log sealed coin ns) openings is in
+      ap (λ (o : Result RawOpening ProveRefusal). with_opening o (openings_of dig log sealed coin (ns ++ ms)))
+      p.first_is
+      ∙ ap (λ (r : Result (List RawOpening) ProveRefusal). with_opening (Ok p.first) r)
+      (openings-append ns ms p.rest p.rest_is)
+      ∙ behind-more p.first p.rest (openings_of dig log sealed coin ms)
+      ∙ ap (λ (front : List RawOpening). behind front (openings_of dig log sealed coin ms)) p.whole
+
+  -- the openings of a block and of those behind it
+  opening-front : (n : ℕ) (ns : List ℕ) → openings_of dig log sealed coin (n ∷ ns)
+      ≡ with_opening (opening_of n) (openings_of dig log sealed coin ns)
+  unfolding openings_of
+  opening-front n ns = refl
+
+  opening-none : openings_of dig log sealed coin [] ≡ Ok []
+  unfolding openings_of
+  opening-none = refl
+
+  abbrev all : ℕ → ℕ → Result (List RawOpening) ProveRefusal
+  all after last = openings_of dig log sealed coin (committed_blocks log after last)
+
+  along : (after middle last : ℕ) (openings : List RawOpening) → after ≤ middle → middle ≤ last
+      → all after middle ≡ Ok openings → all after last ≡ behind openings (all middle last)
+  along after middle last openings low high is =
+      ap (λ (ns : List ℕ). openings_of dig log sealed coin ns) (committed-split log after middle last low high)
+      ∙ openings-append (committed_blocks log after middle) (committed_blocks log middle last) openings is
+
+  all-here : (n : ℕ) (last : ℕ) → n < last → is_committed log (n + 1) ≡ true
+      → all n last ≡ with_opening (opening_of (n + 1)) (all (n + 1) last)
+  all-here n last lt committed =
+      ap (λ (ns : List ℕ). openings_of dig log sealed coin ns)
+      (committed-split log n (n + 1) last (omega arith) (omega arith)
+      ∙ ap (λ (front : List ℕ). front ++ committed_blocks log (n + 1) last) (committed-one log n
+      ∙ ap (λ (b : Bool). if b then (n + 1) ∷ [] else []) committed))
+      ∙ opening-front (n + 1) (committed_blocks log (n + 1) last)
+
+  all-none : (after last : ℕ) → last ≤ after → all after last ≡ Ok []
+  all-none after last le =
+      ap (λ (ns : List ℕ). openings_of dig log sealed coin ns) (committed-none log after last le) ∙ opening-none
+
+  pub openings_none : (n : ℕ) → openings_of dig log sealed coin (committed_blocks log n n) ≡ Ok []
+  openings_none n = all-none n n (omega arith)
+
+  -- one more block
+  pub openings_skip : (after before : ℕ) (openings : List RawOpening) → after ≤ before
+      → openings_of dig log sealed coin (committed_blocks log after before) ≡ Ok openings
+      → is_committed log (before + 1) ≡ false
+      → openings_of dig log sealed coin (committed_blocks log after (before + 1)) ≡ Ok openings
+  openings_skip after before openings le is isnt =
+      along after before (before + 1) openings le (omega arith) is
+      ∙ ap (λ (ns : List ℕ). behind openings (openings_of dig log sealed coin ns)) (committed-one log before
+      ∙ ap (λ (b : Bool). if b then (before + 1) ∷ [] else []) isnt)
+      ∙ ap (λ (r : Result (List RawOpening) ProveRefusal). behind openings r) opening-none
+      ∙ ap (λ (os : List RawOpening). Ok os) (append-nil openings)
+
+  pub openings_more : (after before : ℕ) (openings : List RawOpening) (opening : RawOpening) → after ≤ before
+      → openings_of dig log sealed coin (committed_blocks log after before) ≡ Ok openings
+      → is_committed log (before + 1) ≡ true → opening_of (before + 1) ≡ Ok opening
+      → openings_of dig log sealed coin (committed_blocks log after (before + 1)) ≡ Ok (openings ++ opening ∷ [])
+  openings_more after before openings opening le is committed made =
+      along after before (before + 1) openings le (omega arith) is
+      ∙ ap (λ (r : Result (List RawOpening) ProveRefusal). behind openings r)
+      (all-here before (before + 1) (omega arith) committed
+      ∙ ap (λ (o : Result RawOpening ProveRefusal). with_opening o (all (before + 1) (before + 1))) made
+      ∙ ap (λ (r : Result (List RawOpening) ProveRefusal). with_opening (Ok opening) r)
+      (all-none (before + 1) (before + 1) (omega arith)))
+
+  -- the first block without a tree
+  pub openings_fail : (after before last : ℕ) (openings : List RawOpening) (why : ProveRefusal) → after ≤ before
+      → before < last
+      → openings_of dig log sealed coin (committed_blocks log after before) ≡ Ok openings
+      → is_committed log (before + 1) ≡ true → opening_of (before + 1) ≡ Err why
+      → openings_of dig log sealed coin (committed_blocks log after last) ≡ Err why
+  openings_fail after before last openings why le lt is committed failed =
+      along after before last openings le (omega arith) is
+      ∙ ap (λ (r : Result (List RawOpening) ProveRefusal). behind openings r)
+      (all-here before last lt committed
+      ∙ ap (λ (o : Result RawOpening ProveRefusal). with_opening o (all (before + 1) last)) failed)
+
+  pub openings_last : (after before last : ℕ) (openings : List RawOpening) → after ≤ before → last ≤ before
+      → (after < before → before ≤ last)
+      → openings_of dig log sealed coin (committed_blocks log after before) ≡ Ok openings
+      → openings_of dig log sealed coin (committed_blocks log after last) ≡ Ok openings
+  openings_last after before last openings low high within is = elim (cases_lt after before) [
+    | inl some ↦
+        (let most = within some in let e : last ≡ before = omega arith in
+        ap (λ (n : ℕ). all after n) e ∙ is)
+    | inr none ↦
+        (let e : before ≡ after = omega arith in
+        all-none after last (omega arith) ∙ sym (all-none after before (omega arith)) ∙ is)
+  ]
+
+pub ruleset openings_steps = (openings_none, openings_skip, openings_more, openings_fail, openings_last)
+
+-- ---- openings rise
+
+range-rises : (start count : ℕ) → AllPairs (λ earlier later. earlier < later) (range_with_len start count)
+range-rises start count i j d lt within =
+    let long = length-range_with_len start count in
+    let one = get_or-range_with_len start count i d (omega (arith, long)) in
+    let other = get_or-range_with_len start count j d (omega (arith, long)) in
+    rw (one, other) (omega arith)
+
+module _ (dig : List ℕ → List ℕ) (log : List RootCall) (sealed : List (List Entry)) (coin : ℕ) where
+  opening-block : (n : ℕ) (tree : Option (List Entry)) (opening : RawOpening) → prove_by dig coin n tree ≡ Ok opening
+      → opening.block ≡ n
+  opening-block n None opening is = absurd (cc is)
+  opening-block n (Some tree) opening is =
+      let e : opening_in_tree dig coin n tree ≡ opening = cc is in ap (λ (o : RawOpening). o.block) (sym e)
+
+  blocks-are : (ns : List ℕ) (openings : List RawOpening) → openings_of dig log sealed coin ns ≡ Ok openings
+      → blocks_of openings ≡ ns
+  unfolding openings_of
+  blocks-are [] openings is =
+      let e : [] ≡ openings = cc is in ap (λ (os : List RawOpening). blocks_of os) (sym e)
+  blocks-are (n ∷ ns) openings is =
+      let p = parts dig log sealed coin (prove_by dig coin n (tree_at dig log sealed n)) (openings_of dig log
+      sealed coin ns)
+      openings is in
+      ap (λ (os : List RawOpening). blocks_of os) (sym p.whole)
+      ∙ (λ i. opening-block n (tree_at dig log sealed n) p.first p.first_is i ∷ blocks-are ns p.rest p.rest_is i)
+
+  pub between_rise : (after last : ℕ) (openings : List RawOpening)
+      → openings_of dig log sealed coin (committed_blocks log after last) ≡ Ok openings → AreRising openings
+  unfolding committed_blocks
+  between_rise after last openings is i j d lt within =
+      let blocks-is = blocks-are (committed_blocks log after last) openings is in
+      let rise = AllPairs-filter (λ earlier later. earlier < later) (is_committed log)
+      (range_with_len (after + 1) (last - after)) (range-rises (after + 1) (last - after)) in
+      let rises : AllPairs (λ earlier later. earlier < later) (blocks_of openings) = rw blocks-is rise in
+      let long = length-map openings (λ (opening : RawOpening). opening.block) in
+      let one = get_or-map (λ (opening : RawOpening). opening.block) openings i d d.block (omega arith) in
+      let other = get_or-map (λ (opening : RawOpening). opening.block) openings j d d.block within in
+      rw (← one, ← other) (rises i j d.block lt (omega (arith, long)))

@@ -1,0 +1,12 @@
+use Rattle.std.proofs.Common.{◌≡◌, ◌<◌, ◌≤◌, Ok}
+use Rattle.coin_history.specs.History.{committed_blocks}
+use Rattle.operator_rules.specs.Commands.{openings_of}
+use Rattle.operator_core.proofs.showing.openings_between.Given as goal
+
+abbrev pub invariant-way : goal.invariant-way
+invariant-way g l = record {
+  made : openings_of (g.H.Hash32.digest_of l.trees.hash) l.log.log l.trees.sealed l.coin
+      (committed_blocks l.log.log l.after l.before)
+      ≡ Ok l.openings.items;
+  within : l.after < l.before → l.before ≤ l.last;
+}

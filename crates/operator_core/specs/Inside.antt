@@ -1,0 +1,105 @@
+-- The pool and the sealed trees as the operator keeps them.
+use Rattle.std.specs.Prelude.{◌≡◌, ◌&&◌, not, ℕ, Bool, true, false, [], ◌∷◌, ◌++◌, if◌then◌else◌, List, map, reverse, Option, Some, None}
+use Rattle.std.specs.HashMap.{HashMap, get}
+use Rattle.std.specs.HashSet.{HashSet, contains}
+use Rattle.std.specs.List.{All, filter_map, position_from}
+use Rattle.std.specs.Str.{bytes_eq}
+use Rattle.merkle_pages.specs.Nodes.{HashedMap}
+use Rattle.sparse_merkle.specs.declared.tree.Entry.{Entry}
+use Rattle.sparse_merkle.specs.TreeDigest.{root_of}
+use Rattle.node_journal.specs.Role.{may_follow}
+use Rattle.node_journal.specs.declared.stop.Stop.{Stop}
+use Rattle.node_journal.specs.declared.stop.Stop.TheVariants.{Closed, NoMemory, DeviceFault}
+use Rattle.operator_rules.specs.declared.refusal.OfferRefusal.{OfferRefusal}
+use Rattle.operator_rules.specs.declared.refusal.OfferRefusal.TheVariants.{Closed as OfferClosed, NoMemory as OfferNoMemory, DeviceFault as OfferFault}
+use Rattle.operator_rules.specs.declared.refusal.LayRefusal.{LayRefusal}
+use Rattle.operator_rules.specs.declared.refusal.LayRefusal.TheVariants.{Closed as LayClosed, NoMemory as LayNoMemory, DeviceFault as LayFault}
+use Rattle.operator_rules.specs.declared.refusal.SealRefusal.{SealRefusal}
+use Rattle.operator_rules.specs.declared.refusal.SealRefusal.TheVariants.{Closed as SealClosed, NoMemory as SealNoMemory, DeviceFault as SealFault}
+use Rattle.operator_rules.specs.Records.{Note, note_in, operator_kinds, who_is}
+use Rattle.operator_rules.specs.Trees.{Forest, has_leaf}
+use Rattle.operator_rules.specs.Commands.{forest_in}
+use Rattle.operator_core.specs.declared.records.Who.{Who}
+use Rattle.operator_core.specs.Texts.{identity_of_who, with_put}
+
+-- what a pool is: the digest that it was made with, its leaves, and those that it will have once its last put is kept
+pub record PoolState (H : Type 0) : Type 0 where
+  pub hash : H
+  pub entries : List Entry
+  pub ahead : List Entry
+
+-- what sealed trees are: the digest that each was made with, their leaves in the order of their seals, and whether
+-- there is room for one more
+pub record TreesState (H : Type 0) : Type 0 where
+  pub hash : H
+  pub sealed : List (List Entry)
+  pub has_room : Bool
+
+-- the leaves of trees
+abbrev pub entries_of : {H : Type 0} → List (HashedMap H) → List (List Entry)
+entries_of trees = map (λ tree. tree.entries) trees
+
+-- the place of the first tree with the root
+abbrev pub place_of : (List ℕ → List ℕ) → List (List Entry) → List ℕ → Option ℕ
+place_of dig sealed root = position_from (λ tree. bytes_eq (root_of dig tree) root) 0 sealed
+
+-- what is found for another root, once a place was added for this one where there was none
+abbrev pub with_place : List ℕ → ℕ → List ℕ → Option ℕ → Option ℕ
+with_place root place other (Some found) = Some found
+with_place root place other None = if bytes_eq root other then Some place else None
+
+-- each tree was made with the digest, and the index gives for each root the place of the first tree with it
+pub record KeepsTrees {H S : Type 0} (hash : H) (dig : List ℕ → List ℕ) (trees : List (HashedMap H))
+    (index : HashMap (List ℕ) ℕ S) : Type 0 where
+  pub hashes : All (λ tree. tree.hash ≡ hash) trees
+  pub places : (root : List ℕ) → get bytes_eq index root ≡ place_of dig (entries_of trees) root
+
+-- the pool and the sealed trees, as the definitions have them
+abbrev pub forest_now : {H : Type 0} → PoolState H → TreesState H → Forest
+forest_now pool trees = record { pool = pool.entries; sealed = trees.sealed }
+
+-- the notes that records spell for a chain with that tag, the newest first
+abbrev pub notes_among : List ℕ → List (List ℕ) → List Note
+notes_among tag records = reverse (filter_map (note_in tag) records)
+
+-- what an operator keeps beside its records is of them: the identity, the pool and the sealed trees; both were made
+-- with
+-- its digest
+pub record IsRight {H : Type 0} (hash : H) (records : List (List ℕ)) (who : Who) (pool : PoolState H)
+    (trees : TreesState H) : Type 0 where
+  pub who_is : identity_of_who who ≡ who_is records
+  pub pool_is : pool.entries ≡ (forest_in records).pool
+  pub sealed_is : trees.sealed ≡ (forest_in records).sealed
+  pub pool_hash : pool.hash ≡ hash
+  pub trees_hash : trees.hash ≡ hash
+
+-- the record may be added to these, and does so much to what they leave
+pub record AddsRecord (records : List (List ℕ)) (body : List ℕ) (put : Option (ℕ × List ℕ)) : Type 0 where
+  pub kind : may_follow operator_kinds records body ≡ true
+  pub who_stays : who_is (records ++ body ∷ []) ≡ who_is records
+  pub forest : forest_in (records ++ body ∷ []) ≡ with_put put (forest_in records)
+
+-- what a stop is for an offer, for a lay, and for a seal
+abbrev pub offer_refusal : Stop → OfferRefusal
+offer_refusal Closed = OfferClosed
+offer_refusal NoMemory = OfferNoMemory
+offer_refusal DeviceFault = OfferFault
+
+abbrev pub lay_refusal : Stop → LayRefusal
+lay_refusal Closed = LayClosed
+lay_refusal NoMemory = LayNoMemory
+lay_refusal DeviceFault = LayFault
+
+abbrev pub seal_refusal : Stop → SealRefusal
+seal_refusal Closed = SealClosed
+seal_refusal NoMemory = SealNoMemory
+seal_refusal DeviceFault = SealFault
+
+-- the tree has a leaf of the coin, and a root that isn't in the set
+abbrev pub is_outside : {S : Type 0} → HashSet (List ℕ) S → ℕ → (List ℕ → List ℕ) → List Entry → Bool
+is_outside roots coin dig tree = has_leaf tree coin && not (contains bytes_eq roots (root_of dig tree))
+
+-- the root is the one that was found, if one was
+abbrev pub is_that_root : List ℕ → Option (List ℕ) → Bool
+is_that_root root None = false
+is_that_root root (Some found) = bytes_eq found root

@@ -1,0 +1,5 @@
+pub mod State
+pub mod Texts
+pub mod Inside
+pub mod Undone
+pub mod Tips

@@ -1,0 +1,180 @@
+ghost use Rattle.std.specs.Prelude.{◌≡◌, ◌≢◌, ◌++◌, ◌∷◌, [], IfOk, IfErr, OnOk, OnErr, Ok, Err};
+ghost use Rattle.plasma_tx.specs.Views.{blocks, coin_at};
+ghost use Rattle.coin_history.specs.History.{committed_blocks};
+ghost use Rattle.coin_history.specs.Bundles.{AreRising};
+ghost use Rattle.coin_history.specs.Checking.{may_be_tip};
+ghost use Rattle.operator_rules.specs.Walk.{present};
+ghost use Rattle.operator_rules.specs.Trees.{opening_in_tree, tree_at};
+ghost use Rattle.operator_rules.specs.Commands.{prove_by, openings_of, bundle_between, tip_asked, bundle_of};
+
+use super::pool::{copy_of, leaf_in};
+use super::trees::Trees;
+use super::walk::{is_committed, present, tree_at};
+use coin_history::{Bundle, Openings};
+use merkle_pages::PagedTree;
+use operator_rules::ProveRefusal;
+use plasma_base::{Hash32, NoMemory};
+use plasma_tx::{CoinView, Opening, RawOpening, RootLog};
+use std::alloc::Global;
+
+// What a tree has at a coin, as the opening of block n. A leaf past 2^32 bytes, which no record holds, is
+// answered as want of memory.
+fn opening_in_tree<H: Hash32 + Copy>(
+    alloc: Global,
+    tree: &PagedTree<H>,
+    coin: u64,
+    n: u64,
+) -> Result<RawOpening, NoMemory>
+    ensures { IfOk result (λ raw. raw ≡ opening_in_tree (H.digest_of tree.now.hash) coin n tree.now.entries) }
+{
+    let leaf = leaf_in(tree, coin);
+    if leaf.len() > u32::MAX as usize {
+        return Err(NoMemory);
+    }
+    let opening = Opening {
+        block: n,
+        leaf: copy_of(alloc, leaf)?,
+        proof: tree.prove(coin)?,
+    };
+    opening.write(alloc)
+}
+
+/// What the tree of block n has at a coin.
+pub fn opening_at<H: Hash32 + Copy>(
+    alloc: Global,
+    trees: &Trees<H>,
+    log: &RootLog,
+    coin: u64,
+    n: u64,
+) -> Result<RawOpening, ProveRefusal>
+    ensures { result ≢ Err ProveRefusal.NoMemory → result ≡ prove_by (H.digest_of trees.now.hash) coin n
+        (tree_at (H.digest_of trees.now.hash) log.now.log trees.now.sealed n) }
+{
+    match tree_at(trees, log, n) {
+        Some(tree) => match opening_in_tree(alloc, tree, coin, n) {
+            Ok(opening) => Ok(opening),
+            Err(_) => Err(ProveRefusal::NoMemory),
+        },
+        None => Err(ProveRefusal::UnknownBlock { n }),
+    }
+}
+
+// Adds an opening at the end.
+fn push(openings: &mut Vec<RawOpening>, opening: RawOpening) -> Result<(), ProveRefusal>
+    ensures ok { OnOk result (openings.new.items ≡ openings.old.items ++ opening ∷ []) }
+    ensures err { OnErr result (result ≡ Err ProveRefusal.NoMemory) }
+{
+    match openings.push(opening) {
+        Ok(()) => Ok(()),
+        Err(_) => Err(ProveRefusal::NoMemory),
+    }
+}
+
+// The openings of the committed blocks after a block and up to the last.
+#[tactic(auto, using(crate::proofs::Ways::openings_steps))]
+fn openings_between<H: Hash32 + Copy>(
+    alloc: Global,
+    trees: &Trees<H>,
+    log: &RootLog,
+    coin: u64,
+    after: u64,
+    last: u64,
+) -> Result<Vec<RawOpening>, ProveRefusal>
+    ensures made { IfOk result (λ openings.
+        openings_of (H.digest_of trees.now.hash) log.now.log trees.now.sealed coin
+        (committed_blocks log.now.log after last) ≡ Ok openings.items) }
+    ensures refused { IfErr result (λ why. why ≢ ProveRefusal.NoMemory →
+        openings_of (H.digest_of trees.now.hash) log.now.log trees.now.sealed coin
+        (committed_blocks log.now.log after last) ≡ Err why) }
+{
+    let mut openings = Vec::new(alloc);
+    'way: for before in after..last {
+        let n = before + 1;
+        if is_committed(log, n) {
+            match opening_at(alloc, trees, log, coin, n) {
+                Ok(opening) => push(&mut openings, opening)?,
+                Err(why) => return Err(why),
+            }
+        }
+    }
+    Ok(openings)
+}
+
+/// The bundle of the committed blocks after a block and up to the last.
+pub fn bundle_between<H: Hash32 + Copy>(
+    alloc: Global,
+    trees: &Trees<H>,
+    log: &RootLog,
+    coin: u64,
+    after: u64,
+    last: u64,
+) -> Result<Bundle, ProveRefusal>
+    ensures value { result ≢ Err ProveRefusal.NoMemory → result
+        ≡ bundle_between (H.digest_of trees.now.hash) log.now.log trees.now.sealed coin after last }
+    ensures rising { IfOk result (λ bundle. AreRising bundle.openings) }
+{
+    match openings_between(alloc, trees, log, coin, after, last) {
+        Ok(openings) => Ok(Bundle {
+            coin,
+            tip: last,
+            openings: Openings::from_vec(openings),
+        }),
+        Err(why) => Err(why),
+    }
+}
+
+// Whether a bundle may have the tip: it is the deposit block, or a committed one after it.
+fn may_be_tip(log: &RootLog, deposit: u64, tip: u64) -> bool
+    ensures { result ≡ may_be_tip log.now.log deposit tip }
+{
+    tip == deposit || (is_committed(log, tip) && deposit < tip)
+}
+
+// The tip that is asked for: 0 asks for the present tip.
+fn tip_asked<H: Hash32 + Copy>(
+    alloc: Global,
+    trees: &Trees<H>,
+    log: &RootLog,
+    tag: &[u8; 32],
+    coin: u64,
+    made: &CoinView,
+    tip: u64,
+) -> Result<u64, NoMemory>
+    ensures { IfOk result (λ asked. asked ≡ tip_asked tip
+        (present (H.digest_of trees.now.hash) tag.now log.now.log trees.now.sealed coin made.now)) }
+{
+    if tip != 0 {
+        return Ok(tip);
+    }
+    match present(alloc, trees, log, tag, coin, made) {
+        Ok(place) => Ok(place.block),
+        Err(why) => Err(why),
+    }
+}
+
+/// The history of a coin up to a tip, or up to the present tip where 0 is asked for.
+pub fn bundle_of<H: Hash32 + Copy>(
+    alloc: Global,
+    trees: &Trees<H>,
+    log: &RootLog,
+    tag: &[u8; 32],
+    coin: u64,
+    tip: u64,
+) -> Result<Bundle, ProveRefusal>
+    ensures value { result ≢ Err ProveRefusal.NoMemory → result
+        ≡ bundle_of (H.digest_of trees.now.hash) tag.now log.now.log trees.now.sealed coin tip
+        (coin_at log.now.log coin) }
+    ensures rising { IfOk result (λ bundle. AreRising bundle.openings) }
+{
+    let Some(made) = log.coin(coin) else {
+        return Err(ProveRefusal::NoCoin);
+    };
+    let tip = match tip_asked(alloc, trees, log, tag, coin, &made, tip) {
+        Ok(tip) => tip,
+        Err(_) => return Err(ProveRefusal::NoMemory),
+    };
+    if !may_be_tip(log, made.deposit, tip) {
+        return Err(ProveRefusal::UnknownBlock { n: tip });
+    }
+    bundle_between(alloc, trees, log, coin, made.deposit, tip)
+}

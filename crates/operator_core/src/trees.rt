@@ -1,0 +1,136 @@
+ghost use Rattle.std.specs.Prelude.{◌≡◌, ◌<◌, ◌^◌, ◌++◌, ◌∷◌, [], ℕ, List, true, length, IfSome, OnOk, OnErr, option_map, slice_get};
+ghost use Rattle.sparse_merkle.specs.TreeDigest.{root_of};
+ghost use Rattle.std.specs.List.{list_any};
+ghost use Rattle.operator_rules.specs.Trees.{tree_of};
+ghost use Rattle.operator_core.specs.Inside.{place_of, with_place, is_outside};
+ghost use Rattle.std.specs.HashMap.{get, spare};
+ghost use Rattle.std.specs.Str.{bytes_eq};
+
+use super::pool::leaf_in;
+use merkle_pages::PagedTree;
+use plasma_base::{Hash32, NoMemory};
+use std::alloc::Global;
+use std::collections::{HashMap, HashSet};
+use std::marker::Model;
+
+/// The sealed trees in the order of their seals, and for each root the place of the first tree with it.
+#[derive(Drop)]
+pub struct Trees<H: Hash32 + Copy> {
+    hash: H,
+    trees: Vec<PagedTree<H>>,
+    index: HashMap<[u8; 32], usize>,
+}
+
+impl<H: Hash32 + Copy> Model for Trees<H> {
+    ghost use Rattle.std.specs.Prelude.{◌&&◌, nat_lt, length};
+    ghost use Rattle.std.specs.Vec.{vec_capacity};
+    ghost use Rattle.std.specs.HashMap.{spare};
+    ghost use Rattle.operator_core.specs.Inside.{TreesState, KeepsTrees, entries_of};
+
+    ghost Value = { TreesState H };
+
+    ghost view = { λ t. record {
+      hash = t.hash;
+      sealed = entries_of t.trees.items;
+      has_room = nat_lt (length t.trees.items) (vec_capacity t.trees) && nat_lt 0 (spare t.index);
+    } };
+
+    ghost invariant = { λ t. KeepsTrees t.hash (H.digest_of t.hash) t.trees.items t.index };
+}
+
+impl<H: Hash32 + Copy> Trees<H> {
+    /// No tree. It takes no memory.
+    pub fn new(alloc: Global, hash: H) -> Trees<H>
+        ensures hash { result.hash ≡ hash }
+        ensures none { result.sealed ≡ [] }
+    {
+        Trees {
+            hash,
+            trees: Vec::new(alloc),
+            index: HashMap::new(alloc),
+        }
+    }
+
+    /// Makes room for one more tree. No tree changes.
+    pub fn make_room(&mut self) -> Result<(), NoMemory>
+        ensures room { OnOk result (self.new.has_room ≡ true) }
+        ensures same { self.new.sealed ≡ self.old.sealed }
+        ensures hash { self.new.hash ≡ self.old.hash }
+    {
+        self.trees.reserve(1)?;
+        self.index.reserve(1)?;
+        Ok(())
+    }
+
+    /// Adds a tree at the end, where there is room.
+    pub fn push(&mut self, tree: PagedTree<H>)
+        requires room { self.old.has_room ≡ true }
+        requires hash { tree.hash ≡ self.old.hash }
+        ensures added { self.new.sealed ≡ self.old.sealed ++ tree.entries ∷ [] }
+        ensures hash { self.new.hash ≡ self.old.hash }
+    {
+        let root = *tree.root();
+        let place = self.trees.as_slice().len();
+        index_root(&mut self.index, root, place);
+        self.trees.push(tree).unwrap();
+    }
+
+    /// Whether a tree has a leaf of the coin, and a root that isn't among these.
+    pub fn has_outside(&self, coin: u64, roots: &HashSet<[u8; 32]>) -> bool
+        ensures { result
+            ≡ list_any (is_outside roots.now coin (H.digest_of self.now.hash)) self.now.sealed }
+    {
+        any_outside(self.trees.as_slice(), coin, roots)
+    }
+
+    /// The first tree with the root.
+    pub fn find(&self, root: &[u8; 32]) -> Option<&PagedTree<H>>
+        ensures found { option_map (λ tree. tree.now.entries) result
+            ≡ tree_of (H.digest_of self.now.hash) self.now.sealed root.now }
+        ensures hash { IfSome result (λ tree. tree.now.hash ≡ self.now.hash) }
+    {
+        let place = *self.index.get(root)?;
+        tree_at(self.trees.as_slice(), place)
+    }
+}
+
+// Adds a root's place to an index with room, where the index has none for it.
+#[tactic(auto, using(crate::proofs::Places::root_known, crate::proofs::Places::root_added))]
+fn index_root(index: &mut HashMap<[u8; 32], usize>, root: [u8; 32], place: usize)
+    requires { 0 < spare index.old }
+    ensures { (other : List ℕ) → get bytes_eq index.new other
+        ≡ with_place root place other (get bytes_eq index.old other) }
+{
+    if index.contains_key(&root) {
+        return;
+    }
+    if index.insert(root, place).is_err() {
+        unreachable!()
+    }
+}
+
+// The tree at a place.
+fn tree_at<H: Hash32 + Copy>(trees: &[PagedTree<H>], place: usize) -> Option<&PagedTree<H>>
+    ensures { option_map (λ tree. tree.now) result ≡ slice_get trees.now place }
+{
+    trees.get(place)
+}
+
+// Whether a tree has a leaf of the coin, and a root that isn't among these.
+fn is_outside<H: Hash32 + Copy>(tree: &PagedTree<H>, coin: u64, roots: &HashSet<[u8; 32]>) -> bool
+    ensures { result ≡ is_outside roots.now coin (H.digest_of tree.now.hash) tree.now.entries }
+{
+    !leaf_in(tree, coin).is_empty() && !roots.contains(tree.root())
+}
+
+// Whether one of the trees is so.
+fn any_outside<H: Hash32 + Copy>(
+    trees: &[PagedTree<H>],
+    coin: u64,
+    roots: &HashSet<[u8; 32]>,
+) -> bool
+    ensures { result
+        ≡ list_any (λ tree. is_outside roots.now coin (H.digest_of tree.hash) tree.entries) trees.now }
+{
+    trees.iter().any(|tree| is_outside(tree, coin, roots))
+}

@@ -1,0 +1,108 @@
+ghost use Rattle.std.specs.Prelude.{◌≡◌, IfOk, IfSome, option_map, is_some};
+ghost use Rattle.root_rules.specs.Shown.{root_at};
+ghost use Rattle.coin_history.specs.History.{is_committed};
+ghost use Rattle.operator_rules.specs.Trees.{tree_at};
+ghost use Rattle.operator_rules.specs.Walk.{moved_by, transfer_at, present};
+ghost use Rattle.operator_core.specs.Tips.{place_of_tip};
+
+use super::pool::leaf_in;
+use super::trees::Trees;
+use merkle_pages::PagedTree;
+use plasma_base::{Hash32, NoMemory};
+use plasma_tx::{BlockView, CoinView, Owner, RootLog, SignedTx, leaf_tx, signed_by};
+use std::alloc::Global;
+
+/// A block that a coin came to, and its owner there.
+#[derive(Debug, Clone, Copy)]
+pub struct Tip {
+    pub block: u64,
+    pub owner: Owner,
+}
+
+// The root of block n, where it was committed.
+fn root_at(log: &RootLog, n: u64) -> Option<[u8; 32]>
+    ensures { result ≡ root_at log.now.log n }
+{
+    match log.block(n) {
+        Some(BlockView::Root { root }) => Some(root),
+        _ => None,
+    }
+}
+
+/// Whether block n was committed.
+pub fn is_committed(log: &RootLog, n: u64) -> bool
+    ensures { result ≡ is_committed log.now.log n }
+{
+    root_at(log, n).is_some()
+}
+
+/// The tree of block n: the first sealed one with its root.
+pub fn tree_at<'a, H: Hash32 + Copy>(
+    trees: &'a Trees<H>,
+    log: &RootLog,
+    n: u64,
+) -> Option<&'a PagedTree<H>>
+    ensures found { option_map (λ tree. tree.now.entries) result
+        ≡ tree_at (H.digest_of trees.now.hash) log.now.log trees.now.sealed n }
+    ensures hash { IfSome result (λ tree. tree.now.hash ≡ trees.now.hash) }
+{
+    match root_at(log, n) {
+        Some(root) => trees.find(&root),
+        None => None,
+    }
+}
+
+// The transfer of the coin that the tree of block n has.
+fn transfer_at<H: Hash32 + Copy>(
+    alloc: Global,
+    trees: &Trees<H>,
+    log: &RootLog,
+    tag: &[u8; 32],
+    coin: u64,
+    n: u64,
+) -> Result<Option<SignedTx>, NoMemory>
+    ensures { IfOk result (λ found. found
+        ≡ transfer_at (H.digest_of trees.now.hash) tag.now log.now.log trees.now.sealed coin n) }
+{
+    match tree_at(trees, log, n) {
+        Some(tree) => leaf_tx(alloc, tag, coin, n, leaf_in(tree, coin)),
+        None => Ok(None),
+    }
+}
+
+// The place after block n with this transfer of the coin. A signature is tested only where the transfer
+// spends the place.
+fn moved_by(n: u64, last: Tip, tx: Option<SignedTx>) -> Tip
+    ensures { place_of_tip result ≡ moved_by n (place_of_tip last) tx }
+{
+    match tx {
+        Some(tx) if tx.body.parent == last.block && signed_by(&tx, &last.owner) => Tip {
+            block: n,
+            owner: tx.body.to,
+        },
+        _ => last,
+    }
+}
+
+/// The coin's present tip and its owner: once over the committed blocks after the deposit.
+pub fn present<H: Hash32 + Copy>(
+    alloc: Global,
+    trees: &Trees<H>,
+    log: &RootLog,
+    tag: &[u8; 32],
+    coin: u64,
+    made: &CoinView,
+) -> Result<Tip, NoMemory>
+    ensures { IfOk result (λ tip. place_of_tip tip
+        ≡ present (H.digest_of trees.now.hash) tag.now log.now.log trees.now.sealed coin made.now) }
+{
+    let mut tip = Tip {
+        block: made.deposit,
+        owner: made.owner,
+    };
+    'way: for before in made.deposit..log.blocks() {
+        let n = before + 1;
+        tip = moved_by(n, tip, transfer_at(alloc, trees, log, tag, coin, n)?);
+    }
+    Ok(tip)
+}

@@ -1,0 +1,98 @@
+-- What a note makes of the guards.
+use Rattle.std.proofs.Common.{◌≡◌, ◌<◌, ◌+◌, ◌||◌, not, ℕ, Bool, true, false, List, [], ◌∷◌, ◌++◌, length, take, get_or, map, filter, reverse, Option, None, Some, refl, sym, ◌∙◌, ap, subst, inl, inr}
+use Rattle.std.proofs.lemmas.Bool.{cases_Bool}
+use Rattle.std.specs.List.{list_any, filter_map}
+use Rattle.std.specs.Option.{option_map, option_to_list}
+use Rattle.std.proofs.lemmas.List.{map-append, append-nil, reverse-append, take_more}
+use Rattle.std.proofs.lemmas.List.Elements.{filter_map-append}
+use Rattle.coin_history.specs.declared.bundle.Bundle.{Bundle}
+use Rattle.node_rules.specs.Watcher.{Note, Guarded, Released, is_of, is_before, with_guard, note_in, guards_of}
+use Rattle.watcher_node.specs.Inside.{watched_of, change_of, is_watched_at, comes_before, AreInOrder, with_watched, changed, changed_by, watched_in}
+use Rattle.watcher_node.proofs.Order.{changed-order}
+
+filter-map : {X Y : Type 0} (f : X → Y) (p : Y → Bool) (xs : List X)
+    → filter p (map f xs) ≡ map f (filter (λ x. p (f x)) xs)
+filter-map f p [] = refl
+filter-map {X} {Y} f p (x ∷ xs) = elim (cases_Bool (p (f x))) [
+  | inl is ↦ rw is (ap (λ (l : List Y). f x ∷ l) (filter-map f p xs))
+  | inr is ↦ rw is (filter-map f p xs)
+]
+
+pub any-map : (tag : List ℕ) (coin tip : ℕ) (guards : List Bundle)
+    → list_any (is_watched_at coin tip) (map (watched_of tag) guards) ≡ list_any (is_of coin tip) guards
+any-map tag coin tip [] = refl
+any-map tag coin tip (kept ∷ guards) = ap (λ (b : Bool). is_of coin tip kept || b) (any-map tag coin tip guards)
+
+with-map : (tag : List ℕ) (kept : Bundle) (guards : List Bundle)
+    → with_watched (watched_of tag kept) (map (watched_of tag) guards) ≡ map (watched_of tag) (with_guard kept guards)
+with-map tag kept guards = at (list_any (is_of kept.coin kept.tip) guards) refl
+  where
+    at : (b : Bool) → list_any (is_of kept.coin kept.tip) guards ≡ b
+        → with_watched (watched_of tag kept) (map (watched_of tag) guards)
+        ≡ map (watched_of tag) (with_guard kept guards)
+    at true is = rw (any-map tag kept.coin kept.tip guards, is) refl
+    at false is =
+        rw (any-map tag kept.coin kept.tip guards, is)
+        (rw (
+          filter-map (watched_of tag) (λ other. comes_before other (watched_of tag kept)) guards,
+          filter-map (watched_of tag) (λ other. not (comes_before other (watched_of tag kept))) guards,
+        )
+        (sym (map-append (watched_of tag) (filter (λ other. is_before other kept) guards)
+        (kept ∷ filter (λ other. not (is_before other kept)) guards))))
+
+pub watched_in-more : (tag : List ℕ) (note : Note) (notes : List Note)
+    → watched_in tag (note ∷ notes) ≡ changed (change_of tag note) (watched_in tag notes)
+unfolding guards_of
+watched_in-more tag (Guarded kept) notes = sym (with-map tag kept (guards_of notes))
+watched_in-more tag (Released coin tip) notes =
+    sym (filter-map (watched_of tag) (λ watched. not (is_watched_at coin tip watched)) (guards_of notes))
+
+pub watched_in-none : (tag : List ℕ) → watched_in tag [] ≡ []
+unfolding guards_of
+watched_in-none tag = refl
+
+pub watched_in-order : (tag : List ℕ) (notes : List Note) → AreInOrder (watched_in tag notes)
+unfolding guards_of
+watched_in-order tag [] = tt
+watched_in-order tag (note ∷ notes) =
+    subst AreInOrder (sym (watched_in-more tag note notes))
+    (changed-order (change_of tag note) (watched_in tag notes) (watched_in-order tag notes))
+
+pub watched-start : (dig : List ℕ → List ℕ) (tag : List ℕ)
+    → [] ≡ watched_in tag (reverse (filter_map (note_in dig tag) []))
+watched-start dig tag = sym (watched_in-none tag)
+
+notes-end : (tag : List ℕ) (front : List Note) (note : Option Note)
+    → watched_in tag (reverse (front ++ option_to_list note))
+    ≡ changed_by (option_map (change_of tag) note) (watched_in tag (reverse front))
+notes-end tag front None = ap (λ (l : List Note). watched_in tag (reverse l)) (append-nil front)
+notes-end tag front (Some note) =
+    ap (watched_in tag) (reverse-append front (note ∷ [])) ∙ watched_in-more tag note (reverse front)
+
+single : (f : List ℕ → Option Note) (body : List ℕ) → filter_map f (body ∷ []) ≡ option_to_list (f body)
+single f body = at (f body) refl
+  where
+    at : (note : Option Note) → f body ≡ note → filter_map f (body ∷ []) ≡ option_to_list (f body)
+    at None is = rw is refl
+    at (Some note) is = rw is refl
+
+-- one more record behind notes
+pub watched-next : (dig : List ℕ → List ℕ) (tag : List ℕ) (bodies : List (List ℕ)) (body : List ℕ)
+    → watched_in tag (reverse (filter_map (note_in dig tag) (bodies ++ body ∷ [])))
+    ≡ changed_by (option_map (change_of tag) (note_in dig tag body))
+    (watched_in tag (reverse (filter_map (note_in dig tag) bodies)))
+watched-next dig tag bodies body =
+    ap (λ (l : List Note). watched_in tag (reverse l))
+    (filter_map-append (note_in dig tag) bodies (body ∷ [])
+    ∙ ap (λ (l : List Note). filter_map (note_in dig tag) bodies ++ l) (single (note_in dig tag) body))
+    ∙ notes-end tag (filter_map (note_in dig tag) bodies) (note_in dig tag body)
+
+pub watched-take : (dig : List ℕ → List ℕ) (tag : List ℕ) (bodies : List (List ℕ)) (i : ℕ) (body : List ℕ)
+    → i < length bodies → body ≡ get_or bodies i body
+    → watched_in tag (reverse (filter_map (note_in dig tag) (take (i + 1) bodies)))
+    ≡ changed_by (option_map (change_of tag) (note_in dig tag body))
+    (watched_in tag (reverse (filter_map (note_in dig tag) (take i bodies))))
+watched-take dig tag bodies i body less is =
+    ap (λ (l : List (List ℕ)). watched_in tag (reverse (filter_map (note_in dig tag) l)))
+    (take_more bodies i body less ∙ ap (λ (b : List ℕ). take i bodies ++ b ∷ []) (sym is))
+    ∙ watched-next dig tag (take i bodies) body

@@ -1,0 +1,219 @@
+ghost use Rattle.std.specs.Prelude.{◌≡◌, ◌≢◌, ◌≤◌, false, length, Some, None, Ok, Err, IfOk, IfSome};
+ghost use Rattle.std.specs.Option.{option_map};
+ghost use Rattle.std.specs.List.{list_any};
+ghost use Rattle.gate_journal.specs.Image.{most};
+ghost use Rattle.node_journal.specs.Effect.{first_cause};
+ghost use Rattle.node_journal.specs.Notes.{Did, stopped_by};
+ghost use Rattle.node_rules.specs.Kept.{kept_of, links_handed};
+ghost use Rattle.node_rules.specs.Watcher.{Note, Released, note_text, who_is, note_in, is_of, guards_in, guard_causes, guard_taken, guard_by, guard_effect, release_effect};
+ghost use Rattle.watcher_node.specs.State.{stop_in, watcher_stop};
+ghost use Rattle.watcher_node.specs.Inside.{change_of, CanBeSpelled, history_refusal};
+
+use super::bundles::{kept_note, links_handed, released_note};
+use super::node::WatcherNode;
+use super::records::read_note;
+use super::watched::{Change, apply, has_guard};
+use coin_history::HistoryRefusal;
+use crash_disk::Disk;
+use node_journal::Stop;
+use node_rules::{Accepted, WatcherRefusal};
+use plasma_base::{Bytes, Hash32, NoMemory};
+use plasma_tx::{Links, RootLog};
+
+// What stopped a note, as a refusal.
+fn stop_refusal(stop: Stop) -> WatcherRefusal
+    ensures { stop_in result ≡ Some stop }
+{
+    match stop {
+        Stop::Closed => WatcherRefusal::Closed,
+        Stop::NoMemory => WatcherRefusal::NoMemory,
+        Stop::DeviceFault => WatcherRefusal::DeviceFault,
+    }
+}
+
+// Why a history is refused, as a refusal.
+fn history_refusal(why: HistoryRefusal) -> WatcherRefusal
+    ensures { result ≡ history_refusal why }
+{
+    match why {
+        HistoryRefusal::NoMemory => WatcherRefusal::NoMemory,
+        _ => WatcherRefusal::History { why },
+    }
+}
+
+// What a history is refused for whose note has so many bytes.
+fn guard_refusal(log: &RootLog, links: &Links, count: usize) -> Option<WatcherRefusal>
+    requires { count ≡ length (note_text (Note.Guarded (kept_of links.now))) }
+    ensures first { result ≡ first_cause (guard_causes log.now.log links.now) }
+    ensures free { IfSome result (λ why. stop_in why ≡ None) }
+{
+    if log.withdrawn(links.coin) {
+        return Some(WatcherRefusal::Withdrawn);
+    }
+    if let Some(exit) = log.exits(links.coin).first() {
+        return Some(WatcherRefusal::ExitStands { block: exit.block });
+    }
+    if 16_777_216 < count {
+        return Some(WatcherRefusal::NoteTooLong {
+            length: count as u64,
+        });
+    }
+    None
+}
+
+impl<D: Disk, H: Hash32 + Copy> WatcherNode<D, H> {
+    // Adds a note that spells this change, and takes the change over.
+    fn take_note(&mut self, body: Bytes, change: Change) -> Result<(), Stop>
+        requires fits { length body ≤ most }
+        requires spells { Some change ≡ option_map (change_of (who_is self.old.notes.records).tag)
+            (note_in (H.digest_of self.old.hash) (who_is self.old.notes.records).tag body) }
+        ensures did { Did D.told D.plan D.faults (Some body) self.old.notes (stopped_by result) self.new.notes }
+        ensures hash { self.new.hash ≡ self.old.hash }
+    {
+        if self.notes.is_closed() {
+            return Err(Stop::Closed);
+        }
+        self.guards.reserve(1)?;
+        self.notes.is_whole();
+        match self.notes.add(body) {
+            Ok(()) => {
+                apply(&mut self.guards, change);
+                Ok(())
+            }
+            Err(stop) => Err(stop),
+        }
+    }
+
+    // Adds a note, and takes over what it changes. One that spells no change isn't added, as where memory
+    // runs out: neither command has such a note.
+    fn add_note(&mut self, body: Bytes) -> Result<(), Stop>
+        requires { length body ≤ most }
+        ensures did { Did D.told D.plan D.faults (Some body) self.old.notes (stopped_by result) self.new.notes }
+        ensures hash { self.new.hash ≡ self.old.hash }
+    {
+        if self.notes.is_closed() {
+            return Err(Stop::Closed);
+        }
+        let change = self.change_in(body.as_slice())?;
+        self.take_note(body, change)
+    }
+
+    // The change that a body spells.
+    fn change_in(&self, body: &[u8]) -> Result<Change, NoMemory>
+        ensures { IfOk result (λ change. Some change
+            ≡ option_map (change_of (who_is self.now.notes.records).tag)
+            (note_in (H.digest_of self.now.hash) (who_is self.now.notes.records).tag body.now)) }
+    {
+        match read_note(self.alloc, &self.hash, &self.tag, body)? {
+            Some(change) => Ok(change),
+            None => Err(NoMemory),
+        }
+    }
+
+    // Whether the coin is guarded at this tip.
+    fn has(&self, coin: u64, tip: u64) -> bool
+        ensures { result ≡ list_any (is_of coin tip) (guards_in (H.digest_of self.now.hash) self.now.notes.records) }
+    {
+        has_guard(self.guards.as_slice(), coin, tip)
+    }
+
+    // What a history does that nothing refuses, whose note this is.
+    fn take_guard(&mut self, links: &Links, body: Bytes) -> Result<Accepted, WatcherRefusal>
+        requires open { self.old.notes.closed ≡ false }
+        requires fits { length body ≤ most }
+        requires note { body ≡ note_text (Note.Guarded (kept_of links.now)) }
+        ensures answer { watcher_stop result ≡ None → result
+            ≡ (guard_taken (guards_in (H.digest_of self.old.hash) self.old.notes.records) links.now).answer }
+        ensures did { Did D.told D.plan D.faults
+            (guard_taken (guards_in (H.digest_of self.old.hash) self.old.notes.records) links.now).note
+            self.old.notes (watcher_stop result) self.new.notes }
+        ensures hash { self.new.hash ≡ self.old.hash }
+    {
+        let tip = links.tip();
+        let accepted = Accepted {
+            coin: links.coin,
+            tip,
+        };
+        if self.has(links.coin, tip) {
+            return Ok(accepted);
+        }
+        match self.add_note(body) {
+            Ok(()) => Ok(accepted),
+            Err(stop) => Err(stop_refusal(stop)),
+        }
+    }
+
+    // What a history does.
+    fn guard_links(&mut self, log: &RootLog, links: &Links) -> Result<Accepted, WatcherRefusal>
+        requires open { self.old.notes.closed ≡ false }
+        requires spelled { CanBeSpelled (kept_of links.now) }
+        ensures answer { watcher_stop result ≡ None → result ≡ (guard_by log.now.log
+            (guards_in (H.digest_of self.old.hash) self.old.notes.records) (Ok links.now)).answer }
+        ensures did { Did D.told D.plan D.faults (guard_by log.now.log
+            (guards_in (H.digest_of self.old.hash) self.old.notes.records) (Ok links.now)).note
+            self.old.notes (watcher_stop result) self.new.notes }
+        ensures hash { self.new.hash ≡ self.old.hash }
+    {
+        let body = match kept_note(self.alloc, links) {
+            Ok(body) => body,
+            Err(_) => return Err(WatcherRefusal::NoMemory),
+        };
+        match guard_refusal(log, links, body.len()) {
+            Some(why) => Err(why),
+            None => self.take_guard(links, body),
+        }
+    }
+
+    /// Guards a coin by the bundle of its history. Device calls: those of an append, where the coin isn't
+    /// guarded at this tip already.
+    ///
+    /// In this order: `Closed` after a device fault; `History` where the bytes spell no bundle, or it is no
+    /// history of its coin; `Withdrawn`; `ExitStands`; `NoteTooLong`; `DeviceFault`, which closes the
+    /// watcher. `NoMemory` may come in place of each but the first; nothing changed then.
+    #[tactic(auto, unfolding(node_rules::specs::Watcher::guard_effect))]
+    pub fn guard(&mut self, log: &RootLog, bundle: &[u8]) -> Result<Accepted, WatcherRefusal>
+        ensures answer { watcher_stop result ≡ None → result ≡
+            (guard_effect (H.digest_of self.old.hash) self.old.notes.records log.now.log bundle.now).answer }
+        ensures did { Did D.told D.plan D.faults
+            (guard_effect (H.digest_of self.old.hash) self.old.notes.records log.now.log bundle.now).note
+            self.old.notes (watcher_stop result) self.new.notes }
+        ensures hash { self.new.hash ≡ self.old.hash }
+    {
+        if self.notes.is_closed() {
+            return Err(WatcherRefusal::Closed);
+        }
+        match links_handed(self.alloc, &self.hash, &self.tag, log, bundle) {
+            Ok(links) => self.guard_links(log, &links),
+            Err(why) => Err(history_refusal(why)),
+        }
+    }
+
+    /// Lets the guard of a coin at a tip go. Device calls: those of an append.
+    ///
+    /// In this order: `Closed` after a device fault; `NoGuard` where there is none; `DeviceFault`, which
+    /// closes the watcher. `NoMemory` may come in place of the last; nothing changed then.
+    #[tactic(auto, unfolding(node_rules::specs::Watcher::release_effect))]
+    pub fn release(&mut self, coin: u64, tip: u64) -> Result<(), WatcherRefusal>
+        ensures answer { watcher_stop result ≡ None → result ≡
+            (release_effect (H.digest_of self.old.hash) self.old.notes.records coin tip).answer }
+        ensures did { Did D.told D.plan D.faults
+            (release_effect (H.digest_of self.old.hash) self.old.notes.records coin tip).note
+            self.old.notes (watcher_stop result) self.new.notes }
+        ensures hash { self.new.hash ≡ self.old.hash }
+    {
+        if self.notes.is_closed() {
+            return Err(WatcherRefusal::Closed);
+        }
+        if !self.has(coin, tip) {
+            return Err(WatcherRefusal::NoGuard);
+        }
+        let body = match released_note(self.alloc, coin, tip) {
+            Ok(body) => body,
+            Err(_) => return Err(WatcherRefusal::NoMemory),
+        };
+        match self.add_note(body) {
+            Ok(()) => Ok(()),
+            Err(stop) => Err(stop_refusal(stop)),
+        }
+    }
+}
