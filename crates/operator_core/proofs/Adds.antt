@@ -1,16 +1,15 @@
 -- What a command's record does to what the records leave.
-use Rattle.std.proofs.Common.{◌≡◌, ℕ, ◌+◌, ◌^◌, ◌<◌, true, false, if◌then◌else◌, List, [], ◌∷◌, ◌++◌, length, Option, Some, None, Result, Ok, Err, refl, sym, ap, ◌∙◌, arith}
+use Rattle.std.proofs.Common.{◌≡◌, ℕ, ◌+◌, ◌^◌, ◌<◌, true, false, List, [], ◌∷◌, ◌++◌, length, Some, None, Ok, Err, refl, sym, ap, ◌∙◌, arith}
 use Rattle.std.specs.Prelude.{nat_lt, ◌≤◌}
 use Rattle.std.proofs.lemmas.Bool.{le-ltb, lt-ltb}
 use Rattle.gate_journal.specs.Image.{most}
-use Rattle.node_journal.specs.Effect.{Effect, only}
+use Rattle.node_journal.specs.Effect.{only}
 use Rattle.node_journal.specs.Role.{are_of}
 use Rattle.plasma_tx.specs.declared.call.RootCall.{RootCall}
 use Rattle.operator_rules.specs.declared.TheConstants.{MOST_LAID}
-use Rattle.operator_rules.specs.declared.refusal.LayRefusal.{LayRefusal}
 use Rattle.operator_rules.specs.declared.refusal.LayRefusal.TheVariants.{LeafTooLong}
 use Rattle.operator_rules.specs.Records.{Note, Offered, Laid, Sealed, note_text, operator_kinds, who_is, notes_of}
-use Rattle.operator_rules.specs.Trees.{Forest, coin_named, forest_of, after_note}
+use Rattle.operator_rules.specs.Trees.{Forest, coin_named, forest_of}
 use Rattle.operator_rules.specs.Commands.{forest_in, offer_effect, lay_effect, seal_effect}
 use Rattle.operator_rules.proofs.Role.{commands_keep_the_role, commands_add_their_notes}
 use Rattle.sparse_merkle.specs.declared.tree.Entry.{Entry}
@@ -90,6 +89,8 @@ sealed_adds records body is are = rw is (adds_sealed (λ any. any) records [] ar
 pub seal_fits : (body : List ℕ) → body ≡ note_text Sealed → length body ≤ most
 unfolding note_text
 seal_fits body is = rw is (omega arith)
+
+pub ruleset sealing = (sealed_adds, seal_fits)
 
 -- ---- a lay
 

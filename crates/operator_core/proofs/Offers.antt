@@ -1,10 +1,10 @@
 -- What an offer answers and adds.
 use Rattle.std.proofs.Common.{◌≡◌, ℕ, ◌==◌, ◌++◌, not, Bool, true, false, if◌then◌else◌, List, [], ◌∷◌, Option, Some, None, Result, Ok, Err, refl, sym, ap, ◌∙◌}
-use Rattle.std.specs.Prelude.{MatchResult, nat_le}
+use Rattle.std.specs.Prelude.{MatchResult}
 use Rattle.std.specs.List.{AllByRecursion}
 use Rattle.node_journal.specs.declared.stop.Stop.{Stop}
 use Rattle.node_journal.specs.declared.stop.Stop.TheVariants.{Closed, NoMemory, DeviceFault}
-use Rattle.node_journal.specs.Effect.{Effect, only, first_cause, unless}
+use Rattle.node_journal.specs.Effect.{Effect, first_cause, unless}
 use Rattle.node_journal.specs.Role.{are_of}
 use Rattle.node_journal.specs.Notes.{NotesState, Did}
 use Rattle.crash_disk.specs.Disk.{History, FaultPlan}
@@ -43,8 +43,8 @@ first-fine : (causes : List (Bool × OfferRefusal)) (why : OfferRefusal)
 first-fine [] why all is = absurd (cc is)
 first-fine (cause ∷ causes) why all is =
     (elim cause.0 as (λ b. (if b then Some cause.1 else first_cause causes) ≡ Some why → offer_stop (Err why) ≡ None) [
-      | true ↦ λ same. (let e : cause.1 ≡ why = cc same in ap (λ (w : OfferRefusal). offer_stop (Err w)) (sym e) ∙
-          all.0)
+      | true ↦ λ same. (let e : cause.1 ≡ why = cc same in ap (λ (w : OfferRefusal). offer_stop (Err w)) (sym e)
+          ∙ all.0)
       | false ↦ λ rest. first-fine causes why all.1 rest
     ]) is
 
@@ -120,8 +120,8 @@ module _ (dig : List ℕ → List ℕ) (records : List (List ℕ)) (log : List R
       → Ok coin ≡ (offer_effect dig records log bytes).answer
       → AddsRecord records (note_text (Offered bytes)) (Some (coin, bytes))
   offered_adds coin are is =
-      let fine = fine-ok bytes (offer_effect dig records log bytes).answer (offer_effect dig records log
-      bytes).note coin
+      let fine = fine-ok bytes (offer_effect dig records log bytes).answer
+      (offer_effect dig records log bytes).note coin
       (offer-fine dig records log bytes) is in
       rw fine.1 (adds_offered dig records log bytes are fine.0)
 

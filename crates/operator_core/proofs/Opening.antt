@@ -32,8 +32,8 @@ module _ {D : Type 0} (told : D → Option History) (plan : D → Option FaultPl
     planned = (made_stop told plan [] most disk).planned;
   }
     where
-      at : (t : Option History) → t ≡ option_map (λ before. after_course (stopped_after 0) (steps (content before))
-          before) t
+      at : (t : Option History)
+          → t ≡ option_map (λ before. after_course (stopped_after 0) (steps (content before)) before) t
       at None = refl
       at (Some before) = refl
 
@@ -42,7 +42,7 @@ module _ {D : Type 0} (told : D → Option History) (plan : D → Option FaultPl
 
   pub no_pair : {E : Type 0} (leaves_told : E → Option History) (leaves_plan : E → Option FaultPlan) (faults : D → ℕ)
       (leaves_faults : E → ℕ) (identity : List ℕ) (disk : D) (leaves : E)
-      → BeginsPair told plan faults leaves_told leaves_plan leaves_faults identity disk leaves (Err NoMemory) disk
-      leaves
+      → BeginsPair told plan faults leaves_told leaves_plan leaves_faults identity disk leaves
+      (Err NoMemory) disk leaves
   no_pair leaves_told leaves_plan faults leaves_faults identity disk leaves =
       inl (record { inits = no_init journal_steps disk; count = refl }, refl)

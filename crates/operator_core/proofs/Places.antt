@@ -1,5 +1,5 @@
 -- The sealed trees, and the index of their roots.
-use Rattle.std.proofs.Common.{◌≡◌, ℕ, zero, suc, ◌+◌, ◌<◌, ◌≤◌, cond, ◌||◌, Bool, true, false, nat_eq, List, [], ◌∷◌, ◌++◌, length, map, find, if◌then◌else◌, Option, Some, None, is_some, option_map, IfSome, Bor, refl, sym, ap, ◌∙◌, inl, inr, arith, get_or}
+use Rattle.std.proofs.Common.{◌≡◌, ℕ, zero, suc, ◌+◌, ◌<◌, cond, ◌||◌, Bool, true, false, List, [], ◌∷◌, ◌++◌, length, find, if◌then◌else◌, Option, Some, None, is_some, option_map, IfSome, Bor, refl, sym, ap, ◌∙◌, inl, inr, arith, get_or}
 use Rattle.std.specs.List.{All, AllByRecursion, list_any, position_from, slice_get}
 use Rattle.std.specs.HashMap.{HashMap, get, Updates}
 use Rattle.std.specs.Str.{bytes_eq}
@@ -71,8 +71,8 @@ slice_get-some (x ∷ xs) (suc k) lt = slice_get-some xs k (omega arith)
 
 -- ---- the trees
 
-module _ {H S : Type 0} (hash : H) (dig : List ℕ → List ℕ) (trees : List (HashedMap H)) (index : HashMap (List ℕ) ℕ
-    S) where
+module _ {H S : Type 0} (hash : H) (dig : List ℕ → List ℕ) (trees : List (HashedMap H)) (index : HashMap
+    (List ℕ) ℕ S) where
   pub no_tree : (root : List ℕ) → KeepsTrees hash dig trees index → None ≡ get bytes_eq index root
       → None ≡ tree_of dig (entries_of trees) root
   unfolding tree_of
@@ -96,8 +96,8 @@ module _ {H S : Type 0} (hash : H) (dig : List ℕ → List ℕ) (trees : List (
         some.1,
         rw some.2 at (keeps.hashes place some.0 within),
         first.found some.0.entries
-            ∙ ap (λ (t : List Entry). Some t) (get_or-map (λ tree. tree.entries) trees first.count some.0
-            some.0.entries
+            ∙ ap (λ (t : List Entry). Some t) (get_or-map
+            (λ tree. tree.entries) trees first.count some.0 some.0.entries
             (omega (arith, first.within, long)))
             ∙ ap (λ (n : ℕ). Some (get_or trees n some.0).entries) (sym here)
             ∙ ap (λ (t : HashedMap H). Some t.entries) some.2,
@@ -115,8 +115,8 @@ module _ {H S : Type 0} (hash : H) (dig : List ℕ → List ℕ) (trees : List (
         ∙ ap (λ (n : ℕ). with_place root n other (get bytes_eq index other)) at_end
         ∙ ap (with_place root (length trees) other) (keeps.places other)
         ∙ last other (place_of dig (entries_of trees) other)
-        ∙ sym (ap (λ (all : List (List Entry)). place_of dig all other) (map-append (λ (t : HashedMap H).
-        t.entries) trees (tree ∷ []))
+        ∙ sym (ap (λ (all : List (List Entry)). place_of dig all other) (map-append (λ
+        (t : HashedMap H). t.entries) trees (tree ∷ []))
         ∙ place-push (λ t. bytes_eq (root_of dig t) other) (entries_of trees) tree.entries 0 (length trees)
         (omega (arith, length-map trees (λ (t : HashedMap H). t.entries))));
   }

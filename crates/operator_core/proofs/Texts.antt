@@ -1,14 +1,11 @@
 -- Records as bytes.
-use Rattle.std.proofs.Common.{◌≡◌, ◌≢◌, ◌≤◌, ℕ, Bool, true, false, if◌then◌else◌, List, [], ◌∷◌, ◌++◌, length, Option, Some, None, Result, Ok, Err, refl, ◌∙◌, ap, sym, inl, inr, arith, append_assoc}
-use Rattle.std.specs.Prelude.{slice_range, nat_lt, not, ◌||◌, nat_eq}
+use Rattle.std.proofs.Common.{◌≡◌, ◌≤◌, ℕ, true, false, List, [], ◌++◌, length, Some, None, Result, Ok, Err, refl, ◌∙◌, ap, inl, inr, arith, append_assoc}
+use Rattle.std.specs.Prelude.{slice_range}
 use Rattle.std.specs.Result.{is_ok}
 use Rattle.std.proofs.lemmas.Bool.{cases_Bool}
-use Rattle.std.specs.Str.{bytes_eq}
-use Rattle.std.proofs.lemmas.Slice.Eq.{bytes_eq-Decides}
 use Rattle.plasma_tx.specs.declared.body.Body.{Body}
 use Rattle.plasma_tx.specs.declared.signed_tx.TxRefusal.{TxRefusal}
-use Rattle.plasma_tx.specs.declared.signed_tx.TxRefusal.TheVariants.{Short, BadMark, BadTag}
-use Rattle.plasma_tx.specs.Spelling.{signed_in, body_in, body_length, body_at_start, with_signature, has_second_mark}
+use Rattle.plasma_tx.specs.Spelling.{signed_in, body_in, with_signature, has_second_mark}
 use Rattle.plasma_tx.proofs.Spellings.{Fits, body_in-ok}
 use Rattle.plasma_tx.proofs.Parts.{length-range}
 use Rattle.operator_rules.specs.Records.{is_read, spells_transfer}
@@ -46,15 +43,17 @@ no_transfer bytes = read_same [] bytes ∙ at (body_in [] bytes) refl
 pub coin_read : (tag bytes : List ℕ) (body : Body) → body_in tag bytes ≡ Ok body
     → Some body.coin ≡ offered_coin tag bytes
 coin_read tag bytes body is =
-    let read : spells_transfer tag bytes ≡ true = read_same tag bytes ∙ ap (λ (r : Result Body TxRefusal). is_ok r)
-    is in
+    let read : spells_transfer tag bytes ≡ true = read_same tag bytes
+    ∙ ap (λ (r : Result Body TxRefusal). is_ok r) is in
     rw (read, (body_in-ok tag bytes body is).1) refl
 
 pub not_read : (tag bytes : List ℕ) (why : TxRefusal) → body_in tag bytes ≡ Err why → offered_coin tag bytes ≡ None
 not_read tag bytes why is =
-    let unread : spells_transfer tag bytes ≡ false = read_same tag bytes ∙ ap (λ (r : Result Body TxRefusal). is_ok
-    r) is in
+    let unread : spells_transfer tag bytes ≡ false = read_same tag bytes
+    ∙ ap (λ (r : Result Body TxRefusal). is_ok r) is in
     rw unread refl
+
+pub ruleset reading = (no_transfer, coin_read, not_read)
 
 -- one way to group
 pub grouped : (a b c d : List ℕ) → ((a ++ b) ++ c) ++ d ≡ a ++ (b ++ (c ++ d))

@@ -1,7 +1,7 @@
 -- A leaf put back where another was put.
-use Rattle.std.proofs.Common.{◌≡◌, ◌≢◌, ℕ, zero, suc, ◌+◌, ◌<◌, ◌≤◌, ◌==◌, Bool, true, false, nat_lt, List, [], ◌∷◌, ◌++◌, length, if◌then◌else◌, refl, sym, ap, ◌∙◌, inl, inr, append_assoc, append-nil, arith, filter}
+use Rattle.std.proofs.Common.{◌≡◌, ◌≢◌, ℕ, suc, ◌+◌, ◌<◌, ◌≤◌, nat_lt, List, [], ◌∷◌, ◌++◌, refl, sym, ap, ◌∙◌, inl, inr, append-nil, arith, filter}
 use Rattle.std.specs.List.{All, AllPairs, AllByRecursion}
-use Rattle.std.proofs.lemmas.Bool.{cases_Bool, eq-eqb, ne_eqb, ltb-true, ltb-false, lt-ltb, le-ltb, cases_lt, cases_eq}
+use Rattle.std.proofs.lemmas.Bool.{cases_Bool, eq-eqb, ne_eqb, ltb-true, lt-ltb, le-ltb, cases_lt, cases_eq}
 use Rattle.std.proofs.lemmas.List.Elements.{filter-append, recursion_from_All}
 use Rattle.sparse_merkle.specs.declared.tree.Entry.{Entry}
 use Rattle.sparse_merkle.proofs.TreeLaws.{leaf_of-with_leaf, leaf_of-with_other}
@@ -34,9 +34,9 @@ low-high coin [] = refl
 low-high coin (entry ∷ entries) = elim (cases_Bool (nat_lt coin entry.coin)) [
   | inl is ↦ simp (
     is,
-    le-ltb entry.coin coin (let lt = ltb-true coin entry.coin is in omega arith),
-    low-high coin
-        entries,
+    le-ltb entry.coin coin
+        (let lt = ltb-true coin entry.coin is in omega arith),
+    low-high coin entries,
   )
   | inr isnt ↦ simp (isnt, low-high coin entries)
 ]
@@ -46,9 +46,9 @@ high-low coin [] = refl
 high-low coin (entry ∷ entries) = elim (cases_Bool (nat_lt entry.coin coin)) [
   | inl is ↦ simp (
     is,
-    le-ltb coin entry.coin (let lt = ltb-true entry.coin coin is in omega arith),
-    high-low coin
-        entries,
+    le-ltb coin entry.coin
+        (let lt = ltb-true entry.coin coin is in omega arith),
+    high-low coin entries,
   )
   | inr isnt ↦ simp (isnt, high-low coin entries)
 ]
@@ -118,8 +118,8 @@ rising : (entries : List Entry) → AllPairs (λ earlier later. earlier.coin < l
 unfolding IsRising
 rising [] pairs filled = tt
 rising (entry ∷ entries) pairs filled = (
-  recursion_from_All (λ later. entry.coin < later.coin) entries (λ k d lt. pairs 0 (suc k) d (omega arith) (omega
-      arith)),
+  recursion_from_All (λ later. entry.coin < later.coin) entries (λ k d lt. pairs 0 (suc k) d (omega arith)
+      (omega arith)),
   filled 0 entry (omega arith),
   rising entries (λ i j d lt le. pairs (suc i) (suc j) d (omega arith) (omega arith))
       (λ k d lt. filled (suc k) d (omega arith)),

@@ -1,10 +1,10 @@
 -- The committed blocks one after another.
-use Rattle.std.proofs.Common.{◌≡◌, ℕ, zero, suc, ◌+◌, ◌-◌, ◌<◌, ◌≤◌, Bool, true, false, not, nat_lt, if◌then◌else◌, List, [], ◌∷◌, ◌++◌, length, filter, Option, Some, None, Result, Ok, Err, refl, sym, ap, ◌∙◌, inl, inr, arith, append_assoc, append-nil}
+use Rattle.std.proofs.Common.{◌≡◌, ℕ, zero, suc, ◌+◌, ◌-◌, ◌<◌, ◌≤◌, Bool, true, false, if◌then◌else◌, List, [], ◌∷◌, ◌++◌, filter, Option, Some, None, Result, Ok, Err, refl, sym, ap, ◌∙◌, inl, inr, arith, append-nil}
 use Rattle.std.specs.List.{range_with_len, AllPairs}
 use Rattle.std.proofs.lemmas.List.{get_or-map, length-map}
 use Rattle.std.proofs.lemmas.List.FromFn.{length-range_with_len, get_or-range_with_len}
 use Rattle.std.proofs.lemmas.List.Kept.{AllPairs-filter}
-use Rattle.std.proofs.lemmas.Bool.{cases_Bool, cases_lt, lt-ltb, le-ltb}
+use Rattle.std.proofs.lemmas.Bool.{cases_lt, lt-ltb, le-ltb}
 use Rattle.std.proofs.lemmas.List.Elements.{filter-append}
 use Rattle.sparse_merkle.specs.declared.tree.Entry.{Entry}
 use Rattle.plasma_tx.specs.declared.opening.RawOpening.{RawOpening}
@@ -15,7 +15,7 @@ use Rattle.coin_history.specs.History.{is_committed, committed_blocks, blocks_of
 use Rattle.coin_history.specs.Bundles.{AreRising}
 use Rattle.operator_rules.specs.declared.refusal.ProveRefusal.{ProveRefusal}
 use Rattle.operator_rules.specs.Trees.{tree_at, opening_in_tree}
-use Rattle.operator_rules.specs.Walk.{Place, start_of, moved_by, transfer_at, place_at, present}
+use Rattle.operator_rules.specs.Walk.{start_of, moved_by, transfer_at, place_at, present}
 use Rattle.operator_rules.specs.Commands.{prove_by, with_opening, openings_of}
 
 -- ---- the walk
@@ -49,8 +49,8 @@ module _ (dig : List ℕ → List ℕ) (tag : List ℕ) (log : List RootCall) (s
 range-append : (start one other : ℕ)
     → range_with_len start (one + other) ≡ range_with_len start one ++ range_with_len (start + one) other
 range-append start zero other =
-    (λ i. range_with_len (let e : start ≡ start + 0 = omega arith in e i) (let e : 0 + other ≡ other = omega arith
-    in e i))
+    (λ i. range_with_len (let e : start ≡ start + 0 = omega arith in e i)
+    (let e : 0 + other ≡ other = omega arith in e i))
 range-append start (suc one) other =
     let e : suc one + other ≡ suc (one + other) = omega arith in
     let f : start + 1 + one ≡ start + suc one = omega arith in
@@ -77,8 +77,8 @@ module _ (log : List RootCall) where
       let none : last - after ≡ 0 = omega arith in
       ap (λ (n : ℕ). filter (is_committed log) (range_with_len (after + 1) n)) none
 
-  pub committed-one : (n : ℕ) → committed_blocks log n (n + 1) ≡ (if is_committed log (n + 1) then (n + 1) ∷ []
-      else [])
+  pub committed-one : (n : ℕ)
+      → committed_blocks log n (n + 1) ≡ (if is_committed log (n + 1) then (n + 1) ∷ [] else [])
   unfolding committed_blocks
   committed-one n =
       let one : n + 1 - n ≡ 1 = omega arith in
@@ -95,8 +95,8 @@ module _ (dig : List ℕ → List ℕ) (log : List RootCall) (sealed : List (Lis
   behind openings (Err why) = Err why
   behind openings (Ok others) = Ok (openings ++ others)
 
-  record Parts (o : Result RawOpening ProveRefusal) (r : Result (List RawOpening) ProveRefusal) (openings : List
-      RawOpening)
+  record Parts (o : Result RawOpening ProveRefusal) (r : Result (List RawOpening) ProveRefusal)
+      (openings : List RawOpening)
       : Type 0 where
     first : RawOpening
     rest : List RawOpening
@@ -130,8 +130,8 @@ module _ (dig : List ℕ → List ℕ) (log : List RootCall) (sealed : List (Lis
       ∙ ap (λ (front : List RawOpening). behind front (openings_of dig log sealed coin ms)) e
   openings-append (n ∷ ns) ms openings is =
       let p = parts (opening_of n) (openings_of dig log sealed coin ns) openings is in
-      ap (λ (o : Result RawOpening ProveRefusal). with_opening o (openings_of dig log sealed coin (ns ++ ms)))
-      p.first_is
+      ap (λ (o : Result RawOpening ProveRefusal). with_opening o (openings_of dig log sealed coin
+      (ns ++ ms))) p.first_is
       ∙ ap (λ (r : Result (List RawOpening) ProveRefusal). with_opening (Ok p.first) r)
       (openings-append ns ms p.rest p.rest_is)
       ∙ behind-more p.first p.rest (openings_of dig log sealed coin ms)
@@ -245,8 +245,8 @@ module _ (dig : List ℕ → List ℕ) (log : List RootCall) (sealed : List (Lis
   blocks-are [] openings is =
       let e : [] ≡ openings = cc is in ap (λ (os : List RawOpening). blocks_of os) (sym e)
   blocks-are (n ∷ ns) openings is =
-      let p = parts dig log sealed coin (prove_by dig coin n (tree_at dig log sealed n)) (openings_of dig log
-      sealed coin ns)
+      let p = parts dig log sealed coin (prove_by dig coin n (tree_at dig log sealed n))
+      (openings_of dig log sealed coin ns)
       openings is in
       ap (λ (os : List RawOpening). blocks_of os) (sym p.whole)
       ∙ (λ i. opening-block n (tree_at dig log sealed n) p.first p.first_is i ∷ blocks-are ns p.rest p.rest_is i)

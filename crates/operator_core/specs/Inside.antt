@@ -63,8 +63,7 @@ abbrev pub notes_among : List ℕ → List (List ℕ) → List Note
 notes_among tag records = reverse (filter_map (note_in tag) records)
 
 -- what an operator keeps beside its records is of them: the identity, the pool and the sealed trees; both were made
--- with
--- its digest
+-- with its digest
 pub record IsRight {H : Type 0} (hash : H) (records : List (List ℕ)) (who : Who) (pool : PoolState H)
     (trees : TreesState H) : Type 0 where
   pub who_is : identity_of_who who ≡ who_is records

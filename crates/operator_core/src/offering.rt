@@ -1,9 +1,7 @@
 ghost use Rattle.std.specs.Prelude.{◌≡◌, ◌≢◌, ◌||◌, OnOk, ℕ, List, Some, Err, IfOk};
 ghost use Rattle.std.specs.HashSet.{contains};
-ghost use Rattle.std.specs.List.{list_any};
 ghost use Rattle.std.specs.Str.{bytes_eq};
 ghost use Rattle.plasma_tx.specs.Spelling.{signed_in};
-ghost use Rattle.plasma_tx.specs.Views.{coin_at};
 ghost use Rattle.operator_rules.specs.Trees.{commits, is_root_committed, is_waiting};
 ghost use Rattle.operator_rules.specs.Commands.{offer_at, offer_of};
 ghost use Rattle.operator_core.specs.Inside.{forest_now, is_that_root};

@@ -339,7 +339,7 @@ impl<D: Disk, H: Hash32 + Copy> Operator<D, H> {
     }
 
     // As `seal`.
-    #[tactic(auto, using(crate::proofs::Adds::sealed_adds, crate::proofs::Adds::seal_fits), unfolding(operator_rules::specs::Commands::seal_effect))]
+    #[tactic(auto, using(crate::proofs::Adds::sealing), unfolding(operator_rules::specs::Commands::seal_effect))]
     fn seal_pool(&mut self) -> Result<Sealed, Stop>
         ensures answer { IfOk result (λ sealed.
             Ok sealed ≡ (seal_effect (H.digest_of self.old.hash) self.old.notes.records).answer) }

@@ -1,4 +1,4 @@
-ghost use Rattle.std.specs.Prelude.{◌≡◌, ◌<◌, ◌^◌, [], length, IfOk, OnOk, OnErr};
+ghost use Rattle.std.specs.Prelude.{◌≡◌, ◌<◌, [], length, IfOk, OnOk};
 ghost use Rattle.sparse_merkle.specs.TreeDigest.{leaf_of, with_leaf, root_of};
 ghost use Rattle.operator_rules.specs.Trees.{has_leaf};
 

@@ -1,4 +1,4 @@
-ghost use Rattle.std.specs.Prelude.{◌≡◌, ◌≤◌, ◌<◌, ◌+◌, ◌^◌, [], length, slice_range, IfOk, option_map, Ok};
+ghost use Rattle.std.specs.Prelude.{◌≡◌, ◌≤◌, ◌<◌, ◌+◌, [], length, slice_range, IfOk, option_map, Ok};
 ghost use Rattle.gate_journal.specs.Image.{most};
 ghost use Rattle.plasma_tx.specs.Spelling.{number_at};
 ghost use Rattle.operator_rules.specs.Records.{Laid, Sealed, Offered, identity_text, identity_in, identity_of, note_text, note_in, tag_in};
@@ -83,7 +83,7 @@ pub fn tag_in(body: &[u8]) -> Option<[u8; 32]>
 }
 
 // The coin of the signed transfer with that tag that bytes spell; without a tag none do. It takes no memory.
-#[tactic(auto, using(crate::proofs::Texts::no_transfer, crate::proofs::Texts::coin_read, crate::proofs::Texts::not_read))]
+#[tactic(auto, using(crate::proofs::Texts::reading))]
 fn offered_coin(tag: Option<[u8; 32]>, bytes: &[u8]) -> Option<u64>
     ensures { result ≡ offered_coin (unwrap_or tag []) bytes.now }
 {

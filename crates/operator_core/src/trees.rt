@@ -1,8 +1,7 @@
-ghost use Rattle.std.specs.Prelude.{◌≡◌, ◌<◌, ◌^◌, ◌++◌, ◌∷◌, [], ℕ, List, true, length, IfSome, OnOk, OnErr, option_map, slice_get};
-ghost use Rattle.sparse_merkle.specs.TreeDigest.{root_of};
+ghost use Rattle.std.specs.Prelude.{◌≡◌, ◌<◌, ◌++◌, ◌∷◌, [], ℕ, List, true, length, IfSome, OnOk, option_map, slice_get};
 ghost use Rattle.std.specs.List.{list_any};
 ghost use Rattle.operator_rules.specs.Trees.{tree_of};
-ghost use Rattle.operator_core.specs.Inside.{place_of, with_place, is_outside};
+ghost use Rattle.operator_core.specs.Inside.{with_place, is_outside};
 ghost use Rattle.std.specs.HashMap.{get, spare};
 ghost use Rattle.std.specs.Str.{bytes_eq};
 

@@ -138,6 +138,8 @@ fn a_log_is_printed_with_the_bytes_it_was_read_from(rt: HostRuntime) -> Result<(
     let alloc = rt.alloc();
     let mut lines = DEPOSIT_AND_EXIT.split(|byte| *byte == b'\n');
     let mut log = read_chain(alloc, lines.next().unwrap_or(b""))?;
+    let mut out = Vec::new(alloc);
+    print_chain(&log, &mut out)?;
     for line in lines {
         if !line.is_empty() {
             read_line(alloc, &mut log, line)?;
@@ -145,8 +147,6 @@ fn a_log_is_printed_with_the_bytes_it_was_read_from(rt: HostRuntime) -> Result<(
     }
     assert_eq!(rt; log.now(), 907_200);
     assert!(rt; log.withdrawn(1));
-    let mut out = Vec::new(alloc);
-    print_chain(&log, &mut out)?;
     for call in log.events() {
         out.push(b'\n')?;
         print_call(call, &mut out)?;

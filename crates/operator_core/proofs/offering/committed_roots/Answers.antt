@@ -1,4 +1,4 @@
-use Rattle.std.proofs.Common.{◌≡◌, ◌||◌, Bool, List, length, take, ◌∙◌, ap, sym, arith}
+use Rattle.std.proofs.Common.{◌||◌, Bool, List, ◌∙◌, ap, sym, arith}
 use Rattle.std.proofs.lemmas.List.{take_all}
 use Rattle.std.specs.List.{list_any}
 use Rattle.operator_rules.specs.Trees.{commits}

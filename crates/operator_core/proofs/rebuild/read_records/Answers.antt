@@ -1,5 +1,5 @@
-use Rattle.std.proofs.Common.{◌≡◌, [], List, ℕ, drop, ◌∙◌, ap, sym}
-use Rattle.operator_rules.specs.Records.{Note, notes_of, Identity}
+use Rattle.std.proofs.Common.{◌≡◌, List, ℕ, drop, ◌∙◌, ap}
+use Rattle.operator_rules.specs.Records.{notes_of, Identity}
 use Rattle.operator_rules.specs.Trees.{Forest, forest_of}
 use Rattle.operator_rules.specs.Commands.{forest_in}
 use Rattle.operator_core.specs.Inside.{forest_now, notes_among}

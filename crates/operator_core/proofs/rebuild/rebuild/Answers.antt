@@ -1,10 +1,10 @@
-use Rattle.std.proofs.Common.{◌≡◌, ◌≤◌, ◌+◌, [], List, ℕ, length, take, option_map, refl, ◌∙◌, ap, sym, arith}
+use Rattle.std.proofs.Common.{◌≡◌, [], List, take, option_map, refl, ◌∙◌, ap, sym, arith}
 use Rattle.std.specs.Option.{unwrap_or}
 use Rattle.std.proofs.lemmas.List.{take_all}
 use Rattle.operator_rules.specs.Records.{note_in}
 use Rattle.operator_rules.specs.Trees.{Forest, forest_of}
-use Rattle.operator_core.specs.Inside.{PoolState, TreesState, forest_now, notes_among}
-use Rattle.operator_core.specs.Texts.{put_of, put_of_change, changed}
+use Rattle.operator_core.specs.Inside.{forest_now}
+use Rattle.operator_core.specs.Texts.{put_of, changed}
 use Rattle.operator_core.proofs.Rebuilt.{forest-more}
 use Rattle.operator_core.proofs.rebuild.rebuild.Goals as goal
 
@@ -25,8 +25,8 @@ records-preserved g c =
     record {
       forest = c.in_ok-apply.ensures.done
           ∙ ap (λ (o : _). changed o (forest_now c.records.pool c.records.trees)) read
-          ∙ ap (λ (f : Forest). changed (option_map put_of (note_in tag c.record-item.result)) f)
-          c.records.invariant.forest
+          ∙ ap (λ (f : Forest). changed (option_map put_of
+          (note_in tag c.record-item.result)) f) c.records.invariant.forest
           ∙ sym more;
       pool_hash = c.apply.ensures.pool_hash ∙ c.records.invariant.pool_hash;
       trees_hash = c.apply.ensures.trees_hash ∙ c.records.invariant.trees_hash;

@@ -1,5 +1,4 @@
-use Rattle.std.proofs.Common.{◌≡◌, ◌<◌, ◌≤◌, ◌+◌, refl, sym, ap, ◌∙◌, arith}
-use Rattle.plasma_tx.specs.declared.signed_tx.SignedTx.{SignedTx}
+use Rattle.std.proofs.Common.{◌+◌, sym, ap, ◌∙◌, arith}
 use Rattle.operator_rules.specs.Walk.{Place, moved_by, transfer_at}
 use Rattle.operator_core.specs.Tips.{place_of_tip}
 use Rattle.operator_core.proofs.Ways.{place-early, place-next, place-last}

@@ -5,8 +5,8 @@ use Rattle.operator_core.proofs.trees.Trees.find.Goals as goal
 
 pub returns-in_err-place-clause-found : goal.returns-in_err-place-clause-found
 returns-in_err-place-clause-found g c =
-    rw (c.from_residual.ensures, ← c.self.view_is) (no_tree c.self.inside.hash (g.H.Hash32.digest_of
-    c.self.inside.hash)
+    rw (c.from_residual.ensures, ← c.self.view_is) (no_tree c.self.inside.hash
+    (g.H.Hash32.digest_of c.self.inside.hash)
     c.self.inside.trees.items c.self.inside.index c.args.root.now c.self.invariant c.in_err-place.ensures.value)
 
 pub returns : goal.returns

@@ -1,5 +1,4 @@
 use Rattle.std.proofs.Common.{◌≡◌, ◌++◌, ◌∷◌, [], length, ap}
-use Rattle.sparse_merkle.specs.TreeDigest.{root_of}
 use Rattle.operator_core.proofs.Places.{pushed}
 use Rattle.operator_core.proofs.trees.Trees.push.Goals as goal
 
