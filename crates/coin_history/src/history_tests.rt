@@ -195,6 +195,45 @@ fn histories_and_refusals(rt: HostRuntime) -> Result<(), Fail> {
     Ok(())
 }
 
+// What a bundle is refused for where its byte at a place is another.
+fn bent(
+    alloc: Global,
+    life: &Life,
+    place: usize,
+    byte: u8,
+) -> Result<Option<HistoryRefusal>, NoMemory> {
+    let mut bytes = life.bundle(alloc, 4, &[(2, 2), (4, 4)])?;
+    if place < bytes.len() {
+        bytes[place] = byte;
+    }
+    Ok(checked(alloc, life, &bytes).err())
+}
+
+// What a bundle up to a tip is refused for.
+fn of_tip(alloc: Global, life: &Life, tip: u64) -> Result<Option<HistoryRefusal>, NoMemory> {
+    let bytes = life.bundle(alloc, tip, &[(2, 2)])?;
+    Ok(checked(alloc, life, &bytes).err())
+}
+
+#[test]
+fn what_a_bundle_says_of_itself(rt: HostRuntime) -> Result<(), Fail> {
+    let alloc = rt.alloc();
+    let life = make_life(alloc, &make_key(alloc)?, false, 6)?;
+    // the coin, and the first opening's length of its leaf
+    assert_eq!(rt; bent(alloc, &life, 7, 3)?, Some(HistoryRefusal::NoCoin));
+    assert_eq!(rt;
+        bent(alloc, &life, 35, 1)?,
+        Some(HistoryRefusal::BadOpening { n: 2 })
+    );
+    // a tip that no block ever is
+    let n = u64::MAX;
+    assert_eq!(rt;
+        of_tip(alloc, &life, n)?,
+        Some(HistoryRefusal::UnknownBlock { n })
+    );
+    Ok(())
+}
+
 #[test]
 fn leaves_that_are_no_links(rt: HostRuntime) -> Result<(), Fail> {
     let alloc = rt.alloc();
