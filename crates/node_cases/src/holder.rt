@@ -1,0 +1,94 @@
+use super::calls::are_same;
+use super::transfers::InBlock;
+use coin_history::{Bundle, check};
+use plasma_base::{NoMemory, Toy, put_u32, put_u64};
+use plasma_tx::{Answer, Owner, RootCall, RootLog};
+use root_contract::Contract;
+use std::alloc::Global;
+use std::process::Abort;
+use std::test::Fail;
+use wallet_core::{CoinState, CoinTip, LeafNumbers, Notes, Tips, state};
+use watch_duty::{Guard, duty};
+
+/// The holder of coin 1, to whom it is paid.
+pub const HOLDER: Owner = Owner {
+    account: 12,
+    key: [8; 56],
+};
+
+/// The holder's bundle of coin 1, with these openings up to the last.
+fn bundle_bytes(alloc: Global, shown: &[&InBlock]) -> Result<Vec<u8>, NoMemory> {
+    let tip = shown.last().map_or(1, |last| last.opening.block);
+    let mut bytes = Vec::new(alloc);
+    put_u64(&mut bytes, 1)?;
+    put_u64(&mut bytes, tip)?;
+    put_u32(&mut bytes, u32::try_from(shown.len()).unwrap_or(0))?;
+    for in_block in shown {
+        let opening = in_block.opening.bytes.as_slice();
+        put_u64(&mut bytes, in_block.opening.block)?;
+        put_u32(&mut bytes, u32::try_from(opening.len()).unwrap_or(0))?;
+        bytes.extend_from_slice(opening)?;
+    }
+    Ok(bytes)
+}
+
+/// A guard with the links that the holder's bundle has under the log.
+pub fn guard(alloc: Global, log: &RootLog, shown: &[&InBlock]) -> Result<Guard, Fail> {
+    let bytes = bundle_bytes(alloc, shown)?;
+    let bundle = Bundle::read(alloc, bytes.as_slice())?;
+    let links = check(alloc, &Toy, log, &bundle)?;
+    Ok(Guard { links })
+}
+
+/// Nothing is due for the guards.
+pub fn nothing_due(
+    rt: &impl Abort,
+    alloc: Global,
+    log: &RootLog,
+    guards: &[Guard],
+) -> Result<(), Fail> {
+    let calls = duty(alloc, log, HOLDER.account, guards)?;
+    assert_eq!(rt; calls.len(), 0);
+    Ok(())
+}
+
+/// One call is due for the guards, and it is this one.
+pub fn one_due(
+    rt: &impl Abort,
+    alloc: Global,
+    log: &RootLog,
+    guards: &[Guard],
+    call: &RootCall,
+) -> Result<(), Fail> {
+    let calls = duty(alloc, log, HOLDER.account, guards)?;
+    assert_eq!(rt; calls.len(), 1);
+    for due in &calls {
+        assert!(rt; are_same(due, call));
+    }
+    Ok(())
+}
+
+/// The tips of coin 1.
+fn tips(alloc: Global, blocks: &[u64]) -> Result<Tips, NoMemory> {
+    let mut tips = Tips::new(alloc);
+    for tip in blocks {
+        tips.push(CoinTip { coin: 1, tip: *tip })?;
+    }
+    Ok(tips)
+}
+
+/// What coin 1 is to the holder, who noted that he accepted it and left with it at these blocks.
+pub fn held(
+    alloc: Global,
+    log: &RootLog,
+    accepted: &[u64],
+    leaving: &[u64],
+) -> Result<CoinState, NoMemory> {
+    let notes = Notes {
+        me: HOLDER,
+        accepted: tips(alloc, accepted)?,
+        leaving: tips(alloc, leaving)?,
+        reclaimed: LeafNumbers::new(alloc),
+    };
+    Ok(state(&notes, &[], log, 1))
+}
