@@ -1,6 +1,6 @@
 use super::calls::answers;
-use super::holder::{HOLDER, guard, held, nothing_due, one_due};
-use super::transfers::{InBlock, TAG, in_block, make_key, transfer};
+use super::holder::{HOLDER, deposit_guard, guard, held, nothing_due, one_due};
+use super::transfers::{InBlock, TAG, in_block, make_key, owner, transfer};
 use lms_sign::SecretKey;
 use plasma_base::{NoMemory, Toy};
 use plasma_tx::{Answer, Owner, Refusal, RootCall, Shown};
@@ -21,14 +21,6 @@ const STARTED: Answer = Answer::Started { opens: 907_200 };
 
 fn contract(alloc: Global) -> Contract {
     Contract::make(alloc, TAG, OPERATOR, 100)
-}
-
-// The owner with an account and this key.
-fn owner(account: u64, key: &SecretKey) -> Owner {
-    Owner {
-        account,
-        key: key.public(),
-    }
 }
 
 fn fund(rt: &impl Abort, contract: &mut Contract, account: u64, amount: u64) {
@@ -114,6 +106,30 @@ fn old_owner_exits(rt: &impl Abort, alloc: Global, contract: &mut Contract) -> R
 fn an_old_owner_exits(rt: HostRuntime) -> Result<(), Fail> {
     let mut contract = contract(rt.alloc());
     old_owner_exits(&rt, rt.alloc(), &mut contract)
+}
+
+// An exit of coin 1 stands, and coin 2 stays with its depositor: a call is due for coin 1 alone.
+fn one_coin_exits(rt: &impl Abort, alloc: Global, contract: &mut Contract) -> Result<(), Fail> {
+    let key = make_key(alloc, 7)?;
+    let paid = pay(rt, alloc, contract, &key)?;
+    let call = RootCall::Deposit {
+        account: DEPOSITOR,
+        amount: 200,
+        key: key.public(),
+    };
+    answers(rt, contract, call, Answer::Deposited { coin: 2, block: 3 });
+    start_deposit(rt, contract);
+    let others = [deposit_guard(alloc, contract.log(), 2, 3)?];
+    nothing_due(rt, alloc, contract.log(), &others)?;
+    let [other] = others;
+    let guards = [other, guard(alloc, contract.log(), &[&paid])?];
+    one_due(rt, alloc, contract.log(), &guards, &after(&paid)?)
+}
+
+#[test]
+fn a_coin_without_an_exit(rt: HostRuntime) -> Result<(), Fail> {
+    let mut contract = contract(rt.alloc());
+    one_coin_exits(&rt, rt.alloc(), &mut contract)
 }
 
 // A transfer to the accomplice in a block, which is committed.

@@ -1,7 +1,8 @@
+use super::bundles::{begin_bundle, push_opening};
 use super::calls::are_same;
 use super::transfers::InBlock;
 use coin_history::{Bundle, check};
-use plasma_base::{NoMemory, Toy, put_u32, put_u64};
+use plasma_base::{NoMemory, Toy};
 use plasma_tx::{Answer, Owner, RootCall, RootLog};
 use root_contract::Contract;
 use std::alloc::Global;
@@ -19,15 +20,9 @@ pub const HOLDER: Owner = Owner {
 /// The holder's bundle of coin 1, with these openings up to the last.
 fn bundle_bytes(alloc: Global, shown: &[&InBlock]) -> Result<Vec<u8>, NoMemory> {
     let tip = shown.last().map_or(1, |last| last.opening.block);
-    let mut bytes = Vec::new(alloc);
-    put_u64(&mut bytes, 1)?;
-    put_u64(&mut bytes, tip)?;
-    put_u32(&mut bytes, u32::try_from(shown.len()).unwrap_or(0))?;
+    let mut bytes = begin_bundle(alloc, 1, tip, shown.len())?;
     for in_block in shown {
-        let opening = in_block.opening.bytes.as_slice();
-        put_u64(&mut bytes, in_block.opening.block)?;
-        put_u32(&mut bytes, u32::try_from(opening.len()).unwrap_or(0))?;
-        bytes.extend_from_slice(opening)?;
+        push_opening(&mut bytes, &in_block.opening)?;
     }
     Ok(bytes)
 }
@@ -35,6 +30,14 @@ fn bundle_bytes(alloc: Global, shown: &[&InBlock]) -> Result<Vec<u8>, NoMemory> 
 /// A guard with the links that the holder's bundle has under the log.
 pub fn guard(alloc: Global, log: &RootLog, shown: &[&InBlock]) -> Result<Guard, Fail> {
     let bytes = bundle_bytes(alloc, shown)?;
+    let bundle = Bundle::read(alloc, bytes.as_slice())?;
+    let links = check(alloc, &Toy, log, &bundle)?;
+    Ok(Guard { links })
+}
+
+/// A guard of a coin that stays with its depositor.
+pub fn deposit_guard(alloc: Global, log: &RootLog, coin: u64, deposit: u64) -> Result<Guard, Fail> {
+    let bytes = begin_bundle(alloc, coin, deposit, 0)?;
     let bundle = Bundle::read(alloc, bytes.as_slice())?;
     let links = check(alloc, &Toy, log, &bundle)?;
     Ok(Guard { links })
@@ -77,18 +80,28 @@ fn tips(alloc: Global, blocks: &[u64]) -> Result<Tips, NoMemory> {
     Ok(tips)
 }
 
-/// What coin 1 is to the holder, who noted that he accepted it and left with it at these blocks.
+/// The notes of a wallet that accepted coin 1 and left with it at these blocks.
+pub fn notes(
+    alloc: Global,
+    me: Owner,
+    accepted: &[u64],
+    leaving: &[u64],
+) -> Result<Notes, NoMemory> {
+    Ok(Notes {
+        me,
+        accepted: tips(alloc, accepted)?,
+        leaving: tips(alloc, leaving)?,
+        reclaimed: LeafNumbers::new(alloc),
+    })
+}
+
+/// What coin 1 is to the holder with such notes.
 pub fn held(
     alloc: Global,
     log: &RootLog,
     accepted: &[u64],
     leaving: &[u64],
 ) -> Result<CoinState, NoMemory> {
-    let notes = Notes {
-        me: HOLDER,
-        accepted: tips(alloc, accepted)?,
-        leaving: tips(alloc, leaving)?,
-        reclaimed: LeafNumbers::new(alloc),
-    };
+    let notes = notes(alloc, HOLDER, accepted, leaving)?;
     Ok(state(&notes, &[], log, 1))
 }

@@ -4,8 +4,10 @@ use plasma_tx::{Body, Owner, RawOpening, SignedTx};
 use sparse_merkle::Tree;
 use std::alloc::Global;
 
-/// The chain's tag.
-pub const TAG: [u8; 32] = [1; 32];
+/// The chain's tag, the number 1.
+pub const TAG: [u8; 32] = [
+    0, 0, 0, 0, 0, 0, 0, 0, 0, 0, 0, 0, 0, 0, 0, 0, 0, 0, 0, 0, 0, 0, 0, 0, 0, 0, 0, 0, 0, 0, 0, 1,
+];
 
 /// A transfer in a block whose tree has nothing else: the tree's root, and what opens it at coin 1.
 #[derive(Drop)]
@@ -19,7 +21,30 @@ pub fn make_key(alloc: Global, seed: u8) -> Result<SecretKey, NoMemory> {
     SecretKey::make(alloc, LmsTypes { lms: 5, ots: 3 }, [seed; 16], [seed; 32])
 }
 
-/// The bytes of the transfer of coin 1 that spends the parent, signed by leaf q.
+/// The owner with an account and this key.
+pub fn owner(account: u64, key: &SecretKey) -> Owner {
+    Owner {
+        account,
+        key: key.public(),
+    }
+}
+
+/// The bytes of a transfer that is signed by leaf q; where the key has no such leaf, the signature is zeros.
+pub fn signed(alloc: Global, key: &SecretKey, q: u32, body: &Body) -> Result<Vec<u8>, NoMemory> {
+    let mut signature = Vec::from_elem(alloc, 0u8, key.signature_len())?;
+    if q < key.leaves() {
+        sign(key, q, body.write().as_slice(), signature.as_mut_slice());
+    }
+    let mut leaf = Vec::new(alloc);
+    SignedTx {
+        body: *body,
+        signature: Bytes::from_vec(signature),
+    }
+    .write(&mut leaf)?;
+    Ok(leaf)
+}
+
+/// The same of coin 1, which spends the parent.
 pub fn transfer(
     alloc: Global,
     key: &SecretKey,
@@ -34,17 +59,10 @@ pub fn transfer(
         to,
         last: None,
     };
-    let mut signature = Vec::from_elem(alloc, 0u8, key.signature_len())?;
-    if q < key.leaves() {
-        sign(key, q, body.write().as_slice(), signature.as_mut_slice());
-    }
-    let mut leaf = Vec::new(alloc);
-    let signature = Bytes::from_vec(signature);
-    SignedTx { body, signature }.write(&mut leaf)?;
-    Ok(leaf)
+    signed(alloc, key, q, &body)
 }
 
-/// That transfer in a block.
+/// A leaf of coin 1 in a block.
 pub fn in_block(alloc: Global, block: u64, leaf: &[u8]) -> Result<InBlock, NoMemory> {
     let mut tree = Tree::new(alloc);
     tree.put(1, leaf)?;
