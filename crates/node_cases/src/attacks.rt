@@ -119,10 +119,9 @@ fn one_coin_exits(rt: &impl Abort, alloc: Global, contract: &mut Contract) -> Re
     };
     answers(rt, contract, call, Answer::Deposited { coin: 2, block: 3 });
     start_deposit(rt, contract);
-    let others = [deposit_guard(alloc, contract.log(), 2, 3)?];
-    nothing_due(rt, alloc, contract.log(), &others)?;
-    let [other] = others;
+    let other = deposit_guard(alloc, contract.log(), 2, 3)?;
     let guards = [other, guard(alloc, contract.log(), &[&paid])?];
+    nothing_due(rt, alloc, contract.log(), guards.get(..1).unwrap_or(&[]))?;
     one_due(rt, alloc, contract.log(), &guards, &after(&paid)?)
 }
 

@@ -1,7 +1,7 @@
 use super::operators::{OPERATOR, begun, commit, deposited, disk_of, leaves, opened, shown};
 use super::transfers::{TAG, make_key, owner, transfer};
 use crash_disk::MemDisk;
-use gate_journal::InitRefusal;
+use gate_journal::{InitRefusal, JournalRefusal, Returned};
 use operator_core::{Operator, init};
 use operator_rules::{LayRefusal, OfferRefusal, ProveRefusal, SealRefusal};
 use plasma_base::Toy;
@@ -33,6 +33,28 @@ fn each_call_of_an_init_fails(rt: HostRuntime) -> Result<(), Fail> {
         let (answers, records) = begins(rt.alloc(), call)?;
         assert_eq!(rt; answers, [first, again], "call {call}");
         assert_eq!(rt; records, (0, 0), "call {call}");
+    }
+    Ok(())
+}
+
+// Why an operator isn't opened where the device call with this number fails, and the notes that it has once the
+// disk that was handed back is opened again.
+fn opens(alloc: Global, call: u64) -> Result<(Option<JournalRefusal>, (u64, u64)), Fail> {
+    match Operator::open_with(alloc, begun(alloc, call)?, Toy) {
+        Ok(operator) => Ok((None, operator.records())),
+        Err(Returned { disk, why }) => Ok((Some(why), opened(alloc, disk, Toy)?.records())),
+    }
+}
+
+#[test]
+fn each_call_of_an_opening_fails(rt: HostRuntime) -> Result<(), Fail> {
+    for call in 0..4 {
+        let why = if call > 0 {
+            Some(JournalRefusal::DeviceFault)
+        } else {
+            None
+        };
+        assert_eq!(rt; opens(rt.alloc(), call)?, (why, (0, 0)), "call {call}");
     }
     Ok(())
 }

@@ -83,7 +83,7 @@ fn play(
     operator: &mut Operator<MemDisk, Sha>,
     log: &mut RootLog,
     transfers: &[Vec<u8>; 2],
-) -> Result<[Vec<u8>; 2], Fail> {
+) -> Result<(Vec<u8>, Vec<u8>), Fail> {
     assert_eq!(rt; seal(operator, log), Ok(0));
     deposit(alloc, log, 200)?;
     assert_eq!(rt;
@@ -97,11 +97,11 @@ fn play(
         (Ok(1), Ok(1))
     );
     assert_eq!(rt; seal(operator, log), Ok(0));
-    Ok([first, bundle(alloc, operator, log, 6)?])
+    Ok((first, bundle(alloc, operator, log, 6)?))
 }
 
 // The same over a log in which coin 1 is deposited first.
-fn played(rt: &impl Abort, alloc: Global, log: &mut RootLog) -> Result<[Vec<u8>; 2], Fail> {
+fn played(rt: &impl Abort, alloc: Global, log: &mut RootLog) -> Result<(Vec<u8>, Vec<u8>), Fail> {
     let transfers = [bytes_of(alloc, &[FIRST])?, bytes_of(alloc, &[SECOND])?];
     deposit(alloc, log, 300)?;
     let mut operator = opened(alloc, begun(alloc, 0)?, Sha)?;
@@ -177,7 +177,7 @@ fn roots_are(rt: &impl Abort, alloc: Global, log: &RootLog) -> Result<(), NoMemo
 fn bundles_of_two_transfers(rt: HostRuntime) -> Result<(), Fail> {
     let alloc = rt.alloc();
     let mut log = RootLog::make(alloc, TAG, 9, 100);
-    let [first, second] = played(&rt, alloc, &mut log)?;
+    let (first, second) = played(&rt, alloc, &mut log)?;
     assert_eq!(rt; first.as_slice(), bytes_of(alloc, &TO_4)?.as_slice());
     assert_eq!(rt; second.as_slice(), bytes_of(alloc, &TO_6)?.as_slice());
     roots_are(&rt, alloc, &log)?;
@@ -203,7 +203,7 @@ fn checked(
 fn histories_of_two_transfers(rt: HostRuntime) -> Result<(), Fail> {
     let alloc = rt.alloc();
     let mut log = RootLog::make(alloc, TAG, 9, 100);
-    let [first, second] = played(&rt, alloc, &mut log)?;
+    let (first, second) = played(&rt, alloc, &mut log)?;
     assert_eq!(rt; checked(alloc, &log, first.as_slice()), Ok((4, 12, 1)));
     assert_eq!(rt; checked(alloc, &log, second.as_slice()), Ok((6, 13, 2)));
     let cut = bytes_of(alloc, &WITHOUT_5)?;

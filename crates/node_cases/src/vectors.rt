@@ -69,5 +69,5 @@ pub const FIRST_ROOT: &str = "0x1f787fbdc05a16c74b559686abc6fb9482dd8cd44051a86a
 pub const SECOND_ROOT: &str = "0x3f7692a5f42173dfae8358a0cbc53c1d9eb0197165a8c8f4c7a1278d2f14eea7";
 
 /// The key of account 11.
-pub const DEPOSITOR_KEY: &str =
-    "0x0000000500000004ec4916dd28fc4c10d78e287ca5d9cc515e043ca7d36bad63eed56bb9606e38607091b0f6c02ab3db4a57fcda82b8a2d6";
+pub const DEPOSITOR_KEY: &str = "0x0000000500000004ec4916dd28fc4c10d78e287ca5d9cc51\
+    5e043ca7d36bad63eed56bb9606e38607091b0f6c02ab3db4a57fcda82b8a2d6";
