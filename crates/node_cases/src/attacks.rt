@@ -3,7 +3,7 @@ use super::holder::{HOLDER, deposit_guard, guard, held, nothing_due, one_due};
 use super::transfers::{InBlock, TAG, in_block, make_key, owner, transfer};
 use lms_sign::SecretKey;
 use plasma_base::{NoMemory, Toy};
-use plasma_tx::{Answer, Owner, Refusal, RootCall, Shown};
+use plasma_tx::{Answer, Refusal, RootCall, Shown};
 use root_contract::Contract;
 use std::alloc::Global;
 use std::process::Abort;
