@@ -4,7 +4,7 @@ use Rattle.std.specs.List.{filter_map}
 use Rattle.std.specs.Option.{option_map, option_map_or}
 use Rattle.node_journal.specs.Role.{are_of, may_follow}
 use Rattle.node_rules.specs.Watcher.{WatcherIdentity, Note, nobody, identity_in, note_in, watcher_kinds, who_is, notes_of}
-use Rattle.watcher_node.specs.declared.watched.Watched.{Watched}
+use Rattle.kept_coins.specs.declared.kept_coin.KeptCoin.{KeptCoin}
 use Rattle.watcher_node.specs.declared.watched.Change.{Change}
 use Rattle.watcher_node.specs.Inside.{change_of, changed, changed_by, watched_in, IsKept}
 use Rattle.watcher_node.proofs.Steps.{watched-next}
@@ -15,7 +15,7 @@ who-first : (first : List ℕ) (rest : List (List ℕ)) (who : WatcherIdentity) 
 unfolding who_is
 who-first first rest who is = rw is refl
 
-kept-of : (dig : List ℕ → List ℕ) (first : List ℕ) (rest : List (List ℕ)) (who : WatcherIdentity) (all : List Watched)
+kept-of : (dig : List ℕ → List ℕ) (first : List ℕ) (rest : List (List ℕ)) (who : WatcherIdentity) (all : List KeptCoin)
     → identity_in first ≡ Some who → all ≡ watched_in who.tag (reverse (filter_map (note_in dig who.tag) rest))
     → IsKept dig (first ∷ rest) who.tag who.account all
 unfolding notes_of
@@ -39,7 +39,7 @@ tag-from None pair is = absurd (cc is)
 tag-from (Some who) pair is = (who, refl, cc is)
 
 pub kept-from : (dig : List ℕ → List ℕ) (records : List (List ℕ)) (first : List ℕ) (rest : List (List ℕ))
-    (pair : List ℕ × ℕ) (all : List Watched) → records ≡ first ∷ rest
+    (pair : List ℕ × ℕ) (all : List KeptCoin) → records ≡ first ∷ rest
     → Some pair ≡ option_map named (identity_in first)
     → all ≡ watched_in pair.0 (reverse (filter_map (note_in dig pair.0) rest)) → IsKept dig records pair.0 pair.1 all
 kept-from dig records first rest pair all records_are found are =
@@ -52,7 +52,7 @@ kept-from dig records first rest pair all records_are found are =
 
 -- one more record that spells a change
 pub kept-more : (dig : List ℕ → List ℕ) (records : List (List ℕ)) (body : List ℕ) (more : List (List ℕ)) (tag : List ℕ)
-    (account : ℕ) (all after : List Watched) (change : Change) → are_of (watcher_kinds dig) records ≡ true
+    (account : ℕ) (all after : List KeptCoin) (change : Change) → are_of (watcher_kinds dig) records ≡ true
     → more ≡ records ++ body ∷ []
     → Some change ≡ option_map (change_of (who_is records).tag) (note_in dig (who_is records).tag body)
     → after ≡ changed change all → IsKept dig records tag account all → IsKept dig more tag account after

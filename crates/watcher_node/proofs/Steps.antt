@@ -7,7 +7,8 @@ use Rattle.std.proofs.lemmas.List.{map-append, append-nil, reverse-append, take_
 use Rattle.std.proofs.lemmas.List.Elements.{filter_map-append}
 use Rattle.coin_history.specs.declared.bundle.Bundle.{Bundle}
 use Rattle.node_rules.specs.Watcher.{Note, Guarded, Released, is_of, is_before, with_guard, note_in, guards_of}
-use Rattle.watcher_node.specs.Inside.{watched_of, change_of, is_watched_at, comes_before, AreInOrder, with_watched, changed, changed_by, watched_in}
+use Rattle.watcher_node.specs.Inside.{change_of, is_watched_at, comes_before, AreInOrder, with_watched, changed, changed_by, watched_in}
+use Rattle.kept_coins.specs.KeptCoins.{kept_coin_of}
 use Rattle.watcher_node.proofs.Order.{changed-order}
 
 filter-map : {X Y : Type 0} (f : X → Y) (p : Y → Bool) (xs : List X)
@@ -19,25 +20,25 @@ filter-map {X} {Y} f p (x ∷ xs) = elim (cases_Bool (p (f x))) [
 ]
 
 pub any-map : (tag : List ℕ) (coin tip : ℕ) (guards : List Bundle)
-    → list_any (is_watched_at coin tip) (map (watched_of tag) guards) ≡ list_any (is_of coin tip) guards
+    → list_any (is_watched_at coin tip) (map (kept_coin_of tag) guards) ≡ list_any (is_of coin tip) guards
 any-map tag coin tip [] = refl
 any-map tag coin tip (kept ∷ guards) = ap (λ (b : Bool). is_of coin tip kept || b) (any-map tag coin tip guards)
 
 with-map : (tag : List ℕ) (kept : Bundle) (guards : List Bundle)
-    → with_watched (watched_of tag kept) (map (watched_of tag) guards) ≡ map (watched_of tag) (with_guard kept guards)
+    → with_watched (kept_coin_of tag kept) (map (kept_coin_of tag) guards) ≡ map (kept_coin_of tag) (with_guard kept guards)
 with-map tag kept guards = at (list_any (is_of kept.coin kept.tip) guards) refl
   where
     at : (b : Bool) → list_any (is_of kept.coin kept.tip) guards ≡ b
-        → with_watched (watched_of tag kept) (map (watched_of tag) guards)
-        ≡ map (watched_of tag) (with_guard kept guards)
+        → with_watched (kept_coin_of tag kept) (map (kept_coin_of tag) guards)
+        ≡ map (kept_coin_of tag) (with_guard kept guards)
     at true is = rw (any-map tag kept.coin kept.tip guards, is) refl
     at false is =
         rw (any-map tag kept.coin kept.tip guards, is)
         (rw (
-          filter-map (watched_of tag) (λ other. comes_before other (watched_of tag kept)) guards,
-          filter-map (watched_of tag) (λ other. not (comes_before other (watched_of tag kept))) guards,
+          filter-map (kept_coin_of tag) (λ other. comes_before other (kept_coin_of tag kept)) guards,
+          filter-map (kept_coin_of tag) (λ other. not (comes_before other (kept_coin_of tag kept))) guards,
         )
-        (sym (map-append (watched_of tag) (filter (λ other. is_before other kept) guards)
+        (sym (map-append (kept_coin_of tag) (filter (λ other. is_before other kept) guards)
         (kept ∷ filter (λ other. not (is_before other kept)) guards))))
 
 pub watched_in-more : (tag : List ℕ) (note : Note) (notes : List Note)
@@ -45,7 +46,7 @@ pub watched_in-more : (tag : List ℕ) (note : Note) (notes : List Note)
 unfolding guards_of
 watched_in-more tag (Guarded kept) notes = sym (with-map tag kept (guards_of notes))
 watched_in-more tag (Released coin tip) notes =
-    sym (filter-map (watched_of tag) (λ watched. not (is_watched_at coin tip watched)) (guards_of notes))
+    sym (filter-map (kept_coin_of tag) (λ watched. not (is_watched_at coin tip watched)) (guards_of notes))
 
 pub watched_in-none : (tag : List ℕ) → watched_in tag [] ≡ []
 unfolding guards_of

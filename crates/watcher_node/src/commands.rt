@@ -7,14 +7,16 @@ ghost use Rattle.node_journal.specs.Notes.{Did, stopped_by};
 ghost use Rattle.node_rules.specs.Kept.{kept_of, links_handed};
 ghost use Rattle.node_rules.specs.Watcher.{Note, Released, note_text, who_is, note_in, is_of, guards_in, guard_causes, guard_taken, guard_by, guard_effect, release_effect};
 ghost use Rattle.watcher_node.specs.State.{stop_in, watcher_stop};
-ghost use Rattle.watcher_node.specs.Inside.{change_of, CanBeSpelled, history_refusal};
+ghost use Rattle.watcher_node.specs.Inside.{change_of, history_refusal};
+ghost use Rattle.kept_coins.specs.KeptCoins.{CanBeSpelled};
 
-use super::bundles::{kept_note, links_handed, released_note};
+use super::bundles::{guarded_note, released_note};
 use super::node::WatcherNode;
 use super::records::read_note;
 use super::watched::{Change, apply, has_guard};
 use coin_history::HistoryRefusal;
 use crash_disk::Disk;
+use kept_coins::links_handed;
 use node_journal::Stop;
 use node_rules::{Accepted, WatcherRefusal};
 use plasma_base::{Bytes, Hash32, NoMemory};
@@ -154,7 +156,7 @@ impl<D: Disk, H: Hash32 + Copy> WatcherNode<D, H> {
             self.old.notes (watcher_stop result) self.new.notes }
         ensures hash { self.new.hash ≡ self.old.hash }
     {
-        let body = match kept_note(self.alloc, links) {
+        let body = match guarded_note(self.alloc, links) {
             Ok(body) => body,
             Err(_) => return Err(WatcherRefusal::NoMemory),
         };

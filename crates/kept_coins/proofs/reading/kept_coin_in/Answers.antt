@@ -1,6 +1,6 @@
 use Rattle.std.proofs.Common.{rules, ◌≡◌, [], ◌∷◌, ◌++◌, sym, ◌∙◌}
-use Rattle.watcher_node.proofs.Shown.{shows-none, shows-more}
-use Rattle.watcher_node.proofs.records.guard_in.Goals as goal
+use Rattle.kept_coins.proofs.Shown.{shows-none, shows-more}
+use Rattle.kept_coins.proofs.reading.kept_coin_in.Goals as goal
 
 pub loop-opening-init : goal.loop-opening-init
 loop-opening-init g c =

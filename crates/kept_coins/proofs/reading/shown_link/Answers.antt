@@ -1,8 +1,8 @@
 use Rattle.std.proofs.Common.{Option, Some, sym, ◌∙◌, ap}
 use Rattle.plasma_tx.specs.declared.opening.RawOpening.{RawOpening}
 use Rattle.plasma_tx.specs.declared.links.Link.{Link}
-use Rattle.watcher_node.proofs.Shown.{linked, link-read}
-use Rattle.watcher_node.proofs.records.shown_link.Goals as goal
+use Rattle.kept_coins.proofs.Shown.{linked, link-read}
+use Rattle.kept_coins.proofs.reading.shown_link.Goals as goal
 
 pub returns-in-Some : goal.returns-in-Some
 returns-in-Some g c =

@@ -1,8 +1,8 @@
 use Rattle.std.proofs.Common.{sym}
 use Rattle.root_rules.specs.Shown.{tests_by}
 use Rattle.coin_history.specs.History.{tagged}
-use Rattle.watcher_node.proofs.Spelled.{spelled-from}
-use Rattle.watcher_node.proofs.bundles.links_handed.Goals as goal
+use Rattle.kept_coins.proofs.Spelled.{spelled-from}
+use Rattle.kept_coins.proofs.handed.links_handed.Goals as goal
 
 pub returns-in-Ok-check_tagged-clause-spelled : goal.returns-in-Ok-check_tagged-clause-spelled
 returns-in-Ok-check_tagged-clause-spelled g c =

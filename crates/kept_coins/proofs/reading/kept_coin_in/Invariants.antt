@@ -1,6 +1,6 @@
 use Rattle.std.proofs.Common.{take}
-use Rattle.watcher_node.proofs.Shown.{Shows}
-use Rattle.watcher_node.proofs.records.guard_in.Given as goal
+use Rattle.kept_coins.proofs.Shown.{Shows}
+use Rattle.kept_coins.proofs.reading.kept_coin_in.Given as goal
 
 abbrev pub invariant-loop-opening : goal.invariant-loop-opening
 invariant-loop-opening g l =

@@ -17,7 +17,7 @@ use Rattle.coin_history.specs.Bundles.{AreRising}
 use Rattle.coin_history.specs.History.{transfer_of, links_in, links_of}
 use Rattle.coin_history.specs.Checking.{unless_failed, may_be_tip, checked, history_of}
 use Rattle.node_rules.specs.Kept.{kept_of}
-use Rattle.watcher_node.specs.Inside.{CanBeSpelled}
+use Rattle.kept_coins.specs.KeptCoins.{CanBeSpelled}
 
 unless-ok : (failed : Option HistoryRefusal) (answer links : Links) → unless_failed failed answer ≡ Ok links
     → answer ≡ links

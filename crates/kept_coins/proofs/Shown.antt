@@ -15,8 +15,11 @@ use Rattle.plasma_tx.proofs.OpeningTexts.{leaf-shown}
 use Rattle.coin_history.specs.declared.bundle.Bundle.{Bundle}
 use Rattle.coin_history.specs.History.{link_of, links_in, transfer_of}
 use Rattle.node_rules.specs.Kept.{chain_of, shows_link, ends_at, only_kept}
-use Rattle.watcher_node.specs.Inside.{watched_of}
-use Rattle.watcher_node.proofs.Order.{and-true}
+use Rattle.kept_coins.specs.KeptCoins.{kept_coin_of}
+
+and-true : (a b : Bool) → a ≡ true → b ≡ true → (a && b) ≡ true
+and-true true b one two = two
+and-true false b one two = absurd (cc one)
 
 -- the link of an opening, where it reads
 abbrev pub link_read : (List ℕ → List ℕ) → List ℕ → ℕ → RawOpening → Option Link
@@ -91,7 +94,7 @@ none-is false raw tx is = refl
 pub shows-not : (dig : List ℕ → List ℕ) (tag : List ℕ) (bundle : Bundle) (openings : List RawOpening) (i : ℕ)
     (raw : RawOpening) → openings ≡ bundle.openings → i < length openings → raw ≡ get_or openings i raw
     → None ≡ link_read dig tag bundle.coin raw
-    → None ≡ option_map (watched_of tag) (only_kept dig tag (Ok bundle))
+    → None ≡ option_map (kept_coin_of tag) (only_kept dig tag (Ok bundle))
 shows-not dig tag bundle openings i raw same less is found =
     let here = none-is (is_ok (opening_in dig raw)) raw (transfer_of (chain_of tag) bundle.coin raw) found in
     let at : shows_link dig tag bundle.coin (get_or openings i raw) ≡ false =
@@ -102,17 +105,17 @@ shows-not dig tag bundle openings i raw same less is found =
     rw none refl
 
 pub ends-not : (dig : List ℕ → List ℕ) (tag : List ℕ) (bundle : Bundle) → ends_at bundle.tip bundle.openings ≡ false
-    → None ≡ option_map (watched_of tag) (only_kept dig tag (Ok bundle))
+    → None ≡ option_map (kept_coin_of tag) (only_kept dig tag (Ok bundle))
 ends-not dig tag bundle is = at (list_all (shows_link dig tag bundle.coin) bundle.openings) refl
   where
     at : (b : Bool) → list_all (shows_link dig tag bundle.coin) bundle.openings ≡ b
-        → None ≡ option_map (watched_of tag) (only_kept dig tag (Ok bundle))
+        → None ≡ option_map (kept_coin_of tag) (only_kept dig tag (Ok bundle))
     at true all = rw (all, is) refl
     at false all = rw all refl
 
 pub shows-all : (dig : List ℕ → List ℕ) (tag : List ℕ) (bundle : Bundle) (spends : List Link)
     → ends_at bundle.tip bundle.openings ≡ true → Shows dig tag bundle.coin bundle.openings spends
     → Some (record { coin = bundle.coin; tip = bundle.tip; spends = spends })
-    ≡ option_map (watched_of tag) (only_kept dig tag (Ok bundle))
+    ≡ option_map (kept_coin_of tag) (only_kept dig tag (Ok bundle))
 shows-all dig tag bundle spends ends shows =
     rw (shows.all, ends, shows.links) refl
