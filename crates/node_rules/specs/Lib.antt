@@ -2,3 +2,5 @@ pub mod Kept
 pub mod Watcher
 pub mod WalletRecords
 pub mod Wallet
+pub mod WalletOpening
+pub mod Laws

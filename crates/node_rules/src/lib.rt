@@ -4,8 +4,10 @@
 
 mod answers;
 mod identity;
+mod laws;
 mod refusal;
 
 pub use answers::{Accepted, Reclaimed, Sent};
 pub use identity::WalletIdentity;
+pub use laws::kept_histories_are_read_back;
 pub use refusal::{WalletRefusal, WatcherRefusal};
