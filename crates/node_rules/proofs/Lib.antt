@@ -1,1 +1,3 @@
 pub mod KeptTexts
+pub mod WatcherTexts
+pub mod WatcherRole

@@ -4,3 +4,4 @@ pub mod WalletRecords
 pub mod Wallet
 pub mod WalletOpening
 pub mod Laws
+pub mod WatcherLaws
