@@ -1,3 +1,6 @@
 pub mod KeptTexts
+pub mod OneMore
+pub mod NumberTexts
 pub mod WatcherTexts
 pub mod WatcherRole
+pub mod WalletTexts

@@ -26,13 +26,8 @@ use Rattle.node_rules.specs.Laws.{IsReadBack}
 use Rattle.node_rules.specs.Watcher.{WatcherIdentity, nobody, identity_in, Note, Guarded, Released, note_text, note_in, tag_in, watcher_kinds, who_is, notes_of, is_of, guards_in, guard_causes, guard_taken, guard_by, guard_effect, release_effect, due_for_kept, watch_answer}
 use Rattle.node_rules.specs.WatcherLaws.{KeepsRole, CommandsKeepTheRole, AddsNote, AddsGuard, CommandsAddTheirNotes, guard_shown, guards_shown, WatchersDoTheirDuty}
 use Rattle.node_rules.proofs.KeptTexts.{handed-back}
+use Rattle.node_rules.proofs.OneMore.{if_some-each, reverse-grow}
 use Rattle.node_rules.proofs.WatcherTexts.{note_in-text, released-some}
-
--- what holds of a record, wherever there is one
-pub if_some-each : {X : Type 0} (found : Option X) (P : X → Type 0) → ((x : X) → found ≡ Some x → P x)
-    → IfSome found P
-if_some-each None P each = tt
-if_some-each (Some x) P each = each x refl
 
 -- ---- one more record
 
@@ -52,24 +47,15 @@ pub who-same : (identity : List ℕ) (notes more : List (List ℕ))
 unfolding who_is
 who-same identity notes more = refl
 
-reverse-one : {X : Type 0} (found : Option X) (xs : List X)
-    → reverse (cons_option found []) ++ xs ≡ cons_option found xs
-reverse-one None xs = refl
-reverse-one (Some x) xs = refl
-
 -- the notes with one more record: that of the record, where it spells one, before them
 pub notes-grow : (dig : List ℕ → List ℕ) (identity : List ℕ) (notes : List (List ℕ)) (body : List ℕ)
     → notes_of dig ((identity ∷ notes) ++ body ∷ [])
     ≡ cons_option (note_in dig (who_is (identity ∷ notes)).tag body) (notes_of dig (identity ∷ notes))
 unfolding notes_of
 notes-grow dig identity notes body =
-    let tag = (who_is (identity ∷ notes)).tag in
-    let read : List Note = filter_map (note_in dig tag) notes in
     ap (λ (who : WatcherIdentity). reverse (filter_map (note_in dig who.tag) (notes ++ body ∷ [])))
     (who-same identity notes (body ∷ []))
-    ∙ ap (λ (xs : List Note). reverse xs) (filter_map-append (note_in dig tag) notes (body ∷ []))
-    ∙ reverse-append read (cons_option (note_in dig tag body) [])
-    ∙ reverse-one (note_in dig tag body) (reverse read)
+    ∙ reverse-grow (note_in dig (who_is (identity ∷ notes)).tag) notes body
 
 -- a record that spells a note may stand behind an identity, and is read as it
 module _ (dig : List ℕ → List ℕ) (records : List (List ℕ)) (role : are_of (watcher_kinds dig) records ≡ true)

@@ -13,64 +13,8 @@ use Rattle.node_rules.specs.Kept.{kept_in}
 use Rattle.node_rules.specs.Watcher.{WatcherIdentity, identity_text, identity_in, Note, Guarded, Released, note_text, guarded, note_in}
 use Rattle.node_rules.specs.Laws.{IsKept}
 use Rattle.node_rules.specs.WatcherLaws.{IsIdentity, IsNote, IdentitiesAreReadBack, IdentitiesHaveOneSpelling, NotesAreReadBack, NotesHaveOneSpelling}
+use Rattle.node_rules.proofs.NumberTexts.{pair-first, pair-second, two-bytes, tag-read, account-read, tag-bytes}
 use Rattle.node_rules.proofs.KeptTexts.{kept_in-text, kept_in-spelled}
-
--- ---- two numbers
-
--- the numbers that two numbers' bytes spell are they
-pub first-read : (one other : ℕ) (rest : List ℕ) → one < 2 ^ 64
-    → number_at (number_text one ++ number_text other ++ rest) 0 ≡ one
-first-read one other rest small =
-    number-in (number_text one ++ number_text other ++ rest) 0 one small
-    (range-front (number_text one ++ number_text other) rest 0 8 (omega arith)
-    (omega (arith, length-append (number_text one) (number_text other)))
-    ∙ range-front (number_text one) (number_text other) 0 8 (omega arith) (omega arith)
-    ∙ take_all 8 (number_text one) (omega arith))
-
-pub second-read : (one other : ℕ) (rest : List ℕ) → other < 2 ^ 64
-    → number_at (number_text one ++ number_text other ++ rest) 8 ≡ other
-second-read one other rest small =
-    number-in (number_text one ++ number_text other ++ rest) 8 other small
-    (range-front (number_text one ++ number_text other) rest 8 16 (omega arith)
-    (omega (arith, length-append (number_text one) (number_text other)))
-    ∙ range-back (number_text one) (number_text other) 8 16 refl refl)
-
--- and their bytes are the first sixteen
-pub two-bytes : (bytes : List ℕ) → AreBytes bytes → 16 ≤ length bytes
-    → number_text (number_at bytes 0) ++ number_text (number_at bytes 8) ≡ take 16 bytes
-two-bytes bytes small long =
-    let one : number_text (number_at bytes 0) ≡ take 8 bytes =
-    number-bytes (slice_range bytes 0 8) (bytes-range bytes 0 8 small)
-    (length-range bytes 0 8 (omega arith) (omega arith)) in
-    let other : number_text (number_at bytes 8) ≡ slice_range bytes 8 16 =
-    number-bytes (slice_range bytes 8 16) (bytes-range bytes 8 16 small)
-    (length-range bytes 8 16 (omega arith) (omega arith)) in
-    (λ i. one i ++ other i) ∙ range-join bytes 8 16 (omega arith)
-
--- a tag and an account are read
-pub tag-read : (tag : List ℕ) (account : ℕ) (rest : List ℕ) → length tag ≡ 32
-    → slice_range (tag ++ number_text account ++ rest) 0 32 ≡ tag
-tag-read tag account rest long =
-    range-front (tag ++ number_text account) rest 0 32 (omega arith)
-    (omega (arith, length-append tag (number_text account)))
-    ∙ range-front tag (number_text account) 0 32 (omega arith) (omega arith)
-    ∙ take_all 32 tag (omega arith)
-
-pub account-read : (tag : List ℕ) (account : ℕ) (rest : List ℕ) → length tag ≡ 32 → account < 2 ^ 64
-    → number_at (tag ++ number_text account ++ rest) 32 ≡ account
-account-read tag account rest long small =
-    number-in (tag ++ number_text account ++ rest) 32 account small
-    (range-front (tag ++ number_text account) rest 32 40 (omega arith)
-    (omega (arith, length-append tag (number_text account)))
-    ∙ range-back tag (number_text account) 32 40 long refl)
-
--- and their bytes are the first forty
-pub tag-bytes : (bytes : List ℕ) → AreBytes bytes → 40 ≤ length bytes
-    → slice_range bytes 0 32 ++ number_text (number_at bytes 32) ≡ take 40 bytes
-tag-bytes bytes small long =
-    ap (λ (part : List ℕ). take 32 bytes ++ part) (number-bytes (slice_range bytes 32 40)
-    (bytes-range bytes 32 40 small) (length-range bytes 32 40 (omega arith) (omega arith)))
-    ∙ range-join bytes 32 40 (omega arith)
 
 -- ---- the identity
 
@@ -146,11 +90,8 @@ unfolding note_text
 note_in-text dig tag (Guarded kept) h =
     guarded-read dig tag (bundle_text kept) ∙ ap guarded (kept_in-text dig tag kept h)
 note_in-text dig tag (Released coin tip) h =
-    let none = append-nil (number_text coin ++ number_text tip) in
     released-some dig tag coin tip
-    ∙ (λ i. Some (Released
-    ((ap (λ (l : List ℕ). number_at l 0) (sym none) ∙ first-read coin tip [] h.0) i)
-    ((ap (λ (l : List ℕ). number_at l 8) (sym none) ∙ second-read coin tip [] h.1) i)))
+    ∙ (λ i. Some (Released (pair-first coin tip h.0 i) (pair-second coin tip h.1 i)))
 
 guarded-some : (found : Option Bundle) (note : Note) → guarded found ≡ Some note
     → (kept : Bundle) × (found ≡ Some kept) × (Guarded kept ≡ note)

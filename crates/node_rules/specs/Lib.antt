@@ -5,3 +5,4 @@ pub mod Wallet
 pub mod WalletOpening
 pub mod Laws
 pub mod WatcherLaws
+pub mod WalletLaws

@@ -6,12 +6,14 @@ mod answers;
 mod identity;
 mod laws;
 mod refusal;
+mod wallet_laws;
 mod watcher_laws;
 
 pub use answers::{Accepted, Reclaimed, Sent};
 pub use identity::WalletIdentity;
 pub use laws::kept_histories_are_read_back;
 pub use refusal::{WalletRefusal, WatcherRefusal};
+pub use wallet_laws::wallet_records_have_one_spelling;
 pub use watcher_laws::{
     watcher_commands_keep_the_role, watcher_records_have_one_spelling, watchers_do_their_duty,
 };
