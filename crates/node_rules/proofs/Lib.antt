@@ -4,3 +4,5 @@ pub mod NumberTexts
 pub mod WatcherTexts
 pub mod WatcherRole
 pub mod WalletTexts
+pub mod Bodies
+pub mod WalletGrow

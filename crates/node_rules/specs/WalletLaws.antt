@@ -1,10 +1,10 @@
 -- What holds of a wallet's records.
-use Rattle.std.specs.Prelude.{◌≡◌, ℕ, ◌^◌, ◌<◌, true, List, length, Some}
+use Rattle.std.specs.Prelude.{◌≡◌, ℕ, ◌^◌, ◌<◌, true, List, [], ◌∷◌, ◌++◌, length, Some}
 use Rattle.lms_sign.specs.Types.{is_supported}
 use Rattle.plasma_tx.specs.Spelling.{AreBytes}
 use Rattle.node_rules.specs.declared.identity.WalletIdentity.{WalletIdentity}
 use Rattle.node_rules.specs.Laws.{IsKept}
-use Rattle.node_rules.specs.WalletRecords.{identity_text, identity_in, Note, Accepts, LeavesWith, Reclaims, note_text, note_in}
+use Rattle.node_rules.specs.WalletRecords.{identity_text, identity_in, Note, Accepts, LeavesWith, Reclaims, note_text, note_in, who_is, notes_of}
 
 -- an identity of the type: a tag and a seed of 32 bytes, an account of 64 bits and a pair of types that keys may have
 pub record IsIdentity (who : WalletIdentity) : Type 0 where
@@ -36,3 +36,11 @@ NotesAreReadBack = (dig : List ℕ → List ℕ) (tag : List ℕ) (note : Note) 
 abbrev pub NotesHaveOneSpelling : Type 0
 NotesHaveOneSpelling = (dig : List ℕ → List ℕ) (tag body : List ℕ) (note : Note) → AreBytes body
     → note_in dig tag body ≡ Some note → (body ≡ note_text note) × IsNote dig tag note
+
+-- ---- the role
+
+-- a record that is read as this note behind the notes that were there; the identity stays
+abbrev pub AddsNote : (List ℕ → List ℕ) → List (List ℕ) → Note → List ℕ → Type 0
+AddsNote dig records note body =
+    (who_is (records ++ body ∷ []) ≡ who_is records)
+    × (notes_of dig (records ++ body ∷ []) ≡ note ∷ notes_of dig records)
