@@ -6,3 +6,6 @@ pub mod WatcherRole
 pub mod WalletTexts
 pub mod Bodies
 pub mod WalletGrow
+pub mod WalletTips
+pub mod WalletAdded
+pub mod WalletRole

@@ -261,3 +261,8 @@ kind-follows is_message leaves before message may passes =
   where
     numbered : List (List ℕ) → List ℕ → List ℕ
     numbered records text = with_number (length (messages_of records)) text
+
+-- so may the marker
+pub marker-kind : (is_message : List ℕ → Bool) (leaves : ℕ) (before : List (List ℕ)) → is_marked before ≡ false
+    → may_follow_of is_message leaves before marker ≡ true
+marker-kind is_message leaves before not_marked = rw not_marked refl

@@ -1,0 +1,5 @@
+use Rattle.node_rules.proofs.WalletRole.{leaves_are_answered}
+use Rattle.node_rules.proofs.wallet_laws.held_coins_may_leave.Goals as goal
+
+pub returns : goal.returns
+returns c = leaves_are_answered
