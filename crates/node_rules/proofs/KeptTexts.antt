@@ -1,5 +1,5 @@
 -- What is kept of a history is read as it is written, has one spelling, and shows the links again.
-use Rattle.std.proofs.Common.{◌≡◌, ℕ, suc, ◌-◌, ◌<◌, ◌^◌, ◌==◌, ◌&&◌, Bool, true, false, if◌then◌else◌, List, [], ◌∷◌, ◌++◌, length, map, filter, Option, None, Some, is_some, is_ok, Ok, Err, refl, sym, ◌∙◌, ap, subst, arith}
+use Rattle.std.proofs.Common.{◌≡◌, ℕ, suc, ◌-◌, ◌<◌, ◌^◌, ◌==◌, Bool, true, false, if◌then◌else◌, List, [], ◌∷◌, ◌++◌, length, map, filter, Option, None, Some, is_some, is_ok, Ok, Err, refl, sym, ◌∙◌, ap, subst, arith}
 use Rattle.std.specs.Prelude.{Result, slice_get}
 use Rattle.std.specs.List.{All, AllByRecursion, list_all, cons_option}
 use Rattle.std.specs.Option.{option_map, option_map_or}
@@ -23,15 +23,15 @@ use Rattle.plasma_tx.proofs.Names.{some_same}
 use Rattle.root_rules.specs.Shown.{Rules, tests_by, opens_root, root_at}
 use Rattle.coin_history.specs.declared.bundle.Bundle.{Bundle}
 use Rattle.coin_history.specs.declared.refusal.HistoryRefusal.{HistoryRefusal}
-use Rattle.coin_history.specs.Bundles.{AreRising, IsBundle, bundle_in, bundle_text}
-use Rattle.coin_history.specs.History.{opens_block, transfer_of, link_of, links_in, links_of, IsHistory}
+use Rattle.coin_history.specs.Bundles.{AreRising, IsBundle, bundle_in}
+use Rattle.coin_history.specs.History.{opens_block, transfer_of, links_in, links_of, IsHistory}
 use Rattle.coin_history.specs.Checking.{history_of}
 use Rattle.coin_history.proofs.BundleLaws.{bundle_in-text, text-bundle_in}
 use Rattle.coin_history.proofs.HistoryLinks.{tip_from, tip-is, with_tx}
 use Rattle.coin_history.proofs.HistoryFound.{histories_are_found}
 use Rattle.coin_history.proofs.HistoryGrow.{coin_at-grown}
-use Rattle.node_rules.specs.Kept.{chain_of, kept_of, shows_link, ends_at, is_kept, only_kept, kept_in, kept_links, checked_by, links_handed}
-use Rattle.node_rules.specs.Laws.{IsKept, KeptCoinsAreReadBack, KeptCoinsHaveOneSpelling, IsReadBack, KeptHistoriesAreReadBack, KeptLinksStay}
+use Rattle.node_rules.specs.Kept.{chain_of, kept_of, shows_link, ends_at, is_kept, only_kept, kept_links, checked_by, links_handed}
+use Rattle.node_rules.specs.Laws.{IsKeptCoin, KeptCoinsAreReadBack, KeptCoinsHaveOneSpelling, IsReadBack, KeptHistoriesAreReadBack, KeptLinksStay}
 
 -- ---- bytes
 
@@ -199,7 +199,7 @@ module _ (dig : List ℕ → List ℕ) (tag : List ℕ) (log : List RootCall) (b
 
   own-back : IsReadBack dig tag log own
   own-back =
-      let kept : IsKept dig tag (kept_of own) = record { is_bundle = own-bundle; shows = own-shows } in
+      let kept : IsKeptCoin dig tag (kept_of own) = record { is_bundle = own-bundle; shows = own-shows } in
       record {
         is_kept = kept;
         read = kept_in-text dig tag (kept_of own) kept;

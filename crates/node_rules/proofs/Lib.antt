@@ -9,3 +9,4 @@ pub mod WalletGrow
 pub mod WalletTips
 pub mod WalletAdded
 pub mod WalletRole
+pub mod WalletDuty

@@ -1,8 +1,8 @@
 -- Which record each command of a wallet adds, and in which state.
-use Rattle.std.proofs.Common.{◌≡◌, ℕ, ◌<◌, ◌≤◌, ◌&&◌, not, Bool, true, false, if◌then◌else◌, List, [], ◌∷◌, ◌++◌, length, Option, Some, None, is_some, Ok, Err, inl, inr, refl, sym, ap, ◌∙◌, arith}
-use Rattle.std.specs.Prelude.{Result, nat_lt, nat_le, slice_get}
+use Rattle.std.proofs.Common.{◌≡◌, ℕ, ◌<◌, ◌&&◌, not, Bool, true, false, if◌then◌else◌, List, [], ◌∷◌, length, Option, Some, None, is_some, Ok, Err, inl, inr, refl, sym, ap, arith}
+use Rattle.std.specs.Prelude.{Result, nat_lt, nat_le}
 use Rattle.std.specs.Option.{option_map_or}
-use Rattle.std.proofs.lemmas.Bool.{and_parts, and_from, leb-false, false≢true}
+use Rattle.std.proofs.lemmas.Bool.{and_parts, and_from, leb-false}
 use Rattle.node_journal.specs.Effect.{first_cause}
 use Rattle.lms_sign.specs.Types.{leaf_count}
 use Rattle.leaf_journal.specs.Records.{binding_record, is_marked, marker, messages_of, MayBind}
@@ -23,14 +23,13 @@ use Rattle.wallet_core.specs.declared.coin_state.CoinState.{CoinState}
 use Rattle.wallet_core.specs.declared.coin_state.CoinState.TheVariants.{Nothing, Sending, Leaving, Held}
 use Rattle.wallet_core.specs.State.{spends_tip}
 use Rattle.node_rules.specs.declared.answers.Accepted.{Accepted}
-use Rattle.node_rules.specs.declared.answers.Sent.{Sent}
 use Rattle.node_rules.specs.declared.answers.Reclaimed.{Reclaimed}
 use Rattle.node_rules.specs.declared.refusal.WalletRefusal.{WalletRefusal}
 use Rattle.node_rules.specs.declared.refusal.WalletRefusal.TheVariants.{KeySpent, BadLast, OldJournal, NotYet, AlreadyNew}
 use Rattle.node_rules.specs.Kept.{kept_of, standing_block}
 use Rattle.node_rules.specs.WalletRecords.{Accepts, LeavesWith, Reclaims, note_text, leaves_in, may_reclaim}
-use Rattle.node_rules.specs.Wallet.{WalletRecords, WalletEffect, answers, notes_it, binds_it, unless, who, coin_state, standing_causes, accept_causes, is_known, accept_taken, accept_by, used, send_causes, send_body, send_from, exit_start, leave_from, last_of, reclaim_shown, reclaim_last, reclaim_from, reclaim_by, migrate_effect}
-use Rattle.node_rules.specs.WalletCommands.{sent_body}
+use Rattle.node_rules.specs.Wallet.{WalletRecords, WalletEffect, answers, notes_it, binds_it, unless, who, coin_state, standing_causes, accept_causes, is_known, accept_taken, accept_by, used, send_causes, send_body, send_from, leave_from, last_of, reclaim_shown, reclaim_last, reclaim_from, reclaim_by, migrate_effect}
+use Rattle.node_rules.specs.WalletCommandLaws.{sent_body}
 use Rattle.node_rules.proofs.Bodies.{text-long}
 
 -- ---- causes

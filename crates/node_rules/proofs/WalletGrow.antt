@@ -1,5 +1,5 @@
 -- A wallet's records with one more.
-use Rattle.std.proofs.Common.{◌≡◌, ℕ, zero, suc, ◌<◌, ◌≤◌, ◌&&◌, ◌||◌, cond, Bool, true, false, if◌then◌else◌, List, [], ◌∷◌, ◌++◌, length, map, drop, Option, Some, None, is_some, is_ok, Ok, Err, refl, sym, ap, ◌∙◌, subst, arith, eqb, ltb}
+use Rattle.std.proofs.Common.{◌≡◌, ℕ, zero, suc, ◌&&◌, ◌||◌, cond, Bool, true, false, List, [], ◌∷◌, ◌++◌, length, map, drop, Option, Some, None, is_some, is_ok, Ok, Err, refl, sym, ap, ◌∙◌, subst, eqb, ltb}
 use Rattle.std.specs.Prelude.{Result, reverse, slice_get}
 use Rattle.std.specs.List.{filter_map, cons_option, list_all}
 use Rattle.std.specs.Option.{option_map_or}
@@ -7,7 +7,8 @@ use Rattle.std.specs.Int.{w32, to_be_bytes}
 use Rattle.std.specs.Ordering.{nat_cmp}
 use Rattle.std.specs.BTreeSet.{insert_key}
 use Rattle.std.proofs.lemmas.Bool.{and_parts, and_from, false≢true}
-use Rattle.std.proofs.lemmas.List.{map-append, drop_at}
+use Rattle.std.proofs.lemmas.List.{map-append, drop_at, reverse-append}
+use Rattle.std.proofs.lemmas.List.Folds.{list_all-append}
 use Rattle.lms_sign.specs.Types.{leaf_count}
 use Rattle.node_journal.specs.Role.{are_of, may_follow}
 use Rattle.node_journal.proofs.Roles.{notes_follow}
@@ -18,11 +19,10 @@ use Rattle.plasma_tx.specs.declared.owner.Owner.{Owner}
 use Rattle.plasma_tx.specs.Spelling.{body_at_start}
 use Rattle.coin_history.specs.declared.bundle.Bundle.{Bundle}
 use Rattle.wallet_core.specs.declared.notes.LeafRecord.{LeafRecord}
-use Rattle.wallet_core.specs.declared.notes.Notes.{Notes}
 use Rattle.node_rules.specs.declared.identity.WalletIdentity.{WalletIdentity}
 use Rattle.node_rules.specs.WalletRecords.{identity_in, owner_of, Note, Accepts, LeavesWith, Reclaims, note_in, tag_in, wallet_kinds, no_one, who_is, notes_of, accepted_of, coin_tip, state_notes, is_body, leaves_in, may_reclaim, is_bound_note, are_bound_notes}
 use Rattle.node_rules.specs.Wallet.{WalletRecords, who, noted}
-use Rattle.node_rules.specs.WalletOpening.{leaves_of, are_leaves, are_bound, is_wallet}
+use Rattle.node_rules.specs.WalletOpening.{leaves_of, are_leaves, are_bound, is_wallet, is_bound_record}
 use Rattle.node_rules.specs.WalletLaws.{AddsNote}
 use Rattle.node_rules.proofs.OneMore.{reverse-grow}
 
@@ -166,6 +166,41 @@ bound-grow leaves more (note ∷ notes) is =
     let parts = and_parts (is_bound_note leaves note) (are_bound_notes leaves notes) is in
     and_from (is_bound_note (leaves ++ more) note) (are_bound_notes (leaves ++ more) notes)
     (bound-note leaves more note parts.0) (bound-grow leaves more notes parts.1)
+
+-- ---- notes that take leaves back, by their records
+
+all-reverse : {X : Type 0} (p : X → Bool) (xs : List X) → list_all p (reverse xs) ≡ list_all p xs
+all-reverse p [] = refl
+all-reverse p (x ∷ xs) =
+    ap (list_all p) (reverse-append (x ∷ []) xs) ∙ list_all-append p (reverse xs) (x ∷ [])
+    ∙ ap (λ (b : Bool). b && list_all p (x ∷ [])) (all-reverse p xs) ∙ turned (list_all p xs) (p x)
+  where
+    turned : (a b : Bool) → (a && (b && true)) ≡ (b && a)
+    turned true true = refl
+    turned true false = refl
+    turned false true = refl
+    turned false false = refl
+
+all-read : {X Y : Type 0} (read : X → Option Y) (p : Y → Bool) (xs : List X)
+    → list_all p (filter_map read xs) ≡ list_all (λ x. option_map_or p (read x) true) xs
+all-read read p [] = refl
+all-read {X} {Y} read p (x ∷ xs) =
+    let rest = all-read read p xs in
+    elim (read x) as (λ (o : Option Y). list_all p (cons_option o (filter_map read xs))
+    ≡ (option_map_or p o true && list_all (λ x. option_map_or p (read x) true) xs)) [
+      | None ↦ rest
+      | Some y ↦ ap (λ (b : Bool). p y && b) rest
+    ]
+
+-- the notes of records are bound where each record takes back no leaf, or one that may be
+pub bound-each : (dig : List ℕ → List ℕ) (leaves : List LeafRecord) (records : List (List ℕ))
+    → are_bound_notes leaves (notes_of dig records)
+    ≡ list_all (is_bound_record dig (who_is records).tag leaves) (drop 1 records)
+unfolding notes_of
+bound-each dig leaves records =
+    let read = note_in dig (who_is records).tag in
+    all-reverse (is_bound_note leaves) (filter_map read (drop 1 records))
+    ∙ all-read read (is_bound_note leaves) (drop 1 records)
 
 -- ---- the wallet
 

@@ -1,9 +1,9 @@
 -- The records of a wallet stay a wallet's, and what a command added is read as it.
-use Rattle.std.proofs.Common.{◌≡◌, ◌≢◌, ◌⊎◌, ℕ, ◌^◌, ◌<◌, ◌==◌, ◌&&◌, Bool, true, false, if◌then◌else◌, List, [], ◌∷◌, ◌++◌, length, Option, Some, None, Ok, Err, inl, inr, refl, sym, ap, ◌∙◌, subst, append-nil}
-use Rattle.std.specs.Prelude.{IfSome, Result, find, unwrap_or, slice_get}
+use Rattle.std.proofs.Common.{◌≡◌, ◌≢◌, ℕ, ◌^◌, ◌<◌, ◌==◌, Bool, true, false, if◌then◌else◌, List, [], ◌∷◌, ◌++◌, length, Option, Some, None, Ok, Err, inl, inr, refl, sym, ap, ◌∙◌, subst, append-nil}
+use Rattle.std.specs.Prelude.{Result, find, unwrap_or, slice_get}
 use Rattle.std.specs.Option.{option_map, option_map_or}
-use Rattle.std.proofs.lemmas.Bool.{and_parts, eqb-true, false≢true}
-use Rattle.leaf_journal.specs.Records.{binding_record, is_marked, marker, messages_of, may_follow_of, MayBind}
+use Rattle.std.proofs.lemmas.Bool.{and_parts, eqb-true}
+use Rattle.leaf_journal.specs.Records.{binding_record, marker, messages_of, may_follow_of, MayBind}
 use Rattle.leaf_journal.proofs.Binding.{binding_follows, binding-messages}
 use Rattle.plasma_tx.specs.declared.owner.Owner.{Owner}
 use Rattle.plasma_tx.specs.declared.body.Body.{Body}
@@ -19,26 +19,24 @@ use Rattle.coin_history.specs.History.{links_of}
 use Rattle.coin_history.proofs.BundleLaws.{text-bundle_in}
 use Rattle.wallet_core.specs.declared.notes.LeafRecord.{LeafRecord}
 use Rattle.wallet_core.specs.declared.coin_state.CoinState.TheVariants.{Sending, Leaving, Held}
-use Rattle.wallet_core.specs.State.{sends_by, spends_tip}
-use Rattle.wallet_core.specs.Laws.{IsTip, IsLowestLeaf}
+use Rattle.wallet_core.specs.State.{sends_by}
+use Rattle.wallet_core.specs.Laws.{IsTip}
 use Rattle.wallet_core.proofs.StateLaws.{sending_is, leaving_is, held_is}
 use Rattle.node_rules.specs.declared.answers.Reclaimed.{Reclaimed}
-use Rattle.node_rules.specs.declared.refusal.WalletRefusal.{WalletRefusal}
 use Rattle.node_rules.specs.Kept.{chain_of, kept_of, links_handed}
 use Rattle.node_rules.specs.Laws.{IsReadBack}
 use Rattle.node_rules.specs.Watcher.{is_of}
-use Rattle.node_rules.specs.WalletRecords.{Note, Accepts, LeavesWith, Reclaims, note_text, note_in, notes_of, accepted_of, is_body, leaves_in, is_bound_note}
-use Rattle.node_rules.specs.Wallet.{WalletRecords, WalletEffect, who, noted, coin_state, kept_at, links_at, last_of, start_of, accept_effect, send_effect, leave_effect, reclaim_effect, reclaim_from, reclaim_by, migrate_effect}
+use Rattle.node_rules.specs.WalletRecords.{Accepts, LeavesWith, Reclaims, note_text, note_in, notes_of, accepted_of, is_body, leaves_in, is_bound_note}
+use Rattle.node_rules.specs.Wallet.{WalletRecords, who, noted, coin_state, kept_at, links_at, accept_effect, send_effect, leave_effect, reclaim_effect, reclaim_by, migrate_effect}
 use Rattle.node_rules.specs.WalletOpening.{leaves_of, is_wallet}
-use Rattle.node_rules.specs.WalletLaws.{AddsNote}
-use Rattle.node_rules.specs.WalletCommands.{with_more, HaveWords, AcceptsKeepTheRole, SendsKeepTheRole, LeavesKeepTheRole, ReclaimsKeepTheRole, MigrationsKeepTheRole, AddsAccepted, AcceptsAddTheirNotes, sent_body, BindsBody, AddsSent, SendsAddTheirLeaves, AddsLeaving, LeavesAddTheirNotes, AddsReclaimed, ReclaimsAddTheirNotes, AddsMarker, MigrationsAddTheMarker, LeavesAreAnswered}
+use Rattle.node_rules.specs.WalletCommandLaws.{with_more, FitWords, AcceptsKeepTheRole, SendsKeepTheRole, LeavesKeepTheRole, ReclaimsKeepTheRole, MigrationsKeepTheRole, AddsAccepted, AcceptsAddTheirNotes, sent_body, BindsBody, AddsSent, SendsAddTheirLeaves, AddsLeaving, LeavesAddTheirNotes, AddsReclaimed, ReclaimsAddTheirNotes, AddsMarker, MigrationsAddTheMarker, LeavesAreAnswered}
 use Rattle.node_rules.proofs.KeptTexts.{handed-back}
 use Rattle.node_rules.proofs.OneMore.{if_some-each}
 use Rattle.node_rules.proofs.WalletTexts.{note_in-text, leaves-some}
 use Rattle.node_rules.proofs.Bodies.{body-read, text-is_body}
 use Rattle.node_rules.proofs.WalletGrow.{note-adds, leaves-grow, leaves-marked, wallet-parts, wallet-noted, wallet-bound, kind-follows, marker-kind}
 use Rattle.node_rules.proofs.WalletTips.{tag-long, tip-fits, leaf-fits}
-use Rattle.node_rules.proofs.WalletAdded.{accept-note, accept-leaf, send-leaf, send-note, send-may, leave-note, leave-leaf, IsTaken, reclaim-note, reclaim-leaf, may-reclaim, migrate-leaf, migrate-note}
+use Rattle.node_rules.proofs.WalletAdded.{accept-note, accept-leaf, send-leaf, send-note, send-may, leave-note, leave-leaf, reclaim-note, reclaim-leaf, may-reclaim, migrate-leaf, migrate-note}
 
 -- ---- the records after a command
 
@@ -253,7 +251,7 @@ module _ (dig : List ℕ → List ℕ) (wallet : WalletRecords) (log : List Root
   has-leaf q last None none wrong is = absurd (cc wrong)
   has-leaf q last (Some leaf) some has is = leaf-fits dig wallet q leaf is some
 
-  reclaimed-is : is_wallet dig wallet ≡ true → AreBytes bytes → HaveWords wallet log → (body : List ℕ)
+  reclaimed-is : is_wallet dig wallet ≡ true → AreBytes bytes → FitWords wallet log → (body : List ℕ)
       → (reclaim_effect dig wallet log bytes).note ≡ Some body → IsReclaimed body
   unfolding reclaim_effect
   reclaimed-is is small words body added = at (bundle_in bytes) refl added

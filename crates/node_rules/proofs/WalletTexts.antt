@@ -1,23 +1,24 @@
 -- A wallet's identity and notes are read as they are written, and have one spelling.
-use Rattle.std.proofs.Common.{◌≡◌, ℕ, ◌+◌, ◌^◌, ◌<◌, ◌≤◌, ◌==◌, ◌&&◌, ◌||◌, not, Bool, true, false, if◌then◌else◌, List, [], ◌∷◌, ◌++◌, Option, Some, None, length, take, drop, refl, sym, ap, ◌∙◌, subst, inl, inr, arith}
+use Rattle.std.proofs.Common.{◌≡◌, ℕ, ◌^◌, ◌<◌, ◌==◌, ◌&&◌, ◌||◌, not, Bool, true, false, if◌then◌else◌, List, [], ◌∷◌, ◌++◌, Option, Some, None, Ok, length, drop, refl, sym, ap, ◌∙◌, subst, inl, inr, arith}
 use Rattle.std.specs.List.{slice_range}
-use Rattle.std.specs.Int.{w32, to_be_bytes, from_be_bytes}
 use Rattle.std.proofs.lemmas.Bool.{cases_Bool, and_parts, and_from, or_cases, eqb-true, eq-eqb}
 use Rattle.std.proofs.lemmas.List.{length-append, take_all, take-append-drop, length-drop, drop_at}
 use Rattle.std.proofs.lemmas.List.Elements.{All-tail, All-drop}
 use Rattle.lms_sign.specs.declared.types.LmsTypes.{LmsTypes}
 use Rattle.lms_sign.specs.Types.{is_supported}
+use Rattle.plasma_tx.specs.declared.links.Links.{Links}
+use Rattle.plasma_tx.specs.declared.call.RootCall.{RootCall}
 use Rattle.plasma_tx.specs.Spelling.{AreBytes, number_text, number_at}
 use Rattle.plasma_tx.proofs.Names.{some_same}
 use Rattle.plasma_tx.proofs.Parts.{range-front, range-back, range-join, length-range, bytes-range, number-below, short_number-below}
 use Rattle.coin_history.specs.declared.bundle.Bundle.{Bundle}
 use Rattle.coin_history.specs.Bundles.{bundle_text}
 use Rattle.node_rules.specs.declared.identity.WalletIdentity.{WalletIdentity}
-use Rattle.node_rules.specs.Kept.{kept_in}
+use Rattle.node_rules.specs.Kept.{kept_of, kept_in, links_handed}
 use Rattle.node_rules.specs.WalletRecords.{short_text, short_at, is_first, common_text, identity_text, identity_of, types_in, may_be_second, identity_in, Note, Accepts, LeavesWith, Reclaims, note_text, accepts, note_in}
 use Rattle.node_rules.specs.WalletLaws.{IsIdentity, IsNote, IdentitiesAreReadBack, IdentitiesHaveOneSpelling, NotesAreReadBack, NotesHaveOneSpelling}
 use Rattle.node_rules.proofs.NumberTexts.{pair-first, pair-second, first-read, second-read, two-bytes, tag-read, account-read, tag-bytes, short-in, short-bytes}
-use Rattle.node_rules.proofs.KeptTexts.{kept_in-text, kept_in-spelled}
+use Rattle.node_rules.proofs.KeptTexts.{kept_in-text, kept_in-spelled, handed-back}
 
 -- ---- types
 
@@ -36,10 +37,9 @@ short-of n one other one_fits other_fits is = elim (or_cases (n == one) (n == ot
 -- the numbers of types that keys may have are short
 short-types : (types : LmsTypes) → is_supported types ≡ true → (types.lms < 2 ^ 32) × (types.ots < 2 ^ 32)
 short-types types is =
-    let parts = and_parts ((types.lms == 5) || (types.lms == 6)) ((types.ots == 3) || (types.ots == 4)) is in
-    (
-    short-of types.lms 5 6 (omega arith) (omega arith) parts.0,
-    short-of types.ots 3 4 (omega arith) (omega arith) parts.1,
+    let parts = and_parts ((types.lms == 5) || (types.lms == 6)) ((types.ots == 3) || (types.ots == 4)) is in (
+      short-of types.lms 5 6 (omega arith) (omega arith) parts.0,
+      short-of types.ots 3 4 (omega arith) (omega arith) parts.1,
     )
 
 -- ---- the identity that its bytes spell
@@ -163,10 +163,9 @@ second-text bytes small long may =
     let whole : short_text types.lms ++ short_text types.ots ++ common_text (identity_of types rest) ≡ bytes =
     (λ i. lms i ++ ots i ++ fields-text types rest rest_small rest_long i)
     ∙ ap (λ (front : List ℕ). front ++ rest) (range-join bytes 4 8 (omega arith))
-    ∙ take-append-drop 8 bytes in
-    (
-    rw other (ap (λ (l : List ℕ). 4 ∷ l) (sym whole)),
-    fields-are types rest rest_small rest_long parts.0,
+    ∙ take-append-drop 8 bytes in (
+      rw other (ap (λ (l : List ℕ). 4 ∷ l) (sym whole)),
+      fields-are types rest rest_small rest_long parts.0,
     )
 
 pub identity_in-spelled : IdentitiesHaveOneSpelling
@@ -277,15 +276,14 @@ reclaims-text dig tag bytes small long =
     let front = two-bytes bytes small (omega arith) in
     let last = short-bytes bytes 16 20 small refl (omega arith) in
     let whole : number_text (number_at bytes 0) ++ number_text (number_at bytes 8) ++ short_text (short_at bytes 16)
-        ≡ bytes =
-    (λ i. front i ++ last i) ∙ range-join bytes 16 20 (omega arith) ∙ take_all 20 bytes (omega arith) in
-    (
-    ap (λ (l : List ℕ). 5 ∷ l) (sym whole),
-    (
-      number-below (slice_range bytes 0 8) (bytes-range bytes 0 8 small),
-      number-below (slice_range bytes 8 16) (bytes-range bytes 8 16 small),
-      short_number-below (slice_range bytes 16 20) (bytes-range bytes 16 20 small),
-    ),
+    ≡ bytes =
+    (λ i. front i ++ last i) ∙ range-join bytes 16 20 (omega arith) ∙ take_all 20 bytes (omega arith) in (
+      ap (λ (l : List ℕ). 5 ∷ l) (sym whole),
+      (
+        number-below (slice_range bytes 0 8) (bytes-range bytes 0 8 small),
+        number-below (slice_range bytes 8 16) (bytes-range bytes 8 16 small),
+        short_number-below (slice_range bytes 16 20) (bytes-range bytes 16 20 small),
+      ),
     )
 
 pub note_in-spelled : NotesHaveOneSpelling
@@ -320,3 +318,10 @@ note_in-spelled dig tag (mark ∷ bytes) note small h =
         ]
       ]
     ]
+
+-- the record of accepted links that were handed in is read back
+pub handed-read : (dig : List ℕ → List ℕ) (tag : List ℕ) (log : List RootCall) (bytes : List ℕ) (links : Links)
+    → AreBytes bytes → links_handed dig tag log bytes ≡ Ok links
+    → note_in dig tag (note_text (Accepts (kept_of links))) ≡ Some (Accepts (kept_of links))
+handed-read dig tag log bytes links small is =
+    note_in-text dig tag (Accepts (kept_of links)) (handed-back dig tag log bytes links small is).is_kept

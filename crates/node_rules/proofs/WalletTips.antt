@@ -1,7 +1,7 @@
 -- The tag, the tips and the leaves of a wallet have their sizes.
-use Rattle.std.proofs.Common.{◌≡◌, ℕ, ◌+◌, ◌^◌, ◌<◌, ◌≤◌, ◌==◌, ◌&&◌, Bool, true, false, if◌then◌else◌, List, [], ◌∷◌, ◌++◌, length, map, drop, filter, Option, Some, None, is_some, Ok, refl, sym, ap, ◌∙◌, subst, inl, inr, arith}
+use Rattle.std.proofs.Common.{◌≡◌, ℕ, ◌^◌, ◌<◌, ◌≤◌, ◌==◌, ◌&&◌, Bool, true, false, if◌then◌else◌, List, [], ◌∷◌, ◌++◌, length, drop, filter, Option, Some, None, is_some, refl, sym, ap, ◌∙◌, subst, inl, inr, arith}
 use Rattle.std.specs.Prelude.{reverse, slice_get}
-use Rattle.std.specs.List.{All, filter_map, cons_option, slice_range}
+use Rattle.std.specs.List.{All, filter_map, cons_option}
 use Rattle.std.specs.Option.{option_map_or}
 use Rattle.std.proofs.lemmas.Bool.{cases_Bool, and_parts, eqb-true, false≢true}
 use Rattle.std.proofs.lemmas.List.{reverse-append, length-map, length-drop}
@@ -31,9 +31,9 @@ use Rattle.node_rules.specs.WalletRecords.{identity_of, types_in, may_be_second,
 use Rattle.node_rules.specs.Wallet.{WalletRecords, who, noted}
 use Rattle.node_rules.specs.WalletOpening.{leaves_of, is_wallet}
 use Rattle.node_rules.specs.WalletLaws.{IsNote}
-use Rattle.node_rules.specs.WalletCommands.{HaveWords}
+use Rattle.node_rules.specs.WalletCommandLaws.{FitWords}
 use Rattle.node_rules.proofs.WalletTexts.{note_in-spelled}
-use Rattle.node_rules.proofs.WalletGrow.{AreWallet, wallet-parts}
+use Rattle.node_rules.proofs.WalletGrow.{wallet-parts}
 
 -- ---- the tag
 
@@ -131,7 +131,7 @@ own-fit me log coin fits = at (coin_at log coin) refl
 
 -- a tip of the wallet's has 64 bits
 pub tip-fits : (dig : List ℕ → List ℕ) (wallet : WalletRecords) (log : List RootCall) (coin tip : ℕ)
-    → HaveWords wallet log → IsTip (noted dig wallet) log coin tip → tip < 2 ^ 64
+    → FitWords wallet log → IsTip (noted dig wallet) log coin tip → tip < 2 ^ 64
 tip-fits dig wallet log coin tip words is =
     let me = owner_of (who wallet) in
     let notes : Notes = noted dig wallet in

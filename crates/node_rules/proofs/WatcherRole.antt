@@ -1,10 +1,8 @@
 -- What a watcher's command adds to its records, and how they are read then.
-use Rattle.std.proofs.Common.{◌≡◌, ℕ, Bool, true, false, if◌then◌else◌, List, [], ◌∷◌, ◌++◌, Option, Some, None, is_some, Ok, Err, refl, sym, ap, ◌∙◌, subst}
-use Rattle.std.specs.Prelude.{IfSome, Result, reverse}
+use Rattle.std.proofs.Common.{◌≡◌, ℕ, Bool, true, false, if◌then◌else◌, List, [], ◌∷◌, ◌++◌, Option, Some, None, is_some, Ok, Err, refl, sym, ap, ◌∙◌}
+use Rattle.std.specs.Prelude.{Result, reverse}
 use Rattle.std.specs.List.{filter_map, flat_map, cons_option, list_any}
 use Rattle.std.specs.Option.{option_map, option_map_or}
-use Rattle.std.proofs.lemmas.List.{reverse-append}
-use Rattle.std.proofs.lemmas.List.Elements.{filter_map-append}
 use Rattle.std.proofs.lemmas.Bool.{false≢true}
 use Rattle.node_journal.specs.Effect.{Effect, first_cause, unless, only}
 use Rattle.node_journal.specs.Role.{are_of, may_follow}
@@ -16,7 +14,6 @@ use Rattle.plasma_tx.specs.Spelling.{AreBytes, number_text, number_at}
 use Rattle.plasma_tx.proofs.Names.{some_same}
 use Rattle.coin_history.specs.declared.bundle.Bundle.{Bundle}
 use Rattle.coin_history.specs.declared.refusal.HistoryRefusal.{HistoryRefusal}
-use Rattle.watch_duty.specs.declared.guard.Guard.{Guard}
 use Rattle.watch_duty.specs.Duty.{due_of, due_calls}
 use Rattle.node_rules.specs.declared.answers.Accepted.{Accepted}
 use Rattle.node_rules.specs.declared.refusal.WatcherRefusal.{WatcherRefusal}
@@ -24,7 +21,7 @@ use Rattle.node_rules.specs.declared.refusal.WatcherRefusal.TheVariants.{NoGuard
 use Rattle.node_rules.specs.Kept.{kept_of, kept_links, links_handed}
 use Rattle.node_rules.specs.Laws.{IsReadBack}
 use Rattle.node_rules.specs.Watcher.{WatcherIdentity, nobody, identity_in, Note, Guarded, Released, note_text, note_in, tag_in, watcher_kinds, who_is, notes_of, is_of, guards_in, guard_causes, guard_taken, guard_by, guard_effect, release_effect, due_for_kept, watch_answer}
-use Rattle.node_rules.specs.WatcherLaws.{KeepsRole, CommandsKeepTheRole, AddsNote, AddsGuard, CommandsAddTheirNotes, guard_shown, guards_shown, WatchersDoTheirDuty}
+use Rattle.node_rules.specs.WatcherLaws.{KeepsRole, CommandsKeepTheRole, AddsNote, AddsGuard, CommandsAddTheirNotes, guards_shown, WatchersDoTheirDuty}
 use Rattle.node_rules.proofs.KeptTexts.{handed-back}
 use Rattle.node_rules.proofs.OneMore.{if_some-each, reverse-grow}
 use Rattle.node_rules.proofs.WatcherTexts.{note_in-text, released-some}

@@ -6,4 +6,4 @@ pub mod WalletOpening
 pub mod Laws
 pub mod WatcherLaws
 pub mod WalletLaws
-pub mod WalletCommands
+pub mod WalletCommandLaws

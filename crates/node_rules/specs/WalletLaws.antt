@@ -3,7 +3,7 @@ use Rattle.std.specs.Prelude.{◌≡◌, ℕ, ◌^◌, ◌<◌, true, List, [], 
 use Rattle.lms_sign.specs.Types.{is_supported}
 use Rattle.plasma_tx.specs.Spelling.{AreBytes}
 use Rattle.node_rules.specs.declared.identity.WalletIdentity.{WalletIdentity}
-use Rattle.node_rules.specs.Laws.{IsKept}
+use Rattle.node_rules.specs.Laws.{IsKeptCoin}
 use Rattle.node_rules.specs.WalletRecords.{identity_text, identity_in, Note, Accepts, LeavesWith, Reclaims, note_text, note_in, who_is, notes_of}
 
 -- an identity of the type: a tag and a seed of 32 bytes, an account of 64 bits and a pair of types that keys may have
@@ -16,7 +16,7 @@ pub record IsIdentity (who : WalletIdentity) : Type 0 where
 -- a note of a chain with that tag that has bytes: of a kept coin, of a coin and a tip of 64 bits, or of these and a
 -- leaf of 32 bits
 abbrev pub IsNote : (List ℕ → List ℕ) → List ℕ → Note → Type 0
-IsNote dig tag (Accepts kept) = IsKept dig tag kept
+IsNote dig tag (Accepts kept) = IsKeptCoin dig tag kept
 IsNote dig tag (LeavesWith coin tip) = (coin < 2 ^ 64) × (tip < 2 ^ 64)
 IsNote dig tag (Reclaims coin tip q) = (coin < 2 ^ 64) × (tip < 2 ^ 64) × (q < 2 ^ 32)
 

@@ -10,7 +10,7 @@ use Rattle.coin_history.specs.declared.bundle.Bundle.{Bundle}
 use Rattle.watch_duty.specs.declared.guard.Guard.{Guard}
 use Rattle.watch_duty.specs.Duty.{due_calls}
 use Rattle.node_rules.specs.Kept.{kept_of, kept_links, links_handed}
-use Rattle.node_rules.specs.Laws.{IsKept, IsReadBack}
+use Rattle.node_rules.specs.Laws.{IsKeptCoin, IsReadBack}
 use Rattle.node_rules.specs.Watcher.{WatcherIdentity, identity_text, identity_in, Note, Guarded, Released, note_text, note_in, watcher_kinds, who_is, notes_of, guards_in, guard_effect, release_effect, watch_answer}
 
 -- an identity of the type: a tag of 32 bytes and an account of 64 bits
@@ -20,7 +20,7 @@ pub record IsIdentity (who : WatcherIdentity) : Type 0 where
 
 -- a note of a chain with that tag that has bytes: of a kept coin, or of a coin and a tip of 64 bits
 abbrev pub IsNote : (List ℕ → List ℕ) → List ℕ → Note → Type 0
-IsNote dig tag (Guarded kept) = IsKept dig tag kept
+IsNote dig tag (Guarded kept) = IsKeptCoin dig tag kept
 IsNote dig tag (Released coin tip) = (coin < 2 ^ 64) × (tip < 2 ^ 64)
 
 -- an identity's bytes are read as it, and the bytes that are read are its own

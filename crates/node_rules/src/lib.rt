@@ -15,7 +15,7 @@ pub use laws::kept_histories_are_read_back;
 pub use refusal::{WalletRefusal, WatcherRefusal};
 pub use wallet_laws::{
     held_coins_may_leave, wallet_commands_add_their_records, wallet_commands_keep_the_role,
-    wallet_records_have_one_spelling,
+    wallet_records_have_one_spelling, wallets_do_their_duty,
 };
 pub use watcher_laws::{
     watcher_commands_keep_the_role, watcher_records_have_one_spelling, watchers_do_their_duty,

@@ -1,5 +1,5 @@
 ghost use Rattle.node_rules.specs.WalletLaws.{IdentitiesAreReadBack, IdentitiesHaveOneSpelling, NotesAreReadBack, NotesHaveOneSpelling};
-ghost use Rattle.node_rules.specs.WalletCommands.{AcceptsKeepTheRole, SendsKeepTheRole, LeavesKeepTheRole, ReclaimsKeepTheRole, MigrationsKeepTheRole, AcceptsAddTheirNotes, SendsAddTheirLeaves, LeavesAddTheirNotes, ReclaimsAddTheirNotes, MigrationsAddTheMarker, LeavesAreAnswered};
+ghost use Rattle.node_rules.specs.WalletCommandLaws.{AcceptsKeepTheRole, SendsKeepTheRole, LeavesKeepTheRole, ReclaimsKeepTheRole, MigrationsKeepTheRole, AcceptsAddTheirNotes, SendsAddTheirLeaves, LeavesAddTheirNotes, ReclaimsAddTheirNotes, MigrationsAddTheMarker, LeavesAreAnswered, WalletsDoTheirDuty};
 
 /// A law: the bytes of a wallet's identity are read as it, and those of a note as that note. Bytes that are
 /// read as an identity or a note are its own, so each has one spelling.
@@ -33,4 +33,9 @@ pub fn wallet_commands_add_their_records()
 /// A law: a wallet that leaves with a coin that it holds or leaves with is answered the start of its exit.
 pub fn held_coins_may_leave()
     ensures { LeavesAreAnswered }
+{}
+
+/// A law: a wallet answers what is due for the coins that it holds or leaves with, by rising coin.
+pub fn wallets_do_their_duty()
+    ensures { WalletsDoTheirDuty }
 {}

@@ -1,19 +1,23 @@
 -- What the commands of a wallet add to its records.
 use Rattle.std.specs.Prelude.{◌≡◌, ◌⊎◌, ℕ, ◌^◌, ◌<◌, true, false, List, [], ◌∷◌, ◌++◌, length, Option, Some, None, IfSome, Ok}
-use Rattle.std.specs.List.{All}
+use Rattle.std.specs.List.{All, filter_map, range_with_len}
+use Rattle.std.specs.Option.{option_map}
 use Rattle.plasma_tx.specs.declared.owner.Owner.{Owner}
 use Rattle.plasma_tx.specs.declared.body.Body.{Body}
 use Rattle.plasma_tx.specs.declared.links.Links.{Links}
 use Rattle.plasma_tx.specs.declared.call.RootCall.{RootCall}
 use Rattle.plasma_tx.specs.Spelling.{AreBytes, IsOwner, body_text}
-use Rattle.plasma_tx.specs.Views.{blocks}
+use Rattle.plasma_tx.specs.Views.{blocks, coins}
 use Rattle.leaf_journal.specs.Records.{binding_record, is_marked, marker, messages_of, MayBind}
+use Rattle.watch_duty.specs.declared.guard.Guard.{Guard}
+use Rattle.watch_duty.specs.Duty.{due_calls}
+use Rattle.wallet_core.specs.declared.coin_state.CoinState.{CoinState}
 use Rattle.wallet_core.specs.declared.coin_state.CoinState.TheVariants.{Sending, Leaving, Held}
 use Rattle.node_rules.specs.declared.answers.Reclaimed.{Reclaimed}
 use Rattle.node_rules.specs.Kept.{kept_of, links_handed}
 use Rattle.node_rules.specs.Laws.{IsReadBack}
 use Rattle.node_rules.specs.WalletRecords.{Accepts, LeavesWith, Reclaims, leaves_in}
-use Rattle.node_rules.specs.Wallet.{WalletRecords, WalletEffect, who, coin_state, links_at, start_of, accept_effect, send_effect, leave_effect, reclaim_effect, migrate_effect}
+use Rattle.node_rules.specs.Wallet.{WalletRecords, WalletEffect, who, coin_state, links_at, start_of, accept_effect, send_effect, leave_effect, reclaim_effect, migrate_effect, watch_answer}
 use Rattle.node_rules.specs.WalletOpening.{is_wallet}
 use Rattle.node_rules.specs.WalletLaws.{AddsNote}
 
@@ -28,7 +32,7 @@ after effect wallet =
     record { notes = with_more effect.note wallet.notes; leaves = with_more effect.leaf wallet.leaves }
 
 -- the records of the notes are bytes, and the log's blocks are numbered in 64 bits; so are the wallet's tips
-pub record HaveWords (wallet : WalletRecords) (log : List RootCall) : Type 0 where
+pub record FitWords (wallet : WalletRecords) (log : List RootCall) : Type 0 where
   pub notes : All AreBytes wallet.notes
   pub blocks : blocks log < 2 ^ 64
 
@@ -50,7 +54,7 @@ LeavesKeepTheRole = (dig : List ℕ → List ℕ) (wallet : WalletRecords) (log 
 
 abbrev pub ReclaimsKeepTheRole : Type 0
 ReclaimsKeepTheRole = (dig : List ℕ → List ℕ) (wallet : WalletRecords) (log : List RootCall) (bytes : List ℕ)
-    → is_wallet dig wallet ≡ true → AreBytes bytes → HaveWords wallet log
+    → is_wallet dig wallet ≡ true → AreBytes bytes → FitWords wallet log
     → is_wallet dig (after (reclaim_effect dig wallet log bytes) wallet) ≡ true
 
 abbrev pub MigrationsKeepTheRole : Type 0
@@ -90,7 +94,7 @@ AddsSent dig wallet log coin to last leaf =
 
 abbrev pub SendsAddTheirLeaves : Type 0
 SendsAddTheirLeaves = (dig : List ℕ → List ℕ) (wallet : WalletRecords) (log : List RootCall) (coin : ℕ) (to : Owner)
-    (last : Option ℕ) → is_wallet dig wallet ≡ true → HaveWords wallet log → coin < 2 ^ 64 → IsOwner to
+    (last : Option ℕ) → is_wallet dig wallet ≡ true → FitWords wallet log → coin < 2 ^ 64 → IsOwner to
     → IfSome last (λ n. n < 2 ^ 64)
     → IfSome (send_effect dig wallet log coin to last).leaf (AddsSent dig wallet log coin to last)
 
@@ -101,7 +105,7 @@ AddsLeaving dig wallet log coin body =
 
 abbrev pub LeavesAddTheirNotes : Type 0
 LeavesAddTheirNotes = (dig : List ℕ → List ℕ) (wallet : WalletRecords) (log : List RootCall) (coin : ℕ)
-    → is_wallet dig wallet ≡ true → HaveWords wallet log → coin < 2 ^ 64
+    → is_wallet dig wallet ≡ true → FitWords wallet log → coin < 2 ^ 64
     → IfSome (leave_effect dig wallet log coin).note (AddsLeaving dig wallet log coin)
 
 -- the note of a transfer that is taken back has the leaf by which the wallet is sending the coin, and what is answered
@@ -113,7 +117,7 @@ AddsReclaimed dig wallet log bytes body =
 
 abbrev pub ReclaimsAddTheirNotes : Type 0
 ReclaimsAddTheirNotes = (dig : List ℕ → List ℕ) (wallet : WalletRecords) (log : List RootCall) (bytes : List ℕ)
-    → is_wallet dig wallet ≡ true → AreBytes bytes → HaveWords wallet log
+    → is_wallet dig wallet ≡ true → AreBytes bytes → FitWords wallet log
     → IfSome (reclaim_effect dig wallet log bytes).note (AddsReclaimed dig wallet log bytes)
 
 -- a migration adds the marker, which isn't there yet and binds nothing
@@ -133,3 +137,24 @@ LeavesAreAnswered = (dig : List ℕ → List ℕ) (wallet : WalletRecords) (log 
     → (coin_state dig wallet log coin ≡ Held tip) ⊎ (coin_state dig wallet log coin ≡ Leaving tip)
     → (links : Links) × (links_at dig wallet log coin tip ≡ Some links)
     × ((leave_effect dig wallet log coin).answer ≡ Ok (start_of (who wallet).account tip links))
+
+-- ---- what is due
+
+-- the guard of a coin that the wallet holds or leaves with, with its links up to the tip
+abbrev pub guard_at : (List ℕ → List ℕ) → WalletRecords → List RootCall → ℕ → ℕ → Option Guard
+guard_at dig wallet log coin tip = option_map (λ links. record { links = links }) (links_at dig wallet log coin tip)
+
+abbrev pub guard_in : (List ℕ → List ℕ) → WalletRecords → List RootCall → ℕ → CoinState → Option Guard
+guard_in dig wallet log coin (Held tip) = guard_at dig wallet log coin tip
+guard_in dig wallet log coin (Leaving tip) = guard_at dig wallet log coin tip
+guard_in dig wallet log coin state = None
+
+-- the guards of all such coins, by rising coin
+abbrev pub guards_held : (List ℕ → List ℕ) → WalletRecords → List RootCall → List Guard
+guards_held dig wallet log =
+    filter_map (λ coin. guard_in dig wallet log coin (coin_state dig wallet log coin)) (range_with_len 1 (coins log))
+
+-- a wallet answers what is due for the coins that it holds or leaves with
+abbrev pub WalletsDoTheirDuty : Type 0
+WalletsDoTheirDuty = (dig : List ℕ → List ℕ) (wallet : WalletRecords) (log : List RootCall)
+    → watch_answer dig wallet log ≡ due_calls log (who wallet).account (guards_held dig wallet log)
