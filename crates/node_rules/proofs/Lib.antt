@@ -10,3 +10,4 @@ pub mod WalletTips
 pub mod WalletAdded
 pub mod WalletRole
 pub mod WalletDuty
+pub mod ExitTips
