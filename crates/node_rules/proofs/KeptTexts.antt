@@ -38,7 +38,8 @@ use Rattle.node_rules.specs.Laws.{IsKeptCoin, KeptCoinsAreReadBack, KeptCoinsHav
 pub kept_in-text : KeptCoinsAreReadBack
 kept_in-text dig tag kept is = rw (bundle_in-text kept is.is_bundle, is.shows) refl
 
-only_kept-ok : (dig : List ℕ → List ℕ) (tag : List ℕ) (read : Result Bundle HistoryRefusal) (kept : Bundle)
+-- a kept coin that was read shows links of the coin, the last at the tip
+pub only_kept-ok : (dig : List ℕ → List ℕ) (tag : List ℕ) (read : Result Bundle HistoryRefusal) (kept : Bundle)
     → only_kept dig tag read ≡ Some kept → (read ≡ Ok kept) × (is_kept dig tag kept ≡ true)
 only_kept-ok dig tag (Err why) kept is = absurd (cc is)
 only_kept-ok dig tag (Ok bundle) kept is =

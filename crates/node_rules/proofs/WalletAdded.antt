@@ -1,12 +1,13 @@
 -- Which record each command of a wallet adds, and in which state.
-use Rattle.std.proofs.Common.{◌≡◌, ℕ, ◌<◌, ◌&&◌, not, Bool, true, false, if◌then◌else◌, List, [], ◌∷◌, length, Option, Some, None, is_some, Ok, Err, inl, inr, refl, sym, ap, arith}
+use Rattle.std.proofs.Common.{◌≡◌, ◌≢◌, ◌==◌, map, ℕ, ◌<◌, ◌&&◌, not, Bool, true, false, if◌then◌else◌, List, [], ◌∷◌, length, Option, Some, None, is_some, Ok, Err, inl, inr, refl, sym, ap, arith, ◌∙◌}
 use Rattle.std.specs.Prelude.{Result, nat_lt, nat_le}
 use Rattle.std.specs.Option.{option_map_or}
-use Rattle.std.proofs.lemmas.Bool.{and_parts, and_from, leb-false}
+use Rattle.std.proofs.lemmas.Bool.{or_parts, eq-eqb, false≢true, and_parts, and_from, leb-false}
 use Rattle.node_journal.specs.Effect.{first_cause}
 use Rattle.lms_sign.specs.Types.{leaf_count}
 use Rattle.leaf_journal.specs.Records.{binding_record, is_marked, marker, messages_of, MayBind}
 use Rattle.plasma_tx.specs.declared.owner.Owner.{Owner}
+use Rattle.plasma_tx.specs.declared.links.Link.{Link}
 use Rattle.plasma_tx.specs.declared.links.Links.{Links}
 use Rattle.plasma_tx.specs.declared.call.RootCall.{RootCall}
 use Rattle.plasma_tx.specs.Links.{tip_of}
@@ -17,11 +18,12 @@ use Rattle.root_rules.specs.Shown.{tests_by}
 use Rattle.coin_history.specs.declared.bundle.Bundle.{Bundle}
 use Rattle.coin_history.specs.declared.refusal.HistoryRefusal.{HistoryRefusal}
 use Rattle.coin_history.specs.Checking.{absence_of}
+use Rattle.coin_history.proofs.HistoryLinks.{tip_from, tip-is}
 use Rattle.wallet_core.specs.declared.notes.LeafRecord.{LeafRecord}
 use Rattle.wallet_core.specs.declared.notes.Notes.{Notes}
 use Rattle.wallet_core.specs.declared.coin_state.CoinState.{CoinState}
 use Rattle.wallet_core.specs.declared.coin_state.CoinState.TheVariants.{Nothing, Sending, Leaving, Held}
-use Rattle.wallet_core.specs.State.{spends_tip}
+use Rattle.wallet_core.specs.State.{is_noted, spends_tip}
 use Rattle.node_rules.specs.declared.answers.Accepted.{Accepted}
 use Rattle.node_rules.specs.declared.answers.Reclaimed.{Reclaimed}
 use Rattle.node_rules.specs.declared.refusal.WalletRefusal.{WalletRefusal}
@@ -68,26 +70,42 @@ no_note (Some why) effect is = refl
 
 -- ---- accept
 
+spends-none : (spends : List Link) → map (λ link. link.opening) spends ≡ [] → spends ≡ []
+spends-none [] is = refl
+spends-none (link ∷ links) is = absurd (cc is)
+
+-- links that don't end at the deposit have openings
+opened : (links : Links) → (tip_of links == links.deposit) ≡ false → (kept_of links).openings ≢ []
+opened links apart none =
+    let bare : tip_of links ≡ links.deposit =
+    tip-is links ∙ ap (tip_from links.deposit) (spends-none links.spends none) in
+    false≢true (sym apart ∙ eq-eqb (tip_of links) links.deposit bare)
+
 taken-note : (notes : Notes) (links : Links) (body : List ℕ) → (accept_taken notes links).note ≡ Some body
-    → note_text (Accepts (kept_of links)) ≡ body
-taken-note notes links body is = at (is_known notes links) is
+    → ((kept_of links).openings ≢ []) × (note_text (Accepts (kept_of links)) ≡ body)
+taken-note notes links body is = at (is_known notes links) refl is
   where
-    at : (known : Bool) → (if known then answers (Ok (record { coin = links.coin; tip = tip_of links }))
+    at : (known : Bool) → is_known notes links ≡ known
+        → (if known then answers (Ok (record { coin = links.coin; tip = tip_of links }))
         else notes_it {A = Result Accepted WalletRefusal} (Ok (record { coin = links.coin; tip = tip_of links }))
-        (note_text (Accepts (kept_of links)))).note ≡ Some body → note_text (Accepts (kept_of links)) ≡ body
-    at true wrong = absurd (cc wrong)
-    at false same = some_same (note_text (Accepts (kept_of links))) body same
+        (note_text (Accepts (kept_of links)))).note ≡ Some body
+        → ((kept_of links).openings ≢ []) × (note_text (Accepts (kept_of links)) ≡ body)
+    at true known wrong = absurd (cc wrong)
+    at false unknown same = (
+      opened links
+          (or_parts (tip_of links == links.deposit) (is_noted links.coin (tip_of links) notes.accepted) unknown).0,
+      some_same (note_text (Accepts (kept_of links))) body same,
+    )
 
 pub accept-note : (log : List RootCall) (notes : Notes) (handed : Result Links HistoryRefusal) (body : List ℕ)
     → (accept_by log notes handed).note ≡ Some body
-    → (links : Links) × (handed ≡ Ok links) × (note_text (Accepts (kept_of links)) ≡ body)
+    → (links : Links) × (handed ≡ Ok links) × ((kept_of links).openings ≢ [])
+    × (note_text (Accepts (kept_of links)) ≡ body)
 accept-note log notes (Err why) body is = absurd (cc is)
-accept-note log notes (Ok links) body is = (
-  links,
-  refl,
-  taken-note notes links body
-      (unless-note (first_cause (accept_causes notes.me log links)) (accept_taken notes links) body is).1,
-)
+accept-note log notes (Ok links) body is =
+    let taken = taken-note notes links body
+    (unless-note (first_cause (accept_causes notes.me log links)) (accept_taken notes links) body is).1 in
+    (links, refl, taken.0, taken.1)
 
 taken-leaf : (notes : Notes) (links : Links) → (accept_taken notes links).leaf ≡ None
 taken-leaf notes links = elim (is_known notes links) as (λ known.

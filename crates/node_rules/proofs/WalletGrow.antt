@@ -169,11 +169,11 @@ bound-grow leaves more (note ∷ notes) is =
 
 -- ---- notes that take leaves back, by their records
 
-all-reverse : {X : Type 0} (p : X → Bool) (xs : List X) → list_all p (reverse xs) ≡ list_all p xs
-all-reverse p [] = refl
-all-reverse p (x ∷ xs) =
+list_all-reverse : {X : Type 0} (p : X → Bool) (xs : List X) → list_all p (reverse xs) ≡ list_all p xs
+list_all-reverse p [] = refl
+list_all-reverse p (x ∷ xs) =
     ap (list_all p) (reverse-append (x ∷ []) xs) ∙ list_all-append p (reverse xs) (x ∷ [])
-    ∙ ap (λ (b : Bool). b && list_all p (x ∷ [])) (all-reverse p xs) ∙ turned (list_all p xs) (p x)
+    ∙ ap (λ (b : Bool). b && list_all p (x ∷ [])) (list_all-reverse p xs) ∙ turned (list_all p xs) (p x)
   where
     turned : (a b : Bool) → (a && (b && true)) ≡ (b && a)
     turned true true = refl
@@ -181,11 +181,11 @@ all-reverse p (x ∷ xs) =
     turned false true = refl
     turned false false = refl
 
-all-read : {X Y : Type 0} (read : X → Option Y) (p : Y → Bool) (xs : List X)
+list_all-filter_map : {X Y : Type 0} (read : X → Option Y) (p : Y → Bool) (xs : List X)
     → list_all p (filter_map read xs) ≡ list_all (λ x. option_map_or p (read x) true) xs
-all-read read p [] = refl
-all-read {X} {Y} read p (x ∷ xs) =
-    let rest = all-read read p xs in
+list_all-filter_map read p [] = refl
+list_all-filter_map {X} {Y} read p (x ∷ xs) =
+    let rest = list_all-filter_map read p xs in
     elim (read x) as (λ (o : Option Y). list_all p (cons_option o (filter_map read xs))
     ≡ (option_map_or p o true && list_all (λ x. option_map_or p (read x) true) xs)) [
       | None ↦ rest
@@ -199,8 +199,8 @@ pub bound-each : (dig : List ℕ → List ℕ) (leaves : List LeafRecord) (recor
 unfolding notes_of
 bound-each dig leaves records =
     let read = note_in dig (who_is records).tag in
-    all-reverse (is_bound_note leaves) (filter_map read (drop 1 records))
-    ∙ all-read read (is_bound_note leaves) (drop 1 records)
+    list_all-reverse (is_bound_note leaves) (filter_map read (drop 1 records))
+    ∙ list_all-filter_map read (is_bound_note leaves) (drop 1 records)
 
 -- ---- the wallet
 

@@ -64,7 +64,7 @@ module _ (dig : List ℕ → List ℕ) (wallet : WalletRecords) (is : is_wallet 
 pub accept-reads : (dig : List ℕ → List ℕ) (wallet : WalletRecords) (log : List RootCall) (bytes body : List ℕ)
     → AreBytes bytes → (accept_effect dig wallet log bytes).note ≡ Some body
     → (links : Links) × (links_handed dig (who wallet).tag log bytes ≡ Ok links)
-    × IsReadBack dig (who wallet).tag log links
+    × IsReadBack dig (who wallet).tag log links × ((kept_of links).openings ≢ [])
     × (note_in dig (who wallet).tag body ≡ Some (Accepts (kept_of links)))
 unfolding accept_effect
 accept-reads dig wallet log bytes body small is =
@@ -74,7 +74,8 @@ accept-reads dig wallet log bytes body small is =
       found.0,
       found.1,
       back,
-      ap (note_in dig tag) (sym found.2) ∙ note_in-text dig tag (Accepts (kept_of found.0)) back.is_kept,
+      found.2,
+      ap (note_in dig tag) (sym found.3) ∙ note_in-text dig tag (Accepts (kept_of found.0)) back.is_kept,
     )
 
 accept-none : (dig : List ℕ → List ℕ) (wallet : WalletRecords) (log : List RootCall) (bytes : List ℕ)
@@ -89,7 +90,7 @@ accepts_keep_the_role dig wallet log bytes is small =
     after-note dig wallet is effect.note effect.leaf (accept-none dig wallet log bytes)
     (λ body added.
     let reads = accept-reads dig wallet log bytes body small added in
-    wallet-noted dig wallet body (Accepts (kept_of reads.0)) is reads.3 refl)
+    wallet-noted dig wallet body (Accepts (kept_of reads.0)) is reads.4 refl)
 
 pub accepts_add_their_notes : AcceptsAddTheirNotes
 accepts_add_their_notes dig wallet log bytes is small =
@@ -99,7 +100,8 @@ accepts_add_their_notes dig wallet log bytes is small =
       reads.0,
       reads.1,
       reads.2,
-      note-adds dig wallet.notes (wallet-parts dig wallet is).role body (Accepts (kept_of reads.0)) reads.3,
+      reads.3,
+      note-adds dig wallet.notes (wallet-parts dig wallet is).role body (Accepts (kept_of reads.0)) reads.4,
     ))
 
 -- ---- send
@@ -166,7 +168,7 @@ binds-body leaves body leaf fits may is = record {
       ∙ ap (λ (b : Body). leaves_in leaves ++ record { body = b } ∷ []) (body-read body fits);
 }
 
-held-tip : (dig : List ℕ → List ℕ) (wallet : WalletRecords) (log : List RootCall) (coin tip : ℕ)
+pub held-tip : (dig : List ℕ → List ℕ) (wallet : WalletRecords) (log : List RootCall) (coin tip : ℕ)
     → coin_state dig wallet log coin ≡ Held tip → IsTip (noted dig wallet) log coin tip
 unfolding coin_state
 held-tip dig wallet log coin tip is = ((held_is (noted dig wallet) (leaves_in wallet.leaves) log coin tip).0 is).0
@@ -349,7 +351,7 @@ links-some dig wallet log coin tip exists = at (coin_at log coin) refl
           (ap (coin_at log) (kept-coin coin tip (accepted_of (notes_of dig wallet.notes))) ∙ some),
     )
 
-leaving-tip : (dig : List ℕ → List ℕ) (wallet : WalletRecords) (log : List RootCall) (coin tip : ℕ)
+pub leaving-tip : (dig : List ℕ → List ℕ) (wallet : WalletRecords) (log : List RootCall) (coin tip : ℕ)
     → coin_state dig wallet log coin ≡ Leaving tip → IsTip (noted dig wallet) log coin tip
 unfolding coin_state
 leaving-tip dig wallet log coin tip is =

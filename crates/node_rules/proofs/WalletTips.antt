@@ -1,10 +1,10 @@
 -- The tag, the tips and the leaves of a wallet have their sizes.
-use Rattle.std.proofs.Common.{◌≡◌, ℕ, ◌^◌, ◌<◌, ◌≤◌, ◌==◌, ◌&&◌, Bool, true, false, if◌then◌else◌, List, [], ◌∷◌, ◌++◌, length, drop, filter, Option, Some, None, is_some, refl, sym, ap, ◌∙◌, subst, inl, inr, arith}
-use Rattle.std.specs.Prelude.{reverse, slice_get}
-use Rattle.std.specs.List.{All, filter_map, cons_option}
+use Rattle.std.proofs.Common.{◌≡◌, ℕ, ◌^◌, ◌<◌, ◌≤◌, ◌==◌, ◌&&◌, Bool, true, false, if◌then◌else◌, List, [], ◌∷◌, ◌++◌, length, drop, filter, Option, Some, None, is_some, refl, ap, ◌∙◌, subst, inl, inr, arith}
+use Rattle.std.specs.Prelude.{slice_get}
+use Rattle.std.specs.List.{All, filter_map}
 use Rattle.std.specs.Option.{option_map_or}
 use Rattle.std.proofs.lemmas.Bool.{cases_Bool, and_parts, eqb-true, false≢true}
-use Rattle.std.proofs.lemmas.List.{reverse-append, length-map, length-drop}
+use Rattle.std.proofs.lemmas.List.{length-map, length-drop}
 use Rattle.std.proofs.lemmas.List.Elements.{All-nil, All-cons, All-head, All-tail, All-append, All-push, All-drop, All-filter, All-map, All-contains}
 use Rattle.std.proofs.lemmas.Option.{slice_get_within}
 use Rattle.node_journal.specs.Role.{are_of}
@@ -32,6 +32,7 @@ use Rattle.node_rules.specs.Wallet.{WalletRecords, who, noted}
 use Rattle.node_rules.specs.WalletOpening.{leaves_of, is_wallet}
 use Rattle.node_rules.specs.WalletLaws.{IsNote}
 use Rattle.node_rules.specs.WalletCommandLaws.{FitWords}
+use Rattle.node_rules.proofs.OneMore.{All-reverse, All-filter_map}
 use Rattle.node_rules.proofs.WalletTexts.{note_in-spelled}
 use Rattle.node_rules.proofs.WalletGrow.{wallet-parts}
 
@@ -76,30 +77,14 @@ tag-long dig (identity ∷ notes) role = at (identity_in identity) refl
 
 -- ---- notes
 
-all-reverse : {X : Type 0} (P : X → Type 0) (xs : List X) → All P xs → All P (reverse xs)
-all-reverse P [] all = All-nil P
-all-reverse P (x ∷ xs) all =
-    subst (All P) (sym (reverse-append (x ∷ []) xs))
-    (All-push P (reverse xs) x (all-reverse P xs (All-tail P x xs all)) (All-head P x xs all))
-
-all-read : {X Y : Type 0} (read : X → Option Y) (P : X → Type 0) (Q : Y → Type 0)
-    → ((x : X) (y : Y) → P x → read x ≡ Some y → Q y) → (xs : List X) → All P xs → All Q (filter_map read xs)
-all-read read P Q each [] all = All-nil Q
-all-read {X} {Y} read P Q each (x ∷ xs) all =
-    let rest = all-read read P Q each xs (All-tail P x xs all) in
-    (elim (read x) as (λ o. read x ≡ o → All Q (cons_option o (filter_map read xs))) [
-      | None ↦ λ none. rest
-      | Some y ↦ λ some. All-cons Q y (filter_map read xs) (each x y (All-head P x xs all) some) rest
-    ]) refl
-
 -- the notes of records that are bytes have bytes
 pub notes-are : (dig : List ℕ → List ℕ) (records : List (List ℕ)) → All AreBytes records
     → All (IsNote dig (who_is records).tag) (notes_of dig records)
 unfolding notes_of
 notes-are dig records small =
     let tag = (who_is records).tag in
-    all-reverse (IsNote dig tag) (filter_map (note_in dig tag) (drop 1 records))
-    (all-read (note_in dig tag) AreBytes (IsNote dig tag)
+    All-reverse (IsNote dig tag) (filter_map (note_in dig tag) (drop 1 records))
+    (All-filter_map (note_in dig tag) AreBytes (IsNote dig tag)
     (λ body note bytes is. (note_in-spelled dig tag body note bytes is).1) (drop 1 records)
     (All-drop AreBytes 1 records small))
 

@@ -1,11 +1,12 @@
 -- What the commands of a wallet add to its records.
-use Rattle.std.specs.Prelude.{◌≡◌, ◌⊎◌, ℕ, ◌^◌, ◌<◌, true, false, List, [], ◌∷◌, ◌++◌, length, Option, Some, None, IfSome, Ok}
+use Rattle.std.specs.Prelude.{◌≡◌, ◌≢◌, ◌⊎◌, ℕ, ◌^◌, ◌<◌, true, false, List, [], ◌∷◌, ◌++◌, length, Option, Some, None, IfSome, Ok}
 use Rattle.std.specs.List.{All, filter_map, range_with_len}
 use Rattle.std.specs.Option.{option_map}
 use Rattle.plasma_tx.specs.declared.owner.Owner.{Owner}
 use Rattle.plasma_tx.specs.declared.body.Body.{Body}
 use Rattle.plasma_tx.specs.declared.links.Links.{Links}
 use Rattle.plasma_tx.specs.declared.call.RootCall.{RootCall}
+use Rattle.plasma_tx.specs.Links.{tip_of}
 use Rattle.plasma_tx.specs.Spelling.{AreBytes, IsOwner, body_text}
 use Rattle.plasma_tx.specs.Views.{blocks, coins}
 use Rattle.leaf_journal.specs.Records.{binding_record, is_marked, marker, messages_of, MayBind}
@@ -16,7 +17,7 @@ use Rattle.wallet_core.specs.declared.coin_state.CoinState.TheVariants.{Sending,
 use Rattle.node_rules.specs.declared.answers.Reclaimed.{Reclaimed}
 use Rattle.node_rules.specs.Kept.{kept_of, links_handed}
 use Rattle.node_rules.specs.Laws.{IsReadBack}
-use Rattle.node_rules.specs.WalletRecords.{Accepts, LeavesWith, Reclaims, leaves_in}
+use Rattle.node_rules.specs.WalletRecords.{Accepts, LeavesWith, Reclaims, notes_of, accepted_of, leaves_in}
 use Rattle.node_rules.specs.Wallet.{WalletRecords, WalletEffect, who, coin_state, links_at, start_of, accept_effect, send_effect, leave_effect, reclaim_effect, migrate_effect, watch_answer}
 use Rattle.node_rules.specs.WalletOpening.{is_wallet}
 use Rattle.node_rules.specs.WalletLaws.{AddsNote}
@@ -63,11 +64,12 @@ MigrationsKeepTheRole = (dig : List ℕ → List ℕ) (wallet : WalletRecords) �
 
 -- ---- the record is read as the command's
 
--- an accepted coin's note is that of the links that were handed in, which it keeps
+-- an accepted coin's note is that of the links that were handed in, which it keeps, and of which there are some
 abbrev pub AddsAccepted : (List ℕ → List ℕ) → WalletRecords → List RootCall → List ℕ → List ℕ → Type 0
 AddsAccepted dig wallet log bytes body =
     (links : Links) × (links_handed dig (who wallet).tag log bytes ≡ Ok links)
-    × IsReadBack dig (who wallet).tag log links × AddsNote dig wallet.notes (Accepts (kept_of links)) body
+    × IsReadBack dig (who wallet).tag log links × ((kept_of links).openings ≢ [])
+    × AddsNote dig wallet.notes (Accepts (kept_of links)) body
 
 abbrev pub AcceptsAddTheirNotes : Type 0
 AcceptsAddTheirNotes = (dig : List ℕ → List ℕ) (wallet : WalletRecords) (log : List RootCall) (bytes : List ℕ)
@@ -137,6 +139,17 @@ LeavesAreAnswered = (dig : List ℕ → List ℕ) (wallet : WalletRecords) (log 
     → (coin_state dig wallet log coin ≡ Held tip) ⊎ (coin_state dig wallet log coin ≡ Leaving tip)
     → (links : Links) × (links_at dig wallet log coin tip ≡ Some links)
     × ((leave_effect dig wallet log coin).answer ≡ Ok (start_of (who wallet).account tip links))
+
+-- Where each accepted coin has openings, that exit is of the tip: the links end there. So it is where accepts made the
+-- notes.
+abbrev pub HaveOpenings : (List ℕ → List ℕ) → WalletRecords → Type 0
+HaveOpenings dig wallet = All (λ kept. kept.openings ≢ []) (accepted_of (notes_of dig wallet.notes))
+
+abbrev pub ExitsAreOfTheTip : Type 0
+ExitsAreOfTheTip = (dig : List ℕ → List ℕ) (wallet : WalletRecords) (log : List RootCall) (coin tip : ℕ)
+    (links : Links) → (coin_state dig wallet log coin ≡ Held tip) ⊎ (coin_state dig wallet log coin ≡ Leaving tip)
+    → HaveOpenings dig wallet → links_at dig wallet log coin tip ≡ Some links
+    → (links.coin ≡ coin) × (tip_of links ≡ tip)
 
 -- ---- what is due
 

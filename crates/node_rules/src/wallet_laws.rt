@@ -1,5 +1,5 @@
 ghost use Rattle.node_rules.specs.WalletLaws.{IdentitiesAreReadBack, IdentitiesHaveOneSpelling, NotesAreReadBack, NotesHaveOneSpelling};
-ghost use Rattle.node_rules.specs.WalletCommandLaws.{AcceptsKeepTheRole, SendsKeepTheRole, LeavesKeepTheRole, ReclaimsKeepTheRole, MigrationsKeepTheRole, AcceptsAddTheirNotes, SendsAddTheirLeaves, LeavesAddTheirNotes, ReclaimsAddTheirNotes, MigrationsAddTheMarker, LeavesAreAnswered, WalletsDoTheirDuty};
+ghost use Rattle.node_rules.specs.WalletCommandLaws.{AcceptsKeepTheRole, SendsKeepTheRole, LeavesKeepTheRole, ReclaimsKeepTheRole, MigrationsKeepTheRole, AcceptsAddTheirNotes, SendsAddTheirLeaves, LeavesAddTheirNotes, ReclaimsAddTheirNotes, MigrationsAddTheMarker, LeavesAreAnswered, ExitsAreOfTheTip, WalletsDoTheirDuty};
 
 /// A law: the bytes of a wallet's identity are read as it, and those of a note as that note. Bytes that are
 /// read as an identity or a note are its own, so each has one spelling.
@@ -30,9 +30,11 @@ pub fn wallet_commands_add_their_records()
     ensures migrate { MigrationsAddTheMarker }
 {}
 
-/// A law: a wallet that leaves with a coin that it holds or leaves with is answered the start of its exit.
+/// A law: a wallet that leaves with a coin that it holds or leaves with is answered the start of its exit. The
+/// exit is of the coin's tip, where each accepted coin has openings.
 pub fn held_coins_may_leave()
-    ensures { LeavesAreAnswered }
+    ensures answered { LeavesAreAnswered }
+    ensures tip { ExitsAreOfTheTip }
 {}
 
 /// A law: a wallet answers what is due for the coins that it holds or leaves with, by rising coin.
