@@ -161,24 +161,30 @@ find-is P test (one ∷ all) kept each is =
         let e = some_same one kept same in (subst P e (All-head P one all each), ap test (sym e) ∙ on)
     at rest false off later = rest later
 
--- the noted tips of what is kept
+-- what is kept of a coin, as it is noted, and its tips
+abbrev kept_of_coin : ℕ → List Bundle → List CoinTip
+kept_of_coin coin all = filter (λ note. note.coin == coin) (map (λ kept. coin_tip kept.coin kept.tip) all)
+
 abbrev tips_kept : ℕ → List Bundle → List ℕ
-tips_kept coin all = noted_tips coin (map (λ kept. coin_tip kept.coin kept.tip) all)
+tips_kept coin all = map (λ note. note.tip) (kept_of_coin coin all)
+
+-- they are all apart from this tip
+abbrev AreApart : ℕ → List ℕ → Type 0
+AreApart tip tips = All (λ n. n ≢ tip) tips
 
 -- a tip of which nothing is kept is no accepted one
-none-kept : (coin tip : ℕ) (all : List Bundle) → find (is_of coin tip) all ≡ None
-    → All (λ n. n ≢ tip) (tips_kept coin all)
+none-kept : (coin tip : ℕ) (all : List Bundle) → find (is_of coin tip) all ≡ None → AreApart tip (tips_kept coin all)
 none-kept coin tip [] is = All-nil (λ n. n ≢ tip)
 none-kept coin tip (one ∷ all) is = by (none-kept coin tip all) (one.coin == coin) (one.tip == tip) refl is
   where
-    by : (find (is_of coin tip) all ≡ None → All (λ n. n ≢ tip) (tips_kept coin all)) → (same at : Bool) → (one.tip == tip) ≡ at
-        → (if same && at then Some one else find (is_of coin tip) all) ≡ None
-        → All (λ n. n ≢ tip) (map (λ note. note.tip) (if same then coin_tip one.coin one.tip
-        ∷ filter (λ (note : CoinTip). note.coin == coin) (map (λ kept. coin_tip kept.coin kept.tip) all)
-        else filter (λ (note : CoinTip). note.coin == coin) (map (λ kept. coin_tip kept.coin kept.tip) all)))
+    by : (find (is_of coin tip) all ≡ None → AreApart tip (tips_kept coin all)) → (same at : Bool)
+        → (one.tip == tip) ≡ at → (if same && at then Some one else find (is_of coin tip) all) ≡ None
+        → AreApart tip (map (λ note. note.tip)
+        (if same then coin_tip one.coin one.tip ∷ kept_of_coin coin all else kept_of_coin coin all))
     by more true true here wrong = absurd (cc wrong)
     by more true false apart none =
-        All-cons (λ n. n ≢ tip) one.tip (tips_kept coin all) (λ e. false≢true (sym apart ∙ eq-eqb one.tip tip e)) (more none)
+        let other : one.tip ≢ tip = λ e. false≢true (sym apart ∙ eq-eqb one.tip tip e) in
+        All-cons (λ n. n ≢ tip) one.tip (tips_kept coin all) other (more none)
     by more false at here none = more none
 
 own-is : (me : Owner) (log : List RootCall) (coin : ℕ) (made : CoinView) → coin_at log coin ≡ Some made

@@ -140,11 +140,11 @@ LeavesAreAnswered = (dig : List ℕ → List ℕ) (wallet : WalletRecords) (log 
     → (links : Links) × (links_at dig wallet log coin tip ≡ Some links)
     × ((leave_effect dig wallet log coin).answer ≡ Ok (start_of (who wallet).account tip links))
 
--- Where each accepted coin has openings, that exit is of the tip: the links end there. So it is where accepts made the
--- notes.
+-- each accepted coin has openings, as those have that accepts note
 abbrev pub HaveOpenings : (List ℕ → List ℕ) → WalletRecords → Type 0
 HaveOpenings dig wallet = All (λ kept. kept.openings ≢ []) (accepted_of (notes_of dig wallet.notes))
 
+-- that exit is of the tip then: the links are the coin's, and end there
 abbrev pub ExitsAreOfTheTip : Type 0
 ExitsAreOfTheTip = (dig : List ℕ → List ℕ) (wallet : WalletRecords) (log : List RootCall) (coin tip : ℕ)
     (links : Links) → (coin_state dig wallet log coin ≡ Held tip) ⊎ (coin_state dig wallet log coin ≡ Leaving tip)
