@@ -3,3 +3,7 @@ pub mod Watcher
 pub mod WalletRecords
 pub mod Wallet
 pub mod WalletOpening
+pub mod Laws
+pub mod WatcherLaws
+pub mod WalletLaws
+pub mod WalletCommandLaws
