@@ -1,15 +1,15 @@
 ghost use Rattle.std.specs.Prelude.{◌≡◌, ◌≢◌, ◌<◌, ◌^◌, length, map, Err, IfOk, OnOk, ◌++◌, ◌∷◌, []};
-ghost use Rattle.coin_history.specs.Bundles.{bundle_text};
+ghost use Rattle.coin_history.specs.Bundles.{IsBundle, bundle_text};
 ghost use Rattle.node_rules.specs.Kept.{kept_of, links_handed};
-ghost use Rattle.kept_coins.specs.KeptCoins.{CanBeSpelled};
+ghost use Rattle.node_rules.specs.Laws.{IsReadBack};
 
 use coin_history::{Bundle, HistoryRefusal, Openings, check_tagged};
 use plasma_base::{Bytes, Hash32, NoMemory};
 use plasma_tx::{Link, Links, RawOpening, RootLog};
 use std::alloc::Global;
 
-/// The links of the history of a coin whose bundle was handed in as bytes, for a chain with this tag. They can
-/// be spelled as a record again. It refuses as `Bundle::read`, and then as `check_tagged`; `NoMemory` may come
+/// The links of the history of a coin whose bundle was handed in as bytes, for a chain with this tag. What is
+/// kept of them is read back from its bytes. It refuses as `Bundle::read`, and then as `check_tagged`; `NoMemory` may come
 /// in place of each.
 pub fn links_handed<H: Hash32>(
     alloc: Global,
@@ -20,7 +20,7 @@ pub fn links_handed<H: Hash32>(
 ) -> Result<Links, HistoryRefusal>
     ensures value { result ≢ Err HistoryRefusal.NoMemory
         → result ≡ links_handed (H.digest_of h.now) tag.now log.now.log bytes.now }
-    ensures spelled { IfOk result (λ links. CanBeSpelled (kept_of links)) }
+    ensures read { IfOk result (IsReadBack (H.digest_of h.now) tag.now log.now.log) }
 {
     let bundle = match Bundle::read(alloc, bytes) {
         Ok(bundle) => bundle,
@@ -45,7 +45,7 @@ fn openings_of(alloc: Global, links: &[Link]) -> Result<Vec<RawOpening>, NoMemor
 
 /// The record of a kept coin: this mark, and the bundle of the openings that show the links.
 pub fn kept_text(alloc: Global, mark: u8, links: &Links) -> Result<Bytes, NoMemory>
-    requires { CanBeSpelled (kept_of links.now) }
+    requires { IsBundle (kept_of links.now) }
     ensures { IfOk result (λ body. body ≡ mark ∷ bundle_text (kept_of links.now)) }
 {
     let openings = openings_of(alloc, links.spends.as_slice())?;

@@ -1,7 +1,7 @@
 ghost use Rattle.std.specs.Prelude.{◌≡◌, length, IfOk};
 ghost use Rattle.node_rules.specs.Kept.{kept_of};
 ghost use Rattle.node_rules.specs.WalletRecords.{Note, note_text};
-ghost use Rattle.kept_coins.specs.KeptCoins.{CanBeSpelled};
+ghost use Rattle.coin_history.specs.Bundles.{IsBundle};
 
 use kept_coins::kept_text;
 use plasma_base::{Bytes, NoMemory, put_u32, put_u64};
@@ -11,7 +11,7 @@ use std::alloc::Global;
 // The note of a coin that is taken up.
 #[tactic(auto, unfolding(node_rules::specs::WalletRecords::note_text))]
 pub fn accepted_note(alloc: Global, links: &Links) -> Result<Bytes, NoMemory>
-    requires { CanBeSpelled (kept_of links.now) }
+    requires { IsBundle (kept_of links.now) }
     ensures { IfOk result (λ body. body ≡ note_text (Note.Accepts (kept_of links.now))) }
 {
     kept_text(alloc, 2, links)
