@@ -10,7 +10,7 @@ use Rattle.lms_sign.specs.Types.{leaf_count}
 use Rattle.leaf_journal.specs.Records.{leaf_records_of}
 use Rattle.wallet_core.specs.declared.notes.LeafRecord.{LeafRecord}
 use Rattle.node_rules.specs.WalletRecords.{note_in, who_is, notes_of, wallet_kinds, is_body, leaves_in, is_bound_note, are_bound_notes}
-use Rattle.node_rules.specs.Wallet.{WalletRecords, who}
+use Rattle.node_rules.specs.Wallet.{WalletRecords}
 
 -- the number of leaves of the wallet's key
 abbrev pub leaves_of : List (List ℕ) → ℕ
@@ -39,5 +39,5 @@ bound_front dig leaves (identity ∷ notes) =
     identity ∷ take_while (is_bound_record dig (who_is (identity ∷ notes)).tag leaves) notes
 
 -- the place of that record's gate
-abbrev pub unbound_place : (List ℕ → List ℕ) → WalletRecords → ℕ
-unbound_place dig wallet = length (spelled (bound_front dig (leaves_in wallet.leaves) wallet.notes))
+abbrev pub unbound_place : (List ℕ → List ℕ) → List LeafRecord → List (List ℕ) → ℕ
+unbound_place dig leaves notes = length (spelled (bound_front dig leaves notes))
