@@ -1,7 +1,7 @@
 ghost use Rattle.std.specs.Prelude.{◌≡◌, ◌≢◌, ◌<◌, ◌^◌, length, map, Err, IfOk, OnOk, ◌++◌, ◌∷◌, []};
 ghost use Rattle.coin_history.specs.Bundles.{IsBundle, bundle_text};
 ghost use Rattle.node_rules.specs.Kept.{kept_of, links_handed};
-ghost use Rattle.node_rules.specs.Laws.{IsReadBack};
+ghost use Rattle.kept_coins.specs.KeptCoins.{IsShown};
 
 use coin_history::{Bundle, HistoryRefusal, Openings, check_tagged};
 use plasma_base::{Bytes, Hash32, NoMemory};
@@ -20,7 +20,8 @@ pub fn links_handed<H: Hash32>(
 ) -> Result<Links, HistoryRefusal>
     ensures value { result ≢ Err HistoryRefusal.NoMemory
         → result ≡ links_handed (H.digest_of h.now) tag.now log.now.log bytes.now }
-    ensures read { IfOk result (IsReadBack (H.digest_of h.now) tag.now log.now.log) }
+    ensures spelled { IfOk result (λ links. IsBundle (kept_of links)) }
+    ensures shown { IfOk result (IsShown (H.digest_of h.now) tag.now) }
 {
     let bundle = match Bundle::read(alloc, bytes) {
         Ok(bundle) => bundle,

@@ -2,3 +2,4 @@ pub mod Order
 pub mod Steps
 pub mod Dues
 pub mod Kept
+pub mod Notes
