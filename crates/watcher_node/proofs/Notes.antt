@@ -19,12 +19,13 @@ unfolding note_in note_text
 guard-read dig tag links shown = ap guarded shown.read
 
 -- a guard's note puts the coin in memory as it was handed in
-pub guard-spells : (dig : List ℕ → List ℕ) (tag : List ℕ) (links : Links) (body : List ℕ) → IsShown dig tag links
-    → body ≡ note_text (Guarded (kept_of links))
-    → Some (Guards (record { coin = links.coin; tip = tip_of links; spends = links.spends }))
+pub guard-spells : (dig : List ℕ → List ℕ) (tag : List ℕ) (links : Links) (body : List ℕ) (tip : ℕ)
+    → IsShown dig tag links → body ≡ note_text (Guarded (kept_of links)) → tip ≡ tip_of links
+    → Some (Guards (record { coin = links.coin; tip = tip; spends = links.spends }))
     ≡ option_map (change_of tag) (note_in dig tag body)
-guard-spells dig tag links body shown is =
-    ap (λ (spends : List Link). Some (Guards (record { coin = links.coin; tip = tip_of links; spends = spends })))
+guard-spells dig tag links body tip shown is tip_is =
+    ap (λ (n : ℕ). Some (Guards (record { coin = links.coin; tip = n; spends = links.spends }))) tip_is
+    ∙ ap (λ (spends : List Link). Some (Guards (record { coin = links.coin; tip = tip_of links; spends = spends })))
     (sym shown.shown)
     ∙ ap (option_map (change_of tag)) (sym (ap (note_in dig tag) is ∙ guard-read dig tag links shown))
 

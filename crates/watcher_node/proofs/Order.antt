@@ -1,7 +1,7 @@
 -- Guards in the order of coins and tips.
 use Rattle.std.proofs.Common.{◌≡◌, ◌<◌, ◌≤◌, ◌⊎◌, ◌==◌, ◌&&◌, ◌||◌, not, ℕ, Bool, true, false, nat_lt, List, [], ◌∷◌, ◌++◌, length, take, drop, filter, refl, sym, ◌∙◌, ap, inl, inr, arith}
 use Rattle.std.proofs.lemmas.Bool.Decides.{nat_tests}
-use Rattle.std.proofs.lemmas.Bool.{cases_Bool}
+use Rattle.std.proofs.lemmas.Bool.{cases_Bool, and_parts, and_from, or_parts}
 use Rattle.std.specs.List.{list_any, list_all}
 use Rattle.std.proofs.lemmas.List.Folds.{list_all-append}
 use Rattle.std.proofs.lemmas.List.Sums.{length-filter, count_by-le-length}
@@ -9,15 +9,6 @@ use Rattle.kept_coins.specs.declared.kept_coin.KeptCoin.{KeptCoin}
 use Rattle.watcher_node.specs.declared.watched.Change.{Change}
 use Rattle.watcher_node.specs.declared.watched.Change.TheVariants.{Guards, Releases}
 use Rattle.watcher_node.specs.Inside.{is_watched_at, comes_before, AreInOrder, with_watched, changed}
-
--- both of two tests that hold together
-pub both : (a b : Bool) → (a && b) ≡ true → (a ≡ true) × (b ≡ true)
-both true b is = (refl, is)
-both false b is = absurd (cc is)
-
-pub and-true : (a b : Bool) → a ≡ true → b ≡ true → (a && b) ≡ true
-and-true true b one two = two
-and-true false b one two = absurd (cc one)
 
 -- ---- the order of two numbers and two numbers
 
@@ -57,17 +48,17 @@ all-later : (a b : KeptCoin) (all : List KeptCoin) → comes_before a b ≡ true
     → list_all (comes_before a) all ≡ true
 all-later a b [] is later = refl
 all-later a b (x ∷ xs) is later =
-    let parts = both (comes_before b x) (list_all (comes_before b) xs) later in
-    and-true (comes_before a x) (list_all (comes_before a) xs) (before-trans a b x is parts.0)
+    let parts = and_parts (comes_before b x) (list_all (comes_before b) xs) later in
+    and_from (comes_before a x) (list_all (comes_before a) xs) (before-trans a b x is parts.0)
     (all-later a b xs is parts.1)
 
 all-filter : (p q : KeptCoin → Bool) (all : List KeptCoin) → list_all p all ≡ true → list_all p (filter q all) ≡ true
 all-filter p q [] is = refl
 all-filter p q (x ∷ xs) is =
-    let parts = both (p x) (list_all p xs) is in
+    let parts = and_parts (p x) (list_all p xs) is in
     let rest = all-filter p q xs parts.1 in
     elim (cases_Bool (q x)) [
-      | inl here ↦ rw here (and-true (p x) (list_all p (filter q xs)) parts.0 rest)
+      | inl here ↦ rw here (and_from (p x) (list_all p (filter q xs)) parts.0 rest)
       | inr here ↦ rw here rest
     ]
 
@@ -92,7 +83,7 @@ after-none : (x watched : KeptCoin) (all : List KeptCoin) → comes_before x wat
     → list_all (comes_before x) all ≡ true → (before watched all ≡ []) × (behind watched all ≡ all)
 after-none x watched [] is later = (refl, refl)
 after-none x watched (y ∷ ys) is later =
-    let parts = both (comes_before x y) (list_all (comes_before x) ys) later in
+    let parts = and_parts (comes_before x y) (list_all (comes_before x) ys) later in
     let rest = after-none x watched ys is parts.1 in
     elim (cases_Bool (comes_before y watched)) [
       | inl here ↦ (let through = before-trans x y watched parts.0 here in absurd (cc (is, through)))
@@ -121,33 +112,28 @@ put-one watched x xs order same rest = elim (cases_Bool (comes_before x watched)
   | inl here ↦
       let later : list_all (comes_before x) (before watched xs ++ watched ∷ behind watched xs) ≡ true =
       list_all-append (comes_before x) (before watched xs) (watched ∷ behind watched xs)
-      ∙ and-true (list_all (comes_before x) (before watched xs))
+      ∙ and_from (list_all (comes_before x) (before watched xs))
       (list_all (comes_before x) (watched ∷ behind watched xs))
       (all-filter (comes_before x) (λ other. comes_before other watched) xs order.0)
-      (and-true (comes_before x watched) (list_all (comes_before x) (behind watched xs)) here
+      (and_from (comes_before x watched) (list_all (comes_before x) (behind watched xs)) here
       (all-filter (comes_before x) (λ other. not (comes_before other watched)) xs order.0)) in
       rw here (later, rest)
   | inr here ↦
       let none = after-none x watched xs here order.0 in
       let first = before-other x watched here same in
       rw here (rw (none.0, none.1) (
-        and-true (comes_before watched x) (list_all (comes_before watched) xs) first
+        and_from (comes_before watched x) (list_all (comes_before watched) xs) first
             (all-later watched x xs first order.0),
         (order.0, order.1),
       ))
 ]
-
--- neither of two tests that don't hold
-neither : (a b : Bool) → (a || b) ≡ false → (a ≡ false) × (b ≡ false)
-neither true b is = absurd (cc is)
-neither false b is = (refl, is)
 
 put-order : (watched : KeptCoin) (all : List KeptCoin) → AreInOrder all
     → list_any (is_watched_at watched.coin watched.tip) all ≡ false
     → AreInOrder (before watched all ++ watched ∷ behind watched all)
 put-order watched [] order apart = (refl, tt)
 put-order watched (x ∷ xs) order apart =
-    let parts = neither (is_watched_at watched.coin watched.tip x)
+    let parts = or_parts (is_watched_at watched.coin watched.tip x)
     (list_any (is_watched_at watched.coin watched.tip) xs) apart in
     put-one watched x xs order parts.0 (put-order watched xs order.1 parts.1)
 

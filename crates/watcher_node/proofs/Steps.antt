@@ -1,12 +1,12 @@
 -- What a note makes of the guards.
 use Rattle.std.proofs.Common.{◌≡◌, ◌<◌, ◌+◌, ◌||◌, not, ℕ, Bool, true, false, List, [], ◌∷◌, ◌++◌, length, take, get_or, map, filter, reverse, Option, None, Some, refl, sym, ◌∙◌, ap, subst, inl, inr}
 use Rattle.std.proofs.lemmas.Bool.{cases_Bool}
-use Rattle.std.specs.List.{list_any, filter_map}
-use Rattle.std.specs.Option.{option_map, option_to_list}
-use Rattle.std.proofs.lemmas.List.{map-append, append-nil, reverse-append, take_more}
-use Rattle.std.proofs.lemmas.List.Elements.{filter_map-append}
+use Rattle.std.specs.List.{list_any, filter_map, cons_option}
+use Rattle.std.specs.Option.{option_map}
+use Rattle.std.proofs.lemmas.List.{map-append, take_more}
 use Rattle.coin_history.specs.declared.bundle.Bundle.{Bundle}
 use Rattle.node_rules.specs.Watcher.{Note, Guarded, Released, is_of, is_before, with_guard, note_in, guards_of}
+use Rattle.node_rules.proofs.OneMore.{reverse-grow}
 use Rattle.watcher_node.specs.Inside.{change_of, is_watched_at, comes_before, AreInOrder, with_watched, changed, changed_by, watched_in}
 use Rattle.kept_coins.specs.KeptCoins.{kept_coin_of}
 use Rattle.watcher_node.proofs.Order.{changed-order}
@@ -63,30 +63,10 @@ pub watched-start : (dig : List ℕ → List ℕ) (tag : List ℕ)
     → [] ≡ watched_in tag (reverse (filter_map (note_in dig tag) []))
 watched-start dig tag = sym (watched_in-none tag)
 
-notes-end : (tag : List ℕ) (front : List Note) (note : Option Note)
-    → watched_in tag (reverse (front ++ option_to_list note))
-    ≡ changed_by (option_map (change_of tag) note) (watched_in tag (reverse front))
-notes-end tag front None = ap (λ (l : List Note). watched_in tag (reverse l)) (append-nil front)
-notes-end tag front (Some note) =
-    ap (watched_in tag) (reverse-append front (note ∷ [])) ∙ watched_in-more tag note (reverse front)
-
-single : (f : List ℕ → Option Note) (body : List ℕ) → filter_map f (body ∷ []) ≡ option_to_list (f body)
-single f body = at (f body) refl
-  where
-    at : (note : Option Note) → f body ≡ note → filter_map f (body ∷ []) ≡ option_to_list (f body)
-    at None is = rw is refl
-    at (Some note) is = rw is refl
-
--- one more record behind notes
-pub watched-next : (dig : List ℕ → List ℕ) (tag : List ℕ) (bodies : List (List ℕ)) (body : List ℕ)
-    → watched_in tag (reverse (filter_map (note_in dig tag) (bodies ++ body ∷ [])))
-    ≡ changed_by (option_map (change_of tag) (note_in dig tag body))
-    (watched_in tag (reverse (filter_map (note_in dig tag) bodies)))
-watched-next dig tag bodies body =
-    ap (λ (l : List Note). watched_in tag (reverse l))
-    (filter_map-append (note_in dig tag) bodies (body ∷ [])
-    ∙ ap (λ (l : List Note). filter_map (note_in dig tag) bodies ++ l) (single (note_in dig tag) body))
-    ∙ notes-end tag (filter_map (note_in dig tag) bodies) (note_in dig tag body)
+read-more : (tag : List ℕ) (note : Option Note) (notes : List Note)
+    → watched_in tag (cons_option note notes) ≡ changed_by (option_map (change_of tag) note) (watched_in tag notes)
+read-more tag None notes = refl
+read-more tag (Some note) notes = watched_in-more tag note notes
 
 pub watched-take : (dig : List ℕ → List ℕ) (tag : List ℕ) (bodies : List (List ℕ)) (i : ℕ) (body : List ℕ)
     → i < length bodies → body ≡ get_or bodies i body
@@ -96,4 +76,5 @@ pub watched-take : (dig : List ℕ → List ℕ) (tag : List ℕ) (bodies : List
 watched-take dig tag bodies i body less is =
     ap (λ (l : List (List ℕ)). watched_in tag (reverse (filter_map (note_in dig tag) l)))
     (take_more bodies i body less ∙ ap (λ (b : List ℕ). take i bodies ++ b ∷ []) (sym is))
-    ∙ watched-next dig tag (take i bodies) body
+    ∙ ap (watched_in tag) (reverse-grow (note_in dig tag) (take i bodies) body)
+    ∙ read-more tag (note_in dig tag body) (reverse (filter_map (note_in dig tag) (take i bodies)))
