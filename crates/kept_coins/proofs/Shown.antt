@@ -3,7 +3,7 @@ use Rattle.std.proofs.Common.{◌≡◌, ◌<◌, ◌+◌, ◌&&◌, ℕ, Bool, 
 use Rattle.std.specs.List.{list_all, filter_map}
 use Rattle.std.specs.Option.{option_map}
 use Rattle.std.proofs.lemmas.List.{take_more}
-use Rattle.std.proofs.lemmas.List.Folds.{list_all-append, list_all_at}
+use Rattle.std.proofs.lemmas.List.Folds.{list_all-append}
 use Rattle.std.proofs.lemmas.List.Elements.{filter_map-append}
 use Rattle.plasma_tx.specs.declared.opening.RawOpening.{RawOpening}
 use Rattle.plasma_tx.specs.declared.opening.Opening.{Opening}
@@ -12,10 +12,8 @@ use Rattle.plasma_tx.specs.declared.signed_tx.SignedTx.{SignedTx}
 use Rattle.plasma_tx.specs.Openings.{opening_in}
 use Rattle.plasma_tx.specs.Transfer.{transfer_in}
 use Rattle.plasma_tx.proofs.OpeningTexts.{leaf-shown}
-use Rattle.coin_history.specs.declared.bundle.Bundle.{Bundle}
 use Rattle.coin_history.specs.History.{link_of, links_in, transfer_of}
-use Rattle.node_rules.specs.Kept.{chain_of, shows_link, ends_at, only_kept}
-use Rattle.kept_coins.specs.KeptCoins.{kept_coin_of}
+use Rattle.node_rules.specs.Kept.{chain_of, shows_link}
 
 and-true : (a b : Bool) → a ≡ true → b ≡ true → (a && b) ≡ true
 and-true true b one two = two
@@ -84,38 +82,3 @@ shows-more dig tag coin openings i raw spends more link less is found one shows 
           (list_all (shows_link dig tag coin) (raw ∷ []))
           shows.all (and-true (shows_link dig tag coin raw) true here refl);
     }
-
-none-is : (b : Bool) (raw : RawOpening) (tx : Option SignedTx) → None ≡ (if b then linked raw tx else None)
-    → (b && is_some tx) ≡ false
-none-is true raw None is = refl
-none-is true raw (Some tx) is = absurd (cc is)
-none-is false raw tx is = refl
-
-pub shows-not : (dig : List ℕ → List ℕ) (tag : List ℕ) (bundle : Bundle) (openings : List RawOpening) (i : ℕ)
-    (raw : RawOpening) → openings ≡ bundle.openings → i < length openings → raw ≡ get_or openings i raw
-    → None ≡ link_read dig tag bundle.coin raw
-    → None ≡ option_map (kept_coin_of tag) (only_kept dig tag (Ok bundle))
-shows-not dig tag bundle openings i raw same less is found =
-    let here = none-is (is_ok (opening_in dig raw)) raw (transfer_of (chain_of tag) bundle.coin raw) found in
-    let at : shows_link dig tag bundle.coin (get_or openings i raw) ≡ false =
-    ap (shows_link dig tag bundle.coin) (sym is) ∙ here in
-    let none : list_all (shows_link dig tag bundle.coin) bundle.openings ≡ false =
-    ap (list_all (shows_link dig tag bundle.coin)) (sym same)
-    ∙ list_all_at (shows_link dig tag bundle.coin) openings i raw less at in
-    rw none refl
-
-pub ends-not : (dig : List ℕ → List ℕ) (tag : List ℕ) (bundle : Bundle) → ends_at bundle.tip bundle.openings ≡ false
-    → None ≡ option_map (kept_coin_of tag) (only_kept dig tag (Ok bundle))
-ends-not dig tag bundle is = at (list_all (shows_link dig tag bundle.coin) bundle.openings) refl
-  where
-    at : (b : Bool) → list_all (shows_link dig tag bundle.coin) bundle.openings ≡ b
-        → None ≡ option_map (kept_coin_of tag) (only_kept dig tag (Ok bundle))
-    at true all = rw (all, is) refl
-    at false all = rw all refl
-
-pub shows-all : (dig : List ℕ → List ℕ) (tag : List ℕ) (bundle : Bundle) (spends : List Link)
-    → ends_at bundle.tip bundle.openings ≡ true → Shows dig tag bundle.coin bundle.openings spends
-    → Some (record { coin = bundle.coin; tip = bundle.tip; spends = spends })
-    ≡ option_map (kept_coin_of tag) (only_kept dig tag (Ok bundle))
-shows-all dig tag bundle spends ends shows =
-    rw (shows.all, ends, shows.links) refl

@@ -1,8 +1,7 @@
-use Rattle.std.proofs.Common.{◌≡◌, ◌<◌, ℕ, List, Ok, sym, ◌∙◌, ap, arith}
+use Rattle.std.proofs.Common.{◌≡◌, ◌<◌, Ok, sym, ◌∙◌, ap, arith}
 use Rattle.std.proofs.lemmas.List.Elements.{All-from_get_or}
-use Rattle.plasma_tx.specs.Spelling.{AreBytes}
 use Rattle.coin_history.specs.Bundles.{bundle_in}
-use Rattle.node_rules.specs.Kept.{checked_by, links_handed}
+use Rattle.node_rules.specs.Kept.{checked_by}
 use Rattle.node_rules.proofs.KeptTexts.{handed-back}
 use Rattle.kept_coins.proofs.handed.links_handed.Goals as goal
 
