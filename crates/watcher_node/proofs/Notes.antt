@@ -1,15 +1,13 @@
 -- What the notes of a watcher's commands change.
-use Rattle.std.proofs.Common.{◌≡◌, ◌<◌, ◌^◌, ℕ, List, Option, Some, sym, ◌∙◌, ap}
+use Rattle.std.proofs.Common.{◌≡◌, ◌<◌, ◌^◌, ℕ, List, Some, sym, ◌∙◌, ap}
 use Rattle.std.specs.Option.{option_map}
 use Rattle.plasma_tx.specs.declared.links.Link.{Link}
 use Rattle.plasma_tx.specs.declared.links.Links.{Links}
 use Rattle.plasma_tx.specs.Links.{tip_of}
-use Rattle.coin_history.specs.declared.bundle.Bundle.{Bundle}
 use Rattle.kept_coins.specs.KeptCoins.{IsShown}
 use Rattle.node_rules.specs.Kept.{kept_of}
-use Rattle.node_rules.specs.Watcher.{Note, Guarded, Released, note_text, note_in, guarded}
+use Rattle.node_rules.specs.Watcher.{Guarded, Released, note_text, note_in, guarded}
 use Rattle.node_rules.proofs.WatcherTexts.{note_in-text}
-use Rattle.watcher_node.specs.declared.watched.Change.{Change}
 use Rattle.watcher_node.specs.declared.watched.Change.TheVariants.{Guards, Releases}
 use Rattle.watcher_node.specs.Inside.{change_of}
 
