@@ -9,8 +9,8 @@ use plasma_tx::{Link, Links, RawOpening, RootLog};
 use std::alloc::Global;
 
 /// The links of the history of a coin whose bundle was handed in as bytes, for a chain with this tag. What is
-/// kept of them is read back from its bytes. It refuses as `Bundle::read`, and then as `check_tagged`; `NoMemory` may come
-/// in place of each.
+/// kept of them is read back from its bytes. It refuses as `Bundle::read`, and then as `check_tagged`;
+/// `NoMemory` may come in place of each.
 pub fn links_handed<H: Hash32>(
     alloc: Global,
     h: &H,

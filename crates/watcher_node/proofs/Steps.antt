@@ -25,7 +25,8 @@ any-map tag coin tip [] = refl
 any-map tag coin tip (kept ∷ guards) = ap (λ (b : Bool). is_of coin tip kept || b) (any-map tag coin tip guards)
 
 with-map : (tag : List ℕ) (kept : Bundle) (guards : List Bundle)
-    → with_watched (kept_coin_of tag kept) (map (kept_coin_of tag) guards) ≡ map (kept_coin_of tag) (with_guard kept guards)
+    → with_watched (kept_coin_of tag kept) (map (kept_coin_of tag) guards)
+    ≡ map (kept_coin_of tag) (with_guard kept guards)
 with-map tag kept guards = at (list_any (is_of kept.coin kept.tip) guards) refl
   where
     at : (b : Bool) → list_any (is_of kept.coin kept.tip) guards ≡ b
