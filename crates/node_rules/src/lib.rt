@@ -4,8 +4,19 @@
 
 mod answers;
 mod identity;
+mod laws;
 mod refusal;
+mod wallet_laws;
+mod watcher_laws;
 
 pub use answers::{Accepted, Reclaimed, Sent};
 pub use identity::WalletIdentity;
+pub use laws::kept_histories_are_read_back;
 pub use refusal::{WalletRefusal, WatcherRefusal};
+pub use wallet_laws::{
+    held_coins_may_leave, wallet_commands_add_their_records, wallet_commands_keep_the_role,
+    wallet_records_have_one_spelling, wallets_do_their_duty,
+};
+pub use watcher_laws::{
+    watcher_commands_keep_the_role, watcher_records_have_one_spelling, watchers_do_their_duty,
+};

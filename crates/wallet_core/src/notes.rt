@@ -1,4 +1,4 @@
-ghost use Rattle.std.specs.Prelude.{◌≡◌, ◌==◌, ◌||◌, ◌∷◌, ◌++◌, [], ℕ, OnOk, OnErr};
+ghost use Rattle.std.specs.Prelude.{◌≡◌, ◌==◌, ◌||◌, ◌∷◌, ◌++◌, ◌-◌, [], ℕ, length, take, IfOk, OnOk, OnErr};
 ghost use Rattle.std.specs.List.{list_any};
 ghost use Rattle.std.specs.Ordering.{nat_cmp};
 ghost use Rattle.std.specs.BTreeSet.{insert_key};
@@ -65,8 +65,15 @@ impl Tips {
         Ok(())
     }
 
+    /// Takes the last tip away, where there is one.
+    pub fn pop(&mut self)
+        ensures { self.new ≡ take (length self.old - 1) self.old }
+    {
+        self.items.pop();
+    }
+
     /// Whether a tip of the coin is noted at the block.
-    pub(crate) fn has(&self, coin: u64, tip: u64) -> bool
+    pub fn has(&self, coin: u64, tip: u64) -> bool
         ensures { result ≡ is_noted coin tip self.now }
     {
         self.items
@@ -115,6 +122,15 @@ impl LeafNumbers {
         ensures { result ≡ list_any (λ other. other == q) self.now }
     {
         self.numbers.contains(&q)
+    }
+
+    /// These numbers and one more, which is the same where it is one of them. `NoMemory` is its one refusal.
+    pub fn with(&self, q: u32) -> Result<LeafNumbers, NoMemory>
+        ensures { IfOk result (λ numbers. numbers ≡ insert_key nat_cmp self.now q) }
+    {
+        let mut numbers = self.numbers.clone()?;
+        numbers.insert(q)?;
+        Ok(LeafNumbers { numbers })
     }
 
     /// Adds a number, which changes nothing where it is one of them. `NoMemory` changes nothing.

@@ -8,47 +8,48 @@ use Rattle.plasma_tx.specs.declared.views.CoinView.{CoinView}
 use Rattle.plasma_tx.specs.Views.{coin_at}
 use Rattle.coin_history.specs.declared.bundle.Bundle.{Bundle}
 use Rattle.node_rules.specs.Watcher.{who_is, notes_of, guards_of, due_for_kept, watch_answer}
-use Rattle.watcher_node.specs.declared.watched.Watched.{Watched}
-use Rattle.watcher_node.specs.Inside.{watched_of, watched_in, due_for_watched}
+use Rattle.kept_coins.specs.declared.kept_coin.KeptCoin.{KeptCoin}
+use Rattle.watcher_node.specs.Inside.{watched_in}
+use Rattle.kept_coins.specs.KeptCoins.{kept_coin_of, due_for_coin}
 
 -- one more guard
-pub due-more : (log : List RootCall) (account : ℕ) (guards : List Watched) (i : ℕ) (watched : Watched)
+pub due-more : (log : List RootCall) (account : ℕ) (guards : List KeptCoin) (i : ℕ) (watched : KeptCoin)
     → i < length guards → watched ≡ get_or guards i watched
-    → flat_map (due_for_watched log account) (take i guards) ++ due_for_watched log account watched
-    ≡ flat_map (due_for_watched log account) (take (i + 1) guards)
+    → flat_map (due_for_coin log account) (take i guards) ++ due_for_coin log account watched
+    ≡ flat_map (due_for_coin log account) (take (i + 1) guards)
 due-more log account guards i watched less is =
-    ap (λ (w : Watched). flat_map (due_for_watched log account) (take i guards) ++ due_for_watched log account w) is
-    ∙ flat_map_more (due_for_watched log account) [] (take i guards) (get_or guards i watched)
-    ∙ ap (flat_map (due_for_watched log account)) (sym (take_more guards i watched less))
+    ap (λ (w : KeptCoin). flat_map (due_for_coin log account) (take i guards) ++ due_for_coin log account w) is
+    ∙ flat_map_more (due_for_coin log account) [] (take i guards) (get_or guards i watched)
+    ∙ ap (flat_map (due_for_coin log account)) (sym (take_more guards i watched less))
 
 -- a kept coin and its guard have the same dues
 due-same : (tag : List ℕ) (log : List RootCall) (account : ℕ) (kept : Bundle)
-    → due_for_watched log account (watched_of tag kept) ≡ due_for_kept tag log account kept
+    → due_for_coin log account (kept_coin_of tag kept) ≡ due_for_kept tag log account kept
 due-same tag log account kept = at (coin_at log kept.coin) refl
   where
     at : (made : Option CoinView) → coin_at log kept.coin ≡ made
-        → due_for_watched log account (watched_of tag kept) ≡ due_for_kept tag log account kept
+        → due_for_coin log account (kept_coin_of tag kept) ≡ due_for_kept tag log account kept
     at None is = rw is refl
     at (Some made) is = rw is refl
 
 dues-same : (tag : List ℕ) (log : List RootCall) (account : ℕ) (guards : List Bundle)
-    → flat_map (λ kept. due_for_watched log account (watched_of tag kept)) guards
+    → flat_map (λ kept. due_for_coin log account (kept_coin_of tag kept)) guards
     ≡ flat_map (due_for_kept tag log account) guards
 dues-same tag log account [] = refl
 dues-same tag log account (kept ∷ guards) =
-    ap (λ (calls : List RootCall). calls ++ flat_map (λ k. due_for_watched log account (watched_of tag k)) guards)
+    ap (λ (calls : List RootCall). calls ++ flat_map (λ k. due_for_coin log account (kept_coin_of tag k)) guards)
     (due-same tag log account kept)
     ∙ ap (λ (calls : List RootCall). due_for_kept tag log account kept ++ calls) (dues-same tag log account guards)
 
 -- what is due for the guards in memory is the answer
 pub dues-answer : (dig : List ℕ → List ℕ) (records : List (List ℕ)) (log : List RootCall) (account : ℕ)
-    (guards : List Watched) → account ≡ (who_is records).account
+    (guards : List KeptCoin) → account ≡ (who_is records).account
     → guards ≡ watched_in (who_is records).tag (notes_of dig records)
-    → flat_map (due_for_watched log account) guards ≡ watch_answer dig records log
+    → flat_map (due_for_coin log account) guards ≡ watch_answer dig records log
 unfolding watch_answer
 dues-answer dig records log account guards is are =
-    ap (flat_map (due_for_watched log account)) are
-    ∙ flat_map-map (due_for_watched log account) (watched_of (who_is records).tag)
+    ap (flat_map (due_for_coin log account)) are
+    ∙ flat_map-map (due_for_coin log account) (kept_coin_of (who_is records).tag)
     (guards_of (notes_of dig records))
     ∙ dues-same (who_is records).tag log account (guards_of (notes_of dig records))
     ∙ ap (λ (n : ℕ). flat_map (due_for_kept (who_is records).tag log n) (guards_of (notes_of dig records))) is

@@ -1,13 +1,14 @@
 -- What is kept in memory of records.
-use Rattle.std.proofs.Common.{◌≡◌, ℕ, true, List, [], ◌∷◌, ◌++◌, reverse, Option, None, Some, is_some, refl, sym, ◌∙◌, ap, subst}
+use Rattle.std.proofs.Common.{◌≡◌, ℕ, true, List, [], ◌∷◌, ◌++◌, reverse, Option, None, Some, refl, sym, ◌∙◌, ap, subst}
 use Rattle.std.specs.List.{filter_map}
-use Rattle.std.specs.Option.{option_map, option_map_or}
+use Rattle.std.specs.Option.{option_map}
 use Rattle.node_journal.specs.Role.{are_of, may_follow}
-use Rattle.node_rules.specs.Watcher.{WatcherIdentity, Note, nobody, identity_in, note_in, watcher_kinds, who_is, notes_of}
-use Rattle.watcher_node.specs.declared.watched.Watched.{Watched}
+use Rattle.node_rules.specs.Watcher.{WatcherIdentity, Note, identity_in, note_in, watcher_kinds, who_is, notes_of}
+use Rattle.kept_coins.specs.declared.kept_coin.KeptCoin.{KeptCoin}
 use Rattle.watcher_node.specs.declared.watched.Change.{Change}
-use Rattle.watcher_node.specs.Inside.{change_of, changed, changed_by, watched_in, IsKept}
-use Rattle.watcher_node.proofs.Steps.{watched-next}
+use Rattle.watcher_node.specs.Inside.{change_of, changed, watched_in, IsKept}
+use Rattle.node_rules.proofs.WatcherRole.{note-keeps, note-adds}
+use Rattle.watcher_node.proofs.Steps.{watched_in-more}
 
 -- the identity of records, where the first one spells it
 who-first : (first : List ℕ) (rest : List (List ℕ)) (who : WatcherIdentity) → identity_in first ≡ Some who
@@ -15,7 +16,7 @@ who-first : (first : List ℕ) (rest : List (List ℕ)) (who : WatcherIdentity) 
 unfolding who_is
 who-first first rest who is = rw is refl
 
-kept-of : (dig : List ℕ → List ℕ) (first : List ℕ) (rest : List (List ℕ)) (who : WatcherIdentity) (all : List Watched)
+kept-of : (dig : List ℕ → List ℕ) (first : List ℕ) (rest : List (List ℕ)) (who : WatcherIdentity) (all : List KeptCoin)
     → identity_in first ≡ Some who → all ≡ watched_in who.tag (reverse (filter_map (note_in dig who.tag) rest))
     → IsKept dig (first ∷ rest) who.tag who.account all
 unfolding notes_of
@@ -39,7 +40,7 @@ tag-from None pair is = absurd (cc is)
 tag-from (Some who) pair is = (who, refl, cc is)
 
 pub kept-from : (dig : List ℕ → List ℕ) (records : List (List ℕ)) (first : List ℕ) (rest : List (List ℕ))
-    (pair : List ℕ × ℕ) (all : List Watched) → records ≡ first ∷ rest
+    (pair : List ℕ × ℕ) (all : List KeptCoin) → records ≡ first ∷ rest
     → Some pair ≡ option_map named (identity_in first)
     → all ≡ watched_in pair.0 (reverse (filter_map (note_in dig pair.0) rest)) → IsKept dig records pair.0 pair.1 all
 kept-from dig records first rest pair all records_are found are =
@@ -50,23 +51,31 @@ kept-from dig records first rest pair all records_are found are =
     subst (λ (r : List (List ℕ)). IsKept dig r pair.0 pair.1 all) (sym records_are)
     (subst (λ (p : List ℕ × ℕ). IsKept dig (first ∷ rest) p.0 p.1 all) (sym parts.2) kept)
 
+-- the note of a record that spells a change
+note-from : (tag : List ℕ) (found : Option Note) (change : Change) → Some change ≡ option_map (change_of tag) found
+    → (note : Note) × (found ≡ Some note) × (change ≡ change_of tag note)
+note-from tag None change is = absurd (cc is)
+note-from tag (Some note) change is = (note, refl, cc is)
+
 -- one more record that spells a change
 pub kept-more : (dig : List ℕ → List ℕ) (records : List (List ℕ)) (body : List ℕ) (more : List (List ℕ)) (tag : List ℕ)
-    (account : ℕ) (all after : List Watched) (change : Change) → are_of (watcher_kinds dig) records ≡ true
+    (account : ℕ) (all after : List KeptCoin) (change : Change) → are_of (watcher_kinds dig) records ≡ true
     → more ≡ records ++ body ∷ []
     → Some change ≡ option_map (change_of (who_is records).tag) (note_in dig (who_is records).tag body)
     → after ≡ changed change all → IsKept dig records tag account all → IsKept dig more tag account after
-unfolding notes_of who_is
-kept-more dig [] body more tag account all after change role more_is spells taken kept = absurd (cc role)
-kept-more dig (first ∷ rest) body more tag account all after change role more_is spells taken kept =
-    let who = who_is (first ∷ rest) in
+kept-more dig records body more tag account all after change role more_is spells taken kept =
+    let who = who_is records in
+    let read = note-from who.tag (note_in dig who.tag body) change spells in
+    let adds = note-adds dig records role body read.0 read.1 in
     subst (λ (r : List (List ℕ)). IsKept dig r tag account after) (sym more_is) (record {
-      is_tag = kept.is_tag;
-      is_account = kept.is_account;
+      is_tag = kept.is_tag ∙ ap (λ (w : WatcherIdentity). w.tag) (sym adds.0);
+      is_account = kept.is_account ∙ ap (λ (w : WatcherIdentity). w.account) (sym adds.0);
       are_all =
           taken ∙ ap (changed change) kept.are_all
-          ∙ ap (λ (c : Option Change). changed_by c (watched_in who.tag (notes_of dig (first ∷ rest)))) spells
-          ∙ sym (watched-next dig who.tag rest body);
+          ∙ ap (λ (c : Change). changed c (watched_in who.tag (notes_of dig records))) read.2
+          ∙ sym (watched_in-more who.tag read.0 (notes_of dig records))
+          ∙ ap (watched_in who.tag) (sym adds.1)
+          ∙ ap (λ (w : WatcherIdentity). watched_in w.tag (notes_of dig (records ++ body ∷ []))) (sym adds.0);
     })
 
 -- a record that spells a change may follow
@@ -74,19 +83,6 @@ pub change-follows : (dig : List ℕ → List ℕ) (records : List (List ℕ)) (
     → are_of (watcher_kinds dig) records ≡ true
     → Some change ≡ option_map (change_of (who_is records).tag) (note_in dig (who_is records).tag body)
     → may_follow (watcher_kinds dig) records body ≡ true
-unfolding who_is
-change-follows dig [] body change role spells = absurd (cc role)
-change-follows dig (first ∷ rest) body change role spells =
-    let some : is_some (note_in dig (who_is (first ∷ rest)).tag body) ≡ true =
-    some-from (who_is (first ∷ rest)).tag (note_in dig (who_is (first ∷ rest)).tag body) change spells in
-    ap (λ (t : List ℕ). is_some (note_in dig t body)) (tag-first (identity_in first)) ∙ some
-  where
-    tag-first : (found : Option WatcherIdentity)
-        → option_map_or (λ who. who.tag) found [] ≡ (option_map_or (λ who. who) found nobody).tag
-    tag-first None = refl
-    tag-first (Some who) = refl
-
-    some-from : (tag : List ℕ) (note : Option Note) (change : Change) → Some change ≡ option_map (change_of tag) note
-        → is_some note ≡ true
-    some-from tag None change is = absurd (cc is)
-    some-from tag (Some note) change is = refl
+change-follows dig records body change role spells =
+    let read = note-from (who_is records).tag (note_in dig (who_is records).tag body) change spells in
+    (note-keeps dig records role body read.0 read.1).0

@@ -1,6 +1,5 @@
 pub mod Order
-pub mod Shown
 pub mod Steps
 pub mod Dues
 pub mod Kept
-pub mod Spelled
+pub mod Notes

@@ -1,13 +1,14 @@
 -- What a note makes of the guards.
 use Rattle.std.proofs.Common.{◌≡◌, ◌<◌, ◌+◌, ◌||◌, not, ℕ, Bool, true, false, List, [], ◌∷◌, ◌++◌, length, take, get_or, map, filter, reverse, Option, None, Some, refl, sym, ◌∙◌, ap, subst, inl, inr}
 use Rattle.std.proofs.lemmas.Bool.{cases_Bool}
-use Rattle.std.specs.List.{list_any, filter_map}
-use Rattle.std.specs.Option.{option_map, option_to_list}
-use Rattle.std.proofs.lemmas.List.{map-append, append-nil, reverse-append, take_more}
-use Rattle.std.proofs.lemmas.List.Elements.{filter_map-append}
+use Rattle.std.specs.List.{list_any, filter_map, cons_option}
+use Rattle.std.specs.Option.{option_map}
+use Rattle.std.proofs.lemmas.List.{map-append, take_more}
 use Rattle.coin_history.specs.declared.bundle.Bundle.{Bundle}
 use Rattle.node_rules.specs.Watcher.{Note, Guarded, Released, is_of, is_before, with_guard, note_in, guards_of}
-use Rattle.watcher_node.specs.Inside.{watched_of, change_of, is_watched_at, comes_before, AreInOrder, with_watched, changed, changed_by, watched_in}
+use Rattle.node_rules.proofs.OneMore.{reverse-grow}
+use Rattle.watcher_node.specs.Inside.{change_of, is_watched_at, comes_before, AreInOrder, with_watched, changed, changed_by, watched_in}
+use Rattle.kept_coins.specs.KeptCoins.{kept_coin_of}
 use Rattle.watcher_node.proofs.Order.{changed-order}
 
 filter-map : {X Y : Type 0} (f : X → Y) (p : Y → Bool) (xs : List X)
@@ -19,25 +20,26 @@ filter-map {X} {Y} f p (x ∷ xs) = elim (cases_Bool (p (f x))) [
 ]
 
 pub any-map : (tag : List ℕ) (coin tip : ℕ) (guards : List Bundle)
-    → list_any (is_watched_at coin tip) (map (watched_of tag) guards) ≡ list_any (is_of coin tip) guards
+    → list_any (is_watched_at coin tip) (map (kept_coin_of tag) guards) ≡ list_any (is_of coin tip) guards
 any-map tag coin tip [] = refl
 any-map tag coin tip (kept ∷ guards) = ap (λ (b : Bool). is_of coin tip kept || b) (any-map tag coin tip guards)
 
 with-map : (tag : List ℕ) (kept : Bundle) (guards : List Bundle)
-    → with_watched (watched_of tag kept) (map (watched_of tag) guards) ≡ map (watched_of tag) (with_guard kept guards)
+    → with_watched (kept_coin_of tag kept) (map (kept_coin_of tag) guards)
+    ≡ map (kept_coin_of tag) (with_guard kept guards)
 with-map tag kept guards = at (list_any (is_of kept.coin kept.tip) guards) refl
   where
     at : (b : Bool) → list_any (is_of kept.coin kept.tip) guards ≡ b
-        → with_watched (watched_of tag kept) (map (watched_of tag) guards)
-        ≡ map (watched_of tag) (with_guard kept guards)
+        → with_watched (kept_coin_of tag kept) (map (kept_coin_of tag) guards)
+        ≡ map (kept_coin_of tag) (with_guard kept guards)
     at true is = rw (any-map tag kept.coin kept.tip guards, is) refl
     at false is =
         rw (any-map tag kept.coin kept.tip guards, is)
         (rw (
-          filter-map (watched_of tag) (λ other. comes_before other (watched_of tag kept)) guards,
-          filter-map (watched_of tag) (λ other. not (comes_before other (watched_of tag kept))) guards,
+          filter-map (kept_coin_of tag) (λ other. comes_before other (kept_coin_of tag kept)) guards,
+          filter-map (kept_coin_of tag) (λ other. not (comes_before other (kept_coin_of tag kept))) guards,
         )
-        (sym (map-append (watched_of tag) (filter (λ other. is_before other kept) guards)
+        (sym (map-append (kept_coin_of tag) (filter (λ other. is_before other kept) guards)
         (kept ∷ filter (λ other. not (is_before other kept)) guards))))
 
 pub watched_in-more : (tag : List ℕ) (note : Note) (notes : List Note)
@@ -45,7 +47,7 @@ pub watched_in-more : (tag : List ℕ) (note : Note) (notes : List Note)
 unfolding guards_of
 watched_in-more tag (Guarded kept) notes = sym (with-map tag kept (guards_of notes))
 watched_in-more tag (Released coin tip) notes =
-    sym (filter-map (watched_of tag) (λ watched. not (is_watched_at coin tip watched)) (guards_of notes))
+    sym (filter-map (kept_coin_of tag) (λ watched. not (is_watched_at coin tip watched)) (guards_of notes))
 
 pub watched_in-none : (tag : List ℕ) → watched_in tag [] ≡ []
 unfolding guards_of
@@ -62,30 +64,10 @@ pub watched-start : (dig : List ℕ → List ℕ) (tag : List ℕ)
     → [] ≡ watched_in tag (reverse (filter_map (note_in dig tag) []))
 watched-start dig tag = sym (watched_in-none tag)
 
-notes-end : (tag : List ℕ) (front : List Note) (note : Option Note)
-    → watched_in tag (reverse (front ++ option_to_list note))
-    ≡ changed_by (option_map (change_of tag) note) (watched_in tag (reverse front))
-notes-end tag front None = ap (λ (l : List Note). watched_in tag (reverse l)) (append-nil front)
-notes-end tag front (Some note) =
-    ap (watched_in tag) (reverse-append front (note ∷ [])) ∙ watched_in-more tag note (reverse front)
-
-single : (f : List ℕ → Option Note) (body : List ℕ) → filter_map f (body ∷ []) ≡ option_to_list (f body)
-single f body = at (f body) refl
-  where
-    at : (note : Option Note) → f body ≡ note → filter_map f (body ∷ []) ≡ option_to_list (f body)
-    at None is = rw is refl
-    at (Some note) is = rw is refl
-
--- one more record behind notes
-pub watched-next : (dig : List ℕ → List ℕ) (tag : List ℕ) (bodies : List (List ℕ)) (body : List ℕ)
-    → watched_in tag (reverse (filter_map (note_in dig tag) (bodies ++ body ∷ [])))
-    ≡ changed_by (option_map (change_of tag) (note_in dig tag body))
-    (watched_in tag (reverse (filter_map (note_in dig tag) bodies)))
-watched-next dig tag bodies body =
-    ap (λ (l : List Note). watched_in tag (reverse l))
-    (filter_map-append (note_in dig tag) bodies (body ∷ [])
-    ∙ ap (λ (l : List Note). filter_map (note_in dig tag) bodies ++ l) (single (note_in dig tag) body))
-    ∙ notes-end tag (filter_map (note_in dig tag) bodies) (note_in dig tag body)
+read-more : (tag : List ℕ) (note : Option Note) (notes : List Note)
+    → watched_in tag (cons_option note notes) ≡ changed_by (option_map (change_of tag) note) (watched_in tag notes)
+read-more tag None notes = refl
+read-more tag (Some note) notes = watched_in-more tag note notes
 
 pub watched-take : (dig : List ℕ → List ℕ) (tag : List ℕ) (bodies : List (List ℕ)) (i : ℕ) (body : List ℕ)
     → i < length bodies → body ≡ get_or bodies i body
@@ -95,4 +77,5 @@ pub watched-take : (dig : List ℕ → List ℕ) (tag : List ℕ) (bodies : List
 watched-take dig tag bodies i body less is =
     ap (λ (l : List (List ℕ)). watched_in tag (reverse (filter_map (note_in dig tag) l)))
     (take_more bodies i body less ∙ ap (λ (b : List ℕ). take i bodies ++ b ∷ []) (sym is))
-    ∙ watched-next dig tag (take i bodies) body
+    ∙ ap (watched_in tag) (reverse-grow (note_in dig tag) (take i bodies) body)
+    ∙ read-more tag (note_in dig tag body) (reverse (filter_map (note_in dig tag) (take i bodies)))

@@ -1,88 +1,64 @@
 -- What a watcher keeps in memory of the coins that it guards.
-use Rattle.std.specs.Prelude.{◌≡◌, ◌<◌, ◌^◌, ℕ, length, ◌==◌, ◌&&◌, ◌||◌, not, Bool, true, nat_lt, if◌then◌else◌, List, [], ◌∷◌, ◌++◌, map, filter, Option, None, Some}
-use Rattle.std.specs.List.{All, list_any, list_all}
-use Rattle.std.specs.Option.{option_map_or}
-use Rattle.plasma_tx.specs.declared.call.RootCall.{RootCall}
-use Rattle.plasma_tx.specs.Views.{coin_at}
-use Rattle.coin_history.specs.declared.bundle.Bundle.{Bundle}
+use Rattle.std.specs.Prelude.{◌≡◌, ℕ, ◌==◌, ◌&&◌, ◌||◌, not, Bool, true, nat_lt, if◌then◌else◌, List, [], ◌∷◌, ◌++◌, map, filter, Option, None, Some}
+use Rattle.std.specs.List.{list_any, list_all}
 use Rattle.coin_history.specs.declared.refusal.HistoryRefusal.{HistoryRefusal}
 use Rattle.coin_history.specs.declared.refusal.HistoryRefusal.TheVariants.{NoMemory as HistoryMemory}
-use Rattle.coin_history.specs.Bundles.{AreRising}
-use Rattle.coin_history.specs.History.{links_in}
-use Rattle.watch_duty.specs.Duty.{guard_of, due_of}
-use Rattle.node_rules.specs.Kept.{chain_of}
 use Rattle.node_rules.specs.Watcher.{Note, Guarded, Released, who_is, notes_of, guards_of}
 use Rattle.node_rules.specs.declared.refusal.WatcherRefusal.{WatcherRefusal}
 use Rattle.node_rules.specs.declared.refusal.WatcherRefusal.TheVariants.{History, NoMemory}
-use Rattle.watcher_node.specs.declared.watched.Watched.{Watched}
+use Rattle.kept_coins.specs.declared.kept_coin.KeptCoin.{KeptCoin}
+use Rattle.kept_coins.specs.KeptCoins.{kept_coin_of}
 use Rattle.watcher_node.specs.declared.watched.Change.{Change}
 use Rattle.watcher_node.specs.declared.watched.Change.TheVariants.{Guards, Releases}
 
--- a kept coin as it stands in memory: its coin, its tip and the links that its openings show
-abbrev pub watched_of : List ℕ → Bundle → Watched
-watched_of tag kept =
-    record { coin = kept.coin; tip = kept.tip; spends = links_in (chain_of tag) kept.coin kept.openings }
-
 -- a note as it is read
 abbrev pub change_of : List ℕ → Note → Change
-change_of tag (Guarded kept) = Guards (watched_of tag kept)
+change_of tag (Guarded kept) = Guards (kept_coin_of tag kept)
 change_of tag (Released coin tip) = Releases coin tip
 
 -- it is of this coin with this tip
-abbrev pub is_watched_at : ℕ → ℕ → Watched → Bool
+abbrev pub is_watched_at : ℕ → ℕ → KeptCoin → Bool
 is_watched_at coin tip watched = (watched.coin == coin) && (watched.tip == tip)
 
 -- coin and tip come before those of another
-abbrev pub comes_before : Watched → Watched → Bool
+abbrev pub comes_before : KeptCoin → KeptCoin → Bool
 comes_before watched other =
     nat_lt watched.coin other.coin || (watched.coin == other.coin) && nat_lt watched.tip other.tip
 
 -- they stand in the order of coins and tips
-abbrev pub AreInOrder : List Watched → Type 0
+abbrev pub AreInOrder : List KeptCoin → Type 0
 AreInOrder [] = Unit {0}
 AreInOrder (watched ∷ all) = (list_all (comes_before watched) all ≡ true) × AreInOrder all
 
 -- one more at its place, where there is none of this coin and tip
-abbrev pub with_watched : Watched → List Watched → List Watched
+abbrev pub with_watched : KeptCoin → List KeptCoin → List KeptCoin
 with_watched watched all =
     if list_any (is_watched_at watched.coin watched.tip) all then all
     else filter (λ other. comes_before other watched) all
     ++ watched ∷ filter (λ other. not (comes_before other watched)) all
 
 -- what a change leaves
-abbrev pub changed : Change → List Watched → List Watched
+abbrev pub changed : Change → List KeptCoin → List KeptCoin
 changed (Guards watched) all = with_watched watched all
 changed (Releases coin tip) all = filter (λ watched. not (is_watched_at coin tip watched)) all
 
 -- what a record leaves that spells a change, or none
-abbrev pub changed_by : Option Change → List Watched → List Watched
+abbrev pub changed_by : Option Change → List KeptCoin → List KeptCoin
 changed_by None all = all
 changed_by (Some change) all = changed change all
 
 -- what notes leave, the newest first
-abbrev pub watched_in : List ℕ → List Note → List Watched
-watched_in tag notes = map (watched_of tag) (guards_of notes)
+abbrev pub watched_in : List ℕ → List Note → List KeptCoin
+watched_in tag notes = map (kept_coin_of tag) (guards_of notes)
 
 -- what a watcher keeps in memory beside its records
-pub record IsKept (dig : List ℕ → List ℕ) (records : List (List ℕ)) (tag : List ℕ) (account : ℕ) (all : List Watched)
+pub record IsKept (dig : List ℕ → List ℕ) (records : List (List ℕ)) (tag : List ℕ) (account : ℕ) (all : List KeptCoin)
     : Type 0 where
   pub is_tag : tag ≡ (who_is records).tag
   pub is_account : account ≡ (who_is records).account
   pub are_all : all ≡ watched_in (who_is records).tag (notes_of dig records)
 
--- what is due for one of them; nothing where the log doesn't have the coin
-abbrev pub due_for_watched : List RootCall → ℕ → Watched → List RootCall
-due_for_watched log account watched =
-    option_map_or (λ made. due_of log account (guard_of watched.coin made.deposit watched.spends))
-    (coin_at log watched.coin) []
-
 -- why a node refuses a history: want of memory is the node's own
 abbrev pub history_refusal : HistoryRefusal → WatcherRefusal
 history_refusal HistoryMemory = NoMemory
 history_refusal why = History why
-
--- a bundle that has bytes
-pub record CanBeSpelled (bundle : Bundle) : Type 0 where
-  pub rising : AreRising bundle.openings
-  pub count : length bundle.openings < 2 ^ 32
-  pub lengths : All (λ opening. length opening.bytes < 2 ^ 32) bundle.openings

@@ -7,17 +7,19 @@ ghost use Rattle.node_journal.specs.Notes.{Did, stopped_by};
 ghost use Rattle.node_rules.specs.Kept.{kept_of, links_handed};
 ghost use Rattle.node_rules.specs.Watcher.{Note, Released, note_text, who_is, note_in, is_of, guards_in, guard_causes, guard_taken, guard_by, guard_effect, release_effect};
 ghost use Rattle.watcher_node.specs.State.{stop_in, watcher_stop};
-ghost use Rattle.watcher_node.specs.Inside.{change_of, CanBeSpelled, history_refusal};
+ghost use Rattle.watcher_node.specs.Inside.{change_of, history_refusal};
+ghost use Rattle.kept_coins.specs.KeptCoins.{IsShown};
+ghost use Rattle.coin_history.specs.Bundles.{IsBundle};
 
-use super::bundles::{kept_note, links_handed, released_note};
+use super::bundles::{guarded_note, released_note};
 use super::node::WatcherNode;
-use super::records::read_note;
 use super::watched::{Change, apply, has_guard};
 use coin_history::HistoryRefusal;
 use crash_disk::Disk;
+use kept_coins::{KeptCoin, links_handed};
 use node_journal::Stop;
 use node_rules::{Accepted, WatcherRefusal};
-use plasma_base::{Bytes, Hash32, NoMemory};
+use plasma_base::{Bytes, Hash32};
 use plasma_tx::{Links, RootLog};
 
 // What stopped a note, as a refusal.
@@ -84,32 +86,6 @@ impl<D: Disk, H: Hash32 + Copy> WatcherNode<D, H> {
         }
     }
 
-    // Adds a note, and takes over what it changes. One that spells no change isn't added, as where memory
-    // runs out: neither command has such a note.
-    fn add_note(&mut self, body: Bytes) -> Result<(), Stop>
-        requires { length body ≤ most }
-        ensures did { Did D.told D.plan D.faults (Some body) self.old.notes (stopped_by result) self.new.notes }
-        ensures hash { self.new.hash ≡ self.old.hash }
-    {
-        if self.notes.is_closed() {
-            return Err(Stop::Closed);
-        }
-        let change = self.change_in(body.as_slice())?;
-        self.take_note(body, change)
-    }
-
-    // The change that a body spells.
-    fn change_in(&self, body: &[u8]) -> Result<Change, NoMemory>
-        ensures { IfOk result (λ change. Some change
-            ≡ option_map (change_of (who_is self.now.notes.records).tag)
-            (note_in (H.digest_of self.now.hash) (who_is self.now.notes.records).tag body.now)) }
-    {
-        match read_note(self.alloc, &self.hash, &self.tag, body)? {
-            Some(change) => Ok(change),
-            None => Err(NoMemory),
-        }
-    }
-
     // Whether the coin is guarded at this tip.
     fn has(&self, coin: u64, tip: u64) -> bool
         ensures { result ≡ list_any (is_of coin tip) (guards_in (H.digest_of self.now.hash) self.now.notes.records) }
@@ -118,47 +94,49 @@ impl<D: Disk, H: Hash32 + Copy> WatcherNode<D, H> {
     }
 
     // What a history does that nothing refuses, whose note this is.
-    fn take_guard(&mut self, links: &Links, body: Bytes) -> Result<Accepted, WatcherRefusal>
+    fn take_guard(&mut self, links: Links, body: Bytes) -> Result<Accepted, WatcherRefusal>
         requires open { self.old.notes.closed ≡ false }
         requires fits { length body ≤ most }
-        requires note { body ≡ note_text (Note.Guarded (kept_of links.now)) }
+        requires note { body ≡ note_text (Note.Guarded (kept_of links)) }
+        requires read { IsShown (H.digest_of self.old.hash) (who_is self.old.notes.records).tag links }
         ensures answer { watcher_stop result ≡ None → result
-            ≡ (guard_taken (guards_in (H.digest_of self.old.hash) self.old.notes.records) links.now).answer }
+            ≡ (guard_taken (guards_in (H.digest_of self.old.hash) self.old.notes.records) links).answer }
         ensures did { Did D.told D.plan D.faults
-            (guard_taken (guards_in (H.digest_of self.old.hash) self.old.notes.records) links.now).note
+            (guard_taken (guards_in (H.digest_of self.old.hash) self.old.notes.records) links).note
             self.old.notes (watcher_stop result) self.new.notes }
         ensures hash { self.new.hash ≡ self.old.hash }
     {
         let tip = links.tip();
-        let accepted = Accepted {
-            coin: links.coin,
-            tip,
-        };
-        if self.has(links.coin, tip) {
+        let coin = links.coin;
+        let accepted = Accepted { coin, tip };
+        if self.has(coin, tip) {
             return Ok(accepted);
         }
-        match self.add_note(body) {
+        let Links { spends, .. } = links;
+        let watched = KeptCoin { coin, tip, spends };
+        match self.take_note(body, Change::Guards { watched }) {
             Ok(()) => Ok(accepted),
             Err(stop) => Err(stop_refusal(stop)),
         }
     }
 
     // What a history does.
-    fn guard_links(&mut self, log: &RootLog, links: &Links) -> Result<Accepted, WatcherRefusal>
+    fn guard_links(&mut self, log: &RootLog, links: Links) -> Result<Accepted, WatcherRefusal>
         requires open { self.old.notes.closed ≡ false }
-        requires spelled { CanBeSpelled (kept_of links.now) }
+        requires spelled { IsBundle (kept_of links) }
+        requires read { IsShown (H.digest_of self.old.hash) (who_is self.old.notes.records).tag links }
         ensures answer { watcher_stop result ≡ None → result ≡ (guard_by log.now.log
-            (guards_in (H.digest_of self.old.hash) self.old.notes.records) (Ok links.now)).answer }
+            (guards_in (H.digest_of self.old.hash) self.old.notes.records) (Ok links)).answer }
         ensures did { Did D.told D.plan D.faults (guard_by log.now.log
-            (guards_in (H.digest_of self.old.hash) self.old.notes.records) (Ok links.now)).note
+            (guards_in (H.digest_of self.old.hash) self.old.notes.records) (Ok links)).note
             self.old.notes (watcher_stop result) self.new.notes }
         ensures hash { self.new.hash ≡ self.old.hash }
     {
-        let body = match kept_note(self.alloc, links) {
+        let body = match guarded_note(self.alloc, &links) {
             Ok(body) => body,
             Err(_) => return Err(WatcherRefusal::NoMemory),
         };
-        match guard_refusal(log, links, body.len()) {
+        match guard_refusal(log, &links, body.len()) {
             Some(why) => Err(why),
             None => self.take_guard(links, body),
         }
@@ -183,7 +161,7 @@ impl<D: Disk, H: Hash32 + Copy> WatcherNode<D, H> {
             return Err(WatcherRefusal::Closed);
         }
         match links_handed(self.alloc, &self.hash, &self.tag, log, bundle) {
-            Ok(links) => self.guard_links(log, &links),
+            Ok(links) => self.guard_links(log, links),
             Err(why) => Err(history_refusal(why)),
         }
     }
@@ -211,7 +189,7 @@ impl<D: Disk, H: Hash32 + Copy> WatcherNode<D, H> {
             Ok(body) => body,
             Err(_) => return Err(WatcherRefusal::NoMemory),
         };
-        match self.add_note(body) {
+        match self.take_note(body, Change::Releases { coin, tip }) {
             Ok(()) => Ok(()),
             Err(stop) => Err(stop_refusal(stop)),
         }

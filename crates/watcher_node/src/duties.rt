@@ -1,53 +1,27 @@
 ghost use Rattle.std.specs.Prelude.{◌≡◌, ◌++◌, IfOk, OnOk, OnErr};
 ghost use Rattle.std.specs.List.{flat_map};
 ghost use Rattle.node_rules.specs.Watcher.{watch_answer};
-ghost use Rattle.watcher_node.specs.Inside.{due_for_watched};
+ghost use Rattle.kept_coins.specs.KeptCoins.{due_for_coin};
 
 use super::node::WatcherNode;
-use super::watched::Watched;
 use crash_disk::Disk;
+use kept_coins::{KeptCoin, push_due_for};
 use plasma_base::{Hash32, NoMemory};
 use plasma_tx::{RootCall, RootLog};
 use std::alloc::Global;
-use watch_duty::push_due;
-
-// Adds what is due for a guard; nothing where the log doesn't have its coin.
-fn push_for(
-    alloc: Global,
-    log: &RootLog,
-    account: u64,
-    watched: &Watched,
-    calls: &mut Vec<RootCall>,
-) -> Result<(), NoMemory>
-    ensures { OnOk result (calls.new.items ≡ calls.old.items ++ due_for_watched log.now.log account watched.now) }
-{
-    let coin = watched.coin;
-    match log.coin(coin) {
-        Some(made) => push_due(
-            alloc,
-            log,
-            account,
-            coin,
-            made.deposit,
-            watched.spends.as_slice(),
-            calls,
-        ),
-        None => Ok(()),
-    }
-}
 
 // What is due for guards, in their order.
 fn due_calls(
     alloc: Global,
     log: &RootLog,
     account: u64,
-    guards: &[Watched],
+    guards: &[KeptCoin],
 ) -> Result<Vec<RootCall>, NoMemory>
-    ensures { IfOk result (λ calls. calls.items ≡ flat_map (due_for_watched log.now.log account) guards.now) }
+    ensures { IfOk result (λ calls. calls.items ≡ flat_map (due_for_coin log.now.log account) guards.now) }
 {
     let mut calls = Vec::new(alloc);
     for watched in guards {
-        push_for(alloc, log, account, watched, &mut calls)?;
+        push_due_for(alloc, log, account, watched, &mut calls)?;
     }
     Ok(calls)
 }

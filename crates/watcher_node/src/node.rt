@@ -9,9 +9,9 @@ ghost use Rattle.node_rules.specs.Watcher.{watcher_kinds, who_is};
 
 use super::records::{InMemory, in_memory};
 use super::role::WatcherRole;
-use super::watched::Watched;
 use crash_disk::Disk;
 use gate_journal::{JournalRefusal, Returned};
+use kept_coins::KeptCoin;
 use node_journal::Notes;
 use plasma_base::{Hash32, Sha};
 use std::alloc::Global;
@@ -26,7 +26,7 @@ pub struct WatcherNode<D: Disk, H: Hash32 + Copy> {
     pub(crate) notes: Notes<D, WatcherRole<H>>,
     pub(crate) tag: [u8; 32],
     pub(crate) account: u64,
-    pub(crate) guards: Vec<Watched>,
+    pub(crate) guards: Vec<KeptCoin>,
 }
 
 impl<D: Disk, H: Hash32 + Copy> Model for WatcherNode<D, H> {

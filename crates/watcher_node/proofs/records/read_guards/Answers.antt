@@ -2,7 +2,7 @@ use Rattle.std.proofs.Common.{List, ℕ, take, reverse, Option, sym, ◌∙◌, 
 use Rattle.std.specs.List.{filter_map}
 use Rattle.std.specs.Option.{option_map}
 use Rattle.node_rules.specs.Watcher.{note_in}
-use Rattle.watcher_node.specs.declared.watched.Watched.{Watched}
+use Rattle.kept_coins.specs.declared.kept_coin.KeptCoin.{KeptCoin}
 use Rattle.watcher_node.specs.declared.watched.Change.{Change}
 use Rattle.watcher_node.specs.Inside.{AreInOrder, change_of, changed_by, watched_in}
 use Rattle.watcher_node.proofs.Steps.{watched-start, watched-take, watched_in-order}
@@ -22,7 +22,7 @@ pub loop-note-preserved : goal.loop-note-preserved
 loop-note-preserved g c =
     let dig = g.H.Hash32.digest_of c.args.h.now in
     let tag = c.args.tag.now in
-    let before : List Watched =
+    let before : List KeptCoin =
     watched_in tag (reverse (filter_map (note_in dig tag) (take c.loop-note.note-index c.args.notes.now))) in
     c.in_ok-take_over.ensures ∙ ap (changed_by c.in_ok-change.change) c.loop-note.invariant
     ∙ ap (λ (change : Option Change). changed_by change before)

@@ -1,12 +1,12 @@
 use Rattle.std.proofs.Common.{rules, ◌≤◌, ℕ, List, length, filter, sym, ◌∙◌, ap, arith}
 use Rattle.std.specs.List.{list_any}
-use Rattle.watcher_node.specs.declared.watched.Watched.{Watched}
+use Rattle.kept_coins.specs.declared.kept_coin.KeptCoin.{KeptCoin}
 use Rattle.watcher_node.specs.Inside.{is_watched_at, comes_before}
 use Rattle.watcher_node.proofs.Order.{place-within, put-is}
 use Rattle.watcher_node.proofs.watched.put_guard.Goals as goal
 
 -- how many come before one
-abbrev place_in : Watched → List Watched → ℕ
+abbrev place_in : KeptCoin → List KeptCoin → ℕ
 place_in watched all = length (filter (λ other. comes_before other watched) all)
 
 pub insert-requires : goal.insert-requires

@@ -1,0 +1,84 @@
+-- What the openings of a kept coin show.
+use Rattle.std.proofs.Common.{◌≡◌, ◌<◌, ◌+◌, ◌&&◌, ℕ, Bool, true, false, if◌then◌else◌, List, [], ◌∷◌, ◌++◌, length, take, get_or, Option, None, Some, Ok, is_ok, is_some, refl, sym, ◌∙◌, ap}
+use Rattle.std.specs.List.{list_all, filter_map}
+use Rattle.std.specs.Option.{option_map}
+use Rattle.std.proofs.lemmas.List.{take_more}
+use Rattle.std.proofs.lemmas.List.Folds.{list_all-append}
+use Rattle.std.proofs.lemmas.List.Elements.{filter_map-append}
+use Rattle.plasma_tx.specs.declared.opening.RawOpening.{RawOpening}
+use Rattle.plasma_tx.specs.declared.opening.Opening.{Opening}
+use Rattle.plasma_tx.specs.declared.links.Link.{Link}
+use Rattle.plasma_tx.specs.declared.signed_tx.SignedTx.{SignedTx}
+use Rattle.plasma_tx.specs.Openings.{opening_in}
+use Rattle.plasma_tx.specs.Transfer.{transfer_in}
+use Rattle.plasma_tx.proofs.OpeningTexts.{leaf-shown}
+use Rattle.coin_history.specs.History.{link_of, links_in, transfer_of}
+use Rattle.node_rules.specs.Kept.{chain_of, shows_link}
+
+and-true : (a b : Bool) → a ≡ true → b ≡ true → (a && b) ≡ true
+and-true true b one two = two
+and-true false b one two = absurd (cc one)
+
+-- the link of an opening, where it reads
+abbrev pub link_read : (List ℕ → List ℕ) → List ℕ → ℕ → RawOpening → Option Link
+link_read dig tag coin raw = if is_ok (opening_in dig raw) then link_of (chain_of tag) coin raw else None
+
+-- the link of a transfer
+abbrev pub linked : RawOpening → Option SignedTx → Option Link
+linked raw tx = option_map (λ tx. record { block = raw.block; tx = tx; opening = raw }) tx
+
+pub link-read : (dig : List ℕ → List ℕ) (tag : List ℕ) (coin : ℕ) (raw : RawOpening) (opening : Opening)
+    (leaf : List ℕ) (tx : Option SignedTx) → opening_in dig raw ≡ Ok opening → leaf ≡ opening.leaf
+    → tx ≡ transfer_in tag coin raw.block leaf → linked raw tx ≡ link_read dig tag coin raw
+link-read dig tag coin raw opening leaf tx reads is found =
+    let same : tx ≡ transfer_of (chain_of tag) coin raw =
+    found ∙ ap (transfer_in tag coin raw.block) (is ∙ sym (leaf-shown dig raw opening reads)) in
+    rw reads (ap (linked raw) same)
+
+-- ---- the openings in front
+
+pub record Shows (dig : List ℕ → List ℕ) (tag : List ℕ) (coin : ℕ) (openings : List RawOpening) (spends : List Link)
+    : Type 0 where
+  pub links : spends ≡ links_in (chain_of tag) coin openings
+  pub all : list_all (shows_link dig tag coin) openings ≡ true
+
+pub shows-none : (dig : List ℕ → List ℕ) (tag : List ℕ) (coin : ℕ) (spends : List Link) → spends ≡ []
+    → Shows dig tag coin [] spends
+unfolding links_in
+shows-none dig tag coin spends is = record { links = is; all = refl }
+
+some-is : (b : Bool) (found : Option Link) (link : Link) → Some link ≡ (if b then found else None)
+    → (b ≡ true) × (found ≡ Some link)
+some-is true found link is = (refl, sym is)
+some-is false found link is = absurd (cc is)
+
+is-some-from : (raw : RawOpening) (tx : Option SignedTx) (link : Link) → linked raw tx ≡ Some link → is_some tx ≡ true
+is-some-from raw None link is = absurd (cc is)
+is-some-from raw (Some tx) link is = refl
+
+pub shows-more : (dig : List ℕ → List ℕ) (tag : List ℕ) (coin : ℕ) (openings : List RawOpening) (i : ℕ)
+    (raw : RawOpening) (spends more : List Link) (link : Link) → i < length openings → raw ≡ get_or openings i raw
+    → Some link ≡ link_read dig tag coin raw → more ≡ spends ++ link ∷ []
+    → Shows dig tag coin (take i openings) spends → Shows dig tag coin (take (i + 1) openings) more
+unfolding links_in
+shows-more dig tag coin openings i raw spends more link less is found one shows =
+    let parts = some-is (is_ok (opening_in dig raw)) (link_of (chain_of tag) coin raw) link found in
+    let next : take (i + 1) openings ≡ take i openings ++ raw ∷ [] =
+    take_more openings i raw less ∙ ap (λ (o : RawOpening). take i openings ++ o ∷ []) (sym is) in
+    let single : link ∷ [] ≡ filter_map (link_of (chain_of tag) coin) (raw ∷ []) = rw parts.1 refl in
+    let here : shows_link dig tag coin raw ≡ true =
+    and-true (is_ok (opening_in dig raw)) (is_some (transfer_of (chain_of tag) coin raw)) parts.0
+    (is-some-from raw (transfer_of (chain_of tag) coin raw) link parts.1) in
+    record {
+      links =
+          one ∙ ap (λ (l : List Link). l ++ link ∷ []) shows.links
+          ∙ ap (λ (l : List Link). links_in (chain_of tag) coin (take i openings) ++ l) single
+          ∙ sym (filter_map-append (link_of (chain_of tag) coin) (take i openings) (raw ∷ []))
+          ∙ ap (links_in (chain_of tag) coin) (sym next);
+      all =
+          ap (list_all (shows_link dig tag coin)) next
+          ∙ list_all-append (shows_link dig tag coin) (take i openings) (raw ∷ [])
+          ∙ and-true (list_all (shows_link dig tag coin) (take i openings))
+          (list_all (shows_link dig tag coin) (raw ∷ []))
+          shows.all (and-true (shows_link dig tag coin raw) true here refl);
+    }

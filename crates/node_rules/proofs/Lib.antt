@@ -1,0 +1,13 @@
+pub mod KeptTexts
+pub mod OneMore
+pub mod NumberTexts
+pub mod WatcherTexts
+pub mod WatcherRole
+pub mod WalletTexts
+pub mod Bodies
+pub mod WalletGrow
+pub mod WalletTips
+pub mod WalletAdded
+pub mod WalletRole
+pub mod WalletDuty
+pub mod ExitTips

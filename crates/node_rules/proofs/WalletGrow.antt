@@ -1,0 +1,303 @@
+-- A wallet's records with one more.
+use Rattle.std.proofs.Common.{◌≡◌, ℕ, zero, suc, ◌&&◌, ◌||◌, cond, Bool, true, false, List, [], ◌∷◌, ◌++◌, length, map, drop, Option, Some, None, is_some, is_ok, Ok, Err, refl, sym, ap, ◌∙◌, subst, eqb, ltb}
+use Rattle.std.specs.Prelude.{Result, reverse, slice_get}
+use Rattle.std.specs.List.{filter_map, cons_option, list_all}
+use Rattle.std.specs.Option.{option_map_or}
+use Rattle.std.specs.Int.{w32, to_be_bytes}
+use Rattle.std.specs.Ordering.{nat_cmp}
+use Rattle.std.specs.BTreeSet.{insert_key}
+use Rattle.std.proofs.lemmas.Bool.{and_parts, and_from, false≢true}
+use Rattle.std.proofs.lemmas.List.{map-append, drop_at, reverse-append}
+use Rattle.std.proofs.lemmas.List.Folds.{list_all-append}
+use Rattle.lms_sign.specs.Types.{leaf_count}
+use Rattle.node_journal.specs.Role.{are_of, may_follow}
+use Rattle.node_journal.proofs.Roles.{notes_follow}
+use Rattle.leaf_journal.specs.Records.{binding_record, has_number, is_marked, is_marker, marker, messages_of, leaf_records_of, may_follow as may_follow_leaf, may_follow_of, with_number, MayBind}
+use Rattle.leaf_journal.proofs.Form.{all_same, one_more}
+use Rattle.leaf_journal.proofs.Binding.{binding-messages, marker-messages}
+use Rattle.plasma_tx.specs.declared.owner.Owner.{Owner}
+use Rattle.plasma_tx.specs.Spelling.{body_at_start}
+use Rattle.coin_history.specs.declared.bundle.Bundle.{Bundle}
+use Rattle.wallet_core.specs.declared.notes.LeafRecord.{LeafRecord}
+use Rattle.node_rules.specs.declared.identity.WalletIdentity.{WalletIdentity}
+use Rattle.node_rules.specs.WalletRecords.{identity_in, owner_of, Note, Accepts, LeavesWith, Reclaims, note_in, tag_in, wallet_kinds, no_one, who_is, notes_of, accepted_of, coin_tip, state_notes, is_body, leaves_in, may_reclaim, is_bound_note, are_bound_notes}
+use Rattle.node_rules.specs.Wallet.{WalletRecords, who, noted}
+use Rattle.node_rules.specs.WalletOpening.{leaves_of, are_leaves, are_bound, is_wallet, is_bound_record}
+use Rattle.node_rules.specs.WalletLaws.{AddsNote}
+use Rattle.node_rules.proofs.OneMore.{reverse-grow}
+
+-- ---- notes
+
+-- records begin with the identity that has their tag
+pub tag-same : (identity : List ℕ) (notes : List (List ℕ)) → (who_is (identity ∷ notes)).tag ≡ tag_in identity
+unfolding who_is
+tag-same identity notes =
+    elim (identity_in identity) as (λ o. (option_map_or (λ who. who) o no_one).tag
+    ≡ option_map_or (λ (who : WalletIdentity). who.tag) o []) [
+      | None ↦ refl
+      | Some who ↦ refl
+    ]
+
+-- it is the same behind each of them
+pub who-same : (identity : List ℕ) (notes more : List (List ℕ))
+    → who_is ((identity ∷ notes) ++ more) ≡ who_is (identity ∷ notes)
+unfolding who_is
+who-same identity notes more = refl
+
+-- the notes with one more record: that of the record, where it spells one, before them
+pub notes-grow : (dig : List ℕ → List ℕ) (identity : List ℕ) (notes : List (List ℕ)) (body : List ℕ)
+    → notes_of dig ((identity ∷ notes) ++ body ∷ [])
+    ≡ cons_option (note_in dig (who_is (identity ∷ notes)).tag body) (notes_of dig (identity ∷ notes))
+unfolding notes_of
+notes-grow dig identity notes body =
+    ap (λ (who : WalletIdentity). reverse (filter_map (note_in dig who.tag) (notes ++ body ∷ [])))
+    (who-same identity notes (body ∷ []))
+    ∙ reverse-grow (note_in dig (who_is (identity ∷ notes)).tag) notes body
+
+-- a record that spells a note may stand behind an identity, and is read as it
+module _ (dig : List ℕ → List ℕ) (records : List (List ℕ)) (role : are_of (wallet_kinds dig) records ≡ true)
+    (body : List ℕ) (note : Note) (is : note_in dig (who_is records).tag body ≡ Some note) where
+  follows-at : (all : List (List ℕ)) → are_of (wallet_kinds dig) all ≡ true
+      → note_in dig (who_is all).tag body ≡ Some note → may_follow (wallet_kinds dig) all body ≡ true
+  follows-at [] wrong spells = absurd (false≢true wrong)
+  follows-at (identity ∷ notes) right spells =
+      ap (λ (t : List ℕ). is_some (note_in dig t body)) (sym (tag-same identity notes))
+      ∙ ap (λ (o : Option Note). is_some o) spells
+
+  pub note-follows : may_follow (wallet_kinds dig) records body ≡ true
+  note-follows = follows-at records role is
+
+  pub note-keeps : are_of (wallet_kinds dig) (records ++ body ∷ []) ≡ true
+  note-keeps = notes_follow (wallet_kinds dig) records body role note-follows
+
+  adds-at : (all : List (List ℕ)) → are_of (wallet_kinds dig) all ≡ true
+      → note_in dig (who_is all).tag body ≡ Some note → AddsNote dig all note body
+  adds-at [] wrong spells = absurd (false≢true wrong)
+  adds-at (identity ∷ notes) right spells = (
+    who-same identity notes (body ∷ []),
+    notes-grow dig identity notes body
+        ∙ ap (λ (o : Option Note). cons_option o (notes_of dig (identity ∷ notes))) spells,
+  )
+
+  pub note-adds : AddsNote dig records note body
+  note-adds = adds-at records role is
+
+-- what notes say with one more
+pub state-accepts : (me : Owner) (kept : Bundle) (notes : List Note)
+    → state_notes me (Accepts kept ∷ notes)
+    ≡ record (state_notes me notes) { accepted = (state_notes me notes).accepted ++ coin_tip kept.coin kept.tip ∷ [] }
+unfolding state_notes
+state-accepts me kept notes = refl
+
+pub state-leaves : (me : Owner) (coin tip : ℕ) (notes : List Note)
+    → state_notes me (LeavesWith coin tip ∷ notes)
+    ≡ record (state_notes me notes) { leaving = (state_notes me notes).leaving ++ coin_tip coin tip ∷ [] }
+unfolding state_notes
+state-leaves me coin tip notes = refl
+
+pub state-reclaims : (me : Owner) (coin tip q : ℕ) (notes : List Note)
+    → state_notes me (Reclaims coin tip q ∷ notes)
+    ≡ record (state_notes me notes) { reclaimed = insert_key nat_cmp (state_notes me notes).reclaimed q }
+unfolding state_notes
+state-reclaims me coin tip q notes = refl
+
+pub accepted-accepts : (kept : Bundle) (notes : List Note)
+    → accepted_of (Accepts kept ∷ notes) ≡ accepted_of notes ++ kept ∷ []
+unfolding accepted_of
+accepted-accepts kept notes = refl
+
+pub accepted-leaves : (coin tip : ℕ) (notes : List Note)
+    → accepted_of (LeavesWith coin tip ∷ notes) ≡ accepted_of notes
+unfolding accepted_of
+accepted-leaves coin tip notes = refl
+
+pub accepted-reclaims : (coin tip q : ℕ) (notes : List Note)
+    → accepted_of (Reclaims coin tip q ∷ notes) ≡ accepted_of notes
+unfolding accepted_of
+accepted-reclaims coin tip q notes = refl
+
+-- the same of all records
+pub noted-grow : (dig : List ℕ → List ℕ) (wallet : WalletRecords) (body : List ℕ) (note : Note)
+    → AddsNote dig wallet.notes note body
+    → noted dig (record wallet { notes = wallet.notes ++ body ∷ [] })
+    ≡ state_notes (owner_of (who wallet)) (note ∷ notes_of dig wallet.notes)
+noted-grow dig wallet body note adds = λ i. state_notes (owner_of (adds.0 i)) (adds.1 i)
+
+-- ---- leaves
+
+-- the leaves with one more record that binds a message, and with the marker
+pub leaves-grow : (leaves : List (List ℕ)) (message : List ℕ) → MayBind leaves message
+    → leaves_in (leaves ++ binding_record leaves message ∷ [])
+    ≡ leaves_in leaves ++ record { body = body_at_start message } ∷ []
+leaves-grow leaves message may =
+    let read : List ℕ → LeafRecord = λ m. record { body = body_at_start m } in
+    ap (map read) (binding-messages leaves message may) ∙ map-append read (messages_of leaves) (message ∷ [])
+
+pub leaves-marked : (leaves : List (List ℕ)) → is_marked leaves ≡ false
+    → leaves_in (leaves ++ marker ∷ []) ≡ leaves_in leaves
+leaves-marked leaves not_marked =
+    ap (map (λ message. record { body = body_at_start message })) (marker-messages leaves not_marked)
+
+-- what is in a list is in a longer one
+get-more : {X : Type 0} (xs more : List X) (i : ℕ) (x : X) → slice_get xs i ≡ Some x
+    → slice_get (xs ++ more) i ≡ Some x
+get-more [] more i x is = absurd (cc is)
+get-more (y ∷ ys) more zero x is = is
+get-more (y ∷ ys) more (suc i) x is = get-more ys more i x is
+
+bound-note : (leaves more : List LeafRecord) (note : Note) → is_bound_note leaves note ≡ true
+    → is_bound_note (leaves ++ more) note ≡ true
+bound-note leaves more (Accepts kept) is = refl
+bound-note leaves more (LeavesWith coin tip) is = refl
+bound-note leaves more (Reclaims coin tip q) is =
+    (elim (slice_get leaves q) as (λ o. slice_get leaves q ≡ o → option_map_or (may_reclaim coin tip) o false ≡ true
+    → option_map_or (may_reclaim coin tip) (slice_get (leaves ++ more) q) false ≡ true) [
+      | None ↦ λ none wrong. absurd (false≢true wrong)
+      | Some leaf ↦ λ some may.
+          ap (λ (o : Option LeafRecord). option_map_or (may_reclaim coin tip) o false)
+          (get-more leaves more q leaf some) ∙ may
+    ]) refl is
+
+-- notes stay bound as leaves grow
+pub bound-grow : (leaves more : List LeafRecord) (notes : List Note) → are_bound_notes leaves notes ≡ true
+    → are_bound_notes (leaves ++ more) notes ≡ true
+bound-grow leaves more [] is = refl
+bound-grow leaves more (note ∷ notes) is =
+    let parts = and_parts (is_bound_note leaves note) (are_bound_notes leaves notes) is in
+    and_from (is_bound_note (leaves ++ more) note) (are_bound_notes (leaves ++ more) notes)
+    (bound-note leaves more note parts.0) (bound-grow leaves more notes parts.1)
+
+-- ---- notes that take leaves back, by their records
+
+list_all-reverse : {X : Type 0} (p : X → Bool) (xs : List X) → list_all p (reverse xs) ≡ list_all p xs
+list_all-reverse p [] = refl
+list_all-reverse p (x ∷ xs) =
+    ap (list_all p) (reverse-append (x ∷ []) xs) ∙ list_all-append p (reverse xs) (x ∷ [])
+    ∙ ap (λ (b : Bool). b && list_all p (x ∷ [])) (list_all-reverse p xs) ∙ turned (list_all p xs) (p x)
+  where
+    turned : (a b : Bool) → (a && (b && true)) ≡ (b && a)
+    turned true true = refl
+    turned true false = refl
+    turned false true = refl
+    turned false false = refl
+
+list_all-filter_map : {X Y : Type 0} (read : X → Option Y) (p : Y → Bool) (xs : List X)
+    → list_all p (filter_map read xs) ≡ list_all (λ x. option_map_or p (read x) true) xs
+list_all-filter_map read p [] = refl
+list_all-filter_map {X} {Y} read p (x ∷ xs) =
+    let rest = list_all-filter_map read p xs in
+    elim (read x) as (λ (o : Option Y). list_all p (cons_option o (filter_map read xs))
+    ≡ (option_map_or p o true && list_all (λ x. option_map_or p (read x) true) xs)) [
+      | None ↦ rest
+      | Some y ↦ ap (λ (b : Bool). p y && b) rest
+    ]
+
+-- the notes of records are bound where each record takes back no leaf, or one that may be
+pub bound-each : (dig : List ℕ → List ℕ) (leaves : List LeafRecord) (records : List (List ℕ))
+    → are_bound_notes leaves (notes_of dig records)
+    ≡ list_all (is_bound_record dig (who_is records).tag leaves) (drop 1 records)
+unfolding notes_of
+bound-each dig leaves records =
+    let read = note_in dig (who_is records).tag in
+    list_all-reverse (is_bound_note leaves) (filter_map read (drop 1 records))
+    ∙ list_all-filter_map read (is_bound_note leaves) (drop 1 records)
+
+-- ---- the wallet
+
+pub record AreWallet (dig : List ℕ → List ℕ) (wallet : WalletRecords) : Type 0 where
+  pub role : are_of (wallet_kinds dig) wallet.notes ≡ true
+  pub leaves : leaf_records_of is_body (leaves_of wallet.notes) wallet.leaves ≡ Ok wallet.leaves
+  pub bound : are_bound dig wallet ≡ true
+
+read-all : (leaves : ℕ) (records : List (List ℕ)) (read : Result (List (List ℕ)) ℕ)
+    → leaf_records_of is_body leaves records ≡ read → is_ok read ≡ true
+    → leaf_records_of is_body leaves records ≡ Ok records
+read-all leaves records (Err place) is wrong = absurd (cc wrong)
+read-all leaves records (Ok all) is ok =
+    is ∙ ap (λ (l : List (List ℕ)). Ok l) (sym (all_same is_body leaves records all is))
+
+pub wallet-parts : (dig : List ℕ → List ℕ) (wallet : WalletRecords) → is_wallet dig wallet ≡ true
+    → AreWallet dig wallet
+unfolding is_wallet
+wallet-parts dig wallet is =
+    let parts = and_parts (are_of (wallet_kinds dig) wallet.notes && are_leaves wallet) (are_bound dig wallet) is in
+    let front = and_parts (are_of (wallet_kinds dig) wallet.notes) (are_leaves wallet) parts.0 in
+    record {
+      role = front.0;
+      leaves = read-all (leaves_of wallet.notes) wallet.leaves
+          (leaf_records_of is_body (leaves_of wallet.notes) wallet.leaves) refl front.1;
+      bound = parts.1;
+    }
+
+pub wallet-from : (dig : List ℕ → List ℕ) (wallet : WalletRecords) → AreWallet dig wallet
+    → is_wallet dig wallet ≡ true
+unfolding is_wallet
+wallet-from dig wallet are =
+    and_from (are_of (wallet_kinds dig) wallet.notes && are_leaves wallet) (are_bound dig wallet)
+    (and_from (are_of (wallet_kinds dig) wallet.notes) (are_leaves wallet) are.role
+    (ap (λ (r : Result (List (List ℕ)) ℕ). is_ok r) are.leaves))
+    are.bound
+
+-- one more note of leaves that may be taken back
+pub wallet-noted : (dig : List ℕ → List ℕ) (wallet : WalletRecords) (body : List ℕ) (note : Note)
+    → is_wallet dig wallet ≡ true → note_in dig (who wallet).tag body ≡ Some note
+    → is_bound_note (leaves_in wallet.leaves) note ≡ true
+    → is_wallet dig (record wallet { notes = wallet.notes ++ body ∷ [] }) ≡ true
+wallet-noted dig wallet body note is reads binds =
+    let are = wallet-parts dig wallet is in
+    let adds = note-adds dig wallet.notes are.role body note reads in
+    wallet-from dig (record wallet { notes = wallet.notes ++ body ∷ [] }) (record {
+      role = note-keeps dig wallet.notes are.role body note reads;
+      leaves =
+          subst (λ (w : WalletIdentity). leaf_records_of is_body (leaf_count w.types) wallet.leaves ≡ Ok wallet.leaves)
+          (sym adds.0) are.leaves;
+      bound =
+          ap (are_bound_notes (leaves_in wallet.leaves)) adds.1
+          ∙ and_from (is_bound_note (leaves_in wallet.leaves) note) (are_bound dig wallet) binds are.bound;
+    })
+
+-- one more record of a leaf, which reads as it may
+pub wallet-bound : (dig : List ℕ → List ℕ) (wallet : WalletRecords) (body : List ℕ) (more : List LeafRecord)
+    → is_wallet dig wallet ≡ true → may_follow_of is_body (leaves_of wallet.notes) wallet.leaves body ≡ true
+    → leaves_in (wallet.leaves ++ body ∷ []) ≡ leaves_in wallet.leaves ++ more
+    → is_wallet dig (record wallet { leaves = wallet.leaves ++ body ∷ [] }) ≡ true
+wallet-bound dig wallet body more is may reads =
+    let are = wallet-parts dig wallet is in
+    wallet-from dig (record wallet { leaves = wallet.leaves ++ body ∷ [] }) (record {
+      role = are.role;
+      leaves = one_more is_body (leaves_of wallet.notes) wallet.leaves body are.leaves may;
+      bound =
+          ap (λ (l : List LeafRecord). are_bound_notes l (notes_of dig wallet.notes)) reads
+          ∙ bound-grow (leaves_in wallet.leaves) more (notes_of dig wallet.notes) are.bound;
+    })
+
+-- ---- a message of a kind
+
+joined : (marked behind mark front number leaf whole : Bool)
+    → cond marked (number && leaf) (mark || (whole && leaf)) ≡ true
+    → (marked ≡ true → behind ≡ true) → (marked ≡ false → front ≡ true)
+    → cond marked ((behind && number) && leaf) (mark || ((front && whole) && leaf)) ≡ true
+joined true behind mark front number leaf whole is second first = rw (second refl) is
+joined false behind true front number leaf whole is second first = refl
+joined false behind false front number leaf whole is second first = rw (first refl) is
+
+-- a record that may follow by the form may follow where its message passes a test
+pub kind-follows : (is_message : List ℕ → Bool) (leaves : ℕ) (before : List (List ℕ)) (message : List ℕ)
+    → may_follow_leaf leaves before (binding_record before message) ≡ true → is_message message ≡ true
+    → may_follow_of is_message leaves before (binding_record before message) ≡ true
+kind-follows is_message leaves before message may passes =
+    let body = binding_record before message in
+    joined (is_marked before) (is_message (drop 4 body)) (is_marker body) (is_message body)
+    (has_number (length (messages_of before)) body) (ltb (length (messages_of before)) leaves)
+    (eqb (length body) 116) may
+    (λ marked. ap (λ (b : Bool). is_message (drop 4 (cond b (numbered before message) message))) marked
+    ∙ ap is_message (drop_at (to_be_bytes w32 (length (messages_of before))) message 4 refl) ∙ passes)
+    (λ unmarked. ap (λ (b : Bool). is_message (cond b (numbered before message) message)) unmarked ∙ passes)
+  where
+    numbered : List (List ℕ) → List ℕ → List ℕ
+    numbered records text = with_number (length (messages_of records)) text
+
+-- so may the marker
+pub marker-kind : (is_message : List ℕ → Bool) (leaves : ℕ) (before : List (List ℕ)) → is_marked before ≡ false
+    → may_follow_of is_message leaves before marker ≡ true
+marker-kind is_message leaves before not_marked = rw not_marked refl

@@ -1,0 +1,151 @@
+-- The tag, the tips and the leaves of a wallet have their sizes.
+use Rattle.std.proofs.Common.{◌≡◌, ℕ, ◌^◌, ◌<◌, ◌≤◌, ◌==◌, ◌&&◌, Bool, true, false, if◌then◌else◌, List, [], ◌∷◌, ◌++◌, length, drop, filter, Option, Some, None, is_some, refl, ap, ◌∙◌, subst, inl, inr, arith}
+use Rattle.std.specs.Prelude.{slice_get}
+use Rattle.std.specs.List.{All, filter_map}
+use Rattle.std.specs.Option.{option_map_or}
+use Rattle.std.proofs.lemmas.Bool.{cases_Bool, and_parts, eqb-true, false≢true}
+use Rattle.std.proofs.lemmas.List.{length-map, length-drop}
+use Rattle.std.proofs.lemmas.List.Elements.{All-nil, All-cons, All-head, All-tail, All-append, All-push, All-drop, All-filter, All-map, All-contains}
+use Rattle.std.proofs.lemmas.Option.{slice_get_within}
+use Rattle.node_journal.specs.Role.{are_of}
+use Rattle.lms_sign.specs.declared.types.LmsTypes.{LmsTypes}
+use Rattle.lms_sign.specs.Types.{height, leaf_count}
+use Rattle.leaf_journal.specs.Records.{messages_of}
+use Rattle.leaf_journal.proofs.Form.{are_few}
+use Rattle.leaf_journal.proofs.KindRecords.{form_of}
+use Rattle.plasma_tx.specs.declared.owner.Owner.{Owner}
+use Rattle.plasma_tx.specs.declared.call.RootCall.{RootCall}
+use Rattle.plasma_tx.specs.declared.views.CoinView.{CoinView}
+use Rattle.plasma_tx.specs.Spelling.{AreBytes, body_at_start}
+use Rattle.plasma_tx.specs.Views.{blocks, coin_at}
+use Rattle.plasma_tx.proofs.Names.{some_same}
+use Rattle.plasma_tx.proofs.Parts.{length-range}
+use Rattle.coin_history.proofs.HistoryGrow.{deposit-le}
+use Rattle.wallet_core.specs.declared.notes.CoinTip.{CoinTip}
+use Rattle.wallet_core.specs.declared.notes.LeafRecord.{LeafRecord}
+use Rattle.wallet_core.specs.declared.notes.Notes.{Notes}
+use Rattle.wallet_core.specs.State.{is_owner, own_deposit, noted_tips}
+use Rattle.wallet_core.specs.Laws.{IsTip}
+use Rattle.node_rules.specs.declared.identity.WalletIdentity.{WalletIdentity}
+use Rattle.node_rules.specs.WalletRecords.{identity_of, types_in, may_be_second, identity_in, Note, Accepts, LeavesWith, Reclaims, note_in, wallet_kinds, no_one, who_is, notes_of, coin_tip, state_notes, owner_of, leaves_in, is_body}
+use Rattle.node_rules.specs.Wallet.{WalletRecords, who, noted}
+use Rattle.node_rules.specs.WalletOpening.{leaves_of, is_wallet}
+use Rattle.node_rules.specs.WalletLaws.{IsNote}
+use Rattle.node_rules.specs.WalletCommandLaws.{FitWords}
+use Rattle.node_rules.proofs.OneMore.{All-reverse, All-filter_map}
+use Rattle.node_rules.proofs.WalletTexts.{note_in-spelled}
+use Rattle.node_rules.proofs.WalletGrow.{wallet-parts}
+
+-- ---- the tag
+
+tag-of : (body : List ℕ) (who : WalletIdentity) → identity_in body ≡ Some who → length who.tag ≡ 32
+unfolding identity_in
+tag-of [] who h = absurd (cc h)
+tag-of (mark ∷ bytes) who h =
+    let one : WalletIdentity = identity_of (record { lms = 5; ots = 4 }) bytes in
+    let two : WalletIdentity = identity_of (types_in bytes) (drop 8 bytes) in
+    elim (cases_Bool ((mark == 1) && (length bytes == 72))) [
+      | inl first ↦
+          let is : Some one ≡ Some who = rw first at h in
+          let long = eqb-true (length bytes) 72 (and_parts (mark == 1) (length bytes == 72) first).1 in
+          subst (λ (w : WalletIdentity). length w.tag ≡ 32) (some_same one who is)
+          (length-range bytes 0 32 (omega arith) (omega arith))
+      | inr other ↦ elim (cases_Bool ((mark == 4) && (length bytes == 80) && may_be_second (types_in bytes))) [
+        | inl second ↦
+            let is : Some two ≡ Some who = rw (other, second) at h in
+            let parts = and_parts ((mark == 4) && (length bytes == 80)) (may_be_second (types_in bytes)) second in
+            let long = eqb-true (length bytes) 80 (and_parts (mark == 4) (length bytes == 80) parts.0).1 in
+            subst (λ (w : WalletIdentity). length w.tag ≡ 32) (some_same two who is)
+            (length-range (drop 8 bytes) 0 32 (omega arith) (omega (arith, length-drop 8 bytes)))
+        | inr none ↦ let bad : None ≡ Some who = rw (other, none) at h in absurd (cc bad)
+      ]
+    ]
+
+-- the tag of a wallet's records has 32 bytes
+pub tag-long : (dig : List ℕ → List ℕ) (records : List (List ℕ)) → are_of (wallet_kinds dig) records ≡ true
+    → length (who_is records).tag ≡ 32
+unfolding who_is
+tag-long dig [] role = absurd (false≢true role)
+tag-long dig (identity ∷ notes) role = at (identity_in identity) refl
+    (and_parts (is_some (identity_in identity)) _ role).0
+  where
+    at : (found : Option WalletIdentity) → identity_in identity ≡ found → is_some found ≡ true
+        → length (option_map_or (λ who. who) (identity_in identity) no_one).tag ≡ 32
+    at None none wrong = absurd (false≢true wrong)
+    at (Some who) is right =
+        ap (λ (o : Option WalletIdentity). length (option_map_or (λ w. w) o no_one).tag) is ∙ tag-of identity who is
+
+-- ---- notes
+
+-- the notes of records that are bytes have bytes
+pub notes-are : (dig : List ℕ → List ℕ) (records : List (List ℕ)) → All AreBytes records
+    → All (IsNote dig (who_is records).tag) (notes_of dig records)
+unfolding notes_of
+notes-are dig records small =
+    let tag = (who_is records).tag in
+    All-reverse (IsNote dig tag) (filter_map (note_in dig tag) (drop 1 records))
+    (All-filter_map (note_in dig tag) AreBytes (IsNote dig tag)
+    (λ body note bytes is. (note_in-spelled dig tag body note bytes is).1) (drop 1 records)
+    (All-drop AreBytes 1 records small))
+
+accepted-fit : (dig : List ℕ → List ℕ) (tag : List ℕ) (me : Owner) (notes : List Note) → All (IsNote dig tag) notes
+    → All (λ (one : CoinTip). one.tip < 2 ^ 64) (state_notes me notes).accepted
+unfolding state_notes
+accepted-fit dig tag me [] all = All-nil (λ (one : CoinTip). one.tip < 2 ^ 64)
+accepted-fit dig tag me (Accepts kept ∷ notes) all =
+    All-push (λ (one : CoinTip). one.tip < 2 ^ 64) (state_notes me notes).accepted (coin_tip kept.coin kept.tip)
+    (accepted-fit dig tag me notes (All-tail (IsNote dig tag) (Accepts kept) notes all))
+    (All-head (IsNote dig tag) (Accepts kept) notes all).is_bundle.tip
+accepted-fit dig tag me (LeavesWith coin tip ∷ notes) all =
+    accepted-fit dig tag me notes (All-tail (IsNote dig tag) (LeavesWith coin tip) notes all)
+accepted-fit dig tag me (Reclaims coin tip q ∷ notes) all =
+    accepted-fit dig tag me notes (All-tail (IsNote dig tag) (Reclaims coin tip q) notes all)
+
+own-fit : (me : Owner) (log : List RootCall) (coin : ℕ) → blocks log < 2 ^ 64
+    → All (λ n. n < 2 ^ 64) (own_deposit me (coin_at log coin))
+own-fit me log coin fits = at (coin_at log coin) refl
+  where
+    at : (found : Option CoinView) → coin_at log coin ≡ found → All (λ n. n < 2 ^ 64) (own_deposit me found)
+    at None none = All-nil (λ n. n < 2 ^ 64)
+    at (Some made) some = elim (is_owner made.owner me) as (λ b.
+        All (λ n. n < 2 ^ 64) (if b then made.deposit ∷ [] else [])) [
+          | true ↦ All-cons (λ n. n < 2 ^ 64) made.deposit []
+              (omega (arith, fits, deposit-le log coin made some)) (All-nil (λ n. n < 2 ^ 64))
+          | false ↦ All-nil (λ n. n < 2 ^ 64)
+        ]
+
+-- a tip of the wallet's has 64 bits
+pub tip-fits : (dig : List ℕ → List ℕ) (wallet : WalletRecords) (log : List RootCall) (coin tip : ℕ)
+    → FitWords wallet log → IsTip (noted dig wallet) log coin tip → tip < 2 ^ 64
+tip-fits dig wallet log coin tip words is =
+    let me = owner_of (who wallet) in
+    let notes : Notes = noted dig wallet in
+    let named : CoinTip → Bool = λ one. one.coin == coin in
+    let accepted = All-map (λ n. n < 2 ^ 64) (λ (one : CoinTip). one.tip) (filter named notes.accepted)
+    (All-filter named (λ (one : CoinTip). one.tip < 2 ^ 64) notes.accepted
+    (accepted-fit dig (who wallet).tag me (notes_of dig wallet.notes) (notes-are dig wallet.notes words.notes))) in
+    All-contains (λ n. n < 2 ^ 64) (own_deposit notes.me (coin_at log coin) ++ noted_tips coin notes.accepted) tip
+    (All-append (λ n. n < 2 ^ 64) (own_deposit notes.me (coin_at log coin)) (noted_tips coin notes.accepted)
+    (own-fit notes.me log coin words.blocks) accepted) is.is_one
+
+-- ---- leaves
+
+few-leaves : (types : LmsTypes) → leaf_count types ≤ 2 ^ 10
+unfolding height
+few-leaves types = elim (types.lms == 6) as (λ b. 2 ^ (if b then 10 else 5) ≤ 2 ^ 10) [
+  | true ↦ omega arith
+  | false ↦ omega arith
+]
+
+-- the number of a bound leaf has 32 bits
+pub leaf-fits : (dig : List ℕ → List ℕ) (wallet : WalletRecords) (q : ℕ) (leaf : LeafRecord)
+    → is_wallet dig wallet ≡ true → slice_get (leaves_in wallet.leaves) q ≡ Some leaf → q < 2 ^ 32
+leaf-fits dig wallet q leaf is at =
+    let are = wallet-parts dig wallet is in
+    let form = form_of is_body (leaves_of wallet.notes) wallet.leaves wallet.leaves are.leaves in
+    let few = (are_few (leaves_of wallet.notes) wallet.leaves wallet.leaves form).within in
+    let least = few-leaves (who wallet).types in
+    let within = slice_get_within (leaves_in wallet.leaves) q leaf at in
+    let read : List ℕ → LeafRecord = λ message. record { body = body_at_start message } in
+    let counted = length-map (messages_of wallet.leaves) read in
+    omega (arith, few, least, within, counted)
