@@ -382,13 +382,9 @@ impl<D: Disk, H: Hash32 + Copy> Operator<D, H> {
             return Err(Stop::NoMemory);
         }
         self.pool.put(coin, leaf)?;
-        match self.notes.add(body) {
-            Ok(()) => {
-                self.pool.keep();
-                Ok(())
-            }
-            Err(stop) => Err(stop),
-        }
+        self.notes.add(body)?;
+        self.pool.keep();
+        Ok(())
     }
 
     /// The disk, handed back.
