@@ -57,9 +57,6 @@ fn seal_refusal(stop: Stop) -> SealRefusal
     }
 }
 
-// The most bytes of a record.
-const MOST_RECORD: usize = 1 << 24;
-
 /// The operator of a chain over the disk of its notes. Contracts see its notes, and the digest that it was
 /// opened with. A device fault closes it until the disk is taken back and opened again; a closed one still
 /// shows what its records say.
@@ -339,7 +336,7 @@ impl<D: Disk, H: Hash32 + Copy> Operator<D, H> {
     }
 
     // As `seal`.
-    #[tactic(auto, using(crate::proofs::Adds::sealing), unfolding(operator_rules::specs::Commands::seal_effect))]
+    #[tactic(auto, using(crate::proofs::Adds::sealed_adds), unfolding(operator_rules::specs::Commands::seal_effect))]
     fn seal_pool(&mut self) -> Result<Sealed, Stop>
         ensures answer { IfOk result (λ sealed.
             Ok sealed ≡ (seal_effect (H.digest_of self.old.hash) self.old.notes.records).answer) }
@@ -368,8 +365,7 @@ impl<D: Disk, H: Hash32 + Copy> Operator<D, H> {
         }
     }
 
-    // Adds a record that puts a leaf. A record that is too long for the journal, which no caller has, is
-    // answered as want of memory.
+    // Adds a record that puts a leaf.
     fn add_put(&mut self, coin: u64, leaf: &[u8], body: Bytes) -> Result<(), Stop>
         requires { AddsRecord self.old.notes.records body (Some (coin, leaf.now)) }
         ensures did { Did D.told D.plan D.faults (Some body) self.old.notes (stopped_by result) self.new.notes }
@@ -377,9 +373,6 @@ impl<D: Disk, H: Hash32 + Copy> Operator<D, H> {
     {
         if self.notes.is_closed() {
             return Err(Stop::Closed);
-        }
-        if body.len() > MOST_RECORD {
-            return Err(Stop::NoMemory);
         }
         self.pool.put(coin, leaf)?;
         self.notes.add(body)?;
