@@ -1,4 +1,5 @@
-ghost use Rattle.std.specs.Prelude.{◌≡◌, ◌≢◌, ◌-◌, ◌≤◌, None, Some, Ok, Err, true, false, length, IfOk, IfErr};
+ghost use Rattle.std.specs.Prelude.{◌≡◌, ◌≢◌, ◌-◌, ◌≤◌, ◌<◌, ◌^◌, None, Some, Ok, Err, true, false, length, IfOk, IfErr};
+ghost use Rattle.std.specs.List.{All};
 ghost use Rattle.crash_disk.specs.Calls.{WhereTold};
 ghost use Rattle.gate_journal.specs.Journal.{IsSettled};
 ghost use Rattle.node_journal.specs.Role.{are_of, role_in};
@@ -187,7 +188,8 @@ impl<D: Disk, H: Hash32 + Copy> Operator<D, H> {
         opening_at(self.alloc, &self.trees, log, coin, block)
     }
 
-    /// The history of a coin up to a tip, or up to the present tip where 0 is asked for. It makes no digest.
+    /// The history of a coin up to a tip, or up to the present tip where 0 is asked for. It can be written.
+    /// It makes no digest, and tests the signatures on the way that aren't remembered.
     ///
     /// `NoCoin` comes where the log has no such coin; then `UnknownBlock` where the tip is neither the
     /// deposit block nor a committed one after it, and where no sealed tree has the root of a committed
@@ -197,11 +199,14 @@ impl<D: Disk, H: Hash32 + Copy> Operator<D, H> {
         ensures value { result ≢ Err ProveRefusal.NoMemory → result
             ≡ bundle_answer (H.digest_of self.now.hash) self.now.notes.records log.now.log coin tip }
         ensures rising { IfOk result (λ bundle. AreRising bundle.openings) }
+        ensures count { IfOk result (λ bundle. length bundle.openings < 2 ^ 32) }
+        ensures lengths { IfOk result (λ bundle. All (λ opening. length opening.bytes < 2 ^ 32) bundle.openings) }
     {
         bundle_of(self.alloc, &self.trees, log, &self.who.tag, coin, tip)
     }
 
-    /// What the committed blocks after a block and up to the last have at a coin. It makes no digest.
+    /// What the committed blocks after a block and up to the last have at a coin. It can be written. It makes
+    /// no digest.
     ///
     /// `UnknownBlock` comes where there are fewer blocks than the last, and where no sealed tree has the
     /// root of a committed block between.
@@ -216,6 +221,8 @@ impl<D: Disk, H: Hash32 + Copy> Operator<D, H> {
         ensures value { result ≢ Err ProveRefusal.NoMemory → result
             ≡ absences_answer (H.digest_of self.now.hash) self.now.notes.records log.now.log coin after last }
         ensures rising { IfOk result (λ bundle. AreRising bundle.openings) }
+        ensures count { IfOk result (λ bundle. length bundle.openings < 2 ^ 32) }
+        ensures lengths { IfOk result (λ bundle. All (λ opening. length opening.bytes < 2 ^ 32) bundle.openings) }
     {
         if log.blocks() < last {
             return Err(ProveRefusal::UnknownBlock { n: last });
