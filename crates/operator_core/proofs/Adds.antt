@@ -1,11 +1,11 @@
 -- What a command's record does to what the records leave.
-use Rattle.std.proofs.Common.{◌≡◌, ℕ, ◌+◌, ◌^◌, ◌<◌, true, false, List, [], ◌∷◌, ◌++◌, length, Some, None, Ok, Err, refl, sym, ap, ◌∙◌, arith}
+use Rattle.std.proofs.Common.{◌≡◌, ℕ, ◌+◌, ◌^◌, ◌<◌, true, false, List, [], ◌∷◌, ◌++◌, length, length-append, Some, None, Ok, Err, refl, sym, ap, ◌∙◌, arith}
 use Rattle.std.specs.Prelude.{nat_lt, ◌≤◌}
 use Rattle.std.proofs.lemmas.Bool.{le-ltb, lt-ltb}
-use Rattle.gate_journal.specs.Image.{most}
 use Rattle.node_journal.specs.Effect.{only}
 use Rattle.node_journal.specs.Role.{are_of}
 use Rattle.plasma_tx.specs.declared.call.RootCall.{RootCall}
+use Rattle.plasma_tx.specs.Spelling.{number_text}
 use Rattle.operator_rules.specs.declared.TheConstants.{MOST_LAID}
 use Rattle.operator_rules.specs.declared.refusal.LayRefusal.TheVariants.{LeafTooLong}
 use Rattle.operator_rules.specs.Records.{Note, Offered, Laid, Sealed, note_text, operator_kinds, who_is, notes_of}
@@ -38,37 +38,42 @@ unfolding lay_effect
 laid-note coin bytes short = rw short refl
 
 module _ (dig : List ℕ → List ℕ) (records : List (List ℕ)) (log : List RootCall) where
-  pub adds_offered : (bytes : List ℕ) → are_of operator_kinds records ≡ true
+  pub adds_offered : (bytes : List ℕ) → are_of operator_kinds records ≡ true → length bytes ≤ 2632
       → (offer_effect dig records log bytes).note ≡ Some (note_text (Offered bytes))
       → AddsRecord records (note_text (Offered bytes)) (Some (coin_named bytes, bytes))
-  adds_offered bytes are is =
+  unfolding note_text
+  adds_offered bytes are short is =
       let body = note_text (Offered bytes) in
       let adds = commands_add_their_notes dig records log 0 bytes body are (omega arith) in
       record {
+        fits = omega (arith, short);
         kind = (commands_keep_the_role dig records log 0 bytes body are).0 is;
         who_stays = adds.0;
         forest = forest-front records body (Offered bytes) (adds.1 is);
       }
 
   pub adds_laid : (coin : ℕ) (bytes : List ℕ) → are_of operator_kinds records ≡ true → coin < 2 ^ 64
-      → nat_lt MOST_LAID (length bytes) ≡ false
-      → AddsRecord records (note_text (Laid coin bytes)) (Some (coin, bytes))
+      → length bytes ≤ MOST_LAID → AddsRecord records (note_text (Laid coin bytes)) (Some (coin, bytes))
+  unfolding note_text
   adds_laid coin bytes are small short =
       let body = note_text (Laid coin bytes) in
-      let is = laid-note coin bytes short in
+      let is = laid-note coin bytes (le-ltb MOST_LAID (length bytes) short) in
       let adds = commands_add_their_notes dig records log coin bytes body are small in
+      let field : length (number_text coin) ≡ 8 = refl in
       record {
+        fits = omega (arith, short, field, length-append (number_text coin) bytes);
         kind = (commands_keep_the_role dig records log coin bytes body are).1 is;
         who_stays = adds.0;
         forest = forest-front records body (Laid coin bytes) (adds.2 is);
       }
 
   pub adds_sealed : are_of operator_kinds records ≡ true → AddsRecord records (note_text Sealed) None
-  unfolding seal_effect
+  unfolding seal_effect note_text
   adds_sealed are =
       let body = note_text Sealed in
       let adds = commands_add_their_notes dig records log 0 [] body are (omega arith) in
       record {
+        fits = omega arith;
         kind = (commands_keep_the_role dig records log 0 [] body are).2 refl;
         who_stays = adds.0;
         forest = forest-front records body Sealed (adds.3 refl);
@@ -80,17 +85,11 @@ pub laid_adds : (records : List (List ℕ)) (coin : ℕ) (bytes body : List ℕ)
     → length bytes ≤ MOST_LAID → coin < 2 ^ 64 → are_of operator_kinds records ≡ true
     → AddsRecord records body (Some (coin, bytes))
 laid_adds records coin bytes body is short small are =
-    rw is (adds_laid (λ any. any) records [] coin bytes are small (le-ltb MOST_LAID (length bytes) short))
+    rw is (adds_laid (λ any. any) records [] coin bytes are small short)
 
 pub sealed_adds : (records : List (List ℕ)) (body : List ℕ) → body ≡ note_text Sealed
     → are_of operator_kinds records ≡ true → AddsRecord records body None
 sealed_adds records body is are = rw is (adds_sealed (λ any. any) records [] are)
-
-pub seal_fits : (body : List ℕ) → body ≡ note_text Sealed → length body ≤ most
-unfolding note_text
-seal_fits body is = rw is (omega arith)
-
-pub ruleset sealing = (sealed_adds, seal_fits)
 
 -- ---- a lay
 

@@ -1,5 +1,5 @@
 -- What an offer answers and adds.
-use Rattle.std.proofs.Common.{◌≡◌, ℕ, ◌==◌, ◌++◌, not, Bool, true, false, if◌then◌else◌, List, [], ◌∷◌, Option, Some, None, Result, Ok, Err, refl, sym, ap, ◌∙◌}
+use Rattle.std.proofs.Common.{◌≡◌, ℕ, ◌==◌, ◌++◌, not, Bool, true, false, if◌then◌else◌, List, [], ◌∷◌, ◌≤◌, length, Option, Some, None, Result, Ok, Err, refl, sym, ap, ◌∙◌}
 use Rattle.std.specs.Prelude.{MatchResult}
 use Rattle.std.specs.List.{AllByRecursion}
 use Rattle.node_journal.specs.declared.stop.Stop.{Stop}
@@ -22,6 +22,8 @@ use Rattle.operator_rules.specs.Trees.{Forest, coin_named, is_waiting}
 use Rattle.operator_rules.specs.Walk.{Place, present}
 use Rattle.operator_rules.specs.Commands.{forest_in, late_causes, offer_causes, offer_at, offer_of, offer_effect}
 use Rattle.operator_rules.proofs.Trees.{coin-named}
+use Rattle.operator_rules.proofs.Run.{offerable}
+use Rattle.operator_rules.proofs.Openings.{leaf-short}
 use Rattle.operator_core.specs.State.{offer_stop}
 use Rattle.operator_core.specs.Inside.{AddsRecord, offer_refusal}
 use Rattle.operator_core.proofs.Adds.{adds_offered}
@@ -116,6 +118,14 @@ module _ (dig : List ℕ → List ℕ) (records : List (List ℕ)) (log : List R
       (fine-ok bytes (offer_effect dig records log bytes).answer (offer_effect dig records log bytes).note coin
       (offer-fine dig records log bytes) is).0
 
+  offered-short : (coin : ℕ) → Ok coin ≡ (offer_effect dig records log bytes).answer → length bytes ≤ 2632
+  unfolding offer_effect
+  offered-short coin is =
+      let shown = offerable dig (who_is records).tag log (forest_in records) bytes coin (sym is) in
+      leaf-short (who_is records).tag bytes shown.tx
+      (present dig (who_is records).tag log (forest_in records).sealed shown.tx.body.coin shown.made).owner
+      shown.tx_is shown.signed
+
   pub offered_adds : (coin : ℕ) → are_of operator_kinds records ≡ true
       → Ok coin ≡ (offer_effect dig records log bytes).answer
       → AddsRecord records (note_text (Offered bytes)) (Some (coin, bytes))
@@ -123,7 +133,7 @@ module _ (dig : List ℕ → List ℕ) (records : List (List ℕ)) (log : List R
       let fine = fine-ok bytes (offer_effect dig records log bytes).answer
       (offer_effect dig records log bytes).note coin
       (offer-fine dig records log bytes) is in
-      rw fine.1 (adds_offered dig records log bytes are fine.0)
+      rw fine.1 (adds_offered dig records log bytes are (offered-short coin is) fine.0)
 
   -- a refusal that is answered adds nothing, and is no stop
   pub refused_note : (why : OfferRefusal) → Err why ≡ (offer_effect dig records log bytes).answer

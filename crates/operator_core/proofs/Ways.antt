@@ -1,11 +1,11 @@
 -- The committed blocks one after another.
-use Rattle.std.proofs.Common.{◌≡◌, ℕ, zero, suc, ◌+◌, ◌-◌, ◌<◌, ◌≤◌, Bool, true, false, if◌then◌else◌, List, [], ◌∷◌, ◌++◌, filter, Option, Some, None, Result, Ok, Err, refl, sym, ap, ◌∙◌, inl, inr, arith, append-nil}
-use Rattle.std.specs.List.{range_with_len, AllPairs}
+use Rattle.std.proofs.Common.{◌≡◌, ℕ, zero, suc, ◌+◌, ◌-◌, ◌<◌, ◌≤◌, ◌^◌, Bool, true, false, if◌then◌else◌, List, [], ◌∷◌, ◌++◌, length, filter, Option, Some, None, Result, Ok, Err, refl, sym, ap, ◌∙◌, inl, inr, arith, append-nil}
+use Rattle.std.specs.List.{range_with_len, All, AllPairs}
 use Rattle.std.proofs.lemmas.List.{get_or-map, length-map}
 use Rattle.std.proofs.lemmas.List.FromFn.{length-range_with_len, get_or-range_with_len}
 use Rattle.std.proofs.lemmas.List.Kept.{AllPairs-filter}
 use Rattle.std.proofs.lemmas.Bool.{cases_lt, lt-ltb, le-ltb}
-use Rattle.std.proofs.lemmas.List.Elements.{filter-append}
+use Rattle.std.proofs.lemmas.List.Elements.{filter-append, All-nil, All-push}
 use Rattle.sparse_merkle.specs.declared.tree.Entry.{Entry}
 use Rattle.plasma_tx.specs.declared.opening.RawOpening.{RawOpening}
 use Rattle.plasma_tx.specs.declared.call.RootCall.{RootCall}
@@ -222,6 +222,20 @@ module _ (dig : List ℕ → List ℕ) (log : List RootCall) (sealed : List (Lis
   ]
 
 pub ruleset openings_steps = (openings_none, openings_skip, openings_more, openings_fail, openings_last)
+
+-- ---- openings are short
+
+abbrev AreShort : List RawOpening → Type 0
+AreShort openings = All (λ opening. length opening.bytes < 2 ^ 32) openings
+
+pub no_lengths : AreShort []
+no_lengths = All-nil (λ (opening : RawOpening). length opening.bytes < 2 ^ 32)
+
+pub one_length : (openings : List RawOpening) (opening : RawOpening) → AreShort openings
+    → length opening.bytes < 2 ^ 32 → AreShort (openings ++ opening ∷ [])
+one_length = All-push (λ (opening : RawOpening). length opening.bytes < 2 ^ 32)
+
+pub ruleset lengths_more = (no_lengths, one_length)
 
 -- ---- openings rise
 

@@ -1,5 +1,5 @@
 -- The pool and the sealed trees as the operator keeps them.
-use Rattle.std.specs.Prelude.{◌≡◌, ◌&&◌, not, ℕ, Bool, true, false, [], ◌∷◌, ◌++◌, if◌then◌else◌, List, map, reverse, Option, Some, None}
+use Rattle.std.specs.Prelude.{◌≡◌, ◌≤◌, ◌&&◌, not, ℕ, Bool, true, false, [], ◌∷◌, ◌++◌, if◌then◌else◌, List, length, map, reverse, Option, Some, None}
 use Rattle.std.specs.HashMap.{HashMap, get}
 use Rattle.std.specs.HashSet.{HashSet, contains}
 use Rattle.std.specs.List.{All, filter_map, position_from}
@@ -7,6 +7,7 @@ use Rattle.std.specs.Str.{bytes_eq}
 use Rattle.merkle_pages.specs.Nodes.{HashedMap}
 use Rattle.sparse_merkle.specs.declared.tree.Entry.{Entry}
 use Rattle.sparse_merkle.specs.TreeDigest.{root_of}
+use Rattle.gate_journal.specs.Image.{most}
 use Rattle.node_journal.specs.Role.{may_follow}
 use Rattle.node_journal.specs.declared.stop.Stop.{Stop}
 use Rattle.node_journal.specs.declared.stop.Stop.TheVariants.{Closed, NoMemory, DeviceFault}
@@ -72,8 +73,9 @@ pub record IsRight {H : Type 0} (hash : H) (records : List (List ℕ)) (who : Wh
   pub pool_hash : pool.hash ≡ hash
   pub trees_hash : trees.hash ≡ hash
 
--- the record may be added to these, and does so much to what they leave
+-- the record fits a journal, may be added to these, and does so much to what they leave
 pub record AddsRecord (records : List (List ℕ)) (body : List ℕ) (put : Option (ℕ × List ℕ)) : Type 0 where
+  pub fits : length body ≤ most
   pub kind : may_follow operator_kinds records body ≡ true
   pub who_stays : who_is (records ++ body ∷ []) ≡ who_is records
   pub forest : forest_in (records ++ body ∷ []) ≡ with_put put (forest_in records)

@@ -10,6 +10,7 @@ mod rebuild;
 mod records;
 mod role;
 mod showing;
+mod signatures;
 #[cfg(test)]
 mod tests;
 mod trees;

@@ -67,7 +67,8 @@ fn is_waiting<H: Hash32 + Copy>(
     Ok(trees.has_outside(coin, &roots))
 }
 
-// The coin of an offered transfer that isn't refused, where the log has the coin.
+// The coin of an offered transfer that isn't refused, where the log has the coin. Its signature is then
+// remembered.
 fn offer_at<H: Hash32 + Copy>(
     alloc: Global,
     pool: &Pool<H>,
@@ -96,7 +97,10 @@ fn offer_at<H: Hash32 + Copy>(
         }
     }
     match is_waiting(alloc, pool, trees, log, tx.body.coin) {
-        Ok(false) => Ok(tx.body.coin),
+        Ok(false) => {
+            trees.remember(tx, &tip.owner);
+            Ok(tx.body.coin)
+        }
         Ok(true) => Err(OfferRefusal::PoolHasCoin),
         Err(_) => Err(OfferRefusal::NoMemory),
     }

@@ -1,4 +1,5 @@
-ghost use Rattle.std.specs.Prelude.{◌≡◌, ◌≢◌, ◌-◌, ◌≤◌, None, Some, Ok, Err, true, false, length, IfOk, IfErr};
+ghost use Rattle.std.specs.Prelude.{◌≡◌, ◌≢◌, ◌-◌, ◌≤◌, ◌<◌, ◌^◌, None, Some, Ok, Err, true, false, length, IfOk, IfErr};
+ghost use Rattle.std.specs.List.{All};
 ghost use Rattle.crash_disk.specs.Calls.{WhereTold};
 ghost use Rattle.gate_journal.specs.Journal.{IsSettled};
 ghost use Rattle.node_journal.specs.Role.{are_of, role_in};
@@ -56,9 +57,6 @@ fn seal_refusal(stop: Stop) -> SealRefusal
         Stop::DeviceFault => SealRefusal::DeviceFault,
     }
 }
-
-// The most bytes of a record.
-const MOST_RECORD: usize = 1 << 24;
 
 /// The operator of a chain over the disk of its notes. Contracts see its notes, and the digest that it was
 /// opened with. A device fault closes it until the disk is taken back and opened again; a closed one still
@@ -190,7 +188,8 @@ impl<D: Disk, H: Hash32 + Copy> Operator<D, H> {
         opening_at(self.alloc, &self.trees, log, coin, block)
     }
 
-    /// The history of a coin up to a tip, or up to the present tip where 0 is asked for. It makes no digest.
+    /// The history of a coin up to a tip, or up to the present tip where 0 is asked for. It can be written.
+    /// It makes no digest, and tests the signatures on the way that aren't remembered.
     ///
     /// `NoCoin` comes where the log has no such coin; then `UnknownBlock` where the tip is neither the
     /// deposit block nor a committed one after it, and where no sealed tree has the root of a committed
@@ -200,11 +199,14 @@ impl<D: Disk, H: Hash32 + Copy> Operator<D, H> {
         ensures value { result ≢ Err ProveRefusal.NoMemory → result
             ≡ bundle_answer (H.digest_of self.now.hash) self.now.notes.records log.now.log coin tip }
         ensures rising { IfOk result (λ bundle. AreRising bundle.openings) }
+        ensures count { IfOk result (λ bundle. length bundle.openings < 2 ^ 32) }
+        ensures lengths { IfOk result (λ bundle. All (λ opening. length opening.bytes < 2 ^ 32) bundle.openings) }
     {
         bundle_of(self.alloc, &self.trees, log, &self.who.tag, coin, tip)
     }
 
-    /// What the committed blocks after a block and up to the last have at a coin. It makes no digest.
+    /// What the committed blocks after a block and up to the last have at a coin. It can be written. It makes
+    /// no digest.
     ///
     /// `UnknownBlock` comes where there are fewer blocks than the last, and where no sealed tree has the
     /// root of a committed block between.
@@ -219,6 +221,8 @@ impl<D: Disk, H: Hash32 + Copy> Operator<D, H> {
         ensures value { result ≢ Err ProveRefusal.NoMemory → result
             ≡ absences_answer (H.digest_of self.now.hash) self.now.notes.records log.now.log coin after last }
         ensures rising { IfOk result (λ bundle. AreRising bundle.openings) }
+        ensures count { IfOk result (λ bundle. length bundle.openings < 2 ^ 32) }
+        ensures lengths { IfOk result (λ bundle. All (λ opening. length opening.bytes < 2 ^ 32) bundle.openings) }
     {
         if log.blocks() < last {
             return Err(ProveRefusal::UnknownBlock { n: last });
@@ -339,7 +343,7 @@ impl<D: Disk, H: Hash32 + Copy> Operator<D, H> {
     }
 
     // As `seal`.
-    #[tactic(auto, using(crate::proofs::Adds::sealing), unfolding(operator_rules::specs::Commands::seal_effect))]
+    #[tactic(auto, using(crate::proofs::Adds::sealed_adds), unfolding(operator_rules::specs::Commands::seal_effect))]
     fn seal_pool(&mut self) -> Result<Sealed, Stop>
         ensures answer { IfOk result (λ sealed.
             Ok sealed ≡ (seal_effect (H.digest_of self.old.hash) self.old.notes.records).answer) }
@@ -368,8 +372,7 @@ impl<D: Disk, H: Hash32 + Copy> Operator<D, H> {
         }
     }
 
-    // Adds a record that puts a leaf. A record that is too long for the journal, which no caller has, is
-    // answered as want of memory.
+    // Adds a record that puts a leaf.
     fn add_put(&mut self, coin: u64, leaf: &[u8], body: Bytes) -> Result<(), Stop>
         requires { AddsRecord self.old.notes.records body (Some (coin, leaf.now)) }
         ensures did { Did D.told D.plan D.faults (Some body) self.old.notes (stopped_by result) self.new.notes }
@@ -378,17 +381,10 @@ impl<D: Disk, H: Hash32 + Copy> Operator<D, H> {
         if self.notes.is_closed() {
             return Err(Stop::Closed);
         }
-        if body.len() > MOST_RECORD {
-            return Err(Stop::NoMemory);
-        }
         self.pool.put(coin, leaf)?;
-        match self.notes.add(body) {
-            Ok(()) => {
-                self.pool.keep();
-                Ok(())
-            }
-            Err(stop) => Err(stop),
-        }
+        self.notes.add(body)?;
+        self.pool.keep();
+        Ok(())
     }
 
     /// The disk, handed back.

@@ -1,4 +1,5 @@
-ghost use Rattle.std.specs.Prelude.{◌≡◌, ◌≢◌, ◌++◌, ◌∷◌, [], IfOk, IfErr, OnOk, OnErr, Ok, Err};
+ghost use Rattle.std.specs.Prelude.{◌≡◌, ◌≢◌, ◌<◌, ◌^◌, ◌++◌, ◌∷◌, [], length, IfOk, IfErr, OnOk, OnErr, Ok, Err};
+ghost use Rattle.std.specs.List.{All};
 ghost use Rattle.plasma_tx.specs.Views.{blocks, coin_at};
 ghost use Rattle.coin_history.specs.History.{committed_blocks};
 ghost use Rattle.coin_history.specs.Bundles.{AreRising};
@@ -17,15 +18,16 @@ use plasma_base::{Hash32, NoMemory};
 use plasma_tx::{CoinView, Opening, RawOpening, RootLog};
 use std::alloc::Global;
 
-// What a tree has at a coin, as the opening of block n. A leaf past 2^32 bytes, which no record holds, is
-// answered as want of memory.
+// What a tree has at a coin, as the opening of block n. A leaf or an opening of 2^32 bytes or more, which no
+// journal's record leaves, is answered as want of memory: nothing that is kept says how long a leaf is.
 fn opening_in_tree<H: Hash32 + Copy>(
     alloc: Global,
     tree: &PagedTree<H>,
     coin: u64,
     n: u64,
 ) -> Result<RawOpening, NoMemory>
-    ensures { IfOk result (λ raw. raw ≡ opening_in_tree (H.digest_of tree.now.hash) coin n tree.now.entries) }
+    ensures is { IfOk result (λ raw. raw ≡ opening_in_tree (H.digest_of tree.now.hash) coin n tree.now.entries) }
+    ensures short { IfOk result (λ raw. length raw.bytes < 2 ^ 32) }
 {
     let leaf = leaf_in(tree, coin);
     if leaf.len() > u32::MAX as usize {
@@ -36,7 +38,11 @@ fn opening_in_tree<H: Hash32 + Copy>(
         leaf: copy_of(alloc, leaf)?,
         proof: tree.prove(coin)?,
     };
-    opening.write(alloc)
+    let raw = opening.write(alloc)?;
+    if raw.bytes.len() > u32::MAX as usize {
+        return Err(NoMemory);
+    }
+    Ok(raw)
 }
 
 /// What the tree of block n has at a coin.
@@ -47,8 +53,9 @@ pub fn opening_at<H: Hash32 + Copy>(
     coin: u64,
     n: u64,
 ) -> Result<RawOpening, ProveRefusal>
-    ensures { result ≢ Err ProveRefusal.NoMemory → result ≡ prove_by (H.digest_of trees.now.hash) coin n
+    ensures value { result ≢ Err ProveRefusal.NoMemory → result ≡ prove_by (H.digest_of trees.now.hash) coin n
         (tree_at (H.digest_of trees.now.hash) log.now.log trees.now.sealed n) }
+    ensures short { IfOk result (λ raw. length raw.bytes < 2 ^ 32) }
 {
     match tree_at(trees, log, n) {
         Some(tree) => match opening_in_tree(alloc, tree, coin, n) {
@@ -59,11 +66,16 @@ pub fn opening_at<H: Hash32 + Copy>(
     }
 }
 
-// Adds an opening at the end.
+// Adds an opening at the end. Where there are 2^32 - 1 already, no bundle has bytes with one more, which is
+// answered as want of memory; a log's type allows more blocks.
 fn push(openings: &mut Vec<RawOpening>, opening: RawOpening) -> Result<(), ProveRefusal>
     ensures ok { OnOk result (openings.new.items ≡ openings.old.items ++ opening ∷ []) }
+    ensures count { OnOk result (length openings.new.items < 2 ^ 32) }
     ensures err { OnErr result (result ≡ Err ProveRefusal.NoMemory) }
 {
+    if openings.len() >= u32::MAX as usize {
+        return Err(ProveRefusal::NoMemory);
+    }
     match openings.push(opening) {
         Ok(()) => Ok(()),
         Err(_) => Err(ProveRefusal::NoMemory),
@@ -71,7 +83,7 @@ fn push(openings: &mut Vec<RawOpening>, opening: RawOpening) -> Result<(), Prove
 }
 
 // The openings of the committed blocks after a block and up to the last.
-#[tactic(auto, using(crate::proofs::Ways::openings_steps))]
+#[tactic(auto, using(crate::proofs::Ways::openings_steps, crate::proofs::Ways::lengths_more))]
 fn openings_between<H: Hash32 + Copy>(
     alloc: Global,
     trees: &Trees<H>,
@@ -80,6 +92,8 @@ fn openings_between<H: Hash32 + Copy>(
     after: u64,
     last: u64,
 ) -> Result<Vec<RawOpening>, ProveRefusal>
+    ensures count { IfOk result (λ openings. length openings.items < 2 ^ 32) }
+    ensures lengths { IfOk result (λ openings. All (λ opening. length opening.bytes < 2 ^ 32) openings.items) }
     ensures made { IfOk result (λ openings.
         openings_of (H.digest_of trees.now.hash) log.now.log trees.now.sealed coin
         (committed_blocks log.now.log after last) ≡ Ok openings.items) }
@@ -112,6 +126,8 @@ pub fn bundle_between<H: Hash32 + Copy>(
     ensures value { result ≢ Err ProveRefusal.NoMemory → result
         ≡ bundle_between (H.digest_of trees.now.hash) log.now.log trees.now.sealed coin after last }
     ensures rising { IfOk result (λ bundle. AreRising bundle.openings) }
+    ensures count { IfOk result (λ bundle. length bundle.openings < 2 ^ 32) }
+    ensures lengths { IfOk result (λ bundle. All (λ opening. length opening.bytes < 2 ^ 32) bundle.openings) }
 {
     match openings_between(alloc, trees, log, coin, after, last) {
         Ok(openings) => Ok(Bundle {
@@ -165,6 +181,8 @@ pub fn bundle_of<H: Hash32 + Copy>(
         ≡ bundle_of (H.digest_of trees.now.hash) tag.now log.now.log trees.now.sealed coin tip
         (coin_at log.now.log coin) }
     ensures rising { IfOk result (λ bundle. AreRising bundle.openings) }
+    ensures count { IfOk result (λ bundle. length bundle.openings < 2 ^ 32) }
+    ensures lengths { IfOk result (λ bundle. All (λ opening. length opening.bytes < 2 ^ 32) bundle.openings) }
 {
     let Some(made) = log.coin(coin) else {
         return Err(ProveRefusal::NoCoin);

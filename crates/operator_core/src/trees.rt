@@ -1,23 +1,29 @@
 ghost use Rattle.std.specs.Prelude.{◌≡◌, ◌<◌, ◌++◌, ◌∷◌, [], ℕ, List, true, length, IfSome, OnOk, option_map, slice_get};
 ghost use Rattle.std.specs.List.{list_any};
+ghost use Rattle.plasma_tx.specs.Transfer.{is_signed_by};
 ghost use Rattle.operator_rules.specs.Trees.{tree_of};
 ghost use Rattle.operator_core.specs.Inside.{with_place, is_outside};
 ghost use Rattle.std.specs.HashMap.{get, spare};
 ghost use Rattle.std.specs.Str.{bytes_eq};
 
 use super::pool::leaf_in;
+use super::signatures::Signatures;
 use merkle_pages::PagedTree;
 use plasma_base::{Hash32, NoMemory};
+use plasma_tx::{Owner, SignedTx};
 use std::alloc::Global;
 use std::collections::{HashMap, HashSet};
 use std::marker::Model;
 
 /// The sealed trees in the order of their seals, and for each root the place of the first tree with it.
+/// Beside them stand the signatures that were tested of what they have, and of what was offered for the
+/// next.
 #[derive(Drop)]
 pub struct Trees<H: Hash32 + Copy> {
     hash: H,
     trees: Vec<PagedTree<H>>,
     index: HashMap<[u8; 32], usize>,
+    signatures: Signatures,
 }
 
 impl<H: Hash32 + Copy> Model for Trees<H> {
@@ -47,7 +53,23 @@ impl<H: Hash32 + Copy> Trees<H> {
             hash,
             trees: Vec::new(alloc),
             index: HashMap::new(alloc),
+            signatures: Signatures::new(alloc),
         }
+    }
+
+    /// Whether the owner signed the transfer. A signature that is remembered isn't tested, and one that is
+    /// tested and valid is remembered.
+    pub fn signed_by(&self, tx: &SignedTx, owner: &Owner) -> bool
+        ensures { result ≡ is_signed_by tx.now owner.now }
+    {
+        self.signatures.signed_by(tx, owner)
+    }
+
+    /// Remembers that the owner signed the transfer, where there is memory.
+    pub fn remember(&self, tx: &SignedTx, owner: &Owner)
+        requires { is_signed_by tx.now owner.now ≡ true }
+    {
+        self.signatures.remember(tx, owner);
     }
 
     /// Makes room for one more tree. No tree changes.

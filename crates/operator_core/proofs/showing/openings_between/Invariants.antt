@@ -1,4 +1,4 @@
-use Rattle.std.proofs.Common.{◌≡◌, ◌<◌, ◌≤◌, Ok}
+use Rattle.std.proofs.Common.{◌≡◌, ◌<◌, ◌≤◌, ◌^◌, length, All, Ok}
 use Rattle.coin_history.specs.History.{committed_blocks}
 use Rattle.operator_rules.specs.Commands.{openings_of}
 use Rattle.operator_core.proofs.showing.openings_between.Given as goal
@@ -8,5 +8,7 @@ invariant-way g l = record {
   made : openings_of (g.H.Hash32.digest_of l.trees.hash) l.log.log l.trees.sealed l.coin
       (committed_blocks l.log.log l.after l.before)
       ≡ Ok l.openings.items;
+  count : length l.openings.items < 2 ^ 32;
+  lengths : All (λ opening. length opening.bytes < 2 ^ 32) l.openings.items;
   within : l.after < l.before → l.before ≤ l.last;
 }

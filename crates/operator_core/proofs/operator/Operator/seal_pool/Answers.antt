@@ -1,6 +1,10 @@
 use Rattle.operator_core.proofs.Adds.{sealed_adds, right_sealed}
 use Rattle.operator_core.proofs.operator.Operator.seal_pool.Goals as goal
 
+pub add-requires-clause-fits : goal.add-requires-clause-fits
+add-requires-clause-fits g c =
+    (sealed_adds c.self.inside.notes.notes.records c.in_ok-body.body c.in_ok-body.ensures c.is_whole.ensures.role).fits
+
 pub invariant_of-self-in-Ok : goal.invariant_of-self-in-Ok
 invariant_of-self-in-Ok g c =
     let adds = sealed_adds c.self.inside.notes.notes.records c.in_ok-body.body c.in_ok-body.ensures
