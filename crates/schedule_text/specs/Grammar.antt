@@ -78,6 +78,14 @@ call_parts (CallForm.Finish coin exit) = of calls CallName.Finish coin exit
 abbrev pub IsCallForm : CallForm → Type 0
 IsCallForm form = AreParts calls (call_parts form)
 
+-- whether a form challenges an exit or answers a challenge
+abbrev pub is_challenge : CallForm → Bool
+is_challenge (CallForm.After _ _ _ _) = true
+is_challenge (CallForm.Between _ _ _ _) = true
+is_challenge (CallForm.Before _ _ _ _) = true
+is_challenge (CallForm.Respond _ _ _ _ _) = true
+is_challenge _ = false
+
 -- `<form>`: a form of a call
 abbrev pub call : Kind CallForm
 call = form_of calls call_parts
@@ -245,11 +253,11 @@ line_parts (Line.Cut node calls outcome own) = of lines (LineName.Deed DeedName.
 
 -- whether a line declares a name, or is of what a named one does; the others are of the contract alone
 abbrev pub is_of_nodes : Line → Bool
-is_of_nodes (Line.Chain tag operator most) = false
-is_of_nodes (Line.Fund account amount) = false
-is_of_nodes (Line.Tick time) = false
-is_of_nodes (Line.Money account) = false
-is_of_nodes (Line.Call account form) = false
+is_of_nodes (Line.Chain _ _ _) = false
+is_of_nodes (Line.Fund _ _) = false
+is_of_nodes (Line.Tick _) = false
+is_of_nodes (Line.Money _) = false
+is_of_nodes (Line.Call _ _) = false
 is_of_nodes _ = true
 
 -- ---- bytes

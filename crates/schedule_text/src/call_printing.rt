@@ -1,7 +1,7 @@
-ghost use Rattle.std.specs.Prelude.{◌≡◌, [], ◌++◌, length, take, OnOk, OnErr};
+ghost use Rattle.std.specs.Prelude.{◌≡◌, [], ◌++◌, true, length, take, OnOk, OnErr};
 ghost use Rattle.line_forms.specs.Words.{trailed};
 ghost use Rattle.line_forms.specs.Pieces.{words_then};
-ghost use Rattle.schedule_text.specs.Grammar.{call};
+ghost use Rattle.schedule_text.specs.Grammar.{call, is_challenge};
 ghost use Rattle.schedule_text.specs.declared.call_form.CallForm.{CallForm};
 
 use super::call_form::CallForm;
@@ -37,23 +37,14 @@ fn push_exit<'a>(
     )
 }
 
-// Puts the words of a form of a call at the end, a blank after each.
+// Puts the words of a challenge, or of an answer to one, at the end, a blank after each.
 #[tactic(auto, using(line_forms::proofs::PrintLaws::words))]
-fn push_call(out: &mut Vec<u8>, form: &CallForm) -> Result<(), NoMemory>
+fn push_challenge(out: &mut Vec<u8>, form: &CallForm) -> Result<(), NoMemory>
+    requires { is_challenge form.now ≡ true }
     ensures ok { OnOk result (out.new.items ≡ out.old.items ++ trailed (call.words form.now)) }
     ensures front { take (length out.old.items) out.new.items ≡ out.old.items }
 {
     match form {
-        CallForm::Deposit { amount, key } => push_row(out, b"deposit", &[*amount], key.piece()),
-        CallForm::Commit { root } => push_row(out, b"commit", &[], Hex(root.as_slice())),
-        CallForm::Start { coin, block } => push_row(out, b"start", &[*coin], Number(*block)),
-        CallForm::Exit {
-            coin,
-            parent,
-            shown,
-            exit,
-            opening,
-        } => push_exit(out, *coin, *parent, shown, *exit, opening),
         CallForm::After {
             coin,
             exit,
@@ -84,7 +75,29 @@ fn push_call(out: &mut Vec<u8>, form: &CallForm) -> Result<(), NoMemory>
             &[*coin, *exit, *challenged, *block],
             opening.piece(),
         ),
+        _ => Ok(()),
+    }
+}
+
+// Puts the words of a form of a call at the end, a blank after each.
+#[tactic(auto, using(line_forms::proofs::PrintLaws::words))]
+fn push_call(out: &mut Vec<u8>, form: &CallForm) -> Result<(), NoMemory>
+    ensures ok { OnOk result (out.new.items ≡ out.old.items ++ trailed (call.words form.now)) }
+    ensures front { take (length out.old.items) out.new.items ≡ out.old.items }
+{
+    match form {
+        CallForm::Deposit { amount, key } => push_row(out, b"deposit", &[*amount], key.piece()),
+        CallForm::Commit { root } => push_row(out, b"commit", &[], Hex(root.as_slice())),
+        CallForm::Start { coin, block } => push_row(out, b"start", &[*coin], Number(*block)),
+        CallForm::Exit {
+            coin,
+            parent,
+            shown,
+            exit,
+            opening,
+        } => push_exit(out, *coin, *parent, shown, *exit, opening),
         CallForm::Finish { coin, exit } => push_row(out, b"finish", &[*coin], Number(*exit)),
+        _ => push_challenge(out, form),
     }
 }
 
