@@ -46,7 +46,8 @@ pub lookup-before : {K X : Type 0} (test : K → Bool) (first second : List (K �
 lookup-before test [] second x h = cc h
 lookup-before {K} {X} test (row ∷ first) second x h =
     elim (test row.0) as
-    (λ b. cond b (Some row.1) (lookup test first) ≡ Some x → cond b (Some row.1) (lookup test (first ++ second)) ≡ Some x) [
+    (λ b. cond b (Some row.1) (lookup test first) ≡ Some x
+    → cond b (Some row.1) (lookup test (first ++ second)) ≡ Some x) [
       | true ↦ λ is. is
       | false ↦ λ is. lookup-before test first second x is
     ] h

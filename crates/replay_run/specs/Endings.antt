@@ -12,7 +12,7 @@ is_chain_line (Begins tag operator most) = true
 is_chain_line (Enters call) = false
 is_chain_line (Asks account) = false
 
--- line n is answered: it passes no limit, and it spells a line that is run, which is a `chain` line exactly where n is 1
+-- line n is answered: it passes no limit, and it spells a line that is run, a `chain` line exactly where n is 1
 pub record IsAnswered (n start : ℕ) (line : List ℕ) : Type 0 where
   pub fits : is_too_long n start line ≡ false
   pub spelled : Request

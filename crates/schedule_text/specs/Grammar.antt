@@ -104,14 +104,16 @@ wallet_form WalletCommandName.Again =
 wallet_form WalletCommandName.Leave =
     named (codes "leave") (name ▸ number ▸ ends) (λ wallet coin. Command.Wallet wallet (WalletCommand.Leave coin))
 wallet_form WalletCommandName.Reclaim =
-    named (codes "reclaim") (name ▸ bytes ▸ ends) (λ wallet bundle. Command.Wallet wallet (WalletCommand.Reclaim bundle))
+    named (codes "reclaim") (name ▸ bytes ▸ ends)
+    (λ wallet bundle. Command.Wallet wallet (WalletCommand.Reclaim bundle))
 wallet_form WalletCommandName.Migrate =
     named (codes "migrate") (name ▸ ends) (λ wallet. Command.Wallet wallet WalletCommand.Migrate)
 
 -- each command of a watcher: its first word, the watcher's name, and the kinds of the other tokens
 abbrev pub watcher_form : WatcherCommandName → Form Command
 watcher_form WatcherCommandName.Guard =
-    named (codes "guard") (name ▸ bytes ▸ ends) (λ watcher bundle. Command.Watcher watcher (WatcherCommand.Guard bundle))
+    named (codes "guard") (name ▸ bytes ▸ ends)
+    (λ watcher bundle. Command.Watcher watcher (WatcherCommand.Guard bundle))
 watcher_form WatcherCommandName.Release =
     named (codes "release") (name ▸ number ▸ number ▸ ends)
     (λ watcher coin tip. Command.Watcher watcher (WatcherCommand.Release coin tip))

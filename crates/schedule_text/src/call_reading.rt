@@ -14,7 +14,8 @@ fn challenge_of(
     name: ChallengeName,
     words: &mut Words<'_>,
 ) -> Result<CallForm, LineRefusal>
-    ensures found { IfOk result (λ form. takes (call_form (CallName.Challenge name)) words.old ≡ Some (form, words.new)) }
+    ensures found { IfOk result
+        (λ form. takes (call_form (CallName.Challenge name)) words.old ≡ Some (form, words.new)) }
     ensures bad { result ≡ Err LineRefusal.BadLine → takes (call_form (CallName.Challenge name)) words.old ≡ None }
 {
     match name {

@@ -55,7 +55,8 @@ fn wallet_command(
 
 // `send <wallet> <coin> <to> [<last>]`, after its first word.
 fn send(alloc: Global, words: &mut Words<'_>) -> Result<Command, LineRefusal>
-    ensures found { IfOk result (λ command. takes (wallet_form WalletCommandName.Send) words.old ≡ Some (command, words.new)) }
+    ensures found { IfOk result
+        (λ command. takes (wallet_form WalletCommandName.Send) words.old ≡ Some (command, words.new)) }
     ensures bad { result ≡ Err LineRefusal.BadLine → takes (wallet_form WalletCommandName.Send) words.old ≡ None }
 {
     Ok(Command::Wallet {

@@ -99,7 +99,8 @@ fn push_sign<'a>(
     last: Option<u64>,
 ) -> Result<(), NoMemory>
     ensures ok { OnOk result (out.new.items ≡ out.old.items
-        ++ trailed (codes "sign" ∷ rogue.now ∷ map number_text numbers.now ++ (to.words recipient.now ++ optional_number.words last))) }
+        ++ trailed (codes "sign" ∷ rogue.now
+        ∷ map number_text numbers.now ++ (to.words recipient.now ++ optional_number.words last))) }
     ensures front { take (length out.old.items) out.new.items ≡ out.old.items }
 {
     push_pieces(
