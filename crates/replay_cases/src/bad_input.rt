@@ -5,7 +5,7 @@ use std::test::Fail;
 #[test]
 fn bad_lines_end_the_run(rt: HostRuntime) -> Result<(), Fail> {
     let alloc = rt.alloc();
-    let lines: [&[u8]; 24] = [
+    let lines: [&[u8]; 27] = [
         b"",
         b"fund 1",
         b"fund 1 1 1",
