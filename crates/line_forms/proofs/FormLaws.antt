@@ -7,7 +7,7 @@ use Rattle.std.specs.Str.{bytes_eq}
 use Rattle.std.proofs.lemmas.List.{append-nil}
 use Rattle.std.proofs.lemmas.Slice.Eq.{bytes_eq-Decides}
 use Rattle.line_forms.specs.Words.{words_of, line_of_words, is_end}
-use Rattle.line_forms.specs.Forms.{Kind, take_word, one_word, Shape, ends, ◌▸◌, Make, Values, AreValues, words_by, made, take_by, Form, named, name_of, shape_of, makes, takes, Table, Parts, these, makes_parts, words_of_parts, AreParts, take_form, whole, form_of, run_of, optional, take_optional, IsOptional, optional_words}
+use Rattle.line_forms.specs.Forms.{Kind, take_word, one_word, Shape, ends, ◌▸◌, Make, Values, AreValues, words_by, made, take_by, Form, named, name_of, shape_of, makes, takes, Table, Parts, these, makes_parts, words_of_parts, AreParts, take_form, whole, form_of, run_of, optional, take_optional, IsOptional, optional_words, mapped_make, mapped_form}
 use Rattle.line_forms.specs.Laws.{is_unbroken, AreUnbroken, MayFollow, IsKind, is_closed_before, IsLawful, IsRow, IsTable}
 use Rattle.line_forms.proofs.WordLaws.{HasNoBlank-from_test, HasNoBlank, words_of-line, line-words_of}
 
@@ -298,3 +298,19 @@ words-whole table parts is bytes b h =
     let law = form_of-is false table parts is in
     let p = law.spelled (words_of bytes) [] b refl (whole_some (take_form table (words_of bytes)) b h) in
     (sym (line-words_of bytes) ∙ ap line_of_words (p.0 ∙ append-nil (words_of_parts table (parts b))), p.1)
+
+-- ---- a form of one table as a form of another
+
+mapped-taken_by : (shape : Shape) {B C : Type 0} (f : B → C) (make : Make shape B) (words rest : List (List ℕ)) (b : B)
+    → take_by shape make words ≡ Some (b, rest) → take_by shape (mapped_make shape f make) words ≡ Some (f b, rest)
+mapped-taken_by ends f make words rest b h =
+    let same = some_pair (make, words) (b, rest) h in
+    rw (same.0, same.1) refl
+mapped-taken_by (kind ▸ shape) f make words rest b h =
+    let p = and_then_some (λ taken. take_by shape (make taken.0) taken.1) (kind.take words) (b, rest) h in
+    rw p.1 (mapped-taken_by shape f (make p.0.0) p.0.1 rest b p.2)
+
+-- what a form takes, the mapped form takes with something made of it
+pub mapped-taken : {B C : Type 0} (f : B → C) (row : Form B) (words rest : List (List ℕ)) (b : B)
+    → takes row words ≡ Some (b, rest) → takes (mapped_form f row) words ≡ Some (f b, rest)
+mapped-taken f (named name shape make) words rest b h = mapped-taken_by shape f make words rest b h

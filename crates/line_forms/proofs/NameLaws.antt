@@ -1,5 +1,5 @@
 -- A table of names is searched row by row.
-use Rattle.std.proofs.Common.{◌≡◌, ℕ, zero, suc, ◌+◌, ◌<◌, Bool, true, false, cond, List, [], ◌∷◌, length, take, get_or, Option, Some, None, refl, add-one, arith}
+use Rattle.std.proofs.Common.{◌≡◌, ℕ, zero, suc, ◌+◌, ◌<◌, Bool, true, false, cond, List, [], ◌∷◌, ◌++◌, length, map, take, get_or, Option, Some, None, option_map, refl, add-one, arith}
 use Rattle.std.specs.Borrow.{Bor}
 use Rattle.std.specs.Map.{lookup}
 use Rattle.line_forms.specs.Names.{rows_of}
@@ -39,3 +39,35 @@ pub named-more : {T : Type 0} (test : List ℕ → Bool) (table : List (Bor (Lis
     → row ≡ get_or table i d → lookup test (rows_of (take i table)) ≡ None → test row.0.now ≡ false
     → lookup test (rows_of (take (i + 1) table)) ≡ None
 named-more test table i row d lt e h is = rw add-one (named-suc test table i row d lt e h is)
+
+-- a table of names after another: a name of the first is found there
+pub lookup-before : {K X : Type 0} (test : K → Bool) (first second : List (K × X)) (x : X)
+    → lookup test first ≡ Some x → lookup test (first ++ second) ≡ Some x
+lookup-before test [] second x h = cc h
+lookup-before {K} {X} test (row ∷ first) second x h =
+    elim (test row.0) as
+    (λ b. cond b (Some row.1) (lookup test first) ≡ Some x
+    → cond b (Some row.1) (lookup test (first ++ second)) ≡ Some x) [
+      | true ↦ λ is. is
+      | false ↦ λ is. lookup-before test first second x is
+    ] h
+
+-- and each other name is looked for in the second
+pub lookup-after : {K X : Type 0} (test : K → Bool) (first second : List (K × X)) → lookup test first ≡ None
+    → lookup test (first ++ second) ≡ lookup test second
+lookup-after test [] second h = refl
+lookup-after test (row ∷ first) second h =
+    let p = none_first (test row.0) row.1 (lookup test first) h in
+    rw p.0 (lookup-after test first second p.1)
+
+-- a table of names with something made of what each has
+pub lookup-mapped : {K X Y : Type 0} (test : K → Bool) (f : X → Y) (rows : List (K × X))
+    → lookup test (map (λ (row : K × X). (row.0, f row.1)) rows) ≡ option_map f (lookup test rows)
+lookup-mapped test f [] = refl
+lookup-mapped {K} {X} {Y} test f (row ∷ rows) =
+    elim (test row.0) as
+    (λ b. cond b (Some (f row.1)) (lookup test (map (λ (row : K × X). (row.0, f row.1)) rows))
+    ≡ option_map f (cond b (Some row.1) (lookup test rows))) [
+      | true ↦ refl
+      | false ↦ lookup-mapped test f rows
+    ]

@@ -1,10 +1,11 @@
 -- Words are put at the end, a blank after each.
-use Rattle.std.proofs.Common.{◌≡◌, ℕ, ◌+◌, ◌<◌, ◌≤◌, List, [], ◌∷◌, ◌++◌, length, take, get_or, refl, sym, ap, ◌∙◌, append_assoc, arith, length-append, ◌-◌}
+use Rattle.std.proofs.Common.{◌≡◌, ℕ, ◌+◌, ◌<◌, ◌≤◌, List, [], ◌∷◌, ◌++◌, length, map, take, get_or, refl, sym, ap, ◌∙◌, append_assoc, arith, length-append, ◌-◌}
 use Rattle.std.proofs.lemmas.List.{take-append-le, take_all, take-take, append-nil, length-take, take_more}
 use Rattle.line_forms.specs.declared.pieces.Piece.{Piece}
 use Rattle.line_forms.specs.Words.{line_of_words, trailed}
 use Rattle.line_forms.specs.Forms.{Table, Parts, these, words_of_parts, name_of, shape_of, words_by}
 use Rattle.line_forms.specs.Pieces.{piece_words, words_of_pieces, words_then}
+use Rattle.line_forms.specs.Tokens.{number_text}
 
 -- what was put at the end leaves what was there
 pub front_put : (old new more : List ℕ) → new ≡ old ++ more → take (length old) new ≡ old
@@ -80,6 +81,23 @@ pieces-more old now new pieces i piece d lt e h k =
     ap words_of_pieces (take_more pieces i d lt) ∙ words_of_pieces-append (take i pieces) (get_or pieces i d ∷ []) in
     rw more (trailed_last old now new (words_of_pieces (take i pieces)) (piece_words (get_or pieces i d)) h
     (k ∙ ap (λ piece. now ++ trailed (piece_words piece)) e))
+
+-- one number more
+numbers-append : (first second : List ℕ)
+    → map number_text (first ++ second) ≡ map number_text first ++ map number_text second
+numbers-append [] second = refl
+numbers-append (n ∷ first) second = ap (λ (rest : List (List ℕ)). number_text n ∷ rest) (numbers-append first second)
+
+pub numbers-more : (old now new numbers : List ℕ) (i n d : ℕ) → i < length numbers → n ≡ get_or numbers i d
+    → now ≡ old ++ trailed (map number_text (take i numbers)) → new ≡ now ++ (number_text n ++ 32 ∷ [])
+    → new ≡ old ++ trailed (map number_text (take (i + 1) numbers))
+unfolding trailed
+numbers-more old now new numbers i n d lt e h k =
+    let more : map number_text (take (i + 1) numbers)
+    ≡ map number_text (take i numbers) ++ (number_text (get_or numbers i d) ∷ []) =
+    ap (map number_text) (take_more numbers i d lt) ∙ numbers-append (take i numbers) (get_or numbers i d ∷ []) in
+    rw more (trailed_two old now new (map number_text (take i numbers)) (number_text (get_or numbers i d) ∷ []) h
+    (k ∙ ap (λ (n : ℕ). now ++ (number_text n ++ 32 ∷ [])) e))
 
 -- a line, and the blank after its last word
 pub trailed-line : (word : List ℕ) (words : List (List ℕ))

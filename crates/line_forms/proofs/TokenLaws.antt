@@ -16,11 +16,10 @@ use Rattle.line_forms.specs.declared.tokens.ShownToken.{ShownToken}
 use Rattle.line_forms.specs.declared.tokens.OutcomeToken.{OutcomeToken}
 use Rattle.line_forms.specs.declared.tokens.OutcomeToken.TheVariants.{Old}
 use Rattle.line_forms.specs.declared.tokens.OutcomeName.{OutcomeName}
-use Rattle.line_forms.specs.Forms.{ends, ◌▸◌}
 use Rattle.line_forms.specs.Laws.{is_unbroken, IsKind, IsRow, IsMade}
-use Rattle.line_forms.specs.Tokens.{only_if, IsNumber, IsNumberWithin, IsName, AreBytes, AreBytesOf, AreSomeBytes, IsHexOrName, IsHexOrItem, IsShown, number, number_within, name, hex, hex_of, some_bytes, hex_or_name, bytes, shown, outcome, outcomes, outcome_parts, optional_number, pair, optional_pair, number_in, number_text, number_within_in, name_in, is_name, is_letter, hex_of_in, some_bytes_in, hex_or_name_in, hex_or_name_text, bytes_in, item_in, hex_or_item_text, shown_in, shown_text}
+use Rattle.line_forms.specs.Tokens.{only_if, IsNumber, IsNumberWithin, IsName, IsDeclaredName, AreBytes, AreBytesOf, AreSomeBytes, IsHexOrName, IsHexOrItem, IsShown, number, number_within, name, hex, hex_of, some_bytes, hex_or_name, bytes, shown, outcome, outcomes, outcome_parts, optional_number, declared_name, declared_name_in, number_in, number_text, number_within_in, name_in, is_name, is_letter, hex_of_in, some_bytes_in, hex_or_name_in, hex_or_name_text, bytes_in, item_in, hex_or_item_text, shown_in, shown_text}
 use Rattle.line_forms.proofs.NumberLaws.{number_in-text, number_text-in, digits-number_text}
-use Rattle.line_forms.proofs.FormLaws.{IsToken, one_word-is, form_of-is, run_of-is, optional-is, and_then_some, option_map_some}
+use Rattle.line_forms.proofs.FormLaws.{IsToken, one_word-is, form_of-is, optional-is, and_then_some, option_map_some}
 
 -- ---- words without a blank
 
@@ -106,6 +105,10 @@ unbroken-hex bytes h = unbroken-hex_in (hex_text bytes) bytes (hex_in-hex_text b
 
 -- ---- a token with a condition
 
+not_true : (b : Bool) → not b ≡ true → b ≡ false
+not_true true h = cc h
+not_true false h = refl
+
 -- a test tells whether a condition holds
 abbrev IsTest : {A : Type 0} → (A → Bool) → (A → Type 0) → Type 0
 IsTest {A} test Holds = (value : A) → (test value ≡ true → Holds value) × (Holds value → test value ≡ true)
@@ -158,10 +161,22 @@ name_text-in word name h =
     let p = cond_some (is_name word) word name h in
     (p.1, subst IsName p.1 p.0)
 
+name-token : IsToken (List ℕ) IsName (λ word. word) name_in
+name-token = record { read = name_in-text; one = name_text-in; unbroken = unbroken-name }
+
 pub name-is : (closed : Bool) → IsKind (List ℕ) name closed
-name-is =
-    one_word-is IsName (λ word. word) name_in
-    (record { read = name_in-text; one = name_text-in; unbroken = unbroken-name })
+name-is = one_word-is IsName (λ word. word) name_in name-token
+
+not-test : {A : Type 0} (test : A → Bool) → IsTest (λ value. not (test value)) (λ value. test value ≡ false)
+not-test test value = (not_true (test value), λ h. rw h refl)
+
+declared_name-token : IsToken (List ℕ) IsDeclaredName (λ word. word) declared_name_in
+unfolding declared_name_in
+declared_name-token =
+    only_if-token IsName _ (λ word. word) name_in _ (not-test (λ word. bytes_eq word (codes "op"))) name-token
+
+pub declared_name-is : (closed : Bool) → IsKind (List ℕ) declared_name closed
+declared_name-is = one_word-is IsDeclaredName (λ word. word) declared_name_in declared_name-token
 
 -- ---- byte strings
 
@@ -325,20 +340,12 @@ outcome-is closed =
 pub optional_number-is : IsKind (Option ℕ) optional_number false
 optional_number-is = optional-is number (number-is false) (λ n. refl)
 
-pair-is : (closed : Bool) → IsKind (ℕ × ℕ) pair closed
-pair-is closed =
-    run_of-is closed (number ▸ number ▸ ends) (λ first second. (first, second))
-    (λ numbers. (numbers.0, (numbers.1, tt)))
-    (number-is true, (number-is closed, tt)) (λ numbers. refl) (λ values. refl)
-
-pub optional_pair-is : IsKind (Option (ℕ × ℕ)) optional_pair false
-optional_pair-is = optional-is pair (pair-is false) (λ numbers. refl)
-
 -- the laws of the kinds that another grammar's rows are searched with
 pub ruleset kinds = (
   number-is,
   number_within-is,
   name-is,
+  declared_name-is,
   hex-is,
   hex_of-is,
   some_bytes-is,
@@ -347,5 +354,4 @@ pub ruleset kinds = (
   shown-is,
   outcome-is,
   optional_number-is,
-  optional_pair-is,
 )

@@ -165,3 +165,19 @@ take_optional kind (word ∷ words) = option_map (λ taken. (Some taken.0, taken
 -- a value that may be missing at the end of a line
 abbrev pub optional : {A : Type 0} → Kind A → Kind (Option A)
 optional kind = record { Is = IsOptional kind; words = optional_words kind; take = take_optional kind }
+
+-- ---- a form of one table as a form of another
+
+-- a function of a shape's values, and something made of what it gives
+abbrev pub mapped_make : (shape : Shape) → {B C : Type 0} → (B → C) → Make shape B → Make shape C
+mapped_make ends f make = f make
+mapped_make (kind ▸ shape) f make = λ value. mapped_make shape f (make value)
+
+-- the form with the same words, and something made of its value
+abbrev pub mapped_form : {B C : Type 0} → (B → C) → Form B → Form C
+mapped_form f (named name shape make) = named name shape (mapped_make shape f make)
+
+-- its values, which are those of the form
+abbrev pub mapped_values : {B C : Type 0} → (f : B → C) → (row : Form B) → Values (shape_of row)
+    → Values (shape_of (mapped_form f row))
+mapped_values f (named name shape make) values = values

@@ -13,7 +13,7 @@ use Rattle.line_forms.specs.declared.tokens.ShownToken.{ShownToken}
 use Rattle.line_forms.specs.declared.tokens.OutcomeToken.{OutcomeToken}
 use Rattle.line_forms.specs.declared.tokens.OutcomeToken.TheVariants.{Old, New, Mix}
 use Rattle.line_forms.specs.declared.tokens.OutcomeName.{OutcomeName}
-use Rattle.line_forms.specs.Forms.{Kind, one_word, ends, ◌▸◌, run_of, optional, Form, named, Table, Parts, of, form_of}
+use Rattle.line_forms.specs.Forms.{Kind, one_word, ends, ◌▸◌, optional, Form, named, Table, Parts, of, form_of}
 
 -- the value, if it passes the test
 abbrev pub only_if : {A : Type 0} → (A → Bool) → Option A → Option A
@@ -80,6 +80,18 @@ name_in word = if is_name word then Some word else None
 -- `<name>`
 abbrev pub name : Kind (List ℕ)
 name = one_word IsName (λ word. word) name_in
+
+-- a name that a line may declare: each but that of the operator
+abbrev pub IsDeclaredName : List ℕ → Type 0
+IsDeclaredName word = IsName word × (bytes_eq word (codes "op") ≡ false)
+
+-- the name, other than the operator's, that a word is
+unfoldable pub declared_name_in : List ℕ → Option (List ℕ)
+declared_name_in word = only_if (λ word. not (bytes_eq word (codes "op"))) (name_in word)
+
+-- `<name>` where a line declares it
+abbrev pub declared_name : Kind (List ℕ)
+declared_name = one_word IsDeclaredName (λ word. word) declared_name_in
 
 -- ---- byte strings
 
@@ -213,11 +225,3 @@ outcome = form_of outcomes outcome_parts
 -- `[<number>]`: a number, which may be missing at the end of a line
 abbrev pub optional_number : Kind (Option ℕ)
 optional_number = optional number
-
--- two numbers
-abbrev pub pair : Kind (ℕ × ℕ)
-pair = run_of (number ▸ number ▸ ends) (λ first second. (first, second)) (λ numbers. (numbers.0, (numbers.1, tt)))
-
--- `[<number> <number>]`: two numbers, which may be missing at the end of a line
-abbrev pub optional_pair : Kind (Option (ℕ × ℕ))
-optional_pair = optional pair

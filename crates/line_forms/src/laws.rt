@@ -1,5 +1,5 @@
 ghost use Rattle.std.specs.Prelude.{◌≡◌, ℕ, Bool, false, List, Option};
-ghost use Rattle.line_forms.specs.Tokens.{number, number_within, name, hex, hex_of, some_bytes, hex_or_name, bytes, shown, outcome, optional_number, optional_pair};
+ghost use Rattle.line_forms.specs.Tokens.{number, number_within, name, declared_name, hex, hex_of, some_bytes, hex_or_name, bytes, shown, outcome, optional_number};
 ghost use Rattle.line_forms.specs.Laws.{IsKind};
 ghost use Rattle.line_forms.specs.declared.tokens.HexOrName.{HexOrName};
 ghost use Rattle.line_forms.specs.declared.tokens.HexOrItem.{HexOrItem};
@@ -15,6 +15,7 @@ pub fn the_kinds_are_lawful()
     ensures number { (closed : Bool) → IsKind ℕ number closed }
     ensures number_within { (low high : ℕ) (closed : Bool) → IsKind ℕ (number_within low high) closed }
     ensures name { (closed : Bool) → IsKind (List ℕ) name closed }
+    ensures declared_name { (closed : Bool) → IsKind (List ℕ) declared_name closed }
     ensures hex { (closed : Bool) → IsKind (List ℕ) hex closed }
     ensures hex_of { (count : ℕ) (closed : Bool) → IsKind (List ℕ) (hex_of count) closed }
     ensures some_bytes { (closed : Bool) → IsKind (List ℕ) some_bytes closed }
@@ -23,7 +24,6 @@ pub fn the_kinds_are_lawful()
     ensures shown { (closed : Bool) → IsKind ShownToken shown closed }
     ensures outcome { (closed : Bool) → IsKind OutcomeToken outcome closed }
     ensures optional_number { IsKind (Option ℕ) optional_number false }
-    ensures optional_pair { IsKind (Option (ℕ × ℕ)) optional_pair false }
 {}
 
 /// The lengths of tokens: 16 bytes of a name at most, 56 of a key and 64 of an owner.

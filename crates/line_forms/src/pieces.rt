@@ -1,4 +1,4 @@
-ghost use Rattle.std.specs.Prelude.{◌≡◌, [], ◌∷◌, ◌++◌, length, take, OnOk, OnErr};
+ghost use Rattle.std.specs.Prelude.{◌≡◌, [], ◌∷◌, ◌++◌, length, map, take, OnOk, OnErr};
 ghost use Rattle.plasma_base.specs.HexText.{hex_text};
 ghost use Rattle.line_forms.specs.Words.{trailed};
 ghost use Rattle.line_forms.specs.Pieces.{piece_words, words_of_pieces};
@@ -14,14 +14,14 @@ pub enum Piece<'a> {
     /// A word as it stands: the name of a form, or a name token.
     Name(&'a [u8]),
     Number(u64),
+    /// Numbers, a word for each.
+    Numbers(&'a [u64]),
     Hex(&'a [u8]),
     /// `#` and the number of a line.
     Item(u64),
     Outcome(&'a OutcomeToken),
     /// A number, or no word.
     OptionalNumber(Option<u64>),
-    /// Two numbers, or no word.
-    OptionalPair(Option<(u64, u64)>),
 }
 
 impl HexOrName {
@@ -81,6 +81,18 @@ fn push_count(out: &mut Vec<u8>, count: u64) -> Result<(), NoMemory>
     Ok(out.push(b' ')?)
 }
 
+// Puts numbers at the end, a blank after each.
+#[tactic(auto, using(crate::proofs::PrintLaws::words), unfolding(crate::specs::Words::trailed))]
+fn push_counts(out: &mut Vec<u8>, counts: &[u64]) -> Result<(), NoMemory>
+    ensures ok { OnOk result (out.new.items ≡ out.old.items ++ trailed (map number_text counts.now)) }
+    ensures front { take (length out.old.items) out.new.items ≡ out.old.items }
+{
+    for count in counts {
+        push_count(out, *count)?;
+    }
+    Ok(())
+}
+
 // Puts a hex and a blank at the end.
 #[tactic(auto, using(crate::proofs::PrintLaws::fronts))]
 fn push_bytes(out: &mut Vec<u8>, bytes: &[u8]) -> Result<(), NoMemory>
@@ -127,16 +139,12 @@ fn push_piece(out: &mut Vec<u8>, piece: Piece<'_>) -> Result<(), NoMemory>
     match piece {
         Piece::Name(name) => push_name(out, name),
         Piece::Number(count) => push_count(out, count),
+        Piece::Numbers(counts) => push_counts(out, counts),
         Piece::Hex(bytes) => push_bytes(out, bytes),
         Piece::Item(line) => push_item(out, line),
         Piece::Outcome(value) => push_outcome(out, value),
         Piece::OptionalNumber(Some(count)) => push_count(out, count),
         Piece::OptionalNumber(None) => Ok(()),
-        Piece::OptionalPair(Some((first, second))) => {
-            push_count(out, first)?;
-            push_count(out, second)
-        }
-        Piece::OptionalPair(None) => Ok(()),
     }
 }
 

@@ -1,7 +1,8 @@
-ghost use Rattle.std.specs.Prelude.{◌≡◌, ◌≢◌, ◌&&◌, ◌||◌, nat_le, ◌∷◌, Some, None, Err, IfOk};
+ghost use Rattle.std.specs.Prelude.{◌≡◌, ◌≢◌, ◌≤◌, ◌&&◌, ◌||◌, nat_le, ◌∷◌, codes, Some, None, Err, IfOk, IfSome};
 ghost use Rattle.std.specs.List.{list_all};
+ghost use Rattle.std.specs.Str.{bytes_eq};
 ghost use Rattle.line_forms.specs.Forms.{takes};
-ghost use Rattle.line_forms.specs.Tokens.{number, number_within, name, hex, hex_of, key, to, bytes, shown, outcomes, outcome, optional_number, optional_pair, some_bytes, is_letter, is_name, name_in, hex_of_in, hex_or_name_in, number_within_in, item_in, bytes_in, shown_in, some_bytes_in};
+ghost use Rattle.line_forms.specs.Tokens.{number, number_within, name, hex, hex_of, key, to, bytes, shown, outcomes, outcome, optional_number, some_bytes, declared_name, declared_name_in, is_letter, is_name, name_in, hex_of_in, hex_or_name_in, number_within_in, item_in, bytes_in, shown_in, some_bytes_in};
 
 use super::names::named;
 use super::numbers::number;
@@ -53,6 +54,27 @@ fn name_in(alloc: Global, word: &[u8]) -> Result<Bytes, LineRefusal>
     }
 }
 
+// Whether a name is the operator's.
+fn is_operator(name: &[u8]) -> bool
+    ensures { result ≡ bytes_eq name.now (codes "op") }
+{
+    name == b"op".as_slice()
+}
+
+// The name that a word is, other than the operator's.
+#[tactic(auto, unfolding(crate::specs::Tokens::declared_name_in))]
+fn declared_name_in(alloc: Global, word: &[u8]) -> Result<Bytes, LineRefusal>
+    ensures found { IfOk result (λ name. declared_name_in word.now ≡ Some name) }
+    ensures bad { result ≡ Err LineRefusal.BadLine → declared_name_in word.now ≡ None }
+{
+    let name = name_in(alloc, word)?;
+    if is_operator(name.as_slice()) {
+        Err(LineRefusal::BadLine)
+    } else {
+        Ok(name)
+    }
+}
+
 // The bytes that a hex of `count` bytes spells.
 #[tactic(auto, unfolding(crate::specs::Tokens::hex_of_in))]
 fn hex_of_in(alloc: Global, count: usize, word: &[u8]) -> Result<Bytes, LineRefusal>
@@ -82,7 +104,8 @@ fn hex_or_name_in(alloc: Global, count: usize, word: &[u8]) -> Result<HexOrName,
 // The number that a word spells, if it is from `low` to `high`.
 #[tactic(auto, unfolding(crate::specs::Tokens::number_within_in))]
 fn number_within_in(low: u64, high: u64, word: &[u8]) -> Option<u64>
-    ensures { result ≡ number_within_in low high word.now }
+    ensures is { result ≡ number_within_in low high word.now }
+    ensures within { IfSome result (λ value. (low ≤ value) × (value ≤ high)) }
 {
     let value = number(word)?;
     (low <= value && value <= high).then_some(value)
@@ -173,6 +196,7 @@ impl<'a> Words<'a> {
     pub fn number_within(&mut self, low: u64, high: u64) -> Result<u64, LineRefusal>
         ensures found { IfOk result (λ value. (number_within low high).take self.old ≡ Some (value, self.new)) }
         ensures bad { result ≡ Err LineRefusal.BadLine → (number_within low high).take self.old ≡ None }
+        ensures within { IfOk result (λ value. (low ≤ value) × (value ≤ high)) }
         ensures no_memory_wanted { result ≢ Err LineRefusal.NoMemory }
     {
         let word = self.next().ok_or(LineRefusal::BadLine)?;
@@ -186,6 +210,15 @@ impl<'a> Words<'a> {
     {
         let word = self.next().ok_or(LineRefusal::BadLine)?;
         name_in(alloc, word)
+    }
+
+    /// `<name>` where a line declares it: each name but `op`, which is the operator's.
+    pub fn declared_name(&mut self, alloc: Global) -> Result<Bytes, LineRefusal>
+        ensures found { IfOk result (λ value. declared_name.take self.old ≡ Some (value, self.new)) }
+        ensures bad { result ≡ Err LineRefusal.BadLine → declared_name.take self.old ≡ None }
+    {
+        let word = self.next().ok_or(LineRefusal::BadLine)?;
+        declared_name_in(alloc, word)
     }
 
     /// `<hex>`: `0x` and an even number of digits `0` to `9`, `a` to `f`.
@@ -271,17 +304,5 @@ impl<'a> Words<'a> {
             return Ok(None);
         }
         Ok(Some(self.number()?))
-    }
-
-    /// `[<number> <number>]`: two numbers, or no word where the line ends.
-    pub fn optional_pair(&mut self) -> Result<Option<(u64, u64)>, LineRefusal>
-        ensures found { IfOk result (λ value. optional_pair.take self.old ≡ Some (value, self.new)) }
-        ensures bad { result ≡ Err LineRefusal.BadLine → optional_pair.take self.old ≡ None }
-        ensures no_memory_wanted { result ≢ Err LineRefusal.NoMemory }
-    {
-        if self.is_empty() {
-            return Ok(None);
-        }
-        Ok(Some((self.number()?, self.number()?)))
     }
 }

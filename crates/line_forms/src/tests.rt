@@ -8,7 +8,10 @@ enum Kind {
     Number,
     /// From 1 to 3000.
     NumberWithin,
+    /// Two numbers.
+    Numbers,
     Name,
+    DeclaredName,
     Hex,
     HexOfTwo,
     SomeBytes,
@@ -19,20 +22,21 @@ enum Kind {
     Outcome,
     /// A number, and then one that may be missing.
     OptionalNumber,
-    /// A number, and then two that may be missing.
-    OptionalPair,
 }
 
 // The least and the greatest of each kind.
-const GOOD: [(Kind, &[u8]); 30] = [
+const GOOD: [(Kind, &[u8]); 31] = [
     (Kind::Number, b"0"),
     (Kind::Number, b"9"),
     (Kind::Number, b"18446744073709551615"),
     (Kind::NumberWithin, b"1"),
     (Kind::NumberWithin, b"3000"),
+    (Kind::Numbers, b"0 18446744073709551615"),
     (Kind::Name, b"a"),
     (Kind::Name, b"z0"),
     (Kind::Name, b"abcdefghijklmno9"),
+    (Kind::DeclaredName, b"o"),
+    (Kind::DeclaredName, b"ops"),
     (Kind::Hex, b"0x"),
     (Kind::Hex, b"0x09af"),
     (Kind::HexOfTwo, b"0x0000"),
@@ -59,12 +63,10 @@ const GOOD: [(Kind, &[u8]); 30] = [
     (Kind::Outcome, b"mix 0 0xa5"),
     (Kind::OptionalNumber, b"1"),
     (Kind::OptionalNumber, b"1 2"),
-    (Kind::OptionalPair, b"6 3 5"),
-    (Kind::OptionalPair, b"1"),
 ];
 
 // Each one character off.
-const BAD: [(Kind, &[u8]); 102] = [
+const BAD: [(Kind, &[u8]); 101] = [
     (Kind::Number, b""),
     (Kind::Number, b"00"),
     (Kind::Number, b"01"),
@@ -95,6 +97,8 @@ const BAD: [(Kind, &[u8]); 102] = [
     (Kind::Name, b"abcdefghijklmno90"),
     (Kind::Name, b"a "),
     (Kind::Name, b" a"),
+    (Kind::DeclaredName, b"op"),
+    (Kind::DeclaredName, b"Op"),
     (Kind::Hex, b""),
     (Kind::Hex, b"0"),
     (Kind::Hex, b"x"),
@@ -191,9 +195,6 @@ const BAD: [(Kind, &[u8]); 102] = [
     (Kind::OptionalNumber, b"1 "),
     (Kind::OptionalNumber, b"1 02"),
     (Kind::OptionalNumber, b"1 2 3"),
-    (Kind::OptionalPair, b"6 3"),
-    (Kind::OptionalPair, b"6 3 5 4"),
-    (Kind::OptionalPair, b"6 3 5 "),
 ];
 
 // The text of pieces.
@@ -211,6 +212,12 @@ fn echo(alloc: Global, kind: Kind, words: &mut Words<'_>) -> Result<Vec<u8>, Lin
         Kind::Number => text_of(alloc, &[Piece::Number(words.number()?)]),
         Kind::NumberWithin => text_of(alloc, &[Piece::Number(words.number_within(1, 3000)?)]),
         Kind::Name => text_of(alloc, &[Piece::Name(words.name(alloc)?.as_slice())]),
+        Kind::DeclaredName => {
+            text_of(
+                alloc,
+                &[Piece::Name(words.declared_name(alloc)?.as_slice())],
+            )
+        }
         Kind::Hex => text_of(alloc, &[Piece::Hex(words.hex(alloc)?.as_slice())]),
         Kind::HexOfTwo => text_of(alloc, &[Piece::Hex(words.hex_of(alloc, 2)?.as_slice())]),
         Kind::SomeBytes => text_of(alloc, &[Piece::Hex(words.some_bytes(alloc)?.as_slice())]),
@@ -226,12 +233,9 @@ fn echo(alloc: Global, kind: Kind, words: &mut Words<'_>) -> Result<Vec<u8>, Lin
                 Piece::OptionalNumber(words.optional_number()?),
             ],
         ),
-        Kind::OptionalPair => text_of(
+        Kind::Numbers => text_of(
             alloc,
-            &[
-                Piece::Number(words.number()?),
-                Piece::OptionalPair(words.optional_pair()?),
-            ],
+            &[Piece::Numbers(&[words.number()?, words.number()?])],
         ),
     }
 }

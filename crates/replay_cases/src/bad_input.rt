@@ -5,7 +5,7 @@ use std::test::Fail;
 #[test]
 fn bad_lines_end_the_run(rt: HostRuntime) -> Result<(), Fail> {
     let alloc = rt.alloc();
-    let lines: [&[u8]; 24] = [
+    let lines: [&[u8]; 27] = [
         b"",
         b"fund 1",
         b"fund 1 1 1",
@@ -29,6 +29,9 @@ fn bad_lines_end_the_run(rt: HostRuntime) -> Result<(), Fail> {
         b"call 1 deposit 300 0x0000000500000004A00000000000000000000000000000000000000000000000000000000000000000000000000000000000000000000000",
         b"call 1 commit 0x",
         b"wallet a 11 1",
+        b"deposit a 300",
+        b"seal",
+        b"cut op 0 old open op",
         b"tick -1",
     ];
     for line in lines {

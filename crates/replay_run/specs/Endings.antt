@@ -1,4 +1,4 @@
--- Why a replay ends, by its lines alone: the limits, the grammar and the rule of declarations.
+-- Why a replay ends, by its lines alone: the limits, the grammar, what is run, and the rule of declarations.
 use Rattle.std.specs.Prelude.{◌≡◌, ℕ, zero, suc, ◌+◌, ◌==◌, ◌⊎◌, not, Bool, true, false, if◌then◌else◌, List, [], ◌∷◌, length, Some, None}
 use Rattle.root_rules.specs.Shown.{Tests}
 use Rattle.replay_run.specs.declared.reply.Ending.{Ending}
@@ -12,14 +12,14 @@ is_chain_line (Begins tag operator most) = true
 is_chain_line (Enters call) = false
 is_chain_line (Asks account) = false
 
--- line n is answered: it passes no limit, and it spells a line, which is a `chain` line exactly where n is 1
+-- line n is answered: it passes no limit, and it spells a line that is run, a `chain` line exactly where n is 1
 pub record IsAnswered (n start : ℕ) (line : List ℕ) : Type 0 where
   pub fits : is_too_long n start line ≡ false
   pub spelled : Request
   pub spells : request_in (text_of line) ≡ Some spelled
   pub placed : is_chain_line spelled ≡ (n == 1)
 
--- line n is bad: it spells no line, or a `chain` line that isn't the first, or another line that is
+-- line n is bad: it spells no line that is run, or a `chain` line that isn't the first, or another line that is
 abbrev pub IsBad : ℕ → List ℕ → Type 0
 IsBad n line =
     (request_in (text_of line) ≡ None)

@@ -31,13 +31,14 @@ pub data Request : Type 0 where
   Enters : RootCall → Request
   Asks : ℕ → Request
 
--- what a line asks for; a call that names a wallet or a mail item asks for nothing
+-- what a line asks for; a call that names a wallet or a mail item asks for nothing, and lines of nodes aren't run yet
 abbrev pub request_of : Line → Option Request
 request_of (ChainLine tag operator most) = Some (Begins tag operator most)
 request_of (FundLine account amount) = Some (Enters (Fund account amount))
 request_of (TickLine time) = Some (Enters (Tick time))
 request_of (MoneyLine account) = Some (Asks account)
 request_of (CallLine account form) = option_map Enters (call_of account form)
+request_of _ = None
 
 -- what the line that bytes spell asks for, if they spell one that asks for something
 unfoldable pub request_in : List ℕ → Option Request

@@ -19,8 +19,8 @@ pub fn replies_follow_the_calls()
 {}
 
 /// A replay ends for the first cause that its lines have: a line that passes a limit, else one that
-/// isn't in the grammar, names a wallet or a mail item, or breaks the rule of declarations; a read fault
-/// comes only where the input wasn't read to its end, and a replay is complete only where all its lines
+/// isn't in the grammar, is of nodes, names a wallet or a mail item, or breaks the rule of declarations;
+/// a read fault comes only where the input wasn't read to its end, and a replay is complete only where all its lines
 /// were answered. Each line before that one has a reply, and no other. So it is for all tests of
 /// openings and signatures.
 pub fn endings_have_their_cause()

@@ -13,7 +13,7 @@ pub enum Reply {
 pub enum Ending {
     /// All lines were answered.
     Complete,
-    /// This line is the first that isn't in the grammar, or breaks a rule of declarations.
+    /// This line is the first that isn't in the grammar, isn't run yet, or breaks a rule of declarations.
     BadLine { line: u64 },
     /// The input wasn't read to its end.
     ReadFault,

@@ -121,6 +121,16 @@ fn step<H: Hash32>(
             Some(entered) => call(h, state, &entered),
             None => Err(LineRefusal::BadLine),
         },
+        // Lines of nodes aren't run yet.
+        Line::Wallet { .. }
+        | Line::Watcher { .. }
+        | Line::Rogue { .. }
+        | Line::Deposit { .. }
+        | Line::Enter { .. }
+        | Line::Command { .. }
+        | Line::Sign { .. }
+        | Line::Crash { .. }
+        | Line::Cut { .. } => Err(LineRefusal::BadLine),
     }
 }
 

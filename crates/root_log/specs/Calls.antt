@@ -5,7 +5,7 @@ use Rattle.plasma_tx.specs.declared.call.Shown.{Shown}
 use Rattle.plasma_tx.specs.declared.call.RootCall.{RootCall}
 use Rattle.plasma_tx.specs.Views.{block_of}
 use Rattle.schedule_text.specs.declared.line.Line.{Line}
-use Rattle.schedule_text.specs.declared.line.CallForm.{CallForm}
+use Rattle.schedule_text.specs.declared.call_form.CallForm.{CallForm}
 use Rattle.line_forms.specs.declared.tokens.HexOrName.{HexOrName}
 use Rattle.line_forms.specs.declared.tokens.HexOrItem.{HexOrItem}
 use Rattle.line_forms.specs.declared.tokens.ShownToken.{ShownToken}

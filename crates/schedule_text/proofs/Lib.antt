@@ -1,1 +1,2 @@
+mod NamesOfLines
 pub mod GrammarLaws

@@ -1,86 +1,98 @@
-use line_forms::{HexOrItem, HexOrName, ShownToken};
+use super::call_form::CallForm;
+use super::command::Command;
+use line_forms::{HexOrName, OutcomeToken};
+use lms_sign::LmsTypes;
 use plasma_base::Bytes;
 
 /// The largest number of blocks that a `chain` line may allow.
 pub const MOST_BLOCKS: u64 = 3000;
 
-/// The number of bytes of a block's root.
-pub const ROOT_BYTES: usize = 32;
+/// The largest number of a leaf in a `sign` line.
+pub const LAST_LEAF: u64 = 1023;
 
 /// One line of a schedule, with its tokens in order.
 #[derive(Debug, Drop)]
 pub enum Line {
     /// `chain <tag> <operator> <most>`: the contract; `most` is from 1 to `MOST_BLOCKS`.
-    Chain { tag: u64, operator: u64, most: u64 },
+    Chain {
+        tag: u64,
+        operator: u64,
+        most: u64,
+    },
+    /// `wallet <name> <account> <seed> [<lms> <ots>]`: an honest wallet. Without types its key has the
+    /// types 5 and 4.
+    Wallet {
+        name: Bytes,
+        account: u64,
+        seed: u64,
+        types: Option<LmsTypes>,
+    },
+    /// `watcher <name> <account>`: an honest watcher.
+    Watcher {
+        name: Bytes,
+        account: u64,
+    },
+    /// `rogue <name> <account> <seed> [<lms> <ots>]`: a name for a stranger's account and key. Without
+    /// types the key has the types 5 and 4.
+    Rogue {
+        name: Bytes,
+        account: u64,
+        seed: u64,
+        types: Option<LmsTypes>,
+    },
     /// `fund <account> <amount>`: money from outside.
-    Fund { account: u64, amount: u64 },
-    /// `tick <time>`: the clock is set.
-    Tick { time: u64 },
-    /// `money <account>`: the balance is asked for.
-    Money { account: u64 },
-    /// `call <account> <form>`: a call on the contract.
-    Call { account: u64, form: CallForm },
-}
-
-/// The form of a `call` line, after the account. Openings are bytes tokens.
-#[derive(Debug, Drop)]
-pub enum CallForm {
-    /// `deposit <amount> <key>`: money for a new coin of the key's owner.
-    Deposit {
+    Fund {
+        account: u64,
         amount: u64,
-        key: HexOrName,
     },
-    /// `commit <root>`: a block with this root, a hex of `ROOT_BYTES` bytes.
-    Commit {
-        root: Bytes,
+    /// `tick <time>`: the clock is set.
+    Tick {
+        time: u64,
     },
-    /// `start <coin> <block>`: an exit of the deposit in that block.
-    Start {
-        coin: u64,
-        block: u64,
+    /// `money <account>`: the balance is asked for.
+    Money {
+        account: u64,
     },
-    /// `exit <coin> <parent> <shown> <exit> <opening>`: an exit of the transfer in block `exit`, whose
-    /// parent in block `parent` is shown.
-    Exit {
+    /// `deposit <wallet> <amount>`: a deposit by the wallet's account with its key.
+    Deposit {
+        wallet: Bytes,
+        amount: u64,
+    },
+    /// `call <account> <form>`: a call on the contract.
+    Call {
+        account: u64,
+        form: CallForm,
+    },
+    /// `enter <node> <number>`: the offered call of the node with this number, counted from 1.
+    Enter {
+        node: Bytes,
+        number: u64,
+    },
+    /// `<command>`: a node does something.
+    Command {
+        command: Command,
+    },
+    /// `sign <rogue> <leaf> <coin> <parent> <to> [<last>]`: a signed transfer by the rogue's key at this
+    /// leaf, which is at most `LAST_LEAF`. With `last` it names the last block that may hold it.
+    Sign {
+        rogue: Bytes,
+        leaf: u64,
         coin: u64,
         parent: u64,
-        shown: ShownToken,
-        exit: u64,
-        opening: HexOrItem,
+        to: HexOrName,
+        last: Option<u64>,
     },
-    /// `after <coin> <exit> <block> <opening>`: a later spend, in that block, of what the exit shows.
-    After {
-        coin: u64,
-        exit: u64,
-        block: u64,
-        opening: HexOrItem,
+    /// `crash <node> <outcome>`: the node goes down, and its disks crash.
+    Crash {
+        node: Bytes,
+        outcome: OutcomeToken,
     },
-    /// `between <coin> <exit> <block> <opening>`: another spend, in that block, of the exit's parent.
-    Between {
-        coin: u64,
-        exit: u64,
-        block: u64,
-        opening: HexOrItem,
-    },
-    /// `before <coin> <exit> <block> <shown>`: an older transaction, in that block, of the coin.
-    Before {
-        coin: u64,
-        exit: u64,
-        block: u64,
-        shown: ShownToken,
-    },
-    /// `respond <coin> <exit> <challenged> <block> <opening>`: a spend, in that block, of the
-    /// challenged transaction.
-    Respond {
-        coin: u64,
-        exit: u64,
-        challenged: u64,
-        block: u64,
-        opening: HexOrItem,
-    },
-    /// `finish <coin> <exit>`: the end of an exit.
-    Finish {
-        coin: u64,
-        exit: u64,
+    /// `cut <node> <calls> <outcome> <command>`: the command, with so many device calls passing on each
+    /// disk of the node, and then a crash.
+    Cut {
+        node: Bytes,
+        calls: u64,
+        outcome: OutcomeToken,
+        command: Command,
     },
 }

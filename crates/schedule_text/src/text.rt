@@ -2,11 +2,10 @@ ghost use Rattle.std.specs.Prelude.{◌≡◌, ◌++◌, Some, None, Err, IfOk, 
 ghost use Rattle.schedule_text.specs.Grammar.{line_in, line_text, IsLine};
 
 use super::line::Line;
-use super::names::{LINE_NAMES, LineName};
-use super::printing::push_with_call;
-use super::reading::line_of;
-use line_forms::Piece::{Name, Number};
-use line_forms::{Grammar, LineRefusal, Words, named, push_pieces};
+use super::names::LineName;
+use super::printing::push_line;
+use super::reading::{line_name, line_of};
+use line_forms::{Grammar, LineRefusal, Words};
 use plasma_base::NoMemory;
 use std::alloc::Global;
 
@@ -21,36 +20,12 @@ impl Grammar for Line {
 
     fn take(alloc: Global, words: &mut Words<'_>) -> Result<Line, LineRefusal> {
         let word = words.next().ok_or(LineRefusal::BadLine)?;
-        let name = named(&LINE_NAMES, word).ok_or(LineRefusal::BadLine)?;
+        let name = line_name(word).ok_or(LineRefusal::BadLine)?;
         line_of(alloc, name, words)
     }
 
-    #[tactic(auto, using(line_forms::proofs::PrintLaws::words))]
     fn push(&self, out: &mut Vec<u8>) -> Result<(), NoMemory> {
-        match self {
-            Line::Chain {
-                tag,
-                operator,
-                most,
-            } => push_pieces(
-                out,
-                &[
-                    Name(b"chain"),
-                    Number(*tag),
-                    Number(*operator),
-                    Number(*most),
-                ],
-            ),
-            Line::Fund { account, amount } => push_pieces(
-                out,
-                &[Name(b"fund"), Number(*account), Number(*amount)],
-            ),
-            Line::Tick { time } => push_pieces(out, &[Name(b"tick"), Number(*time)]),
-            Line::Money { account } => push_pieces(out, &[Name(b"money"), Number(*account)]),
-            Line::Call { account, form } => {
-                push_with_call(out, &[Name(b"call"), Number(*account)], form)
-            }
-        }
+        push_line(out, self)
     }
 }
 
