@@ -1,0 +1,103 @@
+-- What an opening of leaves behind notes does.
+use Rattle.std.proofs.Common.{◌≡◌, ℕ, true, false, List, Option, Ok, Err, inr, refl, ◌∙◌, ap, subst, length-take-le, arith}
+use Rattle.std.specs.Prelude.{Result, IfErr}
+use Rattle.sha2.specs.Sha256.{sha256}
+use Rattle.sha2.proofs.Facts256.{length-sha256}
+use Rattle.plasma_base.specs.Causes.{faults_after}
+use Rattle.crash_disk.specs.Disk.{History, content, FaultPlan}
+use Rattle.crash_disk.specs.Calls.{WhereTold, passed, Made}
+use Rattle.gate_journal.specs.Steps.{open_steps}
+use Rattle.gate_journal.specs.Journal.{IsSettled, RefusesOpen, is_device_fault}
+use Rattle.gate_journal.specs.declared.refusal.JournalRefusal.{JournalRefusal}
+use Rattle.gate_journal.specs.declared.refusal.JournalRefusal.TheVariants.{NoMemory}
+use Rattle.lms_sign.specs.declared.secret.Secret.{Secret}
+use Rattle.lms_sign.specs.Types.{is_supported, leaf_count}
+use Rattle.lms_sign.specs.Tree.{public_key_of}
+use Rattle.lms_sign.proofs.Laws.{key-types}
+use Rattle.node_journal.specs.Notes.{NotesState, Opened, RefusesRole}
+use Rattle.leaf_journal.specs.Records.{leaf_records_in_of}
+use Rattle.leaf_journal.specs.Leaves.{LeavesState, leaves_of as leaves_of_key}
+use Rattle.leaf_journal.specs.NodeWords.{notes_of as as_notes}
+use Rattle.leaf_journal.proofs.Adding.{none_made}
+use Rattle.leaf_journal.proofs.NodeWords.{openings_of_in_node_words, refusals_of_in_node_words}
+use Rattle.node_rules.specs.declared.identity.WalletIdentity.{WalletIdentity}
+use Rattle.node_rules.specs.WalletRecords.{is_body, leaves_in, secret_of, who_is}
+use Rattle.node_rules.specs.WalletOpening.{leaves_of}
+use Rattle.wallet_node.specs.declared.opening.ReturnedBoth.{ReturnedBoth}
+use Rattle.wallet_node.specs.Opening.{IsUnbound, OpensNotes, OpensLeaves, RefusesBehind, RefusesLeaves, RefusesWallet}
+
+-- the wallet's key has as many leaves as its types say
+key-leaves : (who : WalletIdentity) → is_supported who.types ≡ true
+    → leaves_of_key (public_key_of (secret_of who)) ≡ leaf_count who.types
+key-leaves who supported =
+    ap leaf_count (key-types (secret_of who) supported (length-take-le 16 (sha256 who.seed)
+    (omega (arith, length-sha256 who.seed))))
+
+module _ {D : Type 0} (told : D → Option History) (plan : D → Option FaultPlan) (faults : D → ℕ)
+    (dig : List ℕ → List ℕ) (notes : NotesState D) (disk : D) (who : WalletIdentity) (secret : Secret)
+    (who_is_it : who ≡ who_is notes.records) (supported : is_supported who.types ≡ true)
+    (secret_is : secret ≡ secret_of who) where
+  -- by which reader
+  leaves-same : leaves_of_key (public_key_of secret) ≡ leaves_of notes.records
+  leaves-same =
+      ap (λ (s : Secret). leaves_of_key (public_key_of s)) secret_is ∙ key-leaves who supported
+      ∙ ap (λ (w : WalletIdentity). leaf_count w.types) who_is_it
+
+  -- leaves that were opened
+  pub behind-opened : (opened : LeavesState D)
+      → WhereTold (told disk) (λ before.
+      leaf_records_in_of is_body (leaves_of_key (public_key_of secret)) (content before) ≡ Ok opened.records)
+      → opened
+      ≡ record { disk = opened.disk; closed = false; key = public_key_of secret; records = opened.records }
+      → WhereTold (told opened.disk) (λ now. IsSettled now opened.records)
+      → Made told plan open_steps 3 passed disk opened.disk
+      → faults opened.disk ≡ faults disk
+      → OpensLeaves told plan faults dig notes disk (as_notes opened)
+  behind-opened opened kept is settled made count =
+      subst (λ (n : ℕ). Opened told plan faults (leaf_records_in_of is_body n) disk (as_notes opened)) leaves-same
+      (openings_of_in_node_words told plan faults
+      (leaf_records_in_of is_body (leaves_of_key (public_key_of secret))) (public_key_of secret) disk opened kept is
+      settled made count)
+
+  -- leaves that weren't
+  pub behind-refused : (new : D) (why : JournalRefusal)
+      → RefusesOpen (leaf_records_in_of is_body (leaves_of_key (public_key_of secret))) told plan disk why new
+      → faults new ≡ faults_after (faults disk) (is_device_fault why)
+      → RefusesLeaves told plan faults dig notes disk why new
+  behind-refused new why refused count =
+      subst (λ (n : ℕ). RefusesRole told plan faults (leaf_records_in_of is_body n) disk why new) leaves-same
+      (refusals_of_in_node_words told plan faults
+      (leaf_records_in_of is_body (leaves_of_key (public_key_of secret))) disk new why refused count)
+
+-- no call was made of leaves, for want of memory
+pub behind-none : {D : Type 0} (told : D → Option History) (plan : D → Option FaultPlan) (faults : D → ℕ)
+    (dig : List ℕ → List ℕ) (notes : NotesState D) (disk : D)
+    → RefusesLeaves told plan faults dig notes disk NoMemory disk
+behind-none told plan faults dig notes disk = record {
+  refused = (0, (λ one. absurd (omega (arith, one))), none_made told plan disk);
+  count = refl;
+}
+
+-- what was refused behind leaves that were opened
+pub behind-unbound : {D T : Type 0} (told : D → Option History) (plan : D → Option FaultPlan) (faults : D → ℕ)
+    (dig : List ℕ → List ℕ) (notes : NotesState D) (disk : D) (opened : LeavesState D)
+    (result : Result T (ReturnedBoth D)) → OpensLeaves told plan faults dig notes disk (as_notes opened)
+    → IfErr result (λ returned. IsUnbound dig (leaves_in opened.records) notes.records returned.why)
+    → IfErr result (λ returned. returned.notes ≡ notes.disk)
+    → IfErr result (λ returned. returned.leaves ≡ opened.disk)
+    → IfErr result (λ returned.
+    RefusesBehind told plan faults dig notes disk returned.why returned.notes returned.leaves)
+behind-unbound told plan faults dig notes disk opened (Ok node) opens unbound same same_leaves = tt
+behind-unbound told plan faults dig notes disk opened (Err returned) opens unbound same same_leaves =
+    (same, inr (as_notes opened, opens, same_leaves, unbound))
+
+-- what was refused behind notes that were opened
+pub wallet-refused : {D T : Type 0} (told : D → Option History) (plan : D → Option FaultPlan) (faults : D → ℕ)
+    (dig : List ℕ → List ℕ) (notes leaves : D) (opened : NotesState D) (result : Result T (ReturnedBoth D))
+    → OpensNotes told plan faults dig notes opened
+    → IfErr result (λ returned.
+    RefusesBehind told plan faults dig opened leaves returned.why returned.notes returned.leaves)
+    → IfErr result (λ returned.
+    RefusesWallet told plan faults dig notes leaves returned.why returned.notes returned.leaves)
+wallet-refused told plan faults dig notes leaves opened (Ok node) opens refused = tt
+wallet-refused told plan faults dig notes leaves opened (Err returned) opens refused = inr (opened, opens, refused)

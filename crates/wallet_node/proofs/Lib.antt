@@ -1,0 +1,13 @@
+pub mod InMemory
+pub mod Spends
+pub mod Kept
+pub mod Parts
+pub mod Added
+pub mod Leaves
+pub mod Notes
+pub mod States
+pub mod OnOpening
+pub mod LeafBodies
+pub mod Unbound
+pub mod Behind
+pub mod OneMessage

@@ -1,0 +1,4 @@
+pub mod State
+pub mod Opening
+pub mod Inside
+pub mod Lives
