@@ -2,7 +2,7 @@ ghost use Rattle.std.specs.Prelude.{◌≡◌, ◌-◌, true, false, length};
 ghost use Rattle.crash_disk.specs.Calls.{WhereTold};
 ghost use Rattle.gate_journal.specs.Journal.{IsSettled};
 ghost use Rattle.leaf_journal.specs.Records.{messages_of};
-ghost use Rattle.node_rules.specs.WalletRecords.{owner_of};
+ghost use Rattle.node_rules.specs.WalletRecords.{owner_of, secret_of};
 ghost use Rattle.node_rules.specs.Wallet.{who, coin_state};
 ghost use Rattle.node_rules.specs.WalletOpening.{is_wallet};
 
@@ -123,6 +123,7 @@ impl<D: Disk, H: Hash32 + Copy> WalletNode<D, H> {
     pub fn take_apart(self) -> (D, D, WalletKey)
         ensures notes { result.0 ≡ self.notes_disk }
         ensures leaves { result.1 ≡ self.leaves_disk }
+        ensures key { result.2 ≡ secret_of (who self.records) }
     {
         let WalletNode {
             notes,
