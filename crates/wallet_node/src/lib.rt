@@ -18,8 +18,6 @@ mod records;
 mod role;
 mod sending;
 mod stops;
-#[cfg(test)]
-mod tests;
 mod watching;
 
 pub use key::WalletKey;
