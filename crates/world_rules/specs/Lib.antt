@@ -1,0 +1,11 @@
+pub mod Events
+pub mod World
+pub mod Rules
+pub mod Causes
+pub mod Deeds
+pub mod Steps
+pub mod Exhibits
+pub mod Safety
+pub mod Verdicts
+pub mod Texts
+pub mod Laws

@@ -1,0 +1,15 @@
+//! The world of a schedule, as definitions: what each line does to the contract and to the nodes, the trace that
+//! it leaves, and every word of what is promised of it.
+#![tactic(auto)]
+
+mod reply;
+mod verdict;
+
+pub use reply::{OfferKind, OfferKinds, Reply, TraceLine};
+pub use verdict::{Exhibit, Verdict, VerdictKind};
+
+/// The most wallets of a schedule.
+pub const MOST_WALLETS: u64 = 64;
+
+/// The most bytes of all mail items of a schedule together.
+pub const MOST_MAIL: u64 = 268_435_456;
