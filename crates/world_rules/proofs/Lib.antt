@@ -1,2 +1,4 @@
 pub mod Shapes
 pub mod OwnEvents
+pub mod StepLaws
+pub mod Existence
