@@ -21,7 +21,7 @@ use Rattle.world_rules.specs.Steps.{LineEffect, called, raw_called, deposit_by, 
 use Rattle.world_rules.specs.Laws.{LinesThatKeepTheRulesStep}
 
 -- the first place that passes is inside the list
-position-parts : {X : Type 0} (p : X → Bool) (xs : List X) (i : ℕ) → position p xs ≡ Some i
+pub position-parts : {X : Type 0} (p : X → Bool) (xs : List X) (i : ℕ) → position p xs ≡ Some i
     → (position_or_len p xs ≡ i) × (position_or_len p xs < length xs)
 position-parts p xs i is = by (nat_lt (position_or_len p xs) (length xs)) refl is
   where

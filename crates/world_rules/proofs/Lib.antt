@@ -2,3 +2,8 @@ pub mod Shapes
 pub mod OwnEvents
 pub mod StepLaws
 pub mod Existence
+pub mod NodeLaws
+pub mod CutLaws
+pub mod Runs
+pub mod RunLaws
+pub mod OfferLaws

@@ -2,9 +2,14 @@
 //! it leaves, its verdicts, and the words of what is promised of it.
 #![tactic(auto)]
 
+mod laws;
 mod reply;
 mod verdict;
 
+pub use laws::{
+    cuts_keep_as_appends_do, down_nodes_stay, items_are_made, lines_that_keep_the_rules_step,
+    offers_are_of_events, records_grow, steps_keep_the_log,
+};
 pub use reply::{OfferKind, OfferKinds, Reply, TraceLine};
 pub use verdict::{Exhibit, Verdict, VerdictKind};
 
