@@ -4,9 +4,11 @@
 
 mod reply;
 mod verdict;
+mod verdict_laws;
 
 pub use reply::{OfferKind, OfferKinds, Reply, TraceLine};
 pub use verdict::{Exhibit, Verdict, VerdictKind};
+pub use verdict_laws::verdicts_are_given_once;
 
 /// The most wallets of a schedule.
 pub const MOST_WALLETS: u64 = 64;
