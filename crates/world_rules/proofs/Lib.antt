@@ -1,1 +1,3 @@
 pub mod HeldTips
+pub mod Named
+pub mod VerdictCounts

@@ -1,0 +1,162 @@
+-- How many verdicts there are on a wallet and a coin, and what a verdict is on.
+use Rattle.std.proofs.Common.{◌≡◌, ◌⊎◌, ℕ, zero, suc, ◌+◌, ◌-◌, ◌<◌, ◌≤◌, ◌==◌, ◌&&◌, cond, Bool, true, false, if◌then◌else◌, List, [], ◌∷◌, ◌++◌, length, slice_get, slice_index_or, bytes_eq, Contains, count_by, flat_map, filter_map, option_map, option_and_then, Option, Some, None, inl, inr, refl, sym, ap, ◌∙◌, subst, arith}
+use Rattle.std.specs.List.{cons_option, range_with_len}
+use Rattle.std.proofs.lemmas.Bool.{cases_eq, eq-eqb, ne_eqb, and_from, and_left, and_right}
+use Rattle.std.proofs.lemmas.List.Sums.{sum_by-cons, sum_by-append}
+use Rattle.std.proofs.lemmas.List.Elements.{Contains-append_cases, Contains-push_cases}
+use Rattle.line_forms.proofs.FormLaws.{and_then_some, option_map_some}
+use Rattle.plasma_tx.specs.declared.owner.Owner.{Owner}
+use Rattle.root_rules.specs.Shown.{Tests, Rules}
+use Rattle.world_rules.specs.declared.verdict.Verdict.{Verdict}
+use Rattle.world_rules.specs.Events.{Event, wallet_owner}
+use Rattle.world_rules.specs.World.{Node, is_wallet}
+use Rattle.world_rules.specs.Verdicts.{held_tip, Named, verdict_at, verdict_on, verdict_of, wallets_from, verdicts_on}
+use Rattle.world_rules.specs.Laws.{is_on}
+use Rattle.world_rules.proofs.Named.{card, cards, IsOther, AreDistinct, names-flip, own-name, other-at, card-at}
+
+-- ---- counts
+
+count-no : (p : Verdict → Bool) (one : Verdict) (rest : List Verdict) → p one ≡ false
+    → count_by p (one ∷ rest) ≡ count_by p rest
+count-no p one rest fails =
+    sum_by-cons (λ x. cond (p x) 1 0) one rest ∙ ap (λ (b : Bool). cond b 1 0 + count_by p rest) fails ∙ omega arith
+
+count-yes : (p : Verdict → Bool) (one : Verdict) (rest : List Verdict) → p one ≡ true
+    → count_by p (one ∷ rest) ≡ 1 + count_by p rest
+count-yes p one rest passes =
+    sum_by-cons (λ x. cond (p x) 1 0) one rest ∙ ap (λ (b : Bool). cond b 1 0 + count_by p rest) passes
+
+count-append : (p : Verdict → Bool) (xs ys : List Verdict) → count_by p (xs ++ ys) ≡ count_by p xs + count_by p ys
+count-append p xs ys = sum_by-append (λ x. cond (p x) 1 0) xs ys
+
+-- ---- over coins
+
+module _ (p : Verdict → Bool) (f : ℕ → Option Verdict) where
+  abbrev over : ℕ → ℕ → ℕ
+  over start n = count_by p (filter_map f (range_with_len start n))
+
+  skip : (o : Option Verdict) (rest : List Verdict) → ((v : Verdict) → o ≡ Some v → p v ≡ false)
+      → count_by p (cons_option o rest) ≡ count_by p rest
+  skip None rest fail = refl
+  skip (Some v) rest fail = count-no p v rest (fail v refl)
+
+  -- none where no coin of the range has one that passes
+  pub coins-none : (n start : ℕ) → ((k : ℕ) (v : Verdict) → start ≤ k → f k ≡ Some v → p v ≡ false)
+      → over start n ≡ 0
+  coins-none zero start fail = refl
+  coins-none (suc n) start fail =
+      skip (f start) (filter_map f (range_with_len (start + 1) n)) (λ v is. fail start v (omega arith) is)
+      ∙ coins-none n (start + 1) (λ k v le is. fail k v (omega arith) is)
+
+  -- one where one coin of the range has one
+  pub coins-one : (n start c : ℕ) (v : Verdict) → start ≤ c → c < start + n → f c ≡ Some v → p v ≡ true
+      → ((k : ℕ) (other : Verdict) → (k ≡ c → ⊥) → f k ≡ Some other → p other ≡ false) → over start n ≡ 1
+  coins-one zero start c v low high is passes fail = absurd (omega arith)
+  coins-one (suc n) start c v low high is passes fail = elim (cases_eq start c) [
+    | inl here ↦
+        let first : f start ≡ Some v = ap f here ∙ is in
+        ap (λ (o : Option Verdict). count_by p (cons_option o (filter_map f (range_with_len (start + 1) n)))) first
+        ∙ count-yes p v (filter_map f (range_with_len (start + 1) n)) passes
+        ∙ ap (λ (k : ℕ). 1 + k) (coins-none n (start + 1) (λ k other le some. fail k other (λ e. omega arith) some))
+    | inr past ↦
+        skip (f start) (filter_map f (range_with_len (start + 1) n)) (λ other some. fail start other past some)
+        ∙ coins-one n (start + 1) c v (omega arith) (omega arith) is passes fail
+  ]
+
+-- ---- over wallets
+
+module _ (p : Verdict → Bool) (f : Named → List Verdict) (name : List ℕ)
+    (none : (wallet : Named) → bytes_eq wallet.name name ≡ false → count_by p (f wallet) ≡ 0) where
+  abbrev among : ℕ → List Node → ℕ
+  among k nodes = count_by p (flat_map f (wallets_from k nodes))
+
+  one-more : (wallet : Named) (rest : List Named) (here there : ℕ) → count_by p (f wallet) ≡ here
+      → count_by p (flat_map f rest) ≡ there → count_by p (flat_map f (wallet ∷ rest)) ≡ here + there
+  one-more wallet rest here there first second =
+      count-append p (f wallet) (flat_map f rest) ∙ ap (λ (k : ℕ). k + count_by p (flat_map f rest)) first
+      ∙ ap (λ (k : ℕ). here + k) second
+
+  past : (k n : ℕ) (node : Node) (nodes : List Node) → bytes_eq node.name name ≡ false → among (k + 1) nodes ≡ n
+      → among k (node ∷ nodes) ≡ n
+  unfolding wallets_from
+  past k n node nodes apart rest = at (is_wallet node.role)
+    where
+      at : (b : Bool) → count_by p (flat_map f
+          (if b then record { number = k; name = node.name } ∷ wallets_from (k + 1) nodes
+          else wallets_from (k + 1) nodes)) ≡ n
+      at true = one-more (record { number = k; name = node.name }) (wallets_from (k + 1) nodes) 0 n
+          (none (record { number = k; name = node.name }) apart) rest ∙ omega arith
+      at false = rest
+
+  -- none where no node has the name
+  pub wallets-none : (nodes : List Node) (k : ℕ) → IsOther name (cards nodes) → among k nodes ≡ 0
+  unfolding wallets_from
+  wallets-none [] k other = refl
+  wallets-none (node ∷ nodes) k other = past k 0 node nodes other.0 (wallets-none nodes (k + 1) other.1)
+
+  -- those of the wallet with the name, where no two nodes have one name
+  pub wallets-one : (nodes : List Node) (k i : ℕ) (node : Node) (n : ℕ) → AreDistinct (cards nodes)
+      → slice_get nodes i ≡ Some node → is_wallet node.role ≡ true → node.name ≡ name
+      → count_by p (f (record { number = k + i; name = name })) ≡ n → among k nodes ≡ n
+  unfolding wallets_from
+  wallets-one [] k i node n distinct is wallet own count = absurd (cc is)
+  wallets-one (first ∷ rest) k zero node n distinct is wallet own count =
+      let same : first ≡ node = cc is in
+      let named : first.name ≡ name = ap (λ (x : Node). x.name) same ∙ own in
+      let here : k ≡ k + zero = omega arith in
+      ap (λ (b : Bool). count_by p (flat_map f
+      (if b then record { number = k; name = first.name } ∷ wallets_from (k + 1) rest
+      else wallets_from (k + 1) rest))) (ap (λ (x : Node). is_wallet x.role) same ∙ wallet)
+      ∙ one-more (record { number = k; name = first.name }) (wallets_from (k + 1) rest) n 0
+      ((λ j. count_by p (f (record { number = here j; name = named j }))) ∙ count)
+      (wallets-none rest (k + 1) (subst (λ (x : List ℕ). IsOther x (cards rest)) named distinct.0))
+      ∙ omega arith
+  wallets-one (first ∷ rest) k (suc i) node n distinct is wallet own count =
+      past k n first rest
+      (names-flip name first.name (subst (λ (x : List ℕ). bytes_eq x first.name ≡ false) own
+      (other-at first.name (cards rest) i (card node) distinct.0 (card-at rest i node is))))
+      (wallets-one rest (k + 1) i node n distinct.1 is wallet own
+      (let on : k + 1 + i ≡ k + suc i = omega arith in
+      ap (λ (x : ℕ). count_by p (f (record { number = x; name = name }))) on ∙ count))
+
+-- ---- what a verdict is on
+
+-- a verdict on a wallet and a coin: who the wallet is, and its held tip of the coin
+pub record IsVerdict (events : List Event) (wallet : Named) (c : ℕ) (verdict : Verdict) : Type 0 where
+  pub me : Owner
+  pub tip : ℕ
+  pub owner : wallet_owner events wallet.number ≡ Some me
+  pub tip_is : held_tip events wallet.number c ≡ Some tip
+  pub name : verdict.wallet ≡ wallet.name
+  pub coin : verdict.coin ≡ c
+
+module _ (tests : Tests) (rules : Rules) (events : List Event) where
+  pub verdict-is : (wallet : Named) (c : ℕ) (verdict : Verdict)
+      → verdict_of tests rules events wallet c ≡ Some verdict → IsVerdict events wallet c verdict
+  verdict-is wallet c verdict is =
+      let found = and_then_some (λ me. verdict_on tests rules events wallet me c)
+          (wallet_owner events wallet.number) verdict is in
+      let made = option_map_some
+          (λ e. record { wallet = wallet.name; coin = c;
+          kind = verdict_at tests rules events found.0 wallet.number c e })
+          (held_tip events wallet.number c) verdict found.2 in
+      record {
+        me = found.0;
+        tip = made.0;
+        owner = found.1;
+        tip_is = made.1;
+        name = ap (λ (v : Verdict). v.wallet) (sym made.2);
+        coin = ap (λ (v : Verdict). v.coin) (sym made.2);
+      }
+
+  -- there is one where the wallet is declared and has a held tip
+  pub verdict-some : (wallet : Named) (c : ℕ) (me : Owner) (tip : ℕ) → wallet_owner events wallet.number ≡ Some me
+      → held_tip events wallet.number c ≡ Some tip
+      → (verdict : Verdict) × (verdict_of tests rules events wallet c ≡ Some verdict)
+  verdict-some wallet c me tip owner tip_is = (
+    record { wallet = wallet.name; coin = c; kind = verdict_at tests rules events me wallet.number c tip },
+    ap (λ (o : Option Owner). option_and_then (λ me. verdict_on tests rules events wallet me c) o) owner
+    ∙ ap (λ (o : Option ℕ). option_map
+    (λ e. record { wallet = wallet.name; coin = c; kind = verdict_at tests rules events me wallet.number c e }) o)
+    tip_is,
+  )
