@@ -6,9 +6,10 @@ use Rattle.std.proofs.lemmas.List.Sums.{sum_by-cons, sum_by-append}
 use Rattle.std.proofs.lemmas.List.Elements.{Contains-append_cases, Contains-push_cases}
 use Rattle.line_forms.proofs.FormLaws.{and_then_some, option_map_some}
 use Rattle.plasma_tx.specs.declared.owner.Owner.{Owner}
+use Rattle.plasma_tx.specs.Views.{coins}
 use Rattle.root_rules.specs.Shown.{Tests, Rules}
 use Rattle.world_rules.specs.declared.verdict.Verdict.{Verdict}
-use Rattle.world_rules.specs.Events.{Event, wallet_owner}
+use Rattle.world_rules.specs.Events.{Event, log_of, wallet_owner}
 use Rattle.world_rules.specs.World.{Node, is_wallet}
 use Rattle.world_rules.specs.Verdicts.{held_tip, Named, verdict_at, verdict_on, verdict_of, wallets_from, verdicts_on}
 use Rattle.world_rules.specs.Laws.{is_on}
@@ -160,3 +161,113 @@ module _ (tests : Tests) (rules : Rules) (events : List Event) where
     (λ e. record { wallet = wallet.name; coin = c; kind = verdict_at tests rules events me wallet.number c e }) o)
     tip_is,
   )
+
+  -- ---- one verdict
+
+  -- none is on another name
+  others-none : (name : List ℕ) (c : ℕ) (wallet : Named) → bytes_eq wallet.name name ≡ false
+      → count_by (is_on name c) (verdicts_on tests rules events wallet) ≡ 0
+  others-none name c wallet apart =
+      coins-none (is_on name c) (verdict_of tests rules events wallet) (coins (log_of events)) 1
+      (λ k v low is. and_left (bytes_eq v.wallet name) (v.coin == c)
+      (ap (λ (x : List ℕ). bytes_eq x name) (verdict-is wallet k v is).name ∙ apart))
+
+  -- one is on a wallet and a coin of the log that has a held tip
+  own-one : (c : ℕ) (wallet : Named) (me : Owner) (tip : ℕ) → wallet_owner events wallet.number ≡ Some me
+      → held_tip events wallet.number c ≡ Some tip → 1 ≤ c → c ≤ coins (log_of events)
+      → count_by (is_on wallet.name c) (verdicts_on tests rules events wallet) ≡ 1
+  own-one c wallet me tip owner tip_is low high =
+      let made = verdict-some wallet c me tip owner tip_is in
+      let is = verdict-is wallet c made.0 made.1 in
+      coins-one (is_on wallet.name c) (verdict_of tests rules events wallet) (coins (log_of events)) 1 c made.0 low
+      (omega arith) made.1
+      (and_from (bytes_eq made.0.wallet wallet.name) (made.0.coin == c)
+      (ap (λ (x : List ℕ). bytes_eq x wallet.name) is.name ∙ own-name wallet.name) (eq-eqb made.0.coin c is.coin))
+      (λ k other apart some. and_right (bytes_eq other.wallet wallet.name) (other.coin == c)
+      (ne_eqb other.coin c (λ same. apart (sym (verdict-is wallet k other some).coin ∙ same))))
+
+  pub one-verdict : (nodes : List Node) (n c tip : ℕ) (node : Node) (me : Owner) → AreDistinct (cards nodes)
+      → slice_get nodes n ≡ Some node → is_wallet node.role ≡ true → wallet_owner events n ≡ Some me
+      → held_tip events n c ≡ Some tip → 1 ≤ c → c ≤ coins (log_of events)
+      → count_by (is_on node.name c) (flat_map (verdicts_on tests rules events) (wallets_from 0 nodes)) ≡ 1
+  one-verdict nodes n c tip node me distinct is wallet owner tip_is low high =
+      let from : n ≡ 0 + n = omega arith in
+      wallets-one (is_on node.name c) (verdicts_on tests rules events) node.name (others-none node.name c) nodes 0 n
+      node 1 distinct is wallet refl
+      ((λ j. count_by (is_on node.name c)
+      (verdicts_on tests rules events (record { number = sym from j; name = node.name })))
+      ∙ own-one c (record { number = n; name = node.name }) me tip owner tip_is low high)
+
+-- ---- where a verdict comes from
+
+nothing : (v : Verdict) → Contains [] v → ⊥
+nothing v found = omega (arith, found.1)
+
+among-cons : (one : Verdict) (rest : List Verdict) (v : Verdict) → Contains (one ∷ rest) v
+    → (one ≡ v) ⊎ Contains rest v
+among-cons one rest v found = elim (Contains-append_cases (one ∷ []) rest v found) [
+  | inl first ↦ elim (Contains-push_cases [] one v first) [
+    | inl none ↦ absurd (nothing v none)
+    | inr same ↦ inl same
+  ]
+  | inr later ↦ inr later
+]
+
+pub from-coin : (f : ℕ → Option Verdict) (n start : ℕ) (v : Verdict)
+    → Contains (filter_map f (range_with_len start n)) v → (c : ℕ) × (f c ≡ Some v)
+from-coin f zero start v found = absurd (nothing v found)
+from-coin f (suc n) start v found = at (f start) refl found (from-coin f n (start + 1) v)
+  where
+    at : (o : Option Verdict) → f start ≡ o → Contains (cons_option o (filter_map f (range_with_len (start + 1) n))) v
+        → (Contains (filter_map f (range_with_len (start + 1) n)) v → (c : ℕ) × (f c ≡ Some v))
+        → (c : ℕ) × (f c ≡ Some v)
+    at None is among rest = rest among
+    at (Some one) is among rest = elim (among-cons one (filter_map f (range_with_len (start + 1) n)) v among) [
+      | inl same ↦ (start, is ∙ ap (λ (x : Verdict). Some x) same)
+      | inr later ↦ rest later
+    ]
+
+-- a verdict of the wallets from number k on is of one of the nodes
+pub record IsFrom (f : Named → List Verdict) (k : ℕ) (nodes : List Node) (v : Verdict) : Type 0 where
+  pub place : ℕ
+  pub node : Node
+  pub is_node : slice_get nodes place ≡ Some node
+  pub among : Contains (f (record { number = k + place; name = node.name })) v
+
+pub from-wallet : (f : Named → List Verdict) (nodes : List Node) (k : ℕ) (v : Verdict)
+    → Contains (flat_map f (wallets_from k nodes)) v → IsFrom f k nodes v
+unfolding wallets_from
+from-wallet f [] k v found = absurd (nothing v found)
+from-wallet f (node ∷ nodes) k v found =
+    at (is_wallet node.role) found (λ among. later (from-wallet f nodes (k + 1) v among))
+  where
+    later : IsFrom f (k + 1) nodes v → IsFrom f k (node ∷ nodes) v
+    later from =
+        let on : k + 1 + from.place ≡ k + suc from.place = omega arith in
+        record {
+          place = suc from.place;
+          node = from.node;
+          is_node = from.is_node;
+          among = subst (λ (x : ℕ). Contains (f (record { number = x; name = from.node.name })) v) on from.among;
+        }
+
+    here : Contains (f (record { number = k; name = node.name })) v → IsFrom f k (node ∷ nodes) v
+    here among =
+        let on : k ≡ k + zero = omega arith in
+        record {
+          place = zero;
+          node = node;
+          is_node = refl;
+          among = subst (λ (x : ℕ). Contains (f (record { number = x; name = node.name })) v) on among;
+        }
+
+    at : (b : Bool) → Contains (flat_map f (if b then record { number = k; name = node.name } ∷ wallets_from (k + 1)
+        nodes else wallets_from (k + 1) nodes)) v
+        → (Contains (flat_map f (wallets_from (k + 1) nodes)) v → IsFrom f k (node ∷ nodes) v)
+        → IsFrom f k (node ∷ nodes) v
+    at true among rest = elim (Contains-append_cases (f (record { number = k; name = node.name }))
+        (flat_map f (wallets_from (k + 1) nodes)) v among) [
+          | inl first ↦ here first
+          | inr other ↦ rest other
+        ]
+    at false among rest = rest among
