@@ -1,3 +1,5 @@
 pub mod HeldTips
 pub mod Named
 pub mod VerdictCounts
+pub mod KeptNames
+pub mod NamedSteps

@@ -1,0 +1,2 @@
+-- Each line of a run makes a move, so that every run keeps its names.
+use Rattle.std.proofs.Common.{◌≡◌}
