@@ -1,5 +1,8 @@
+pub mod Shapes
+pub mod OwnEvents
 pub mod HeldTips
 pub mod Named
 pub mod VerdictCounts
 pub mod KeptNames
+pub mod NamedDeeds
 pub mod NamedSteps
