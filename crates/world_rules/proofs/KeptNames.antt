@@ -146,22 +146,36 @@ module _ (nodes : List Card) (log : List RootCall) (events : List Event) (kept :
 -- ---- moves
 
 -- what a line does to the nodes' names and roles and to the log, with its event
-pub data Move (nodes after : List Card) (log grown : List RootCall) (event : Event) : Type 0 where
-  Rests : after ≡ nodes → grown ≡ log → is_plain event ≡ true → Move nodes after log grown event
-  Enters : (call : RootCall) → after ≡ nodes → grown ≡ call ∷ log → event ≡ Joins call
-      → Move nodes after log grown event
-  Takes : (n : ℕ) (bundle : Bundle) → after ≡ nodes → grown ≡ log → event ≡ Accepts n bundle
-      → IsCoin log bundle.coin → Move nodes after log grown event
-  Adds : (new : Card) → after ≡ nodes ++ new ∷ [] → grown ≡ log → is_plain event ≡ true → IsOther new.name nodes
-      → Move nodes after log grown event
+pub data Move (nodes after : List Card) (log longer : List RootCall) (event : Event) : Type 0 where
+  Rests : after ≡ nodes → longer ≡ log → is_plain event ≡ true → Move nodes after log longer event
+  Enters : (call : RootCall) → after ≡ nodes → longer ≡ call ∷ log → event ≡ Joins call
+      → Move nodes after log longer event
+  Takes : (n : ℕ) (bundle : Bundle) → after ≡ nodes → longer ≡ log → event ≡ Accepts n bundle
+      → IsCoin log bundle.coin → Move nodes after log longer event
+  Adds : (new : Card) → after ≡ nodes ++ new ∷ [] → longer ≡ log → is_plain event ≡ true → IsOther new.name nodes
+      → Move nodes after log longer event
   AddsWallet : (name : List ℕ) (me : Owner) → after ≡ nodes ++ record { name = name; role = Wallet } ∷ []
-      → grown ≡ log → event ≡ Declares (length nodes) me → IsOther name nodes → Move nodes after log grown event
+      → longer ≡ log → event ≡ Declares (length nodes) me → IsOther name nodes → Move nodes after log longer event
 
-pub kept-move : (nodes after : List Card) (log grown : List RootCall) (event : Event) (events : List Event)
-    → Move nodes after log grown event → Kept nodes log events → Kept after grown (event ∷ events)
-kept-move nodes after log grown event events (Rests nodes_are log_is plain) kept =
-    λ i. ?
-kept-move nodes after log grown event events (Enters call nodes_are log_is event_is) kept = ?
-kept-move nodes after log grown event events (Takes n bundle nodes_are log_is event_is coin) kept = ?
-kept-move nodes after log grown event events (Adds new nodes_are log_is plain other) kept = ?
-kept-move nodes after log grown event events (AddsWallet name me nodes_are log_is event_is other) kept = ?
+moved : {after : List Card} {longer : List RootCall} {event : Event} {events : List Event} (nodes : List Card)
+    (log : List RootCall) (other : Event) → after ≡ nodes → longer ≡ log → event ≡ other
+    → Kept nodes log (other ∷ events) → Kept after longer (event ∷ events)
+moved {after} {longer} {event} {events} nodes log other nodes_are log_is event_is kept =
+    subst (λ (x : List Card). Kept x longer (event ∷ events)) (sym nodes_are)
+    (subst (λ (x : List RootCall). Kept nodes x (event ∷ events)) (sym log_is)
+    (subst (λ (x : Event). Kept nodes log (x ∷ events)) (sym event_is) kept))
+
+pub kept-move : (nodes after : List Card) (log longer : List RootCall) (event : Event) (events : List Event)
+    → Move nodes after log longer event → Kept nodes log events → Kept after longer (event ∷ events)
+kept-move nodes after log longer event events (Rests nodes_are log_is plain) kept =
+    moved nodes log event nodes_are log_is refl (kept-plain nodes log events kept event plain)
+kept-move nodes after log longer event events (Enters call nodes_are log_is event_is) kept =
+    moved nodes (call ∷ log) (Joins call) nodes_are log_is event_is (kept-joins nodes log events kept call)
+kept-move nodes after log longer event events (Takes n bundle nodes_are log_is event_is coin) kept =
+    moved nodes log (Accepts n bundle) nodes_are log_is event_is (kept-accepts nodes log events kept n bundle coin)
+kept-move nodes after log longer event events (Adds new nodes_are log_is plain other) kept =
+    moved (nodes ++ new ∷ []) log event nodes_are log_is refl
+    (kept-plain (nodes ++ new ∷ []) log events (kept-node nodes log events kept new other) event plain)
+kept-move nodes after log longer event events (AddsWallet name me nodes_are log_is event_is other) kept =
+    moved (nodes ++ record { name = name; role = Wallet } ∷ []) log (Declares (length nodes) me) nodes_are log_is
+    event_is (kept-declares nodes log events kept name me other)
