@@ -6,3 +6,4 @@ pub mod VerdictCounts
 pub mod KeptNames
 pub mod NamedDeeds
 pub mod NamedSteps
+pub mod VerdictLaws

@@ -102,6 +102,14 @@ cards-set (node ∷ nodes) zero old new is same =
 cards-set (node ∷ nodes) (suc n) old new is same = ap (λ (rest : List Card). card node ∷ rest)
     (cards-set nodes n old new is same)
 
+pub cards-push : (nodes : List Node) (new : Node) → cards (nodes ++ new ∷ []) ≡ cards nodes ++ card new ∷ []
+cards-push [] new = refl
+cards-push (node ∷ nodes) new = ap (λ (rest : List Card). card node ∷ rest) (cards-push nodes new)
+
+pub cards-length : (nodes : List Node) → length (cards nodes) ≡ length nodes
+cards-length [] = refl
+cards-length (node ∷ nodes) = ap suc (cards-length nodes)
+
 -- a node is there under its number
 pub card-at : (nodes : List Node) (n : ℕ) (node : Node) → slice_get nodes n ≡ Some node
     → slice_get (cards nodes) n ≡ Some (card node)
