@@ -1,13 +1,13 @@
 -- What each line of a run keeps: nodes have names of their own, declared wallets stay with their owners, and accepted
 -- bundles are of coins that the log has.
-use Rattle.std.proofs.Common.{◌≡◌, ◌⊎◌, ℕ, ◌+◌, ◌<◌, ◌==◌, ◌&&◌, ◌||◌, Bool, true, false, if◌then◌else◌, List, [], ◌∷◌, ◌++◌, length, slice_get, bytes_eq, Option, Some, None, inl, inr, refl, sym, ap, ◌∙◌, subst, arith}
+use Rattle.std.proofs.Common.{◌≡◌, ℕ, ◌==◌, Bool, true, false, if◌then◌else◌, List, [], ◌∷◌, ◌++◌, length, slice_get, Some, inl, inr, refl, sym, ap, ◌∙◌, subst}
 use Rattle.std.specs.List.{list_any}
-use Rattle.std.proofs.lemmas.Bool.{cases_eq, eqb-true, eq-eqb, ne_eqb, or_cases, and_parts, false≢true}
+use Rattle.std.proofs.lemmas.Bool.{eqb-true, or_cases, and_parts, false≢true}
 use Rattle.plasma_tx.specs.declared.owner.Owner.{Owner}
 use Rattle.plasma_tx.specs.declared.call.RootCall.{RootCall}
 use Rattle.coin_history.specs.declared.bundle.Bundle.{Bundle}
 use Rattle.world_rules.specs.Events.{Event, Declares, Joins, Accepts, log_of, wallet_owner, accepted, is_bundle}
-use Rattle.world_rules.specs.World.{Role, Wallet}
+use Rattle.world_rules.specs.World.{Wallet}
 use Rattle.world_rules.proofs.HeldTips.{OwnersStay, IsCoin, coin-stays}
 use Rattle.world_rules.proofs.Named.{Card, IsOther, AreDistinct, distinct-push, stays-at, last-at, none-past}
 

@@ -1,8 +1,8 @@
 -- The names and roles of nodes: a name is new where it is declared, so no two nodes have one name.
-use Rattle.std.proofs.Common.{◌≡◌, ℕ, zero, suc, ◌+◌, ◌<◌, ◌==◌, ◌&&◌, ◌||◌, cond, not, map, nat_lt, Bool, true, false, List, [], ◌∷◌, ◌++◌, length, set, slice_get, bytes_eq, Option, Some, None, is_some, refl, sym, ap, ◌∙◌, subst, arith}
+use Rattle.std.proofs.Common.{◌≡◌, ℕ, zero, suc, ◌+◌, ◌&&◌, ◌||◌, cond, not, map, nat_lt, Bool, true, false, List, [], ◌∷◌, ◌++◌, length, set, slice_get, bytes_eq, Some, None, is_some, refl, sym, ap, ◌∙◌, subst, arith}
 use Rattle.std.specs.List.{position, position_or_len}
 use Rattle.std.specs.Cmp.Lexicographic.{bytes_decides}
-use Rattle.std.proofs.lemmas.Bool.{or_parts, not-true, false_from_ne_true, true≢false, lt-ltb, ltb-false, le-ltb, and_from}
+use Rattle.std.proofs.lemmas.Bool.{or_parts, not-true, false_from_ne_true, true≢false, lt-ltb, ltb-false, le-ltb}
 use Rattle.world_rules.specs.World.{Role, Node, World, any_role, is_named, rogue_named}
 use Rattle.world_rules.specs.Rules.{is_new_name}
 
@@ -80,7 +80,7 @@ no-place name (node ∷ nodes) none = at (bytes_eq node.name name) refl none (no
 pub new-other : (world : World) (name : List ℕ) → is_new_name world name ≡ true → IsOther name (cards world.nodes)
 new-other world name new =
     let used = or_parts (is_some (position (is_named any_role name) world.nodes)) (is_some (rogue_named world name))
-        (not-true (is_some (position (is_named any_role name) world.nodes) || is_some (rogue_named world name)) new) in
+    (not-true (is_some (position (is_named any_role name) world.nodes) || is_some (rogue_named world name)) new) in
     no-place name world.nodes
     (nowhere (nat_lt (position_or_len (is_named any_role name) world.nodes) (length world.nodes)) used.0)
   where

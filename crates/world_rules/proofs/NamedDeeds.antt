@@ -1,10 +1,8 @@
 -- The events of deeds: none declares a wallet or enters a call, and a bundle that is accepted is of a coin of the log.
-use Rattle.std.proofs.Common.{◌≡◌, ℕ, Bool, true, false, List, [], ◌∷◌, Option, Some, None, Ok, Err, refl, sym, ap, ◌∙◌, subst}
-use Rattle.std.specs.Prelude.{Result, option_map, unwrap_or}
+use Rattle.std.proofs.Common.{◌≡◌, ℕ, Bool, true, false, List, [], Option, Some, None, Ok, Err, refl, ap, subst}
+use Rattle.std.specs.Prelude.{Result, unwrap_or}
 use Rattle.std.specs.Result.{result_ok}
 use Rattle.line_forms.proofs.FormLaws.{option_map_some}
-use Rattle.node_journal.specs.Effect.{first_cause}
-use Rattle.plasma_tx.specs.declared.owner.Owner.{Owner}
 use Rattle.plasma_tx.specs.declared.links.Links.{Links}
 use Rattle.plasma_tx.specs.declared.call.RootCall.{RootCall}
 use Rattle.plasma_tx.specs.declared.views.CoinView.{CoinView}
@@ -22,13 +20,13 @@ use Rattle.schedule_text.specs.declared.command.WatcherCommand.{WatcherCommand}
 use Rattle.schedule_text.specs.declared.command.OperatorCommand.{OperatorCommand}
 use Rattle.node_rules.specs.declared.answers.Accepted.{Accepted}
 use Rattle.node_rules.specs.Kept.{chain_of, checked_by, links_handed}
-use Rattle.node_rules.specs.Wallet.{WalletRecords, who, noted, accept_causes, accept_taken, accept_by, unless, accept_effect, send_effect, again_answer, leave_effect, reclaim_effect, migrate_effect}
+use Rattle.node_rules.specs.Wallet.{WalletRecords, who, noted, accept_by, accept_effect, send_effect, again_answer, leave_effect, reclaim_effect, migrate_effect}
 use Rattle.node_rules.specs.Watcher.{guard_effect, release_effect}
 use Rattle.operator_rules.specs.Commands.{offer_effect, lay_effect, seal_effect, prove_answer, bundle_answer, absences_answer}
 use Rattle.world_rules.specs.Causes.{wallet_cause, watcher_cause, offer_cause, lay_cause, seal_cause, prove_cause}
-use Rattle.world_rules.specs.Events.{Event, Accepts, Watches, Leaves, Seals, Other}
+use Rattle.world_rules.specs.Events.{Event, Accepts, Watches, Leaves, Seals}
 use Rattle.world_rules.specs.World.{Node, World, wallet_of, bytes_of, new_owner_of}
-use Rattle.world_rules.specs.Deeds.{Outcome, Deed, answered, bundle_of, accepted_by, sent_by, sent_again_by, leaving_by, reclaimed_by, migrated_by, send_deed, wallet_command, guarded_at, released_at, watcher_command, pooled_by, laid_at, sealed_by, bundled_by, proved_by, operator_command, watch_outcome, due_for, open_outcome, deed_of}
+use Rattle.world_rules.specs.Deeds.{Outcome, Deed, answered, bundle_of, accepted_by, sent_by, sent_again_by, leaving_by, reclaimed_by, migrated_by, send_deed, wallet_command, guarded_at, released_at, watcher_command, pooled_by, laid_at, sealed_by, bundled_by, proved_by, operator_command, open_outcome, deed_of}
 use Rattle.world_rules.specs.Steps.{without_offers}
 use Rattle.world_rules.proofs.HeldTips.{IsCoin}
 use Rattle.world_rules.proofs.KeptNames.{is_plain}

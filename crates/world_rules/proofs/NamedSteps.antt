@@ -1,7 +1,7 @@
 -- Each line of a run makes a move, so every run keeps what moves keep.
-use Rattle.std.proofs.Common.{◌≡◌, ℕ, ◌==◌, ◌&&◌, ◌||◌, not, nat_lt, Bool, true, false, if◌then◌else◌, List, [], ◌∷◌, ◌++◌, length, set, slice_get, Option, Some, None, refl, sym, ap, ◌∙◌, subst}
+use Rattle.std.proofs.Common.{◌≡◌, ℕ, ◌&&◌, ◌||◌, not, nat_lt, Bool, true, false, if◌then◌else◌, List, [], ◌∷◌, length, set, slice_get, Option, Some, None, refl, sym, ap, subst}
 use Rattle.std.specs.Prelude.{option_map, option_and_then}
-use Rattle.std.proofs.lemmas.Bool.{and_parts, true≢false, false≢true}
+use Rattle.std.proofs.lemmas.Bool.{and_parts, false≢true}
 use Rattle.line_forms.specs.declared.tokens.OutcomeToken.{OutcomeToken}
 use Rattle.gate_journal.specs.Laws.{is_added}
 use Rattle.line_forms.proofs.FormLaws.{and_then_some, option_map_some}
@@ -20,12 +20,12 @@ use Rattle.node_rules.specs.WalletRecords.{identity_text as wallet_text, owner_o
 use Rattle.world_rules.specs.declared.reply.Reply.{Reply}
 use Rattle.world_rules.specs.Events.{Event, Declares, Joins, Bounces, Other, log_of, wallet_owner, accepted}
 use Rattle.world_rules.specs.World.{Role, Wallet, Watcher, Node, Rogue, World, with_node, any_role, rogue_named, owner_named, new_owner_of, call_of}
-use Rattle.world_rules.specs.Rules.{plays, declared_wallet, is_new_name, is_wallet_account, wallet_nodes, is_declared_account, is_caller, is_wallet_key, is_wallet_seed, may_be_wallet, keeps_rules, keeps_rules_in}
+use Rattle.world_rules.specs.Rules.{plays, declared_wallet, is_new_name, is_wallet_account, wallet_nodes, is_declared_account, is_caller, is_wallet_key, is_wallet_seed, keeps_rules, keeps_rules_in}
 use Rattle.world_rules.specs.Deeds.{Deed, deed_of}
-use Rattle.world_rules.specs.Steps.{Effect, says, new_node, declares_wallet, declares_watcher, event_of_call, called, raw_called, deposit_by, offer_at, entered, answers_down, after_command, commanded, down, after_crash, with_records, crashed, outcome_of, is_opening, is_stopped, without_offers, stopped, finished, cut, act_at, act_on, command_effect, cut_effect, signed_by, signed_body, effect_in, effect_of, with_mail, step, Run, no_lines, with_line, step_run, run_of, events_of}
+use Rattle.world_rules.specs.Steps.{Effect, says, new_node, declares_wallet, declares_watcher, called, raw_called, deposit_by, offer_at, entered, answers_down, after_command, commanded, down, after_crash, with_records, crashed, outcome_of, is_opening, is_stopped, without_offers, stopped, finished, cut, act_at, act_on, command_effect, cut_effect, signed_by, signed_body, effect_in, effect_of, with_mail, step, Run, no_lines, with_line, step_run, run_of, events_of}
 use Rattle.world_rules.specs.declared.TheConstants.{MOST_WALLETS}
-use Rattle.world_rules.proofs.Named.{Card, card, cards, IsOther, new-other, cards-set, cards-push, cards-length}
-use Rattle.world_rules.proofs.KeptNames.{is_plain, Kept, Move, Rests, Enters, Takes, Adds, AddsWallet, kept-move}
+use Rattle.world_rules.proofs.Named.{Card, cards, new-other, cards-set, cards-push, cards-length}
+use Rattle.world_rules.proofs.KeptNames.{Kept, Move, Rests, Enters, Takes, Adds, AddsWallet, kept-move}
 use Rattle.world_rules.proofs.NamedDeeds.{IsDeed, Plain, Accepting, deed-cut, deed-is}
 
 -- the effect is of such a move
@@ -126,7 +126,7 @@ module _ (dig : List ℕ → List ℕ) (world : World) where
       at true same = so effect (down world) same (Rests refl refl refl)
       at false same =
           let found = option_map_some (cut world n node count outcome command) (deed_of dig world n node command)
-              effect same in
+          effect same in
           subst (λ (x : Effect). Makes world x) found.2
           (cut-move count outcome command n node found.0 node_is (deed-is dig world n node command found.0 found.1))
 
@@ -165,7 +165,7 @@ module _ (dig : List ℕ → List ℕ) (world : World) where
   moves (Line.Money account) effect keeps is = so effect _ is (Rests refl refl refl)
   moves (Line.Deposit wallet amount) effect keeps is =
       let found = option_map_some (λ owner. called dig world (deposit_by amount owner)) (owner_named world wallet)
-          effect is in
+      effect is in
       subst (λ (x : Effect). Makes world x) found.2 (calls world.callers (deposit_by amount found.0))
   moves (Line.Call account form) effect keeps is =
       let found = option_map_some (raw_called dig world account) (call_of world account form) effect is in

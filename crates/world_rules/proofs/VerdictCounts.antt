@@ -1,5 +1,5 @@
 -- How many verdicts there are on a wallet and a coin, and what a verdict is on.
-use Rattle.std.proofs.Common.{◌≡◌, ◌⊎◌, ℕ, zero, suc, ◌+◌, ◌-◌, ◌<◌, ◌≤◌, ◌==◌, ◌&&◌, cond, Bool, true, false, if◌then◌else◌, List, [], ◌∷◌, ◌++◌, length, slice_get, slice_index_or, bytes_eq, Contains, count_by, flat_map, filter_map, option_map, option_and_then, Option, Some, None, inl, inr, refl, sym, ap, ◌∙◌, subst, arith}
+use Rattle.std.proofs.Common.{◌≡◌, ◌⊎◌, ℕ, zero, suc, ◌+◌, ◌<◌, ◌≤◌, ◌==◌, cond, Bool, true, false, if◌then◌else◌, List, [], ◌∷◌, ◌++◌, slice_get, bytes_eq, Contains, count_by, flat_map, filter_map, option_map, option_and_then, Option, Some, None, inl, inr, refl, sym, ap, ◌∙◌, subst, arith}
 use Rattle.std.specs.List.{cons_option, range_with_len}
 use Rattle.std.proofs.lemmas.Bool.{cases_eq, eq-eqb, ne_eqb, and_from, and_left, and_right}
 use Rattle.std.proofs.lemmas.List.Sums.{sum_by-cons, sum_by-append}
@@ -136,11 +136,14 @@ module _ (tests : Tests) (rules : Rules) (events : List Event) where
       → verdict_of tests rules events wallet c ≡ Some verdict → IsVerdict events wallet c verdict
   verdict-is wallet c verdict is =
       let found = and_then_some (λ me. verdict_on tests rules events wallet me c)
-          (wallet_owner events wallet.number) verdict is in
+      (wallet_owner events wallet.number) verdict is in
       let made = option_map_some
-          (λ e. record { wallet = wallet.name; coin = c;
-          kind = verdict_at tests rules events found.0 wallet.number c e })
-          (held_tip events wallet.number c) verdict found.2 in
+      (λ e. record {
+        wallet = wallet.name;
+        coin = c;
+        kind = verdict_at tests rules events found.0 wallet.number c e;
+      })
+      (held_tip events wallet.number c) verdict found.2 in
       record {
         me = found.0;
         tip = made.0;
@@ -157,9 +160,9 @@ module _ (tests : Tests) (rules : Rules) (events : List Event) where
   verdict-some wallet c me tip owner tip_is = (
     record { wallet = wallet.name; coin = c; kind = verdict_at tests rules events me wallet.number c tip },
     ap (λ (o : Option Owner). option_and_then (λ me. verdict_on tests rules events wallet me c) o) owner
-    ∙ ap (λ (o : Option ℕ). option_map
-    (λ e. record { wallet = wallet.name; coin = c; kind = verdict_at tests rules events me wallet.number c e }) o)
-    tip_is,
+        ∙ ap (λ (o : Option ℕ). option_map
+        (λ e. record { wallet = wallet.name; coin = c; kind = verdict_at tests rules events me wallet.number c e }) o)
+        tip_is,
   )
 
   -- ---- one verdict

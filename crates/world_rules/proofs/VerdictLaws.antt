@@ -1,23 +1,22 @@
 -- A wallet and a coin that it ever held have one verdict, and each verdict is on such a coin at its greatest block.
-use Rattle.std.proofs.Common.{◌≡◌, ℕ, ◌+◌, ◌≤◌, ◌||◌, Bool, true, false, List, [], ◌∷◌, slice_get, Contains, count_by, Option, Some, None, inl, inr, refl, sym, ap, ◌∙◌, subst, arith}
+use Rattle.std.proofs.Common.{◌≡◌, ℕ, ◌+◌, ◌≤◌, true, List, [], ◌∷◌, slice_get, Contains, count_by, Option, Some, None, inl, inr, refl, sym, ap, ◌∙◌, subst, arith}
 use Rattle.std.specs.List.{list_any}
 use Rattle.std.specs.Option.{option_map_or}
 use Rattle.std.proofs.lemmas.Bool.{or_cases, false≢true, cases_eq, ne_eqb}
 use Rattle.plasma_tx.specs.declared.call.RootCall.{RootCall}
 use Rattle.plasma_tx.specs.declared.call.RootCall.TheVariants.{Deposit}
 use Rattle.plasma_tx.specs.declared.views.CoinView.{CoinView}
-use Rattle.plasma_tx.specs.Views.{coins, new_coin, coin_at}
+use Rattle.plasma_tx.specs.Views.{coins, coin_at}
 use Rattle.plasma_tx.proofs.Names.{some_same}
 use Rattle.root_rules.specs.Shown.{tests_by, rules_of}
 use Rattle.root_rules.proofs.Bounds.{coin_at-le}
-use Rattle.schedule_text.specs.declared.line.Line.{Line}
 use Rattle.world_rules.specs.declared.verdict.Verdict.{Verdict}
 use Rattle.world_rules.specs.Events.{Event, log_of, accepted, is_bundle}
 use Rattle.world_rules.specs.World.{Wallet, Node, World, is_wallet}
-use Rattle.world_rules.specs.Steps.{Run, run_of, events_of}
+use Rattle.world_rules.specs.Steps.{Run, events_of}
 use Rattle.world_rules.specs.Safety.{was_deposited}
 use Rattle.world_rules.specs.Verdicts.{ever_held, held_tip, Named, verdict_of, verdicts_on, verdicts_in, verdicts_of}
-use Rattle.world_rules.specs.Laws.{is_on, HeldCoinsHaveOneVerdict, IsOfHeld, VerdictsAreOfHeldCoins}
+use Rattle.world_rules.specs.Laws.{is_on, HeldCoinsHaveOneVerdict, VerdictsAreOfHeldCoins}
 use Rattle.world_rules.proofs.HeldTips.{IsCoin, IsTip, ever-tip, held_tip-is, held_tip-some}
 use Rattle.world_rules.proofs.Named.{Card, card, cards, card-at}
 use Rattle.world_rules.proofs.VerdictCounts.{one-verdict, verdict-is, from-coin, from-wallet}
@@ -65,7 +64,7 @@ module _ (world : World) (events : List Event) (kept : Kept (cards world.nodes) 
       let wallet = kept.wallets n tip.me tip.owner in
       let greatest = held_tip-some events n c e kept.stay held in
       let same = some_same (card node) (record { name = wallet.name; role = Wallet })
-          (sym (card-at world.nodes n node node_is) ∙ wallet.is) in
+      (sym (card-at world.nodes n node node_is) ∙ wallet.is) in
       one-verdict (tests_by dig) (rules_of world.chain) events world.nodes n c greatest.0 node tip.me kept.distinct
       node_is (ap (λ (x : Card). is_wallet x.role) same) tip.owner greatest.1
       (coin_at-positive (log_of events) c coin.made coin.is) (coin_at-le (log_of events) c coin.made coin.is)
@@ -81,16 +80,16 @@ verdicts_are_of_held_coins dig lines run world verdict ran world_is found =
     let events : List Event = events_of run.entries in
     let kept = (run-kept dig lines run ran).kept world world_is in
     let among = subst (λ (verdicts : List Verdict). Contains verdicts verdict) (verdicts-are dig run world world_is)
-        found in
+    found in
     let from = from-wallet (verdicts_on (tests_by dig) (rules_of world.chain) events) world.nodes 0 verdict among in
     let wallet : Named = record { number = 0 + from.place; name = from.node.name } in
     let coin = from-coin (verdict_of (tests_by dig) (rules_of world.chain) events wallet) (coins (log_of events)) 1
-        verdict from.among in
+    verdict from.among in
     let is = verdict-is (tests_by dig) (rules_of world.chain) events wallet coin.0 verdict coin.1 in
     let here : 0 + from.place ≡ from.place = omega arith in
     let tip_is : held_tip events from.place verdict.coin ≡ Some is.tip =
-        ap (λ (k : ℕ). held_tip events k verdict.coin) (sym here) ∙ ap (held_tip events (0 + from.place)) is.coin
-        ∙ is.tip_is in
+    ap (λ (k : ℕ). held_tip events k verdict.coin) (sym here) ∙ ap (held_tip events (0 + from.place)) is.coin
+    ∙ is.tip_is in
     let held = held_tip-is events from.place verdict.coin is.tip kept.stay tip_is in
     record {
       number = from.place;
