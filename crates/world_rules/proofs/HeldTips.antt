@@ -11,9 +11,9 @@ use Rattle.plasma_tx.specs.Views.{coin_at, is_withdrawn}
 use Rattle.coin_history.specs.declared.bundle.Bundle.{Bundle}
 use Rattle.coin_history.proofs.HistoryGrow.{coin_at-grown}
 use Rattle.wallet_core.specs.State.{is_owner, greatest}
-use Rattle.world_rules.specs.Events.{Event, Joins, Accepts, log_of, wallet_owner, accepted, standing_by, is_signed_away, is_bundle}
+use Rattle.world_rules.specs.Events.{Event, Joins, Accepts, log_of, wallet_owner, accepted, signed_away_by, is_sent_from, is_bundle}
 use Rattle.world_rules.specs.Safety.{was_deposited, holds_with, holds}
-use Rattle.world_rules.specs.Verdicts.{ever_held, own_deposit, tips_of, held_tip}
+use Rattle.world_rules.specs.Verdicts.{ever_held, own_deposit_of, possible_tips, held_tip}
 
 -- ---- the greatest of some numbers that pass a test
 
@@ -148,13 +148,13 @@ unfolding holds
 holds-tip events w c e is = at (wallet_owner events w) refl is
   where
     at : (o : Option Owner) → wallet_owner events w ≡ o
-        → holds_with (log_of events) o (standing_by events w) (accepted events w) c e ≡ true → IsTip events w c e
+        → holds_with (log_of events) o (signed_away_by events w) (accepted events w) c e ≡ true → IsTip events w c e
     at None none wrong = absurd (false≢true wrong)
     at (Some me) some held = record {
       me = me;
       owner = some;
       at = first (was_deposited me e (coin_at (log_of events) c) || list_any (is_bundle c e) (accepted events w))
-          (not (is_signed_away (standing_by events w) c e)) (not (is_withdrawn (log_of events) c)) held;
+          (not (is_sent_from (signed_away_by events w) c e)) (not (is_withdrawn (log_of events) c)) held;
     }
 
 tip-stays : (event : Event) (events : List Event) (w c e : ℕ)
@@ -185,7 +185,7 @@ ever-tip (event ∷ events) w c e stay is =
     ]
 
 own-has : (me : Owner) (e : ℕ) (o : Option CoinView) → was_deposited me e o ≡ true
-    → has e (own_deposit (Some me) o) ≡ true
+    → has e (own_deposit_of (Some me) o) ≡ true
 own-has me e None is = is
 own-has me e (Some made) is =
     let parts = and_parts (made.deposit == e) (is_owner made.owner me) is in
@@ -215,10 +215,10 @@ taken-has c e (bundle ∷ bundles) is =
     more true rest = or_right (bundle.tip == e) (has e (tips bundles)) rest
     more false rest = rest
 
-tip-has : (events : List Event) (w c e : ℕ) → IsTip events w c e → has e (tips_of events w c) ≡ true
+tip-has : (events : List Event) (w c e : ℕ) → IsTip events w c e → has e (possible_tips events w c) ≡ true
 tip-has events w c e tip =
-    list_any-append (λ x. x == e) (own_deposit (wallet_owner events w) (coin_at (log_of events) c)) taken
-    ∙ ap (λ (o : Option Owner). has e (own_deposit o (coin_at (log_of events) c)) || has e taken) tip.owner
+    list_any-append (λ x. x == e) (own_deposit_of (wallet_owner events w) (coin_at (log_of events) c)) taken
+    ∙ ap (λ (o : Option Owner). has e (own_deposit_of o (coin_at (log_of events) c)) || has e taken) tip.owner
     ∙ elim (or_cases (was_deposited tip.me e (coin_at (log_of events) c))
     (list_any (is_bundle c e) (accepted events w)) tip.at) [
       | inl own ↦ or_left (has e own_tips) (has e taken) (own-has tip.me e (coin_at (log_of events) c) own)
@@ -229,7 +229,7 @@ tip-has events w c e tip =
     taken = map (λ bundle. bundle.tip) (filter (λ bundle. bundle.coin == c) (accepted events w))
 
     own_tips : List ℕ
-    own_tips = own_deposit (Some tip.me) (coin_at (log_of events) c)
+    own_tips = own_deposit_of (Some tip.me) (coin_at (log_of events) c)
 
 -- ---- the held tip
 
@@ -239,18 +239,18 @@ pub record IsHeldTip (events : List Event) (w c tip : ℕ) : Type 0 where
   pub most : (e : ℕ) → ever_held events w c e ≡ true → e ≤ tip
 
 held-among : (events : List Event) (w c e : ℕ) → OwnersStay events → ever_held events w c e ≡ true
-    → has e (filter (ever_held events w c) (tips_of events w c)) ≡ true
+    → has e (filter (ever_held events w c) (possible_tips events w c)) ≡ true
 held-among events w c e stay held =
-    has-filter (ever_held events w c) e (tips_of events w c) (tip-has events w c e (ever-tip events w c e stay held))
+    has-filter (ever_held events w c) e (possible_tips events w c) (tip-has events w c e (ever-tip events w c e stay held))
     held
 
 pub held_tip-is : (events : List Event) (w c tip : ℕ) → OwnersStay events → held_tip events w c ≡ Some tip
     → IsHeldTip events w c tip
 unfolding held_tip
 held_tip-is events w c tip stay is = record {
-  held = filter-passes (ever_held events w c) tip (tips_of events w c)
-      (greatest-has (filter (ever_held events w c) (tips_of events w c)) tip is);
-  most = λ e held. greatest-le (filter (ever_held events w c) (tips_of events w c)) tip e is
+  held = filter-passes (ever_held events w c) tip (possible_tips events w c)
+      (greatest-has (filter (ever_held events w c) (possible_tips events w c)) tip is);
+  most = λ e held. greatest-le (filter (ever_held events w c) (possible_tips events w c)) tip e is
       (held-among events w c e stay held);
 }
 
@@ -258,4 +258,4 @@ pub held_tip-some : (events : List Event) (w c e : ℕ) → OwnersStay events �
     → (tip : ℕ) × (held_tip events w c ≡ Some tip)
 unfolding held_tip
 held_tip-some events w c e stay held =
-    greatest-some (filter (ever_held events w c) (tips_of events w c)) e (held-among events w c e stay held)
+    greatest-some (filter (ever_held events w c) (possible_tips events w c)) e (held-among events w c e stay held)

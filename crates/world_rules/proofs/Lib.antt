@@ -1,5 +1,7 @@
 pub mod Shapes
 pub mod OwnEvents
+pub mod StepLaws
+pub mod Existence
 pub mod HeldTips
 pub mod Named
 pub mod VerdictCounts

@@ -4,7 +4,7 @@ use Rattle.std.specs.List.{position, position_or_len}
 use Rattle.std.specs.Cmp.Lexicographic.{bytes_decides}
 use Rattle.std.proofs.lemmas.Bool.{or_parts, not-true, false_from_ne_true, true≢false, lt-ltb, ltb-false, le-ltb}
 use Rattle.world_rules.specs.World.{Role, Node, World, any_role, is_named, rogue_named}
-use Rattle.world_rules.specs.Rules.{is_new_name}
+use Rattle.world_rules.specs.Declarations.{is_new_name}
 
 -- a node's name and role
 pub record Card : Type 0 where

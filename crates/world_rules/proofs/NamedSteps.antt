@@ -20,16 +20,16 @@ use Rattle.node_rules.specs.WalletRecords.{identity_text as wallet_text, owner_o
 use Rattle.world_rules.specs.declared.reply.Reply.{Reply}
 use Rattle.world_rules.specs.Events.{Event, Declares, Joins, Bounces, Other, log_of, wallet_owner, accepted}
 use Rattle.world_rules.specs.World.{Role, Wallet, Watcher, Node, Rogue, World, with_node, any_role, rogue_named, owner_named, new_owner_of, call_of}
-use Rattle.world_rules.specs.Rules.{plays, declared_wallet, is_new_name, is_wallet_account, wallet_nodes, is_declared_account, is_caller, is_wallet_key, is_wallet_seed, keeps_rules, keeps_rules_in}
+use Rattle.world_rules.specs.Declarations.{plays, declared_wallet, is_new_name, is_wallet_account, wallet_nodes, is_declared_account, is_caller, is_wallet_key, is_wallet_seed, keeps_rules, keeps_rules_in}
 use Rattle.world_rules.specs.Deeds.{Deed, deed_of}
-use Rattle.world_rules.specs.Steps.{Effect, says, new_node, declares_wallet, declares_watcher, called, raw_called, deposit_by, offer_at, entered, answers_down, after_command, commanded, down, after_crash, with_records, crashed, outcome_of, is_opening, is_stopped, without_offers, stopped, finished, cut, act_at, act_on, command_effect, cut_effect, signed_by, signed_body, effect_in, effect_of, with_mail, step, Run, no_lines, with_line, step_run, run_of, events_of}
+use Rattle.world_rules.specs.Steps.{LineEffect, says, new_node, declares_wallet, declares_watcher, called, raw_called, deposit_by, offer_numbered, entered, answers_down, after_command, commanded, down, after_crash, with_records, crashed, outcome_of, is_opening, is_stopped, without_offers, stopped, finished, cut, act_at, act_on, command_effect, cut_effect, signed_by, signed_body, effect_in, effect_of, with_mail, step, Run, no_lines, with_line, step_run, run_of, events_of}
 use Rattle.world_rules.specs.declared.TheConstants.{MOST_WALLETS}
 use Rattle.world_rules.proofs.Named.{Card, cards, new-other, cards-set, cards-push, cards-length}
 use Rattle.world_rules.proofs.KeptNames.{Kept, Move, Rests, Enters, Takes, Adds, AddsWallet, kept-move}
 use Rattle.world_rules.proofs.NamedDeeds.{IsDeed, Plain, Accepting, deed-cut, deed-is}
 
 -- the effect is of such a move
-abbrev Makes : World → Effect → Type 0
+abbrev Makes : World → LineEffect → Type 0
 Makes world effect =
     Move (cards world.nodes) (cards effect.world.nodes) world.chain.log effect.world.chain.log effect.event
 
@@ -44,12 +44,12 @@ head true b c d is = refl
 head false b c d is = is
 
 module _ (dig : List ℕ → List ℕ) (world : World) where
-  so : (effect other : Effect) → Some other ≡ Some effect → Makes world other → Makes world effect
-  so effect other is makes = subst (λ (x : Effect). Makes world x) (some_same other effect is) makes
+  so : (effect other : LineEffect) → Some other ≡ Some effect → Makes world other → Makes world effect
+  so effect other is makes = subst (λ (x : LineEffect). Makes world x) (some_same other effect is) makes
 
-  calls : (callers : List ℕ) (call : RootCall) → Makes world (called dig (record world { callers = callers }) call)
+  calls : (raw_callers : List ℕ) (call : RootCall) → Makes world (called dig (record world { raw_callers = raw_callers }) call)
   unfolding log_after
-  calls callers call =
+  calls raw_callers call =
       (elim (is_accepted answer) as (λ b. Move (cards world.nodes) (cards world.nodes) world.chain.log
       (if b then call ∷ world.chain.log else world.chain.log) (if b then Joins call else Bounces call)) [
         | true ↦ Enters call refl refl refl
@@ -59,7 +59,7 @@ module _ (dig : List ℕ → List ℕ) (world : World) where
       answer : Answer
       answer = answer_to (tests_by dig) (rules_of world.chain) world.chain.log call
 
-  acted : (may : Role → Bool) (name : List ℕ) (act : ℕ → Node → Option Effect) (effect : Effect)
+  acted : (may : Role → Bool) (name : List ℕ) (act : ℕ → Node → Option LineEffect) (effect : LineEffect)
       → act_on may world name act ≡ Some effect
       → (n : ℕ) × (node : Node) × (slice_get world.nodes n ≡ Some node) × (act n node ≡ Some effect)
   acted may name act effect is =
@@ -69,12 +69,12 @@ module _ (dig : List ℕ → List ℕ) (world : World) where
 
   enters : (offer : Option RootCall) → Makes world (entered dig world offer)
   enters None = Rests refl refl refl
-  enters (Some call) = calls world.callers call
+  enters (Some call) = calls world.raw_callers call
 
   crashes : (n : ℕ) (node : Node) → slice_get world.nodes n ≡ Some node → Makes world (crashed world n node)
   crashes n node is = Rests (cards-set world.nodes n node (after_crash node) is refl) refl refl
 
-  commands : (command : Command) (n : ℕ) (node : Node) (effect : Effect) → slice_get world.nodes n ≡ Some node
+  commands : (command : Command) (n : ℕ) (node : Node) (effect : LineEffect) → slice_get world.nodes n ≡ Some node
       → command_effect dig world command n node ≡ Some effect → Makes world effect
   commands command n node effect node_is is = at (answers_down node command) is
     where
@@ -84,13 +84,13 @@ module _ (dig : List ℕ → List ℕ) (world : World) where
       at true same = so effect (down world) same (Rests refl refl refl)
       at false same =
           let found = option_map_some (commanded world n node) (deed_of dig world n node command) effect same in
-          subst (λ (x : Effect). Makes world x) found.2
+          subst (λ (x : LineEffect). Makes world x) found.2
           (from-deed (cards world.nodes) (cards (set world.nodes n (after_command node found.0))) world.chain.log
-          found.0.outcome.event (cards-set world.nodes n node (after_command node found.0) node_is refl)
+          found.0.gives.event (cards-set world.nodes n node (after_command node found.0) node_is refl)
           (deed-is dig world n node command found.0 found.1))
 
   cut-move : (count : ℕ) (outcome : OutcomeToken) (command : Command) (n : ℕ) (node : Node) (deed : Deed)
-      → slice_get world.nodes n ≡ Some node → IsDeed world.chain.log deed.outcome.event
+      → slice_get world.nodes n ≡ Some node → IsDeed world.chain.log deed.gives.event
       → Makes world (cut world n node count outcome command deed)
   cut-move count outcome command n node deed node_is own =
       (elim (is_stopped count node command deed) as (λ b. Makes world
@@ -100,21 +100,21 @@ module _ (dig : List ℕ → List ℕ) (world : World) where
       ])
     where
       kept : Move (cards world.nodes) (cards (set world.nodes n (after_crash (with_records node deed))))
-          world.chain.log world.chain.log (without_offers n deed.outcome.event)
+          world.chain.log world.chain.log (without_offers n deed.gives.event)
       kept = from-deed (cards world.nodes) (cards (set world.nodes n (after_crash (with_records node deed))))
-          world.chain.log (without_offers n deed.outcome.event)
+          world.chain.log (without_offers n deed.gives.event)
           (cards-set world.nodes n node (after_crash (with_records node deed)) node_is refl)
-          (deed-cut world.chain.log n deed.outcome.event own)
+          (deed-cut world.chain.log n deed.gives.event own)
 
       at : (b : Bool) → Makes world
           (if b
-          then says Reply.Stopped (without_offers n deed.outcome.event)
+          then says Reply.Stopped (without_offers n deed.gives.event)
           (with_node world n (after_crash (with_records node deed)))
           else says Reply.Stopped (Other n) (with_node world n (after_crash node)))
       at true = kept
       at false = Rests (cards-set world.nodes n node (after_crash node) node_is refl) refl refl
 
-  cuts : (count : ℕ) (outcome : OutcomeToken) (command : Command) (n : ℕ) (node : Node) (effect : Effect)
+  cuts : (count : ℕ) (outcome : OutcomeToken) (command : Command) (n : ℕ) (node : Node) (effect : LineEffect)
       → slice_get world.nodes n ≡ Some node → cut_effect dig world count outcome command n node ≡ Some effect
       → Makes world effect
   cuts count outcome command n node effect node_is is = at (answers_down node command) is
@@ -127,10 +127,10 @@ module _ (dig : List ℕ → List ℕ) (world : World) where
       at false same =
           let found = option_map_some (cut world n node count outcome command) (deed_of dig world n node command)
           effect same in
-          subst (λ (x : Effect). Makes world x) found.2
+          subst (λ (x : LineEffect). Makes world x) found.2
           (cut-move count outcome command n node found.0 node_is (deed-is dig world n node command found.0 found.1))
 
-  signs : (leaf coin parent : ℕ) (last : Option ℕ) (rogue : Option Rogue) (to : Option Owner) (effect : Effect)
+  signs : (leaf coin parent : ℕ) (last : Option ℕ) (rogue : Option Rogue) (to : Option Owner) (effect : LineEffect)
       → option_and_then
       (λ owner. option_map (signed_by world leaf (signed_body world coin parent last owner)) rogue) to ≡ Some effect
       → Makes world effect
@@ -140,7 +140,7 @@ module _ (dig : List ℕ → List ℕ) (world : World) where
       so effect (signed_by world leaf (signed_body world coin parent last owner) rogue) is (Rests refl refl refl)
 
   -- each line that keeps the rules makes a move
-  moves : (line : Line) (effect : Effect) → keeps_rules_in world line ≡ true → effect_in dig world line ≡ Some effect
+  moves : (line : Line) (effect : LineEffect) → keeps_rules_in world line ≡ true → effect_in dig world line ≡ Some effect
       → Makes world effect
   unfolding effect_in
   moves (Line.Chain tag operator most) effect keeps is = absurd (cc is)
@@ -160,19 +160,19 @@ module _ (dig : List ℕ → List ℕ) (world : World) where
       (new_node Watcher name account (watcher_text (record { tag = world.chain.tag; account = account })))) refl refl
       (new-other world name (and_parts (is_new_name world name) (not (is_wallet_account world account)) keeps).0))
   moves (Line.Rogue name account seed types) effect keeps is = so effect _ is (Rests refl refl refl)
-  moves (Line.Fund account amount) effect keeps is = so effect _ is (calls world.callers (RootCall.Fund account amount))
-  moves (Line.Tick time) effect keeps is = so effect _ is (calls world.callers (RootCall.Tick time))
+  moves (Line.Fund account amount) effect keeps is = so effect _ is (calls world.raw_callers (RootCall.Fund account amount))
+  moves (Line.Tick time) effect keeps is = so effect _ is (calls world.raw_callers (RootCall.Tick time))
   moves (Line.Money account) effect keeps is = so effect _ is (Rests refl refl refl)
   moves (Line.Deposit wallet amount) effect keeps is =
       let found = option_map_some (λ owner. called dig world (deposit_by amount owner)) (owner_named world wallet)
       effect is in
-      subst (λ (x : Effect). Makes world x) found.2 (calls world.callers (deposit_by amount found.0))
+      subst (λ (x : LineEffect). Makes world x) found.2 (calls world.raw_callers (deposit_by amount found.0))
   moves (Line.Call account form) effect keeps is =
       let found = option_map_some (raw_called dig world account) (call_of world account form) effect is in
-      subst (λ (x : Effect). Makes world x) found.2 (calls (account ∷ world.callers) found.0)
+      subst (λ (x : LineEffect). Makes world x) found.2 (calls (account ∷ world.raw_callers) found.0)
   moves (Line.Enter node number) effect keeps is =
-      let found = acted any_role node (λ n found. Some (entered dig world (offer_at number found))) effect is in
-      so effect _ found.3 (enters (offer_at number found.1))
+      let found = acted any_role node (λ n found. Some (entered dig world (offer_numbered number found))) effect is in
+      so effect _ found.3 (enters (offer_numbered number found.1))
   moves (Line.Command command) effect keeps is =
       let found = acted (plays command) (node_of command) (command_effect dig world command) effect is in
       commands command found.0 found.1 effect found.2 found.3
@@ -188,7 +188,7 @@ module _ (dig : List ℕ → List ℕ) (world : World) where
 -- ---- runs
 
 -- a step that is made is its line's effect with its mail item
-stepped : (dig : List ℕ → List ℕ) (world : World) (line : Line) (effect : Effect)
+stepped : (dig : List ℕ → List ℕ) (world : World) (line : Line) (effect : LineEffect)
     → step dig (Some world) line ≡ Some effect → Makes world effect
 unfolding step effect_of keeps_rules
 stepped dig world line effect is = at (keeps_rules_in world line) refl is
@@ -198,18 +198,18 @@ stepped dig world line effect is = at (keeps_rules_in world line) refl is
     at false keeps wrong = absurd (cc wrong)
     at true keeps made =
         let found = option_map_some with_mail (effect_in dig world line) effect made in
-        subst (λ (x : Effect). Makes world x) found.2 (moves dig world line found.0 keeps found.1)
+        subst (λ (x : LineEffect). Makes world x) found.2 (moves dig world line found.0 keeps found.1)
 
 -- what is kept in a world behind events
 abbrev KeptIn : World → List Event → Type 0
 KeptIn world events = Kept (cards world.nodes) world.chain.log events
 
 -- the first line begins the chain
-begun : (dig : List ℕ → List ℕ) (line : Line) (effect : Effect) → step dig None line ≡ Some effect
+begun : (dig : List ℕ → List ℕ) (line : Line) (effect : LineEffect) → step dig None line ≡ Some effect
     → KeptIn effect.world (effect.event ∷ [])
 unfolding step effect_of keeps_rules log_of wallet_owner accepted
 begun dig (Line.Chain tag operator most) effect is =
-    subst (λ (x : Effect). KeptIn x.world (x.event ∷ [])) (some_same _ effect is) (record {
+    subst (λ (x : LineEffect). KeptIn x.world (x.event ∷ [])) (some_same _ effect is) (record {
       log_is = refl;
       distinct = (tt, tt);
       wallets = λ w me wrong. absurd (cc wrong);
@@ -224,7 +224,7 @@ pub record IsKeptRun (run : Run) : Type 0 where
   pub kept : (world : World) → run.world ≡ Some world
       → Kept (cards world.nodes) world.chain.log (events_of run.entries)
 
-one-more : (dig : List ℕ → List ℕ) (line : Line) (run : Run) (effect : Effect) → IsKeptRun run
+one-more : (dig : List ℕ → List ℕ) (line : Line) (run : Run) (effect : LineEffect) → IsKeptRun run
     → step dig run.world line ≡ Some effect → IsKeptRun (with_line run line effect)
 unfolding events_of
 one-more dig line run effect is stepped_so = record {

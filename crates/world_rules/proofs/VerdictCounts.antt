@@ -10,7 +10,7 @@ use Rattle.plasma_tx.specs.Views.{coins}
 use Rattle.root_rules.specs.Shown.{Tests, Rules}
 use Rattle.world_rules.specs.declared.verdict.Verdict.{Verdict}
 use Rattle.world_rules.specs.Events.{Event, log_of, wallet_owner}
-use Rattle.world_rules.specs.World.{Node, is_wallet}
+use Rattle.world_rules.specs.World.{Node, is_wallet_role}
 use Rattle.world_rules.specs.Verdicts.{held_tip, Named, verdict_at, verdict_on, verdict_of, wallets_from, verdicts_on}
 use Rattle.world_rules.specs.Laws.{is_on}
 use Rattle.world_rules.proofs.Named.{card, cards, IsOther, AreDistinct, names-flip, own-name, other-at, card-at}
@@ -80,7 +80,7 @@ module _ (p : Verdict → Bool) (f : Named → List Verdict) (name : List ℕ)
   past : (k n : ℕ) (node : Node) (nodes : List Node) → bytes_eq node.name name ≡ false → among (k + 1) nodes ≡ n
       → among k (node ∷ nodes) ≡ n
   unfolding wallets_from
-  past k n node nodes apart rest = at (is_wallet node.role)
+  past k n node nodes apart rest = at (is_wallet_role node.role)
     where
       at : (b : Bool) → count_by p (flat_map f
           (if b then record { number = k; name = node.name } ∷ wallets_from (k + 1) nodes
@@ -97,7 +97,7 @@ module _ (p : Verdict → Bool) (f : Named → List Verdict) (name : List ℕ)
 
   -- those of the wallet with the name, where no two nodes have one name
   pub wallets-one : (nodes : List Node) (k i : ℕ) (node : Node) (n : ℕ) → AreDistinct (cards nodes)
-      → slice_get nodes i ≡ Some node → is_wallet node.role ≡ true → node.name ≡ name
+      → slice_get nodes i ≡ Some node → is_wallet_role node.role ≡ true → node.name ≡ name
       → count_by p (f (record { number = k + i; name = name })) ≡ n → among k nodes ≡ n
   unfolding wallets_from
   wallets-one [] k i node n distinct is wallet own count = absurd (cc is)
@@ -107,7 +107,7 @@ module _ (p : Verdict → Bool) (f : Named → List Verdict) (name : List ℕ)
       let here : k ≡ k + zero = omega arith in
       ap (λ (b : Bool). count_by p (flat_map f
       (if b then record { number = k; name = first.name } ∷ wallets_from (k + 1) rest
-      else wallets_from (k + 1) rest))) (ap (λ (x : Node). is_wallet x.role) same ∙ wallet)
+      else wallets_from (k + 1) rest))) (ap (λ (x : Node). is_wallet_role x.role) same ∙ wallet)
       ∙ one-more (record { number = k; name = first.name }) (wallets_from (k + 1) rest) n 0
       ((λ j. count_by p (f (record { number = here j; name = named j }))) ∙ count)
       (wallets-none rest (k + 1) (subst (λ (x : List ℕ). IsOther x (cards rest)) named distinct.0))
@@ -122,18 +122,20 @@ module _ (p : Verdict → Bool) (f : Named → List Verdict) (name : List ℕ)
 
 -- ---- what a verdict is on
 
--- a verdict on a wallet and a coin: who the wallet is, and its held tip of the coin
-pub record IsVerdict (events : List Event) (wallet : Named) (c : ℕ) (verdict : Verdict) : Type 0 where
+-- a verdict on a wallet and a coin: who the wallet is, its held tip of the coin, and what became of the coin
+pub record IsVerdict (tests : Tests) (rules : Rules) (events : List Event) (wallet : Named) (c : ℕ)
+    (verdict : Verdict) : Type 0 where
   pub me : Owner
   pub tip : ℕ
   pub owner : wallet_owner events wallet.number ≡ Some me
   pub tip_is : held_tip events wallet.number c ≡ Some tip
   pub name : verdict.wallet ≡ wallet.name
   pub coin : verdict.coin ≡ c
+  pub kind : verdict.kind ≡ verdict_at tests rules events me wallet.number c tip
 
 module _ (tests : Tests) (rules : Rules) (events : List Event) where
   pub verdict-is : (wallet : Named) (c : ℕ) (verdict : Verdict)
-      → verdict_of tests rules events wallet c ≡ Some verdict → IsVerdict events wallet c verdict
+      → verdict_of tests rules events wallet c ≡ Some verdict → IsVerdict tests rules events wallet c verdict
   verdict-is wallet c verdict is =
       let found = and_then_some (λ me. verdict_on tests rules events wallet me c)
       (wallet_owner events wallet.number) verdict is in
@@ -151,6 +153,7 @@ module _ (tests : Tests) (rules : Rules) (events : List Event) where
         tip_is = made.1;
         name = ap (λ (v : Verdict). v.wallet) (sym made.2);
         coin = ap (λ (v : Verdict). v.coin) (sym made.2);
+        kind = ap (λ (v : Verdict). v.kind) (sym made.2);
       }
 
   -- there is one where the wallet is declared and has a held tip
@@ -190,7 +193,7 @@ module _ (tests : Tests) (rules : Rules) (events : List Event) where
       (ne_eqb other.coin c (λ same. apart (sym (verdict-is wallet k other some).coin ∙ same))))
 
   pub one-verdict : (nodes : List Node) (n c tip : ℕ) (node : Node) (me : Owner) → AreDistinct (cards nodes)
-      → slice_get nodes n ≡ Some node → is_wallet node.role ≡ true → wallet_owner events n ≡ Some me
+      → slice_get nodes n ≡ Some node → is_wallet_role node.role ≡ true → wallet_owner events n ≡ Some me
       → held_tip events n c ≡ Some tip → 1 ≤ c → c ≤ coins (log_of events)
       → count_by (is_on node.name c) (flat_map (verdicts_on tests rules events) (wallets_from 0 nodes)) ≡ 1
   one-verdict nodes n c tip node me distinct is wallet owner tip_is low high =
@@ -242,7 +245,7 @@ pub from-wallet : (f : Named → List Verdict) (nodes : List Node) (k : ℕ) (v 
 unfolding wallets_from
 from-wallet f [] k v found = absurd (nothing v found)
 from-wallet f (node ∷ nodes) k v found =
-    at (is_wallet node.role) found (λ among. later (from-wallet f nodes (k + 1) v among))
+    at (is_wallet_role node.role) found (λ among. later (from-wallet f nodes (k + 1) v among))
   where
     later : IsFrom f (k + 1) nodes v → IsFrom f k (node ∷ nodes) v
     later from =

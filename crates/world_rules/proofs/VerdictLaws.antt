@@ -12,14 +12,14 @@ use Rattle.root_rules.specs.Shown.{tests_by, rules_of}
 use Rattle.root_rules.proofs.Bounds.{coin_at-le}
 use Rattle.world_rules.specs.declared.verdict.Verdict.{Verdict}
 use Rattle.world_rules.specs.Events.{Event, log_of, accepted, is_bundle}
-use Rattle.world_rules.specs.World.{Wallet, Node, World, is_wallet}
+use Rattle.world_rules.specs.World.{Wallet, Node, World, is_wallet_role}
 use Rattle.world_rules.specs.Steps.{Run, events_of}
 use Rattle.world_rules.specs.Safety.{was_deposited}
-use Rattle.world_rules.specs.Verdicts.{ever_held, held_tip, Named, verdict_of, verdicts_on, verdicts_in, verdicts_of}
-use Rattle.world_rules.specs.Laws.{is_on, HeldCoinsHaveOneVerdict, VerdictsAreOfHeldCoins}
-use Rattle.world_rules.proofs.HeldTips.{IsCoin, IsTip, ever-tip, held_tip-is, held_tip-some}
+use Rattle.world_rules.specs.Verdicts.{ever_held, held_tip, Named, verdict_at, verdict_of, verdicts_on, verdicts_in, verdicts_of}
+use Rattle.world_rules.specs.Laws.{is_on, HeldCoinsHaveOneVerdict, IsOfHeld, VerdictsAreOfHeldCoins}
+use Rattle.world_rules.proofs.HeldTips.{OwnersStay, IsCoin, IsTip, ever-tip, held_tip-is, held_tip-some}
 use Rattle.world_rules.proofs.Named.{Card, card, cards, card-at}
-use Rattle.world_rules.proofs.VerdictCounts.{one-verdict, verdict-is, from-coin, from-wallet}
+use Rattle.world_rules.proofs.VerdictCounts.{IsVerdict, one-verdict, verdict-is, from-coin, from-wallet}
 use Rattle.world_rules.proofs.KeptNames.{Kept}
 use Rattle.world_rules.proofs.NamedSteps.{run-kept}
 
@@ -66,7 +66,7 @@ module _ (world : World) (events : List Event) (kept : Kept (cards world.nodes) 
       let same = some_same (card node) (record { name = wallet.name; role = Wallet })
       (sym (card-at world.nodes n node node_is) ∙ wallet.is) in
       one-verdict (tests_by dig) (rules_of world.chain) events world.nodes n c greatest.0 node tip.me kept.distinct
-      node_is (ap (λ (x : Card). is_wallet x.role) same) tip.owner greatest.1
+      node_is (ap (λ (x : Card). is_wallet_role x.role) same) tip.owner greatest.1
       (coin_at-positive (log_of events) c coin.made coin.is) (coin_at-le (log_of events) c coin.made coin.is)
 
 pub held_coins_have_one_verdict : HeldCoinsHaveOneVerdict
@@ -74,29 +74,41 @@ held_coins_have_one_verdict dig lines run world n node c e ran world_is node_is 
     ap (count_by (is_on node.name c)) (verdicts-are dig run world world_is)
     ∙ one world (events_of run.entries) ((run-kept dig lines run ran).kept world world_is) dig n node c e node_is held
 
+-- a verdict on node n, where it is a wallet, is on a coin that it ever held
+on-held : (dig : List ℕ → List ℕ) (run : Run) (world : World) (verdict : Verdict) (n : ℕ) (node : Node) (c : ℕ)
+    → OwnersStay (events_of run.entries) → slice_get world.nodes n ≡ Some node
+    → IsVerdict (tests_by dig) (rules_of world.chain) (events_of run.entries)
+    (record { number = n; name = node.name }) c verdict → IsOfHeld dig run world verdict
+on-held dig run world verdict n node c stay is_node is =
+    let events : List Event = events_of run.entries in
+    let held = held_tip-is events n verdict.coin is.tip stay (ap (held_tip events n) is.coin ∙ is.tip_is) in
+    record {
+      number = n;
+      node = node;
+      owner = is.me;
+      tip = is.tip;
+      is_node = is_node;
+      name = is.name;
+      is_owner = is.owner;
+      held = held.held;
+      greatest = held.most;
+      kind = is.kind ∙ ap (λ (k : ℕ). verdict_at (tests_by dig) (rules_of world.chain) events is.me n k is.tip)
+          (sym is.coin);
+    }
+
 pub verdicts_are_of_held_coins : VerdictsAreOfHeldCoins
 unfolding verdicts_in
 verdicts_are_of_held_coins dig lines run world verdict ran world_is found =
+    let tests = tests_by dig in
+    let rules = rules_of world.chain in
     let events : List Event = events_of run.entries in
     let kept = (run-kept dig lines run ran).kept world world_is in
     let among = subst (λ (verdicts : List Verdict). Contains verdicts verdict) (verdicts-are dig run world world_is)
     found in
-    let from = from-wallet (verdicts_on (tests_by dig) (rules_of world.chain) events) world.nodes 0 verdict among in
+    let from = from-wallet (verdicts_on tests rules events) world.nodes 0 verdict among in
     let wallet : Named = record { number = 0 + from.place; name = from.node.name } in
-    let coin = from-coin (verdict_of (tests_by dig) (rules_of world.chain) events wallet) (coins (log_of events)) 1
-    verdict from.among in
-    let is = verdict-is (tests_by dig) (rules_of world.chain) events wallet coin.0 verdict coin.1 in
+    let coin = from-coin (verdict_of tests rules events wallet) (coins (log_of events)) 1 verdict from.among in
     let here : 0 + from.place ≡ from.place = omega arith in
-    let tip_is : held_tip events from.place verdict.coin ≡ Some is.tip =
-    ap (λ (k : ℕ). held_tip events k verdict.coin) (sym here) ∙ ap (held_tip events (0 + from.place)) is.coin
-    ∙ is.tip_is in
-    let held = held_tip-is events from.place verdict.coin is.tip kept.stay tip_is in
-    record {
-      number = from.place;
-      node = from.node;
-      tip = is.tip;
-      is_node = from.is_node;
-      name = is.name;
-      held = held.held;
-      greatest = held.most;
-    }
+    on-held dig run world verdict from.place from.node coin.0 kept.stay from.is_node
+    (subst (λ (k : ℕ). IsVerdict tests rules events (record { number = k; name = from.node.name }) coin.0 verdict)
+    here (verdict-is tests rules events wallet coin.0 verdict coin.1))

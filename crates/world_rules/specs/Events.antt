@@ -1,13 +1,15 @@
 -- What the lines of a schedule did, as events, the newest first; and what events say of the root chain and of nodes.
 -- Nodes are named by their numbers: the operator is 0, and those that are declared follow in order.
-use Rattle.std.specs.Prelude.{ℕ, ◌==◌, ◌&&◌, not, Bool, if◌then◌else◌, List, [], ◌∷◌, length, filter, Option, Some, None}
+use Rattle.std.specs.Prelude.{ℕ, ◌==◌, ◌&&◌, not, Bool, false, if◌then◌else◌, List, [], ◌∷◌, length, filter, Option, Some, None}
 use Rattle.std.specs.List.{list_any}
+use Rattle.std.specs.Option.{option_map_or}
 use Rattle.plasma_tx.specs.declared.owner.Owner.{Owner}
 use Rattle.plasma_tx.specs.declared.body.Body.{Body}
 use Rattle.plasma_tx.specs.declared.call.RootCall.{RootCall}
 use Rattle.coin_history.specs.declared.bundle.Bundle.{Bundle}
 
--- what a line did
+-- What a line did. A cut whose command ended first, or whose record is kept, is the command's event; but a watch, a
+-- leave and a seal in a cut are `Other`, since the node is down afterwards and offers nothing.
 pub data Event : Type 0 where
   -- this wallet was declared, which is this owner
   Declares : ℕ → Owner → Event
@@ -28,7 +30,7 @@ pub data Event : Type 0 where
   Leaves : ℕ → RootCall → Event
   -- the operator sealed its pool, and offers the commit
   Seals : RootCall → Event
-  -- any other command of a node, one that was refused, a crash, a cut or an opening: the node offers nothing
+  -- any other command of a node, one that was refused, a crash, an opening, and a cut that is none of the above
   Other : ℕ → Event
   -- a line that is no command of a node, and enters no call; and a command of a node that is down
   Idle : Event
@@ -40,6 +42,17 @@ unfoldable pub log_of : List Event → List RootCall
 log_of [] = []
 log_of (Joins call ∷ events) = call ∷ log_of events
 log_of (event ∷ events) = log_of events
+
+-- the coin of a call on an exit; 0, which is no coin, for other calls
+abbrev pub coin_of_call : RootCall → ℕ
+coin_of_call (RootCall.StartDeposit account coin block) = coin
+coin_of_call (RootCall.StartSpend account coin parent exit) = coin
+coin_of_call (RootCall.After account coin exit spend) = coin
+coin_of_call (RootCall.Between account coin exit spend) = coin
+coin_of_call (RootCall.Before account coin exit shown) = coin
+coin_of_call (RootCall.Respond account coin exit challenged spend) = coin
+coin_of_call (RootCall.Finish account coin exit) = coin
+coin_of_call call = 0
 
 -- ---- wallets
 
@@ -88,13 +101,13 @@ not_taken taken [] = []
 not_taken taken (body ∷ bodies) =
     if is_taken taken (length bodies) then not_taken taken bodies else body ∷ not_taken taken bodies
 
--- what signs coins of a wallet away: the bodies that its leaves bind and that it didn't take back
-abbrev pub standing_by : List Event → ℕ → List Body
-standing_by events w = not_taken (taken_back events w) (bound_by events w)
+-- the bodies that sign coins of a wallet away: its leaves bind them, and it didn't take them back
+abbrev pub signed_away_by : List Event → ℕ → List Body
+signed_away_by events w = not_taken (taken_back events w) (bound_by events w)
 
--- one of the bodies names the coin with this parent
-abbrev pub is_signed_away : List Body → ℕ → ℕ → Bool
-is_signed_away bodies c e = list_any (λ body. (body.coin == c) && (body.parent == e)) bodies
+-- one of the bodies sends the coin from e: it names the coin with that parent
+abbrev pub is_sent_from : List Body → ℕ → ℕ → Bool
+is_sent_from bodies c e = list_any (λ body. (body.coin == c) && (body.parent == e)) bodies
 
 -- ---- watchers
 
@@ -118,19 +131,31 @@ watchers (event ∷ events) = watchers events
 
 -- ---- offers
 
--- the calls that a node offers
+-- whose command it is, a crash and an opening among them
+abbrev pub node_in : Event → Option ℕ
+node_in (Accepts n bundle) = Some n
+node_in (Guards n bundle) = Some n
+node_in (Releases n c e) = Some n
+node_in (Binds n body) = Some n
+node_in (TakesBack n q bundle) = Some n
+node_in (Watches n calls) = Some n
+node_in (Leaves n call) = Some n
+node_in (Seals call) = Some 0
+node_in (Other n) = Some n
+node_in event = None
+
+-- the event is a command of node n
+abbrev pub is_command_of : ℕ → Event → Bool
+is_command_of n event = option_map_or (λ m. m == n) (node_in event) false
+
+-- the calls that a node offers by a command
+abbrev pub offered : Event → List RootCall
+offered (Watches n calls) = calls
+offered (Leaves n call) = call ∷ []
+offered (Seals call) = call ∷ []
+offered event = []
+
+-- the calls that a node offers: those of its last command
 unfoldable pub offers_of : List Event → ℕ → List RootCall
 offers_of [] n = []
-offers_of (Declares m me ∷ events) n = offers_of events n
-offers_of (Joins call ∷ events) n = offers_of events n
-offers_of (Bounces call ∷ events) n = offers_of events n
-offers_of (Accepts m bundle ∷ events) n = if m == n then [] else offers_of events n
-offers_of (Guards m bundle ∷ events) n = if m == n then [] else offers_of events n
-offers_of (Releases m c e ∷ events) n = if m == n then [] else offers_of events n
-offers_of (Binds m body ∷ events) n = if m == n then [] else offers_of events n
-offers_of (TakesBack m q bundle ∷ events) n = if m == n then [] else offers_of events n
-offers_of (Watches m calls ∷ events) n = if m == n then calls else offers_of events n
-offers_of (Leaves m call ∷ events) n = if m == n then call ∷ [] else offers_of events n
-offers_of (Seals call ∷ events) n = if 0 == n then call ∷ [] else offers_of events n
-offers_of (Other m ∷ events) n = if m == n then [] else offers_of events n
-offers_of (Idle ∷ events) n = offers_of events n
+offers_of (event ∷ events) n = if is_command_of n event then offered event else offers_of events n

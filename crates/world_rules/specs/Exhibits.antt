@@ -1,8 +1,8 @@
 -- What a trace shows that excuses a loss: two byte strings with one digest, or a valid signature that its honest key
 -- never made.
-use Rattle.std.specs.Prelude.{ℕ, ◌+◌, ◌==◌, ◌&&◌, ◌||◌, not, Bool, true, false, if◌then◌else◌, List, [], ◌∷◌, ◌++◌, length, find, Option, Some, None, option_map, Result, Ok, Err}
+use Rattle.std.specs.Prelude.{ℕ, ◌+◌, ◌==◌, ◌&&◌, ◌||◌, not, Bool, false, if◌then◌else◌, List, [], ◌∷◌, ◌++◌, length, find, nat_eq, Option, Some, None, option_map, Result, Ok, Err}
 use Rattle.std.specs.List.{list_any, flat_map}
-use Rattle.std.specs.Option.{option_or}
+use Rattle.std.specs.Option.{option_eq, option_or}
 use Rattle.std.specs.Str.{bytes_eq}
 use Rattle.sparse_merkle.specs.MaskedPath.{proof_path}
 use Rattle.sparse_merkle.specs.Opening.{hashed_strings}
@@ -12,57 +12,41 @@ use Rattle.plasma_tx.specs.declared.signed_tx.SignedTx.{SignedTx}
 use Rattle.plasma_tx.specs.declared.opening.RawOpening.{RawOpening}
 use Rattle.plasma_tx.specs.declared.opening.Opening.{Opening}
 use Rattle.plasma_tx.specs.declared.opening.OpeningRefusal.{OpeningRefusal}
-use Rattle.plasma_tx.specs.declared.call.Shown.{Shown}
-use Rattle.plasma_tx.specs.declared.call.RootCall.{RootCall}
 use Rattle.plasma_tx.specs.Openings.{opening_in, leaf_in}
 use Rattle.plasma_tx.specs.Transfer.{transfer_in, is_signed_by}
 use Rattle.coin_history.specs.declared.bundle.Bundle.{Bundle}
+use Rattle.watch_duty.specs.Laws.{openings_of_call}
 use Rattle.wallet_core.specs.State.{is_owner}
 use Rattle.world_rules.specs.declared.verdict.Exhibit.{Exhibit}
-use Rattle.world_rules.specs.Events.{Event, Joins, Accepts, Guards, TakesBack, wallet_owner, wallets, bound_by}
+use Rattle.world_rules.specs.Events.{Event, Joins, Accepts, Guards, TakesBack, wallet_owner, wallets, bound_by, coin_of_call}
 
 -- ---- openings
 
--- openings of a coin
-pub record CoinOpenings : Type 0 where
-  pub coin : ℕ
-  pub openings : List RawOpening
+-- the openings of a bundle, where it is of the coin
+abbrev pub openings_of_bundle : ℕ → Bundle → List RawOpening
+openings_of_bundle c bundle = if bundle.coin == c then bundle.openings else []
 
-abbrev pub of_coin : ℕ → List RawOpening → CoinOpenings
-of_coin coin openings = record { coin = coin; openings = openings }
+-- the openings of a coin that an event accepts: those of a call that joins the log, the parent's first, and of a
+-- bundle that a node takes
+unfoldable pub openings_of : ℕ → Event → List RawOpening
+openings_of c (Joins call) = openings_of_call c call
+openings_of c (Accepts w bundle) = openings_of_bundle c bundle
+openings_of c (Guards g bundle) = openings_of_bundle c bundle
+openings_of c (TakesBack w q bundle) = openings_of_bundle c bundle
+openings_of c event = []
 
-abbrev pub shown_openings : Shown → List RawOpening
-shown_openings (Shown.Deposit block) = []
-shown_openings (Shown.Spend opening) = opening ∷ []
-
--- the openings of a call, with its coin: the parent's first
-abbrev pub openings_of_call : RootCall → CoinOpenings
-openings_of_call (RootCall.StartSpend account coin parent exit) = of_coin coin (shown_openings parent ++ exit ∷ [])
-openings_of_call (RootCall.After account coin exit spend) = of_coin coin (spend ∷ [])
-openings_of_call (RootCall.Between account coin exit spend) = of_coin coin (spend ∷ [])
-openings_of_call (RootCall.Before account coin exit shown) = of_coin coin (shown_openings shown)
-openings_of_call (RootCall.Respond account coin exit challenged spend) = of_coin coin (spend ∷ [])
-openings_of_call call = of_coin 0 []
-
-abbrev pub openings_of_bundle : Bundle → CoinOpenings
-openings_of_bundle bundle = of_coin bundle.coin bundle.openings
-
--- the openings that an event accepts: those of a call that joins the log, and of a bundle that a node takes
-unfoldable pub openings_of : Event → CoinOpenings
-openings_of (Joins call) = openings_of_call call
-openings_of (Accepts w bundle) = openings_of_bundle bundle
-openings_of (Guards g bundle) = openings_of_bundle bundle
-openings_of (TakesBack w q bundle) = openings_of_bundle bundle
-openings_of event = of_coin 0 []
-
--- those of one coin
-abbrev pub openings_at : ℕ → CoinOpenings → List RawOpening
-openings_at c shown = if shown.coin == c then shown.openings else []
+-- the coin whose openings an event accepts; 0, which is no coin, for one that accepts none
+unfoldable pub coin_of : Event → ℕ
+coin_of (Joins call) = coin_of_call call
+coin_of (Accepts w bundle) = bundle.coin
+coin_of (Guards g bundle) = bundle.coin
+coin_of (TakesBack w q bundle) = bundle.coin
+coin_of event = 0
 
 -- the openings of a coin that were accepted, those of the newest event first
 unfoldable pub seen : List Event → ℕ → List RawOpening
 seen [] c = []
-seen (event ∷ events) c = openings_at c (openings_of event) ++ seen events c
+seen (event ∷ events) c = openings_of c event ++ seen events c
 
 -- ---- collisions
 
@@ -92,45 +76,43 @@ unfoldable pub collides : (List ℕ → List ℕ) → List Event → ℕ → Boo
 collides dig events c = has_clash dig (strings_of dig c (seen events c))
 
 -- the strings of all openings that an event accepts
-abbrev pub strings_shown : (List ℕ → List ℕ) → CoinOpenings → List (List ℕ)
-strings_shown dig shown = strings_of dig shown.coin shown.openings
+abbrev pub strings_shown : (List ℕ → List ℕ) → Event → List (List ℕ)
+strings_shown dig event = strings_of dig (coin_of event) (openings_of (coin_of event) event)
 
 -- all strings, of whatever coin, in the order of the lines
 unfoldable pub all_strings : (List ℕ → List ℕ) → List Event → List (List ℕ)
 all_strings dig [] = []
-all_strings dig (event ∷ events) = all_strings dig events ++ strings_shown dig (openings_of event)
+all_strings dig (event ∷ events) = all_strings dig events ++ strings_shown dig event
 
 -- two strings with one digest, in the order in which they came
 pub record Pair : Type 0 where
   pub first : List ℕ
   pub second : List ℕ
 
--- the first of the strings whose digest is that of an earlier, different one, and the earliest such
+-- the earliest of these strings that differs from this one and has its digest, before it
+abbrev pub clash_with : (List ℕ → List ℕ) → List (List ℕ) → List ℕ → Option Pair
+clash_with dig earlier string =
+    option_map (λ first. record { first = first; second = string }) (find (λ other. do_clash dig other string) earlier)
+
+-- The second is the first of the strings whose digest is that of an earlier, different one, and the first is the
+-- earliest such. The strings before these are `earlier`.
 unfoldable pub first_clash : (List ℕ → List ℕ) → List (List ℕ) → List (List ℕ) → Option Pair
 first_clash dig earlier [] = None
 first_clash dig earlier (string ∷ strings) =
-    option_or
-    (option_map (λ first. record { first = first; second = string }) (find (λ other. do_clash dig other string) earlier))
-    (first_clash dig (earlier ++ string ∷ []) strings)
+    option_or (clash_with dig earlier string) (first_clash dig (earlier ++ string ∷ []) strings)
 
 -- ---- forgeries
 
-abbrev pub is_last : Option ℕ → Option ℕ → Bool
-is_last None None = true
-is_last None (Some other) = false
-is_last (Some one) None = false
-is_last (Some one) (Some other) = one == other
-
 -- the bodies are one: they have the same fields
-abbrev pub is_body : Body → Body → Bool
-is_body one other =
+abbrev pub is_same_body : Body → Body → Bool
+is_same_body one other =
     bytes_eq one.tag other.tag && (one.coin == other.coin) && (one.parent == other.parent)
-    && is_owner one.to other.to && is_last one.last other.last
+    && is_owner one.to other.to && option_eq nat_eq one.last other.last
 
 -- the owner signed the transfer, whose body isn't one of these
 abbrev pub forges_transfer : Owner → List Body → Option SignedTx → Bool
 forges_transfer me bodies None = false
-forges_transfer me bodies (Some tx) = is_signed_by tx me && not (list_any (is_body tx.body) bodies)
+forges_transfer me bodies (Some tx) = is_signed_by tx me && not (list_any (is_same_body tx.body) bodies)
 
 -- the opening's leaf is a transfer of its block, with this tag and coin, that the owner signed, over another body
 abbrev pub forges : List ℕ → ℕ → Owner → List Body → RawOpening → Bool
@@ -151,21 +133,23 @@ shows_forgery tag events w c openings = forges_one tag (wallet_owner events w) (
 unfoldable pub is_forged : List ℕ → List Event → ℕ → ℕ → Bool
 is_forged tag [] w c = false
 is_forged tag (event ∷ events) w c =
-    shows_forgery tag events w c (openings_at c (openings_of event)) || is_forged tag events w c
+    shows_forgery tag events w c (openings_of c event) || is_forged tag events w c
 
 -- an event behind others shows a forgery of some wallet's signature, at any coin
-abbrev pub forges_some : List ℕ → List Event → CoinOpenings → Bool
-forges_some tag events shown = list_any (λ w. shows_forgery tag events w shown.coin shown.openings) (wallets events)
+abbrev pub forges_some : List ℕ → List Event → Event → Bool
+forges_some tag events event =
+    list_any (λ w. shows_forgery tag events w (coin_of event) (openings_of (coin_of event) event)) (wallets events)
 
 -- the number of the first line that shows one
 unfoldable pub first_forgery : List ℕ → List Event → Option ℕ
 first_forgery tag [] = None
 first_forgery tag (event ∷ events) =
     option_or (first_forgery tag events)
-    (if forges_some tag events (openings_of event) then Some (length events + 1) else None)
+    (if forges_some tag events event then Some (length events + 1) else None)
 
 -- ---- the exhibit
 
+-- a forgery in this line, or nothing; a collision, or another exhibit
 abbrev pub forgery_or : Option ℕ → Exhibit
 forgery_or None = Exhibit.Nothing
 forgery_or (Some line) = Exhibit.Forgery line

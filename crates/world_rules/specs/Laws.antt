@@ -1,39 +1,46 @@
 -- What holds of the world's steps, and of verdicts.
-use Rattle.std.specs.Prelude.{◌≡◌, ◌⊎◌, ◌≤◌, ℕ, ◌==◌, ◌&&◌, Bool, true, false, if◌then◌else◌, List, [], ◌∷◌, ◌++◌, set, slice_get, Option, Some, is_some}
-use Rattle.std.specs.List.{Contains, count_by}
+use Rattle.std.specs.Prelude.{◌≡◌, ◌⊎◌, ◌≤◌, ℕ, ◌==◌, ◌&&◌, Bool, true, false, if◌then◌else◌, List, [], ◌∷◌, ◌++◌, not, nat_lt, map, reverse, set, slice_get, Option, Some, is_some, length}
+use Rattle.std.specs.List.{Contains, count_by, All, list_any}
 use Rattle.std.specs.Str.{bytes_eq}
 use Rattle.line_forms.specs.declared.tokens.OutcomeToken.{OutcomeToken}
 use Rattle.gate_journal.specs.Laws.{is_added}
+use Rattle.plasma_tx.specs.declared.owner.Owner.{Owner}
 use Rattle.plasma_tx.specs.declared.call.RootCall.{RootCall}
 use Rattle.plasma_tx.specs.Chain.{with_log}
 use Rattle.root_rules.specs.Shown.{tests_by, rules_of}
 use Rattle.root_rules.specs.Table.{answer_to, is_accepted}
 use Rattle.schedule_text.specs.declared.line.Line.{Line}
 use Rattle.schedule_text.specs.declared.command.Command.{Command}
-use Rattle.schedule_text.specs.Grammar.{node_of}
+use Rattle.schedule_text.specs.Grammar.{node_of, IsLine}
 use Rattle.world_rules.specs.declared.reply.Reply.{Reply}
+use Rattle.plasma_tx.specs.Spelling.{AreBytes}
+use Rattle.wallet_core.specs.State.{holds as wallet_holds}
+use Rattle.node_rules.specs.WalletRecords.{leaves_in}
+use Rattle.node_rules.specs.Wallet.{noted}
+use Rattle.node_rules.specs.Watcher.{is_of, guards_in}
+use Rattle.world_rules.specs.Safety.{holds}
 use Rattle.world_rules.specs.declared.verdict.Verdict.{Verdict}
-use Rattle.world_rules.specs.Events.{Joins, log_of, offers_of}
-use Rattle.world_rules.specs.World.{Node, World, number_of}
-use Rattle.world_rules.specs.Rules.{plays, keeps_rules}
-use Rattle.world_rules.specs.Deeds.{Deed, deed_of}
-use Rattle.world_rules.specs.Steps.{Effect, step, answers_down, is_opening, with_records, after_crash, outcome_of, Run, run_of, events_of}
-use Rattle.world_rules.specs.Verdicts.{ever_held, verdicts_of}
+use Rattle.world_rules.specs.Events.{Event, Joins, Idle, log_of, wallet_owner, offers_of, bound_by, taken_back, is_taken, is_bundle, guarded_by}
+use Rattle.world_rules.specs.World.{Node, World, any_role, number_of, is_wallet_role, is_watcher_role, owner_of_node, wallet_of}
+use Rattle.world_rules.specs.Declarations.{plays, keeps_rules}
+use Rattle.world_rules.specs.Deeds.{Deed, deed_of, adds_record}
+use Rattle.world_rules.specs.Steps.{LineEffect, step, answers_down, is_opening, with_records, after_crash, outcome_of, Run, run_of, events_of}
+use Rattle.world_rules.specs.Verdicts.{verdict_at, ever_held, verdicts_of}
 
 -- ---- steps
 
--- A line has a step exactly where it keeps the rules; it is one, since a step is a function.
-abbrev pub EveryLineHasOneStep : Type 0
-EveryLineHasOneStep = (dig : List ℕ → List ℕ) (world : Option World) (line : Line)
+-- A line has a step exactly where it keeps the rules; it has one, since a step is a function.
+abbrev pub LinesThatKeepTheRulesStep : Type 0
+LinesThatKeepTheRulesStep = (dig : List ℕ → List ℕ) (world : Option World) (line : Line)
     → is_some (step dig world line) ≡ keeps_rules world line
 
 -- an effect leaves the chain as it is, and its event is no accepted call
-pub record LeavesTheLog (world : World) (effect : Effect) : Type 0 where
+pub record LeavesTheLog (world : World) (effect : LineEffect) : Type 0 where
   pub chain : effect.world.chain ≡ world.chain
   pub event : log_of (effect.event ∷ []) ≡ []
 
 -- an effect appends a call to the log that the contract accepted, and is the event of that
-pub record AppendsOneCall (dig : List ℕ → List ℕ) (world : World) (effect : Effect) : Type 0 where
+pub record AppendsOneCall (dig : List ℕ → List ℕ) (world : World) (effect : LineEffect) : Type 0 where
   pub call : RootCall
   pub accepted : is_accepted (answer_to (tests_by dig) (rules_of world.chain) world.chain.log call) ≡ true
   pub chain : effect.world.chain ≡ with_log world.chain (call ∷ world.chain.log)
@@ -41,7 +48,7 @@ pub record AppendsOneCall (dig : List ℕ → List ℕ) (world : World) (effect 
 
 -- each step leaves the log, or appends one accepted call
 abbrev pub StepsKeepTheLog : Type 0
-StepsKeepTheLog = (dig : List ℕ → List ℕ) (world : World) (line : Line) (effect : Effect)
+StepsKeepTheLog = (dig : List ℕ → List ℕ) (world : World) (line : Line) (effect : LineEffect)
     → step dig (Some world) line ≡ Some effect → LeavesTheLog world effect ⊎ AppendsOneCall dig world effect
 
 -- so the log of a run is that of its events
@@ -76,45 +83,79 @@ DeclaresOneNode nodes after = (node : Node) × (after ≡ nodes ++ node ∷ [])
 
 -- each step leaves the nodes, or changes one, whose records have at most one more, or declares one
 abbrev pub RecordsGrow : Type 0
-RecordsGrow = (dig : List ℕ → List ℕ) (world : World) (line : Line) (effect : Effect)
+RecordsGrow = (dig : List ℕ → List ℕ) (world : World) (line : Line) (effect : LineEffect)
     → step dig (Some world) line ≡ Some effect
     → (effect.world.nodes ≡ world.nodes) ⊎ ChangesOneNode world.nodes effect.world.nodes
     ⊎ DeclaresOneNode world.nodes effect.world.nodes
 
+-- a crash leaves the records of its node, and all other nodes
+abbrev pub CrashesLeaveTheRecords : Type 0
+CrashesLeaveTheRecords = (dig : List ℕ → List ℕ) (world : World) (name : List ℕ) (outcome : OutcomeToken) (n : ℕ)
+    (node : Node) (effect : LineEffect) → number_of any_role world name ≡ Some n → slice_get world.nodes n ≡ Some node
+    → step dig (Some world) (Line.Crash name outcome) ≡ Some effect
+    → effect.world.nodes ≡ set world.nodes n (after_crash node)
+
+-- ---- the mail
+
+-- item n of the mail is what line n made
+abbrev pub ItemsAreMade : Type 0
+ItemsAreMade = (dig : List ℕ → List ℕ) (lines : List Line) (run : Run) (world : World)
+    → run_of dig lines ≡ Some run → run.world ≡ Some world
+    → world.mail ≡ reverse (map (λ entry. entry.made) run.entries)
+
 -- ---- nodes that are down
 
 -- the line is a command, alone or in a cut
-abbrev pub is_command_in : Line → Command → Type 0
-is_command_in line command =
+abbrev pub IsCommandIn : Line → Command → Type 0
+IsCommandIn line command =
     (line ≡ Line.Command command)
     ⊎ ((name : List ℕ) × (calls : ℕ) × (outcome : OutcomeToken) × (line ≡ Line.Cut name calls outcome command))
 
--- nothing happens but that the line has no mail item, and the answer is `down`
-pub record StaysDown (world : World) (effect : Effect) : Type 0 where
+-- the answer is `down`, and nothing changes but that the mail gets this line's empty item
+pub record StaysDown (world : World) (effect : LineEffect) : Type 0 where
   pub reply : effect.reply ≡ Reply.Down
   pub done : effect.done ≡ false
+  pub made : effect.made ≡ []
+  pub event : effect.event ≡ Idle
   pub same : effect.world ≡ record world { mail = world.mail ++ [] ∷ [] }
 
 -- A node that is down answers each command but `open` so, also in a cut.
 abbrev pub DownNodesStay : Type 0
 DownNodesStay = (dig : List ℕ → List ℕ) (world : World) (line : Line) (command : Command) (n : ℕ) (node : Node)
-    (effect : Effect) → is_command_in line command → number_of (plays command) world (node_of command) ≡ Some n
+    (effect : LineEffect) → IsCommandIn line command → number_of (plays command) world (node_of command) ≡ Some n
     → slice_get world.nodes n ≡ Some node → answers_down node command ≡ true
     → step dig (Some world) line ≡ Some effect → StaysDown world effect
 
 -- ---- cuts
 
--- A cut of a node that has the command and isn't down leaves it down, without offers. Of a command but `open` the
--- record is there afterwards exactly where an append of which so many calls pass keeps its record under the outcome.
+-- a cut leaves its node so; the answer is the command's, after `done`, or `stopped`
+pub record IsCutTo (world : World) (n : ℕ) (after : Node) (is_short : Bool) (deed : Deed) (effect : LineEffect)
+    : Type 0 where
+  pub nodes : effect.world.nodes ≡ set world.nodes n (after_crash after)
+  pub done : effect.done ≡ not is_short
+  pub reply : effect.reply ≡ (if is_short then Reply.Stopped else deed.gives.reply)
+
+-- A cut of a command but `open`, of a node that has it and is up, leaves the node down and without offers. It is
+-- stopped where the command adds a record and less than four calls pass; and the record is there afterwards exactly
+-- where an append of which so many calls pass keeps its record under the outcome.
 abbrev pub CutsKeepAsAppendsDo : Type 0
 CutsKeepAsAppendsDo = (dig : List ℕ → List ℕ) (world : World) (name : List ℕ) (calls : ℕ) (outcome : OutcomeToken)
-    (command : Command) (n : ℕ) (node : Node) (deed : Deed) (effect : Effect)
+    (command : Command) (n : ℕ) (node : Node) (deed : Deed) (effect : LineEffect)
     → number_of (plays command) world (node_of command) ≡ Some n → slice_get world.nodes n ≡ Some node
     → answers_down node command ≡ false → is_opening command ≡ false
     → deed_of dig world n node command ≡ Some deed
     → step dig (Some world) (Line.Cut name calls outcome command) ≡ Some effect
-    → effect.world.nodes
-    ≡ set world.nodes n (after_crash (if is_added calls (outcome_of outcome) then with_records node deed else node))
+    → IsCutTo world n (if is_added calls (outcome_of outcome) then with_records node deed else node)
+    (adds_record deed && nat_lt calls 4) deed effect
+
+-- A cut `open` leaves the records. It is stopped where the node is down and less than three calls pass.
+abbrev pub CutOpeningsLeaveTheRecords : Type 0
+CutOpeningsLeaveTheRecords = (dig : List ℕ → List ℕ) (world : World) (name opened : List ℕ) (calls : ℕ)
+    (outcome : OutcomeToken) (n : ℕ) (node : Node) (deed : Deed) (effect : LineEffect)
+    → number_of any_role world opened ≡ Some n → slice_get world.nodes n ≡ Some node
+    → deed_of dig world n node (Command.Open opened) ≡ Some deed
+    → step dig (Some world) (Line.Cut name calls outcome (Command.Open opened)) ≡ Some effect
+    → IsCutTo world n node (not node.is_up && nat_lt calls 3) deed effect
 
 -- ---- offers
 
@@ -143,17 +184,53 @@ HeldCoinsHaveOneVerdict = (dig : List ℕ → List ℕ) (lines : List Line) (run
     → ever_held (events_of run.entries) n c e ≡ true
     → count_by (is_on node.name c) (verdicts_of dig run) ≡ 1
 
--- a verdict is on a wallet and a coin that it ever held, at the greatest block at which it did
+-- A verdict is on a wallet and a coin that it ever held; it is the one by the greatest block at which it did.
 pub record IsOfHeld (dig : List ℕ → List ℕ) (run : Run) (world : World) (verdict : Verdict) : Type 0 where
   pub number : ℕ
   pub node : Node
+  pub owner : Owner
   pub tip : ℕ
   pub is_node : slice_get world.nodes number ≡ Some node
   pub name : verdict.wallet ≡ node.name
+  pub is_owner : wallet_owner (events_of run.entries) number ≡ Some owner
   pub held : ever_held (events_of run.entries) number verdict.coin tip ≡ true
   pub greatest : (e : ℕ) → ever_held (events_of run.entries) number verdict.coin e ≡ true → e ≤ tip
+  pub kind : verdict.kind
+      ≡ verdict_at (tests_by dig) (rules_of world.chain) (events_of run.entries) owner number verdict.coin tip
 
 abbrev pub VerdictsAreOfHeldCoins : Type 0
 VerdictsAreOfHeldCoins = (dig : List ℕ → List ℕ) (lines : List Line) (run : Run) (world : World) (verdict : Verdict)
     → run_of dig lines ≡ Some run → run.world ≡ Some world → Contains (verdicts_of dig run) verdict
     → IsOfHeld dig run world verdict
+
+-- ---- events, and what disks keep
+
+-- a digest of 32 bytes
+abbrev pub IsDigest : (List ℕ → List ℕ) → Type 0
+IsDigest dig = (bytes : List ℕ) → (length (dig bytes) ≡ 32) × AreBytes (dig bytes)
+
+-- What the events say of a wallet is what its disks keep: the bodies that its leaves bind, by their numbers; which of
+-- these its notes take back; and which coins it holds where, as the wallet itself would say it.
+pub record AreKept (dig : List ℕ → List ℕ) (events : List Event) (log : List RootCall) (n : ℕ) (node : Node)
+    : Type 0 where
+  pub owner : wallet_owner events n ≡ Some (owner_of_node node)
+  pub bodies : map (λ leaf. leaf.body) (leaves_in node.leaves) ≡ reverse (bound_by events n)
+  pub taken : (q : ℕ) → list_any (λ other. other == q) (noted dig (wallet_of node)).reclaimed
+      ≡ is_taken (taken_back events n) q
+  pub held : (c e : ℕ) → holds events n c e
+      ≡ wallet_holds (noted dig (wallet_of node)) (leaves_in node.leaves) log c e
+
+-- so it is over every run of lines that are in the grammar
+abbrev pub WalletsKeepWhatEventsSay : Type 0
+WalletsKeepWhatEventsSay = (dig : List ℕ → List ℕ) (lines : List Line) (run : Run) (world : World) (n : ℕ)
+    (node : Node) → IsDigest dig → All IsLine lines
+    → run_of dig lines ≡ Some run → run.world ≡ Some world → slice_get world.nodes n ≡ Some node
+    → is_wallet_role node.role ≡ true → AreKept dig (events_of run.entries) world.chain.log n node
+
+-- and so it is of a watcher's guards
+abbrev pub WatchersKeepWhatEventsSay : Type 0
+WatchersKeepWhatEventsSay = (dig : List ℕ → List ℕ) (lines : List Line) (run : Run) (world : World) (n : ℕ)
+    (node : Node) (c e : ℕ) → IsDigest dig → All IsLine lines
+    → run_of dig lines ≡ Some run → run.world ≡ Some world → slice_get world.nodes n ≡ Some node
+    → is_watcher_role node.role ≡ true
+    → list_any (is_bundle c e) (guarded_by (events_of run.entries) n) ≡ list_any (is_of c e) (guards_in dig node.notes)

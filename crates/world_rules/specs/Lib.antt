@@ -1,6 +1,6 @@
 pub mod Events
 pub mod World
-pub mod Rules
+pub mod Declarations
 pub mod Causes
 pub mod Deeds
 pub mod Steps

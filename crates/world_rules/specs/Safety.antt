@@ -1,6 +1,7 @@
 -- Who holds a coin, which ticks somebody attended, and what must not befall a held coin.
 use Rattle.std.specs.Prelude.{ℕ, ◌+◌, ◌==◌, ◌&&◌, ◌||◌, not, Bool, true, false, if◌then◌else◌, nat_lt, nat_le, List, [], ◌∷◌, Option, Some, None}
 use Rattle.std.specs.List.{list_any}
+use Rattle.std.specs.Option.{option_map_or}
 use Rattle.root_rules.specs.declared.TheConstants.{CHALLENGE_WINDOW, RESPONSE_WINDOW, EXIT_PERIOD}
 use Rattle.plasma_tx.specs.declared.owner.Owner.{Owner}
 use Rattle.plasma_tx.specs.declared.body.Body.{Body}
@@ -9,10 +10,11 @@ use Rattle.plasma_tx.specs.declared.answer.Answer.{Answer}
 use Rattle.plasma_tx.specs.declared.views.CoinView.{CoinView}
 use Rattle.plasma_tx.specs.Views.{now, coin_at, Challenge, Exit, exits, exit_at, is_withdrawn}
 use Rattle.root_rules.specs.Shown.{Tests, Rules}
+use Rattle.root_rules.specs.Laws.{is_paid}
 use Rattle.root_rules.specs.Table.{answer_to, is_accepted}
 use Rattle.coin_history.specs.declared.bundle.Bundle.{Bundle}
 use Rattle.wallet_core.specs.State.{is_owner}
-use Rattle.world_rules.specs.Events.{Event, Declares, Joins, Bounces, Accepts, Guards, Releases, Binds, TakesBack, Watches, Leaves, Seals, Other, Idle, log_of, wallet_owner, accepted, standing_by, is_signed_away, is_bundle, guarded_by, watchers}
+use Rattle.world_rules.specs.Events.{Event, Joins, Bounces, Watches, log_of, wallet_owner, accepted, signed_away_by, is_sent_from, is_bundle, guarded_by, watchers, is_command_of, offered, coin_of_call}
 
 -- ---- who holds a coin
 
@@ -21,17 +23,18 @@ abbrev pub was_deposited : Owner → ℕ → Option CoinView → Bool
 was_deposited me e None = false
 was_deposited me e (Some made) = (made.deposit == e) && is_owner made.owner me
 
+-- what holding asks for, of a wallet that is declared
 abbrev pub holds_with : List RootCall → Option Owner → List Body → List Bundle → ℕ → ℕ → Bool
 holds_with log None bodies bundles c e = false
 holds_with log (Some me) bodies bundles c e =
     (was_deposited me e (coin_at log c) || list_any (is_bundle c e) bundles)
-    && not (is_signed_away bodies c e) && not (is_withdrawn log c)
+    && not (is_sent_from bodies c e) && not (is_withdrawn log c)
 
 -- The wallet holds the coin at e: it was deposited there to the wallet's owner, or the wallet accepted it with that
 -- tip; no leaf that wasn't taken back signs it away from there; and it isn't withdrawn.
 unfoldable pub holds : List Event → ℕ → ℕ → ℕ → Bool
 holds events w c e =
-    holds_with (log_of events) (wallet_owner events w) (standing_by events w) (accepted events w) c e
+    holds_with (log_of events) (wallet_owner events w) (signed_away_by events w) (accepted events w) c e
 
 -- ---- deadlines
 
@@ -56,38 +59,26 @@ meets_deadline log c event = false
 
 -- ---- who attends
 
--- the coin of a call on an exit; 0, which is no coin, for other calls
-abbrev pub coin_of_call : RootCall → ℕ
-coin_of_call (RootCall.StartDeposit account coin block) = coin
-coin_of_call (RootCall.StartSpend account coin parent exit) = coin
-coin_of_call (RootCall.After account coin exit spend) = coin
-coin_of_call (RootCall.Between account coin exit spend) = coin
-coin_of_call (RootCall.Before account coin exit shown) = coin
-coin_of_call (RootCall.Respond account coin exit challenged spend) = coin
-coin_of_call (RootCall.Finish account coin exit) = coin
-coin_of_call call = 0
-
--- none of the offered calls is of the coin
+-- none of the calls is of the coin
 abbrev pub offers_none : ℕ → List RootCall → Bool
 offers_none c calls = not (list_any (λ call. coin_of_call call == c) calls)
+
+-- the event is a watch, and it is a call that was accepted
+abbrev pub is_watch : Event → Bool
+is_watch (Watches n calls) = true
+is_watch event = false
+
+abbrev pub is_joined : Event → Bool
+is_joined (Joins call) = true
+is_joined event = false
 
 -- The node's last command was a watch whose offers have none for the coin, and no call was accepted since. A crash, a
 -- cut and an opening count as commands.
 unfoldable pub is_quiet : List Event → ℕ → ℕ → Bool
 is_quiet [] n c = false
-is_quiet (Declares m me ∷ events) n c = if m == n then false else is_quiet events n c
-is_quiet (Joins call ∷ events) n c = false
-is_quiet (Bounces call ∷ events) n c = is_quiet events n c
-is_quiet (Accepts m bundle ∷ events) n c = if m == n then false else is_quiet events n c
-is_quiet (Guards m bundle ∷ events) n c = if m == n then false else is_quiet events n c
-is_quiet (Releases m k e ∷ events) n c = if m == n then false else is_quiet events n c
-is_quiet (Binds m body ∷ events) n c = if m == n then false else is_quiet events n c
-is_quiet (TakesBack m q bundle ∷ events) n c = if m == n then false else is_quiet events n c
-is_quiet (Watches m calls ∷ events) n c = if m == n then offers_none c calls else is_quiet events n c
-is_quiet (Leaves m call ∷ events) n c = if m == n then false else is_quiet events n c
-is_quiet (Seals call ∷ events) n c = if 0 == n then false else is_quiet events n c
-is_quiet (Other m ∷ events) n c = if m == n then false else is_quiet events n c
-is_quiet (Idle ∷ events) n c = is_quiet events n c
+is_quiet (event ∷ events) n c =
+    if is_command_of n event then is_watch event && offers_none c (offered event)
+    else not (is_joined event) && is_quiet events n c
 
 -- a quiet watcher that keeps a guard of the coin with that tip
 abbrev pub is_watched_by : List Event → ℕ → ℕ → ℕ → Bool
@@ -101,28 +92,26 @@ is_guarded events w c e = is_quiet events w c || list_any (is_watched_by events 
 abbrev pub needs_guardian : List Event → ℕ → ℕ → ℕ → Event → Bool
 needs_guardian events w c e event = meets_deadline (log_of events) c event && holds events w c e
 
+-- it does, and nobody attends
+abbrev pub goes_unattended : List Event → ℕ → ℕ → ℕ → Event → Bool
+goes_unattended events w c e event = needs_guardian events w c e event && not (is_guarded events w c e)
+
 -- each tick that met a deadline of the coin, while the wallet held it at e, was attended
 unfoldable pub is_attended : List Event → ℕ → ℕ → ℕ → Bool
 is_attended [] w c e = true
-is_attended (event ∷ events) w c e =
-    (not (needs_guardian events w c e event) || is_guarded events w c e) && is_attended events w c e
+is_attended (event ∷ events) w c e = not (goes_unattended events w c e event) && is_attended events w c e
 
 -- ---- what must not befall a held coin
-
-abbrev pub is_paid : Answer → Bool
-is_paid Answer.Paid = true
-is_paid answer = false
 
 -- the owner's account started the exit
 abbrev pub is_mine : Owner → Exit → Bool
 is_mine me exit = exit.account == me.account
 
--- the exit that a call cancels is the owner's
-abbrev pub cancels_mine : Owner → Option Exit → Bool
-cancels_mine me None = false
-cancels_mine me (Some exit) = is_mine me exit
+-- the exit stands, and is the owner's
+abbrev pub is_own : Owner → Option Exit → Bool
+is_own me exit = option_map_or (is_mine me) exit false
 
--- what a Finish does that was answered so: it pays the exit of another account; or it doesn't pay the owner's exit at
+-- what a Finish does that was answered so: it is_finish_paid the exit of another account; or it doesn't pay the owner's exit at
 -- e, at its end or later
 abbrev pub finish_harms : Owner → ℕ → ℕ → Answer → Option Exit → Bool
 finish_harms me e time answer None = false
@@ -134,10 +123,10 @@ finish_harms me e time answer (Some exit) =
 -- what a call does to an owner's coin that is held at e: it cancels the owner's exit there, or harms as a Finish
 unfoldable pub call_harms : Tests → Rules → List RootCall → Owner → ℕ → ℕ → RootCall → Bool
 call_harms tests rules log me c e (RootCall.After account coin block spend) =
-    (coin == c) && (block == e) && cancels_mine me (exit_at log coin block)
+    (coin == c) && (block == e) && is_own me (exit_at log coin block)
     && is_accepted (answer_to tests rules log (RootCall.After account coin block spend))
 call_harms tests rules log me c e (RootCall.Between account coin block spend) =
-    (coin == c) && (block == e) && cancels_mine me (exit_at log coin block)
+    (coin == c) && (block == e) && is_own me (exit_at log coin block)
     && is_accepted (answer_to tests rules log (RootCall.Between account coin block spend))
 call_harms tests rules log me c e (RootCall.Finish account coin block) =
     (coin == c)
@@ -145,6 +134,7 @@ call_harms tests rules log me c e (RootCall.Finish account coin block) =
     (exit_at log coin block)
 call_harms tests rules log me c e call = false
 
+-- what an event does to a declared wallet's coin, by the call that it enters
 abbrev pub harms : Tests → Rules → List RootCall → Option Owner → ℕ → ℕ → Event → Bool
 harms tests rules log None c e event = false
 harms tests rules log (Some me) c e (Joins call) = call_harms tests rules log me c e call

@@ -9,7 +9,7 @@ use Rattle.world_rules.specs.declared.verdict.Verdict.{Verdict}
 use Rattle.world_rules.specs.declared.verdict.VerdictKind.{VerdictKind}
 use Rattle.world_rules.specs.declared.verdict.Exhibit.{Exhibit}
 use Rattle.world_rules.specs.Causes.{phrase}
-use Rattle.world_rules.specs.Steps.{Entry}
+use Rattle.world_rules.specs.Steps.{TraceEntry}
 use Rattle.world_rules.specs.Verdicts.{Counts}
 
 -- the kind of an offered call
@@ -72,7 +72,7 @@ unfoldable pub trace_line_text : ℕ → Bool → Reply → List ℕ
 trace_line_text line done reply = number_text line ++ 32 ∷ done_text done ++ reply_text reply ++ 10 ∷ []
 
 -- the lines of a trace, the newest first, in their order
-unfoldable pub entries_text : List Entry → List ℕ
+unfoldable pub entries_text : List TraceEntry → List ℕ
 entries_text [] = []
 entries_text (entry ∷ entries) =
     entries_text entries ++ trace_line_text (length entries + 1) entry.done entry.reply

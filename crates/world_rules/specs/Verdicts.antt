@@ -8,19 +8,20 @@ use Rattle.plasma_tx.specs.declared.views.CoinView.{CoinView}
 use Rattle.plasma_tx.specs.Spelling.{body_at_start}
 use Rattle.plasma_tx.specs.Views.{blocks, coins, coin_at, Exit, exit_at}
 use Rattle.root_rules.specs.Shown.{Tests, Rules, tests_by, rules_of}
+use Rattle.root_rules.specs.Laws.{is_paid}
 use Rattle.root_rules.specs.Table.{answer_to}
 use Rattle.schedule_text.specs.declared.line.Line.{Line}
 use Rattle.schedule_text.specs.declared.command.Command.{Command}
-use Rattle.wallet_core.specs.State.{is_owner, greatest}
+use Rattle.wallet_core.specs.State.{own_deposit, greatest}
 use Rattle.world_rules.specs.declared.reply.Reply.{Reply}
 use Rattle.world_rules.specs.declared.verdict.Verdict.{Verdict}
 use Rattle.world_rules.specs.declared.verdict.VerdictKind.{VerdictKind}
 use Rattle.world_rules.specs.declared.verdict.Exhibit.{Exhibit}
-use Rattle.world_rules.specs.Events.{Event, Joins, log_of, wallet_owner, accepted, standing_by, is_signed_away}
-use Rattle.world_rules.specs.World.{Node, World, owner_named, is_wallet}
-use Rattle.world_rules.specs.Steps.{Entry, Run, events_of}
+use Rattle.world_rules.specs.Events.{Event, Joins, log_of, wallet_owner, accepted, signed_away_by, is_sent_from}
+use Rattle.world_rules.specs.World.{Node, World, owner_named, is_wallet_role}
+use Rattle.world_rules.specs.Steps.{TraceEntry, Run, events_of}
 use Rattle.world_rules.specs.Exhibits.{exhibit_of}
-use Rattle.world_rules.specs.Safety.{holds, needs_guardian, is_guarded, is_mine, is_paid}
+use Rattle.world_rules.specs.Safety.{holds, goes_unattended, is_mine, is_own}
 
 -- ---- the tip
 
@@ -29,45 +30,40 @@ unfoldable pub ever_held : List Event → ℕ → ℕ → ℕ → Bool
 ever_held [] w c e = holds [] w c e
 ever_held (event ∷ events) w c e = holds (event ∷ events) w c e || ever_held events w c e
 
--- the deposit block of an owner's own coin
-abbrev pub own_deposit : Option Owner → Option CoinView → List ℕ
-own_deposit None made = []
-own_deposit (Some me) None = []
-own_deposit (Some me) (Some made) = if is_owner made.owner me then made.deposit ∷ [] else []
+-- the deposit block, where the wallet is the depositor
+abbrev pub own_deposit_of : Option Owner → Option CoinView → List ℕ
+own_deposit_of owner made = option_map_or (λ me. own_deposit me made) owner []
 
 -- the blocks at which the wallet may have held the coin: its own deposit, and the tips that it accepted
-abbrev pub tips_of : List Event → ℕ → ℕ → List ℕ
-tips_of events w c =
-    own_deposit (wallet_owner events w) (coin_at (log_of events) c)
+abbrev pub possible_tips : List Event → ℕ → ℕ → List ℕ
+possible_tips events w c =
+    own_deposit_of (wallet_owner events w) (coin_at (log_of events) c)
     ++ map (λ bundle. bundle.tip) (filter (λ bundle. bundle.coin == c) (accepted events w))
 
 -- the greatest block at which it ever held the coin
 unfoldable pub held_tip : List Event → ℕ → ℕ → Option ℕ
-held_tip events w c = greatest (filter (ever_held events w c) (tips_of events w c))
+held_tip events w c = greatest (filter (ever_held events w c) (possible_tips events w c))
 
 -- ---- what ended it
 
--- the exit stands, and is the owner's; or it stands, and is another account's
-abbrev pub is_own : Owner → Option Exit → Bool
-is_own me exit = option_map_or (is_mine me) exit false
-
+-- the exit stands, and is another account's
 abbrev pub is_others : Owner → Option Exit → Bool
 is_others me exit = option_map_or (λ found. not (is_mine me found)) exit false
 
 -- a Finish behind these calls is answered Paid
-abbrev pub pays : Tests → Rules → List RootCall → ℕ → ℕ → ℕ → Bool
-pays tests rules log account coin block = is_paid (answer_to tests rules log (RootCall.Finish account coin block))
+abbrev pub is_finish_paid : Tests → Rules → List RootCall → ℕ → ℕ → ℕ → Bool
+is_finish_paid tests rules log account coin block = is_paid (answer_to tests rules log (RootCall.Finish account coin block))
 
--- the event pays the wallet's exit of the coin at e
+-- the event is_finish_paid the wallet's exit of the coin at e
 abbrev pub pays_own : Tests → Rules → List RootCall → Owner → ℕ → ℕ → Event → Bool
 pays_own tests rules log me c e (Joins (RootCall.Finish account coin block)) =
-    (coin == c) && (block == e) && is_own me (exit_at log coin block) && pays tests rules log account coin block
+    (coin == c) && (block == e) && is_own me (exit_at log coin block) && is_finish_paid tests rules log account coin block
 pays_own tests rules log me c e event = false
 
--- the event pays another account's exit of the coin
+-- the event is_finish_paid another account's exit of the coin
 abbrev pub pays_other : Tests → Rules → List RootCall → Owner → ℕ → Event → Bool
 pays_other tests rules log me c (Joins (RootCall.Finish account coin block)) =
-    (coin == c) && is_others me (exit_at log coin block) && pays tests rules log account coin block
+    (coin == c) && is_others me (exit_at log coin block) && is_finish_paid tests rules log account coin block
 pays_other tests rules log me c event = false
 
 -- the event cancels or drops the wallet's exit of the coin at e
@@ -77,14 +73,14 @@ ends_own tests rules log me c e (Joins (RootCall.After account coin block spend)
 ends_own tests rules log me c e (Joins (RootCall.Between account coin block spend)) =
     (coin == c) && (block == e) && is_own me (exit_at log coin block)
 ends_own tests rules log me c e (Joins (RootCall.Finish account coin block)) =
-    (coin == c) && (block == e) && is_own me (exit_at log coin block) && not (pays tests rules log account coin block)
+    (coin == c) && (block == e) && is_own me (exit_at log coin block) && not (is_finish_paid tests rules log account coin block)
 ends_own tests rules log me c e event = false
 
--- The event takes the coin: it pays another account's exit while the wallet holds the coin at e, or ends the wallet's
+-- The event takes the coin: it is_finish_paid another account's exit while the wallet holds the coin at e, or ends the wallet's
 -- exit at e unpaid, whether it holds the coin or not.
 abbrev pub takes_from : Tests → Rules → List Event → Owner → ℕ → ℕ → ℕ → Event → Bool
 takes_from tests rules events me w c e event =
-    pays_other tests rules (log_of events) me c event && holds events w c e
+    (pays_other tests rules (log_of events) me c event && holds events w c e)
     || ends_own tests rules (log_of events) me c e event
 
 -- the events before the first that takes the coin
@@ -99,16 +95,17 @@ unfoldable pub first_unattended : List Event → ℕ → ℕ → ℕ → Option 
 first_unattended [] w c e = None
 first_unattended (event ∷ events) w c e =
     option_or (first_unattended events w c e)
-    (if needs_guardian events w c e event && not (is_guarded events w c e) then Some (length events + 1) else None)
+    (if goes_unattended events w c e event then Some (length events + 1) else None)
 
--- an event pays the wallet's exit at e
-unfoldable pub was_paid : Tests → Rules → List Event → Owner → ℕ → ℕ → Bool
-was_paid tests rules [] me c e = false
-was_paid tests rules (event ∷ events) me c e =
-    pays_own tests rules (log_of events) me c e event || was_paid tests rules events me c e
+-- an event is_finish_paid the wallet's exit at e
+unfoldable pub exit_was_paid : Tests → Rules → List Event → Owner → ℕ → ℕ → Bool
+exit_was_paid tests rules [] me c e = false
+exit_was_paid tests rules (event ∷ events) me c e =
+    pays_own tests rules (log_of events) me c e event || exit_was_paid tests rules events me c e
 
 -- ---- the verdict
 
+-- unattended in this line, or lost; taken behind these events, or held
 abbrev pub lost_or : Option ℕ → VerdictKind
 lost_or None = VerdictKind.Lost
 lost_or (Some line) = VerdictKind.Unattended line
@@ -120,8 +117,8 @@ taken_or (Some events) w c e = lost_or (first_unattended events w c e)
 -- what became of a coin that a wallet held at e, its greatest tip: the first of these that applies
 unfoldable pub verdict_at : Tests → Rules → List Event → Owner → ℕ → ℕ → ℕ → VerdictKind
 verdict_at tests rules events me w c e =
-    if is_signed_away (standing_by events w) c e then VerdictKind.Away
-    else if was_paid tests rules events me c e then VerdictKind.Paid
+    if is_sent_from (signed_away_by events w) c e then VerdictKind.Away
+    else if exit_was_paid tests rules events me c e then VerdictKind.Paid
     else taken_or (before_taking tests rules events me w c e) w c e
 
 -- a wallet's number and name
@@ -144,7 +141,7 @@ verdict_of tests rules events wallet c =
 unfoldable pub wallets_from : ℕ → List Node → List Named
 wallets_from n [] = []
 wallets_from n (node ∷ nodes) =
-    if is_wallet node.role then record { number = n; name = node.name } ∷ wallets_from (n + 1) nodes
+    if is_wallet_role node.role then record { number = n; name = node.name } ∷ wallets_from (n + 1) nodes
     else wallets_from (n + 1) nodes
 
 -- the verdicts on a wallet's coins, by rising coin
@@ -190,20 +187,20 @@ leaf_sent (Reply.Sent leaf) = Some leaf
 leaf_sent reply = None
 
 -- what an entry gives out: the bytes that a wallet's line made which was answered with a leaf
-abbrev pub given_by : World → Entry → Option GivenOut
+abbrev pub given_by : World → TraceEntry → Option GivenOut
 given_by world entry =
     option_and_then
     (λ leaf. option_map (λ owner. record { key = owner.key; leaf = leaf; bytes = entry.made })
     (option_and_then (owner_named world) (wallet_of_line entry.line)))
     (leaf_sent entry.reply)
 
-unfoldable pub given_out : World → List Entry → List GivenOut
+unfoldable pub given_out : World → List TraceEntry → List GivenOut
 given_out world entries = filter_map (given_by world) entries
 
--- two transfers that wallets' nodes gave out with one key and one leaf have one body
-abbrev pub SignsOneMessage : World → List Entry → Type 0
-SignsOneMessage world entries = (one other : GivenOut)
-    → Contains (given_out world entries) one → Contains (given_out world entries) other
+-- two transfers that wallets' nodes gave out in a run with one key and one leaf have one body
+abbrev pub SignsOneMessage : Run → Type 0
+SignsOneMessage run = (world : World) (one other : GivenOut) → run.world ≡ Some world
+    → Contains (given_out world run.entries) one → Contains (given_out world run.entries) other
     → one.key ≡ other.key → one.leaf ≡ other.leaf
     → body_at_start one.bytes ≡ body_at_start other.bytes
 
@@ -222,14 +219,16 @@ pub record Counts : Type 0 where
   pub lost : ℕ
   pub unattended : ℕ
 
--- the answer is a refusal, and not that of a command in a `cut`
+-- the answer is a refusal
 abbrev pub is_refused_reply : Reply → Bool
 is_refused_reply (Reply.Refused cause) = true
 is_refused_reply reply = false
 
-abbrev pub is_refused : Entry → Bool
+-- the entry is answered with a refusal, and not with `done` before it
+abbrev pub is_refused : TraceEntry → Bool
 is_refused entry = not entry.done && is_refused_reply entry.reply
 
+-- the kind is this one
 abbrev pub is_held_kind : VerdictKind → Bool
 is_held_kind VerdictKind.Held = true
 is_held_kind kind = false
@@ -255,7 +254,7 @@ abbrev pub count_verdicts : (VerdictKind → Bool) → List Verdict → ℕ
 count_verdicts is_asked verdicts = count_by (λ verdict. is_asked verdict.kind) verdicts
 
 -- the counts of a trace, by its verdicts
-abbrev pub counts_with : List Entry → List RootCall → List Verdict → Counts
+abbrev pub counts_with : List TraceEntry → List RootCall → List Verdict → Counts
 counts_with entries log verdicts = record {
   lines = length entries;
   accepted = length log;

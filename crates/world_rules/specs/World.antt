@@ -39,24 +39,25 @@ pub record Node : Type 0 where
   pub leaves : List (List ℕ)
   pub offers : List RootCall
 
-abbrev pub is_wallet : Role → Bool
-is_wallet Wallet = true
-is_wallet Watcher = false
-is_wallet Operator = false
+-- the role is this one
+abbrev pub is_wallet_role : Role → Bool
+is_wallet_role Wallet = true
+is_wallet_role Watcher = false
+is_wallet_role Operator = false
 
-abbrev pub is_watcher : Role → Bool
-is_watcher Wallet = false
-is_watcher Watcher = true
-is_watcher Operator = false
+abbrev pub is_watcher_role : Role → Bool
+is_watcher_role Wallet = false
+is_watcher_role Watcher = true
+is_watcher_role Operator = false
 
-abbrev pub is_operator : Role → Bool
-is_operator Wallet = false
-is_operator Watcher = false
-is_operator Operator = true
+abbrev pub is_operator_role : Role → Bool
+is_operator_role Wallet = false
+is_operator_role Watcher = false
+is_operator_role Operator = true
 
 -- whether it watches: a wallet and a watcher do
 abbrev pub does_watch : Role → Bool
-does_watch role = is_wallet role || is_watcher role
+does_watch role = is_wallet_role role || is_watcher_role role
 
 -- a wallet's records
 abbrev pub wallet_of : Node → WalletRecords
@@ -74,16 +75,17 @@ pub record Rogue : Type 0 where
   pub account : ℕ
   pub secret : Secret
 
+-- the owner that a rogue is
 abbrev pub owner_of_rogue : Rogue → Owner
 owner_of_rogue rogue = record { account = rogue.account; key = public_key_of rogue.secret }
 
--- The world. The operator is the first node, and the others follow in the order of their declarations. `callers` has
--- the accounts of the raw calls, and `mail` the item of each line, in order: the bytes that the line made, or none.
+-- The world. The operator is the first node, and the others follow in the order of their declarations. `raw_callers` has
+-- the accounts of the `call` lines, and `mail` the item of each line, in order: the bytes that the line made, or none.
 pub record World : Type 0 where
   pub chain : Chain
   pub nodes : List Node
   pub rogues : List Rogue
-  pub callers : List ℕ
+  pub raw_callers : List ℕ
   pub mail : List (List ℕ)
 
 -- the world with node n changed
@@ -115,7 +117,7 @@ rogue_named world name = find (λ rogue. bytes_eq rogue.name name) world.rogues
 -- the owner that a name stands for: a wallet's, or a rogue's
 abbrev pub owner_named : World → List ℕ → Option Owner
 owner_named world name =
-    option_or (option_map owner_of_node (find (is_named is_wallet name) world.nodes))
+    option_or (option_map owner_of_node (find (is_named is_wallet_role name) world.nodes))
     (option_map owner_of_rogue (rogue_named world name))
 
 -- ---- tokens

@@ -1,5 +1,5 @@
 //! The world of a schedule, as definitions: what each line does to the contract and to the nodes, the trace that
-//! it leaves, and every word of what is promised of it.
+//! it leaves, its verdicts, and the words of what is promised of it.
 #![tactic(auto)]
 
 mod reply;

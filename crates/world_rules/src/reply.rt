@@ -70,7 +70,7 @@ pub enum Reply {
     Crashed,
     /// A command was cut short.
     Stopped,
-    /// A node was opened: its records without the identity, and its leaves' messages.
+    /// A node was opened: how many records it has without the identity, and how many leaves bind a message.
     Opened { notes: u64, leaves: u64 },
     /// The node was up already.
     Up,

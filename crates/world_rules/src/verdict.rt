@@ -12,15 +12,16 @@ pub struct Verdict {
 /// The kinds of verdict.
 #[derive(Debug, Clone, Copy, PartialEq, Eq)]
 pub enum VerdictKind {
-    /// Nothing befell it.
+    /// None of the others.
     Held,
     /// The wallet's exit of it was paid.
     Paid,
-    /// A leaf of the wallet signs it away.
+    /// A leaf of the wallet that isn't taken back signs it away.
     Away,
-    /// It was lost although each deadline was attended.
+    /// It was taken, although each tick before that met a deadline of the held coin was attended.
     Lost,
-    /// It was lost; this line is the first that met a deadline which nobody attended.
+    /// It was taken; this line is the first tick before that met a deadline of the held coin and wasn't
+    /// attended.
     Unattended { line: u64 },
 }
 

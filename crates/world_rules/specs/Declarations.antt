@@ -12,7 +12,7 @@ use Rattle.schedule_text.specs.Grammar.{node_of}
 use Rattle.node_rules.specs.declared.identity.WalletIdentity.{WalletIdentity}
 use Rattle.node_rules.specs.WalletRecords.{who_is, owner_of}
 use Rattle.world_rules.specs.declared.TheConstants.{MOST_WALLETS}
-use Rattle.world_rules.specs.World.{Role, Node, Rogue, World, is_wallet, is_watcher, is_operator, does_watch, padded, number_of, any_role, rogue_named, owner_of_node, new_owner_of, call_of}
+use Rattle.world_rules.specs.World.{Role, Node, Rogue, World, is_wallet_role, is_watcher_role, is_operator_role, does_watch, padded, number_of, any_role, rogue_named, owner_of_node, new_owner_of, call_of}
 
 -- ---- what is declared
 
@@ -35,7 +35,7 @@ is_used world name = is_declared any_role world name || is_some (rogue_named wor
 
 -- the wallets that are declared
 abbrev pub wallet_nodes : World → List Node
-wallet_nodes world = filter (λ node. is_wallet node.role) world.nodes
+wallet_nodes world = filter (λ node. is_wallet_role node.role) world.nodes
 
 -- the account is a wallet's
 abbrev pub is_wallet_account : World → ℕ → Bool
@@ -47,9 +47,9 @@ is_declared_account world account =
     list_any (λ node. node.account == account) world.nodes
     || list_any (λ rogue. rogue.account == account) world.rogues
 
--- a raw call was the account's
+-- an earlier `call` line has the account
 abbrev pub is_caller : World → ℕ → Bool
-is_caller world account = list_any (λ caller. caller == account) world.callers
+is_caller world account = list_any (λ caller. caller == account) world.raw_callers
 
 -- a wallet has the key, or the seed
 abbrev pub is_wallet_key : World → List ℕ → Bool
@@ -64,8 +64,8 @@ is_wallet_seed world seed = list_any (λ node. bytes_eq (who_is node.notes).seed
 abbrev pub is_new_name : World → List ℕ → Bool
 is_new_name world name = not (is_used world name)
 
--- A wallet may be declared: its name is new, and there are fewer than the most. Its account is nobody else's so far,
--- and neither its key nor its seed is another wallet's.
+-- A wallet may be declared: its name is new, and there are fewer than the most. Its account isn't the operator's, nor
+-- that of a declared name or of an earlier `call` line; and neither its key nor its seed is another wallet's.
 abbrev pub may_be_wallet : World → List ℕ → WalletIdentity → Bool
 may_be_wallet world name who =
     (is_new_name world name && nat_lt (length (wallet_nodes world)) MOST_WALLETS)
@@ -78,9 +78,9 @@ may_be_other world name account = is_new_name world name && not (is_wallet_accou
 
 -- which nodes have the command
 abbrev pub plays : Command → Role → Bool
-plays (Command.Wallet name command) = is_wallet
-plays (Command.Watcher name command) = is_watcher
-plays (Command.Operator command) = is_operator
+plays (Command.Wallet name command) = is_wallet_role
+plays (Command.Watcher name command) = is_watcher_role
+plays (Command.Operator command) = is_operator_role
 plays (Command.Watch name) = does_watch
 plays (Command.Open name) = any_role
 
@@ -89,18 +89,19 @@ abbrev pub is_sendable : World → WalletCommand → Bool
 is_sendable world (WalletCommand.Send coin to last) = is_some (new_owner_of world to)
 is_sendable world command = true
 
-abbrev pub names_declared : World → Command → Bool
-names_declared world (Command.Wallet name command) = is_sendable world command
-names_declared world command = true
+-- so are those of each command
+abbrev pub has_declared_names : World → Command → Bool
+has_declared_names world (Command.Wallet name command) = is_sendable world command
+has_declared_names world command = true
 
 -- the names of a command are declared, each as what the command asks for
 abbrev pub may_command : World → Command → Bool
 may_command world command =
-    is_declared (plays command) world (node_of command) && names_declared world command
+    is_declared (plays command) world (node_of command) && has_declared_names world command
 
 -- the leaf is one of the rogue's key
-abbrev pub has_leaf : ℕ → Option Rogue → Bool
-has_leaf leaf rogue = option_map_or (λ found. nat_lt leaf (leaf_count found.secret.types)) rogue false
+abbrev pub has_leaf_number : ℕ → Option Rogue → Bool
+has_leaf_number leaf rogue = option_map_or (λ found. nat_lt leaf (leaf_count found.secret.types)) rogue false
 
 -- the line keeps the rules, where the chain has begun
 abbrev pub keeps_rules_in : World → Line → Bool
@@ -112,13 +113,13 @@ keeps_rules_in world (Line.Rogue name account seed types) = may_be_other world n
 keeps_rules_in world (Line.Fund account amount) = true
 keeps_rules_in world (Line.Tick time) = true
 keeps_rules_in world (Line.Money account) = true
-keeps_rules_in world (Line.Deposit wallet amount) = is_declared is_wallet world wallet
+keeps_rules_in world (Line.Deposit wallet amount) = is_declared is_wallet_role world wallet
 keeps_rules_in world (Line.Call account form) =
     not (is_wallet_account world account) && is_some (call_of world account form)
 keeps_rules_in world (Line.Enter node number) = is_declared any_role world node
 keeps_rules_in world (Line.Command command) = may_command world command
 keeps_rules_in world (Line.Sign rogue leaf coin parent to last) =
-    has_leaf leaf (rogue_named world rogue) && is_some (new_owner_of world to)
+    has_leaf_number leaf (rogue_named world rogue) && is_some (new_owner_of world to)
 keeps_rules_in world (Line.Crash node outcome) = is_declared any_role world node
 keeps_rules_in world (Line.Cut node calls outcome command) =
     bytes_eq (node_of command) node && may_command world command
