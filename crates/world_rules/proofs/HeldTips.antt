@@ -241,7 +241,8 @@ pub record IsHeldTip (events : List Event) (w c tip : ℕ) : Type 0 where
 held-among : (events : List Event) (w c e : ℕ) → OwnersStay events → ever_held events w c e ≡ true
     → has e (filter (ever_held events w c) (possible_tips events w c)) ≡ true
 held-among events w c e stay held =
-    has-filter (ever_held events w c) e (possible_tips events w c) (tip-has events w c e (ever-tip events w c e stay held))
+    has-filter (ever_held events w c) e (possible_tips events w c)
+    (tip-has events w c e (ever-tip events w c e stay held))
     held
 
 pub held_tip-is : (events : List Event) (w c tip : ℕ) → OwnersStay events → held_tip events w c ≡ Some tip

@@ -3,7 +3,6 @@ use Rattle.std.proofs.Common.{◌≡◌, ℕ, ◌&&◌, ◌||◌, not, nat_lt, B
 use Rattle.std.specs.Prelude.{option_map, option_and_then}
 use Rattle.std.proofs.lemmas.Bool.{and_parts, false≢true}
 use Rattle.line_forms.specs.declared.tokens.OutcomeToken.{OutcomeToken}
-use Rattle.gate_journal.specs.Laws.{is_added}
 use Rattle.line_forms.proofs.FormLaws.{and_then_some, option_map_some}
 use Rattle.plasma_tx.specs.declared.owner.Owner.{Owner}
 use Rattle.plasma_tx.specs.declared.call.RootCall.{RootCall}
@@ -17,15 +16,16 @@ use Rattle.schedule_text.specs.Grammar.{node_of}
 use Rattle.node_rules.specs.declared.identity.WalletIdentity.{WalletIdentity}
 use Rattle.node_rules.specs.Watcher.{identity_text as watcher_text}
 use Rattle.node_rules.specs.WalletRecords.{identity_text as wallet_text, owner_of}
-use Rattle.world_rules.specs.declared.reply.Reply.{Reply}
-use Rattle.world_rules.specs.Events.{Event, Declares, Joins, Bounces, Other, log_of, wallet_owner, accepted}
-use Rattle.world_rules.specs.World.{Role, Wallet, Watcher, Node, Rogue, World, with_node, any_role, rogue_named, owner_named, new_owner_of, call_of}
+use Rattle.world_rules.specs.Events.{Event, Declares, Joins, Bounces, log_of, wallet_owner, accepted}
+use Rattle.world_rules.specs.World.{Role, Wallet, Watcher, Node, Rogue, World, any_role, rogue_named, owner_named, new_owner_of, call_of}
 use Rattle.world_rules.specs.Declarations.{plays, declared_wallet, is_new_name, is_wallet_account, wallet_nodes, is_declared_account, is_caller, is_wallet_key, is_wallet_seed, keeps_rules, keeps_rules_in}
 use Rattle.world_rules.specs.Deeds.{Deed, deed_of}
-use Rattle.world_rules.specs.Steps.{LineEffect, says, new_node, declares_wallet, declares_watcher, called, raw_called, deposit_by, offer_numbered, entered, answers_down, after_command, commanded, down, after_crash, with_records, crashed, outcome_of, is_opening, is_stopped, without_offers, stopped, finished, cut, act_at, act_on, command_effect, cut_effect, signed_by, signed_body, effect_in, effect_of, with_mail, step, Run, no_lines, with_line, step_run, run_of, events_of}
+use Rattle.world_rules.specs.Steps.{LineEffect, new_node, declares_wallet, declares_watcher, called, raw_called, deposit_by, offer_numbered, entered, answers_down, after_command, commanded, down, after_crash, with_records, crashed, cut, act_at, act_on, command_effect, cut_effect, signed_by, signed_body, effect_in, effect_of, step, Run, no_lines, with_line, step_run, run_of, events_of}
 use Rattle.world_rules.specs.declared.TheConstants.{MOST_WALLETS}
+use Rattle.world_rules.proofs.Shapes.{IsCut, Kept as KeptCut, Lost as LostCut, is_cut}
+use Rattle.world_rules.proofs.StepLaws.{stepped}
 use Rattle.world_rules.proofs.Named.{Card, cards, new-other, cards-set, cards-push, cards-length}
-use Rattle.world_rules.proofs.KeptNames.{Kept, Move, Rests, Enters, Takes, Adds, AddsWallet, kept-move}
+use Rattle.world_rules.proofs.KeptNames.{is_plain, Kept, Move, Rests, Enters, Takes, Adds, AddsWallet, kept-move}
 use Rattle.world_rules.proofs.NamedDeeds.{IsDeed, Plain, Accepting, deed-cut, deed-is}
 
 -- the effect is of such a move
@@ -47,9 +47,9 @@ module _ (dig : List ℕ → List ℕ) (world : World) where
   so : (effect other : LineEffect) → Some other ≡ Some effect → Makes world other → Makes world effect
   so effect other is makes = subst (λ (x : LineEffect). Makes world x) (some_same other effect is) makes
 
-  calls : (raw_callers : List ℕ) (call : RootCall) → Makes world (called dig (record world { raw_callers = raw_callers }) call)
+  calls : (callers : List ℕ) (call : RootCall) → Makes world (called dig (record world { raw_callers = callers }) call)
   unfolding log_after
-  calls raw_callers call =
+  calls callers call =
       (elim (is_accepted answer) as (λ b. Move (cards world.nodes) (cards world.nodes) world.chain.log
       (if b then call ∷ world.chain.log else world.chain.log) (if b then Joins call else Bounces call)) [
         | true ↦ Enters call refl refl refl
@@ -89,30 +89,19 @@ module _ (dig : List ℕ → List ℕ) (world : World) where
           found.0.gives.event (cards-set world.nodes n node (after_command node found.0) node_is refl)
           (deed-is dig world n node command found.0 found.1))
 
-  cut-move : (count : ℕ) (outcome : OutcomeToken) (command : Command) (n : ℕ) (node : Node) (deed : Deed)
-      → slice_get world.nodes n ≡ Some node → IsDeed world.chain.log deed.gives.event
-      → Makes world (cut world n node count outcome command deed)
-  cut-move count outcome command n node deed node_is own =
-      (elim (is_stopped count node command deed) as (λ b. Makes world
-      (if b then stopped world n node count outcome command deed else finished world n node deed)) [
-        | true ↦ at (not (is_opening command) && is_added count (outcome_of outcome))
-        | false ↦ kept
-      ])
-    where
-      kept : Move (cards world.nodes) (cards (set world.nodes n (after_crash (with_records node deed))))
-          world.chain.log world.chain.log (without_offers n deed.gives.event)
-      kept = from-deed (cards world.nodes) (cards (set world.nodes n (after_crash (with_records node deed))))
-          world.chain.log (without_offers n deed.gives.event)
-          (cards-set world.nodes n node (after_crash (with_records node deed)) node_is refl)
-          (deed-cut world.chain.log n deed.gives.event own)
-
-      at : (b : Bool) → Makes world
-          (if b
-          then says Reply.Stopped (without_offers n deed.gives.event)
-          (with_node world n (after_crash (with_records node deed)))
-          else says Reply.Stopped (Other n) (with_node world n (after_crash node)))
-      at true = kept
-      at false = Rests (cards-set world.nodes n node (after_crash node) node_is refl) refl refl
+  cut-move : (n : ℕ) (node : Node) (deed : Deed) (effect : LineEffect) → slice_get world.nodes n ≡ Some node
+      → IsDeed world.chain.log deed.gives.event → IsCut world n node deed effect → Makes world effect
+  cut-move n node deed effect node_is own (KeptCut event_is world_is) =
+      subst (λ (w : World). Move (cards world.nodes) (cards w.nodes) world.chain.log w.chain.log effect.event)
+      (sym world_is)
+      (from-deed (cards world.nodes) (cards (set world.nodes n (after_crash (with_records node deed))))
+      world.chain.log effect.event
+      (cards-set world.nodes n node (after_crash (with_records node deed)) node_is refl)
+      (subst (IsDeed world.chain.log) (sym event_is) (deed-cut world.chain.log n deed.gives.event own)))
+  cut-move n node deed effect node_is own (LostCut event_is world_is) =
+      subst (λ (w : World). Move (cards world.nodes) (cards w.nodes) world.chain.log w.chain.log effect.event)
+      (sym world_is)
+      (Rests (cards-set world.nodes n node (after_crash node) node_is refl) refl (ap is_plain event_is))
 
   cuts : (count : ℕ) (outcome : OutcomeToken) (command : Command) (n : ℕ) (node : Node) (effect : LineEffect)
       → slice_get world.nodes n ≡ Some node → cut_effect dig world count outcome command n node ≡ Some effect
@@ -128,7 +117,8 @@ module _ (dig : List ℕ → List ℕ) (world : World) where
           let found = option_map_some (cut world n node count outcome command) (deed_of dig world n node command)
           effect same in
           subst (λ (x : LineEffect). Makes world x) found.2
-          (cut-move count outcome command n node found.0 node_is (deed-is dig world n node command found.0 found.1))
+          (cut-move n node found.0 (cut world n node count outcome command found.0) node_is
+          (deed-is dig world n node command found.0 found.1) (is_cut world n node count outcome command found.0))
 
   signs : (leaf coin parent : ℕ) (last : Option ℕ) (rogue : Option Rogue) (to : Option Owner) (effect : LineEffect)
       → option_and_then
@@ -140,8 +130,8 @@ module _ (dig : List ℕ → List ℕ) (world : World) where
       so effect (signed_by world leaf (signed_body world coin parent last owner) rogue) is (Rests refl refl refl)
 
   -- each line that keeps the rules makes a move
-  moves : (line : Line) (effect : LineEffect) → keeps_rules_in world line ≡ true → effect_in dig world line ≡ Some effect
-      → Makes world effect
+  moves : (line : Line) (effect : LineEffect) → keeps_rules_in world line ≡ true
+      → effect_in dig world line ≡ Some effect → Makes world effect
   unfolding effect_in
   moves (Line.Chain tag operator most) effect keeps is = absurd (cc is)
   moves (Line.Wallet name account seed types) effect keeps is =
@@ -160,7 +150,8 @@ module _ (dig : List ℕ → List ℕ) (world : World) where
       (new_node Watcher name account (watcher_text (record { tag = world.chain.tag; account = account })))) refl refl
       (new-other world name (and_parts (is_new_name world name) (not (is_wallet_account world account)) keeps).0))
   moves (Line.Rogue name account seed types) effect keeps is = so effect _ is (Rests refl refl refl)
-  moves (Line.Fund account amount) effect keeps is = so effect _ is (calls world.raw_callers (RootCall.Fund account amount))
+  moves (Line.Fund account amount) effect keeps is =
+      so effect _ is (calls world.raw_callers (RootCall.Fund account amount))
   moves (Line.Tick time) effect keeps is = so effect _ is (calls world.raw_callers (RootCall.Tick time))
   moves (Line.Money account) effect keeps is = so effect _ is (Rests refl refl refl)
   moves (Line.Deposit wallet amount) effect keeps is =
@@ -187,18 +178,13 @@ module _ (dig : List ℕ → List ℕ) (world : World) where
 
 -- ---- runs
 
--- a step that is made is its line's effect with its mail item
-stepped : (dig : List ℕ → List ℕ) (world : World) (line : Line) (effect : LineEffect)
+-- a step that is made makes its line's move, since a mail item changes none
+step-moves : (dig : List ℕ → List ℕ) (world : World) (line : Line) (effect : LineEffect)
     → step dig (Some world) line ≡ Some effect → Makes world effect
-unfolding step effect_of keeps_rules
-stepped dig world line effect is = at (keeps_rules_in world line) refl is
-  where
-    at : (b : Bool) → keeps_rules_in world line ≡ b
-        → (if b then option_map with_mail (effect_in dig world line) else None) ≡ Some effect → Makes world effect
-    at false keeps wrong = absurd (cc wrong)
-    at true keeps made =
-        let found = option_map_some with_mail (effect_in dig world line) effect made in
-        subst (λ (x : LineEffect). Makes world x) found.2 (moves dig world line found.0 keeps found.1)
+step-moves dig world line effect is =
+    let made = stepped dig world line effect is in
+    subst (λ (x : LineEffect). Makes world x) (sym made.effect_is)
+    (moves dig world line made.bare made.keeps made.bare_is)
 
 -- what is kept in a world behind events
 abbrev KeptIn : World → List Event → Type 0
@@ -227,10 +213,10 @@ pub record IsKeptRun (run : Run) : Type 0 where
 one-more : (dig : List ℕ → List ℕ) (line : Line) (run : Run) (effect : LineEffect) → IsKeptRun run
     → step dig run.world line ≡ Some effect → IsKeptRun (with_line run line effect)
 unfolding events_of
-one-more dig line run effect is stepped_so = record {
+one-more dig line run effect is made = record {
   before = λ none. absurd (cc none);
   kept = λ world same. subst (λ (x : World). KeptIn x (effect.event ∷ events_of run.entries))
-      (some_same effect.world world same) (at run.world refl stepped_so);
+      (some_same effect.world world same) (at run.world refl made);
 }
   where
     at : (o : Option World) → run.world ≡ o → step dig o line ≡ Some effect
@@ -240,7 +226,7 @@ one-more dig line run effect is stepped_so = record {
         subst (λ (x : List Event). KeptIn effect.world (effect.event ∷ x)) (sym nothing)
         (begun dig line effect made)
     at (Some world) some made = kept-move (cards world.nodes) (cards effect.world.nodes) world.chain.log
-        effect.world.chain.log effect.event (events_of run.entries) (stepped dig world line effect made)
+        effect.world.chain.log effect.event (events_of run.entries) (step-moves dig world line effect made)
         (is.kept world some)
 
 pub run-kept : (dig : List ℕ → List ℕ) (lines : List Line) (run : Run) → run_of dig lines ≡ Some run → IsKeptRun run
