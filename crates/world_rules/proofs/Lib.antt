@@ -7,3 +7,10 @@ pub mod CutLaws
 pub mod Runs
 pub mod RunLaws
 pub mod OfferLaws
+pub mod HeldTips
+pub mod Named
+pub mod VerdictCounts
+pub mod KeptNames
+pub mod NamedDeeds
+pub mod NamedSteps
+pub mod VerdictLaws

@@ -5,6 +5,7 @@
 mod laws;
 mod reply;
 mod verdict;
+mod verdict_laws;
 
 pub use laws::{
     cuts_keep_as_appends_do, down_nodes_stay, items_are_made, lines_that_keep_the_rules_step,
@@ -12,6 +13,7 @@ pub use laws::{
 };
 pub use reply::{OfferKind, OfferKinds, Reply, TraceLine};
 pub use verdict::{Exhibit, Verdict, VerdictKind};
+pub use verdict_laws::verdicts_are_given_once;
 
 /// The most wallets of a schedule.
 pub const MOST_WALLETS: u64 = 64;
