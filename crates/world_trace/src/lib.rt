@@ -4,6 +4,8 @@
 mod causes;
 mod printing;
 mod replies;
+#[cfg(test)]
+mod tests;
 mod words;
 
 pub use causes::{

@@ -60,7 +60,11 @@ fn push_exhibit_words(out: &mut Vec<u8>, exhibit: &Exhibit) -> Result<(), NoMemo
 {
     match exhibit {
         Exhibit::Nothing => push_words(out, b"no exhibit"),
-        Exhibit::Collision { first, second } => push_collision(out, first.as_slice(), second.as_slice()),
+        Exhibit::Collision { first, second } => push_collision(
+            out,
+            first.as_slice(),
+            second.as_slice(),
+        ),
         Exhibit::Forgery { line } => push_phrase(out, b"forgery", &[*line]),
     }
 }

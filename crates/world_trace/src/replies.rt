@@ -61,7 +61,11 @@ pub fn push_reply(out: &mut Vec<u8>, reply: &Reply) -> Result<(), NoMemory>
         Reply::Sent { leaf } => push_phrase(out, b"sent", &[u64::from(*leaf)]),
         Reply::Leaving { tip } => push_phrase(out, b"leaving", &[*tip]),
         Reply::Released => push_words(out, b"released"),
-        Reply::Reclaimed { coin, leaf } => push_phrase(out, b"reclaimed", &[*coin, u64::from(*leaf)]),
+        Reply::Reclaimed { coin, leaf } => push_phrase(
+            out,
+            b"reclaimed",
+            &[*coin, u64::from(*leaf)],
+        ),
         Reply::Migrated => push_words(out, b"migrated"),
         Reply::Pooled { coin } => push_phrase(out, b"pooled", &[*coin]),
         Reply::Laid { coin } => push_phrase(out, b"laid", &[*coin]),
