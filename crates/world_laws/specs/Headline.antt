@@ -1,27 +1,35 @@
 -- What is promised of every schedule: of operator, strangers, losses and crashes.
-use Rattle.std.specs.Prelude.{◌≡◌, ◌≢◌, ◌⊎◌, ◌<◌, ℕ, ◌+◌, ◌==◌, Bool, true, false, if◌then◌else◌, nat_lt, List, [], ◌∷◌, Some, is_some}
-use Rattle.std.specs.List.{All, Contains}
+use Rattle.std.specs.Prelude.{◌≡◌, ◌≢◌, ◌⊎◌, ◌<◌, ℕ, ◌+◌, ◌||◌, Bool, true, false, nat_lt, List, ◌∷◌, ◌++◌, slice_get, Option, Some, None, is_some, is_none}
+use Rattle.std.specs.List.{All, Contains, list_any}
 use Rattle.root_rules.specs.declared.TheConstants.{EXIT_BOND, CHALLENGE_BOND}
+use Rattle.lms_sign.specs.Tree.{signature_of}
+use Rattle.plasma_tx.specs.declared.owner.Owner.{Owner}
+use Rattle.plasma_tx.specs.declared.body.Body.{Body}
 use Rattle.plasma_tx.specs.declared.call.RootCall.{RootCall}
 use Rattle.plasma_tx.specs.declared.answer.Answer.{Answer}
 use Rattle.plasma_tx.specs.declared.answer.Refusal.{Refusal}
-use Rattle.plasma_tx.specs.Views.{coins}
+use Rattle.plasma_tx.specs.Spelling.{body_text}
+use Rattle.plasma_tx.specs.Views.{coins, exit_at}
 use Rattle.root_rules.specs.Shown.{tests_by, rules_of}
 use Rattle.root_rules.specs.Table.{answer_to, is_accepted}
 use Rattle.root_rules.specs.Money.{balance_of}
 use Rattle.schedule_text.specs.declared.line.Line.{Line}
+use Rattle.schedule_text.specs.declared.command.Command.{Command}
+use Rattle.schedule_text.specs.declared.command.WalletCommand.{WalletCommand}
 use Rattle.schedule_text.specs.Grammar.{IsLine}
+use Rattle.node_rules.specs.WalletRecords.{secret_of, who_is}
+use Rattle.world_rules.specs.declared.reply.Reply.{Reply}
 use Rattle.world_rules.specs.declared.verdict.Verdict.{Verdict}
 use Rattle.world_rules.specs.declared.verdict.VerdictKind.{VerdictKind}
 use Rattle.world_rules.specs.declared.verdict.Exhibit.{Exhibit}
-use Rattle.world_rules.specs.Events.{Event, Joins, log_of, wallet_owner, coin_of_call, is_command_of, offered, offers_of}
-use Rattle.world_rules.specs.World.{World}
+use Rattle.world_rules.specs.Events.{Event, Joins, Watches, log_of, coin_of_call, wallet_owner, bound_by, leaf_at, is_command_of, offers_of}
+use Rattle.world_rules.specs.World.{Node, World, is_wallet_role, number_of, owner_of_node}
 use Rattle.world_rules.specs.Deeds.{exit_block}
-use Rattle.world_rules.specs.Steps.{Run, run_of, events_of}
-use Rattle.world_rules.specs.Exhibits.{collides, is_forged}
-use Rattle.world_rules.specs.Safety.{holds, is_attended, is_safe, is_watch, is_joined}
-use Rattle.world_rules.specs.Verdicts.{SignsOneMessage, verdicts_of, exhibit_of_run}
-use Rattle.world_rules.specs.Laws.{IsDigest}
+use Rattle.world_rules.specs.Steps.{TraceEntry, Run, run_of, events_of}
+use Rattle.world_rules.specs.Exhibits.{collides, is_forged, exhibit_of}
+use Rattle.world_rules.specs.Safety.{holds, is_attended, is_safe, is_joined, is_harmed}
+use Rattle.world_rules.specs.Verdicts.{SignsOneMessage, given_out, verdicts_of, exhibit_of_run, first_unattended, takes_from}
+use Rattle.world_rules.specs.Laws.{IsDigest, IsCommandIn}
 
 -- A run of a schedule's lines, the newest first: the lines are in the grammar and keep the rules of declarations, and
 -- the digest gives 32 bytes. Nothing else is supposed of them: whatever the operator, strangers, losses and crashes do
@@ -32,6 +40,23 @@ pub record IsRun (dig : List ℕ → List ℕ) (lines : List Line) (run : Run) (
   pub run_is : run_of dig lines ≡ Some run
   pub world_is : run.world ≡ Some world
 
+-- What a wallet's node gave out is what its leaf binds, with the key's signature by that leaf; and it is among what the
+-- wallets' nodes of the run gave out.
+pub record IsBoundTo (run : Run) (world : World) (n : ℕ) (node : Node) (entry : TraceEntry) (q : ℕ) : Type 0 where
+  pub body : Body
+  pub leaf : leaf_at q (bound_by (events_of run.entries) n) ≡ Some body
+  pub made : entry.made
+      ≡ body_text body ++ signature_of (secret_of (who_is node.notes)) q (body_text body)
+  pub given : Contains (given_out world run.entries)
+      (record { key = (owner_of_node node).key; leaf = q; bytes = entry.made })
+
+abbrev pub GivenOutIsBound : Type 0
+GivenOutIsBound = (dig : List ℕ → List ℕ) (lines : List Line) (run : Run) (world : World) (entry : TraceEntry)
+    (name : List ℕ) (command : WalletCommand) (q n : ℕ) (node : Node)
+    → IsRun dig lines run world → Contains run.entries entry → IsCommandIn entry.line (Command.Wallet name command)
+    → entry.reply ≡ Reply.Sent q → number_of is_wallet_role world name ≡ Some n
+    → slice_get world.nodes n ≡ Some node → IsBoundTo run world n node entry q
+
 -- no leaf of a wallet's key signs two messages
 abbrev pub LeavesSignOneMessage : Type 0
 LeavesSignOneMessage = (dig : List ℕ → List ℕ) (lines : List Line) (run : Run) (world : World)
@@ -40,33 +65,59 @@ LeavesSignOneMessage = (dig : List ℕ → List ℕ) (lines : List Line) (run : 
 -- The coin that a wallet holds is safe. At each line of a run: unless the trace up to it shows, at this coin, two byte
 -- strings with one digest, or a signature that is valid under the wallet's key and that the wallet never made, no exit
 -- of another account was paid while the wallet held the coin at e, and its own exit at e wasn't cancelled or dropped,
--- and paid where it was finished at its end; where each tick before the line that met a deadline of the coin was
--- attended.
+-- and paid where it was finished at its end; where each tick before the line that met a deadline of the coin, while
+-- the wallet held it at e, was attended.
 abbrev pub HeldCoinsAreSafe : Type 0
 HeldCoinsAreSafe = (dig : List ℕ → List ℕ) (lines : List Line) (run : Run) (world : World)
-    (event : Event) (events : List Event) (w c e : ℕ)
-    → IsRun dig lines run world → events_of run.entries ≡ event ∷ events
+    (later events : List Event) (event : Event) (w c e : ℕ)
+    → IsRun dig lines run world → events_of run.entries ≡ later ++ event ∷ events
     → is_attended events w c e ≡ true
     → collides dig (event ∷ events) c ≡ false
     → is_forged world.chain.tag (event ∷ events) w c ≡ false
     → is_safe (tests_by dig) (rules_of world.chain) (event ∷ events) w c e ≡ true
 
--- the wallet was declared before the deposit of the coin
-unfoldable pub was_declared_before : List Event → ℕ → ℕ → Bool
-was_declared_before [] w c = false
-was_declared_before (Joins (RootCall.Deposit account amount key) ∷ events) w c =
-    if c == coins (log_of events) + 1 then is_some (wallet_owner events w) else was_declared_before events w c
-was_declared_before (event ∷ events) w c = was_declared_before events w c
+-- the coin was deposited by this call behind these events, before which both wallets were declared
+pub record AreDeclaredBefore (events : List Event) (v w c : ℕ) : Type 0 where
+  pub later : List Event
+  pub account : ℕ
+  pub amount : ℕ
+  pub key : List ℕ
+  pub earlier : List Event
+  pub events_are : events ≡ later ++ Joins (RootCall.Deposit account amount key) ∷ earlier
+  pub coin : c ≡ coins (log_of earlier) + 1
+  pub one : is_some (wallet_owner earlier v) ≡ true
+  pub other : is_some (wallet_owner earlier w) ≡ true
 
 -- Two wallets that were declared before its deposit don't both hold a coin, unless the trace exhibits.
 abbrev pub OneWalletHolds : Type 0
 OneWalletHolds = (dig : List ℕ → List ℕ) (lines : List Line) (run : Run) (world : World) (v w c d e : ℕ)
-    → IsRun dig lines run world → v ≢ w
-    → was_declared_before (events_of run.entries) v c ≡ true → was_declared_before (events_of run.entries) w c ≡ true
+    → IsRun dig lines run world → v ≢ w → AreDeclaredBefore (events_of run.entries) v w c
     → collides dig (events_of run.entries) c ≡ false
     → is_forged world.chain.tag (events_of run.entries) v c ≡ false
     → is_forged world.chain.tag (events_of run.entries) w c ≡ false
     → holds (events_of run.entries) v c d ≡ true → holds (events_of run.entries) w c e ≡ true → ⊥
+
+-- ---- the words of the headline, and the printed lines
+
+-- each tick was attended where no line is the first that wasn't
+abbrev pub AttendedIsNoneUnattended : Type 0
+AttendedIsNoneUnattended = (events : List Event) (w c e : ℕ)
+    → is_attended events w c e ≡ is_none (first_unattended events w c e)
+
+-- a collision at a coin, and a forgery at it for a wallet, are exhibited
+abbrev pub ExhibitsAreShown : Type 0
+ExhibitsAreShown = (dig : List ℕ → List ℕ) (tag : List ℕ) (events : List Event) (w c : ℕ)
+    → (collides dig events c ≡ true) ⊎ (is_forged tag events w c ≡ true)
+    → exhibit_of dig tag events ≢ Exhibit.Nothing
+
+-- an event of a run harms a holder exactly where it takes the coin
+abbrev pub HarmsAreTakings : Type 0
+HarmsAreTakings = (dig : List ℕ → List ℕ) (lines : List Line) (run : Run) (world : World)
+    (later events : List Event) (event : Event) (me : Owner) (w c e : ℕ)
+    → IsRun dig lines run world → events_of run.entries ≡ later ++ event ∷ events
+    → wallet_owner events w ≡ Some me → holds events w c e ≡ true
+    → is_harmed (tests_by dig) (rules_of world.chain) events w c e event
+    ≡ takes_from (tests_by dig) (rules_of world.chain) events me w c e event
 
 -- A verdict `lost` stands only above an exhibit.
 abbrev pub LostIsExhibited : Type 0
@@ -74,44 +125,52 @@ LostIsExhibited = (dig : List ℕ → List ℕ) (lines : List Line) (run : Run) 
     → IsRun dig lines run world → Contains (verdicts_of dig run) verdict → verdict.kind ≡ VerdictKind.Lost
     → exhibit_of_run dig run ≢ Exhibit.Nothing
 
--- the calls that a node's watch offers, where it was the node's last command and no call was accepted since
-unfoldable pub fresh_offers : List Event → ℕ → List RootCall
-fresh_offers [] n = []
-fresh_offers (event ∷ events) n =
-    if is_command_of n event then (if is_watch event then offered event else [])
-    else if is_joined event then []
-    else fresh_offers events n
+-- ---- what is offered is taken
 
 -- a Before whose account can't pay the bond
 abbrev pub lacks_bond : List RootCall → RootCall → Bool
 lacks_bond log (RootCall.Before account coin exit shown) = nat_lt (balance_of log account) CHALLENGE_BOND
 lacks_bond log call = false
 
+-- the node watched, and since then it had no command and no call was accepted
+pub record IsFreshWatch (events : List Event) (n : ℕ) (calls : List RootCall) : Type 0 where
+  pub later : List Event
+  pub earlier : List Event
+  pub events_are : events ≡ later ++ Watches n calls ∷ earlier
+  pub since : list_any (λ event. is_command_of n event || is_joined event) later ≡ false
+
 -- A call that a watch offers is accepted where no call was accepted since, unless it is a Before for which its account
 -- doesn't have the money; where the trace shows no clash at its coin.
 abbrev pub DueCallsAreTaken : Type 0
-DueCallsAreTaken = (dig : List ℕ → List ℕ) (lines : List Line) (run : Run) (world : World) (n : ℕ) (call : RootCall)
-    → IsRun dig lines run world → Contains (fresh_offers (events_of run.entries) n) call
+DueCallsAreTaken = (dig : List ℕ → List ℕ) (lines : List Line) (run : Run) (world : World) (n : ℕ)
+    (calls : List RootCall) (call : RootCall)
+    → IsRun dig lines run world → IsFreshWatch (events_of run.entries) n calls → Contains calls call
     → collides dig (events_of run.entries) (coin_of_call call) ≡ false
     → lacks_bond world.chain.log call ≡ false
     → is_accepted (answer_to (tests_by dig) (rules_of world.chain) world.chain.log call) ≡ true
 
--- the call starts an exit
-abbrev pub is_start : RootCall → Bool
-is_start (RootCall.StartDeposit account coin block) = true
-is_start (RootCall.StartSpend account coin parent exit) = true
-is_start call = false
+-- the account of a call that starts an exit
+abbrev pub starter : RootCall → Option ℕ
+starter (RootCall.StartDeposit account coin block) = Some account
+starter (RootCall.StartSpend account coin parent exit) = Some account
+starter call = None
 
--- the answer accepts a start, or says that the exit stands, or that the balance is less than the bond
-abbrev pub IsTaken : Answer → Type 0
-IsTaken answer =
-    (is_accepted answer ≡ true) ⊎ (answer ≡ Answer.Refused Refusal.ExitStands)
-    ⊎ ((has : ℕ) × (answer ≡ Answer.Refused (Refusal.NoFunds has EXIT_BOND)) × (has < EXIT_BOND))
+-- the answer accepts a start by the account; or the exit stands, or the balance is less than the bond, and the answer
+-- says so
+abbrev pub IsTaken : List RootCall → ℕ → RootCall → Answer → Type 0
+IsTaken log account call answer =
+    (is_accepted answer ≡ true)
+    ⊎ ((answer ≡ Answer.Refused Refusal.ExitStands)
+    × (is_some (exit_at log (coin_of_call call) (exit_block call)) ≡ true))
+    ⊎ ((answer ≡ Answer.Refused (Refusal.NoFunds (balance_of log account) EXIT_BOND))
+    × (balance_of log account < EXIT_BOND))
 
 -- A start that a wallet offers is taken while the wallet holds the coin at the exit's block, but where the exit stands
 -- or the money is missing.
 abbrev pub StartsAreTaken : Type 0
-StartsAreTaken = (dig : List ℕ → List ℕ) (lines : List Line) (run : Run) (world : World) (w : ℕ) (call : RootCall)
-    → IsRun dig lines run world → Contains (offers_of (events_of run.entries) w) call → is_start call ≡ true
+StartsAreTaken = (dig : List ℕ → List ℕ) (lines : List Line) (run : Run) (world : World) (w account : ℕ)
+    (call : RootCall)
+    → IsRun dig lines run world → Contains (offers_of (events_of run.entries) w) call → starter call ≡ Some account
     → holds (events_of run.entries) w (coin_of_call call) (exit_block call) ≡ true
-    → IsTaken (answer_to (tests_by dig) (rules_of world.chain) world.chain.log call)
+    → IsTaken world.chain.log account call
+    (answer_to (tests_by dig) (rules_of world.chain) world.chain.log call)
