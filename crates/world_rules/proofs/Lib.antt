@@ -2,3 +2,4 @@ pub mod Shapes
 pub mod OwnEvents
 pub mod StepLaws
 pub mod Existence
+pub mod ByteTexts
