@@ -1,8 +1,9 @@
 -- Texts of numbers, digests, keys, bodies and signatures are bytes.
-use Rattle.std.proofs.Common.{◌≡◌, ℕ, zero, suc, ◌+◌, ◌-◌, ◌*◌, ◌<◌, ◌%◌, ◌/◌, true, false, if◌then◌else◌, List, [], ◌∷◌, ◌++◌, length, Option, Some, None, arith, lit<}
+use Rattle.std.proofs.Common.{◌≡◌, ℕ, zero, suc, ◌+◌, ◌-◌, ◌*◌, ◌<◌, ◌%◌, ◌/◌, true, false, if◌then◌else◌, List, [], ◌∷◌, ◌++◌, length, Option, Some, None, subst, arith, lit<}
 use Rattle.std.specs.Prelude.{nat_le, slice_index, take, drop}
 use Rattle.std.specs.Int.{w32, to_be_bytes}
 use Rattle.std.proofs.Math.Nat.{mod-lt}
+use Rattle.std.proofs.Math.Seq.{take-append_seam, drop-append_seam}
 use Rattle.std.proofs.lemmas.List.{length-append}
 use Rattle.std.proofs.lemmas.List.Elements.{All-nil, All-cons, All-append, All-take, All-drop}
 use Rattle.sha2.specs.Sha256.{sha256, digest_bytes, final_hash, initial_hash_256}
@@ -150,3 +151,11 @@ small-body body tag key =
     (small-number body.parent))
     (small-owner body.to key))
     (small-last body.last)
+
+-- ---- parts
+
+pub small-front : (front bytes : List ℕ) → Small (front ++ bytes) → Small front
+small-front front bytes small = subst Small (take-append_seam front bytes) (small-take (length front) small)
+
+pub small-back : (front bytes : List ℕ) → Small (front ++ bytes) → Small bytes
+small-back front bytes small = subst Small (drop-append_seam front bytes) (small-drop (length front) small)

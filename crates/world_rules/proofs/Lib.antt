@@ -3,3 +3,4 @@ pub mod OwnEvents
 pub mod StepLaws
 pub mod Existence
 pub mod ByteTexts
+pub mod ItemTexts
