@@ -28,7 +28,7 @@ use Rattle.world_rules.proofs.ByteTexts.{Small, small-nil, small-cons, small-app
 -- ---- bundles
 
 -- each opening's bytes are bytes
-abbrev IsSmallOpening : RawOpening → Type 0
+abbrev pub IsSmallOpening : RawOpening → Type 0
 IsSmallOpening opening = Small opening.bytes
 
 abbrev pub AreSmallOpenings : List RawOpening → Type 0
@@ -88,7 +88,7 @@ kept-small rules coin (opening ∷ openings) small =
 
 -- ---- the operator's trees
 
-abbrev IsSmallEntry : Entry → Type 0
+abbrev pub IsSmallEntry : Entry → Type 0
 IsSmallEntry entry = Small entry.leaf
 
 abbrev pub IsSmallTree : List Entry → Type 0
@@ -104,7 +104,7 @@ leaf-small (entry ∷ entries) coin small =
       | false ↦ rest
     ]
 
-all-join : {X : Type 0} (P : X → Type 0) (xs ys : List X) → AllByRecursion P xs → AllByRecursion P ys
+pub all-join : {X : Type 0} (P : X → Type 0) (xs ys : List X) → AllByRecursion P xs → AllByRecursion P ys
     → AllByRecursion P (xs ++ ys)
 all-join P [] ys first second = second
 all-join P (x ∷ xs) ys first second = (first.0, all-join P xs ys first.1 second)
@@ -113,7 +113,7 @@ entry-small : (coin : ℕ) (leaf : List ℕ) → Small leaf → IsSmallTree (ent
 entry-small coin [] small = tt
 entry-small coin (byte ∷ bytes) small = (small, tt)
 
-tree-with : (tree : List Entry) (coin : ℕ) (leaf : List ℕ) → IsSmallTree tree → Small leaf
+pub tree-with : (tree : List Entry) (coin : ℕ) (leaf : List ℕ) → IsSmallTree tree → Small leaf
     → IsSmallTree (with_leaf tree coin leaf)
 tree-with tree coin leaf small leaf_small =
     let lower : Entry → Bool = λ entry. nat_lt entry.coin coin in
@@ -155,7 +155,7 @@ siblings-small path [] small = small-nil
 siblings-small path (level ∷ levels) small =
     small-append (place-small path level small) (siblings-small path levels small)
 
-opening-small : (dig : List ℕ → List ℕ) → IsDigest dig → (coin n : ℕ) (tree : List Entry) → IsSmallTree tree
+pub opening-small : (dig : List ℕ → List ℕ) → IsDigest dig → (coin n : ℕ) (tree : List Entry) → IsSmallTree tree
     → IsSmallOpening (opening_in_tree dig coin n tree)
 unfolding opening_text proof_text proof_of_path kept_siblings path_to
 opening-small dig is coin n tree small =

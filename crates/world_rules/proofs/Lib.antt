@@ -4,3 +4,4 @@ pub mod StepLaws
 pub mod Existence
 pub mod ByteTexts
 pub mod ItemTexts
+pub mod OperatorItems
