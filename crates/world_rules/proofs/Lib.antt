@@ -5,3 +5,6 @@ pub mod Existence
 pub mod ByteTexts
 pub mod ItemTexts
 pub mod OperatorItems
+pub mod Said
+pub mod WalletEnds
+pub mod Handed
