@@ -8,3 +8,5 @@ pub mod OperatorItems
 pub mod Said
 pub mod WalletEnds
 pub mod Handed
+pub mod KeptWallet
+pub mod WalletAccepts
