@@ -10,3 +10,5 @@ pub mod WalletEnds
 pub mod Handed
 pub mod KeptWallet
 pub mod WalletAccepts
+pub mod WalletSends
+pub mod WalletNotes
