@@ -12,3 +12,4 @@ pub mod KeptWallet
 pub mod WalletAccepts
 pub mod WalletSends
 pub mod WalletNotes
+pub mod HeldSame

@@ -15,7 +15,7 @@ pub record Said : Type 0 where
   pub accepted : List Bundle
   pub guarded : List Bundle
 
-pub said : List Event → ℕ → Said
+unfoldable pub said : List Event → ℕ → Said
 said events n = record {
   owner = wallet_owner events n;
   bound = bound_by events n;
