@@ -13,3 +13,4 @@ pub mod WalletAccepts
 pub mod WalletSends
 pub mod WalletNotes
 pub mod HeldSame
+pub mod KeptWatcher
