@@ -14,3 +14,5 @@ pub mod WalletSends
 pub mod WalletNotes
 pub mod HeldSame
 pub mod KeptWatcher
+pub mod KeptNode
+pub mod NodeCommands
