@@ -16,3 +16,4 @@ pub mod HeldSame
 pub mod KeptWatcher
 pub mod KeptNode
 pub mod NodeCommands
+pub mod NewNodes
