@@ -17,3 +17,4 @@ pub mod KeptWatcher
 pub mod KeptNode
 pub mod NodeCommands
 pub mod NewNodes
+pub mod KeptWorld
