@@ -18,3 +18,4 @@ pub mod KeptNode
 pub mod NodeCommands
 pub mod NewNodes
 pub mod KeptWorld
+pub mod NodeEvents
