@@ -19,3 +19,4 @@ pub mod NodeCommands
 pub mod NewNodes
 pub mod KeptWorld
 pub mod NodeEvents
+pub mod FitLines
