@@ -1,11 +1,11 @@
 -- Texts of numbers, digests, keys, bodies and signatures are bytes.
 use Rattle.std.proofs.Common.{◌≡◌, ℕ, zero, suc, ◌+◌, ◌-◌, ◌*◌, ◌<◌, ◌%◌, ◌/◌, true, false, if◌then◌else◌, List, [], ◌∷◌, ◌++◌, length, Option, Some, None, subst, arith, lit<}
-use Rattle.std.specs.Prelude.{nat_le, slice_index, take, drop}
+use Rattle.std.specs.Prelude.{nat_le, slice_index, take, drop, replicate}
 use Rattle.std.specs.Int.{w32, to_be_bytes}
 use Rattle.std.proofs.Math.Nat.{mod-lt}
 use Rattle.std.proofs.Math.Seq.{take-append_seam, drop-append_seam}
 use Rattle.std.proofs.lemmas.List.{length-append}
-use Rattle.std.proofs.lemmas.List.Elements.{All-nil, All-cons, All-append, All-take, All-drop}
+use Rattle.std.proofs.lemmas.List.Elements.{All-nil, All-cons, All-append, All-take, All-drop, All-replicate}
 use Rattle.sha2.specs.Sha256.{sha256, digest_bytes, final_hash, initial_hash_256}
 use Rattle.lms_sign.specs.declared.secret.Secret.{Secret}
 use Rattle.lms_sign.specs.Types.{u32str, chains, height, leaf_count}
@@ -159,3 +159,8 @@ small-front front bytes small = subst Small (take-append_seam front bytes) (smal
 
 pub small-back : (front bytes : List ℕ) → Small (front ++ bytes) → Small bytes
 small-back front bytes small = subst Small (drop-append_seam front bytes) (small-drop (length front) small)
+
+-- ---- zeros
+
+pub small-zeros : (n : ℕ) → Small (replicate n 0)
+small-zeros n = record { are = All-replicate (λ byte. byte < 256) n 0 (lit< tt) }

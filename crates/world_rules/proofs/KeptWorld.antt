@@ -99,7 +99,7 @@ module _ (dig : List ℕ → List ℕ) (events : List Event) (world : World) (ke
           (all-found IsGoodRogue (λ r. bytes_eq r.name name) world.rogues rogue kept.rogues found).0
       at None None none other is = absurd (cc is)
 
-  to-owner : (to : HexOrName) (owner : Owner) → IsHexOrName OWNER_BYTES to → new_owner_of world to ≡ Some owner
+  pub to-owner : (to : HexOrName) (owner : Owner) → IsHexOrName OWNER_BYTES to → new_owner_of world to ≡ Some owner
       → IsGoodOwner owner
   to-owner (HexOrName.Hex bytes) owner fits is =
       subst IsGoodOwner (some_same (owner_in bytes) owner is) (hex-owner bytes (record { are = fits.0 }) fits.1)

@@ -20,3 +20,4 @@ pub mod NewNodes
 pub mod KeptWorld
 pub mod NodeEvents
 pub mod FitLines
+pub mod KeptLines

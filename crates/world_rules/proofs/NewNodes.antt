@@ -102,3 +102,10 @@ new-watcher-kept dig me is = record {
   is = ap (λ (o : Option WatcherIdentity). is_some o && true) (watcher_in-text me is);
   guards = λ c e. refl;
 }
+
+-- ---- rogues
+
+pub good-secret : (who : WalletIdentity) → who.account < 2 ^ 64
+    → IsGoodOwner (record { account = who.account; key = public_key_of (secret_of who) })
+unfolding owner_of
+good-secret who fits = good-owner who fits
