@@ -44,7 +44,7 @@ use Rattle.world_rules.proofs.KeptWorld.{KeptWorld, IsGoodRogue, to-owner, few-b
 use Rattle.world_rules.proofs.NodeEvents.{IsTold, command-told, cut-of, other-of}
 use Rattle.std.specs.Str.{bytes_eq}
 use Rattle.lms_sign.specs.Types.{is_supported}
-use Rattle.world_rules.proofs.NewNodes.{new-wallet-kept, new-watcher-kept, good-secret}
+use Rattle.world_rules.proofs.NewNodes.{new-wallet-kept, new-watcher-kept, good-secret, small-padded}
 use Rattle.node_rules.specs.Watcher.{identity_text as watcher_text, WatcherIdentity}
 use Rattle.line_forms.specs.Tokens.{IsHexOrName}
 use Rattle.line_forms.specs.declared.tokens.TheConstants.{OWNER_BYTES}
@@ -236,9 +236,6 @@ module _ (dig : List ℕ → List ℕ) (is_digest : IsDigest dig) (events : List
 
     -- ---- declarations
 
-    padded-small : (number : ℕ) → Small (padded number)
-    padded-small number = small-append (small-zeros 24) (small-number number)
-
     wallet-identity : (account seed : ℕ) (types : Option LmsTypes) → account < 2 ^ 64
         → is_supported (types_or_first types) ≡ true → IsIdentity (declared_wallet world account seed types)
     wallet-identity account seed types fits supported =
@@ -257,7 +254,7 @@ module _ (dig : List ℕ → List ℕ) (is_digest : IsDigest dig) (events : List
           (record {
             wallet = λ role.
                 new-wallet-kept dig me (wallet-identity account seed types fits supported) world.chain.log n
-                kept.tag (padded-small seed);
+                kept.tag (small-padded seed);
             watcher = λ role. absurd (false≢true role);
             operator = λ role. absurd (false≢true role);
           }));

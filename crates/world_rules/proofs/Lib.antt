@@ -21,3 +21,4 @@ pub mod KeptWorld
 pub mod NodeEvents
 pub mod FitLines
 pub mod KeptLines
+pub mod KeptRun

@@ -27,12 +27,13 @@ use Rattle.node_rules.specs.WatcherLaws.{IsIdentity as IsWatcherIdentity}
 use Rattle.node_rules.proofs.WalletTexts.{identity_in-text}
 use Rattle.node_rules.proofs.WatcherTexts.{identity_in-text as watcher_in-text}
 use Rattle.world_rules.specs.Events.{Declares}
-use Rattle.world_rules.proofs.ByteTexts.{Small, small-nil, small-cons, small-append, small-take, small-number, small-short, small-sha256, small-key, length-key}
+use Rattle.world_rules.proofs.ByteTexts.{Small, small-nil, small-cons, small-append, small-take, small-number, small-short, small-sha256, small-key, length-key, small-zeros}
 use Rattle.world_rules.proofs.OperatorItems.{AreSmallRecords}
 use Rattle.world_rules.proofs.Said.{Said, nothing_said, told}
 use Rattle.world_rules.proofs.KeptWallet.{KeptWallet}
 use Rattle.world_rules.proofs.KeptWatcher.{KeptWatcher}
 use Rattle.world_rules.proofs.KeptNode.{IsGoodOwner}
+use Rattle.world_rules.specs.World.{padded}
 
 -- ---- owners
 
@@ -47,6 +48,10 @@ good-owner who fits = record {
 }
 
 -- ---- wallets
+
+-- a padded number is bytes
+pub small-padded : (number : ℕ) → Small (padded number)
+small-padded number = small-append (small-zeros 24) (small-number number)
 
 small-common : (who : WalletIdentity) → Small who.tag → Small who.seed → Small (common_text who)
 small-common who tag seed = small-append (small-append tag (small-number who.account)) seed
