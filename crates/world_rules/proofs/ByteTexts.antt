@@ -15,7 +15,7 @@ use Rattle.lms_sign.proofs.Lists.{length-u32str}
 use Rattle.lms_sign.proofs.Nodes.{length-tree_node}
 use Rattle.plasma_tx.specs.declared.owner.Owner.{Owner}
 use Rattle.plasma_tx.specs.declared.body.Body.{Body}
-use Rattle.plasma_tx.specs.Spelling.{AreBytes, number_text, owner_text, mark_of, last_text, common_text, body_text}
+use Rattle.plasma_tx.specs.Spelling.{AreBytes, number_text, owner_text, mark_of, last_text, body_text}
 
 -- the numbers are bytes; a record, so that its list can be found from it
 pub record Small (bytes : List ℕ) : Type 0 where
@@ -89,8 +89,12 @@ small-key secret small =
 pub length-key : (secret : Secret) → length secret.id ≡ 16 → length (public_key_of secret) ≡ 56
 unfolding public_key_of
 length-key secret long =
-    simp length-append (omega (arith, length-u32str secret.types.lms, length-u32str secret.types.ots,
-    length-tree_node secret 1))
+    simp length-append (omega (
+      arith,
+      length-u32str secret.types.lms,
+      length-u32str secret.types.ots,
+      length-tree_node secret 1,
+    ))
 
 small-path : (secret : Secret) (levels r : ℕ) → Small (authentication_path secret levels r)
 unfolding authentication_path

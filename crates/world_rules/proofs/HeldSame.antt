@@ -3,27 +3,24 @@ use Rattle.std.proofs.Common.{◌≡◌, ℕ, zero, suc, ◌+◌, ◌<◌, ◌==
 use Rattle.std.specs.Prelude.{reverse, slice_get, find}
 use Rattle.std.specs.List.{list_any, range_with_len}
 use Rattle.std.specs.Option.{option_map_or}
-use Rattle.std.proofs.lemmas.Bool.{true≢false, false≢true}
-use Rattle.std.proofs.lemmas.List.{reverse-append, length-reverse, length-append, length-map, map-append}
+use Rattle.std.proofs.lemmas.List.{reverse-append, length-reverse, length-map, map-append}
 use Rattle.std.proofs.lemmas.List.Folds.{list_any-append}
 use Rattle.plasma_tx.specs.declared.owner.Owner.{Owner}
 use Rattle.plasma_tx.specs.declared.body.Body.{Body}
 use Rattle.plasma_tx.specs.declared.call.RootCall.{RootCall}
 use Rattle.plasma_tx.specs.declared.views.CoinView.{CoinView}
 use Rattle.plasma_tx.specs.Views.{coin_at, is_withdrawn}
-use Rattle.coin_history.specs.declared.bundle.Bundle.{Bundle}
 use Rattle.wallet_core.specs.declared.notes.CoinTip.{CoinTip}
 use Rattle.wallet_core.specs.declared.notes.LeafRecord.{LeafRecord}
 use Rattle.wallet_core.specs.declared.notes.Notes.{Notes}
-use Rattle.wallet_core.specs.State.{is_owner, own_deposit, noted_tips, tips_of, spends_tip, sends_by, sending_leaf, is_noted, is_signed_away, holds as wallet_holds}
+use Rattle.wallet_core.specs.State.{is_owner, own_deposit, noted_tips, tips_of, spends_tip, sends_by, sending_leaf, is_noted, holds as wallet_holds}
 use Rattle.node_rules.specs.WalletRecords.{notes_of, owner_of, leaves_in}
 use Rattle.node_rules.specs.Wallet.{WalletRecords, who, noted}
-use Rattle.world_rules.specs.Events.{Event, log_of, wallet_owner, accepted, bound_by, taken_back, is_taken, not_taken, signed_away_by, is_sent_from, is_bundle}
+use Rattle.world_rules.specs.Events.{Event, log_of, wallet_owner, accepted, is_taken, not_taken, signed_away_by, is_sent_from, is_bundle}
 use Rattle.world_rules.specs.World.{Node, wallet_of}
 use Rattle.world_rules.specs.Safety.{was_deposited, holds_with, holds}
 use Rattle.world_rules.specs.Laws.{AreKept}
 use Rattle.world_rules.proofs.Said.{Said, said}
-use Rattle.world_rules.proofs.Handed.{IsKnownCoin}
 use Rattle.world_rules.proofs.KeptWallet.{KeptWallet, state-me}
 
 -- ---- lists

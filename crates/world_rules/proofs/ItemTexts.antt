@@ -1,29 +1,25 @@
 -- Bundles and the operator's openings are bytes, and so is what is kept of a bundle that is.
-use Rattle.std.proofs.Common.{◌≡◌, ℕ, zero, suc, ◌==◌, ◌&&◌, nat_lt, Bool, true, false, cond, if◌then◌else◌, List, [], ◌∷◌, ◌++◌, map, filter, drop, length, Option, Some, None, Ok, refl, sym, ap, subst}
-use Rattle.std.specs.Prelude.{Result, reverse, slice_index_or, not, nat_le, find, option_map, option_and_then}
-use Rattle.std.specs.List.{AllByRecursion, concat, flat_map, filter_map, cons_option, range_with_len}
-use Rattle.std.specs.Str.{bytes_eq}
-use Rattle.line_forms.proofs.FormLaws.{and_then_some}
+use Rattle.std.proofs.Common.{◌≡◌, ℕ, zero, suc, ◌==◌, nat_lt, Bool, true, false, if◌then◌else◌, List, [], ◌∷◌, ◌++◌, map, filter, length, Some, None, Ok, subst}
+use Rattle.std.specs.Prelude.{slice_index_or, not, option_map}
+use Rattle.std.specs.List.{AllByRecursion, concat, flat_map, cons_option, range_with_len}
 use Rattle.sparse_merkle.specs.declared.tree.Entry.{Entry}
 use Rattle.sparse_merkle.specs.MaskedPath.{proof_text}
 use Rattle.sparse_merkle.specs.PathProof.{is_default_at, kept_siblings, proof_of_path}
-use Rattle.sparse_merkle.specs.TreeDigest.{leaf_of, entry_of, with_leaf, subtree_digest, root_of, near_part, far_part, path_below, path_to}
+use Rattle.sparse_merkle.specs.TreeDigest.{leaf_of, entry_of, with_leaf, subtree_digest, near_part, far_part, path_below, path_to}
 use Rattle.plasma_tx.specs.declared.opening.RawOpening.{RawOpening}
 use Rattle.plasma_tx.specs.declared.links.Link.{Link}
-use Rattle.plasma_tx.specs.declared.links.Links.{Links}
 use Rattle.plasma_tx.specs.declared.signed_tx.SignedTx.{SignedTx}
-use Rattle.plasma_tx.specs.declared.call.RootCall.{RootCall}
 use Rattle.plasma_tx.specs.Openings.{opening_text}
-use Rattle.plasma_tx.specs.Spelling.{AreBytes, number_text}
-use Rattle.root_rules.specs.Shown.{Rules, root_at}
-use Rattle.root_rules.proofs.Each.{all-append, all-filter, all-found}
+use Rattle.plasma_tx.specs.Spelling.{number_text}
+use Rattle.root_rules.specs.Shown.{Rules}
+use Rattle.root_rules.proofs.Each.{all-append, all-filter}
 use Rattle.coin_history.specs.declared.bundle.Bundle.{Bundle}
 use Rattle.coin_history.specs.Bundles.{item_text, length_text, bundle_text, bundle_in}
 use Rattle.coin_history.specs.History.{transfer_of, links_in}
 use Rattle.coin_history.proofs.BundleLaws.{text-bundle_in}
-use Rattle.operator_rules.specs.Trees.{Forest, coin_named, forest_of, tree_of, tree_at, opening_in_tree}
+use Rattle.operator_rules.specs.Trees.{opening_in_tree}
 use Rattle.world_rules.specs.Laws.{IsDigest}
-use Rattle.world_rules.proofs.ByteTexts.{Small, small-nil, small-cons, small-append, small-take, small-drop, small-number, small-short, small-front, small-back}
+use Rattle.world_rules.proofs.ByteTexts.{Small, small-nil, small-append, small-number, small-short, small-front, small-back}
 
 -- ---- bundles
 

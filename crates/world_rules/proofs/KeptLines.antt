@@ -1,5 +1,5 @@
 -- Each line in the grammar keeps what events say of nodes what their records are, and makes bytes.
-use Rattle.std.proofs.Common.{◌≡◌, ℕ, ◌+◌, ◌^◌, ◌<◌, ◌≤◌, ◌==◌, ◌&&◌, not, Bool, true, false, if◌then◌else◌, List, [], ◌∷◌, ◌++◌, length, Option, Some, None, refl, sym, ap, ◌∙◌, subst, arith, le_refl}
+use Rattle.std.proofs.Common.{◌≡◌, ℕ, ◌^◌, ◌<◌, ◌≤◌, ◌&&◌, not, Bool, true, false, if◌then◌else◌, List, [], ◌∷◌, ◌++◌, length, Option, Some, None, refl, sym, ap, ◌∙◌, subst, arith, le_refl}
 use Rattle.std.specs.Prelude.{slice_get, option_map, option_and_then}
 use Rattle.std.proofs.lemmas.Bool.{and_parts, eq-eqb, false≢true}
 use Rattle.gate_journal.specs.Laws.{is_added}
@@ -7,12 +7,11 @@ use Rattle.line_forms.specs.declared.tokens.OutcomeToken.{OutcomeToken}
 use Rattle.line_forms.specs.declared.tokens.HexOrName.{HexOrName}
 use Rattle.line_forms.proofs.FormLaws.{option_map_some, and_then_some}
 use Rattle.lms_sign.specs.declared.types.LmsTypes.{LmsTypes}
-use Rattle.lms_sign.specs.Tree.{signature_of}
 use Rattle.plasma_tx.specs.declared.owner.Owner.{Owner}
 use Rattle.plasma_tx.specs.declared.body.Body.{Body}
 use Rattle.plasma_tx.specs.declared.call.RootCall.{RootCall}
 use Rattle.plasma_tx.specs.declared.answer.Answer.{Answer}
-use Rattle.plasma_tx.specs.Chain.{Chain, with_log}
+use Rattle.plasma_tx.specs.Chain.{with_log}
 use Rattle.plasma_tx.specs.Spelling.{body_text}
 use Rattle.plasma_tx.specs.Views.{blocks}
 use Rattle.plasma_tx.proofs.Names.{some_same}
@@ -28,20 +27,20 @@ use Rattle.node_rules.specs.WalletLaws.{IsIdentity}
 use Rattle.node_rules.specs.WalletRecords.{owner_of, secret_of, identity_text as wallet_text}
 use Rattle.world_rules.specs.declared.reply.Reply.{Reply}
 use Rattle.world_rules.specs.Events.{Event, Declares, Joins, Bounces, Other, Idle, log_of}
-use Rattle.world_rules.specs.World.{Role, Wallet, Watcher, Operator, Node, Rogue, World, wallet_of, with_node, padded, any_role, number_of, is_named, rogue_named, owner_named, new_owner_of, call_of}
+use Rattle.world_rules.specs.World.{Role, Wallet, Watcher, Node, Rogue, World, with_node, any_role, number_of, is_named, rogue_named, owner_named, new_owner_of, call_of}
 use Rattle.world_rules.specs.Declarations.{plays, declared_wallet, types_or_first}
 use Rattle.world_rules.specs.Deeds.{Deed, deed_of}
-use Rattle.world_rules.specs.Steps.{LineEffect, says, declares_wallet, declares_watcher, declares_rogue, log_in, called, raw_called, deposit_by, event_of_call, offer_numbered, entered, is_opening, answers_down, with_records, after_command, after_crash, commanded, down, crashed, outcome_of, is_stopped, without_offers, stopped, finished, cut, act_at, act_on, command_effect, cut_effect, signed_by, signed_body, effect_in, new_node}
+use Rattle.world_rules.specs.Steps.{LineEffect, says, declares_wallet, declares_watcher, declares_rogue, log_in, called, raw_called, deposit_by, offer_numbered, entered, is_opening, answers_down, with_records, after_command, after_crash, commanded, down, crashed, outcome_of, is_stopped, without_offers, stopped, finished, cut, act_on, command_effect, cut_effect, signed_by, signed_body, effect_in, new_node}
 use Rattle.world_rules.specs.Laws.{IsDigest}
-use Rattle.world_rules.proofs.ByteTexts.{Small, small-nil, small-append, small-body, small-signature, small-number, small-zeros}
+use Rattle.world_rules.proofs.ByteTexts.{Small, small-nil, small-append, small-body, small-signature}
 use Rattle.world_rules.proofs.Shapes.{acted, IsCut, Kept, Lost, is_cut}
 use Rattle.world_rules.proofs.OwnEvents.{of_node}
 use Rattle.world_rules.proofs.Existence.{position-is}
-use Rattle.world_rules.proofs.Said.{Said, said, nothing_said, told, said-own, said-other}
+use Rattle.world_rules.proofs.Said.{Said, said, told, said-own, said-other}
 use Rattle.world_rules.proofs.KeptNode.{KeptNode, IsGoodOwner, IsFit, IsKeptDeed}
 use Rattle.world_rules.proofs.NodeCommands.{command-kept}
-use Rattle.world_rules.proofs.KeptWorld.{KeptWorld, IsGoodRogue, to-owner, few-blocks, world-feeds, IsSilent, kept-silent, kept-callers, kept-joins, IsOf, kept-node, kept-new, kept-rogue}
-use Rattle.world_rules.proofs.NodeEvents.{IsTold, command-told, cut-of, other-of}
+use Rattle.world_rules.proofs.KeptWorld.{KeptWorld, to-owner, world-feeds, IsSilent, kept-silent, kept-callers, kept-joins, kept-node, kept-new, kept-rogue}
+use Rattle.world_rules.proofs.NodeEvents.{command-told, cut-of, other-of}
 use Rattle.std.specs.Str.{bytes_eq}
 use Rattle.lms_sign.specs.Types.{is_supported}
 use Rattle.world_rules.proofs.NewNodes.{new-wallet-kept, new-watcher-kept, good-secret, small-padded}

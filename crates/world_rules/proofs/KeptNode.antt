@@ -1,49 +1,31 @@
 -- What events say of a node is what its records are, and each command keeps it so and makes bytes.
-use Rattle.std.proofs.Common.{◌≡◌, ℕ, ◌^◌, ◌<◌, ◌-◌, ◌==◌, Bool, true, false, if◌then◌else◌, List, [], ◌∷◌, ◌++◌, Option, Some, None, Ok, Err, refl, sym, ap, ◌∙◌, subst, zero, suc}
-use Rattle.std.specs.Prelude.{Result, IfSome, slice_get, unwrap_or, option_map}
-use Rattle.std.specs.List.{AllByRecursion}
+use Rattle.std.proofs.Common.{◌≡◌, ℕ, ◌^◌, ◌<◌, ◌-◌, ◌==◌, Bool, true, false, if◌then◌else◌, List, [], ◌∷◌, Option, Some, None, refl, sym, ◌∙◌, subst, zero, suc}
+use Rattle.std.specs.Prelude.{Result, IfSome, slice_get, unwrap_or}
 use Rattle.std.proofs.lemmas.Bool.{false≢true}
-use Rattle.node_journal.specs.Effect.{Effect}
-use Rattle.leaf_journal.specs.Records.{messages_of}
 use Rattle.line_forms.specs.declared.tokens.HexOrItem.{HexOrItem}
 use Rattle.line_forms.specs.declared.tokens.HexOrName.{HexOrName}
 use Rattle.line_forms.specs.declared.tokens.TheConstants.{OWNER_BYTES}
 use Rattle.line_forms.specs.Tokens.{IsHexOrItem, IsHexOrName}
-use Rattle.line_forms.proofs.FormLaws.{option_map_some}
-use Rattle.lms_sign.specs.Tree.{signature_of}
 use Rattle.plasma_tx.specs.declared.owner.Owner.{Owner}
-use Rattle.plasma_tx.specs.declared.opening.RawOpening.{RawOpening}
 use Rattle.plasma_tx.specs.declared.call.RootCall.{RootCall}
-use Rattle.plasma_tx.specs.Spelling.{IsOwner, body_text}
+use Rattle.plasma_tx.specs.Spelling.{IsOwner}
 use Rattle.plasma_tx.specs.Views.{blocks}
-use Rattle.plasma_tx.proofs.Names.{some_same}
-use Rattle.coin_history.specs.declared.bundle.Bundle.{Bundle}
-use Rattle.coin_history.specs.Bundles.{bundle_text}
 use Rattle.schedule_text.specs.declared.command.Command.{Command}
 use Rattle.schedule_text.specs.declared.command.WalletCommand.{WalletCommand}
 use Rattle.schedule_text.specs.declared.command.WatcherCommand.{WatcherCommand}
 use Rattle.schedule_text.specs.declared.command.OperatorCommand.{OperatorCommand}
-use Rattle.node_rules.specs.declared.answers.Sent.{Sent}
 use Rattle.node_rules.specs.declared.refusal.WalletRefusal.{WalletRefusal}
-use Rattle.node_rules.specs.WalletRecords.{secret_of, leaves_in}
-use Rattle.node_rules.specs.Wallet.{WalletRecords, WalletEffect, who, used, accept_effect, send_effect, last_leaf, again_by, again_answer, leave_effect, reclaim_effect, migrate_effect}
-use Rattle.node_rules.specs.WalletCommandLaws.{with_more, after, sent_body}
-use Rattle.node_rules.specs.Watcher.{guard_effect, release_effect}
-use Rattle.operator_rules.specs.declared.refusal.ProveRefusal.{ProveRefusal}
-use Rattle.operator_rules.specs.Commands.{offer_effect, lay_effect, seal_effect, prove_answer, bundle_answer, absences_answer}
-use Rattle.world_rules.specs.Causes.{wallet_cause, watcher_cause, offer_cause, lay_cause, seal_cause, prove_cause}
-use Rattle.world_rules.specs.World.{Role, Wallet, Watcher, Operator, Node, World, wallet_of, is_wallet_role, is_watcher_role, is_operator_role, item_of, bytes_of, new_owner_of}
-use Rattle.world_rules.specs.Deeds.{Gives, Deed, answered, wallet_deed, noting_deed, on_accepted, on_sent, on_sent_again, on_leaving, on_reclaimed, on_migrated, send_deed, wallet_command, on_guarded, on_released, watcher_command, on_pooled, on_laid, on_sealed, on_bundled, on_proved, operator_command, with_record}
+use Rattle.node_rules.specs.Wallet.{WalletEffect}
+use Rattle.node_rules.specs.WalletCommandLaws.{with_more, after}
+use Rattle.world_rules.specs.Causes.{wallet_cause}
+use Rattle.world_rules.specs.World.{Role, Wallet, Watcher, Operator, Node, World, wallet_of, is_wallet_role, is_watcher_role, is_operator_role, bytes_of, new_owner_of}
+use Rattle.world_rules.specs.Deeds.{Gives, Deed, answered, wallet_deed, with_record}
 use Rattle.world_rules.specs.Steps.{with_records}
-use Rattle.world_rules.proofs.ByteTexts.{Small, small-nil, small-append, small-signature, small-body}
-use Rattle.world_rules.proofs.OperatorItems.{AreSmallRecords, prove-small, bundle-made, absences-made, offer-noted, lay-noted, seal-noted}
+use Rattle.world_rules.proofs.ByteTexts.{Small, small-nil}
+use Rattle.world_rules.proofs.OperatorItems.{AreSmallRecords}
 use Rattle.world_rules.proofs.Said.{Said, told}
-use Rattle.world_rules.proofs.WalletEnds.{SendEnds, Refused, Sends, send_ends}
 use Rattle.world_rules.proofs.KeptWallet.{KeptWallet, records-push}
-use Rattle.world_rules.proofs.WalletAccepts.{accepts-kept}
-use Rattle.world_rules.proofs.WalletSends.{sends-kept}
-use Rattle.world_rules.proofs.WalletNotes.{reclaims-kept, leaves-kept, migrates-kept}
-use Rattle.world_rules.proofs.KeptWatcher.{KeptWatcher, guards-kept, releases-kept}
+use Rattle.world_rules.proofs.KeptWatcher.{KeptWatcher}
 
 -- what is said of a node is what its records are, by its role
 pub record KeptNode (dig : List ℕ → List ℕ) (s : Said) (log : List RootCall) (node : Node) : Type 0 where

@@ -1,6 +1,6 @@
 -- Over every run of lines in the grammar, what events say of wallets and watchers is what their disks keep.
-use Rattle.std.proofs.Common.{◌≡◌, ℕ, zero, suc, ◌^◌, ◌<◌, true, false, List, [], ◌∷◌, ◌++◌, Option, Some, None, refl, sym, ap, ◌∙◌, subst, arith, lit<}
-use Rattle.std.specs.Prelude.{option_map, slice_get}
+use Rattle.std.proofs.Common.{◌≡◌, ℕ, zero, suc, ◌^◌, ◌<◌, List, [], ◌∷◌, Option, Some, None, refl, sym, ◌∙◌, subst, arith, lit<}
+use Rattle.std.specs.Prelude.{slice_get}
 use Rattle.std.specs.List.{All}
 use Rattle.std.proofs.lemmas.Bool.{false≢true}
 use Rattle.std.proofs.lemmas.List.Elements.{All-head, All-tail}
@@ -10,8 +10,8 @@ use Rattle.schedule_text.specs.declared.line.Line.{Line}
 use Rattle.schedule_text.specs.Grammar.{IsLine}
 use Rattle.operator_rules.specs.Records.{identity_text as operator_text}
 use Rattle.world_rules.specs.Events.{Event, Idle, log_of}
-use Rattle.world_rules.specs.World.{Node, World, wallet_of, padded}
-use Rattle.world_rules.specs.Steps.{LineEffect, new_chain, new_world, operator_node, with_mail, step, Run, no_lines, with_line, step_run, run_of, events_of, TraceEntry, effect_of}
+use Rattle.world_rules.specs.World.{Node, World, padded}
+use Rattle.world_rules.specs.Steps.{LineEffect, new_chain, new_world, operator_node, step, Run, no_lines, with_line, step_run, run_of, events_of, TraceEntry, effect_of}
 use Rattle.world_rules.specs.Laws.{IsDigest, WalletsKeepWhatEventsSay, WatchersKeepWhatEventsSay}
 use Rattle.world_rules.proofs.ByteTexts.{Small, small-nil, small-cons, small-append, small-number}
 use Rattle.world_rules.proofs.StepLaws.{stepped}

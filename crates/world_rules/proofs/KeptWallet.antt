@@ -1,44 +1,23 @@
 -- What events say of a wallet and what its records are, and that an accept keeps them one.
-use Rattle.std.proofs.Common.{◌≡◌, ℕ, ◌^◌, ◌<◌, ◌==◌, ◌&&◌, ◌||◌, Bool, true, false, if◌then◌else◌, List, [], ◌∷◌, ◌++◌, map, Option, Some, None, Ok, Err, inl, inr, refl, sym, ap, ◌∙◌, subst}
-use Rattle.std.specs.Prelude.{Result, reverse, IfSome}
-use Rattle.std.specs.List.{All, list_any}
-use Rattle.std.proofs.lemmas.Bool.{eqb-true, or_cases, or_left, or_right, and_parts, and_from, eq-eqb}
-use Rattle.std.proofs.lemmas.List.Elements.{All-from_recursion}
-use Rattle.std.proofs.lemmas.List.Folds.{list_any-append}
+use Rattle.std.proofs.Common.{◌≡◌, ℕ, ◌==◌, Bool, true, List, [], ◌∷◌, ◌++◌, map, Some, refl, sym, ap, ◌∙◌, subst}
+use Rattle.std.specs.Prelude.{reverse}
+use Rattle.std.specs.List.{list_any}
 use Rattle.leaf_journal.specs.Records.{messages_of}
 use Rattle.plasma_tx.specs.declared.owner.Owner.{Owner}
-use Rattle.plasma_tx.specs.declared.links.Links.{Links}
 use Rattle.plasma_tx.specs.declared.call.RootCall.{RootCall}
-use Rattle.plasma_tx.specs.declared.views.CoinView.{CoinView}
-use Rattle.plasma_tx.specs.Links.{tip_of}
-use Rattle.plasma_tx.specs.Spelling.{AreBytes, IsOwner}
-use Rattle.plasma_tx.specs.Views.{blocks, coin_at}
-use Rattle.coin_history.specs.declared.bundle.Bundle.{Bundle}
+use Rattle.plasma_tx.specs.Spelling.{IsOwner}
 use Rattle.coin_history.proofs.HistoryGrow.{coin_at-grown}
-use Rattle.wallet_core.specs.declared.notes.CoinTip.{CoinTip}
 use Rattle.wallet_core.specs.declared.notes.Notes.{Notes}
 use Rattle.wallet_core.specs.State.{is_noted}
-use Rattle.node_rules.specs.declared.answers.Accepted.{Accepted}
-use Rattle.node_rules.specs.declared.refusal.WalletRefusal.{WalletRefusal}
 use Rattle.node_rules.specs.declared.identity.WalletIdentity.{WalletIdentity}
-use Rattle.node_rules.specs.Kept.{kept_of, links_handed}
-use Rattle.node_rules.specs.WalletRecords.{Note, Accepts as AcceptsNote, note_text, who_is, notes_of, owner_of, coin_tip, state_notes, leaves_in, LeavesWith, Reclaims}
-use Rattle.node_rules.specs.Wallet.{WalletRecords, WalletEffect, answers, notes_it, who, noted, accept_effect}
+use Rattle.node_rules.specs.WalletRecords.{Note, Accepts as AcceptsNote, who_is, owner_of, state_notes, leaves_in, LeavesWith, Reclaims}
+use Rattle.node_rules.specs.Wallet.{WalletRecords, who, noted}
 use Rattle.node_rules.specs.WalletOpening.{is_wallet}
-use Rattle.node_rules.specs.WalletLaws.{AddsNote}
-use Rattle.node_rules.specs.WalletCommandLaws.{after, FitWords, AddsAccepted}
-use Rattle.node_rules.proofs.WalletGrow.{state-accepts, noted-grow}
-use Rattle.node_rules.proofs.WalletRole.{accepts_keep_the_role, accepts_add_their_notes}
-use Rattle.world_rules.specs.Causes.{wallet_cause}
-use Rattle.world_rules.specs.Events.{Event, Accepts, Other, is_taken, is_bundle}
-use Rattle.world_rules.specs.Deeds.{answered, on_accepted, bundle_read}
-use Rattle.world_rules.specs.Safety.{was_deposited}
-use Rattle.world_rules.proofs.ByteTexts.{Small, small-cons}
-use Rattle.world_rules.proofs.ItemTexts.{small-bundle}
+use Rattle.world_rules.specs.Events.{is_taken, is_bundle}
+use Rattle.world_rules.proofs.ByteTexts.{Small}
 use Rattle.world_rules.proofs.OperatorItems.{AreSmallRecords}
-use Rattle.world_rules.proofs.Said.{Said, told}
-use Rattle.world_rules.proofs.Handed.{IsHanded, is_handed, IsKnownCoin, is_known_coin}
-use Rattle.world_rules.proofs.WalletEnds.{AcceptEnds, Refused, Known, New, accept_ends}
+use Rattle.world_rules.proofs.Said.{Said}
+use Rattle.world_rules.proofs.Handed.{IsKnownCoin}
 use Rattle.root_rules.proofs.Each.{all-append}
 use Rattle.plasma_tx.specs.declared.body.Body.{Body}
 

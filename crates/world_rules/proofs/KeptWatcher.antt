@@ -15,7 +15,7 @@ use Rattle.node_rules.specs.declared.answers.Accepted.{Accepted}
 use Rattle.node_rules.specs.declared.refusal.WatcherRefusal.{WatcherRefusal}
 use Rattle.node_rules.specs.declared.refusal.WatcherRefusal.TheVariants.{History, NoGuard}
 use Rattle.node_rules.specs.Kept.{kept_of, links_handed}
-use Rattle.node_rules.specs.Watcher.{Guarded, Released, note_text, watcher_kinds, who_is, notes_of, is_of, is_before, with_guard, guards_of, guards_in, guard_causes, guard_by, guard_effect, release_effect}
+use Rattle.node_rules.specs.Watcher.{Guarded, Released, note_text, watcher_kinds, who_is, is_of, is_before, with_guard, guards_of, guards_in, guard_causes, guard_by, guard_effect, release_effect}
 use Rattle.node_rules.specs.WatcherLaws.{KeepsRole, AddsNote, AddsGuard}
 use Rattle.node_rules.proofs.WatcherRole.{commands_keep_the_role, commands_add_their_notes}
 use Rattle.world_rules.specs.Causes.{watcher_cause}

@@ -1,30 +1,29 @@
 -- What holds of a world behind the events of its lines, and what one more event leaves of it.
-use Rattle.std.proofs.Common.{◌≡◌, ◌⊎◌, ℕ, zero, suc, ◌^◌, ◌<◌, ◌≤◌, ◌==◌, ◌&&◌, Bool, true, false, if◌then◌else◌, List, [], ◌∷◌, ◌++◌, length, set, Option, Some, None, inl, inr, refl, sym, ap, ◌∙◌, subst, arith, ◌+◌}
+use Rattle.std.proofs.Common.{◌≡◌, ◌⊎◌, ℕ, zero, suc, ◌^◌, ◌<◌, ◌≤◌, ◌==◌, Bool, true, false, if◌then◌else◌, List, [], ◌∷◌, ◌++◌, length, set, Option, Some, None, inl, inr, refl, sym, ap, ◌∙◌, subst, arith, ◌+◌}
 use Rattle.std.specs.Prelude.{slice_get, find, option_map}
 use Rattle.std.specs.List.{AllByRecursion}
 use Rattle.std.specs.Option.{option_or}
-use Rattle.std.proofs.lemmas.Bool.{ne_eqb, and_parts, eqb-true, cases_eq, false≢true, eq-eqb}
-use Rattle.std.proofs.lemmas.List.{length-set, length-append, length_push}
+use Rattle.std.proofs.lemmas.Bool.{ne_eqb, and_parts, false≢true, eq-eqb}
+use Rattle.std.proofs.lemmas.List.{length-set, length_push}
 use Rattle.std.proofs.lemmas.Option.{slice_get_within}
 use Rattle.line_forms.specs.declared.tokens.HexOrName.{HexOrName}
 use Rattle.line_forms.specs.declared.tokens.TheConstants.{OWNER_BYTES}
 use Rattle.line_forms.specs.Tokens.{IsHexOrName}
-use Rattle.line_forms.proofs.FormLaws.{option_map_some}
 use Rattle.plasma_tx.specs.declared.owner.Owner.{Owner}
 use Rattle.plasma_tx.specs.declared.call.RootCall.{RootCall}
-use Rattle.plasma_tx.specs.Chain.{Chain, with_log}
-use Rattle.plasma_tx.specs.Spelling.{IsOwner, owner_in}
+use Rattle.plasma_tx.specs.Chain.{with_log}
+use Rattle.plasma_tx.specs.Spelling.{owner_in}
 use Rattle.plasma_tx.specs.Views.{blocks}
 use Rattle.plasma_tx.proofs.Names.{some_same}
 use Rattle.root_rules.proofs.Each.{all-append, all-found}
 use Rattle.node_rules.specs.WalletRecords.{owner_of}
 use Rattle.node_rules.specs.Wallet.{who}
 use Rattle.world_rules.specs.Events.{Event, Joins, log_of}
-use Rattle.world_rules.specs.World.{Role, Node, Rogue, World, wallet_of, owner_of_node, owner_of_rogue, with_node, is_named, is_wallet_role, rogue_named, owner_named, new_owner_of}
+use Rattle.world_rules.specs.World.{Node, Rogue, World, wallet_of, owner_of_node, owner_of_rogue, with_node, is_named, is_wallet_role, rogue_named, owner_named, new_owner_of}
 use Rattle.world_rules.proofs.ByteTexts.{Small, small-take, small-drop}
 use Rattle.world_rules.proofs.OperatorItems.{AreSmallRecords}
-use Rattle.world_rules.proofs.Said.{Said, said, nothing_said, told, is_said_of, said-other}
-use Rattle.world_rules.proofs.KeptWallet.{KeptWallet, wallet-longer, records-push}
+use Rattle.world_rules.proofs.Said.{Said, said, nothing_said, is_said_of, said-other}
+use Rattle.world_rules.proofs.KeptWallet.{wallet-longer, records-push}
 use Rattle.world_rules.proofs.KeptNode.{KeptNode, IsGoodOwner, Feeds}
 use Rattle.world_rules.proofs.NewNodes.{good-owner}
 use Rattle.plasma_tx.proofs.Spellings.{owner_in-is}

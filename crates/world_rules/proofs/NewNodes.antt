@@ -1,35 +1,26 @@
 -- The records that a node is declared with are what is said of it then.
-use Rattle.std.proofs.Common.{◌≡◌, ℕ, ◌^◌, ◌<◌, ◌≤◌, ◌&&◌, ◌||◌, ◌==◌, Bool, true, false, if◌then◌else◌, List, [], ◌∷◌, ◌++◌, length, take, Option, Some, None, is_some, is_ok, inl, inr, refl, sym, ap, ◌∙◌, subst, arith, lit<}
-use Rattle.std.specs.Prelude.{replicate}
+use Rattle.std.proofs.Common.{◌≡◌, ℕ, ◌^◌, ◌<◌, ◌&&◌, Bool, true, false, if◌then◌else◌, List, [], ◌∷◌, ◌++◌, length, Option, Some, is_some, refl, sym, ap, subst, arith, lit<}
 use Rattle.std.specs.Option.{option_map_or}
-use Rattle.std.specs.Int.{w64, to_be_bytes}
-use Rattle.std.specs.List.{list_all, filter_map}
-use Rattle.std.proofs.lemmas.Bool.{and_from, or_left, or_right, eq-eqb, false≢true}
-use Rattle.std.proofs.lemmas.List.{length-append, length-take-le}
+use Rattle.std.proofs.lemmas.Bool.{false≢true}
+use Rattle.std.proofs.lemmas.List.{length-take-le}
 use Rattle.sha2.specs.Sha256.{sha256}
 use Rattle.sha2.proofs.Facts256.{length-sha256}
-use Rattle.lms_sign.specs.declared.types.LmsTypes.{LmsTypes}
-use Rattle.lms_sign.specs.declared.secret.Secret.{Secret}
-use Rattle.lms_sign.specs.Types.{is_supported}
 use Rattle.lms_sign.specs.Tree.{public_key_of}
-use Rattle.leaf_journal.specs.Records.{messages_of, leaf_records_of, records_behind_of}
-use Rattle.node_journal.specs.Role.{are_of}
-use Rattle.plasma_tx.specs.declared.owner.Owner.{Owner}
+use Rattle.leaf_journal.specs.Records.{records_behind_of}
 use Rattle.plasma_tx.specs.declared.call.RootCall.{RootCall}
-use Rattle.plasma_tx.specs.Spelling.{IsOwner, number_text}
+use Rattle.plasma_tx.specs.Spelling.{IsOwner}
 use Rattle.node_rules.specs.declared.identity.WalletIdentity.{WalletIdentity}
-use Rattle.node_rules.specs.WalletRecords.{is_first, common_text, short_text, identity_text, identity_in, wallet_kinds, no_one, who_is, notes_of, state_notes, secret_of, owner_of, is_body}
-use Rattle.node_rules.specs.Wallet.{WalletRecords, who, noted}
-use Rattle.node_rules.specs.WalletOpening.{leaves_of, is_wallet}
+use Rattle.node_rules.specs.WalletRecords.{is_first, common_text, short_text, identity_text, no_one, who_is, notes_of, state_notes, secret_of, owner_of}
+use Rattle.node_rules.specs.Wallet.{WalletRecords, who}
+use Rattle.node_rules.specs.WalletOpening.{is_wallet}
 use Rattle.node_rules.specs.WalletLaws.{IsIdentity}
-use Rattle.node_rules.specs.Watcher.{WatcherIdentity, watcher_kinds, identity_text as watcher_text, notes_of as watcher_notes, guards_of, guards_in}
+use Rattle.node_rules.specs.Watcher.{WatcherIdentity, identity_text as watcher_text, notes_of as watcher_notes, guards_of}
 use Rattle.node_rules.specs.WatcherLaws.{IsIdentity as IsWatcherIdentity}
 use Rattle.node_rules.proofs.WalletTexts.{identity_in-text}
 use Rattle.node_rules.proofs.WatcherTexts.{identity_in-text as watcher_in-text}
 use Rattle.world_rules.specs.Events.{Declares}
-use Rattle.world_rules.proofs.ByteTexts.{Small, small-nil, small-cons, small-append, small-take, small-number, small-short, small-sha256, small-key, length-key, small-zeros}
-use Rattle.world_rules.proofs.OperatorItems.{AreSmallRecords}
-use Rattle.world_rules.proofs.Said.{Said, nothing_said, told}
+use Rattle.world_rules.proofs.ByteTexts.{Small, small-cons, small-append, small-take, small-number, small-short, small-sha256, small-key, length-key, small-zeros}
+use Rattle.world_rules.proofs.Said.{nothing_said, told}
 use Rattle.world_rules.proofs.KeptWallet.{KeptWallet}
 use Rattle.world_rules.proofs.KeptWatcher.{KeptWatcher}
 use Rattle.world_rules.proofs.KeptNode.{IsGoodOwner}

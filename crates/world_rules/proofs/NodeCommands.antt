@@ -1,17 +1,12 @@
 -- Each command of a node that is up keeps what events say of it, and makes bytes.
-use Rattle.std.proofs.Common.{◌≡◌, ℕ, ◌^◌, ◌<◌, List, [], ◌∷◌, Option, Some, None, Ok, Err, refl, sym, ap, subst, Bool, true, false}
-use Rattle.std.specs.Prelude.{Result, IfSome, slice_get, unwrap_or, option_map}
+use Rattle.std.proofs.Common.{◌≡◌, ℕ, List, [], Option, Some, None, Ok, Err, refl, sym, subst, Bool, true, false}
+use Rattle.std.specs.Prelude.{Result, slice_get, unwrap_or}
 use Rattle.leaf_journal.specs.Records.{messages_of}
-use Rattle.line_forms.specs.declared.tokens.HexOrName.{HexOrName}
 use Rattle.line_forms.proofs.FormLaws.{option_map_some}
-use Rattle.lms_sign.specs.Tree.{signature_of}
 use Rattle.plasma_tx.specs.declared.owner.Owner.{Owner}
-use Rattle.plasma_tx.specs.declared.opening.RawOpening.{RawOpening}
 use Rattle.plasma_tx.specs.declared.call.RootCall.{RootCall}
 use Rattle.plasma_tx.specs.Spelling.{body_text}
 use Rattle.plasma_tx.proofs.Names.{some_same}
-use Rattle.coin_history.specs.declared.bundle.Bundle.{Bundle}
-use Rattle.coin_history.specs.Bundles.{bundle_text}
 use Rattle.schedule_text.specs.declared.command.Command.{Command}
 use Rattle.schedule_text.specs.declared.command.WalletCommand.{WalletCommand}
 use Rattle.schedule_text.specs.declared.command.WatcherCommand.{WatcherCommand}
@@ -22,12 +17,11 @@ use Rattle.node_rules.specs.WalletRecords.{secret_of, leaves_in}
 use Rattle.node_rules.specs.Wallet.{WalletRecords, WalletEffect, who, used, accept_effect, send_effect, last_leaf, again_by, again_answer, leave_effect, reclaim_effect, migrate_effect}
 use Rattle.node_rules.specs.WalletCommandLaws.{sent_body}
 use Rattle.node_rules.specs.Watcher.{guard_effect, release_effect}
-use Rattle.operator_rules.specs.declared.refusal.ProveRefusal.{ProveRefusal}
 use Rattle.operator_rules.specs.Commands.{offer_effect, lay_effect, seal_effect, prove_answer, bundle_answer, absences_answer}
 use Rattle.world_rules.specs.Causes.{wallet_cause, watcher_cause, offer_cause, lay_cause, seal_cause, prove_cause}
 use Rattle.world_rules.specs.World.{Node, World, wallet_of, is_wallet_role, is_watcher_role, is_operator_role, bytes_of, new_owner_of}
 use Rattle.world_rules.specs.Declarations.{plays}
-use Rattle.world_rules.specs.Deeds.{Gives, Deed, without_record, answered, wallet_deed, noting_deed, on_accepted, on_sent, on_sent_again, on_leaving, on_reclaimed, on_migrated, send_deed, wallet_command, on_guarded, on_released, watcher_command, on_pooled, on_laid, on_sealed, on_bundled, on_proved, operator_command, due_at_node, on_watch, on_open, deed_of}
+use Rattle.world_rules.specs.Deeds.{Gives, Deed, without_record, answered, noting_deed, on_accepted, on_sent, on_sent_again, on_leaving, on_reclaimed, on_migrated, send_deed, wallet_command, on_guarded, on_released, watcher_command, on_pooled, on_laid, on_sealed, on_bundled, on_proved, operator_command, due_at_node, on_watch, on_open, deed_of}
 use Rattle.world_rules.proofs.ByteTexts.{Small, small-nil, small-append, small-signature, small-body}
 use Rattle.world_rules.proofs.OperatorItems.{AreSmallRecords, prove-small, bundle-made, absences-made, offer-noted, lay-noted, seal-noted}
 use Rattle.world_rules.specs.Laws.{IsDigest}
@@ -38,7 +32,7 @@ use Rattle.world_rules.proofs.WalletAccepts.{accepts-kept}
 use Rattle.world_rules.proofs.WalletSends.{sends-kept}
 use Rattle.world_rules.proofs.WalletNotes.{reclaims-kept, leaves-kept, migrates-kept}
 use Rattle.world_rules.proofs.KeptWatcher.{KeptWatcher, guards-kept, releases-kept}
-use Rattle.world_rules.proofs.KeptNode.{KeptNode, IsGoodOwner, Feeds, item-small, token-small, IsFitWallet, IsFitWatcher, IsFitOperator, IsKeptDeed, records-noted, of-wallet, by-effect, of-watcher, of-operator, IsFit}
+use Rattle.world_rules.proofs.KeptNode.{KeptNode, Feeds, item-small, token-small, IsFitWallet, IsFitWatcher, IsFitOperator, IsKeptDeed, records-noted, of-wallet, by-effect, of-watcher, of-operator, IsFit}
 
 -- what is made is bytes, where each answer gives bytes
 answered-made : {A E : Type 0} (n : ℕ) (cause : E → List ℕ) (give : A → Gives)

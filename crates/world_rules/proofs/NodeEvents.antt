@@ -1,5 +1,5 @@
 -- The event of a node's command says something of that node alone.
-use Rattle.std.proofs.Common.{◌≡◌, ℕ, ◌==◌, Bool, true, false, List, [], ◌∷◌, Option, Some, None, refl, sym, ap, ◌∙◌, subst}
+use Rattle.std.proofs.Common.{◌≡◌, ℕ, ◌==◌, false, List, ◌∷◌, Some, refl, sym, ap, ◌∙◌, subst}
 use Rattle.std.proofs.lemmas.Bool.{eq-eqb}
 use Rattle.plasma_tx.proofs.Names.{some_same}
 use Rattle.schedule_text.specs.declared.command.Command.{Command}
@@ -7,7 +7,7 @@ use Rattle.world_rules.specs.Events.{Event, Declares, Joins, Bounces, Accepts, G
 use Rattle.world_rules.specs.Deeds.{Gives}
 use Rattle.world_rules.specs.Steps.{without_offers}
 use Rattle.world_rules.proofs.OwnEvents.{IsOwn, Accepting, Guarding, Releasing, Binding, TakingBack, Watching, Leaving, Others, IsOfNode, Owns, Sealing}
-use Rattle.world_rules.proofs.Said.{Said, said, told, is_said_of, said-own, said-other, cut-told}
+use Rattle.world_rules.proofs.Said.{said, told, is_said_of, said-own, said-other, cut-told}
 use Rattle.world_rules.proofs.KeptWorld.{IsOf}
 
 -- an event is of node n, and this is said then

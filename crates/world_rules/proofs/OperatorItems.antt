@@ -1,9 +1,9 @@
 -- What the operator makes, and the records that it adds, are bytes.
-use Rattle.std.proofs.Common.{◌≡◌, ℕ, zero, suc, ◌==◌, ◌&&◌, Bool, true, false, if◌then◌else◌, List, [], ◌∷◌, ◌++◌, drop, length, Option, Some, None, Ok, Err, refl, sym, ap, ◌∙◌, subst, lit<}
+use Rattle.std.proofs.Common.{◌≡◌, ℕ, ◌==◌, ◌&&◌, Bool, true, false, if◌then◌else◌, List, [], ◌∷◌, drop, length, Option, Some, None, Ok, Err, refl, sym, subst, lit<}
 use Rattle.std.specs.Prelude.{Result, IfSome, reverse, nat_le, nat_lt}
 use Rattle.std.specs.List.{AllByRecursion, filter_map, cons_option}
 use Rattle.std.specs.Str.{bytes_eq}
-use Rattle.node_journal.specs.Effect.{Effect, only, first_cause, unless}
+use Rattle.node_journal.specs.Effect.{Effect, only, unless}
 use Rattle.line_forms.proofs.FormLaws.{and_then_some}
 use Rattle.sparse_merkle.specs.declared.tree.Entry.{Entry}
 use Rattle.sparse_merkle.specs.TreeDigest.{root_of}
@@ -12,21 +12,20 @@ use Rattle.plasma_tx.specs.declared.signed_tx.SignedTx.{SignedTx}
 use Rattle.plasma_tx.specs.declared.signed_tx.TxRefusal.{TxRefusal}
 use Rattle.plasma_tx.specs.declared.call.RootCall.{RootCall}
 use Rattle.plasma_tx.specs.declared.views.CoinView.{CoinView}
-use Rattle.plasma_tx.specs.Spelling.{number_text, number_at, signed_in}
+use Rattle.plasma_tx.specs.Spelling.{number_at, signed_in}
 use Rattle.plasma_tx.specs.Views.{coin_at, blocks}
 use Rattle.plasma_tx.proofs.Names.{some_same}
 use Rattle.root_rules.specs.Shown.{root_at}
 use Rattle.root_rules.proofs.Each.{all-append, all-found}
 use Rattle.coin_history.specs.declared.bundle.Bundle.{Bundle}
 use Rattle.operator_rules.specs.declared.refusal.OfferRefusal.{OfferRefusal}
-use Rattle.operator_rules.specs.declared.refusal.LayRefusal.{LayRefusal}
 use Rattle.operator_rules.specs.declared.refusal.ProveRefusal.{ProveRefusal}
 use Rattle.operator_rules.specs.Records.{Note, Offered, Laid, Sealed, spells_transfer, note_text, note_in, who_is, notes_of}
-use Rattle.operator_rules.specs.Trees.{Forest, coin_named, after_note, forest_of, tree_of, tree_at, opening_in_tree}
+use Rattle.operator_rules.specs.Trees.{Forest, coin_named, forest_of, tree_of, tree_at, opening_in_tree}
 use Rattle.operator_rules.specs.Commands.{forest_in, offer_at, offer_of, offer_effect, lay_effect, seal_effect, prove_by, prove_answer, with_opening, openings_of, as_bundle, bundle_between, bundle_to, bundle_of, bundle_answer, absences_answer, tip_asked}
 use Rattle.world_rules.specs.Laws.{IsDigest}
 use Rattle.world_rules.proofs.ByteTexts.{Small, small-nil, small-cons, small-append, small-drop, small-number, small-back}
-use Rattle.world_rules.proofs.ItemTexts.{IsSmallOpening, AreSmallOpenings, small-bundle, IsSmallTree, tree-with, all-join, opening-small}
+use Rattle.world_rules.proofs.ItemTexts.{IsSmallOpening, AreSmallOpenings, small-bundle, IsSmallTree, tree-with, opening-small}
 use Rattle.std.proofs.lemmas.List.{reverse-append}
 use Rattle.coin_history.specs.Bundles.{bundle_text}
 use Rattle.operator_rules.specs.declared.TheConstants.{MOST_LAID}

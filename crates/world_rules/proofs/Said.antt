@@ -1,9 +1,9 @@
 -- What the events of a run say of one node, and what one more event adds to it.
-use Rattle.std.proofs.Common.{◌≡◌, ℕ, ◌==◌, not, Bool, true, false, if◌then◌else◌, List, [], ◌∷◌, filter, Option, Some, None, refl, sym, ap, ◌∙◌}
+use Rattle.std.proofs.Common.{◌≡◌, ℕ, ◌==◌, not, Bool, true, false, if◌then◌else◌, List, [], ◌∷◌, filter, Option, Some, None, refl, ap, ◌∙◌}
 use Rattle.plasma_tx.specs.declared.owner.Owner.{Owner}
 use Rattle.plasma_tx.specs.declared.body.Body.{Body}
 use Rattle.coin_history.specs.declared.bundle.Bundle.{Bundle}
-use Rattle.world_rules.specs.Events.{Event, Declares, Joins, Bounces, Accepts, Guards, Releases, Binds, TakesBack, Watches, Leaves, Seals, Other, Idle, wallet_owner, accepted, bound_by, taken_back, guarded_by, is_bundle}
+use Rattle.world_rules.specs.Events.{Event, Declares, Accepts, Guards, Releases, Binds, TakesBack, Watches, Leaves, Seals, wallet_owner, accepted, bound_by, taken_back, guarded_by, is_bundle}
 use Rattle.world_rules.specs.Steps.{without_offers}
 
 -- what is said of a node: its owner, what its leaves bind and which it took back, and the bundles that it accepted or

@@ -1,5 +1,5 @@
 -- An accept keeps a wallet's records what the events say.
-use Rattle.std.proofs.Common.{◌≡◌, ℕ, ◌==◌, ◌&&◌, ◌||◌, Bool, true, false, List, [], ◌∷◌, ◌++◌, Option, Some, None, Ok, Err, inl, inr, refl, sym, ap, ◌∙◌, subst, ◌⊎◌, lit<}
+use Rattle.std.proofs.Common.{◌≡◌, ℕ, ◌==◌, ◌&&◌, Bool, true, false, List, [], ◌∷◌, ◌++◌, Some, inl, inr, refl, sym, ap, ◌∙◌, subst, ◌⊎◌, lit<}
 use Rattle.std.specs.Prelude.{Result, IfSome}
 use Rattle.std.specs.List.{list_any}
 use Rattle.std.proofs.lemmas.Bool.{eqb-true, eq-eqb, or_cases, or_left, or_right, and_parts, and_from, false≢true}
@@ -7,7 +7,6 @@ use Rattle.std.proofs.lemmas.List.Folds.{list_any-append}
 use Rattle.plasma_tx.specs.declared.owner.Owner.{Owner}
 use Rattle.plasma_tx.specs.declared.links.Links.{Links}
 use Rattle.plasma_tx.specs.declared.call.RootCall.{RootCall}
-use Rattle.plasma_tx.specs.declared.views.CoinView.{CoinView}
 use Rattle.plasma_tx.specs.Links.{tip_of, last_owner_of}
 use Rattle.coin_history.specs.declared.bundle.Bundle.{Bundle}
 use Rattle.wallet_core.specs.declared.notes.CoinTip.{CoinTip}
@@ -15,15 +14,15 @@ use Rattle.wallet_core.specs.declared.notes.Notes.{Notes}
 use Rattle.wallet_core.specs.State.{is_noted, is_owner}
 use Rattle.node_rules.specs.declared.answers.Accepted.{Accepted}
 use Rattle.node_rules.specs.declared.refusal.WalletRefusal.{WalletRefusal}
-use Rattle.node_rules.specs.Kept.{kept_of, links_handed}
-use Rattle.node_rules.specs.WalletRecords.{Accepts as AcceptsNote, note_text, notes_of, owner_of, coin_tip, state_notes}
-use Rattle.node_rules.specs.Wallet.{WalletRecords, WalletEffect, answers, notes_it, who, noted, accept_effect, is_known}
+use Rattle.node_rules.specs.Kept.{kept_of}
+use Rattle.node_rules.specs.WalletRecords.{Accepts as AcceptsNote, note_text, notes_of, owner_of, coin_tip}
+use Rattle.node_rules.specs.Wallet.{WalletRecords, WalletEffect, who, noted, accept_effect, is_known}
 use Rattle.node_rules.specs.WalletOpening.{is_wallet}
 use Rattle.node_rules.specs.WalletCommandLaws.{after, AddsAccepted}
 use Rattle.node_rules.proofs.WalletGrow.{state-accepts, noted-grow}
 use Rattle.node_rules.proofs.WalletRole.{accepts_keep_the_role, accepts_add_their_notes}
 use Rattle.world_rules.specs.Causes.{wallet_cause}
-use Rattle.world_rules.specs.Events.{Accepts, Other, is_bundle}
+use Rattle.world_rules.specs.Events.{Accepts, is_bundle}
 use Rattle.world_rules.specs.Deeds.{answered, on_accepted, bundle_read}
 use Rattle.world_rules.specs.Safety.{was_deposited}
 use Rattle.world_rules.proofs.ByteTexts.{Small, small-cons}
@@ -31,7 +30,7 @@ use Rattle.world_rules.proofs.ItemTexts.{small-bundle}
 use Rattle.world_rules.proofs.Said.{Said, told}
 use Rattle.world_rules.proofs.Handed.{IsHanded, is_handed, IsKnownCoin, is_known_coin}
 use Rattle.world_rules.proofs.WalletEnds.{AcceptEnds, Refused, Known, New, accept_ends}
-use Rattle.world_rules.proofs.KeptWallet.{KeptWallet, state-me, with_note, IsNoting, noting}
+use Rattle.world_rules.proofs.KeptWallet.{KeptWallet, state-me, with_note, noting}
 use Rattle.node_rules.specs.WalletLaws.{AddsNote}
 use Rattle.plasma_tx.specs.Views.{coin_at}
 

@@ -1,8 +1,6 @@
 -- How a wallet's commands end: each is refused, or answered with what it adds.
-use Rattle.std.proofs.Common.{◌≡◌, ℕ, ◌==◌, ◌-◌, not, Bool, true, false, if◌then◌else◌, List, [], ◌∷◌, ◌++◌, Option, Some, None, Ok, Err, refl, sym, ap, ◌∙◌, subst, nat_lt}
-use Rattle.std.specs.Prelude.{Result, map, unwrap_or}
-use Rattle.std.specs.Result.{result_ok}
-use Rattle.leaf_journal.specs.Records.{marker}
+use Rattle.std.proofs.Common.{◌≡◌, ℕ, not, Bool, true, false, if◌then◌else◌, List, [], ◌∷◌, Option, Some, None, Ok, Err, refl, sym, ap, ◌∙◌, nat_lt}
+use Rattle.std.specs.Prelude.{Result}
 use Rattle.plasma_tx.specs.declared.owner.Owner.{Owner}
 use Rattle.plasma_tx.specs.declared.links.Links.{Links}
 use Rattle.plasma_tx.specs.declared.call.RootCall.{RootCall}
@@ -21,7 +19,7 @@ use Rattle.node_rules.specs.declared.refusal.WalletRefusal.{WalletRefusal}
 use Rattle.node_rules.specs.declared.refusal.WalletRefusal.TheVariants.{History, NotMine, NotHeld, NotSending, NoLast, NotYet, Leaving as LeavingCoin}
 use Rattle.node_rules.specs.Kept.{kept_of, links_handed, standing_block}
 use Rattle.node_rules.specs.WalletRecords.{Accepts, Reclaims, note_text, leaves_in}
-use Rattle.node_rules.specs.Wallet.{WalletRecords, WalletEffect, answers, notes_it, binds_it, unless, who, noted, coin_state, accept_causes, is_known, accept_taken, accept_by, accept_effect, send_causes, send_body, send_from, send_effect, last_of, reclaim_shown, reclaim_last, reclaim_from, reclaim_by, reclaim_effect, migrate_effect, standing_causes}
+use Rattle.node_rules.specs.Wallet.{WalletRecords, WalletEffect, answers, notes_it, unless, who, noted, coin_state, accept_causes, is_known, accept_by, accept_effect, send_causes, send_body, send_from, send_effect, last_of, reclaim_shown, reclaim_last, reclaim_from, reclaim_by, reclaim_effect, standing_causes}
 use Rattle.node_rules.specs.WalletCommandLaws.{sent_body}
 use Rattle.node_journal.specs.Effect.{first_cause}
 use Rattle.coin_history.specs.Checking.{absence_of}

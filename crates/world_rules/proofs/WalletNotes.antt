@@ -1,10 +1,9 @@
 -- A reclaim, a leave and a migration keep a wallet's records what the events say.
-use Rattle.std.proofs.Common.{◌≡◌, ℕ, ◌^◌, ◌<◌, ◌==◌, ◌||◌, Bool, true, false, List, [], ◌∷◌, ◌++◌, map, Option, Some, None, Ok, Err, refl, sym, ap, ◌∙◌, subst, lit<}
+use Rattle.std.proofs.Common.{◌≡◌, ℕ, ◌^◌, ◌<◌, ◌==◌, ◌||◌, Bool, true, List, [], ◌∷◌, ◌++◌, map, Option, Some, None, Ok, Err, refl, sym, ap, ◌∙◌, subst, lit<}
 use Rattle.std.specs.Prelude.{Result, IfSome}
-use Rattle.std.specs.List.{list_any}
 use Rattle.std.specs.Ordering.{nat_cmp}
 use Rattle.std.specs.BTreeSet.{insert_key}
-use Rattle.leaf_journal.specs.Records.{messages_of, is_marked, marker}
+use Rattle.leaf_journal.specs.Records.{messages_of}
 use Rattle.leaf_journal.proofs.Binding.{marker-messages}
 use Rattle.plasma_tx.specs.declared.call.RootCall.{RootCall}
 use Rattle.plasma_tx.specs.Views.{blocks}
@@ -12,7 +11,7 @@ use Rattle.wallet_core.specs.declared.notes.LeafRecord.{LeafRecord}
 use Rattle.wallet_core.specs.declared.notes.Notes.{Notes}
 use Rattle.node_rules.specs.declared.answers.Reclaimed.{Reclaimed}
 use Rattle.node_rules.specs.declared.refusal.WalletRefusal.{WalletRefusal}
-use Rattle.node_rules.specs.WalletRecords.{Reclaims, LeavesWith, note_text, notes_of, owner_of, coin_tip, leaves_in}
+use Rattle.node_rules.specs.WalletRecords.{Reclaims, LeavesWith, note_text, notes_of, owner_of, coin_tip}
 use Rattle.node_rules.specs.Wallet.{WalletRecords, WalletEffect, who, noted, coin_state, leave_effect, reclaim_effect, migrate_effect}
 use Rattle.node_rules.specs.WalletOpening.{is_wallet}
 use Rattle.node_rules.specs.WalletLaws.{AddsNote}
@@ -27,7 +26,7 @@ use Rattle.world_rules.proofs.ByteTexts.{Small, small-cons, small-append, small-
 use Rattle.world_rules.proofs.OperatorItems.{AreSmallRecords}
 use Rattle.world_rules.proofs.Said.{Said, told}
 use Rattle.world_rules.proofs.WalletEnds.{ReclaimEnds, Refused, Takes, reclaim_ends}
-use Rattle.world_rules.proofs.KeptWallet.{KeptWallet, with_note, IsNoting, noting}
+use Rattle.world_rules.proofs.KeptWallet.{KeptWallet, with_note, noting}
 use Rattle.world_rules.proofs.WalletSends.{among-key, words}
 
 module _ (dig : List ℕ → List ℕ) (s : Said) (log : List RootCall) (wallet : WalletRecords)

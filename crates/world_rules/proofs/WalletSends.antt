@@ -1,7 +1,7 @@
 -- A send, a reclaim, a leave and a migration keep a wallet's records what the events say.
-use Rattle.std.proofs.Common.{◌≡◌, ℕ, ◌^◌, ◌<◌, ◌==◌, ◌||◌, nat_lt, Bool, true, false, cond, List, [], ◌∷◌, ◌++◌, map, Option, Some, None, Ok, Err, inl, inr, refl, sym, ap, ◌∙◌, subst, lit<, Less, Equal, Greater}
+use Rattle.std.proofs.Common.{◌≡◌, ℕ, ◌^◌, ◌<◌, ◌==◌, ◌||◌, nat_lt, Bool, true, false, cond, List, [], ◌∷◌, ◌++◌, map, Option, refl, sym, ap, ◌∙◌, subst, Less, Equal, Greater}
 use Rattle.std.specs.Prelude.{Result, IfSome, reverse}
-use Rattle.std.specs.List.{All, AllByRecursion, list_any}
+use Rattle.std.specs.List.{list_any}
 use Rattle.std.specs.Ordering.{nat_cmp, match_ordering}
 use Rattle.std.specs.BTreeSet.{insert_key}
 use Rattle.std.proofs.lemmas.Bool.{eqb-true}
@@ -18,28 +18,24 @@ use Rattle.plasma_tx.specs.Views.{blocks}
 use Rattle.plasma_tx.proofs.Spellings.{signed_in-text, signed_in-ok}
 use Rattle.root_rules.proofs.Each.{all-weaker}
 use Rattle.wallet_core.specs.declared.notes.LeafRecord.{LeafRecord}
-use Rattle.wallet_core.specs.declared.notes.Notes.{Notes}
 use Rattle.wallet_core.specs.declared.coin_state.CoinState.TheVariants.{Held}
 use Rattle.node_rules.specs.declared.answers.Sent.{Sent}
-use Rattle.node_rules.specs.declared.answers.Reclaimed.{Reclaimed}
 use Rattle.node_rules.specs.declared.refusal.WalletRefusal.{WalletRefusal}
-use Rattle.node_rules.specs.WalletRecords.{Reclaims, LeavesWith, note_text, notes_of, owner_of, secret_of, coin_tip, leaves_in}
-use Rattle.node_rules.specs.Wallet.{WalletRecords, WalletEffect, answers, notes_it, binds_it, who, noted, used, coin_state, send_body, send_effect, leave_effect, reclaim_effect, migrate_effect}
+use Rattle.node_rules.specs.WalletRecords.{secret_of, leaves_in}
+use Rattle.node_rules.specs.Wallet.{WalletRecords, WalletEffect, who, used, coin_state, send_effect}
 use Rattle.node_rules.specs.WalletOpening.{is_wallet}
-use Rattle.node_rules.specs.WalletLaws.{AddsNote}
-use Rattle.node_rules.specs.WalletCommandLaws.{after, FitWords, sent_body, BindsBody, AddsSent, AddsLeaving, AddsReclaimed, AddsMarker}
-use Rattle.node_rules.proofs.WalletGrow.{state-leaves, state-reclaims, noted-grow, wallet-parts}
+use Rattle.node_rules.specs.WalletCommandLaws.{after, FitWords, sent_body, BindsBody, AddsSent}
+use Rattle.node_rules.proofs.WalletGrow.{wallet-parts}
 use Rattle.node_rules.proofs.WalletTips.{tag-long, tip-fits}
-use Rattle.node_rules.proofs.WalletAdded.{leave-leaf, migrate-note}
-use Rattle.node_rules.proofs.WalletRole.{sends_keep_the_role, sends_add_their_leaves, leaves_keep_the_role, leaves_add_their_notes, reclaims_keep_the_role, reclaims_add_their_notes, migrations_keep_the_role, migrations_add_the_marker, held-tip}
+use Rattle.node_rules.proofs.WalletRole.{sends_keep_the_role, sends_add_their_leaves, held-tip}
 use Rattle.world_rules.specs.Causes.{wallet_cause}
-use Rattle.world_rules.specs.Events.{Binds, TakesBack, Leaves, Other, is_taken}
-use Rattle.world_rules.specs.Deeds.{answered, on_sent, on_leaving, on_reclaimed, on_migrated, bundle_read}
-use Rattle.world_rules.proofs.ByteTexts.{Small, small-cons, small-append, small-number, small-short, small-body}
+use Rattle.world_rules.specs.Events.{Binds}
+use Rattle.world_rules.specs.Deeds.{answered, on_sent}
+use Rattle.world_rules.proofs.ByteTexts.{Small, small-body}
 use Rattle.world_rules.proofs.OperatorItems.{AreSmallRecords}
 use Rattle.world_rules.proofs.Said.{Said, told}
-use Rattle.world_rules.proofs.WalletEnds.{SendEnds, Refused, Sends, send_ends, ReclaimEnds, Takes, reclaim_ends}
-use Rattle.world_rules.proofs.KeptWallet.{KeptWallet, records-push, with_note, IsNoting, noting}
+use Rattle.world_rules.proofs.WalletEnds.{SendEnds, Refused, Sends, send_ends}
+use Rattle.world_rules.proofs.KeptWallet.{KeptWallet, records-push}
 
 -- ---- what the bytes of a transfer begin with
 

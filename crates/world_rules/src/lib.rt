@@ -2,9 +2,11 @@
 //! it leaves, its verdicts, and the words of what is promised of it.
 #![tactic(auto)]
 
+mod kept_laws;
 mod reply;
 mod verdict;
 
+pub use kept_laws::events_are_what_disks_keep;
 pub use reply::{OfferKind, OfferKinds, Reply, TraceLine};
 pub use verdict::{Exhibit, Verdict, VerdictKind};
 
