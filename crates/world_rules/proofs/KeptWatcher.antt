@@ -39,10 +39,6 @@ of-parts c e kept is =
     let parts = and_parts (kept.coin == c) (kept.tip == e) is in
     (eqb-true kept.coin c parts.0, eqb-true kept.tip e parts.1)
 
-of-own : (c e : ℕ) (kept : Bundle) → kept.coin ≡ c → kept.tip ≡ e → is_of c e kept ≡ true
-of-own c e kept coin tip =
-    and_from (kept.coin == c) (kept.tip == e) (eq-eqb kept.coin c coin) (eq-eqb kept.tip e tip)
-
 -- some among those that pass, and those that don't
 any-parted : {X : Type 0} (p q : X → Bool) (xs : List X)
     → (list_any p (filter q xs) || list_any p (filter (λ x. not (q x)) xs)) ≡ list_any p xs

@@ -97,9 +97,3 @@ cut-told n (Watches m calls) s = refl
 cut-told n (Leaves m call) s = refl
 cut-told n (Seals call) s = refl
 cut-told n event s = refl
-
-pub cut-said_of : (m n : ℕ) (event : Event) → is_said_of m (without_offers n event) ≡ is_said_of m event
-cut-said_of m n (Watches v calls) = refl
-cut-said_of m n (Leaves v call) = refl
-cut-said_of m n (Seals call) = refl
-cut-said_of m n event = refl

@@ -42,10 +42,6 @@ pub data AcceptEnds (dig : List ℕ → List ℕ) (wallet : WalletRecords) (log 
       → effect ≡ notes_it (Ok (taken_of links)) (note_text (Accepts (kept_of links)))
       → AcceptEnds dig wallet log bytes effect
 
-not-false : (b : Bool) → not b ≡ false → b ≡ true
-not-false true e = refl
-not-false false e = absurd (cc e)
-
 pub accept_ends : (dig : List ℕ → List ℕ) (wallet : WalletRecords) (log : List RootCall) (bytes : List ℕ)
     → AcceptEnds dig wallet log bytes (accept_effect dig wallet log bytes)
 unfolding accept_effect

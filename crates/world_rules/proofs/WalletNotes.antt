@@ -36,12 +36,12 @@ module _ (dig : List ℕ → List ℕ) (s : Said) (log : List RootCall) (wallet 
 
   -- ---- reclaim
 
-  takes-back : (n q : ℕ) (taken : Reclaimed) (bytes body : List ℕ)
+  takes-back : (n : ℕ) (taken : Reclaimed) (bytes body : List ℕ)
       → body ≡ note_text (Reclaims taken.coin taken.tip taken.q) → is_wallet dig (with_note wallet body) ≡ true
       → AddsNote dig wallet.notes (Reclaims taken.coin taken.tip taken.q) body
       → KeptWallet dig (told (TakesBack n taken.q (bundle_read bytes)) s) log (with_note wallet body)
   unfolding note_text
-  takes-back n q taken bytes body text is adds =
+  takes-back n taken bytes body text is adds =
       noting dig s log wallet kept body
       (record notes { reclaimed = insert_key nat_cmp notes.reclaimed taken.q })
       (told (TakesBack n taken.q (bundle_read bytes)) s)
@@ -84,7 +84,7 @@ module _ (dig : List ℕ → List ℕ) (s : Said) (log : List RootCall) (wallet 
           let answered : (reclaim_effect dig wallet log bytes).answer ≡ Ok taken = ap (λ e. e.answer) is in
           let same : added.0 ≡ taken = cc (added.1, answered) in
           subst (IsTakenBack n bytes) (sym is)
-          (takes-back n taken.q taken bytes text refl
+          (takes-back n taken bytes text refl
           (subst (λ e. is_wallet dig (after e wallet) ≡ true) is
           (reclaims_keep_the_role dig wallet log bytes kept.is small.are fits))
           (subst (λ (t : Reclaimed). AddsNote dig wallet.notes (Reclaims t.coin t.tip t.q) text) same added.3))
