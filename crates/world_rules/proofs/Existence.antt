@@ -21,7 +21,7 @@ use Rattle.world_rules.specs.Steps.{LineEffect, called, raw_called, deposit_by, 
 use Rattle.world_rules.specs.Laws.{LinesThatKeepTheRulesStep}
 
 -- the first place that passes is inside the list
-position-parts : {X : Type 0} (p : X → Bool) (xs : List X) (i : ℕ) → position p xs ≡ Some i
+pub position-parts : {X : Type 0} (p : X → Bool) (xs : List X) (i : ℕ) → position p xs ≡ Some i
     → (position_or_len p xs ≡ i) × (position_or_len p xs < length xs)
 position-parts p xs i is = by (nat_lt (position_or_len p xs) (length xs)) refl is
   where
@@ -175,7 +175,7 @@ step-some true o each = is_some-map with_mail o ∙ each refl
 step-some false o each = refl
 
 pub lines_that_keep_the_rules_step : LinesThatKeepTheRulesStep
-unfolding Rattle.world_rules.specs.Steps.step Rattle.world_rules.specs.Steps.effect_of Rattle.world_rules.specs.Declarations.keeps_rules
+unfolding step effect_of keeps_rules
 lines_that_keep_the_rules_step dig (Some world) line =
     step-some (keeps_rules_in world line) (effect_in dig world line) (effect-some dig world line)
 lines_that_keep_the_rules_step dig None (Line.Chain tag operator most) = refl

@@ -22,3 +22,15 @@ pub mod NodeEvents
 pub mod FitLines
 pub mod KeptLines
 pub mod KeptRun
+pub mod NodeLaws
+pub mod CutLaws
+pub mod Runs
+pub mod RunLaws
+pub mod OfferLaws
+pub mod HeldTips
+pub mod Named
+pub mod VerdictCounts
+pub mod KeptNames
+pub mod NamedDeeds
+pub mod NamedSteps
+pub mod VerdictLaws

@@ -111,7 +111,7 @@ is_mine me exit = exit.account == me.account
 abbrev pub is_own : Owner → Option Exit → Bool
 is_own me exit = option_map_or (is_mine me) exit false
 
--- what a Finish does that was answered so: it is_finish_paid the exit of another account; or it doesn't pay the owner's exit at
+-- what a Finish does that was answered so: it pays the exit of another account; or it doesn't pay the owner's exit at
 -- e, at its end or later
 abbrev pub finish_harms : Owner → ℕ → ℕ → Answer → Option Exit → Bool
 finish_harms me e time answer None = false

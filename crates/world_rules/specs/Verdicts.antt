@@ -52,15 +52,17 @@ is_others me exit = option_map_or (λ found. not (is_mine me found)) exit false
 
 -- a Finish behind these calls is answered Paid
 abbrev pub is_finish_paid : Tests → Rules → List RootCall → ℕ → ℕ → ℕ → Bool
-is_finish_paid tests rules log account coin block = is_paid (answer_to tests rules log (RootCall.Finish account coin block))
+is_finish_paid tests rules log account coin block =
+    is_paid (answer_to tests rules log (RootCall.Finish account coin block))
 
--- the event is_finish_paid the wallet's exit of the coin at e
+-- the event pays the wallet's exit of the coin at e
 abbrev pub pays_own : Tests → Rules → List RootCall → Owner → ℕ → ℕ → Event → Bool
 pays_own tests rules log me c e (Joins (RootCall.Finish account coin block)) =
-    (coin == c) && (block == e) && is_own me (exit_at log coin block) && is_finish_paid tests rules log account coin block
+    (coin == c) && (block == e) && is_own me (exit_at log coin block)
+    && is_finish_paid tests rules log account coin block
 pays_own tests rules log me c e event = false
 
--- the event is_finish_paid another account's exit of the coin
+-- the event pays another account's exit of the coin
 abbrev pub pays_other : Tests → Rules → List RootCall → Owner → ℕ → Event → Bool
 pays_other tests rules log me c (Joins (RootCall.Finish account coin block)) =
     (coin == c) && is_others me (exit_at log coin block) && is_finish_paid tests rules log account coin block
@@ -73,10 +75,11 @@ ends_own tests rules log me c e (Joins (RootCall.After account coin block spend)
 ends_own tests rules log me c e (Joins (RootCall.Between account coin block spend)) =
     (coin == c) && (block == e) && is_own me (exit_at log coin block)
 ends_own tests rules log me c e (Joins (RootCall.Finish account coin block)) =
-    (coin == c) && (block == e) && is_own me (exit_at log coin block) && not (is_finish_paid tests rules log account coin block)
+    (coin == c) && (block == e) && is_own me (exit_at log coin block)
+    && not (is_finish_paid tests rules log account coin block)
 ends_own tests rules log me c e event = false
 
--- The event takes the coin: it is_finish_paid another account's exit while the wallet holds the coin at e, or ends the wallet's
+-- The event takes the coin: it pays another account's exit while the wallet holds the coin at e, or ends the wallet's
 -- exit at e unpaid, whether it holds the coin or not.
 abbrev pub takes_from : Tests → Rules → List Event → Owner → ℕ → ℕ → ℕ → Event → Bool
 takes_from tests rules events me w c e event =
@@ -97,7 +100,7 @@ first_unattended (event ∷ events) w c e =
     option_or (first_unattended events w c e)
     (if goes_unattended events w c e event then Some (length events + 1) else None)
 
--- an event is_finish_paid the wallet's exit at e
+-- an event pays the wallet's exit at e
 unfoldable pub exit_was_paid : Tests → Rules → List Event → Owner → ℕ → ℕ → Bool
 exit_was_paid tests rules [] me c e = false
 exit_was_paid tests rules (event ∷ events) me c e =

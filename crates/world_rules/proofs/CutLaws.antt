@@ -1,0 +1,209 @@
+-- What a crash, a cut and a command of a node that is down do.
+use Rattle.std.proofs.Common.{◌≡◌, ℕ, ◌&&◌, ◌||◌, not, Bool, true, false, if◌then◌else◌, List, Option, Some, None, is_some, inl, inr, refl, sym, ap, ◌∙◌, subst}
+use Rattle.std.specs.Prelude.{set, slice_get, nat_lt, nat_le, option_map, option_and_then}
+use Rattle.std.proofs.lemmas.Bool.{and_cases, or_parts, ltb-false, le-leb}
+use Rattle.line_forms.specs.declared.tokens.OutcomeToken.{OutcomeToken}
+use Rattle.gate_journal.specs.Laws.{is_added, opens_gate}
+use Rattle.plasma_tx.proofs.Names.{some_same}
+use Rattle.schedule_text.specs.declared.line.Line.{Line}
+use Rattle.schedule_text.specs.declared.command.Command.{Command}
+use Rattle.schedule_text.specs.Grammar.{node_of}
+use Rattle.world_rules.specs.declared.reply.Reply.{Reply}
+use Rattle.world_rules.specs.Events.{Other}
+use Rattle.world_rules.specs.World.{Role, Node, World, with_node, any_role, number_of}
+use Rattle.world_rules.specs.Declarations.{plays}
+use Rattle.world_rules.specs.Deeds.{Deed, with_record, adds_record, deed_of}
+use Rattle.world_rules.specs.Steps.{LineEffect, says, without_offers, with_records, after_crash, with_mail, step, stopped, finished, cut, is_stopped, is_opening, answers_down, outcome_of, act_at, act_on, command_effect, cut_effect, commanded, down, crashed, effect_in}
+use Rattle.world_rules.specs.Laws.{CrashesLeaveTheRecords, IsCommandIn, StaysDown, DownNodesStay, IsCutTo, CutsKeepAsAppendsDo, CutOpeningsLeaveTheRecords}
+use Rattle.world_rules.proofs.StepLaws.{stepped}
+
+-- what is done with a node that has the name
+acts : (world : World) (may : Role → Bool) (name : List ℕ) (act : ℕ → Node → Option LineEffect) (n : ℕ) (node : Node)
+    → number_of may world name ≡ Some n → slice_get world.nodes n ≡ Some node
+    → act_on may world name act ≡ act n node
+acts world may name act n node number node_is =
+    ap (option_and_then (act_at world act)) number ∙ ap (option_and_then (act n)) node_is
+
+-- ---- crashes
+
+crash-in : (dig : List ℕ → List ℕ) (world : World) (name : List ℕ) (outcome : OutcomeToken) (n : ℕ) (node : Node)
+    → number_of any_role world name ≡ Some n → slice_get world.nodes n ≡ Some node
+    → effect_in dig world (Line.Crash name outcome) ≡ Some (crashed world n node)
+unfolding Rattle.world_rules.specs.Steps.effect_in
+crash-in dig world name outcome n node number node_is =
+    acts world any_role name (λ n found. Some (crashed world n found)) n node number node_is
+
+pub crashes_leave_the_records : CrashesLeaveTheRecords
+crashes_leave_the_records dig world name outcome n node effect number node_is is =
+    let made = stepped dig world (Line.Crash name outcome) effect is in
+    let same = some_same made.bare (crashed world n node)
+    (sym made.bare_is ∙ crash-in dig world name outcome n node number node_is) in
+    ap (λ e. e.world.nodes) made.effect_is ∙ ap (λ e. e.world.nodes) same
+
+-- ---- nodes that are down
+
+down-of : (world : World) (effect : LineEffect) → effect ≡ with_mail (down world) → StaysDown world effect
+down-of world effect is = record {
+  reply = ap (λ e. e.reply) is;
+  done = ap (λ e. e.done) is;
+  made = ap (λ e. e.made) is;
+  event = ap (λ e. e.event) is;
+  same = ap (λ e. e.world) is;
+}
+
+command-in : (dig : List ℕ → List ℕ) (world : World) (command : Command) (n : ℕ) (node : Node)
+    → number_of (plays command) world (node_of command) ≡ Some n → slice_get world.nodes n ≡ Some node
+    → effect_in dig world (Line.Command command) ≡ command_effect dig world command n node
+unfolding Rattle.world_rules.specs.Steps.effect_in
+command-in dig world command n node number node_is =
+    acts world (plays command) (node_of command) (command_effect dig world command) n node number node_is
+
+cut-in : (dig : List ℕ → List ℕ) (world : World) (name : List ℕ) (calls : ℕ) (outcome : OutcomeToken)
+    (command : Command) (n : ℕ) (node : Node)
+    → number_of (plays command) world (node_of command) ≡ Some n → slice_get world.nodes n ≡ Some node
+    → effect_in dig world (Line.Cut name calls outcome command) ≡ cut_effect dig world calls outcome command n node
+unfolding Rattle.world_rules.specs.Steps.effect_in
+cut-in dig world name calls outcome command n node number node_is =
+    acts world (plays command) (node_of command) (cut_effect dig world calls outcome command) n node number node_is
+
+pub down_nodes_stay : DownNodesStay
+down_nodes_stay dig world line command n node effect line_is number node_is is_down is =
+    let made = stepped dig world line effect is in
+    let same = some_same made.bare (down world) (sym made.bare_is ∙ by line_is) in
+    down-of world effect (made.effect_is ∙ ap with_mail same)
+  where
+    commanded-down : command_effect dig world command n node ≡ Some (down world)
+    commanded-down = ap (λ b. if b then Some (down world)
+        else option_map (commanded world n node) (deed_of dig world n node command)) is_down
+
+    by : IsCommandIn line command → effect_in dig world line ≡ Some (down world)
+    by (inl alone) =
+        ap (effect_in dig world) alone ∙ command-in dig world command n node number node_is ∙ commanded-down
+    by (inr in_cut) =
+        ap (effect_in dig world) in_cut.3
+        ∙ cut-in dig world in_cut.0 in_cut.1 in_cut.2 command n node number node_is
+        ∙ ap (λ b. if b then Some (down world)
+        else option_map (cut world n node in_cut.1 in_cut.2 command) (deed_of dig world n node command)) is_down
+
+-- ---- cuts
+
+-- the effect of a cut that isn't answered `down`
+cut-is : (dig : List ℕ → List ℕ) (world : World) (name : List ℕ) (calls : ℕ) (outcome : OutcomeToken)
+    (command : Command) (n : ℕ) (node : Node) (deed : Deed) (effect : LineEffect)
+    → number_of (plays command) world (node_of command) ≡ Some n → slice_get world.nodes n ≡ Some node
+    → answers_down node command ≡ false → deed_of dig world n node command ≡ Some deed
+    → step dig (Some world) (Line.Cut name calls outcome command) ≡ Some effect
+    → effect ≡ with_mail (cut world n node calls outcome command deed)
+cut-is dig world name calls outcome command n node deed effect number node_is up deed_is is =
+    let made = stepped dig world (Line.Cut name calls outcome command) effect is in
+    let same = some_same made.bare (cut world n node calls outcome command deed)
+    (sym made.bare_is ∙ cut-in dig world name calls outcome command n node number node_is
+    ∙ ap (λ b. if b then Some (down world)
+    else option_map (cut world n node calls outcome command) (deed_of dig world n node command)) up
+    ∙ ap (option_map (cut world n node calls outcome command)) deed_is) in
+    made.effect_is ∙ ap with_mail same
+
+-- a deed that adds no record leaves the records
+none-added : (node : Node) (deed : Deed) → adds_record deed ≡ false → with_records node deed ≡ node
+none-added node deed none =
+    let parts = or_parts (is_some deed.note) (is_some deed.leaf) none in
+    ap (λ notes. record node { notes = notes; leaves = with_record node.leaves deed.leaf })
+    (no-more node.notes deed.note parts.0)
+    ∙ ap (λ leaves. record node { leaves = leaves }) (no-more node.leaves deed.leaf parts.1)
+  where
+    no-more : (records : List (List ℕ)) (more : Option (List ℕ)) → is_some more ≡ false
+        → with_record records more ≡ records
+    no-more records None none = refl
+    no-more records (Some body) none = absurd (cc none)
+
+-- a command that isn't stopped leaves the records that the law of appends leaves
+kept-so : (node : Node) (deed : Deed) (calls : ℕ) (outcome : OutcomeToken)
+    → (adds_record deed && nat_lt calls 4) ≡ false
+    → with_records node deed ≡ (if is_added calls (outcome_of outcome) then with_records node deed else node)
+kept-so node deed calls outcome long =
+    elim (and_cases (adds_record deed) (nat_lt calls 4) long) [
+      | inl none ↦ same (is_added calls (outcome_of outcome)) (none-added node deed none)
+      | inr many ↦
+          sym (ap
+          (λ b. if b || (nat_le 2 calls && opens_gate (outcome_of outcome)) then with_records node deed else node)
+          (le-leb 4 calls (ltb-false calls 4 many)))
+    ]
+  where
+    same : (b : Bool) → with_records node deed ≡ node
+        → with_records node deed ≡ (if b then with_records node deed else node)
+    same true is = refl
+    same false is = is
+
+module _ (world : World) (n : ℕ) (node : Node) (calls : ℕ) (outcome : OutcomeToken) (command : Command)
+    (deed : Deed) where
+  -- one that is stopped, with its record kept or not
+  stopped-to : (kept : Bool) (after : Node) → after ≡ (if kept then with_records node deed else node)
+      → IsCutTo world n after true deed (with_mail
+      (if kept
+      then says Reply.Stopped (without_offers n deed.gives.event)
+      (with_node world n (after_crash (with_records node deed)))
+      else says Reply.Stopped (Other n) (with_node world n (after_crash node))))
+  stopped-to true after is =
+      record { nodes = ap (λ a. set world.nodes n (after_crash a)) (sym is); done = refl; reply = refl }
+  stopped-to false after is =
+      record { nodes = ap (λ a. set world.nodes n (after_crash a)) (sym is); done = refl; reply = refl }
+
+  -- the node that a stop leaves
+  abbrev left : Node
+  left = if not (is_opening command) && is_added calls (outcome_of outcome) then with_records node deed else node
+
+  -- whether it is stopped, or ends first
+  cut-to : (short : Bool) (after : Node) → is_stopped calls node command deed ≡ short
+      → (short ≡ true
+      → after ≡ left)
+      → (short ≡ false → after ≡ with_records node deed)
+      → IsCutTo world n after short deed (with_mail (cut world n node calls outcome command deed))
+  cut-to short after short_is stops ends =
+      subst (λ b. IsCutTo world n after short deed (with_mail
+      (if b then stopped world n node calls outcome command deed else finished world n node deed))) (sym short_is)
+      (by short stops ends)
+    where
+      by : (b : Bool)
+          → (b ≡ true → after
+          ≡ left)
+          → (b ≡ false → after ≡ with_records node deed)
+          → IsCutTo world n after b deed (with_mail
+          (if b then stopped world n node calls outcome command deed else finished world n node deed))
+      by true stops ends =
+          stopped-to (not (is_opening command) && is_added calls (outcome_of outcome)) after (stops refl)
+      by false stops ends = record {
+        nodes = ap (λ a. set world.nodes n (after_crash a)) (sym (ends refl));
+        done = refl;
+        reply = refl;
+      }
+
+pub cuts_keep_as_appends_do : CutsKeepAsAppendsDo
+cuts_keep_as_appends_do dig world name calls outcome command n node deed effect number node_is up other deed_is is =
+    let short = adds_record deed && nat_lt calls 4 in
+    let after = if is_added calls (outcome_of outcome) then with_records node deed else node in
+    subst (λ e. IsCutTo world n after short deed e)
+    (sym (cut-is dig world name calls outcome command n node deed effect number node_is up deed_is is))
+    (cut-to world n node calls outcome command deed short after
+    (ap (λ b. if b then not node.is_up && nat_lt calls 3 else short) other)
+    (λ stops. ap (λ b. if not b && is_added calls (outcome_of outcome) then with_records node deed else node)
+    (sym other))
+    (λ ends. sym (kept-so node deed calls outcome ends)))
+
+-- an opening adds no record
+opening-none : (dig : List ℕ → List ℕ) (world : World) (n : ℕ) (node : Node) (name : List ℕ) (deed : Deed)
+    → deed_of dig world n node (Command.Open name) ≡ Some deed → with_records node deed ≡ node
+unfolding Rattle.world_rules.specs.Deeds.deed_of
+opening-none dig world n node name deed is =
+    subst (λ d. with_records node d ≡ node) (some_same _ deed is) refl
+
+pub cut_openings_leave_the_records : CutOpeningsLeaveTheRecords
+cut_openings_leave_the_records dig world name opened calls outcome n node deed effect number node_is deed_is is =
+    subst (λ e. IsCutTo world n node (not node.is_up && nat_lt calls 3) deed e)
+    (sym (cut-is dig world name calls outcome (Command.Open opened) n node deed effect number node_is
+    (never node.is_up) deed_is is))
+    (cut-to world n node calls outcome (Command.Open opened) deed (not node.is_up && nat_lt calls 3) node refl
+    (λ stops. refl) (λ ends. sym (opening-none dig world n node opened deed deed_is)))
+  where
+    never : (b : Bool) → (not b && false) ≡ false
+    never true = refl
+    never false = refl

@@ -1,0 +1,170 @@
+-- What each step does to the nodes and their records.
+use Rattle.std.proofs.Common.{◌≡◌, ◌⊎◌, ℕ, List, Option, Some, None, inl, inr, refl, sym, ap, ◌∙◌, subst}
+use Rattle.std.specs.Prelude.{set, slice_get}
+use Rattle.line_forms.proofs.FormLaws.{option_map_some}
+use Rattle.plasma_tx.specs.declared.owner.Owner.{Owner}
+use Rattle.plasma_tx.proofs.Names.{some_same}
+use Rattle.coin_history.specs.Bundles.{bundle_in}
+use Rattle.schedule_text.specs.declared.command.Command.{Command}
+use Rattle.schedule_text.specs.declared.command.WalletCommand.{WalletCommand}
+use Rattle.schedule_text.specs.declared.command.WatcherCommand.{WatcherCommand}
+use Rattle.schedule_text.specs.declared.command.OperatorCommand.{OperatorCommand}
+use Rattle.node_rules.specs.Kept.{links_handed}
+use Rattle.node_rules.specs.Wallet.{WalletRecords, noted, who, coin_state, accept_effect, send_effect, leave_effect, reclaim_effect}
+use Rattle.node_rules.proofs.WalletAdded.{accept-leaf, send-note, leave-leaf, reclaim-leaf, migrate-note}
+use Rattle.world_rules.specs.World.{Node, World, wallet_of, bytes_of, new_owner_of}
+use Rattle.world_rules.specs.Deeds.{Deed, send_deed, wallet_command, watcher_command, operator_command, with_record, adds_record, deed_of}
+use Rattle.world_rules.specs.Steps.{LineEffect, with_records, after_command, after_crash}
+use Rattle.world_rules.specs.Laws.{GrowsByOne, GrowsAtMost, ChangesOneNode, DeclaresOneNode, RecordsGrow}
+use Rattle.world_rules.proofs.Shapes.{Shape, Still, Enters, AddsWallet, AddsWatcher, AddsRogue, Crashes, Commands, Cuts, shape, IsCut, Kept, Lost, is_cut}
+use Rattle.world_rules.proofs.StepLaws.{stepped}
+
+-- ---- a deed adds at most one record
+
+-- none is added to the notes, or none to the leaves
+abbrev pub AddsOne : Deed → Type 0
+AddsOne deed = (deed.note ≡ None) ⊎ (deed.leaf ≡ None)
+
+module _ (dig : List ℕ → List ℕ) (world : World) (n : ℕ) where
+  accept-one : (wallet : WalletRecords) (bytes : List ℕ)
+      → (accept_effect dig wallet world.chain.log bytes).leaf ≡ None
+  unfolding Rattle.node_rules.specs.Wallet.accept_effect
+  accept-one wallet bytes =
+      accept-leaf world.chain.log (noted dig wallet) (links_handed dig (who wallet).tag world.chain.log bytes)
+
+  send-one : (wallet : WalletRecords) (coin : ℕ) (to : Owner) (last : Option ℕ)
+      → (send_effect dig wallet world.chain.log coin to last).note ≡ None
+  unfolding Rattle.node_rules.specs.Wallet.send_effect
+  send-one wallet coin to last =
+      send-note wallet world.chain.log coin to last (coin_state dig wallet world.chain.log coin)
+
+  leave-one : (wallet : WalletRecords) (coin : ℕ) → (leave_effect dig wallet world.chain.log coin).leaf ≡ None
+  unfolding Rattle.node_rules.specs.Wallet.leave_effect
+  leave-one wallet coin = leave-leaf dig wallet world.chain.log coin (coin_state dig wallet world.chain.log coin)
+
+  reclaim-one : (wallet : WalletRecords) (bytes : List ℕ)
+      → (reclaim_effect dig wallet world.chain.log bytes).leaf ≡ None
+  unfolding Rattle.node_rules.specs.Wallet.reclaim_effect
+  reclaim-one wallet bytes = reclaim-leaf dig wallet world.chain.log (bundle_in bytes)
+
+  wallet-one : (wallet : WalletRecords) (own : WalletCommand) (deed : Deed)
+      → wallet_command dig world n wallet own ≡ Some deed → AddsOne deed
+  wallet-one wallet (WalletCommand.Accept bundle) deed is =
+      subst AddsOne (some_same _ deed is) (inr (accept-one wallet (bytes_of world bundle)))
+  wallet-one wallet (WalletCommand.Send coin to last) deed is =
+      let found = option_map_some (send_deed dig world n wallet coin last) (new_owner_of world to) deed is in
+      subst AddsOne found.2 (inl (send-one wallet coin found.0 last))
+  wallet-one wallet (WalletCommand.Again coin) deed is = subst AddsOne (some_same _ deed is) (inl refl)
+  wallet-one wallet (WalletCommand.Leave coin) deed is =
+      subst AddsOne (some_same _ deed is) (inr (leave-one wallet coin))
+  wallet-one wallet (WalletCommand.Reclaim bundle) deed is =
+      subst AddsOne (some_same _ deed is) (inr (reclaim-one wallet (bytes_of world bundle)))
+  wallet-one wallet WalletCommand.Migrate deed is =
+      subst AddsOne (some_same _ deed is) (inl (migrate-note wallet))
+
+  -- watchers and the operator have no leaves
+  pub adds_one : (node : Node) (command : Command) (deed : Deed) → deed_of dig world n node command ≡ Some deed
+      → AddsOne deed
+  unfolding Rattle.world_rules.specs.Deeds.deed_of
+  adds_one node (Command.Wallet name own) deed is = wallet-one (wallet_of node) own deed is
+  adds_one node (Command.Watcher name own) deed is = subst AddsOne (some_same _ deed is) (inr (watching own))
+    where
+      watching : (own : _) → (watcher_command dig world n node.notes own).leaf ≡ None
+      watching (WatcherCommand.Guard bundle) = refl
+      watching (WatcherCommand.Release coin tip) = refl
+  adds_one node (Command.Operator own) deed is = subst AddsOne (some_same _ deed is) (inr (operating own))
+    where
+      operating : (own : _) → (operator_command dig world n node.notes own).leaf ≡ None
+      operating (OperatorCommand.Offer transfer) = refl
+      operating (OperatorCommand.Lay coin leaf) = refl
+      operating OperatorCommand.Seal = refl
+      operating (OperatorCommand.Bundle coin tip) = refl
+      operating (OperatorCommand.Prove coin block) = refl
+      operating (OperatorCommand.Absences coin after last) = refl
+  adds_one node (Command.Watch name) deed is = subst AddsOne (some_same _ deed is) (inl refl)
+  adds_one node (Command.Open name) deed is = subst AddsOne (some_same _ deed is) (inl refl)
+
+-- ---- so a node's records grow by at most one
+
+-- records stay without a record, and have it behind them with one
+recorded : (records : List (List ℕ)) (more : Option (List ℕ))
+    → (with_record records more ≡ records) ⊎ GrowsByOne records (with_record records more)
+recorded records None = inl refl
+recorded records (Some body) = inr (body, refl)
+
+none-stays : (records : List (List ℕ)) (more : Option (List ℕ)) → more ≡ None → with_record records more ≡ records
+none-stays records more is = ap (with_record records) is
+
+-- the node with the records, up or down and with other offers
+pub grows : (node after : Node) (deed : Deed) → AddsOne deed → after.name ≡ node.name → after.account ≡ node.account
+    → after.role ≡ node.role → after.notes ≡ with_record node.notes deed.note
+    → after.leaves ≡ with_record node.leaves deed.leaf → GrowsAtMost node after
+grows node after deed one name account role notes leaves = record {
+  name = name;
+  account = account;
+  role = role;
+  notes = elim one [
+    | inl none ↦ inl (notes ∙ none-stays node.notes deed.note none)
+    | inr none ↦ elim (recorded node.notes deed.note) [
+      | inl same ↦ inl (notes ∙ same)
+      | inr more ↦ inr ((more.0, notes ∙ more.1), leaves ∙ none-stays node.leaves deed.leaf none)
+    ]
+  ];
+  leaves = elim one [
+    | inr none ↦ inl (leaves ∙ none-stays node.leaves deed.leaf none)
+    | inl none ↦ elim (recorded node.leaves deed.leaf) [
+      | inl same ↦ inl (leaves ∙ same)
+      | inr more ↦ inr ((more.0, leaves ∙ more.1), notes ∙ none-stays node.notes deed.note none)
+    ]
+  ];
+}
+
+-- a node that keeps its records
+stays : (node after : Node) → after.name ≡ node.name → after.account ≡ node.account → after.role ≡ node.role
+    → after.notes ≡ node.notes → after.leaves ≡ node.leaves → GrowsAtMost node after
+stays node after name account role notes leaves =
+    record { name = name; account = account; role = role; notes = inl notes; leaves = inl leaves }
+
+abbrev pub NodesGrow : World → List Node → Type 0
+NodesGrow world after =
+    (after ≡ world.nodes) ⊎ ChangesOneNode world.nodes after ⊎ DeclaresOneNode world.nodes after
+
+module _ (dig : List ℕ → List ℕ) (world : World) where
+  changes : (n : ℕ) (node after : Node) (nodes : List Node) → slice_get world.nodes n ≡ Some node
+      → GrowsAtMost node after → nodes ≡ set world.nodes n after → NodesGrow world nodes
+  changes n node after nodes node_is grow is =
+      inr (inl (record { number = n; old = node; new = after; is_old = node_is; is_new = is; grows = grow }))
+
+  cut-grows : (n : ℕ) (node : Node) (deed : Deed) (effect : LineEffect) → slice_get world.nodes n ≡ Some node
+      → AddsOne deed → IsCut world n node deed effect → NodesGrow world effect.world.nodes
+  cut-grows n node deed effect node_is one (Kept event world_is) =
+      changes n node (after_crash (with_records node deed)) effect.world.nodes node_is
+      (grows node (after_crash (with_records node deed)) deed one refl refl refl refl refl)
+      (ap (λ w. w.nodes) world_is)
+  cut-grows n node deed effect node_is one (Lost event world_is) =
+      changes n node (after_crash node) effect.world.nodes node_is
+      (stays node (after_crash node) refl refl refl refl refl) (ap (λ w. w.nodes) world_is)
+
+  shape-grows : (effect : LineEffect) → Shape dig world effect → NodesGrow world effect.world.nodes
+  shape-grows effect (Still reply made is) = inl (ap (λ e. e.world.nodes) is)
+  shape-grows effect (Enters callers call is) = inl (ap (λ e. e.world.nodes) is)
+  shape-grows effect (AddsWallet name who is) = inr (inr (_, ap (λ e. e.world.nodes) is))
+  shape-grows effect (AddsWatcher name account is) = inr (inr (_, ap (λ e. e.world.nodes) is))
+  shape-grows effect (AddsRogue name who is) = inl (ap (λ e. e.world.nodes) is)
+  shape-grows effect (Crashes n node node_is is) =
+      changes n node (after_crash node) effect.world.nodes node_is
+      (stays node (after_crash node) refl refl refl refl refl) (ap (λ e. e.world.nodes) is)
+  shape-grows effect (Commands command n node deed done is) =
+      changes n node (after_command node deed) effect.world.nodes done.node_is
+      (grows node (after_command node deed) deed (adds_one dig world n node command deed done.deed_is)
+      refl refl refl refl refl)
+      (ap (λ e. e.world.nodes) is)
+  shape-grows effect (Cuts command calls outcome n node deed done is) =
+      cut-grows n node deed effect done.node_is (adds_one dig world n node command deed done.deed_is)
+      (subst (λ e. IsCut world n node deed e) (sym is) (is_cut world n node calls outcome command deed))
+
+pub records_grow : RecordsGrow
+records_grow dig world line effect is =
+    let made = stepped dig world line effect is in
+    subst (λ (e : LineEffect). NodesGrow world e.world.nodes) (sym made.effect_is)
+    (shape-grows dig world made.bare (shape dig world line made.bare made.bare_is))

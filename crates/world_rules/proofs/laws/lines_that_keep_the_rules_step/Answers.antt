@@ -1,0 +1,5 @@
+use Rattle.world_rules.proofs.Existence.{lines_that_keep_the_rules_step}
+use Rattle.world_rules.proofs.laws.lines_that_keep_the_rules_step.Goals as goal
+
+pub returns : goal.returns
+returns c = lines_that_keep_the_rules_step
