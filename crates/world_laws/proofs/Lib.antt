@@ -1,3 +1,4 @@
 pub mod Lists
 pub mod Clash
 pub mod Walk
+pub mod Histories
