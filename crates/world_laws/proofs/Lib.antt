@@ -2,3 +2,4 @@ pub mod Lists
 pub mod Clash
 pub mod Walk
 pub mod Histories
+pub mod Shown
