@@ -3,3 +3,4 @@ pub mod Clash
 pub mod Walk
 pub mod Histories
 pub mod Shown
+pub mod Absences
