@@ -4,3 +4,4 @@ pub mod Walk
 pub mod Histories
 pub mod Shown
 pub mod Absences
+pub mod Bound
