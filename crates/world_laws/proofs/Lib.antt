@@ -5,3 +5,4 @@ pub mod Histories
 pub mod Shown
 pub mod Absences
 pub mod Bound
+pub mod Held
