@@ -6,3 +6,4 @@ pub mod Shown
 pub mod Absences
 pub mod Bound
 pub mod Held
+pub mod Nodes
