@@ -7,3 +7,4 @@ pub mod Absences
 pub mod Bound
 pub mod Held
 pub mod Nodes
+pub mod Quiet
