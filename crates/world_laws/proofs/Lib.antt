@@ -8,3 +8,4 @@ pub mod Bound
 pub mod Held
 pub mod Nodes
 pub mod Quiet
+pub mod Guards
