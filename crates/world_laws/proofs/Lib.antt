@@ -9,3 +9,4 @@ pub mod Held
 pub mod Nodes
 pub mod Quiet
 pub mod Guards
+pub mod Watched
