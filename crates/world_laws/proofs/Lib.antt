@@ -10,3 +10,4 @@ pub mod Nodes
 pub mod Quiet
 pub mod Guards
 pub mod Watched
+pub mod Steps
