@@ -11,3 +11,4 @@ pub mod Quiet
 pub mod Guards
 pub mod Watched
 pub mod Steps
+pub mod Harms
