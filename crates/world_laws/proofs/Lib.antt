@@ -12,3 +12,4 @@ pub mod Guards
 pub mod Watched
 pub mod Steps
 pub mod Harms
+pub mod Offers
