@@ -13,3 +13,4 @@ pub mod Watched
 pub mod Steps
 pub mod Harms
 pub mod Offers
+pub mod Safe
