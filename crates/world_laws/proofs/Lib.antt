@@ -1,1 +1,17 @@
 pub mod Words
+pub mod Lists
+pub mod Clash
+pub mod Walk
+pub mod Histories
+pub mod Shown
+pub mod Absences
+pub mod Bound
+pub mod Held
+pub mod Nodes
+pub mod Quiet
+pub mod Guards
+pub mod Watched
+pub mod Steps
+pub mod Harms
+pub mod Offers
+pub mod Safe

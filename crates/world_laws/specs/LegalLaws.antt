@@ -1,0 +1,20 @@
+-- What is promised of every list of legal events.
+use Rattle.std.specs.Prelude.{◌≡◌, ℕ, true, false, List, ◌∷◌}
+use Rattle.root_rules.specs.Shown.{Rules, tests_by}
+use Rattle.world_rules.specs.Events.{Event}
+use Rattle.world_rules.specs.Exhibits.{collides, is_forged}
+use Rattle.world_rules.specs.Safety.{is_attended, is_safe}
+use Rattle.world_rules.specs.Laws.{IsDigest}
+use Rattle.world_laws.specs.Legal.{IsLegal}
+
+-- The coin that a wallet holds is safe at each event. Unless the events up to it show, at this coin, two byte strings
+-- with one digest, or a signature that is valid under the wallet's key and that the wallet never made, no exit of
+-- another account was paid while the wallet held the coin at e, and its own exit at e wasn't cancelled or dropped, and
+-- paid where it was finished at its end; where each tick before the event that met a deadline of the coin was attended.
+abbrev pub LegalCoinsAreSafe : Type 0
+LegalCoinsAreSafe = (dig : List ℕ → List ℕ) (rules : Rules) (event : Event) (events : List Event) (w c e : ℕ)
+    → IsDigest dig → IsLegal (tests_by dig) rules (event ∷ events)
+    → is_attended events w c e ≡ true
+    → collides dig (event ∷ events) c ≡ false
+    → is_forged rules.tag (event ∷ events) w c ≡ false
+    → is_safe (tests_by dig) rules (event ∷ events) w c e ≡ true
