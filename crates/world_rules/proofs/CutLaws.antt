@@ -107,7 +107,8 @@ cut-is dig world name calls outcome command n node deed effect number node_is up
 none-added : (node : Node) (deed : Deed) → adds_record deed ≡ false → with_records node deed ≡ node
 none-added node deed none =
     let parts = or_parts (is_some deed.note) (is_some deed.leaf) none in
-    ap (λ notes. record node { notes = notes; leaves = with_record node.leaves deed.leaf }) (no-more node.notes deed.note parts.0)
+    ap (λ notes. record node { notes = notes; leaves = with_record node.leaves deed.leaf })
+    (no-more node.notes deed.note parts.0)
     ∙ ap (λ leaves. record node { leaves = leaves }) (no-more node.leaves deed.leaf parts.1)
   where
     no-more : (records : List (List ℕ)) (more : Option (List ℕ)) → is_some more ≡ false
@@ -123,7 +124,8 @@ kept-so node deed calls outcome long =
     elim (and_cases (adds_record deed) (nat_lt calls 4) long) [
       | inl none ↦ same (is_added calls (outcome_of outcome)) (none-added node deed none)
       | inr many ↦
-          sym (ap (λ b. if b || (nat_le 2 calls && opens_gate (outcome_of outcome)) then with_records node deed else node)
+          sym (ap
+          (λ b. if b || (nat_le 2 calls && opens_gate (outcome_of outcome)) then with_records node deed else node)
           (le-leb 4 calls (ltb-false calls 4 many)))
     ]
   where
@@ -146,10 +148,14 @@ module _ (world : World) (n : ℕ) (node : Node) (calls : ℕ) (outcome : Outcom
   stopped-to false after is =
       record { nodes = ap (λ a. set world.nodes n (after_crash a)) (sym is); done = refl; reply = refl }
 
+  -- the node that a stop leaves
+  abbrev left : Node
+  left = if not (is_opening command) && is_added calls (outcome_of outcome) then with_records node deed else node
+
   -- whether it is stopped, or ends first
   cut-to : (short : Bool) (after : Node) → is_stopped calls node command deed ≡ short
       → (short ≡ true
-      → after ≡ (if not (is_opening command) && is_added calls (outcome_of outcome) then with_records node deed else node))
+      → after ≡ left)
       → (short ≡ false → after ≡ with_records node deed)
       → IsCutTo world n after short deed (with_mail (cut world n node calls outcome command deed))
   cut-to short after short_is stops ends =
@@ -159,7 +165,7 @@ module _ (world : World) (n : ℕ) (node : Node) (calls : ℕ) (outcome : Outcom
     where
       by : (b : Bool)
           → (b ≡ true → after
-          ≡ (if not (is_opening command) && is_added calls (outcome_of outcome) then with_records node deed else node))
+          ≡ left)
           → (b ≡ false → after ≡ with_records node deed)
           → IsCutTo world n after b deed (with_mail
           (if b then stopped world n node calls outcome command deed else finished world n node deed))
@@ -179,7 +185,8 @@ cuts_keep_as_appends_do dig world name calls outcome command n node deed effect 
     (sym (cut-is dig world name calls outcome command n node deed effect number node_is up deed_is is))
     (cut-to world n node calls outcome command deed short after
     (ap (λ b. if b then not node.is_up && nat_lt calls 3 else short) other)
-    (λ stops. ap (λ b. if not b && is_added calls (outcome_of outcome) then with_records node deed else node) (sym other))
+    (λ stops. ap (λ b. if not b && is_added calls (outcome_of outcome) then with_records node deed else node)
+    (sym other))
     (λ ends. sym (kept-so node deed calls outcome ends)))
 
 -- an opening adds no record

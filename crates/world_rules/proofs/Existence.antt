@@ -175,7 +175,7 @@ step-some true o each = is_some-map with_mail o ∙ each refl
 step-some false o each = refl
 
 pub lines_that_keep_the_rules_step : LinesThatKeepTheRulesStep
-unfolding Rattle.world_rules.specs.Steps.step Rattle.world_rules.specs.Steps.effect_of Rattle.world_rules.specs.Declarations.keeps_rules
+unfolding step effect_of keeps_rules
 lines_that_keep_the_rules_step dig (Some world) line =
     step-some (keeps_rules_in world line) (effect_in dig world line) (effect-some dig world line)
 lines_that_keep_the_rules_step dig None (Line.Chain tag operator most) = refl

@@ -35,16 +35,20 @@ pub record IsBy (n : ℕ) (event : Event) (calls : List RootCall) : Type 0 where
   pub node : node_in event ≡ Some n
   pub calls_are : offered event ≡ calls
 
+by-event : (n : ℕ) (gives : Gives) (event : Event) (calls : List RootCall) → node_in event ≡ Some n
+    → gives.event ≡ event → offered event ≡ calls → gives.offers ≡ calls → IsBy n gives.event gives.offers
+by-event n gives event calls node event_is calls_are offers =
+    record { node = ap node_in event_is ∙ node; calls_are = ap offered event_is ∙ calls_are ∙ sym offers }
+
 pub own-by : (n : ℕ) (gives : Gives) → IsOwn n gives → IsBy n gives.event gives.offers
-own-by n gives (Accepting bundle event offers) = record { node = ap node_in event; calls_are = ap offered event ∙ sym offers }
-own-by n gives (Guarding bundle event offers) = record { node = ap node_in event; calls_are = ap offered event ∙ sym offers }
-own-by n gives (Releasing c e event offers) = record { node = ap node_in event; calls_are = ap offered event ∙ sym offers }
-own-by n gives (Binding body event offers) = record { node = ap node_in event; calls_are = ap offered event ∙ sym offers }
-own-by n gives (TakingBack q bundle event offers) =
-    record { node = ap node_in event; calls_are = ap offered event ∙ sym offers }
-own-by n gives (Watching calls event offers) = record { node = ap node_in event; calls_are = ap offered event ∙ sym offers }
-own-by n gives (Leaving call event offers) = record { node = ap node_in event; calls_are = ap offered event ∙ sym offers }
-own-by n gives (Others event offers) = record { node = ap node_in event; calls_are = ap offered event ∙ sym offers }
+own-by n gives (Accepting bundle event offers) = by-event n gives (Accepts n bundle) [] refl event refl offers
+own-by n gives (Guarding bundle event offers) = by-event n gives (Guards n bundle) [] refl event refl offers
+own-by n gives (Releasing c e event offers) = by-event n gives (Releases n c e) [] refl event refl offers
+own-by n gives (Binding body event offers) = by-event n gives (Binds n body) [] refl event refl offers
+own-by n gives (TakingBack q bundle event offers) = by-event n gives (TakesBack n q bundle) [] refl event refl offers
+own-by n gives (Watching calls event offers) = by-event n gives (Watches n calls) calls refl event refl offers
+own-by n gives (Leaving call event offers) = by-event n gives (Leaves n call) (call ∷ []) refl event refl offers
+own-by n gives (Others event offers) = by-event n gives (Other n) [] refl event refl offers
 
 -- a command of the operator is by node 0
 pub node-by : (n : ℕ) (command : Command) (gives : Gives) → IsOfNode n command gives
@@ -128,7 +132,8 @@ new-offer events nodes event new none empty all = record {
     | inl same ↦
         let new_is : new ≡ node = some_same new node
         (sym (push-same nodes new) ∙ ap (slice_get (nodes ++ new ∷ [])) same ∙ is) in
-        let quiet = all.none n (ap (slice_get nodes) (sym same) ∙ slice_get_past nodes (length nodes) (le_refl (length nodes))) in
+        let past = slice_get_past nodes (length nodes) (le_refl (length nodes)) in
+        let quiet = all.none n (ap (slice_get nodes) (sym same) ∙ past) in
         record {
           offers = ap (λ (k : Node). k.offers) (sym new_is) ∙ empty ∙ sym (no-offers event events n none ∙ quiet);
           down = λ low. ap (λ (k : Node). k.offers) (sym new_is) ∙ empty;

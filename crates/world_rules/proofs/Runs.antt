@@ -7,7 +7,8 @@ use Rattle.schedule_text.specs.declared.line.Line.{Line}
 use Rattle.world_rules.specs.declared.reply.Reply.{Reply}
 use Rattle.world_rules.specs.Events.{Idle}
 use Rattle.world_rules.specs.World.{World}
-use Rattle.world_rules.specs.Steps.{LineEffect, says, new_chain, new_world, with_mail, step, TraceEntry, entry_of, Run, no_lines, with_line, step_run, run_of}
+use Rattle.world_rules.specs.Declarations.{keeps_rules}
+use Rattle.world_rules.specs.Steps.{LineEffect, says, new_chain, new_world, effect_of, with_mail, step, TraceEntry, entry_of, Run, no_lines, with_line, step_run, run_of}
 
 -- ---- lists
 
@@ -53,7 +54,7 @@ module _ (dig : List ℕ → List ℕ) (P : List TraceEntry → World → Type 0
 
   begins : (line : Line) (effect : LineEffect) → step dig None line ≡ Some effect
       → P (entry_of line effect ∷ []) effect.world
-  unfolding Rattle.world_rules.specs.Steps.step Rattle.world_rules.specs.Steps.effect_of Rattle.world_rules.specs.Declarations.keeps_rules
+  unfolding step effect_of keeps_rules
   begins (Line.Chain tag operator most) effect is =
       subst (λ e. P (entry_of (Line.Chain tag operator most) e ∷ []) e.world) (some_same _ effect is)
       (first tag operator most)

@@ -33,7 +33,7 @@ pub data Shape (dig : List ℕ → List ℕ) (world : World) (effect : LineEffec
   Still : (reply : Reply) (made : List ℕ)
       → effect ≡ record { done = false; reply = reply; made = made; event = Idle; world = world }
       → Shape dig world effect
-  Enters : (raw_callers : List ℕ) (call : RootCall) → effect ≡ called dig (record world { raw_callers = raw_callers }) call
+  Enters : (callers : List ℕ) (call : RootCall) → effect ≡ called dig (record world { raw_callers = callers }) call
       → Shape dig world effect
   AddsWallet : (name : List ℕ) (who : WalletIdentity) → effect ≡ declares_wallet world name who
       → Shape dig world effect

@@ -13,7 +13,7 @@ use Rattle.world_rules.specs.Events.{Event, Joins, Bounces, Declares, Idle, Othe
 use Rattle.world_rules.specs.World.{Node, World}
 use Rattle.world_rules.specs.Declarations.{keeps_rules, keeps_rules_in}
 use Rattle.world_rules.specs.Deeds.{Deed, Gives}
-use Rattle.world_rules.specs.Steps.{LineEffect, called, event_of_call, without_offers, stopped, finished, cut, is_stopped, is_opening, outcome_of, effect_in, effect_of, with_mail, step, Run, step_run, with_line, run_of, events_of}
+use Rattle.world_rules.specs.Steps.{LineEffect, called, without_offers, effect_in, effect_of, with_mail, step}
 use Rattle.world_rules.specs.Laws.{LeavesTheLog, AppendsOneCall, StepsKeepTheLog}
 use Rattle.world_rules.proofs.Shapes.{Shape, Still, Enters, AddsWallet, AddsWatcher, AddsRogue, Crashes, Commands, Cuts, shape, IsCut, Kept, Lost, is_cut}
 use Rattle.world_rules.proofs.OwnEvents.{IsOwn, Accepting, Guarding, Releasing, Binding, TakingBack, Watching, Leaving, Others, IsOfNode, Owns, Sealing, of_node}
@@ -29,7 +29,7 @@ pub record IsStepped (dig : List ℕ → List ℕ) (world : World) (line : Line)
 
 pub stepped : (dig : List ℕ → List ℕ) (world : World) (line : Line) (effect : LineEffect)
     → step dig (Some world) line ≡ Some effect → IsStepped dig world line effect
-unfolding Rattle.world_rules.specs.Steps.step Rattle.world_rules.specs.Steps.effect_of Rattle.world_rules.specs.Declarations.keeps_rules
+unfolding step effect_of keeps_rules
 stepped dig world line effect is = by (keeps_rules_in world line) refl is
   where
     by : (b : Bool) → keeps_rules_in world line ≡ b

@@ -11,9 +11,13 @@ use Rattle.operator_rules.specs.declared.refusal.LayRefusal.{LayRefusal}
 use Rattle.operator_rules.specs.declared.refusal.SealRefusal.{SealRefusal}
 use Rattle.operator_rules.specs.declared.refusal.ProveRefusal.{ProveRefusal}
 
--- words, and numbers after them, each after a blank; 32 is the blank
+-- numbers, each after a blank; 32 is the blank
+abbrev pub numbers_text : List ℕ → List ℕ
+numbers_text numbers = flat_map (λ n. 32 ∷ number_text n) numbers
+
+-- words, and numbers after them
 abbrev pub phrase : List ℕ → List ℕ → List ℕ
-phrase words numbers = words ++ flat_map (λ n. 32 ∷ number_text n) numbers
+phrase words numbers = words ++ numbers_text numbers
 
 -- what the contract refuses a call for
 abbrev pub contract_cause : Refusal → List ℕ

@@ -19,9 +19,13 @@ kind_text OfferKind.Between = codes "between"
 kind_text OfferKind.Before = codes "before"
 kind_text OfferKind.Respond = codes "respond"
 
--- how many calls are offered, and their kinds in order, each after a blank
+-- kinds in order, each after a blank
+abbrev pub kinds_text : List OfferKind → List ℕ
+kinds_text kinds = flat_map (λ kind. 32 ∷ kind_text kind) kinds
+
+-- how many calls are offered, and their kinds
 abbrev pub offers_text : List OfferKind → List ℕ
-offers_text kinds = phrase (codes "offers") (length kinds ∷ []) ++ flat_map (λ kind. 32 ∷ kind_text kind) kinds
+offers_text kinds = phrase (codes "offers") (length kinds ∷ []) ++ kinds_text kinds
 
 -- an answer
 unfoldable pub reply_text : Reply → List ℕ

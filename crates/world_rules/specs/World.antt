@@ -79,8 +79,9 @@ pub record Rogue : Type 0 where
 abbrev pub owner_of_rogue : Rogue → Owner
 owner_of_rogue rogue = record { account = rogue.account; key = public_key_of rogue.secret }
 
--- The world. The operator is the first node, and the others follow in the order of their declarations. `raw_callers` has
--- the accounts of the `call` lines, and `mail` the item of each line, in order: the bytes that the line made, or none.
+-- The world. The operator is the first node, and the others follow in the order of their declarations. `raw_callers`
+-- has the accounts of the `call` lines, and `mail` the item of each line, in order: the bytes that the line made, or
+-- none.
 pub record World : Type 0 where
   pub chain : Chain
   pub nodes : List Node

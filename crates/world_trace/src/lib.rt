@@ -1,0 +1,14 @@
+//! The text of a trace of the world: its lines, verdicts, exhibit and counts, and the causes of refusals.
+#![tactic(auto)]
+
+mod causes;
+mod printing;
+mod replies;
+#[cfg(test)]
+mod tests;
+mod words;
+
+pub use causes::{
+    contract_cause, history_cause, lay_cause, offer_cause, prove_cause, wallet_cause, watcher_cause,
+};
+pub use printing::{print_exhibit, print_line, print_verdict};
