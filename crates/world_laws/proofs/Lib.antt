@@ -1,3 +1,6 @@
 pub mod Lists
 pub mod Clash
 pub mod Walk
+pub mod Origins
+pub mod Holders
+pub mod Identities
