@@ -4,3 +4,4 @@ pub mod Walk
 pub mod Origins
 pub mod Holders
 pub mod Identities
+pub mod DeedOffers
