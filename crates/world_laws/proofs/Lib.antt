@@ -5,3 +5,4 @@ pub mod Origins
 pub mod Holders
 pub mod Identities
 pub mod DeedOffers
+pub mod Keeps
