@@ -130,7 +130,7 @@ module _ (events : List Event) (world : World) (keeps : Keeps events world) wher
   from-callers callers call (Offered n node node_is has same) account is =
       ap (list_any (λ caller. caller == account)) same ∙ is
 
-  keeps-call : (dig : List ℕ → List ℕ) (callers : List ℕ) (call : RootCall) → IsFrom world callers call
+  pub keeps-call : (dig : List ℕ → List ℕ) (callers : List ℕ) (call : RootCall) → IsFrom world callers call
       → let effect = called dig (record world { raw_callers = callers }) call in
       Keeps (effect.event ∷ events) effect.world
   unfolding log_after
@@ -165,7 +165,7 @@ module _ (events : List Event) (world : World) (keeps : Keeps events world) wher
   -- ---- declarations
 
   -- an event of nothing
-  keeps-idle : Keeps (Idle ∷ events) world
+  pub keeps-idle : Keeps (Idle ∷ events) world
   keeps-idle = record {
     tag = keeps.tag;
     nodes = nodes-still events world.chain.tag world.nodes Idle refl (none-there world.nodes Idle refl) keeps.nodes;
@@ -190,7 +190,7 @@ module _ (events : List Event) (world : World) (keeps : Keeps events world) wher
       false≢true (sym (or_parts (list_any (λ (node : Node). node.account == account) world.nodes) _ new).0
       ∙ held-declared world.nodes account held)
 
-  keeps-wallet : (name : List ℕ) (account seed : ℕ) (types : Option LmsTypes)
+  pub keeps-wallet : (name : List ℕ) (account seed : ℕ) (types : Option LmsTypes)
       → IsLine (Line.Wallet name account seed types)
       → may_be_wallet world name (declared_wallet world account seed types) ≡ true
       → let effect = declares_wallet world name (declared_wallet world account seed types) in
@@ -219,7 +219,7 @@ module _ (events : List Event) (world : World) (keeps : Keeps events world) wher
             (subst (IsHeld (holders world.nodes)) (sym (some_same account by is)) held)) keeps.accounts);
       }
 
-  keeps-watcher : (name : List ℕ) (account : ℕ) → IsLine (Line.Watcher name account)
+  pub keeps-watcher : (name : List ℕ) (account : ℕ) → IsLine (Line.Watcher name account)
       → let effect = declares_watcher world name account in Keeps (effect.event ∷ events) effect.world
   keeps-watcher name account line =
       let who : WatcherIdentity = record { tag = world.chain.tag; account = account } in

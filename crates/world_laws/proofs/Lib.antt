@@ -6,3 +6,4 @@ pub mod Holders
 pub mod Identities
 pub mod DeedOffers
 pub mod Keeps
+pub mod Acts
