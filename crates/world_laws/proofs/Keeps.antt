@@ -56,12 +56,17 @@ is-wallet events tag n node is role = by node.role role is.is
     by Watcher role is = absurd (false≢true role)
     by Operator role is = absurd (false≢true role)
 
-held-by : (nodes : List Node) (n : ℕ) (node : Node) (account : ℕ) → slice_get nodes n ≡ Some node
+pub holder-is : (nodes : List Node) (n : ℕ) (node : Node) (account : ℕ) → slice_get nodes n ≡ Some node
+    → is_wallet_role node.role ≡ true → node.account ≡ account → slice_get (holders nodes) n ≡ Some (Some account)
+holder-is nodes n node account is role same =
+    holder-at nodes n node is ∙ ap Some (holder-wallet node role ∙ ap Some same)
+
+pub held-by : (nodes : List Node) (n : ℕ) (node : Node) (account : ℕ) → slice_get nodes n ≡ Some node
     → is_wallet_role node.role ≡ true → node.account ≡ account → IsHeld (holders nodes) account
-held-by nodes n node account is role same = (n, holder-at nodes n node is ∙ ap Some (holder-wallet node role ∙ ap Some same))
+held-by nodes n node account is role same = (n, holder-is nodes n node account is role same)
 
 -- a stranger's call moves its own account
-raw-moves : (world : World) (account : ℕ) (form : CallForm) (call : RootCall) (by : ℕ)
+pub raw-moves : (world : World) (account : ℕ) (form : CallForm) (call : RootCall) (by : ℕ)
     → call_of world account form ≡ Some call → Moves by call → (account == by) ≡ true
 raw-moves world account (CallForm.Deposit amount key) call by is moves =
     let found = option_map_some (RootCall.Deposit account amount) (key_of world key) call is in

@@ -7,3 +7,5 @@ pub mod Identities
 pub mod DeedOffers
 pub mod Keeps
 pub mod Acts
+pub mod Handed
+pub mod LegalCalls
