@@ -1,7 +1,6 @@
 -- What a line does with one node keeps what holds of the world, so each line does, and it holds of every run.
-use Rattle.std.proofs.Common.{◌≡◌, ◌≢◌, ◌⊎◌, ℕ, zero, suc, Bool, true, false, if◌then◌else◌, List, [], ◌∷◌, length, Option, Some, None, inl, inr, refl, sym, ap, ◌∙◌, subst, set, slice_get}
+use Rattle.std.proofs.Common.{◌≡◌, ◌⊎◌, ℕ, zero, suc, false, List, [], ◌∷◌, Option, Some, None, inl, inr, refl, sym, ap, ◌∙◌, subst, slice_get}
 use Rattle.std.specs.List.{All}
-use Rattle.std.proofs.lemmas.Bool.{true≢false}
 use Rattle.std.proofs.lemmas.List.Elements.{All-head, All-tail}
 use Rattle.line_forms.proofs.FormLaws.{and_then_some, option_map_some}
 use Rattle.plasma_tx.specs.declared.call.RootCall.{RootCall}
@@ -10,8 +9,8 @@ use Rattle.schedule_text.specs.declared.line.Line.{Line}
 use Rattle.schedule_text.specs.declared.command.Command.{Command}
 use Rattle.schedule_text.specs.Grammar.{IsLine}
 use Rattle.watch_duty.proofs.Members.{Has}
-use Rattle.world_rules.specs.Events.{Event, Declares, Joins, Bounces, Accepts, Guards, Releases, Binds, TakesBack, Watches, Leaves, Seals, Other, Idle, wallet_owner, node_in, is_command_of}
-use Rattle.world_rules.specs.World.{Role, Operator, Node, World, with_node}
+use Rattle.world_rules.specs.Events.{Event, Declares, Watches, Leaves, Seals, Idle, wallet_owner, node_in}
+use Rattle.world_rules.specs.World.{Node, World, with_node}
 use Rattle.world_rules.specs.Declarations.{keeps_rules}
 use Rattle.world_rules.specs.Deeds.{Deed, Gives}
 use Rattle.world_rules.specs.Steps.{LineEffect, new_chain, operator_node, with_records, after_command, after_crash, commanded, crashed, cut, without_offers, effect_of, with_mail, step, TraceEntry, entry_of, Run, no_lines, with_line, step_run, run_of, events_of}
@@ -25,8 +24,8 @@ use Rattle.world_rules.proofs.Runs.{begun}
 use Rattle.world_laws.specs.Headline.{IsRun}
 use Rattle.world_laws.proofs.Lists.{some_same, none_some}
 use Rattle.world_laws.proofs.Origins.{Does, Rests, Enters, AddsWallet, AddsWatcher, AddsRogue, Crashes, Commands, Cuts, does}
-use Rattle.world_laws.proofs.Holders.{holder, holders, holders-set, KeepAccounts}
-use Rattle.world_laws.proofs.Identities.{AreNodes, IsNode, IsOffer, is_declaration, IsThere, nodes-still, nodes-set, padded-long}
+use Rattle.world_laws.proofs.Holders.{holder, holders-set, KeepAccounts}
+use Rattle.world_laws.proofs.Identities.{IsNode, IsOffer, is_declaration, IsThere, nodes-still, nodes-set, padded-long}
 use Rattle.world_laws.proofs.DeedOffers.{deed-offers}
 use Rattle.world_laws.proofs.Keeps.{Keeps, own-account, keeps-idle, keeps-call, keeps-wallet, keeps-watcher}
 

@@ -2,7 +2,7 @@
 use Rattle.std.proofs.Common.{◌≡◌, ℕ, ◌≤◌, ◌==◌, Bool, true, false, if◌then◌else◌, List, [], length, Ok, Err, inl, inr, refl, sym, ap, ◌∙◌, subst}
 use Rattle.std.specs.Prelude.{Result, unwrap_or}
 use Rattle.std.specs.Result.{result_ok}
-use Rattle.std.proofs.lemmas.Bool.{cases_lt, lt-ltb, le-ltb, cases_Bool}
+use Rattle.std.proofs.lemmas.Bool.{cases_lt, lt-ltb, le-ltb}
 use Rattle.plasma_tx.specs.declared.links.Links.{Links}
 use Rattle.plasma_tx.specs.declared.call.RootCall.{RootCall}
 use Rattle.root_rules.specs.Shown.{tests_by, Rules}
@@ -11,12 +11,11 @@ use Rattle.coin_history.specs.declared.refusal.HistoryRefusal.{HistoryRefusal}
 use Rattle.coin_history.specs.declared.refusal.HistoryRefusal.TheVariants.{BadBundle}
 use Rattle.coin_history.specs.Bundles.{Items, AreRising, length_at, items_in, bundle_of, bundle_in}
 use Rattle.coin_history.specs.History.{IsHistory}
-use Rattle.coin_history.specs.Checking.{history_of}
 use Rattle.coin_history.proofs.BundleLaws.{items_in-ok}
 use Rattle.coin_history.proofs.CheckFacts.{tagged-same}
 use Rattle.coin_history.proofs.HistoryFound.{histories_are_found}
 use Rattle.plasma_tx.specs.Spelling.{number_at}
-use Rattle.node_rules.specs.Kept.{chain_of, links_handed}
+use Rattle.node_rules.specs.Kept.{links_handed}
 use Rattle.node_rules.proofs.KeptTexts.{handed-bundle}
 use Rattle.world_rules.specs.Deeds.{bundle_read}
 

@@ -1,12 +1,12 @@
 -- The accounts of wallets by their nodes' numbers: no two wallets have one, and every account that deposits or starts
 -- is a wallet's or that of a `call` line.
-use Rattle.std.proofs.Common.{◌≡◌, ◌≢◌, ◌⊎◌, ℕ, zero, suc, ◌==◌, ◌||◌, Bool, true, false, if◌then◌else◌, List, [], ◌∷◌, ◌++◌, length, map, Option, Some, None, inl, inr, refl, sym, ap, ◌∙◌, subst, set, slice_get}
+use Rattle.std.proofs.Common.{◌≡◌, ◌⊎◌, ℕ, zero, suc, ◌==◌, ◌||◌, Bool, true, false, if◌then◌else◌, List, [], ◌∷◌, ◌++◌, length, map, Option, Some, None, inl, inr, refl, sym, ap, ◌∙◌, subst, set, slice_get}
 use Rattle.std.specs.List.{list_any}
 use Rattle.std.proofs.Common.{filter, cond}
-use Rattle.std.proofs.lemmas.Bool.{cases_eq, eqb-true, eq-eqb, or_left, or_right, true≢false}
+use Rattle.std.proofs.lemmas.Bool.{cases_eq, eq-eqb, or_left, or_right}
 use Rattle.plasma_tx.specs.declared.call.RootCall.{RootCall}
 use Rattle.watch_duty.proofs.Members.{Has}
-use Rattle.world_rules.specs.World.{Role, Wallet, Watcher, Operator, Node, World, is_wallet_role}
+use Rattle.world_rules.specs.World.{Node, World, is_wallet_role}
 use Rattle.world_rules.specs.Declarations.{is_wallet_account}
 use Rattle.world_rules.proofs.Runs.{push-same, push-other}
 use Rattle.world_laws.specs.Legal.{starts_by, deposits_by}

@@ -1,10 +1,9 @@
 -- What holds in the world of every run behind its events: who the nodes are, what they offer, and whose accounts the
 -- log's calls move.
-use Rattle.std.proofs.Common.{◌≡◌, ◌≢◌, ◌⊎◌, ℕ, ◌==◌, ◌&&◌, ◌||◌, not, nat_lt, Bool, true, false, if◌then◌else◌, List, [], ◌∷◌, ◌++◌, length, Option, Some, None, inl, inr, refl, sym, ap, ◌∙◌, subst, set, slice_get}
+use Rattle.std.proofs.Common.{◌≡◌, ℕ, ◌==◌, ◌&&◌, ◌||◌, not, nat_lt, true, false, if◌then◌else◌, List, ◌∷◌, length, Option, Some, None, inl, inr, refl, sym, ap, ◌∙◌, subst, slice_get}
 use Rattle.std.specs.List.{list_any}
-use Rattle.std.proofs.lemmas.Bool.{and_parts, or_parts, or_left, or_right, not-true, eqb-true, eq-eqb, true≢false, false≢true}
+use Rattle.std.proofs.lemmas.Bool.{and_parts, or_parts, or_left, or_right, not-true, eqb-true, false≢true}
 use Rattle.lms_sign.specs.declared.types.LmsTypes.{LmsTypes}
-use Rattle.plasma_tx.specs.declared.owner.Owner.{Owner}
 use Rattle.plasma_tx.specs.declared.call.RootCall.{RootCall}
 use Rattle.plasma_tx.specs.declared.answer.Answer.{Answer}
 use Rattle.plasma_tx.specs.Chain.{with_log}
@@ -16,25 +15,16 @@ use Rattle.schedule_text.specs.Grammar.{IsLine}
 use Rattle.node_rules.specs.declared.identity.WalletIdentity.{WalletIdentity}
 use Rattle.node_rules.specs.WalletRecords.{identity_text as wallet_text, owner_of}
 use Rattle.node_rules.specs.Watcher.{WatcherIdentity, identity_text as watcher_text}
-use Rattle.watch_duty.proofs.Members.{Has}
-use Rattle.world_rules.specs.Events.{Event, Declares, Joins, Bounces, Accepts, Guards, Releases, Binds, TakesBack, Watches, Leaves, Seals, Other, Idle, wallet_owner, node_in}
-use Rattle.world_rules.specs.World.{Role, Wallet, Watcher, Operator, Node, World, with_node, is_wallet_role, owner_of_node, key_of, call_of}
-use Rattle.world_rules.specs.Declarations.{declared_wallet, is_new_name, is_declared_account, is_caller, is_wallet_key, is_wallet_seed, wallet_nodes, may_be_wallet, may_be_other}
+use Rattle.world_rules.specs.Events.{Event, Declares, Joins, Bounces, Idle, node_in}
+use Rattle.world_rules.specs.World.{Role, Wallet, Watcher, Operator, Node, World, is_wallet_role, owner_of_node, key_of, call_of}
+use Rattle.world_rules.specs.Declarations.{declared_wallet, is_new_name, is_declared_account, is_caller, is_wallet_key, is_wallet_seed, wallet_nodes, may_be_wallet}
 use Rattle.world_rules.specs.declared.TheConstants.{MOST_WALLETS}
-use Rattle.world_rules.specs.Deeds.{Deed, Gives}
-use Rattle.world_rules.specs.Steps.{LineEffect, new_node, declares_wallet, declares_watcher, declares_rogue, called, event_of_call, deposit_by, with_records, after_command, after_crash, commanded, crashed, cut, without_offers}
-use Rattle.world_rules.specs.Laws.{GrowsAtMost}
-use Rattle.world_rules.proofs.Shapes.{IsDone, IsCut, Kept, Lost, is_cut}
-use Rattle.world_rules.proofs.OwnEvents.{IsOfNode, Owns, Sealing, of_node}
-use Rattle.world_rules.proofs.NodeLaws.{adds_one, grows}
-use Rattle.world_rules.proofs.OfferLaws.{own-by}
+use Rattle.world_rules.specs.Steps.{new_node, declares_wallet, declares_watcher, called}
 use Rattle.line_forms.proofs.FormLaws.{option_map_some}
-use Rattle.world_laws.specs.Legal.{starts_by, deposits_by}
 use Rattle.world_laws.proofs.Lists.{some_same, none_some}
-use Rattle.world_laws.proofs.Origins.{IsFrom, Plain, Deposits, Raw, Offered, Does, Rests, Enters, AddsWallet, AddsWatcher, AddsRogue, Crashes, Commands, Cuts}
-use Rattle.world_laws.proofs.Holders.{holder, holders, IsHeld, holder-wallet, holder-at, holders-set, holders-push, held-declared, Moves, IsKnown, KeepAccounts, accounts-push, accounts-callers, accounts-call}
-use Rattle.world_laws.proofs.Identities.{IsOfRole, IsWallet, IsNode, AreNodes, IsOffer, is_declaration, IsThere, wallet-node, owner-same, owner-new, owner-other, next-unknown, nodes-still, nodes-set, nodes-push, wallet-identity, watcher-identity}
-use Rattle.world_laws.proofs.DeedOffers.{deed-offers}
+use Rattle.world_laws.proofs.Origins.{IsFrom, Plain, Deposits, Raw, Offered}
+use Rattle.world_laws.proofs.Holders.{holder, holders, IsHeld, holder-wallet, holder-at, holders-push, held-declared, Moves, IsKnown, KeepAccounts, accounts-push, accounts-callers, accounts-call}
+use Rattle.world_laws.proofs.Identities.{IsOfRole, IsWallet, IsNode, AreNodes, IsThere, wallet-node, owner-same, owner-new, owner-other, next-unknown, nodes-still, nodes-push, wallet-identity, watcher-identity}
 
 pub record Keeps (events : List Event) (world : World) : Type 0 where
   pub tag : length world.chain.tag ≡ 32

@@ -1,31 +1,30 @@
 -- Calls that are entered and wallets that are declared are legal.
-use Rattle.std.proofs.Common.{◌≡◌, ◌≢◌, ◌⊎◌, ℕ, ◌==◌, Bool, true, false, if◌then◌else◌, List, [], ◌∷◌, length, Option, Some, None, inl, inr, refl, sym, ap, ◌∙◌, subst, slice_get}
+use Rattle.std.proofs.Common.{◌≡◌, ◌⊎◌, ℕ, Bool, true, false, if◌then◌else◌, List, length, Option, Some, None, inl, inr, refl, sym, ap, ◌∙◌, subst, slice_get}
 use Rattle.std.specs.List.{Contains, list_any}
 use Rattle.std.proofs.lemmas.Bool.{eqb-true, true≢false, false≢true}
 use Rattle.lms_sign.specs.declared.types.LmsTypes.{LmsTypes}
 use Rattle.plasma_tx.specs.declared.owner.Owner.{Owner}
 use Rattle.plasma_tx.specs.declared.call.RootCall.{RootCall}
 use Rattle.plasma_tx.specs.declared.answer.Answer.{Answer}
-use Rattle.root_rules.specs.Shown.{Tests, Rules, tests_by, rules_of}
+use Rattle.root_rules.specs.Shown.{tests_by, rules_of}
 use Rattle.root_rules.specs.Table.{answer_to, is_accepted}
-use Rattle.node_rules.specs.declared.identity.WalletIdentity.{WalletIdentity}
 use Rattle.node_rules.specs.WalletRecords.{owner_of}
-use Rattle.watch_duty.proofs.Members.{Has, has-contains}
-use Rattle.world_rules.specs.Events.{Event, Declares, Joins, Bounces, log_of, wallet_owner, offers_of}
-use Rattle.world_rules.specs.World.{Role, Wallet, Watcher, Operator, Node, World, is_wallet_role, owner_of_node, call_of}
-use Rattle.world_rules.specs.Declarations.{declared_wallet, is_wallet_account, is_declared_account, is_caller, may_be_wallet}
-use Rattle.world_rules.specs.Steps.{LineEffect, called, event_of_call}
+use Rattle.watch_duty.proofs.Members.{has-contains}
+use Rattle.world_rules.specs.Events.{Event, Joins, Bounces, log_of, wallet_owner, offers_of}
+use Rattle.world_rules.specs.World.{Role, Wallet, Watcher, Operator, Node, World, is_wallet_role, owner_of_node}
+use Rattle.world_rules.specs.Declarations.{declared_wallet, is_declared_account, is_caller, may_be_wallet}
+use Rattle.world_rules.specs.Steps.{called}
 use Rattle.world_rules.proofs.RunLaws.{logs_are_of_events}
 use Rattle.world_rules.proofs.OfferLaws.{offers_are_of_events}
 use Rattle.world_rules.specs.Steps.{Run, events_of}
 use Rattle.schedule_text.specs.declared.line.Line.{Line}
 use Rattle.world_laws.specs.Headline.{IsRun}
-use Rattle.world_laws.specs.Legal.{starts_by, deposits_by, LegalDeclaration, LegalCall, IsLegalEvent}
+use Rattle.world_laws.specs.Legal.{starts_by, deposits_by, LegalDeclaration, IsLegalEvent}
 use Rattle.world_laws.proofs.Lists.{some_same, none_some}
 use Rattle.world_laws.proofs.Origins.{IsFrom, Plain, Deposits, Raw, Offered}
-use Rattle.world_laws.proofs.Holders.{holders, IsHeld, holder-wallet, holder-at, held-wallet, IsKnown, unknown-none}
-use Rattle.world_laws.proofs.Identities.{IsOfRole, IsNode, wallet-node, next-unknown}
-use Rattle.world_laws.proofs.Keeps.{Keeps, raw-moves, is-wallet, holder-is, held-by, account-new, not-held}
+use Rattle.world_laws.proofs.Holders.{holders, IsHeld, held-wallet, IsKnown, unknown-none}
+use Rattle.world_laws.proofs.Identities.{IsOfRole, wallet-node, next-unknown}
+use Rattle.world_laws.proofs.Keeps.{Keeps, raw-moves, holder-is, held-by, account-new, not-held}
 use Rattle.world_laws.proofs.Acts.{runs-keep}
 
 -- what is known of the world behind a run's events

@@ -9,3 +9,4 @@ pub mod Keeps
 pub mod Acts
 pub mod Handed
 pub mod LegalCalls
+pub mod LegalEvents
