@@ -10,3 +10,15 @@ pub mod Acts
 pub mod Handed
 pub mod LegalCalls
 pub mod LegalEvents
+pub mod Histories
+pub mod Shown
+pub mod Absences
+pub mod Bound
+pub mod Held
+pub mod Nodes
+pub mod Quiet
+pub mod Guards
+pub mod Watched
+pub mod Steps
+pub mod Harms
+pub mod Offers

@@ -15,9 +15,10 @@ use Rattle.coin_history.specs.History.{IsHistory, IsAbsent}
 use Rattle.node_rules.specs.Kept.{kept_links}
 use Rattle.node_rules.specs.Wallet.{start_of}
 use Rattle.node_rules.specs.Watcher.{due_for_kept}
-use Rattle.world_rules.specs.Events.{Event, Declares, Joins, Bounces, Accepts, Guards, Binds, TakesBack, Watches, Leaves, log_of, coin_of_call, wallet_owner, accepted, bound_by, leaf_at, signed_away_by, is_sent_from, is_bundle, guarded_by, is_command_of, offers_of}
+use Rattle.world_rules.specs.Events.{Event, Declares, Joins, Bounces, Accepts, Guards, Binds, TakesBack, Watches, Leaves, Seals, log_of, coin_of_call, wallet_owner, accepted, bound_by, leaf_at, signed_away_by, is_sent_from, is_bundle, guarded_by, is_command_of, offers_of}
 use Rattle.world_rules.specs.Deeds.{exit_block}
 use Rattle.world_rules.specs.Safety.{was_deposited, holds}
+use Rattle.world_laws.specs.Headline.{is_start}
 
 -- ---- wallets, and the starts of exits
 
@@ -166,6 +167,7 @@ IsLegalEvent tests rules events (Binds w body) = LegalBinding events w body
 IsLegalEvent tests rules events (TakesBack w q bundle) = LegalReclaim tests events w q bundle
 IsLegalEvent tests rules events (Watches n calls) = LegalWatch rules events n calls
 IsLegalEvent tests rules events (Leaves w call) = LegalLeave rules events w call
+IsLegalEvent tests rules events (Seals call) = is_start call ≡ false
 IsLegalEvent tests rules events event = Unit {0}
 
 -- each event is legal after those before it

@@ -1,0 +1,354 @@
+-- Who holds a coin, the bundles that were accepted, and that no spend of a held tip was.
+use Rattle.std.proofs.Common.{◌≡◌, ◌≢◌, ◌⊎◌, ℕ, ◌<◌, ◌==◌, ◌&&◌, ◌||◌, cond, not, Bool, true, false, if◌then◌else◌, List, [], ◌∷◌, Option, Some, None, inl, inr, refl, sym, ap, ◌∙◌, subst, arith, filter}
+use Rattle.std.specs.Prelude.{is_some, nat_eq}
+use Rattle.std.specs.List.{list_any}
+use Rattle.std.specs.Option.{option_eq}
+use Rattle.std.specs.Str.{bytes_eq}
+use Rattle.std.proofs.lemmas.Bool.{cases_eq, ne_eqb, eq-eqb, eqb-true, and_parts, and_from, and_cases, or_parts, or_cases, or_left, or_right, not-true, true≢false, false≢true}
+use Rattle.std.proofs.lemmas.Slice.Eq.{bytes_eq-Decides}
+use Rattle.plasma_tx.specs.declared.owner.Owner.{Owner}
+use Rattle.plasma_tx.specs.declared.body.Body.{Body}
+use Rattle.plasma_tx.specs.declared.opening.RawOpening.{RawOpening}
+use Rattle.plasma_tx.specs.declared.signed_tx.SignedTx.{SignedTx}
+use Rattle.plasma_tx.specs.declared.links.Links.{Links}
+use Rattle.plasma_tx.specs.declared.call.RootCall.{RootCall}
+use Rattle.plasma_tx.specs.Links.{last_owner_of}
+use Rattle.plasma_tx.specs.Transfer.{is_signed_by}
+use Rattle.plasma_tx.specs.Views.{coin_at, is_withdrawn}
+use Rattle.root_rules.specs.Shown.{Tests, Rules}
+use Rattle.coin_history.specs.declared.bundle.Bundle.{Bundle}
+use Rattle.coin_history.specs.History.{transfer_of, IsHistory}
+use Rattle.coin_history.proofs.HistoryGrow.{histories_stay}
+use Rattle.watch_duty.proofs.Members.{Has, has-left, any-has, has-filter}
+use Rattle.wallet_core.specs.State.{is_owner}
+use Rattle.world_rules.specs.Events.{Event, Declares, Joins, Accepts, Guards, Releases, Binds, log_of, wallet_owner, accepted, bound_by, signed_away_by, is_sent_from, is_bundle, guarded_by, is_command_of}
+use Rattle.world_rules.specs.Exhibits.{openings_of, seen, is_same_body, forges_transfer, forges, forges_one, is_forged}
+use Rattle.world_rules.specs.Safety.{was_deposited, holds_with, holds}
+use Rattle.world_laws.specs.Legal.{IsLegal}
+use Rattle.world_laws.proofs.Lists.{some_same, none_some, any-none, any-some}
+use Rattle.world_laws.proofs.Clash.{IsOpened, HasOneLeaf}
+use Rattle.world_laws.proofs.Walk.{empty-no_tx}
+use Rattle.world_laws.proofs.Histories.{ShowsAbsent}
+use Rattle.world_laws.proofs.Shown.{seen-grow}
+use Rattle.world_laws.proofs.Absences.{names, tx-coin, tx-last, IsParted}
+
+-- a signature that the tests take is valid
+abbrev pub SignsBy : Tests → Type 0
+SignsBy tests = (tx : SignedTx) (owner : Owner) → tests.is_signed tx owner ≡ true → is_signed_by tx owner ≡ true
+
+pub owner-is : (one other : Owner) → is_owner one other ≡ true → one ≡ other
+owner-is one other is =
+    let parts = and_parts (one.account == other.account) (bytes_eq one.key other.key) is in
+    λ i. record {
+      account = eqb-true one.account other.account parts.0 i;
+      key = (bytes_eq-Decides one.key other.key).0 parts.1 i;
+    }
+
+-- ---- the owner and the bodies stay
+
+pub owner-stays : (tests : Tests) (rules : Rules) (event : Event) (events : List Event) (w : ℕ) (me : Owner)
+    → IsLegal tests rules (event ∷ events) → wallet_owner events w ≡ Some me
+    → wallet_owner (event ∷ events) w ≡ Some me
+unfolding IsLegal wallet_owner
+owner-stays tests rules (Declares v other) events w me legal is =
+    elim (cases_eq v w) [
+      | inl same ↦ absurd (none_some me (sym legal.0.new ∙ ap (wallet_owner events) same ∙ is))
+      | inr apart ↦ simp (ne_eqb v w apart) is
+    ]
+owner-stays tests rules event events w me legal is = is
+
+bound-grow : (event : Event) (events : List Event) (w : ℕ) (body : Body) → Has (bound_by events w) body
+    → Has (bound_by (event ∷ events) w) body
+unfolding bound_by
+bound-grow (Binds v new) events w body h = either (v == w)
+  where
+    either : (b : Bool) → Has (if b then new ∷ bound_by events w else bound_by events w) body
+    either true = inr h
+    either false = h
+bound-grow event events w body h = h
+
+-- an opening of the coin that was accepted since the wallet was declared
+unfoldable pub IsSince : List Event → ℕ → ℕ → RawOpening → Type 0
+IsSince [] w c o = ⊥
+IsSince (event ∷ events) w c o =
+    ((is_some (wallet_owner events w) ≡ true) × Has (openings_of c event) o) ⊎ IsSince events w c o
+
+owner-some : (events : List Event) (w : ℕ) → is_some (wallet_owner events w) ≡ true
+    → (me : Owner) × (wallet_owner events w ≡ Some me)
+owner-some events w is = by_owner (wallet_owner events w) refl is
+  where
+    by_owner : (o : Option Owner) → wallet_owner events w ≡ o → is_some o ≡ true
+        → (me : Owner) × (wallet_owner events w ≡ Some me)
+    by_owner None e s = absurd (false≢true s)
+    by_owner (Some me) e s = (me, e)
+
+module _ (tests : Tests) (rules : Rules) where
+  since-declared : (events : List Event) (w c : ℕ) (o : RawOpening) → IsLegal tests rules events
+      → IsSince events w c o → is_some (wallet_owner events w) ≡ true
+  unfolding IsSince IsLegal
+  since-declared [] w c o legal is = absurd is
+  since-declared (event ∷ events) w c o legal (inl now) =
+      let m = owner-some events w now.0 in ap is_some (owner-stays tests rules event events w m.0 legal m.1)
+  since-declared (event ∷ events) w c o legal (inr later) =
+      let m = owner-some events w (since-declared events w c o legal.1 later) in
+      ap is_some (owner-stays tests rules event events w m.0 legal m.1)
+
+-- ---- a signature that isn't forged is over a bound body
+
+pub record IsBoundTo (bodies : List Body) (tx : SignedTx) : Type 0 where
+  pub body : Body
+  pub has : Has bodies body
+  pub same : is_same_body tx.body body ≡ true
+
+pub line_bound : (rules : Rules) (c : ℕ) (me : Owner) (bodies : List Body) (os : List RawOpening)
+    → forges_one rules.tag (Some me) bodies c os ≡ false → (o : RawOpening) (tx : SignedTx) → Has os o
+    → transfer_of rules c o ≡ Some tx → is_signed_by tx me ≡ true → IsBoundTo bodies tx
+line_bound rules c me bodies os none o tx h is signed =
+    let off : forges_transfer me bodies (Some tx) ≡ false =
+    ap (forges_transfer me bodies) (sym is) ∙ any-none (forges rules.tag c me bodies) os o none h in
+    elim (and_cases (is_signed_by tx me) (not (list_any (is_same_body tx.body) bodies)) off) [
+      | inl unsigned ↦ absurd (true≢false (sym signed ∙ unsigned))
+      | inr there ↦
+          let r = any-some (is_same_body tx.body) bodies (un_not (list_any (is_same_body tx.body) bodies) there) in
+          record { body = r.0; has = r.1; same = r.2 }
+    ]
+  where
+    un_not : (b : Bool) → not b ≡ false → b ≡ true
+    un_not true e = refl
+    un_not false e = absurd (true≢false e)
+
+pub bound_since : (tests : Tests) (rules : Rules) (events : List Event) (w c : ℕ) (me : Owner)
+    → IsLegal tests rules events → wallet_owner events w ≡ Some me → is_forged rules.tag events w c ≡ false
+    → (o : RawOpening) (tx : SignedTx) → IsSince events w c o → transfer_of rules c o ≡ Some tx
+    → is_signed_by tx me ≡ true → IsBoundTo (bound_by events w) tx
+unfolding IsSince IsLegal is_forged
+bound_since tests rules [] w c me legal me_is none o tx since is signed = absurd since
+bound_since tests rules (event ∷ events) w c me legal me_is none o tx (inl here) is signed =
+    let m = owner-some events w here.0 in
+    let same : m.0 ≡ me = some_same m.0 me (sym (owner-stays tests rules event events w m.0 legal m.1) ∙ me_is) in
+    let off = subst (λ x. forges_one rules.tag x (bound_by events w) c (openings_of c event) ≡ false)
+    (m.1 ∙ ap (λ (x : Owner). Some x) same) (or_parts _ _ none).0 in
+    let b = line_bound rules c me (bound_by events w) (openings_of c event) off o tx here.1 is signed in
+    record { body = b.body; has = bound-grow event events w b.body b.has; same = b.same }
+bound_since tests rules (event ∷ events) w c me legal me_is none o tx (inr later) is signed =
+    let m = owner-some events w (since-declared tests rules events w c o legal.1 later) in
+    let same : m.0 ≡ me = some_same m.0 me (sym (owner-stays tests rules event events w m.0 legal m.1) ∙ me_is) in
+    let b = bound_since tests rules events w c me legal.1 (m.1 ∙ ap (λ (x : Owner). Some x) same)
+    (or_parts _ _ none).1 o tx later is signed in
+    record { body = b.body; has = bound-grow event events w b.body b.has; same = b.same }
+
+last-is : (one other : Option ℕ) → option_eq nat_eq one other ≡ true → one ≡ other
+last-is None None is = refl
+last-is None (Some other) is = absurd (false≢true is)
+last-is (Some one) None is = absurd (false≢true is)
+last-is (Some one) (Some other) is = ap (λ (n : ℕ). Some n) (eqb-true one other is)
+
+-- the bound body names the coin and the parent, and has the transfer's last block
+bound-facts : (rules : Rules) (c e : ℕ) (bodies : List Body) (o : RawOpening) (tx : SignedTx)
+    → transfer_of rules c o ≡ Some tx → tx.body.parent ≡ e → (b : IsBoundTo bodies tx)
+    → (b.body.coin ≡ c) × (b.body.parent ≡ e) × (tx.body.last ≡ b.body.last)
+bound-facts rules c e bodies o tx is parent b =
+    let tag : Bool = bytes_eq tx.body.tag b.body.tag in
+    let coin : Bool = tx.body.coin == b.body.coin in
+    let from : Bool = tx.body.parent == b.body.parent in
+    let to : Bool = is_owner tx.body.to b.body.to in
+    let whole = and_parts (tag && coin && from && to) (option_eq nat_eq tx.body.last b.body.last) b.same in
+    let parts = and_parts (tag && coin && from) to whole.0 in
+    let more = and_parts (tag && coin) from parts.0 in
+    let first = and_parts tag coin more.0 in (
+      sym (eqb-true tx.body.coin b.body.coin first.1) ∙ tx-coin rules c o tx is,
+      sym (eqb-true tx.body.parent b.body.parent more.1) ∙ parent,
+      last-is tx.body.last b.body.last whole.1,
+    )
+
+-- No opening after e that opens its root shows a spend of e over a bound body, where each body of the coin either
+-- stands, and none that stands spends e, or is taken back on absences among the openings. It is the one place that
+-- says what 'signed away' means for the openings of others.
+pub unspent : (tests : Tests) (rules : Rules) (log : List RootCall) (os : List RawOpening) (c e : ℕ)
+    (bodies standing : List Body) → HasOneLeaf tests log c os → is_sent_from standing c e ≡ false
+    → IsParted tests log os c bodies standing → (o : RawOpening) (tx : SignedTx) → Has os o → IsOpened tests log c o
+    → e < o.block → transfer_of rules c o ≡ Some tx → tx.body.parent ≡ e → IsBoundTo bodies tx → ⊥
+unspent tests rules log os c e bodies standing one not_away parts o tx has opened above is parent b =
+    let f = bound-facts rules c e bodies o tx is parent b in
+    elim (parts b.body b.has f.0) [
+      | inl stands ↦ true≢false (sym (any-has (names c e) standing b.body stands
+          (and_from (b.body.coin == c) (b.body.parent == e) (eq-eqb b.body.coin c f.0) (eq-eqb b.body.parent e f.1)))
+          ∙ not_away)
+      | inr k ↦
+          let low = tx-last rules c o tx k.last is (f.2 ∙ k.last_is) in
+          let p = k.covers o.block opened.root (omega (arith, above, f.1)) low opened.root_is in
+          let leaf = one o p.o has p.has opened (subst (λ n. IsOpened tests log n p.o) f.0 p.opened)
+          (sym p.block_is) in
+          empty-no_tx rules c o tx (leaf ∙ p.empty) is
+    ]
+
+-- ---- what it is to hold
+
+pub record Holding (events : List Event) (w c e : ℕ) : Type 0 where
+  pub me : Owner
+  pub me_is : wallet_owner events w ≡ Some me
+  pub source : (was_deposited me e (coin_at (log_of events) c) ≡ true)
+      ⊎ (list_any (is_bundle c e) (accepted events w) ≡ true)
+  pub not_away : is_sent_from (signed_away_by events w) c e ≡ false
+  pub not_withdrawn : is_withdrawn (log_of events) c ≡ false
+
+pub holding : (events : List Event) (w c e : ℕ) → holds events w c e ≡ true → Holding events w c e
+unfolding holds
+holding events w c e is = by_owner (wallet_owner events w) refl is
+  where
+    by_owner : (o : Option Owner) → wallet_owner events w ≡ o
+        → holds_with (log_of events) o (signed_away_by events w) (accepted events w) c e ≡ true
+        → Holding events w c e
+    by_owner None o_is h = absurd (false≢true h)
+    by_owner (Some me) o_is h =
+        let parts = and_parts ((was_deposited me e (coin_at (log_of events) c)
+        || list_any (is_bundle c e) (accepted events w)) && not (is_sent_from (signed_away_by events w) c e))
+        (not (is_withdrawn (log_of events) c)) h in
+        let more = and_parts (was_deposited me e (coin_at (log_of events) c)
+        || list_any (is_bundle c e) (accepted events w)) (not (is_sent_from (signed_away_by events w) c e)) parts.0 in
+        record {
+          me = me;
+          me_is = o_is;
+          source = or_cases _ _ more.0;
+          not_away = not-true _ more.1;
+          not_withdrawn = not-true _ parts.1;
+        }
+
+-- ---- accepted bundles
+
+pub record IsNoted (tests : Tests) (rules : Rules) (events : List Event) (w : ℕ) (b : Bundle) : Type 0 where
+  pub me : Owner
+  pub me_is : wallet_owner events w ≡ Some me
+  pub links : Links
+  pub history : IsHistory tests rules (log_of events) b links
+  pub mine : last_owner_of links ≡ me
+  pub is_seen : (o : RawOpening) → Has b.openings o → Has (seen events b.coin) o
+  pub is_since : (o : RawOpening) → Has b.openings o → IsSince events w b.coin o
+
+history-stays : (tests : Tests) (rules : Rules) (event : Event) (events : List Event) (b : Bundle) (links : Links)
+    → IsHistory tests rules (log_of events) b links → IsHistory tests rules (log_of (event ∷ events)) b links
+unfolding log_of
+history-stays tests rules (Joins call) events b links is = histories_stay tests rules (log_of events) call b links is
+history-stays tests rules event events b links is = is
+
+noted-grow : (tests : Tests) (rules : Rules) (event : Event) (events : List Event) (w : ℕ) (b : Bundle)
+    → IsLegal tests rules (event ∷ events) → IsNoted tests rules events w b
+    → IsNoted tests rules (event ∷ events) w b
+unfolding IsSince
+noted-grow tests rules event events w b legal n = record {
+  me = n.me;
+  me_is = owner-stays tests rules event events w n.me legal n.me_is;
+  links = n.links;
+  history = history-stays tests rules event events b n.links n.history;
+  mine = n.mine;
+  is_seen = λ o h. seen-grow event events b.coin o (n.is_seen o h);
+  is_since = λ o h. inr (n.is_since o h);
+}
+
+noted-new : (tests : Tests) (rules : Rules) (events : List Event) (w : ℕ) (b : Bundle)
+    → IsLegal tests rules (Accepts w b ∷ events) → IsNoted tests rules (Accepts w b ∷ events) w b
+unfolding IsSince IsLegal log_of seen openings_of wallet_owner
+noted-new tests rules events w b legal = record {
+  me = legal.0.me;
+  me_is = legal.0.me_is;
+  links = legal.0.links;
+  history = legal.0.history;
+  mine = legal.0.mine;
+  is_seen = λ o h. has-left _ (seen events b.coin) o (simp (eq-eqb b.coin b.coin refl) h);
+  is_since = λ o h. inl (ap is_some legal.0.me_is, simp (eq-eqb b.coin b.coin refl) h);
+}
+
+pub is_noted : (tests : Tests) (rules : Rules) (events : List Event) (w : ℕ) (b : Bundle)
+    → IsLegal tests rules events → Has (accepted events w) b → IsNoted tests rules events w b
+unfolding accepted IsLegal
+is_noted tests rules [] w b legal h = absurd h
+is_noted tests rules (Accepts v bundle ∷ events) w b legal h =
+    (elim (v == w) as (λ k. (v == w) ≡ k → Has (if k then bundle ∷ accepted events w else accepted events w) b
+    → IsNoted tests rules (Accepts v bundle ∷ events) w b) [
+      | true ↦ λ same h2. elim h2 [
+        | inl is ↦ subst (λ x. IsNoted tests rules (Accepts v bundle ∷ events) w x) is
+            (subst (λ x. IsNoted tests rules (Accepts v bundle ∷ events) x bundle) (eqb-true v w same)
+            (noted-new tests rules events v bundle legal))
+        | inr later ↦ noted-grow tests rules (Accepts v bundle) events w b legal
+            (is_noted tests rules events w b legal.1 later)
+      ]
+      | false ↦ λ apart h2. noted-grow tests rules (Accepts v bundle) events w b legal
+          (is_noted tests rules events w b legal.1 h2)
+    ]) refl h
+is_noted tests rules (event ∷ events) w b legal h =
+    noted-grow tests rules event events w b legal (is_noted tests rules events w b legal.1 h)
+
+-- ---- guarded bundles
+
+pub record IsKept (tests : Tests) (rules : Rules) (events : List Event) (b : Bundle) : Type 0 where
+  pub links : Links
+  pub history : IsHistory tests rules (log_of events) b links
+  pub is_seen : (o : RawOpening) → Has b.openings o → Has (seen events b.coin) o
+
+kept-grow : (tests : Tests) (rules : Rules) (event : Event) (events : List Event) (b : Bundle)
+    → IsKept tests rules events b → IsKept tests rules (event ∷ events) b
+kept-grow tests rules event events b k = record {
+  links = k.links;
+  history = history-stays tests rules event events b k.links k.history;
+  is_seen = λ o h. seen-grow event events b.coin o (k.is_seen o h);
+}
+
+kept-new : (tests : Tests) (rules : Rules) (events : List Event) (g : ℕ) (b : Bundle)
+    → IsLegal tests rules (Guards g b ∷ events) → IsKept tests rules (Guards g b ∷ events) b
+unfolding IsLegal log_of seen openings_of
+kept-new tests rules events g b legal = record {
+  links = legal.0.links;
+  history = legal.0.history;
+  is_seen = λ o h. has-left _ (seen events b.coin) o (simp (eq-eqb b.coin b.coin refl) h);
+}
+
+pub is_kept : (tests : Tests) (rules : Rules) (events : List Event) (g : ℕ) (b : Bundle)
+    → IsLegal tests rules events → Has (guarded_by events g) b → IsKept tests rules events b
+unfolding guarded_by IsLegal
+is_kept tests rules [] g b legal h = absurd h
+is_kept tests rules (Guards v bundle ∷ events) g b legal h =
+    (elim (v == g) as (λ k. Has (if k then bundle ∷ guarded_by events g else guarded_by events g) b
+    → IsKept tests rules (Guards v bundle ∷ events) b) [
+      | true ↦ λ h2. elim h2 [
+        | inl is ↦ subst (λ x. IsKept tests rules (Guards v bundle ∷ events) x) is
+            (kept-new tests rules events v bundle legal)
+        | inr later ↦ kept-grow tests rules (Guards v bundle) events b
+            (is_kept tests rules events g b legal.1 later)
+      ]
+      | false ↦ λ h2. kept-grow tests rules (Guards v bundle) events b (is_kept tests rules events g b legal.1 h2)
+    ]) h
+is_kept tests rules (Releases v c e ∷ events) g b legal h =
+    let there : Has (guarded_by events g) b = (elim (v == g) as (λ k. Has
+    (if k then filter (λ x. not (is_bundle c e x)) (guarded_by events g) else guarded_by events g) b
+    → Has (guarded_by events g) b) [
+      | true ↦ λ h2. (has-filter (λ (x : Bundle). not (is_bundle c e x)) (guarded_by events g) b h2).0
+      | false ↦ λ h2. h2
+    ]) h in
+    kept-grow tests rules (Releases v c e) events b (is_kept tests rules events g b legal.1 there)
+is_kept tests rules (event ∷ events) g b legal h =
+    kept-grow tests rules event events b (is_kept tests rules events g b legal.1 h)
+
+-- ---- wallets have accounts of their own
+
+pub owners_apart : (tests : Tests) (rules : Rules) (events : List Event) (v w : ℕ) (one other : Owner)
+    → IsLegal tests rules events → v ≢ w → wallet_owner events v ≡ Some one → wallet_owner events w ≡ Some other
+    → one.account ≢ other.account
+unfolding wallet_owner IsLegal
+owners_apart tests rules [] v w one other legal apart one_is other_is same = none_some one one_is
+owners_apart tests rules (Declares u me ∷ events) v w one other legal apart one_is other_is same =
+    (elim (u == v) as (λ a. (u == v) ≡ a → (if a then Some me else wallet_owner events v) ≡ Some one → ⊥) [
+      | true ↦ λ v_is mine. (elim (u == w) as (λ b. (u == w) ≡ b
+          → (if b then Some me else wallet_owner events w) ≡ Some other → ⊥) [
+            | true ↦ λ w_is yours. apart (sym (eqb-true u v v_is) ∙ eqb-true u w w_is)
+            | false ↦ λ w_isnt yours. legal.0.own_account w other yours
+                (sym same ∙ ap (λ (o : Owner). o.account) (sym (some_same me one mine)))
+          ]) refl other_is
+      | false ↦ λ v_isnt mine. (elim (u == w) as (λ b. (u == w) ≡ b
+          → (if b then Some me else wallet_owner events w) ≡ Some other → ⊥) [
+            | true ↦ λ w_is yours. legal.0.own_account v one mine
+                (same ∙ ap (λ (o : Owner). o.account) (sym (some_same me other yours)))
+            | false ↦ λ w_isnt yours. owners_apart tests rules events v w one other legal.1 apart mine yours same
+          ]) refl other_is
+    ]) refl one_is
+owners_apart tests rules (event ∷ events) v w one other legal apart one_is other_is same =
+    owners_apart tests rules events v w one other legal.1 apart one_is other_is same

@@ -1,0 +1,238 @@
+-- Who guards a held coin: the holder, and each watcher that keeps a guard at its tip.
+use Rattle.std.proofs.Common.{◌≡◌, ◌⊎◌, ℕ, ◌==◌, ◌&&◌, ◌||◌, not, Bool, true, false, if◌then◌else◌, List, [], ◌∷◌, Option, Some, None, inl, inr, refl, sym, ap, ◌∙◌, subst, filter}
+use Rattle.std.specs.Option.{option_map, option_map_or}
+use Rattle.std.specs.List.{Contains, list_any}
+use Rattle.std.proofs.lemmas.Bool.{eqb-true, and_parts, and_from, or_cases, or_left, or_right, not_from_false, true≢false, false≢true}
+use Rattle.plasma_tx.specs.declared.owner.Owner.{Owner}
+use Rattle.plasma_tx.specs.declared.opening.RawOpening.{RawOpening}
+use Rattle.plasma_tx.specs.declared.links.Link.{Link}
+use Rattle.plasma_tx.specs.declared.links.Links.{Links}
+use Rattle.plasma_tx.specs.declared.call.RootCall.{RootCall}
+use Rattle.plasma_tx.specs.declared.views.CoinView.{CoinView}
+use Rattle.plasma_tx.specs.declared.views.ExitView.{ExitView}
+use Rattle.plasma_tx.specs.Links.{tip_of, last_owner_of}
+use Rattle.plasma_tx.specs.Views.{coin_at, Exit, exits, exits_of, is_withdrawn}
+use Rattle.root_rules.specs.Shown.{Tests, Rules}
+use Rattle.coin_history.specs.declared.bundle.Bundle.{Bundle}
+use Rattle.coin_history.specs.History.{links_in, links_of, IsHistory}
+use Rattle.coin_history.proofs.HistoryLinks.{tip-is, tip_from, none-linked}
+use Rattle.node_rules.specs.Kept.{chain_of, kept_links}
+use Rattle.node_rules.specs.Watcher.{due_for_kept}
+use Rattle.watch_duty.specs.Duty.{due_for, due_of}
+use Rattle.watch_duty.proofs.Members.{Has, contains-has, has-contains, has-flat_map, has-filter}
+use Rattle.watch_duty.proofs.Dues.{IsDue as IsDueFor, DueAfter, DueBetween, DueBefore, DueRespond, due_for-due}
+use Rattle.world_rules.specs.Events.{Event, Declares, Guards, Releases, log_of, coin_of_call, wallet_owner, accepted, signed_away_by, is_sent_from, is_bundle, guarded_by, watchers, is_command_of}
+use Rattle.world_rules.specs.Exhibits.{seen, is_forged}
+use Rattle.world_rules.specs.Safety.{was_deposited, holds_with, holds, is_quiet, is_watched_by, is_guarded}
+use Rattle.world_laws.specs.Legal.{ShowsTip, Taken, Bare, IsGuarding, ShowsGuard, IsLegal}
+use Rattle.world_laws.proofs.Lists.{some_same, any-some}
+use Rattle.world_laws.proofs.Clash.{HasOneLeaf}
+use Rattle.world_laws.proofs.Bound.{SignsBy, Holding, is_noted, is_kept}
+use Rattle.world_laws.proofs.Held.{Known, known-from, IsGoodGuard, good_guard, HeldAt, held_top, deposited-coin, empty-walk, bundle-named}
+use Rattle.world_laws.proofs.Nodes.{owner-same, IsUndue, quiet_due}
+use Rattle.world_laws.proofs.Quiet.{IsStill, IsStillGuard, still}
+
+-- ---- the links of a bundle
+
+-- of histories the tag alone matters
+links-tag : (rules : Rules) (c : ℕ) (os : List RawOpening)
+    → links_in (chain_of rules.tag) c os ≡ links_in rules c os
+unfolding links_in
+links-tag rules c os = refl
+
+pub kept-some : (rules : Rules) (log : List RootCall) (b : Bundle) (made : CoinView)
+    → coin_at log b.coin ≡ Some made → kept_links rules.tag log b ≡ Some (links_of rules made b)
+kept-some rules log b made found =
+    ap (option_map (λ (m : CoinView). links_of (chain_of rules.tag) m b)) found
+    ∙ λ i. Some (record {
+      coin = b.coin;
+      deposit = made.deposit;
+      owner = made.owner;
+      spends = links_tag_at i;
+    })
+  where
+    links_tag_at : links_in (chain_of rules.tag) b.coin b.openings ≡ links_in rules b.coin b.openings
+    links_tag_at = links-tag rules b.coin b.openings
+
+-- the bundle has these links, and they make a good guard
+pub record ShowsGood (tests : Tests) (rules : Rules) (log : List RootCall) (os : List RawOpening) (c : ℕ)
+    (made : CoinView) (e : ℕ) (b : Bundle) : Type 0 where
+  pub links : Links
+  pub kept : kept_links rules.tag log b ≡ Some links
+  pub good : IsGoodGuard tests rules log os c made e links
+
+module _ (tests : Tests) (rules : Rules) (log : List RootCall) (os : ℕ → List RawOpening) (c : ℕ) (made : CoinView)
+    (e : ℕ) (one : HasOneLeaf tests log c (os c)) (found : coin_at log c ≡ Some made) (b : Bundle)
+    (c_is : b.coin ≡ c) (e_is : b.tip ≡ e) where
+  there : coin_at log b.coin ≡ Some made
+  there = ap (coin_at log) c_is ∙ found
+
+  pub history-good : (links : Links) → IsHistory tests rules log b links
+      → ((o : RawOpening) → Has b.openings o → Has (os b.coin) o) → ShowsGood tests rules log (os c) c made e b
+  history-good links h has =
+      let own : Links = links_of rules made b in
+      let same : h.made ≡ made = some_same h.made made (sym h.coin ∙ there) in
+      let own_is : links ≡ own = h.shown ∙ ap (λ (m : CoinView). links_of rules m b) same in
+      record {
+        links = own;
+        kept = kept-some rules log b made there;
+        good = good_guard tests rules log (os c) c made one e (last_owner_of links) b.openings
+            (known-from tests rules log os b links c e made h has c_is e_is found) own c_is refl
+            (ap tip_of (sym own_is) ∙ h.tip ∙ e_is) (ap (λ k. links_in rules k b.openings) c_is);
+      }
+
+  pub bare-good : (me : Owner) → was_deposited me b.tip (coin_at log b.coin) ≡ true → b.openings ≡ []
+      → ShowsGood tests rules log (os c) c made e b
+  bare-good me own none =
+      let links : Links = links_of rules made b in
+      let d = deposited-coin me b.tip (coin_at log b.coin) own in
+      let same : d.0 ≡ made = some_same d.0 made (sym d.1 ∙ there) in
+      let deposit : made.deposit ≡ e = ap (λ (m : CoinView). m.deposit) (sym same) ∙ d.2 ∙ e_is in
+      let owner : made.owner ≡ me = ap (λ (m : CoinView). m.owner) (sym same) ∙ d.3 in
+      let empty : links.spends ≡ [] = ap (links_in rules b.coin) none ∙ none-linked rules b.coin in
+      record {
+        links = links;
+        kept = kept-some rules log b made there;
+        good = good_guard tests rules log (os c) c made one e me []
+            (record { walk = empty-walk tests rules log c made e me deposit owner; has = λ o h. absurd h }) links c_is
+            refl (tip-is links ∙ ap (tip_from made.deposit) empty ∙ deposit) (empty ∙ sym (none-linked rules c));
+      }
+
+-- ---- what is due is of the coin
+
+due-coin : (log : List RootCall) (account : ℕ) (links : Links) (x : ExitView) (call : RootCall)
+    → IsDueFor log account links x call → coin_of_call call ≡ links.coin
+due-coin log account links x call (DueAfter link a b same) = ap coin_of_call (sym same)
+due-coin log account links x call (DueBetween link a b d same) = ap coin_of_call (sym same)
+due-coin log account links x call (DueBefore a b d same) = ap coin_of_call (sym same)
+due-coin log account links x call (DueRespond ch link a b d f g same) = ap coin_of_call (sym same)
+
+pub due_of-coin : (log : List RootCall) (account : ℕ) (links : Links) (call : RootCall)
+    → Has (due_of log account (record { links = links })) call → coin_of_call call ≡ links.coin
+due_of-coin log account links call h =
+    let r = has-flat_map (due_for log account links) (exits_of log links.coin) call h in
+    due-coin log account links r.0 call (due_for-due log account links r.0 call r.2)
+
+-- ---- a node that has nothing due
+
+module _ (tests : Tests) (rules : Rules) (events : List Event) (n c : ℕ) (made : CoinView) (e : ℕ)
+    (legal : IsLegal tests rules events) (one : HasOneLeaf tests (log_of events) c (seen events c))
+    (found : coin_at (log_of events) c ≡ Some made) where
+  shows-good : (o : Option Owner) (b : Bundle) → b.coin ≡ c → b.tip ≡ e → ShowsGuard events n o b
+      → ShowsGood tests rules (log_of events) (seen events c) c made e b
+  shows-good None b c_is e_is has =
+      let k = is_kept tests rules events n b legal (contains-has (guarded_by events n) b has) in
+      history-good tests rules (log_of events) (seen events) c made e one found b c_is e_is k.links k.history k.is_seen
+  shows-good (Some me) b c_is e_is (Taken has) =
+      let k = is_noted tests rules events n b legal (contains-has (accepted events n) b has) in
+      history-good tests rules (log_of events) (seen events) c made e one found b c_is e_is k.links k.history k.is_seen
+  shows-good (Some me) b c_is e_is (Bare own none) =
+      bare-good tests rules (log_of events) (seen events) c made e one found b c_is e_is me own none
+
+  undue-still : IsUndue rules events n c e → IsStillGuard tests rules events c made e
+  undue-still u =
+      let g = shows-good (wallet_owner events n) u.bundle u.coin_is u.tip_is u.shows in
+      record {
+        account = u.account;
+        links = g.links;
+        good = g.good;
+        none = λ call h. u.none call
+            (subst (λ (k : Option Links). Has (option_map_or
+            (λ (links : Links). due_of (log_of events) u.account (record { links = links })) k []) call)
+            (sym g.kept) h)
+            (due_of-coin (log_of events) u.account g.links call h ∙ g.good.coin_is);
+      }
+
+-- ---- watchers are no wallets
+
+push-command : (n : ℕ) (event : Event) (events : List Event) → list_any (is_command_of n) events ≡ true
+    → list_any (is_command_of n) (event ∷ events) ≡ true
+push-command n event events is = or_right (is_command_of n event) (list_any (is_command_of n) events) is
+
+guarded-commanded : (events : List Event) (g : ℕ) (b : Bundle) → Has (guarded_by events g) b
+    → list_any (is_command_of g) events ≡ true
+unfolding guarded_by
+guarded-commanded [] g b h = absurd h
+guarded-commanded (Guards v bundle ∷ events) g b h =
+    (elim (v == g) as (λ k. (v == g) ≡ k
+    → Has (if k then bundle ∷ guarded_by events g else guarded_by events g) b
+    → list_any (is_command_of g) (Guards v bundle ∷ events) ≡ true) [
+      | true ↦ λ same there. or_left (v == g) (list_any (is_command_of g) events) same
+      | false ↦ λ apart there. push-command g (Guards v bundle) events (guarded-commanded events g b there)
+    ]) refl h
+guarded-commanded (Releases v c e ∷ events) g b h =
+    let there : Has (guarded_by events g) b = (elim (v == g) as (λ k. Has
+    (if k then filter (λ x. not (is_bundle c e x)) (guarded_by events g) else guarded_by events g) b
+    → Has (guarded_by events g) b) [
+      | true ↦ λ h2. (has-filter (λ (x : Bundle). not (is_bundle c e x)) (guarded_by events g) b h2).0
+      | false ↦ λ h2. h2
+    ]) h in
+    push-command g (Releases v c e) events (guarded-commanded events g b there)
+guarded-commanded (event ∷ events) g b h = push-command g event events (guarded-commanded events g b h)
+
+no_wallet-after : (tests : Tests) (rules : Rules) (event : Event) (events : List Event) (g : ℕ) (b : Bundle)
+    → IsLegal tests rules (event ∷ events) → Has (guarded_by events g) b → wallet_owner events g ≡ None
+    → wallet_owner (event ∷ events) g ≡ None
+no_wallet-after tests rules event events g b legal h none =
+    owner-same tests rules event events g legal (guarded-commanded events g b h) ∙ none
+
+pub no_wallet : (tests : Tests) (rules : Rules) (events : List Event) (g : ℕ) (b : Bundle)
+    → IsLegal tests rules events → Has (guarded_by events g) b → wallet_owner events g ≡ None
+unfolding guarded_by IsLegal wallet_owner
+no_wallet tests rules [] g b legal h = absurd h
+no_wallet tests rules (Guards v bundle ∷ events) g b legal h =
+    (elim (v == g) as (λ k. (v == g) ≡ k
+    → Has (if k then bundle ∷ guarded_by events g else guarded_by events g) b → wallet_owner events g ≡ None) [
+      | true ↦ λ same there. ap (wallet_owner events) (sym (eqb-true v g same)) ∙ legal.0.no_wallet
+      | false ↦ λ apart there. no_wallet tests rules events g b legal.1 there
+    ]) refl h
+no_wallet tests rules (Releases v c e ∷ events) g b legal h =
+    let there : Has (guarded_by events g) b = (elim (v == g) as (λ k. Has
+    (if k then filter (λ x. not (is_bundle c e x)) (guarded_by events g) else guarded_by events g) b
+    → Has (guarded_by events g) b) [
+      | true ↦ λ h2. (has-filter (λ (x : Bundle). not (is_bundle c e x)) (guarded_by events g) b h2).0
+      | false ↦ λ h2. h2
+    ]) h in
+    no_wallet tests rules events g b legal.1 there
+no_wallet tests rules (event ∷ events) g b legal h =
+    no_wallet-after tests rules event events g b legal h (no_wallet tests rules events g b legal.1 h)
+
+-- ---- a guarded coin's exits are still
+
+pub holds-from : (events : List Event) (w c e : ℕ) → Holding events w c e → holds events w c e ≡ true
+unfolding holds
+holds-from events w c e h =
+    subst (λ o. holds_with (log_of events) o (signed_away_by events w) (accepted events w) c e ≡ true) (sym h.me_is)
+    (and_from _ _ (and_from _ _ (either h.source) (not_from_false _ h.not_away)) (not_from_false _ h.not_withdrawn))
+  where
+    either : (was_deposited h.me e (coin_at (log_of events) c) ≡ true)
+        ⊎ (list_any (is_bundle c e) (accepted events w) ≡ true)
+        → (was_deposited h.me e (coin_at (log_of events) c) || list_any (is_bundle c e) (accepted events w)) ≡ true
+    either (inl l) = or_left _ _ l
+    either (inr r) = or_right _ _ r
+
+pub guarded_still : (tests : Tests) (rules : Rules) → SignsBy tests → (events : List Event) (w c e : ℕ)
+    → IsLegal tests rules events → HasOneLeaf tests (log_of events) c (seen events c)
+    → is_forged rules.tag events w c ≡ false → (h : Holding events w c e)
+    → (held : HeldAt tests rules events w c e h.me) → is_guarded events w c e ≡ true → (x : Exit)
+    → Has (exits (log_of events)) x → x.coin ≡ c → IsStill tests rules events c held.made e x
+unfolding is_guarded
+guarded_still tests rules signs events w c e legal one unforged h held guarded x there c_is =
+    elim (or_cases (is_quiet events w c) (list_any (is_watched_by events c e) (watchers events)) guarded) [
+      | inl own ↦
+          let guarding : IsGuarding events w (wallet_owner events w) c e =
+          subst (λ o. IsGuarding events w o c e) (sym h.me_is)
+          (record { held = holds-from events w c e h; top = held_top tests rules signs events w c e legal one h unforged }) in
+          still tests rules events c held.made e
+          (undue-still tests rules events w c held.made e legal one held.made_is
+          (quiet_due tests rules events w c e legal own guarding)) x there c_is
+      | inr some ↦
+          let g = any-some (is_watched_by events c e) (watchers events) some in
+          let parts = and_parts (is_quiet events g.0 c) (list_any (is_bundle c e) (guarded_by events g.0)) g.2 in
+          let b = any-some (is_bundle c e) (guarded_by events g.0) parts.1 in
+          let guarding : IsGuarding events g.0 (wallet_owner events g.0) c e =
+          subst (λ o. IsGuarding events g.0 o c e) (sym (no_wallet tests rules events g.0 b.0 legal b.1)) parts.1 in
+          still tests rules events c held.made e
+          (undue-still tests rules events g.0 c held.made e legal one held.made_is
+          (quiet_due tests rules events g.0 c e legal parts.0 guarding)) x there c_is
+    ]

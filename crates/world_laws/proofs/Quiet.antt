@@ -1,0 +1,234 @@
+-- The exits of a coin that a quiet node guards are still: nothing is due for them.
+use Rattle.std.proofs.Common.{◌≡◌, ◌⊎◌, ℕ, ◌+◌, ◌<◌, ◌≤◌, ◌==◌, ◌&&◌, ◌||◌, cond, not, Bool, true, false, if◌then◌else◌, List, [], ◌∷◌, ◌++◌, map, Option, Some, None, inl, inr, refl, sym, ap, ◌∙◌, subst, arith, find, filter}
+use Rattle.std.specs.Prelude.{is_some, is_none, nat_lt, unwrap_or}
+use Rattle.std.specs.Option.{option_map, option_map_or, option_or}
+use Rattle.std.specs.List.{Contains, list_any, flat_map}
+use Rattle.std.proofs.lemmas.Bool.{eq-eqb, lt-ltb, le-ltb, lt-leb, and_parts, and_from, or_cases, not_from_false, true≢false, false≢true}
+use Rattle.plasma_tx.specs.declared.owner.Owner.{Owner}
+use Rattle.plasma_tx.specs.declared.opening.RawOpening.{RawOpening}
+use Rattle.plasma_tx.specs.declared.links.Link.{Link}
+use Rattle.plasma_tx.specs.declared.links.Links.{Links}
+use Rattle.plasma_tx.specs.declared.call.RootCall.{RootCall}
+use Rattle.plasma_tx.specs.declared.call.RootCall.TheVariants.{After, Between, Before, Respond}
+use Rattle.plasma_tx.specs.declared.views.ChallengeView.{ChallengeView}
+use Rattle.plasma_tx.specs.declared.views.CoinView.{CoinView}
+use Rattle.plasma_tx.specs.declared.views.ExitView.{ExitView}
+use Rattle.plasma_tx.specs.ChallengeLists.{is_challenged}
+use Rattle.plasma_tx.specs.Links.{tip_of}
+use Rattle.plasma_tx.specs.Views.{now, coin_at, Challenge, Exit, exits, challenge_at, challenge_view, exit_view, exits_of}
+use Rattle.root_rules.specs.declared.TheConstants.{CHALLENGE_WINDOW, RESPONSE_WINDOW}
+use Rattle.root_rules.specs.Shown.{Tests, Rules}
+use Rattle.root_rules.specs.Table.{is_over}
+use Rattle.watch_duty.specs.Duty.{link_after, tip_shown, within, answer, due_for, due_of}
+use Rattle.watch_duty.proofs.Members.{Has, has-left, has-right, any-map}
+use Rattle.world_rules.specs.Events.{Event, log_of}
+use Rattle.world_rules.specs.Exhibits.{seen}
+use Rattle.world_laws.proofs.Shown.{IsShownAt}
+use Rattle.world_laws.proofs.Held.{IsGoodGuard}
+
+-- ---- members
+
+has-mapped : {X Y : Type 0} (f : X → Y) (xs : List X) (x : X) → Has xs x → Has (map f xs) (f x)
+has-mapped f [] x h = absurd h
+has-mapped f (y ∷ ys) x (inl is) = inl (ap f is)
+has-mapped f (y ∷ ys) x (inr h) = inr (has-mapped f ys x h)
+
+has-kept : {X : Type 0} (p : X → Bool) (xs : List X) (x : X) → Has xs x → p x ≡ true → Has (filter p xs) x
+has-kept p [] x h is = absurd h
+has-kept p (y ∷ ys) x (inl same) is =
+    subst (λ b. Has (cond b (y ∷ filter p ys) (filter p ys)) x) (sym (ap p same ∙ is)) (inl same)
+has-kept p (y ∷ ys) x (inr h) is =
+    elim (p y) as (λ b. Has (cond b (y ∷ filter p ys) (filter p ys)) x) [
+      | true ↦ inr (has-kept p ys x h is)
+      | false ↦ has-kept p ys x h is
+    ]
+
+has-flat : {X Y : Type 0} (f : X → List Y) (xs : List X) (x : X) (y : Y) → Has xs x → Has (f x) y
+    → Has (flat_map f xs) y
+has-flat f [] x y h is = absurd h
+has-flat f (z ∷ zs) x y (inl same) is =
+    has-left (f z) (flat_map f zs) y (subst (λ w. Has (f w) y) (sym same) is)
+has-flat f (z ∷ zs) x y (inr h) is = has-right (f z) (flat_map f zs) y (has-flat f zs x y h is)
+
+none-any : {X : Type 0} (p : X → Bool) (xs : List X) → is_none (find p xs) ≡ true → list_any p xs ≡ false
+none-any p [] none = refl
+none-any p (x ∷ xs) none =
+    (elim (p x) as (λ b. is_none (if b then Some x else find p xs) ≡ true → (b || list_any p xs) ≡ false) [
+      | true ↦ λ wrong. absurd (false≢true wrong)
+      | false ↦ λ rest. none-any p xs rest
+    ]) none
+
+-- ---- one exit
+
+module _ (log : List RootCall) (account : ℕ) (links : Links) where
+  within-has : (time window : ℕ) (call : RootCall) → now log < time + window → Has (within log time window call) call
+  within-has time window call inside =
+      subst (λ (b : Bool). Has (if b then [] else call ∷ []) call) (sym (lt-leb (time + window) (now log) inside))
+      (inl refl)
+
+  module _ (x : Exit) (inside : now log < x.start + CHALLENGE_WINDOW) where
+    abbrev after : Link → List RootCall
+    after link = within log x.start CHALLENGE_WINDOW (After account links.coin x.block link.opening)
+
+    abbrev between : Link → List RootCall
+    between link = within log x.start CHALLENGE_WINDOW (Between account links.coin x.block link.opening)
+
+    -- the calls of the first of these rules that speaks
+    abbrev Calls : Option Link → Bool → Option Link → Option (List RootCall) → List RootCall
+    Calls o b l rest = unwrap_or (option_or (option_map after o)
+        (option_or (if b then option_map between l else None) rest)) []
+
+    after-has : (link : Link) → Has (after link) (After account links.coin x.block link.opening)
+    after-has link = within-has x.start CHALLENGE_WINDOW (After account links.coin x.block link.opening) inside
+
+    between-has : (link : Link) → Has (between link) (Between account links.coin x.block link.opening)
+    between-has link = within-has x.start CHALLENGE_WINDOW (Between account links.coin x.block link.opening) inside
+
+    by_first : (o : Option Link) (b : Bool) (l : Option Link) (rest : Option (List RootCall)) → is_some o ≡ true
+        → ((call : RootCall) → Has (Calls o b l rest) call → ⊥) → ⊥
+    by_first None b l rest some none = false≢true some
+    by_first (Some link) b l rest some none = none (After account links.coin x.block link.opening) (after-has link)
+
+    by_second : (o : Option Link) (b : Bool) (l : Option Link) (rest : Option (List RootCall)) → b ≡ true
+        → is_some l ≡ true → ((call : RootCall) → Has (Calls o b l rest) call → ⊥) → ⊥
+    by_second (Some link) b l rest on some none =
+        none (After account links.coin x.block link.opening) (after-has link)
+    by_second None false l rest on some none = false≢true on
+    by_second None true None rest on some none = false≢true some
+    by_second None true (Some link) rest on some none =
+        none (Between account links.coin x.block link.opening) (between-has link)
+
+    by_third : (o : Option Link) (b : Bool) (l : Option Link) (calls : List RootCall) (call : RootCall)
+        → Has calls call → ((call : RootCall) → Has (Calls o b l (Some calls)) call → ⊥) → ⊥
+    by_third (Some link) b l calls call has none =
+        none (After account links.coin x.block link.opening) (after-has link)
+    by_third None true (Some link) calls call has none =
+        none (Between account links.coin x.block link.opening) (between-has link)
+    by_third None true None calls call has none = none call has
+    by_third None false l calls call has none = none call has
+
+  -- an open challenge in its window is answered
+  answer-has : (x : Exit) (ch : Challenge) (o : Option Link) → link_after links ch.block ≡ o → is_some o ≡ true
+      → ch.answered ≡ false → now log < ch.at + RESPONSE_WINDOW
+      → (call : RootCall) × Has (answer log account links (exit_view x) (challenge_view ch)) call
+  answer-has x ch None o_is some unanswered inside = absurd (false≢true some)
+  answer-has x ch (Some link) o_is some unanswered inside =
+      let call : RootCall = Respond account links.coin x.block ch.block link.opening in (
+        call,
+        subst (λ (b : Bool). Has (if b then [] else option_map_or
+            (λ (l : Link). within log ch.at RESPONSE_WINDOW
+            (Respond account links.coin x.block ch.block l.opening))
+            (link_after links ch.block) []) call) (sym unanswered)
+            (subst (λ (p : Option Link). Has (option_map_or
+            (λ (l : Link). within log ch.at RESPONSE_WINDOW
+            (Respond account links.coin x.block ch.block l.opening)) p []) call) (sym o_is)
+            (within-has ch.at RESPONSE_WINDOW call inside)),
+      )
+
+-- nothing is due for the exit
+pub record IsStill (tests : Tests) (rules : Rules) (events : List Event) (c : ℕ) (made : CoinView) (e : ℕ) (x : Exit)
+    : Type 0 where
+  -- of an exit before the tip, of one of a later block with a parent before the tip, and of one with a parent after
+  -- the tip that isn't challenged there, the window is over
+  pub old : (o : Owner) → IsShownAt tests rules (log_of events) (seen events c) c made x.block o → x.block < e
+      → now (log_of events) < x.start + CHALLENGE_WINDOW → ⊥
+  pub later : (o : Owner) → e < x.block → IsShownAt tests rules (log_of events) (seen events c) c made x.parent o
+      → x.parent < e → now (log_of events) < x.start + CHALLENGE_WINDOW → ⊥
+  pub planted : e < x.parent → is_none (challenge_at e x.challenges) ≡ true
+      → now (log_of events) < x.start + CHALLENGE_WINDOW → ⊥
+  -- so it is of an open challenge before the tip, on the exit at the tip
+  pub mine : (ch : Challenge) (o : Owner) → x.block ≡ e → x.parent ≤ e → Has x.challenges ch → ch.answered ≡ false
+      → IsShownAt tests rules (log_of events) (seen events c) c made ch.block o → ch.block < e
+      → now (log_of events) < ch.at + RESPONSE_WINDOW → ⊥
+
+-- a node's guard of the coin at the tip, by which nothing is due
+pub record IsStillGuard (tests : Tests) (rules : Rules) (events : List Event) (c : ℕ) (made : CoinView) (e : ℕ)
+    : Type 0 where
+  pub account : ℕ
+  pub links : Links
+  pub good : IsGoodGuard tests rules (log_of events) (seen events c) c made e links
+  pub none : (call : RootCall) → Has (due_of (log_of events) account (record { links = links })) call → ⊥
+
+module _ (tests : Tests) (rules : Rules) (events : List Event) (c : ℕ) (made : CoinView) (e : ℕ)
+    (g : IsStillGuard tests rules events c made e) (x : Exit) (there : Has (exits (log_of events)) x)
+    (c_is : x.coin ≡ c) where
+  abbrev Due : List RootCall
+  Due = due_for (log_of events) g.account g.links (exit_view x)
+
+  none-due : (call : RootCall) → Has Due call → ⊥
+  unfolding exits_of
+  none-due call h =
+      g.none call
+      (has-flat (due_for (log_of events) g.account g.links) (exits_of (log_of events) g.links.coin) (exit_view x) call
+      (has-mapped exit_view (filter (λ exit. exit.coin == g.links.coin) (exits (log_of events))) x
+      (has-kept (λ (exit : Exit). exit.coin == g.links.coin) (exits (log_of events)) x there
+      (eq-eqb x.coin g.links.coin (c_is ∙ sym g.good.coin_is)))) h)
+
+  abbrev Planted : Bool
+  Planted = nat_lt (tip_of g.links) x.parent && not (is_challenged (tip_of g.links) (map challenge_view x.challenges))
+
+  abbrev Before_call : List RootCall
+  Before_call = within (log_of events) x.start CHALLENGE_WINDOW
+      (Before g.account g.links.coin x.block (tip_shown g.links))
+
+  abbrev Answers : Option (List RootCall)
+  Answers = if x.block == tip_of g.links
+      then Some (flat_map (answer (log_of events) g.account g.links (exit_view x)) (map challenge_view x.challenges))
+      else None
+
+  abbrev Rest : Option (List RootCall)
+  Rest = option_or (if Planted then Some Before_call else None) Answers
+
+  unchallenged : is_none (challenge_at e x.challenges) ≡ true
+      → is_challenged (tip_of g.links) (map challenge_view x.challenges) ≡ false
+  unchallenged none =
+      ap (λ n. is_challenged n (map challenge_view x.challenges)) g.good.tip_is
+      ∙ any-map challenge_view (λ (v : ChallengeView). v.block == e) x.challenges
+      ∙ none-any (λ (ch : Challenge). ch.block == e) x.challenges none
+
+  pub still : IsStill tests rules events c made e x
+  still = record {
+    old = λ o shown below inside.
+        by_first (log_of events) g.account g.links x inside (link_after g.links x.block)
+        (nat_lt (tip_of g.links) x.block) (link_after g.links x.parent) Rest
+        (g.good.reaches x.block o shown below) none-due;
+    later = λ o above shown below inside.
+        by_second (log_of events) g.account g.links x inside (link_after g.links x.block)
+        (nat_lt (tip_of g.links) x.block) (link_after g.links x.parent) Rest
+        (lt-ltb (tip_of g.links) x.block (omega (arith, above, g.good.tip_is)))
+        (g.good.reaches x.parent o shown below) none-due;
+    planted = λ above free inside.
+        let on : Planted ≡ true = and_from _ _ (lt-ltb (tip_of g.links) x.parent (omega (arith, above, g.good.tip_is)))
+        (not_from_false _ (unchallenged free)) in
+        by_third (log_of events) g.account g.links x inside (link_after g.links x.block)
+        (nat_lt (tip_of g.links) x.block) (link_after g.links x.parent) Before_call
+        (Before g.account g.links.coin x.block (tip_shown g.links))
+        (within-has (log_of events) g.account g.links x.start CHALLENGE_WINDOW
+        (Before g.account g.links.coin x.block (tip_shown g.links)) inside)
+        (subst (λ (b : Bool). (call : RootCall) → Has (Calls (log_of events) g.account g.links x inside
+        (link_after g.links x.block) (nat_lt (tip_of g.links) x.block) (link_after g.links x.parent)
+        (option_or (if b then Some Before_call else None) Answers)) call → ⊥) on none-due);
+    mine = λ ch o at_tip low has unanswered shown below inside.
+        let first : link_after g.links x.block ≡ None = ap (link_after g.links) at_tip ∙ g.good.none_after in
+        let second : nat_lt (tip_of g.links) x.block ≡ false =
+        le-ltb (tip_of g.links) x.block (omega (arith, at_tip, g.good.tip_is)) in
+        let third : Planted ≡ false =
+        ap (λ (b : Bool). b && not (is_challenged (tip_of g.links) (map challenge_view x.challenges)))
+        (le-ltb (tip_of g.links) x.parent (omega (arith, low, g.good.tip_is))) in
+        let fourth : x.block == tip_of g.links ≡ true =
+        eq-eqb x.block (tip_of g.links) (at_tip ∙ sym g.good.tip_is) in
+        let calls : List RootCall =
+        flat_map (answer (log_of events) g.account g.links (exit_view x)) (map challenge_view x.challenges) in
+        let all : Due ≡ calls = λ i. unwrap_or (option_or (option_map
+        (λ (link : Link). within (log_of events) x.start CHALLENGE_WINDOW
+        (After g.account g.links.coin x.block link.opening)) (first i))
+        (option_or (if second i then option_map
+        (λ (link : Link). within (log_of events) x.start CHALLENGE_WINDOW
+        (Between g.account g.links.coin x.block link.opening)) (link_after g.links x.parent) else None)
+        (option_or (if third i then Some Before_call else None) (if fourth i then Some calls else None)))) [] in
+        let a = answer-has (log_of events) g.account g.links x ch (link_after g.links ch.block) refl
+        (g.good.reaches ch.block o shown below) unanswered inside in
+        none-due a.0 (subst (λ (l : List RootCall). Has l a.0) (sym all)
+        (has-flat (answer (log_of events) g.account g.links (exit_view x)) (map challenge_view x.challenges)
+        (challenge_view ch) a.0 (has-mapped challenge_view x.challenges ch has) a.1));
+  }

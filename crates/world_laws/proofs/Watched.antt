@@ -1,0 +1,221 @@
+-- What each event keeps of the exits of a held coin.
+use Rattle.std.proofs.Common.{◌≡◌, ◌≢◌, ℕ, ◌+◌, ◌<◌, ◌≤◌, ◌==◌, Bool, true, false, if◌then◌else◌, List, [], ◌∷◌, ◌++◌, map, Some, inl, inr, refl, sym, ap, ◌∙◌, subst, arith}
+use Rattle.std.specs.Prelude.{is_some, is_none}
+use Rattle.std.specs.List.{AllByRecursion}
+use Rattle.std.proofs.lemmas.Bool.{cases_lt, true≢false}
+use Rattle.plasma_tx.specs.declared.owner.Owner.{Owner}
+use Rattle.plasma_tx.specs.declared.opening.RawOpening.{RawOpening}
+use Rattle.plasma_tx.specs.declared.signed_tx.SignedTx.{SignedTx}
+use Rattle.plasma_tx.specs.declared.call.RootCall.{RootCall}
+use Rattle.plasma_tx.specs.Views.{Challenge, Exit, challenge_at, with_challenge, with_answer, with_answer_at}
+use Rattle.root_rules.specs.declared.TheConstants.{CHALLENGE_WINDOW, RESPONSE_WINDOW}
+use Rattle.root_rules.specs.Shown.{Tests, Rules}
+use Rattle.root_rules.specs.Accepted.{ShowsTx}
+use Rattle.root_rules.proofs.Each.{all-append}
+use Rattle.coin_history.specs.History.{transfer_of}
+use Rattle.watch_duty.specs.Laws.{openings_of_call}
+use Rattle.watch_duty.proofs.Members.{Has, all-has}
+use Rattle.world_rules.specs.Events.{Event, log_of, wallet_owner, bound_by, signed_away_by}
+use Rattle.world_rules.specs.Exhibits.{seen, forges_one}
+use Rattle.world_rules.specs.Safety.{is_mine}
+use Rattle.world_laws.proofs.Lists.{all-from, all-answered}
+use Rattle.world_laws.proofs.Clash.{IsOpened, HasOneLeaf}
+use Rattle.world_laws.proofs.Shown.{IsShownAt, shown_at-grow}
+use Rattle.world_laws.proofs.Absences.{IsParted}
+use Rattle.world_laws.proofs.Bound.{SignsBy, Holding, line_bound, unspent}
+use Rattle.world_laws.proofs.Held.{HeldAt, shown_same, end_shown}
+
+-- what holds of each standing exit of the coin while it is held at e
+pub record IsWatched (me : Owner) (e time : ℕ) (x : Exit) : Type 0 where
+  -- it doesn't spend the tip
+  pub unspent : x.parent ≢ e
+  -- no challenge at the tip is answered
+  pub open_tip : AllByRecursion (λ ch. ch.block ≡ e → ch.answered ≡ false) x.challenges
+  -- past its window, an exit of another account is challenged at the tip
+  pub in_time : is_mine me x ≡ false → x.start + CHALLENGE_WINDOW ≤ time
+      → is_none (challenge_at e x.challenges) ≡ false
+  -- the own exit is at the tip
+  pub own_block : is_mine me x ≡ true → x.block ≡ e
+  -- no open challenge of the own exit at the tip is past its window
+  pub own_time : is_mine me x ≡ true → x.block ≡ e
+      → AllByRecursion (λ ch. ch.answered ≡ false → time < ch.at + RESPONSE_WINDOW) x.challenges
+
+abbrev pub IfOf : ℕ → Owner → ℕ → ℕ → Exit → Type 0
+IfOf c me e time x = x.coin ≡ c → IsWatched me e time x
+
+abbrev pub AllWatched : ℕ → Owner → ℕ → ℕ → List Exit → Type 0
+AllWatched c me e time xs = AllByRecursion (IfOf c me e time) xs
+
+-- ---- challenges
+
+is_none-push : (block : ℕ) (chs : List Challenge) (new : Challenge) → is_none (challenge_at block chs) ≡ false
+    → is_none (challenge_at block (chs ++ new ∷ [])) ≡ false
+is_none-push block [] new was = absurd (true≢false was)
+is_none-push block (first ∷ rest) new was =
+    (elim (first.block == block) as (λ b. is_none (if b then Some first else challenge_at block rest) ≡ false
+    → is_none (if b then Some first else challenge_at block (rest ++ new ∷ [])) ≡ false) [
+      | true ↦ λ is. is
+      | false ↦ λ is. is_none-push block rest new is
+    ]) was
+
+is_none-answered : (block other : ℕ) (chs : List Challenge)
+    → is_none (challenge_at block (map (with_answer_at other) chs)) ≡ is_none (challenge_at block chs)
+is_none-answered block other [] = refl
+is_none-answered block other (first ∷ rest) =
+    elim (first.block == other) as (λ k. is_none (challenge_at block
+    ((if k then record first { answered = true } else first) ∷ map (with_answer_at other) rest))
+    ≡ is_none (challenge_at block (first ∷ rest))) [
+      | true ↦ elim (first.block == block) as (λ b. is_none (if b then Some (record first { answered = true })
+          else challenge_at block (map (with_answer_at other) rest))
+          ≡ is_none (if b then Some first else challenge_at block rest)) [
+            | true ↦ refl
+            | false ↦ is_none-answered block other rest
+          ]
+      | false ↦ elim (first.block == block) as (λ b. is_none (if b then Some first
+          else challenge_at block (map (with_answer_at other) rest))
+          ≡ is_none (if b then Some first else challenge_at block rest)) [
+            | true ↦ refl
+            | false ↦ is_none-answered block other rest
+          ]
+    ]
+
+-- ---- an accepted spend
+
+pub record IsSpend (tests : Tests) (rules : Rules) (log : List RootCall) (c : ℕ) (o : RawOpening) (parent : ℕ)
+    (owner : Owner) : Type 0 where
+  pub tx : SignedTx
+  pub tx_is : transfer_of rules c o ≡ Some tx
+  pub opened : IsOpened tests log c o
+  pub parent_is : tx.body.parent ≡ parent
+  pub above : parent < o.block
+  pub signed : tests.is_signed tx owner ≡ true
+
+pub is_spend : (tests : Tests) (rules : Rules) (log : List RootCall) (c : ℕ) (o : RawOpening) (tx : SignedTx)
+    (parent : ℕ) (owner : Owner) → ShowsTx tests rules log c o tx → tx.body.parent ≡ parent → parent < o.block
+    → tests.is_signed tx owner ≡ true → IsSpend tests rules log c o parent owner
+is_spend tests rules log c o tx parent owner shown child above signed = record {
+  tx = tx;
+  tx_is = shown.spelled;
+  opened = record { root = shown.root; root_is = shown.committed; opens = shown.opened };
+  parent_is = child;
+  above = above;
+  signed = signed;
+}
+
+-- ---- an event on a held coin
+
+-- what is known at an event on a coin that is held before it, whose openings are accepted ones with the event's
+pub record AtEvent (tests : Tests) (rules : Rules) (events : List Event) (w c e : ℕ) (more : List RawOpening)
+    : Type 0 where
+  pub hold : Holding events w c e
+  pub held : HeldAt tests rules events w c e hold.me
+  pub one_before : HasOneLeaf tests (log_of events) c (seen events c)
+  pub one : HasOneLeaf tests (log_of events) c more
+  pub has : (o : RawOpening) → Has (seen events c) o → Has more o
+  pub parts : IsParted tests (log_of events) more c (bound_by events w) (signed_away_by events w)
+
+module _ (tests : Tests) (rules : Rules) (signs : SignsBy tests) (events : List Event) (w c e : ℕ)
+    (more : List RawOpening) (at : AtEvent tests rules events w c e more) where
+  pub seen_more : (n : ℕ) (owner : Owner)
+      → IsShownAt tests rules (log_of events) (seen events c) c at.held.made n owner
+      → IsShownAt tests rules (log_of events) more c at.held.made n owner
+  seen_more n owner s =
+      shown_at-grow tests rules (log_of events) c (seen events c) more at.held.made at.has n owner s
+
+  pub tip_before : IsShownAt tests rules (log_of events) (seen events c) c at.held.made e at.hold.me
+  tip_before =
+      end_shown tests rules (log_of events) (seen events c) c at.held.made at.one_before e at.hold.me
+      at.held.openings at.held.known
+
+  -- whoever owns the block e is the holder
+  pub owner_is : (n : ℕ) (owner : Owner) → IsShownAt tests rules (log_of events) more c at.held.made n owner → n ≡ e
+      → owner ≡ at.hold.me
+  owner_is n owner shown is =
+      shown_same tests rules (log_of events) more c at.held.made at.one e owner at.hold.me
+      (subst (λ k. IsShownAt tests rules (log_of events) more c at.held.made k owner) is shown)
+      (seen_more e at.hold.me tip_before)
+
+  -- no opening of the event's call spends the tip
+  pub tip_unspent : (openings : List RawOpening)
+      → forges_one rules.tag (wallet_owner events w) (bound_by events w) c openings ≡ false → (o : RawOpening)
+      → Has openings o → Has more o → (parent : ℕ) (owner : Owner)
+      → IsSpend tests rules (log_of events) c o parent owner → parent ≡ e → owner ≡ at.hold.me → ⊥
+  tip_unspent openings none o has seen_it parent owner spend at_tip mine =
+      let off : forges_one rules.tag (Some at.hold.me) (bound_by events w) c openings ≡ false =
+      subst (λ x. forges_one rules.tag x (bound_by events w) c openings ≡ false) at.hold.me_is none in
+      let b = line_bound rules c at.hold.me (bound_by events w) openings off o spend.tx has spend.tx_is
+      (signs spend.tx at.hold.me (subst (λ x. tests.is_signed spend.tx x ≡ true) mine spend.signed)) in
+      unspent tests rules (log_of events) more c e (bound_by events w) (signed_away_by events w) at.one
+      at.hold.not_away at.parts o spend.tx seen_it spend.opened (subst (λ n. n < o.block) at_tip spend.above)
+      spend.tx_is (spend.parent_is ∙ at_tip) b
+
+-- ---- what one accepted call keeps
+
+module _ (c : ℕ) (me : Owner) (e time : ℕ) where
+  pub new-watched : (x : Exit) → x.parent ≢ e → (is_mine me x ≡ true → x.block ≡ e) → x.start ≡ time
+      → x.challenges ≡ [] → IsWatched me e time x
+  new-watched x apart own begins none = record {
+    unspent = apart;
+    open_tip = subst (AllByRecursion (λ (ch : Challenge). ch.block ≡ e → ch.answered ≡ false)) (sym none) tt;
+    in_time = λ other over. absurd (not_over over);
+    own_block = own;
+    own_time = λ own at_tip.
+        subst (AllByRecursion (λ (ch : Challenge). ch.answered ≡ false → time < ch.at + RESPONSE_WINDOW)) (sym none) tt;
+  }
+    where
+      not_over : x.start + CHALLENGE_WINDOW ≤ time → ⊥
+      not_over over = let w : 0 < CHALLENGE_WINDOW = omega arith in omega (arith, over, begins, w)
+
+  pub challenged-watched : (x : Exit) (new : Challenge) → is_some (challenge_at new.block x.challenges) ≡ false
+      → new.answered ≡ false → new.at ≡ time → IsWatched me e time x → IsWatched me e time (with_challenge new x)
+  challenged-watched x new none unanswered now_is w =
+      subst (λ (b : Bool). IsWatched me e time (if b then x else record x { challenges = x.challenges ++ new ∷ [] }))
+      (sym none)
+      (record {
+        unspent = w.unspent;
+        open_tip = all-append (λ (ch : Challenge). ch.block ≡ e → ch.answered ≡ false) x.challenges new w.open_tip
+            (λ _. unanswered);
+        in_time = λ other over. is_none-push e x.challenges new (w.in_time other over);
+        own_block = w.own_block;
+        own_time = λ own at_tip.
+            all-append (λ (ch : Challenge). ch.answered ≡ false → time < ch.at + RESPONSE_WINDOW) x.challenges new
+            (w.own_time own at_tip)
+            (λ _. let r : 0 < RESPONSE_WINDOW = omega arith in omega (arith, now_is, r));
+      })
+
+  pub answered-watched : (x : Exit) (challenged : ℕ) → challenged ≢ e → IsWatched me e time x
+      → IsWatched me e time (with_answer challenged x)
+  answered-watched x challenged apart w = record {
+    unspent = w.unspent;
+    open_tip = all-answered (λ ch. ch.block ≡ e → ch.answered ≡ false) challenged x.challenges
+        (λ ch named was at_tip. absurd (apart (sym named ∙ at_tip))) w.open_tip;
+    in_time = λ other over. is_none-answered e challenged x.challenges ∙ w.in_time other over;
+    own_block = w.own_block;
+    own_time = λ own at_tip.
+        all-answered (λ ch. ch.answered ≡ false → time < ch.at + RESPONSE_WINDOW) challenged x.challenges
+        (λ ch named was no. absurd (true≢false no)) (w.own_time own at_tip);
+  }
+
+  -- a tick past what is still
+  pub ticked-watched : (after : ℕ) (x : Exit) → IsWatched me e time x
+      → (is_mine me x ≡ false → time < x.start + CHALLENGE_WINDOW → x.start + CHALLENGE_WINDOW ≤ after
+      → is_none (challenge_at e x.challenges) ≡ false)
+      → (is_mine me x ≡ true → x.block ≡ e → (ch : Challenge) → Has x.challenges ch → ch.answered ≡ false
+      → time < ch.at + RESPONSE_WINDOW → ch.at + RESPONSE_WINDOW ≤ after → ⊥)
+      → IsWatched me e after x
+  ticked-watched after x w others mine = record {
+    unspent = w.unspent;
+    open_tip = w.open_tip;
+    in_time = λ other over. elim (cases_lt time (x.start + CHALLENGE_WINDOW)) [
+      | inl inside ↦ others other inside over
+      | inr past ↦ w.in_time other past
+    ];
+    own_block = w.own_block;
+    own_time = λ own at_tip. all-from (λ ch. ch.answered ≡ false → after < ch.at + RESPONSE_WINDOW) x.challenges
+        (λ ch there unanswered. elim (cases_lt after (ch.at + RESPONSE_WINDOW)) [
+          | inl inside ↦ inside
+          | inr past ↦ absurd (mine own at_tip ch there unanswered
+              (all-has (λ (k : Challenge). k.answered ≡ false → time < k.at + RESPONSE_WINDOW) x.challenges ch
+              (w.own_time own at_tip) there unanswered) past)
+        ]);
+  }
