@@ -54,7 +54,7 @@ same effect other is = sym (some_same effect other is)
 
 module _ (dig : List ℕ → List ℕ) (world : World) where
   -- what is done with a node is done with one that has the name
-  acted : (may : Role → Bool) (name : List ℕ) (act : ℕ → Node → Option LineEffect) (effect : LineEffect)
+  pub acted : (may : Role → Bool) (name : List ℕ) (act : ℕ → Node → Option LineEffect) (effect : LineEffect)
       → act_on may world name act ≡ Some effect
       → (n : ℕ) × (node : Node) × (number_of may world name ≡ Some n) × (slice_get world.nodes n ≡ Some node)
       × (act n node ≡ Some effect)

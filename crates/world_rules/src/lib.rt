@@ -2,11 +2,13 @@
 //! it leaves, its verdicts, and the words of what is promised of it.
 #![tactic(auto)]
 
+mod kept_laws;
 mod laws;
 mod reply;
 mod verdict;
 mod verdict_laws;
 
+pub use kept_laws::events_are_what_disks_keep;
 pub use laws::{
     cuts_keep_as_appends_do, down_nodes_stay, items_are_made, lines_that_keep_the_rules_step,
     offers_are_of_events, records_grow, steps_keep_the_log,

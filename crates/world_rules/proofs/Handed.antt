@@ -1,0 +1,137 @@
+-- A bundle that is handed in and taken: it is of the coin and the tip of its links, and of a coin that the log has.
+use Rattle.std.proofs.Common.{◌≡◌, ℕ, ◌+◌, ◌-◌, ◌==◌, ◌||◌, Bool, true, List, [], ◌∷◌, filter, Some, Ok, inl, inr, refl, sym, ap, ◌∙◌, subst, arith}
+use Rattle.std.specs.Prelude.{unwrap_or}
+use Rattle.std.specs.Result.{result_ok}
+use Rattle.std.proofs.lemmas.Bool.{eqb-true, eq-eqb, or_cases, and_from, or_left, or_right}
+use Rattle.plasma_tx.specs.declared.owner.Owner.{Owner}
+use Rattle.plasma_tx.specs.declared.opening.RawOpening.{RawOpening}
+use Rattle.plasma_tx.specs.declared.links.Links.{Links}
+use Rattle.plasma_tx.specs.declared.call.RootCall.{RootCall}
+use Rattle.plasma_tx.specs.declared.views.CoinView.{CoinView}
+use Rattle.plasma_tx.specs.Links.{tip_of, last_owner_of}
+use Rattle.plasma_tx.specs.Views.{coin_at}
+use Rattle.root_rules.specs.Shown.{tests_by, Rules}
+use Rattle.coin_history.specs.declared.bundle.Bundle.{Bundle}
+use Rattle.coin_history.specs.Bundles.{bundle_in}
+use Rattle.coin_history.specs.History.{IsHistory, blocks_of, committed_blocks, links_in, is_committed}
+use Rattle.coin_history.proofs.BundleLaws.{text-bundle_in}
+use Rattle.wallet_core.specs.declared.notes.Notes.{Notes}
+use Rattle.wallet_core.specs.State.{is_owner, is_noted}
+use Rattle.node_rules.specs.Kept.{chain_of, kept_of, links_handed}
+use Rattle.node_rules.specs.Wallet.{is_known}
+use Rattle.node_rules.proofs.KeptTexts.{handed-bundle}
+use Rattle.world_rules.specs.Deeds.{bundle_read}
+use Rattle.world_rules.specs.Safety.{was_deposited}
+use Rattle.world_rules.proofs.ByteTexts.{Small}
+use Rattle.world_rules.proofs.ItemTexts.{AreSmallOpenings, read-small, kept-small}
+use Rattle.std.specs.List.{range_with_len}
+use Rattle.coin_history.proofs.HistoryFound.{histories_are_found}
+
+-- the bundle that the bytes spell, as its links show it
+pub record IsHanded (dig : List ℕ → List ℕ) (tag : List ℕ) (log : List RootCall) (bytes : List ℕ) (links : Links)
+    : Type 0 where
+  pub coin : (bundle_read bytes).coin ≡ links.coin
+  pub tip : (bundle_read bytes).tip ≡ tip_of links
+  pub made : CoinView
+  pub made_is : coin_at log links.coin ≡ Some made
+  pub deposit : links.deposit ≡ made.deposit
+  pub own : tip_of links ≡ links.deposit → last_owner_of links ≡ made.owner
+  pub small : AreSmallOpenings (kept_of links).openings
+
+-- no block lies after the deposit and up to it
+no-blocks : (log : List RootCall) (low high : ℕ) → high ≡ low → committed_blocks log low high ≡ []
+unfolding committed_blocks
+no-blocks log low high same =
+    let none : high - low ≡ 0 = omega (arith, same) in
+    ap (λ (n : ℕ). filter (is_committed log) (range_with_len (low + 1) n)) none
+
+no-openings : (openings : List RawOpening) → blocks_of openings ≡ [] → openings ≡ []
+no-openings [] is = refl
+no-openings (opening ∷ openings) is = absurd (cc is)
+
+no-links : (rules : Rules) (coin deposit : ℕ) (owner : Owner) → last_owner_of (record {
+  coin = coin;
+  deposit = deposit;
+  owner = owner;
+  spends = links_in rules coin [];
+}) ≡ owner
+unfolding links_in
+no-links rules coin deposit owner = refl
+
+pub is_handed : (dig : List ℕ → List ℕ) (tag : List ℕ) (log : List RootCall) (bytes : List ℕ) (links : Links)
+    → Small bytes → links_handed dig tag log bytes ≡ Ok links → IsHanded dig tag log bytes links
+is_handed dig tag log bytes links small is =
+    let found = handed-bundle dig tag log (bundle_in bytes) links is in
+    let text = text-bundle_in bytes found.0 small.are found.1 in
+    by found.0 found.1
+    (histories_are_found (tests_by dig) (chain_of tag) log found.0 links text.1.rising found.2)
+  where
+    by : (bundle : Bundle) → bundle_in bytes ≡ Ok bundle
+        → IsHistory (tests_by dig) (chain_of tag) log bundle links → IsHanded dig tag log bytes links
+    by bundle read history = record {
+      coin = ap (λ (b : Bundle). b.coin) reads ∙ sym coin_is;
+      tip = ap (λ (b : Bundle). b.tip) reads ∙ sym history.tip;
+      made = history.made;
+      made_is = ap (coin_at log) coin_is ∙ history.coin;
+      deposit = ap (λ (l : Links). l.deposit) history.shown;
+      own = own-of;
+      small =
+          subst (λ (l : Links). AreSmallOpenings (kept_of l).openings) (sym history.shown)
+          (kept-small (chain_of tag) bundle.coin bundle.openings (read-small bytes bundle small read));
+    }
+      where
+        reads : bundle_read bytes ≡ bundle
+        reads = ap (λ r. unwrap_or (result_ok r) (record { coin = 0; tip = 0; openings = [] })) read
+
+        coin_is : links.coin ≡ bundle.coin
+        coin_is = ap (λ (l : Links). l.coin) history.shown
+
+        own-of : tip_of links ≡ links.deposit → last_owner_of links ≡ history.made.owner
+        own-of at_deposit =
+            let same : bundle.tip ≡ history.made.deposit =
+            sym history.tip ∙ at_deposit ∙ ap (λ (l : Links). l.deposit) history.shown in
+            let none : bundle.openings ≡ [] =
+            no-openings bundle.openings
+            (history.blocks ∙ no-blocks log history.made.deposit bundle.tip same) in
+            ap last_owner_of history.shown
+            ∙ ap (λ (openings : List RawOpening). last_owner_of (record {
+              coin = bundle.coin;
+              deposit = history.made.deposit;
+              owner = history.made.owner;
+              spends = links_in (chain_of tag) bundle.coin openings;
+            })) none
+            ∙ no-links (chain_of tag) bundle.coin history.made.deposit history.made.owner
+
+-- a coin that a wallet knows at a tip: it deposited it there, or noted it
+pub record IsKnownCoin (me : Owner) (log : List RootCall) (noted : Bool) (c e : ℕ) : Type 0 where
+  pub made : CoinView
+  pub made_is : coin_at log c ≡ Some made
+  pub known : (was_deposited me e (Some made) || noted) ≡ true
+
+-- so is one that an accept knows
+pub is_known_coin : (dig : List ℕ → List ℕ) (tag : List ℕ) (log : List RootCall) (bytes : List ℕ) (links : Links)
+    (notes : Notes) → IsHanded dig tag log bytes links → is_owner (last_owner_of links) notes.me ≡ true
+    → is_known notes links ≡ true
+    → IsKnownCoin notes.me log (is_noted links.coin (tip_of links) notes.accepted) links.coin (tip_of links)
+is_known_coin dig tag log bytes links notes handed mine known =
+    elim (or_cases (tip_of links == links.deposit) (is_noted links.coin (tip_of links) notes.accepted) known) [
+      | inl at_deposit ↦
+          let same : tip_of links ≡ links.deposit = eqb-true (tip_of links) links.deposit at_deposit in
+          record {
+            made = handed.made;
+            made_is = handed.made_is;
+            known =
+                or_left (was_deposited notes.me (tip_of links) (Some handed.made))
+                (is_noted links.coin (tip_of links) notes.accepted)
+                (and_from (handed.made.deposit == tip_of links) (is_owner handed.made.owner notes.me)
+                (eq-eqb handed.made.deposit (tip_of links) (sym (same ∙ handed.deposit)))
+                (ap (λ (o : Owner). is_owner o notes.me) (sym (handed.own same)) ∙ mine));
+          }
+      | inr noted ↦ record {
+        made = handed.made;
+        made_is = handed.made_is;
+        known =
+            or_right (was_deposited notes.me (tip_of links) (Some handed.made))
+            (is_noted links.coin (tip_of links) notes.accepted) noted;
+      }
+    ]

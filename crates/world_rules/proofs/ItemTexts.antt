@@ -1,0 +1,163 @@
+-- Bundles and the operator's openings are bytes, and so is what is kept of a bundle that is.
+use Rattle.std.proofs.Common.{◌≡◌, ℕ, zero, suc, ◌==◌, nat_lt, Bool, true, false, if◌then◌else◌, List, [], ◌∷◌, ◌++◌, map, filter, length, Some, None, Ok, subst}
+use Rattle.std.specs.Prelude.{slice_index_or, not, option_map}
+use Rattle.std.specs.List.{AllByRecursion, concat, flat_map, cons_option, range_with_len}
+use Rattle.sparse_merkle.specs.declared.tree.Entry.{Entry}
+use Rattle.sparse_merkle.specs.MaskedPath.{proof_text}
+use Rattle.sparse_merkle.specs.PathProof.{is_default_at, kept_siblings, proof_of_path}
+use Rattle.sparse_merkle.specs.TreeDigest.{leaf_of, entry_of, with_leaf, subtree_digest, near_part, far_part, path_below, path_to}
+use Rattle.plasma_tx.specs.declared.opening.RawOpening.{RawOpening}
+use Rattle.plasma_tx.specs.declared.links.Link.{Link}
+use Rattle.plasma_tx.specs.declared.signed_tx.SignedTx.{SignedTx}
+use Rattle.plasma_tx.specs.Openings.{opening_text}
+use Rattle.plasma_tx.specs.Spelling.{number_text}
+use Rattle.root_rules.specs.Shown.{Rules}
+use Rattle.root_rules.proofs.Each.{all-append, all-filter}
+use Rattle.coin_history.specs.declared.bundle.Bundle.{Bundle}
+use Rattle.coin_history.specs.Bundles.{item_text, length_text, bundle_text, bundle_in}
+use Rattle.coin_history.specs.History.{transfer_of, links_in}
+use Rattle.coin_history.proofs.BundleLaws.{text-bundle_in}
+use Rattle.operator_rules.specs.Trees.{opening_in_tree}
+use Rattle.world_rules.specs.Laws.{IsDigest}
+use Rattle.world_rules.proofs.ByteTexts.{Small, small-nil, small-append, small-number, small-short, small-front, small-back}
+
+-- ---- bundles
+
+-- each opening's bytes are bytes
+abbrev pub IsSmallOpening : RawOpening → Type 0
+IsSmallOpening opening = Small opening.bytes
+
+abbrev pub AreSmallOpenings : List RawOpening → Type 0
+AreSmallOpenings openings = AllByRecursion IsSmallOpening openings
+
+items-small : (openings : List RawOpening) → AreSmallOpenings openings → Small (flat_map item_text openings)
+items-small [] small = small-nil
+items-small (opening ∷ openings) small =
+    small-append
+    (small-append (small-append (small-number opening.block) (small-short (length opening.bytes))) small.0)
+    (items-small openings small.1)
+
+pub small-bundle : (bundle : Bundle) → AreSmallOpenings bundle.openings → Small (bundle_text bundle)
+unfolding bundle_text
+small-bundle bundle small =
+    small-append
+    (small-append (small-append (small-number bundle.coin) (small-number bundle.tip))
+    (small-short (length bundle.openings)))
+    (items-small bundle.openings small)
+
+small-items : (openings : List RawOpening) → Small (flat_map item_text openings) → AreSmallOpenings openings
+small-items [] small = tt
+small-items (opening ∷ openings) small = (
+  small-back (number_text opening.block ++ length_text (length opening.bytes)) opening.bytes
+      (small-front (item_text opening) (flat_map item_text openings) small),
+  small-items openings (small-back (item_text opening) (flat_map item_text openings) small),
+)
+
+bundle-small : (bundle : Bundle) → Small (bundle_text bundle) → AreSmallOpenings bundle.openings
+unfolding bundle_text
+bundle-small bundle small =
+    small-items bundle.openings
+    (small-back (number_text bundle.coin ++ number_text bundle.tip ++ length_text (length bundle.openings))
+    (flat_map item_text bundle.openings) small)
+
+-- the openings of a bundle that bytes spell
+pub read-small : (bytes : List ℕ) (bundle : Bundle) → Small bytes → bundle_in bytes ≡ Ok bundle
+    → AreSmallOpenings bundle.openings
+read-small bytes bundle small is =
+    bundle-small bundle (subst Small (text-bundle_in bytes bundle small.are is).0 small)
+
+-- and those that are kept of it
+pub kept-small : (rules : Rules) (coin : ℕ) (openings : List RawOpening) → AreSmallOpenings openings
+    → AreSmallOpenings (map (λ (link : Link). link.opening) (links_in rules coin openings))
+unfolding links_in
+kept-small rules coin [] small = tt
+kept-small rules coin (opening ∷ openings) small =
+    let rest = kept-small rules coin openings small.1 in
+    elim (transfer_of rules coin opening) as (λ t. AreSmallOpenings
+    (map (λ (link : Link). link.opening)
+    (cons_option
+    (option_map (λ (tx : SignedTx). record { block = opening.block; tx = tx; opening = opening }) t)
+    (links_in rules coin openings)))) [
+      | None ↦ rest
+      | Some tx ↦ (small.0, rest)
+    ]
+
+-- ---- the operator's trees
+
+abbrev pub IsSmallEntry : Entry → Type 0
+IsSmallEntry entry = Small entry.leaf
+
+abbrev pub IsSmallTree : List Entry → Type 0
+IsSmallTree tree = AllByRecursion IsSmallEntry tree
+
+leaf-small : (tree : List Entry) (coin : ℕ) → IsSmallTree tree → Small (leaf_of tree coin)
+unfolding leaf_of
+leaf-small [] coin small = small-nil
+leaf-small (entry ∷ entries) coin small =
+    let rest = leaf-small entries coin small.1 in
+    elim (entry.coin == coin) as (λ b. Small (if b then entry.leaf else leaf_of entries coin)) [
+      | true ↦ small.0
+      | false ↦ rest
+    ]
+
+pub all-join : {X : Type 0} (P : X → Type 0) (xs ys : List X) → AllByRecursion P xs → AllByRecursion P ys
+    → AllByRecursion P (xs ++ ys)
+all-join P [] ys first second = second
+all-join P (x ∷ xs) ys first second = (first.0, all-join P xs ys first.1 second)
+
+entry-small : (coin : ℕ) (leaf : List ℕ) → Small leaf → IsSmallTree (entry_of coin leaf)
+entry-small coin [] small = tt
+entry-small coin (byte ∷ bytes) small = (small, tt)
+
+pub tree-with : (tree : List Entry) (coin : ℕ) (leaf : List ℕ) → IsSmallTree tree → Small leaf
+    → IsSmallTree (with_leaf tree coin leaf)
+tree-with tree coin leaf small leaf_small =
+    let lower : Entry → Bool = λ entry. nat_lt entry.coin coin in
+    let higher : Entry → Bool = λ entry. nat_lt coin entry.coin in
+    all-join IsSmallEntry (filter lower tree ++ entry_of coin leaf) (filter higher tree)
+    (all-join IsSmallEntry (filter lower tree) (entry_of coin leaf) (all-filter IsSmallEntry lower tree small)
+    (entry-small coin leaf leaf_small))
+    (all-filter IsSmallEntry higher tree small)
+
+-- ---- the operator's openings
+
+-- digests of the parts of a tree are bytes
+digest-small : (dig : List ℕ → List ℕ) → IsDigest dig → (level : ℕ) (tree : List Entry)
+    → Small (subtree_digest dig level tree)
+unfolding subtree_digest
+digest-small dig is zero tree = record { are = (is _).1 }
+digest-small dig is (suc level) tree = record { are = (is _).1 }
+
+abbrev AreSmallAll : List (List ℕ) → Type 0
+AreSmallAll texts = AllByRecursion Small texts
+
+path-small : (dig : List ℕ → List ℕ) → IsDigest dig → (coin level : ℕ) (tree : List Entry)
+    → AreSmallAll (path_below dig coin level tree)
+unfolding path_below
+path-small dig is coin zero tree = tt
+path-small dig is coin (suc level) tree =
+    all-append Small (path_below dig coin level (near_part coin level tree))
+    (subtree_digest dig level (far_part coin level tree))
+    (path-small dig is coin level (near_part coin level tree)) (digest-small dig is level (far_part coin level tree))
+
+place-small : (texts : List (List ℕ)) (i : ℕ) → AreSmallAll texts → Small (slice_index_or texts i [])
+place-small [] i small = small-nil
+place-small (text ∷ texts) zero small = small.0
+place-small (text ∷ texts) (suc i) small = place-small texts i small.1
+
+siblings-small : (path : List (List ℕ)) (levels : List ℕ) → AreSmallAll path
+    → Small (concat (map (λ level. slice_index_or path level []) levels))
+siblings-small path [] small = small-nil
+siblings-small path (level ∷ levels) small =
+    small-append (place-small path level small) (siblings-small path levels small)
+
+pub opening-small : (dig : List ℕ → List ℕ) → IsDigest dig → (coin n : ℕ) (tree : List Entry) → IsSmallTree tree
+    → IsSmallOpening (opening_in_tree dig coin n tree)
+unfolding opening_text proof_text proof_of_path kept_siblings path_to
+opening-small dig is coin n tree small =
+    let path = path_to dig coin tree in
+    small-append
+    (small-append (small-short (length (leaf_of tree coin))) (leaf-small tree coin small))
+    (small-append (small-number (proof_of_path dig path).mask)
+    (siblings-small path (filter (λ level. not (is_default_at dig path level)) (range_with_len 0 64))
+    (path-small dig is coin 64 tree)))

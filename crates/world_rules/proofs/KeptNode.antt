@@ -1,0 +1,178 @@
+-- What events say of a node is what its records are, and each command keeps it so and makes bytes.
+use Rattle.std.proofs.Common.{◌≡◌, ℕ, ◌^◌, ◌<◌, ◌-◌, ◌==◌, Bool, true, false, if◌then◌else◌, List, [], ◌∷◌, Option, Some, None, refl, sym, ◌∙◌, subst, zero, suc}
+use Rattle.std.specs.Prelude.{Result, IfSome, slice_get, unwrap_or}
+use Rattle.std.proofs.lemmas.Bool.{false≢true}
+use Rattle.line_forms.specs.declared.tokens.HexOrItem.{HexOrItem}
+use Rattle.line_forms.specs.declared.tokens.HexOrName.{HexOrName}
+use Rattle.line_forms.specs.declared.tokens.TheConstants.{OWNER_BYTES}
+use Rattle.line_forms.specs.Tokens.{IsHexOrItem, IsHexOrName}
+use Rattle.plasma_tx.specs.declared.owner.Owner.{Owner}
+use Rattle.plasma_tx.specs.declared.call.RootCall.{RootCall}
+use Rattle.plasma_tx.specs.Spelling.{IsOwner}
+use Rattle.plasma_tx.specs.Views.{blocks}
+use Rattle.schedule_text.specs.declared.command.Command.{Command}
+use Rattle.schedule_text.specs.declared.command.WalletCommand.{WalletCommand}
+use Rattle.schedule_text.specs.declared.command.WatcherCommand.{WatcherCommand}
+use Rattle.schedule_text.specs.declared.command.OperatorCommand.{OperatorCommand}
+use Rattle.node_rules.specs.declared.refusal.WalletRefusal.{WalletRefusal}
+use Rattle.node_rules.specs.Wallet.{WalletEffect}
+use Rattle.node_rules.specs.WalletCommandLaws.{with_more, after}
+use Rattle.world_rules.specs.Causes.{wallet_cause}
+use Rattle.world_rules.specs.World.{Role, Wallet, Watcher, Operator, Node, World, wallet_of, is_wallet_role, is_watcher_role, is_operator_role, bytes_of, new_owner_of}
+use Rattle.world_rules.specs.Deeds.{Gives, Deed, answered, wallet_deed, with_record}
+use Rattle.world_rules.specs.Steps.{with_records}
+use Rattle.world_rules.proofs.ByteTexts.{Small, small-nil}
+use Rattle.world_rules.proofs.OperatorItems.{AreSmallRecords}
+use Rattle.world_rules.proofs.Said.{Said, told}
+use Rattle.world_rules.proofs.KeptWallet.{KeptWallet, records-push}
+use Rattle.world_rules.proofs.KeptWatcher.{KeptWatcher}
+
+-- what is said of a node is what its records are, by its role
+pub record KeptNode (dig : List ℕ → List ℕ) (s : Said) (log : List RootCall) (node : Node) : Type 0 where
+  pub wallet : is_wallet_role node.role ≡ true → KeptWallet dig s log (wallet_of node)
+  pub watcher : is_watcher_role node.role ≡ true → KeptWatcher dig s node.notes
+  pub operator : is_operator_role node.role ≡ true → AreSmallRecords node.notes
+
+-- an owner of the type, whose key is bytes
+pub record IsGoodOwner (owner : Owner) : Type 0 where
+  pub is : IsOwner owner
+  pub key : Small owner.key
+
+-- what a command may take from a world: mail items that are bytes, and owners; and the log's blocks are few
+pub record Feeds (world : World) : Type 0 where
+  pub mail : AreSmallRecords world.mail
+  pub owners : (to : HexOrName) (owner : Owner) → IsHexOrName OWNER_BYTES to → new_owner_of world to ≡ Some owner
+      → IsGoodOwner owner
+  pub few : blocks world.chain.log < 2 ^ 64
+
+-- the bytes of a token
+pub item-small : (texts : List (List ℕ)) (i : ℕ) → AreSmallRecords texts → Small (unwrap_or (slice_get texts i) [])
+item-small [] i small = small-nil
+item-small (text ∷ texts) zero small = small.0
+item-small (text ∷ texts) (suc i) small = item-small texts i small.1
+
+pub token-small : (world : World) (token : HexOrItem) → AreSmallRecords world.mail → IsHexOrItem token
+    → Small (bytes_of world token)
+token-small world (HexOrItem.Hex bytes) mail is = record { are = is }
+token-small world (HexOrItem.Item line) mail is =
+    elim (line == 0) as (λ b. Small (if b then [] else unwrap_or (slice_get world.mail (line - 1)) [])) [
+      | true ↦ small-nil
+      | false ↦ item-small world.mail (line - 1) mail
+    ]
+
+-- ---- commands in the grammar
+
+abbrev pub IsFitWallet : WalletCommand → Type 0
+IsFitWallet (WalletCommand.Accept bundle) = IsHexOrItem bundle
+IsFitWallet (WalletCommand.Send coin to last) =
+    (coin < 2 ^ 64) × IsHexOrName OWNER_BYTES to × IfSome last (λ n. n < 2 ^ 64)
+IsFitWallet (WalletCommand.Again coin) = Unit {0}
+IsFitWallet (WalletCommand.Leave coin) = coin < 2 ^ 64
+IsFitWallet (WalletCommand.Reclaim bundle) = IsHexOrItem bundle
+IsFitWallet WalletCommand.Migrate = Unit {0}
+
+abbrev pub IsFitWatcher : WatcherCommand → Type 0
+IsFitWatcher (WatcherCommand.Guard bundle) = IsHexOrItem bundle
+IsFitWatcher (WatcherCommand.Release coin tip) = (coin < 2 ^ 64) × (tip < 2 ^ 64)
+
+abbrev pub IsFitOperator : OperatorCommand → Type 0
+IsFitOperator (OperatorCommand.Offer transfer) = IsHexOrItem transfer
+IsFitOperator (OperatorCommand.Lay coin leaf) = IsHexOrItem leaf
+IsFitOperator command = Unit {0}
+
+abbrev pub IsFit : Command → Type 0
+IsFit (Command.Wallet name own) = IsFitWallet own
+IsFit (Command.Watcher name own) = IsFitWatcher own
+IsFit (Command.Operator own) = IsFitOperator own
+IsFit (Command.Watch name) = Unit {0}
+IsFit (Command.Open name) = Unit {0}
+
+-- ---- what a command leaves
+
+-- what a deed of a node leaves, and what it makes
+pub record IsKeptDeed (dig : List ℕ → List ℕ) (s : Said) (log : List RootCall) (node : Node) (deed : Deed)
+    : Type 0 where
+  pub kept : KeptNode dig (told deed.gives.event s) log (with_records node deed)
+  pub made : Small deed.gives.made
+
+wallet-alone : (role : Role) → is_wallet_role role ≡ true → (is_watcher_role role ≡ false)
+    × (is_operator_role role ≡ false)
+wallet-alone Wallet is = (refl, refl)
+wallet-alone Watcher is = absurd (false≢true is)
+wallet-alone Operator is = absurd (false≢true is)
+
+watcher-alone : (role : Role) → is_watcher_role role ≡ true → (is_wallet_role role ≡ false)
+    × (is_operator_role role ≡ false)
+watcher-alone Wallet is = absurd (false≢true is)
+watcher-alone Watcher is = (refl, refl)
+watcher-alone Operator is = absurd (false≢true is)
+
+operator-alone : (role : Role) → is_operator_role role ≡ true → (is_wallet_role role ≡ false)
+    × (is_watcher_role role ≡ false)
+operator-alone Wallet is = absurd (false≢true is)
+operator-alone Watcher is = absurd (false≢true is)
+operator-alone Operator is = (refl, refl)
+
+never : {A : Type 0} (b : Bool) → b ≡ false → b ≡ true → A
+never b off on = absurd (false≢true (sym off ∙ on))
+
+-- records with what a command adds
+records-more : (records : List (List ℕ)) (added : Option (List ℕ)) → with_more added records ≡ with_record records added
+records-more records None = refl
+records-more records (Some body) = refl
+
+pub records-noted : (records : List (List ℕ)) (added : Option (List ℕ)) → AreSmallRecords records → IfSome added Small
+    → AreSmallRecords (with_record records added)
+records-noted records None small one = small
+records-noted records (Some body) small one = records-push records body small one
+
+module _ (dig : List ℕ → List ℕ) (s : Said) (log : List RootCall) (node : Node) where
+  -- of a wallet
+  pub of-wallet : is_wallet_role node.role ≡ true → (deed : Deed)
+      → KeptWallet dig (told deed.gives.event s) log (wallet_of (with_records node deed)) → Small deed.gives.made
+      → IsKeptDeed dig s log node deed
+  of-wallet role deed kept made = record {
+    kept = record {
+      wallet = λ is. kept;
+      watcher = never (is_watcher_role node.role) (wallet-alone node.role role).0;
+      operator = never (is_operator_role node.role) (wallet-alone node.role role).1;
+    };
+    made = made;
+  }
+
+  -- by a wallet's effect
+  pub by-effect : {A : Type 0} → is_wallet_role node.role ≡ true → (n : ℕ) (give : A → Gives)
+      (effect : WalletEffect (Result A WalletRefusal))
+      → KeptWallet dig (told (answered n wallet_cause give effect.answer).event s) log (after effect (wallet_of node))
+      → Small (answered n wallet_cause give effect.answer).made
+      → IsKeptDeed dig s log node (wallet_deed n give effect)
+  by-effect role n give effect kept made =
+      of-wallet role (wallet_deed n give effect)
+      (subst (KeptWallet dig (told (answered n wallet_cause give effect.answer).event s) log)
+      (λ i. record {
+        notes = records-more node.notes effect.note i;
+        leaves = records-more node.leaves effect.leaf i;
+      }) kept) made
+
+  pub of-watcher : is_watcher_role node.role ≡ true → (deed : Deed)
+      → KeptWatcher dig (told deed.gives.event s) (with_record node.notes deed.note) → Small deed.gives.made
+      → IsKeptDeed dig s log node deed
+  of-watcher role deed kept made = record {
+    kept = record {
+      wallet = never (is_wallet_role node.role) (watcher-alone node.role role).0;
+      watcher = λ is. kept;
+      operator = never (is_operator_role node.role) (watcher-alone node.role role).1;
+    };
+    made = made;
+  }
+
+  pub of-operator : is_operator_role node.role ≡ true → (deed : Deed)
+      → AreSmallRecords (with_record node.notes deed.note) → Small deed.gives.made → IsKeptDeed dig s log node deed
+  of-operator role deed kept made = record {
+    kept = record {
+      wallet = never (is_wallet_role node.role) (operator-alone node.role role).0;
+      watcher = never (is_watcher_role node.role) (operator-alone node.role role).1;
+      operator = λ is. kept;
+    };
+    made = made;
+  }

@@ -1,0 +1,268 @@
+-- What the operator makes, and the records that it adds, are bytes.
+use Rattle.std.proofs.Common.{◌≡◌, ℕ, ◌==◌, ◌&&◌, Bool, true, false, if◌then◌else◌, List, [], ◌∷◌, drop, length, Option, Some, None, Ok, Err, refl, sym, subst, lit<}
+use Rattle.std.specs.Prelude.{Result, IfSome, reverse, nat_le, nat_lt}
+use Rattle.std.specs.List.{AllByRecursion, filter_map, cons_option}
+use Rattle.std.specs.Str.{bytes_eq}
+use Rattle.node_journal.specs.Effect.{Effect, only, unless}
+use Rattle.line_forms.proofs.FormLaws.{and_then_some}
+use Rattle.sparse_merkle.specs.declared.tree.Entry.{Entry}
+use Rattle.sparse_merkle.specs.TreeDigest.{root_of}
+use Rattle.plasma_tx.specs.declared.opening.RawOpening.{RawOpening}
+use Rattle.plasma_tx.specs.declared.signed_tx.SignedTx.{SignedTx}
+use Rattle.plasma_tx.specs.declared.signed_tx.TxRefusal.{TxRefusal}
+use Rattle.plasma_tx.specs.declared.call.RootCall.{RootCall}
+use Rattle.plasma_tx.specs.declared.views.CoinView.{CoinView}
+use Rattle.plasma_tx.specs.Spelling.{number_at, signed_in}
+use Rattle.plasma_tx.specs.Views.{coin_at, blocks}
+use Rattle.plasma_tx.proofs.Names.{some_same}
+use Rattle.root_rules.specs.Shown.{root_at}
+use Rattle.root_rules.proofs.Each.{all-append, all-found}
+use Rattle.coin_history.specs.declared.bundle.Bundle.{Bundle}
+use Rattle.operator_rules.specs.declared.refusal.OfferRefusal.{OfferRefusal}
+use Rattle.operator_rules.specs.declared.refusal.ProveRefusal.{ProveRefusal}
+use Rattle.operator_rules.specs.Records.{Note, Offered, Laid, Sealed, spells_transfer, note_text, note_in, who_is, notes_of}
+use Rattle.operator_rules.specs.Trees.{Forest, coin_named, forest_of, tree_of, tree_at, opening_in_tree}
+use Rattle.operator_rules.specs.Commands.{forest_in, offer_at, offer_of, offer_effect, lay_effect, seal_effect, prove_by, prove_answer, with_opening, openings_of, as_bundle, bundle_between, bundle_to, bundle_of, bundle_answer, absences_answer, tip_asked}
+use Rattle.world_rules.specs.Laws.{IsDigest}
+use Rattle.world_rules.proofs.ByteTexts.{Small, small-nil, small-cons, small-append, small-drop, small-number, small-back}
+use Rattle.world_rules.proofs.ItemTexts.{IsSmallOpening, AreSmallOpenings, small-bundle, IsSmallTree, tree-with, opening-small}
+use Rattle.std.proofs.lemmas.List.{reverse-append}
+use Rattle.coin_history.specs.Bundles.{bundle_text}
+use Rattle.operator_rules.specs.declared.TheConstants.{MOST_LAID}
+use Rattle.coin_history.specs.History.{committed_blocks}
+use Rattle.operator_rules.specs.declared.refusal.ProveRefusal.TheVariants.{UnknownBlock}
+use Rattle.operator_rules.specs.Walk.{present}
+use Rattle.operator_rules.specs.declared.refusal.LayRefusal.TheVariants.{LeafTooLong}
+use Rattle.coin_history.specs.Checking.{may_be_tip}
+use Rattle.operator_rules.specs.Walk.{present}
+
+-- ---- records
+
+-- each record is bytes
+abbrev pub AreSmallRecords : List (List ℕ) → Type 0
+AreSmallRecords records = AllByRecursion Small records
+
+-- the bytes of a note
+abbrev IsSmallNote : Note → Type 0
+IsSmallNote (Offered bytes) = Small bytes
+IsSmallNote (Laid coin bytes) = Small bytes
+IsSmallNote Sealed = Unit {0}
+
+note-small : (tag body : List ℕ) (note : Note) → Small body → note_in tag body ≡ Some note → IsSmallNote note
+unfolding note_in
+note-small tag [] note small is = absurd (cc is)
+note-small tag (mark ∷ bytes) note small is =
+    offered ((mark == 34) && spells_transfer tag bytes) is
+  where
+    rest : Small bytes
+    rest = small-back (mark ∷ []) bytes small
+
+    sealed : (b : Bool) → (if b then Some Sealed else None) ≡ Some note → IsSmallNote note
+    sealed true is = subst IsSmallNote (some_same Sealed note is) tt
+    sealed false is = absurd (cc is)
+
+    laid : (b : Bool) → (if b then Some (Laid (number_at bytes 0) (drop 8 bytes))
+        else if (mark == 36) && (length bytes == 0) then Some Sealed else None) ≡ Some note → IsSmallNote note
+    laid true is = subst IsSmallNote (some_same (Laid (number_at bytes 0) (drop 8 bytes)) note is) (small-drop 8 rest)
+    laid false is = sealed ((mark == 36) && (length bytes == 0)) is
+
+    offered : (b : Bool) → (if b then Some (Offered bytes)
+        else if (mark == 35) && nat_le 8 (length bytes) then Some (Laid (number_at bytes 0) (drop 8 bytes))
+        else if (mark == 36) && (length bytes == 0) then Some Sealed
+        else None) ≡ Some note → IsSmallNote note
+    offered true is = subst IsSmallNote (some_same (Offered bytes) note is) rest
+    offered false is = laid ((mark == 35) && nat_le 8 (length bytes)) is
+
+read-notes : (tag : List ℕ) (records : List (List ℕ)) → AreSmallRecords records
+    → AllByRecursion IsSmallNote (filter_map (note_in tag) records)
+read-notes tag [] small = tt
+read-notes tag (body ∷ records) small =
+    (elim (note_in tag body) as (λ o. note_in tag body ≡ o
+    → AllByRecursion IsSmallNote (cons_option o (filter_map (note_in tag) records))) [
+      | None ↦ λ none. read-notes tag records small.1
+      | Some note ↦ λ some. (note-small tag body note small.0 some, read-notes tag records small.1)
+    ]) refl
+
+all-reverse : {X : Type 0} (P : X → Type 0) (xs : List X) → AllByRecursion P xs → AllByRecursion P (reverse xs)
+all-reverse P [] all = tt
+all-reverse P (x ∷ xs) all =
+    subst (AllByRecursion P) (sym (reverse-append (x ∷ []) xs))
+    (all-append P (reverse xs) x (all-reverse P xs all.1) all.0)
+
+drop-one : (records : List (List ℕ)) → AreSmallRecords records → AreSmallRecords (drop 1 records)
+drop-one [] small = tt
+drop-one (body ∷ records) small = small.1
+
+notes-small : (records : List (List ℕ)) → AreSmallRecords records → AllByRecursion IsSmallNote (notes_of records)
+unfolding notes_of
+notes-small records small =
+    all-reverse IsSmallNote (filter_map (note_in (who_is records).tag) (drop 1 records))
+    (read-notes (who_is records).tag (drop 1 records) (drop-one records small))
+
+-- ---- trees
+
+record IsSmallForest (forest : Forest) : Type 0 where
+  pool : IsSmallTree forest.pool
+  sealed : AllByRecursion IsSmallTree forest.sealed
+
+forest-small : (notes : List Note) → AllByRecursion IsSmallNote notes → IsSmallForest (forest_of notes)
+unfolding forest_of
+forest-small [] small = record { pool = tt; sealed = tt }
+forest-small (Offered bytes ∷ notes) small =
+    let before = forest-small notes small.1 in
+    record {
+      pool = tree-with (forest_of notes).pool (coin_named bytes) bytes before.pool small.0;
+      sealed = before.sealed;
+    }
+forest-small (Laid coin bytes ∷ notes) small =
+    let before = forest-small notes small.1 in
+    record { pool = tree-with (forest_of notes).pool coin bytes before.pool small.0; sealed = before.sealed }
+forest-small (Sealed ∷ notes) small =
+    let before = forest-small notes small.1 in
+    record {
+      pool = tt;
+      sealed = all-append IsSmallTree (forest_of notes).sealed (forest_of notes).pool before.sealed before.pool;
+    }
+
+-- ---- answers
+
+module _ (dig : List ℕ → List ℕ) (is_digest : IsDigest dig) (log : List RootCall) (sealed : List (List Entry))
+    (small : AllByRecursion IsSmallTree sealed) where
+  proved-small : (coin n : ℕ) (opening : RawOpening) → prove_by dig coin n (tree_at dig log sealed n) ≡ Ok opening
+      → IsSmallOpening opening
+  unfolding tree_of
+  proved-small coin n opening is = at (tree_at dig log sealed n) refl is
+    where
+      at : (found : Option (List Entry)) → tree_at dig log sealed n ≡ found → prove_by dig coin n found ≡ Ok opening
+          → IsSmallOpening opening
+      at None none is = absurd (cc is)
+      at (Some tree) some is =
+          let root = and_then_some (tree_of dig sealed) (root_at log n) tree some in
+          let there = all-found IsSmallTree (λ t. bytes_eq (root_of dig t) root.0) sealed tree small
+          root.2 in
+          let same : opening_in_tree dig coin n tree ≡ opening = cc is in
+          subst IsSmallOpening same (opening-small dig is_digest coin n tree there.0)
+
+  openings-small : (coin : ℕ) (blocks : List ℕ) (openings : List RawOpening)
+      → openings_of dig log sealed coin blocks ≡ Ok openings → AreSmallOpenings openings
+  unfolding openings_of
+  openings-small coin [] openings is = let same : [] ≡ openings = cc is in subst AreSmallOpenings same tt
+  openings-small coin (n ∷ blocks) openings is =
+      at (prove_by dig coin n (tree_at dig log sealed n)) (openings_of dig log sealed coin blocks) refl refl is
+      (openings-small coin blocks)
+    where
+      at : (first : Result RawOpening ProveRefusal) (rest : Result (List RawOpening) ProveRefusal)
+          → prove_by dig coin n (tree_at dig log sealed n) ≡ first → openings_of dig log sealed coin blocks ≡ rest
+          → with_opening first rest ≡ Ok openings
+          → ((more : List RawOpening) → openings_of dig log sealed coin blocks ≡ Ok more → AreSmallOpenings more)
+          → AreSmallOpenings openings
+      at (Err why) rest one others is each = absurd (cc is)
+      at (Ok opening) (Err why) one others is each = absurd (cc is)
+      at (Ok opening) (Ok more) one others is each =
+          let same : opening ∷ more ≡ openings = cc is in
+          subst AreSmallOpenings same (proved-small coin n opening one, each more others)
+
+  between-small : (coin after tip : ℕ) (bundle : Bundle) → bundle_between dig log sealed coin after tip ≡ Ok bundle
+      → Small (bundle_text bundle)
+  between-small coin after tip bundle is = at (openings_of dig log sealed coin blocks) refl is
+    where
+      blocks : List ℕ
+      blocks = committed_blocks log after tip
+
+      at : (read : Result (List RawOpening) ProveRefusal) → openings_of dig log sealed coin blocks ≡ read
+          → as_bundle coin tip read ≡ Ok bundle → Small (bundle_text bundle)
+      at (Err why) known is = absurd (cc is)
+      at (Ok openings) known is =
+          let own : Bundle = record { coin = coin; tip = tip; openings = openings } in
+          let same : own ≡ bundle = cc is in
+          subst (λ (b : Bundle). Small (bundle_text b)) same
+          (small-bundle own (openings-small coin blocks openings known))
+
+-- ---- what is made
+
+module _ (dig : List ℕ → List ℕ) (is_digest : IsDigest dig) (records : List (List ℕ)) (small : AreSmallRecords records)
+    (log : List RootCall) where
+  sealed-small : AllByRecursion IsSmallTree (forest_in records).sealed
+  sealed-small = (forest-small (notes_of records) (notes-small records small)).sealed
+
+  pub prove-small : (coin n : ℕ) (opening : RawOpening) → prove_answer dig records log coin n ≡ Ok opening
+      → Small opening.bytes
+  unfolding prove_answer
+  prove-small coin n opening is =
+      proved-small dig is_digest log (forest_in records).sealed sealed-small coin n opening is
+
+  pub bundle-made : (coin tip : ℕ) (bundle : Bundle) → bundle_answer dig records log coin tip ≡ Ok bundle
+      → Small (bundle_text bundle)
+  unfolding bundle_answer
+  bundle-made coin tip bundle is = at (coin_at log coin) is
+    where
+      at : (made : Option CoinView)
+          → bundle_of dig (who_is records).tag log (forest_in records).sealed coin tip made ≡ Ok bundle
+          → Small (bundle_text bundle)
+      at None is = absurd (cc is)
+      at (Some made) is = to_tip made (tip_asked tip (present dig (who_is records).tag log
+          (forest_in records).sealed coin made)) is
+        where
+          to_tip : (made : CoinView) (asked : ℕ)
+              → bundle_to dig log (forest_in records).sealed coin made asked ≡ Ok bundle
+              → Small (bundle_text bundle)
+          to_tip made asked is = by (may_be_tip log made.deposit asked) is
+            where
+              by : (b : Bool)
+                  → (if b then bundle_between dig log (forest_in records).sealed coin made.deposit asked
+                  else Err (UnknownBlock asked)) ≡ Ok bundle → Small (bundle_text bundle)
+              by true is =
+                  between-small dig is_digest log (forest_in records).sealed sealed-small coin made.deposit asked
+                  bundle is
+              by false is = absurd (cc is)
+
+  pub absences-made : (coin after last : ℕ) (bundle : Bundle)
+      → absences_answer dig records log coin after last ≡ Ok bundle → Small (bundle_text bundle)
+  unfolding absences_answer
+  absences-made coin after last bundle is = by (nat_lt (blocks log) last) is
+    where
+      by : (b : Bool) → (if b then Err (UnknownBlock last)
+          else bundle_between dig log (forest_in records).sealed coin after last) ≡ Ok bundle
+          → Small (bundle_text bundle)
+      by true is = absurd (cc is)
+      by false is =
+          between-small dig is_digest log (forest_in records).sealed sealed-small coin after last bundle is
+
+-- ---- what is noted
+
+abbrev taken : ℕ → List ℕ → Effect (Result ℕ OfferRefusal)
+taken coin bytes = record { answer = Ok coin; note = Some (note_text (Offered bytes)) }
+
+offered-small : (failed : Option OfferRefusal) (coin : ℕ) (bytes : List ℕ) → Small bytes
+    → IfSome (unless failed (taken coin bytes)).note Small
+unfolding note_text
+offered-small None coin bytes small = small-cons 34 (lit< tt) small
+offered-small (Some why) coin bytes small = tt
+
+pub offer-noted : (dig : List ℕ → List ℕ) (records : List (List ℕ)) (log : List RootCall) (bytes : List ℕ)
+    → Small bytes → IfSome (offer_effect dig records log bytes).note Small
+unfolding offer_effect
+offer-noted dig records log bytes small = of_tx (signed_in (who_is records).tag bytes)
+  where
+    at_coin : (tx : SignedTx) (made : Option CoinView)
+        → IfSome (offer_at dig (who_is records).tag log (forest_in records) bytes tx made).note Small
+    at_coin tx None = tt
+    at_coin tx (Some made) = offered-small _ tx.body.coin bytes small
+
+    of_tx : (read : Result SignedTx TxRefusal)
+        → IfSome (offer_of dig (who_is records).tag log (forest_in records) bytes read).note Small
+    of_tx (Err why) = tt
+    of_tx (Ok tx) = at_coin tx (coin_at log tx.body.coin)
+
+pub lay-noted : (coin : ℕ) (bytes : List ℕ) → Small bytes → IfSome (lay_effect coin bytes).note Small
+unfolding lay_effect note_text
+lay-noted coin bytes small =
+    elim (nat_lt MOST_LAID (length bytes)) as (λ b. IfSome (if b then only (Err (LeafTooLong (length bytes)))
+    else record { answer = Ok tt; note = Some (note_text (Laid coin bytes)) }).note Small) [
+      | true ↦ tt
+      | false ↦ small-cons 35 (lit< tt) (small-append (small-number coin) small)
+    ]
+
+pub seal-noted : (dig : List ℕ → List ℕ) (records : List (List ℕ)) → IfSome (seal_effect dig records).note Small
+unfolding seal_effect note_text
+seal-noted dig records = small-cons 36 (lit< tt) small-nil

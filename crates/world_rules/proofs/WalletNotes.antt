@@ -1,0 +1,202 @@
+-- A reclaim, a leave and a migration keep a wallet's records what the events say.
+use Rattle.std.proofs.Common.{◌≡◌, ℕ, ◌^◌, ◌<◌, ◌==◌, ◌||◌, Bool, true, List, [], ◌∷◌, ◌++◌, map, Option, Some, None, Ok, Err, refl, sym, ap, ◌∙◌, subst, lit<}
+use Rattle.std.specs.Prelude.{Result, IfSome}
+use Rattle.std.specs.Ordering.{nat_cmp}
+use Rattle.std.specs.BTreeSet.{insert_key}
+use Rattle.leaf_journal.specs.Records.{messages_of}
+use Rattle.leaf_journal.proofs.Binding.{marker-messages}
+use Rattle.plasma_tx.specs.declared.call.RootCall.{RootCall}
+use Rattle.plasma_tx.specs.Views.{blocks}
+use Rattle.wallet_core.specs.declared.notes.LeafRecord.{LeafRecord}
+use Rattle.wallet_core.specs.declared.notes.Notes.{Notes}
+use Rattle.node_rules.specs.declared.answers.Reclaimed.{Reclaimed}
+use Rattle.node_rules.specs.declared.refusal.WalletRefusal.{WalletRefusal}
+use Rattle.node_rules.specs.WalletRecords.{Reclaims, LeavesWith, note_text, notes_of, owner_of, coin_tip}
+use Rattle.node_rules.specs.Wallet.{WalletRecords, WalletEffect, who, noted, coin_state, leave_effect, reclaim_effect, migrate_effect}
+use Rattle.node_rules.specs.WalletOpening.{is_wallet}
+use Rattle.node_rules.specs.WalletLaws.{AddsNote}
+use Rattle.node_rules.specs.WalletCommandLaws.{with_more, after, AddsLeaving, AddsReclaimed, AddsMarker}
+use Rattle.node_rules.proofs.WalletGrow.{state-leaves, state-reclaims, noted-grow}
+use Rattle.node_rules.proofs.WalletAdded.{leave-note, leave-leaf, migrate-note}
+use Rattle.node_rules.proofs.WalletRole.{leaves_keep_the_role, leaves_add_their_notes, reclaims_keep_the_role, reclaims_add_their_notes, migrations_keep_the_role, migrations_add_the_marker}
+use Rattle.world_rules.specs.Causes.{wallet_cause}
+use Rattle.world_rules.specs.Events.{TakesBack}
+use Rattle.world_rules.specs.Deeds.{answered, on_leaving, on_reclaimed, on_migrated, bundle_read}
+use Rattle.world_rules.proofs.ByteTexts.{Small, small-cons, small-append, small-number, small-short}
+use Rattle.world_rules.proofs.OperatorItems.{AreSmallRecords}
+use Rattle.world_rules.proofs.Said.{Said, told}
+use Rattle.world_rules.proofs.WalletEnds.{ReclaimEnds, Refused, Takes, reclaim_ends}
+use Rattle.world_rules.proofs.KeptWallet.{KeptWallet, with_note, noting}
+use Rattle.world_rules.proofs.WalletSends.{among-key, words}
+
+module _ (dig : List ℕ → List ℕ) (s : Said) (log : List RootCall) (wallet : WalletRecords)
+    (kept : KeptWallet dig s log wallet) (few : blocks log < 2 ^ 64) where
+  abbrev notes : Notes
+  notes = noted dig wallet
+
+  -- ---- reclaim
+
+  takes-back : (n : ℕ) (taken : Reclaimed) (bytes body : List ℕ)
+      → body ≡ note_text (Reclaims taken.coin taken.tip taken.q) → is_wallet dig (with_note wallet body) ≡ true
+      → AddsNote dig wallet.notes (Reclaims taken.coin taken.tip taken.q) body
+      → KeptWallet dig (told (TakesBack n taken.q (bundle_read bytes)) s) log (with_note wallet body)
+  unfolding note_text
+  takes-back n taken bytes body text is adds =
+      noting dig s log wallet kept body
+      (record notes { reclaimed = insert_key nat_cmp notes.reclaimed taken.q })
+      (told (TakesBack n taken.q (bundle_read bytes)) s)
+      (record {
+        is = is;
+        who_same = adds.0;
+        now_is =
+            noted-grow dig wallet body (Reclaims taken.coin taken.tip taken.q) adds
+            ∙ state-reclaims (owner_of (who wallet)) taken.coin taken.tip taken.q (notes_of dig wallet.notes);
+        small =
+            subst Small (sym text)
+            (small-cons 5 (lit< tt)
+            (small-append (small-append (small-number taken.coin) (small-number taken.tip)) (small-short taken.q)));
+        owner = refl;
+        bound = refl;
+        taken = λ k.
+            among-key taken.q notes.reclaimed k ∙ ap (λ (b : Bool). (taken.q == k) || b) (kept.taken k);
+        known = kept.known;
+        noted = kept.noted;
+      })
+
+  abbrev pub IsTakenBack : ℕ → List ℕ → WalletEffect (Result Reclaimed WalletRefusal) → Type 0
+  IsTakenBack n bytes effect =
+      KeptWallet dig (told (answered n wallet_cause (on_reclaimed n bytes) effect.answer).event s) log
+      (after effect wallet)
+
+  pub reclaims-kept : (n : ℕ) (bytes : List ℕ) → Small bytes
+      → IsTakenBack n bytes (reclaim_effect dig wallet log bytes)
+  reclaims-kept n bytes small = by (reclaim_ends dig wallet log bytes)
+    where
+      by : ReclaimEnds (reclaim_effect dig wallet log bytes)
+          → IsTakenBack n bytes (reclaim_effect dig wallet log bytes)
+      by (Refused why is) = subst (IsTakenBack n bytes) (sym is) kept
+      by (Takes taken is) =
+          let text = note_text (Reclaims taken.coin taken.tip taken.q) in
+          let fits = words dig s log wallet kept few in
+          let added : AddsReclaimed dig wallet log bytes text =
+          subst (λ e. IfSome e.note (AddsReclaimed dig wallet log bytes)) is
+          (reclaims_add_their_notes dig wallet log bytes kept.is small.are fits) in
+          let answered : (reclaim_effect dig wallet log bytes).answer ≡ Ok taken = ap (λ e. e.answer) is in
+          let same : added.0 ≡ taken = cc (added.1, answered) in
+          subst (IsTakenBack n bytes) (sym is)
+          (takes-back n taken bytes text refl
+          (subst (λ e. is_wallet dig (after e wallet) ≡ true) is
+          (reclaims_keep_the_role dig wallet log bytes kept.is small.are fits))
+          (subst (λ (t : Reclaimed). AddsNote dig wallet.notes (Reclaims t.coin t.tip t.q) text) same added.3))
+
+  -- ---- leave
+
+  -- the records after a command that added a note at most, or a leaf's record
+  after-note : (note leaf : Option (List ℕ)) → leaf ≡ None
+      → ((body : List ℕ) → note ≡ Some body → KeptWallet dig s log (with_note wallet body))
+      → KeptWallet dig s log (record { notes = with_more note wallet.notes; leaves = with_more leaf wallet.leaves })
+  after-note None None none each = kept
+  after-note (Some body) None none each = each body refl
+  after-note some (Some leaf) wrong each = absurd (cc wrong)
+
+  after-leaf : (note leaf : Option (List ℕ)) → note ≡ None
+      → ((body : List ℕ) → leaf ≡ Some body
+      → KeptWallet dig s log (record wallet { leaves = wallet.leaves ++ body ∷ [] }))
+      → KeptWallet dig s log (record { notes = with_more note wallet.notes; leaves = with_more leaf wallet.leaves })
+  after-leaf None None none each = kept
+  after-leaf None (Some leaf) none each = each leaf refl
+  after-leaf (Some note) leaf wrong each = absurd (cc wrong)
+
+  leaves-note : (coin tip : ℕ) (body : List ℕ) → body ≡ note_text (LeavesWith coin tip)
+      → is_wallet dig (with_note wallet body) ≡ true → AddsNote dig wallet.notes (LeavesWith coin tip) body
+      → KeptWallet dig s log (with_note wallet body)
+  unfolding note_text
+  leaves-note coin tip body text is adds =
+      noting dig s log wallet kept body (record notes { leaving = notes.leaving ++ coin_tip coin tip ∷ [] }) s
+      (record {
+        is = is;
+        who_same = adds.0;
+        now_is =
+            noted-grow dig wallet body (LeavesWith coin tip) adds
+            ∙ state-leaves (owner_of (who wallet)) coin tip (notes_of dig wallet.notes);
+        small =
+            subst Small (sym text) (small-cons 3 (lit< tt) (small-append (small-number coin) (small-number tip)));
+        owner = refl;
+        bound = refl;
+        taken = kept.taken;
+        known = kept.known;
+        noted = kept.noted;
+      })
+
+  leaves-silent : (n : ℕ) (result : Result RootCall WalletRefusal)
+      → told (answered n wallet_cause (on_leaving n) result).event s ≡ s
+  leaves-silent n (Ok call) = refl
+  leaves-silent n (Err why) = refl
+
+  pub leaves-kept : (n coin : ℕ) → coin < 2 ^ 64
+      → KeptWallet dig
+      (told (answered n wallet_cause (on_leaving n) (leave_effect dig wallet log coin).answer).event s) log
+      (after (leave_effect dig wallet log coin) wallet)
+  unfolding leave_effect
+  leaves-kept n coin fits =
+      let effect = leave_effect dig wallet log coin in
+      let none : effect.leaf ≡ None = leave-leaf dig wallet log coin (coin_state dig wallet log coin) in
+      subst (λ (t : Said). KeptWallet dig t log (after effect wallet)) (sym (leaves-silent n effect.answer))
+      (after-note effect.note effect.leaf none
+      (λ body added.
+      let left = leave-note dig wallet log coin (coin_state dig wallet log coin) body added in
+      let adds : AddsLeaving dig wallet log coin body =
+      subst (λ (o : Option (List ℕ)). IfSome o (AddsLeaving dig wallet log coin)) added
+      (leaves_add_their_notes dig wallet log coin kept.is (words dig s log wallet kept few) fits) in
+      let same : adds.0 ≡ left.0 = cc (adds.1, left.1) in
+      let role : is_wallet dig (with_note wallet body) ≡ true =
+      subst (λ (o : Option (List ℕ)). is_wallet dig
+      (record { notes = with_more o wallet.notes; leaves = wallet.leaves }) ≡ true) added
+      (subst (λ (o : Option (List ℕ)). is_wallet dig
+      (record { notes = with_more effect.note wallet.notes; leaves = with_more o wallet.leaves }) ≡ true) none
+      (leaves_keep_the_role dig wallet log coin kept.is)) in
+      leaves-note coin left.0 body (sym left.2) role
+      (subst (λ (t : ℕ). AddsNote dig wallet.notes (LeavesWith coin t) body) same adds.2)))
+
+  -- ---- migrate
+
+  migrates-silent : (n : ℕ) (result : Result (Unit {0}) WalletRefusal)
+      → told (answered n wallet_cause (on_migrated n) result).event s ≡ s
+  migrates-silent n (Ok done) = refl
+  migrates-silent n (Err why) = refl
+
+  migrates-leaf : (leaf : List ℕ) → AddsMarker wallet leaf
+      → is_wallet dig (record wallet { leaves = wallet.leaves ++ leaf ∷ [] }) ≡ true
+      → KeptWallet dig s log (record wallet { leaves = wallet.leaves ++ leaf ∷ [] })
+  migrates-leaf leaf adds is = record {
+    owner = kept.owner;
+    is = is;
+    is_owner = kept.is_owner;
+    tag = kept.tag;
+    notes = kept.notes;
+    messages =
+        subst AreSmallRecords
+        (sym (ap (λ (l : List ℕ). messages_of (wallet.leaves ++ l ∷ [])) adds.0
+        ∙ marker-messages wallet.leaves adds.1)) kept.messages;
+    bodies = ap (map (λ (leaf : LeafRecord). leaf.body)) adds.2 ∙ kept.bodies;
+    taken = kept.taken;
+    known = kept.known;
+    noted = kept.noted;
+  }
+
+  pub migrates-kept : (n : ℕ)
+      → KeptWallet dig (told (answered n wallet_cause (on_migrated n) (migrate_effect wallet).answer).event s) log
+      (after (migrate_effect wallet) wallet)
+  migrates-kept n =
+      let effect = migrate_effect wallet in
+      let none : effect.note ≡ None = migrate-note wallet in
+      subst (λ (t : Said). KeptWallet dig t log (after effect wallet)) (sym (migrates-silent n effect.answer))
+      (after-leaf effect.note effect.leaf none
+      (λ leaf added.
+      migrates-leaf leaf
+      (subst (λ (o : Option (List ℕ)). IfSome o (AddsMarker wallet)) added (migrations_add_the_marker wallet))
+      (subst (λ (o : Option (List ℕ)). is_wallet dig
+      (record { notes = wallet.notes; leaves = with_more o wallet.leaves }) ≡ true) added
+      (subst (λ (o : Option (List ℕ)). is_wallet dig
+      (record { notes = with_more o wallet.notes; leaves = with_more effect.leaf wallet.leaves }) ≡ true) none
+      (migrations_keep_the_role dig wallet kept.is)))))
