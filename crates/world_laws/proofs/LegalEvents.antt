@@ -145,14 +145,14 @@ module _ (dig : List ℕ → List ℕ) (events : List Event) (world : World) (be
 
   legal-operator : (n : ℕ) (notes : List (List ℕ)) (own : OperatorCommand)
       → P (operator_command dig world n notes own).gives.event
+  unfolding seal_effect
   legal-operator n notes (OperatorCommand.Offer transfer) =
       legal-answered n offer_cause (on_pooled n)
       (offer_effect dig notes world.chain.log (bytes_of world transfer)).answer (λ coin made left. tt)
   legal-operator n notes (OperatorCommand.Lay coin leaf) =
       legal-answered n lay_cause (on_laid n coin) (lay_effect coin (bytes_of world leaf)).answer
       (λ done made left. tt)
-  legal-operator n notes OperatorCommand.Seal =
-      legal-answered n seal_cause on_sealed (seal_effect dig notes).answer (λ sealed made left. tt)
+  legal-operator n notes OperatorCommand.Seal = λ left. refl
   legal-operator n notes (OperatorCommand.Bundle coin tip) =
       legal-answered n prove_cause (on_bundled n) (bundle_answer dig notes world.chain.log coin tip)
       (λ bundle made left. tt)
