@@ -2,6 +2,15 @@ pub mod Words
 pub mod Lists
 pub mod Clash
 pub mod Walk
+pub mod Origins
+pub mod Holders
+pub mod Identities
+pub mod DeedOffers
+pub mod Keeps
+pub mod Acts
+pub mod Handed
+pub mod LegalCalls
+pub mod LegalEvents
 pub mod Histories
 pub mod Shown
 pub mod Absences

@@ -1,0 +1,83 @@
+-- A bundle that is handed in and passes is a history under the chain's rules, whatever its bytes are.
+use Rattle.std.proofs.Common.{◌≡◌, ℕ, ◌≤◌, ◌==◌, Bool, true, false, if◌then◌else◌, List, [], length, Ok, Err, inl, inr, refl, sym, ap, ◌∙◌, subst}
+use Rattle.std.specs.Prelude.{Result, unwrap_or}
+use Rattle.std.specs.Result.{result_ok}
+use Rattle.std.proofs.lemmas.Bool.{cases_lt, lt-ltb, le-ltb}
+use Rattle.plasma_tx.specs.declared.links.Links.{Links}
+use Rattle.plasma_tx.specs.declared.call.RootCall.{RootCall}
+use Rattle.root_rules.specs.Shown.{tests_by, Rules}
+use Rattle.coin_history.specs.declared.bundle.Bundle.{Bundle}
+use Rattle.coin_history.specs.declared.refusal.HistoryRefusal.{HistoryRefusal}
+use Rattle.coin_history.specs.declared.refusal.HistoryRefusal.TheVariants.{BadBundle}
+use Rattle.coin_history.specs.Bundles.{Items, AreRising, length_at, items_in, bundle_of, bundle_in}
+use Rattle.coin_history.specs.History.{IsHistory}
+use Rattle.coin_history.proofs.BundleLaws.{items_in-ok}
+use Rattle.coin_history.proofs.CheckFacts.{tagged-same}
+use Rattle.coin_history.proofs.HistoryFound.{histories_are_found}
+use Rattle.plasma_tx.specs.Spelling.{number_at}
+use Rattle.node_rules.specs.Kept.{links_handed}
+use Rattle.node_rules.proofs.KeptTexts.{handed-bundle}
+use Rattle.world_rules.specs.Deeds.{bundle_read}
+
+abbrev as_read : Bundle → Result Bundle HistoryRefusal
+as_read bundle = Ok bundle
+
+ok-same : (one other : Bundle) → as_read one ≡ Ok other → one ≡ other
+ok-same one other is = cc is
+
+-- the blocks of a bundle that is read rise
+items-rise : (bytes : List ℕ) (bundle : Bundle) (read : Result Items HistoryRefusal) → 20 ≤ length bytes
+    → items_in bytes 20 0 (length_at bytes 16) ≡ read → bundle_of bytes read ≡ Ok bundle → AreRising bundle.openings
+items-rise bytes bundle (Err why) long read is = absurd (cc is)
+items-rise bytes bundle (Ok items) long read is = by (items.place == length bytes) is
+  where
+    made : Bundle
+    made = record { coin = number_at bytes 0; tip = number_at bytes 8; openings = items.openings }
+
+    by : (b : Bool) → (if b then Ok made else Err (BadBundle items.place)) ≡ Ok bundle → AreRising bundle.openings
+    by true is =
+        subst (λ (k : Bundle). AreRising k.openings) (ok-same made bundle is)
+        (items_in-ok bytes 20 0 (length_at bytes 16) items long read).rising
+    by false is = absurd (cc is)
+
+pub read-rising : (bytes : List ℕ) (bundle : Bundle) → bundle_in bytes ≡ Ok bundle → AreRising bundle.openings
+unfolding bundle_in
+read-rising bytes bundle h = elim (cases_lt (length bytes) 8) [
+  | inl short ↦ let bad : Err (BadBundle 0) ≡ Ok bundle = rw (lt-ltb (length bytes) 8 short) at h in absurd (cc bad)
+  | inr coin ↦ elim (cases_lt (length bytes) 16) [
+    | inl short ↦
+        let bad : Err (BadBundle 8) ≡ Ok bundle = rw (
+          le-ltb (length bytes) 8 coin,
+          lt-ltb (length bytes) 16 short,
+        ) at h in
+        absurd (cc bad)
+    | inr tip ↦ elim (cases_lt (length bytes) 20) [
+      | inl short ↦
+          let bad : Err (BadBundle 16) ≡ Ok bundle = rw (
+            le-ltb (length bytes) 8 coin,
+            le-ltb (length bytes) 16 tip,
+            lt-ltb (length bytes) 20 short,
+          ) at h in
+          absurd (cc bad)
+      | inr long ↦
+          let read : bundle_of bytes (items_in bytes 20 0 (length_at bytes 16)) ≡ Ok bundle = rw (
+            le-ltb (length bytes) 8 coin,
+            le-ltb (length bytes) 16 tip,
+            le-ltb (length bytes) 20 long,
+          ) at h in
+          items-rise bytes bundle (items_in bytes 20 0 (length_at bytes 16)) long refl read
+    ]
+  ]
+]
+
+-- what a node takes that it is handed is the history of the bundle that the bytes spell
+pub handed-history : (dig : List ℕ → List ℕ) (rules : Rules) (log : List RootCall) (bytes : List ℕ) (links : Links)
+    → links_handed dig rules.tag log bytes ≡ Ok links
+    → IsHistory (tests_by dig) rules log (bundle_read bytes) links
+handed-history dig rules log bytes links is =
+    let found = handed-bundle dig rules.tag log (bundle_in bytes) links is in
+    let reads : bundle_read bytes ≡ found.0 =
+    ap (λ r. unwrap_or (result_ok r) (record { coin = 0; tip = 0; openings = [] })) found.1 in
+    subst (λ (b : Bundle). IsHistory (tests_by dig) rules log b links) (sym reads)
+    (histories_are_found (tests_by dig) rules log found.0 links (read-rising bytes found.0 found.1)
+    (sym (tagged-same (tests_by dig) rules log found.0) ∙ found.2))

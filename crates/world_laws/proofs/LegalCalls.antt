@@ -1,0 +1,159 @@
+-- Calls that are entered and wallets that are declared are legal.
+use Rattle.std.proofs.Common.{◌≡◌, ◌⊎◌, ℕ, Bool, true, false, if◌then◌else◌, List, length, Option, Some, None, inl, inr, refl, sym, ap, ◌∙◌, subst, slice_get}
+use Rattle.std.specs.List.{Contains, list_any}
+use Rattle.std.proofs.lemmas.Bool.{eqb-true, true≢false, false≢true}
+use Rattle.lms_sign.specs.declared.types.LmsTypes.{LmsTypes}
+use Rattle.plasma_tx.specs.declared.owner.Owner.{Owner}
+use Rattle.plasma_tx.specs.declared.call.RootCall.{RootCall}
+use Rattle.plasma_tx.specs.declared.answer.Answer.{Answer}
+use Rattle.root_rules.specs.Shown.{tests_by, rules_of}
+use Rattle.root_rules.specs.Table.{answer_to, is_accepted}
+use Rattle.node_rules.specs.WalletRecords.{owner_of}
+use Rattle.watch_duty.proofs.Members.{has-contains}
+use Rattle.world_rules.specs.Events.{Event, Joins, Bounces, log_of, wallet_owner, offers_of}
+use Rattle.world_rules.specs.World.{Role, Wallet, Watcher, Operator, Node, World, is_wallet_role, owner_of_node}
+use Rattle.world_rules.specs.Declarations.{declared_wallet, is_declared_account, is_caller, may_be_wallet}
+use Rattle.world_rules.specs.Steps.{called}
+use Rattle.world_rules.proofs.RunLaws.{logs_are_of_events}
+use Rattle.world_rules.proofs.OfferLaws.{offers_are_of_events}
+use Rattle.world_rules.specs.Steps.{Run, events_of}
+use Rattle.schedule_text.specs.declared.line.Line.{Line}
+use Rattle.world_laws.specs.Headline.{IsRun}
+use Rattle.world_laws.specs.Legal.{starts_by, deposits_by, LegalDeclaration, IsLegalEvent}
+use Rattle.world_laws.proofs.Lists.{some_same, none_some}
+use Rattle.world_laws.proofs.Origins.{IsFrom, Plain, Deposits, Raw, Offered}
+use Rattle.world_laws.proofs.Holders.{holders, IsHeld, held-wallet, IsKnown, unknown-none}
+use Rattle.world_laws.proofs.Identities.{IsOfRole, wallet-node, next-unknown}
+use Rattle.world_laws.proofs.Keeps.{Keeps, raw-moves, holder-is, held-by, account-new, not-held}
+use Rattle.world_laws.proofs.Acts.{runs-keep}
+
+-- what is known of the world behind a run's events
+pub record IsBehind (events : List Event) (world : World) : Type 0 where
+  pub keeps : Keeps events world
+  pub log : world.chain.log ≡ log_of events
+  pub offers : (n : ℕ) (node : Node) → slice_get world.nodes n ≡ Some node → node.offers ≡ offers_of events n
+
+pub is-behind : (dig : List ℕ → List ℕ) (lines : List Line) (run : Run) (world : World) → IsRun dig lines run world
+    → IsBehind (events_of run.entries) world
+is-behind dig lines run world is = record {
+  keeps = runs-keep dig lines run world is;
+  log = logs_are_of_events dig lines run world is.run_is is.world_is;
+  offers = λ n node node_is. offers_are_of_events dig lines run world n node is.run_is is.world_is node_is;
+}
+
+module _ (events : List Event) (world : World) (behind : IsBehind events world) where
+  -- the node of a wallet that events declare
+  pub record IsOwnNode (w : ℕ) (me : Owner) : Type 0 where
+    pub node : Node
+    pub node_is : slice_get world.nodes w ≡ Some node
+    pub role : is_wallet_role node.role ≡ true
+    pub me_is : owner_of_node node ≡ me
+    pub account : node.account ≡ me.account
+
+  pub own-node : (w : ℕ) (me : Owner) → wallet_owner events w ≡ Some me → IsOwnNode w me
+  own-node w me me_is = by (slice_get world.nodes w) refl
+    where
+      at-role : (node : Node) → slice_get world.nodes w ≡ Some node → (role : Role) → node.role ≡ role
+          → IsOfRole events world.chain.tag w node role → IsOwnNode w me
+      at-role node node_is Wallet role is =
+          let known = wallet-node events world.chain.tag w node is in
+          let same : owner_of_node node ≡ me = some_same (owner_of_node node) me (sym known.0 ∙ me_is) in record {
+            node = node;
+            node_is = node_is;
+            role = ap is_wallet_role role;
+            me_is = same;
+            account = sym known.1 ∙ ap (λ (o : Owner). o.account) same;
+          }
+      at-role node node_is Watcher role is = absurd (none_some me (sym is.owner ∙ me_is))
+      at-role node node_is Operator role is = absurd (none_some me (sym is ∙ me_is))
+
+      by : (found : Option Node) → slice_get world.nodes w ≡ found → IsOwnNode w me
+      by None none = absurd (none_some me (sym (behind.keeps.nodes.unknown w none) ∙ me_is))
+      by (Some node) is = at-role node is node.role refl (behind.keeps.nodes.each w node is).is
+
+  own-held : (w : ℕ) (me : Owner) → wallet_owner events w ≡ Some me → IsHeld (holders world.nodes) me.account
+  own-held w me me_is =
+      let own = own-node w me me_is in held-by world.nodes w own.node me.account own.node_is own.role own.account
+
+  -- no two wallets have one account
+  pub one-account : (w n : ℕ) (me : Owner) (node : Node) → wallet_owner events w ≡ Some me
+      → slice_get world.nodes n ≡ Some node → is_wallet_role node.role ≡ true → node.account ≡ me.account → n ≡ w
+  one-account w n me node me_is node_is role same =
+      let own = own-node w me me_is in
+      behind.keeps.accounts.distinct n w me.account (holder-is world.nodes n node me.account node_is role same)
+      (holder-is world.nodes w own.node me.account own.node_is own.role own.account)
+
+  -- ---- calls
+
+  -- a start by a wallet's account is on its offer
+  from-offered : (callers : List ℕ) (call : RootCall) → IsFrom world callers call → (w : ℕ) (me : Owner)
+      → wallet_owner events w ≡ Some me → starts_by me.account call ≡ true → Contains (offers_of events w) call
+  from-offered callers call (Plain deposits starts same) w me me_is start =
+      absurd (false≢true (sym (starts me.account) ∙ start))
+  from-offered callers call (Deposits n node amount node_is role call_is same) w me me_is start =
+      absurd (false≢true (ap (starts_by me.account) (sym call_is) ∙ start))
+  from-offered callers call (Raw account form other is same) w me me_is start =
+      let own : account ≡ me.account =
+      eqb-true account me.account (raw-moves world account form call me.account is (inr start)) in
+      absurd (true≢false (sym (held-wallet world account
+      (subst (IsHeld (holders world.nodes)) (sym own) (own-held w me me_is))) ∙ other))
+  from-offered callers call (Offered n node node_is has same) w me me_is start =
+      let by = ((behind.keeps.nodes.each n node node_is).offers call has).starts me.account start in
+      let here : n ≡ w = one-account w n me node me_is node_is by.0 by.1 in
+      subst (λ m. Contains (offers_of events m) call) here
+      (subst (λ (calls : List RootCall). Contains calls call) (behind.offers n node node_is)
+      (has-contains node.offers call has))
+
+  -- the event of a call that is entered is legal
+  pub legal-entered : (dig : List ℕ → List ℕ) (callers : List ℕ) (call : RootCall) → IsFrom world callers call
+      → IsLegalEvent (tests_by dig) (rules_of world.chain) events
+      (called dig (record world { raw_callers = callers }) call).event
+  legal-entered dig callers call from = by (is_accepted answer) refl
+    where
+      answer : Answer
+      answer = answer_to (tests_by dig) (rules_of world.chain) world.chain.log call
+
+      by_log : is_accepted answer
+          ≡ is_accepted (answer_to (tests_by dig) (rules_of world.chain) (log_of events) call)
+      by_log = ap (λ log. is_accepted (answer_to (tests_by dig) (rules_of world.chain) log call)) behind.log
+
+      by : (b : Bool) → is_accepted answer ≡ b → IsLegalEvent (tests_by dig) (rules_of world.chain) events
+          (if is_accepted answer then Joins call else Bounces call)
+      by true is =
+          subst (λ b. IsLegalEvent (tests_by dig) (rules_of world.chain) events
+          (if b then Joins call else Bounces call)) (sym is)
+          (record { accepted = sym by_log ∙ is; offered = from-offered callers call from })
+      by false is =
+          subst (λ b. IsLegalEvent (tests_by dig) (rules_of world.chain) events
+          (if b then Joins call else Bounces call)) (sym is) (sym by_log ∙ is)
+
+  -- ---- declarations
+
+  -- the declaration of a wallet is legal
+  pub legal-declared : (name : List ℕ) (account seed : ℕ) (types : Option LmsTypes)
+      → may_be_wallet world name (declared_wallet world account seed types) ≡ true
+      → LegalDeclaration events (length world.nodes) (owner_of (declared_wallet world account seed types))
+  unfolding owner_of
+  legal-declared name account seed types may = record {
+    new = (next-unknown events world.chain.tag world.nodes behind.keeps.nodes).0;
+    unused = (next-unknown events world.chain.tag world.nodes behind.keeps.nodes).1;
+    no_deposit = moved (deposits_by account) (λ call is. inl is);
+    no_start = moved (starts_by account) (λ call is. inr is);
+    own_account = λ v other other_is same. not-held events world behind.keeps account new.0
+        (subst (IsHeld (holders world.nodes)) same (own-held v other other_is));
+  }
+    where
+      new : (is_declared_account world account ≡ false) × (is_caller world account ≡ false)
+      new = account-new events world behind.keeps name (declared_wallet world account seed types) may
+
+      unknown : IsKnown (holders world.nodes) world.raw_callers account → ⊥
+      unknown (inl held) = not-held events world behind.keeps account new.0 held
+      unknown (inr is) = true≢false (sym is ∙ new.1)
+
+      moved : (p : RootCall → Bool)
+          → ((call : RootCall) → p call ≡ true → (deposits_by account call ≡ true) ⊎ (starts_by account call ≡ true))
+          → list_any p (log_of events) ≡ false
+      moved p moves =
+          ap (list_any p) (sym behind.log)
+          ∙ unknown-none (holders world.nodes) world.raw_callers world.chain.log p account moves
+          behind.keeps.accounts unknown
