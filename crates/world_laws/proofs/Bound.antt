@@ -73,7 +73,7 @@ IsSince [] w c o = ⊥
 IsSince (event ∷ events) w c o =
     ((is_some (wallet_owner events w) ≡ true) × Has (openings_of c event) o) ⊎ IsSince events w c o
 
-owner-some : (events : List Event) (w : ℕ) → is_some (wallet_owner events w) ≡ true
+pub owner-some : (events : List Event) (w : ℕ) → is_some (wallet_owner events w) ≡ true
     → (me : Owner) × (wallet_owner events w ≡ Some me)
 owner-some events w is = by_owner (wallet_owner events w) refl is
   where

@@ -24,3 +24,4 @@ pub mod Steps
 pub mod Harms
 pub mod Offers
 pub mod Safe
+pub mod OneHolder

@@ -1,10 +1,11 @@
 -- What is promised of every list of legal events.
-use Rattle.std.specs.Prelude.{◌≡◌, ℕ, true, false, List, ◌∷◌}
+use Rattle.std.specs.Prelude.{◌≡◌, ◌≢◌, ℕ, true, false, List, ◌∷◌}
 use Rattle.root_rules.specs.Shown.{Rules, tests_by}
 use Rattle.world_rules.specs.Events.{Event}
 use Rattle.world_rules.specs.Exhibits.{collides, is_forged}
-use Rattle.world_rules.specs.Safety.{is_attended, is_safe}
+use Rattle.world_rules.specs.Safety.{holds, is_attended, is_safe}
 use Rattle.world_rules.specs.Laws.{IsDigest}
+use Rattle.world_laws.specs.Headline.{was_declared_before}
 use Rattle.world_laws.specs.Legal.{IsLegal}
 
 -- The coin that a wallet holds is safe at each event. Unless the events up to it show, at this coin, two byte strings
@@ -18,3 +19,13 @@ LegalCoinsAreSafe = (dig : List ℕ → List ℕ) (rules : Rules) (event : Event
     → collides dig (event ∷ events) c ≡ false
     → is_forged rules.tag (event ∷ events) w c ≡ false
     → is_safe (tests_by dig) rules (event ∷ events) w c e ≡ true
+
+-- Two wallets that were declared before its deposit don't both hold a coin, unless the events exhibit.
+abbrev pub OneWalletHoldsLegally : Type 0
+OneWalletHoldsLegally = (dig : List ℕ → List ℕ) (rules : Rules) (events : List Event) (v w c d e : ℕ)
+    → IsDigest dig → IsLegal (tests_by dig) rules events → v ≢ w
+    → was_declared_before events v c ≡ true → was_declared_before events w c ≡ true
+    → collides dig events c ≡ false
+    → is_forged rules.tag events v c ≡ false
+    → is_forged rules.tag events w c ≡ false
+    → holds events v c d ≡ true → holds events w c e ≡ true → ⊥

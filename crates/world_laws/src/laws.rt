@@ -1,0 +1,13 @@
+ghost use Rattle.world_laws.specs.LegalLaws.{LegalCoinsAreSafe, OneWalletHoldsLegally};
+
+/// A law: of legal events, no other account's exit of an attended coin that a wallet holds is paid, and its
+/// own exit is never cancelled or dropped, and pays when it is finished at its end; unless they show two
+/// byte strings with one digest, or a signature that the wallet never made.
+pub fn held_coins_are_safe()
+    ensures legal { LegalCoinsAreSafe }
+{}
+
+/// A law: two wallets that were declared before its deposit don't both hold a coin, unless the events exhibit.
+pub fn one_wallet_holds()
+    ensures legal { OneWalletHoldsLegally }
+{}
