@@ -1,5 +1,5 @@
 -- What is promised of every schedule: of operator, strangers, losses and crashes.
-use Rattle.std.specs.Prelude.{◌≡◌, ◌≢◌, ◌⊎◌, ◌<◌, ℕ, ◌+◌, ◌||◌, Bool, true, false, nat_lt, List, ◌∷◌, ◌++◌, slice_get, Option, Some, None, is_some, is_none}
+use Rattle.std.specs.Prelude.{if◌then◌else◌, ◌==◌, ◌≡◌, ◌≢◌, ◌⊎◌, ◌<◌, ℕ, ◌+◌, ◌||◌, Bool, true, false, nat_lt, List, ◌∷◌, ◌++◌, slice_get, Option, Some, None, is_some, is_none}
 use Rattle.std.specs.List.{All, Contains, list_any}
 use Rattle.root_rules.specs.declared.TheConstants.{EXIT_BOND, CHALLENGE_BOND}
 use Rattle.lms_sign.specs.Tree.{signature_of}
@@ -75,6 +75,13 @@ HeldCoinsAreSafe = (dig : List ℕ → List ℕ) (lines : List Line) (run : Run)
     → collides dig (event ∷ events) c ≡ false
     → is_forged world.chain.tag (event ∷ events) w c ≡ false
     → is_safe (tests_by dig) (rules_of world.chain) (event ∷ events) w c e ≡ true
+
+-- the wallet was declared before the deposit of the coin
+unfoldable pub was_declared_before : List Event → ℕ → ℕ → Bool
+was_declared_before [] w c = false
+was_declared_before (Joins (RootCall.Deposit account amount key) ∷ events) w c =
+    if c == coins (log_of events) + 1 then is_some (wallet_owner events w) else was_declared_before events w c
+was_declared_before (event ∷ events) w c = was_declared_before events w c
 
 -- the coin was deposited by this call behind these events, before which both wallets were declared
 pub record AreDeclaredBefore (events : List Event) (v w c : ℕ) : Type 0 where
@@ -154,6 +161,10 @@ abbrev pub starter : RootCall → Option ℕ
 starter (RootCall.StartDeposit account coin block) = Some account
 starter (RootCall.StartSpend account coin parent exit) = Some account
 starter call = None
+
+-- the call starts an exit
+abbrev pub is_start : RootCall → Bool
+is_start call = is_some (starter call)
 
 -- the answer accepts a start by the account; or the exit stands, or the balance is less than the bond, and the answer
 -- says so
