@@ -1,10 +1,10 @@
 -- Who holds a coin, the bundles that were accepted, and that no spend of a held tip was.
-use Rattle.std.proofs.Common.{◌≡◌, ◌≢◌, ◌⊎◌, ℕ, ◌<◌, ◌==◌, ◌&&◌, ◌||◌, cond, not, Bool, true, false, if◌then◌else◌, List, [], ◌∷◌, Option, Some, None, inl, inr, refl, sym, ap, ◌∙◌, subst, arith, filter}
+use Rattle.std.proofs.Common.{◌≡◌, ◌≢◌, ◌⊎◌, ℕ, ◌<◌, ◌==◌, ◌&&◌, ◌||◌, not, Bool, true, false, if◌then◌else◌, List, [], ◌∷◌, Option, Some, None, inl, inr, refl, sym, ap, ◌∙◌, subst, arith, filter}
 use Rattle.std.specs.Prelude.{is_some, nat_eq}
 use Rattle.std.specs.List.{list_any}
 use Rattle.std.specs.Option.{option_eq}
 use Rattle.std.specs.Str.{bytes_eq}
-use Rattle.std.proofs.lemmas.Bool.{cases_eq, ne_eqb, eq-eqb, eqb-true, and_parts, and_from, and_cases, or_parts, or_cases, or_left, or_right, not-true, true≢false, false≢true}
+use Rattle.std.proofs.lemmas.Bool.{cases_eq, ne_eqb, eq-eqb, eqb-true, and_parts, and_from, and_cases, or_parts, or_cases, not-true, true≢false, false≢true}
 use Rattle.std.proofs.lemmas.Slice.Eq.{bytes_eq-Decides}
 use Rattle.plasma_tx.specs.declared.owner.Owner.{Owner}
 use Rattle.plasma_tx.specs.declared.body.Body.{Body}
@@ -21,14 +21,13 @@ use Rattle.coin_history.specs.History.{transfer_of, IsHistory}
 use Rattle.coin_history.proofs.HistoryGrow.{histories_stay}
 use Rattle.watch_duty.proofs.Members.{Has, has-left, any-has, has-filter}
 use Rattle.wallet_core.specs.State.{is_owner}
-use Rattle.world_rules.specs.Events.{Event, Declares, Joins, Accepts, Guards, Releases, Binds, log_of, wallet_owner, accepted, bound_by, signed_away_by, is_sent_from, is_bundle, guarded_by, is_command_of}
+use Rattle.world_rules.specs.Events.{Event, Declares, Joins, Accepts, Guards, Releases, Binds, log_of, wallet_owner, accepted, bound_by, signed_away_by, is_sent_from, is_bundle, guarded_by}
 use Rattle.world_rules.specs.Exhibits.{openings_of, seen, is_same_body, forges_transfer, forges, forges_one, is_forged}
 use Rattle.world_rules.specs.Safety.{was_deposited, holds_with, holds}
 use Rattle.world_laws.specs.Legal.{IsLegal}
 use Rattle.world_laws.proofs.Lists.{some_same, none_some, any-none, any-some}
 use Rattle.world_laws.proofs.Clash.{IsOpened, HasOneLeaf}
 use Rattle.world_laws.proofs.Walk.{empty-no_tx}
-use Rattle.world_laws.proofs.Histories.{ShowsAbsent}
 use Rattle.world_laws.proofs.Shown.{seen-grow}
 use Rattle.world_laws.proofs.Absences.{names, tx-coin, tx-last, IsParted}
 

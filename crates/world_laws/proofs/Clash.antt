@@ -1,7 +1,7 @@
 -- Two accepted openings of one block show one leaf, where no two of the strings that they digest clash.
-use Rattle.std.proofs.Common.{◌≡◌, ◌≢◌, ℕ, Bool, true, false, List, [], ◌∷◌, ◌++◌, Some, Ok, Err, inl, inr, refl, sym, ap, ◌∙◌, subst}
+use Rattle.std.proofs.Common.{◌≡◌, ◌≢◌, ℕ, true, false, List, [], ◌∷◌, Some, Ok, Err, inl, inr, refl, sym, ap, ◌∙◌, subst}
 use Rattle.std.specs.Prelude.{Result}
-use Rattle.std.specs.List.{list_any, flat_map}
+use Rattle.std.specs.List.{flat_map}
 use Rattle.std.specs.Str.{bytes_eq}
 use Rattle.std.proofs.lemmas.Bool.{cases_Bool, and_from, or_parts, true≢false, false≢true, not_from_false, false_from_ne_true}
 use Rattle.std.proofs.lemmas.Slice.Eq.{bytes_eq-Decides}
@@ -11,7 +11,6 @@ use Rattle.sparse_merkle.proofs.OpeningLaws.{HasClash-openings}
 use Rattle.plasma_tx.specs.declared.opening.RawOpening.{RawOpening}
 use Rattle.plasma_tx.specs.declared.opening.Opening.{Opening}
 use Rattle.plasma_tx.specs.declared.opening.OpeningRefusal.{OpeningRefusal}
-use Rattle.plasma_tx.specs.declared.signed_tx.SignedTx.{SignedTx}
 use Rattle.plasma_tx.specs.declared.call.RootCall.{RootCall}
 use Rattle.plasma_tx.specs.Openings.{opening_in}
 use Rattle.plasma_tx.specs.Transfer.{transfer_in}
@@ -21,7 +20,7 @@ use Rattle.coin_history.specs.History.{leaf_of_opening, transfer_of}
 use Rattle.watch_duty.proofs.Members.{Has, has-left, has-right, any-has, contains-has}
 use Rattle.world_rules.specs.Laws.{IsDigest}
 use Rattle.world_rules.specs.Exhibits.{strings_up, strings_in, strings_of, do_clash, has_clash}
-use Rattle.world_laws.proofs.Lists.{some_same, any-none}
+use Rattle.world_laws.proofs.Lists.{some_same}
 
 -- the opening opens its block's root
 pub record IsOpened (tests : Tests) (log : List RootCall) (c : ℕ) (o : RawOpening) : Type 0 where

@@ -1,34 +1,32 @@
 -- Who guards a held coin: the holder, and each watcher that keeps a guard at its tip.
-use Rattle.std.proofs.Common.{◌≡◌, ◌⊎◌, ℕ, ◌==◌, ◌&&◌, ◌||◌, not, Bool, true, false, if◌then◌else◌, List, [], ◌∷◌, Option, Some, None, inl, inr, refl, sym, ap, ◌∙◌, subst, filter}
+use Rattle.std.proofs.Common.{◌≡◌, ◌⊎◌, ℕ, ◌==◌, ◌||◌, not, true, false, if◌then◌else◌, List, [], ◌∷◌, Option, Some, None, inl, inr, refl, sym, ap, ◌∙◌, subst, filter}
 use Rattle.std.specs.Option.{option_map, option_map_or}
-use Rattle.std.specs.List.{Contains, list_any}
-use Rattle.std.proofs.lemmas.Bool.{eqb-true, and_parts, and_from, or_cases, or_left, or_right, not_from_false, true≢false, false≢true}
+use Rattle.std.specs.List.{list_any}
+use Rattle.std.proofs.lemmas.Bool.{eqb-true, and_parts, and_from, or_cases, or_left, or_right, not_from_false}
 use Rattle.plasma_tx.specs.declared.owner.Owner.{Owner}
 use Rattle.plasma_tx.specs.declared.opening.RawOpening.{RawOpening}
-use Rattle.plasma_tx.specs.declared.links.Link.{Link}
 use Rattle.plasma_tx.specs.declared.links.Links.{Links}
 use Rattle.plasma_tx.specs.declared.call.RootCall.{RootCall}
 use Rattle.plasma_tx.specs.declared.views.CoinView.{CoinView}
 use Rattle.plasma_tx.specs.declared.views.ExitView.{ExitView}
 use Rattle.plasma_tx.specs.Links.{tip_of, last_owner_of}
-use Rattle.plasma_tx.specs.Views.{coin_at, Exit, exits, exits_of, is_withdrawn}
+use Rattle.plasma_tx.specs.Views.{coin_at, Exit, exits, exits_of}
 use Rattle.root_rules.specs.Shown.{Tests, Rules}
 use Rattle.coin_history.specs.declared.bundle.Bundle.{Bundle}
 use Rattle.coin_history.specs.History.{links_in, links_of, IsHistory}
 use Rattle.coin_history.proofs.HistoryLinks.{tip-is, tip_from, none-linked}
 use Rattle.node_rules.specs.Kept.{chain_of, kept_links}
-use Rattle.node_rules.specs.Watcher.{due_for_kept}
 use Rattle.watch_duty.specs.Duty.{due_for, due_of}
-use Rattle.watch_duty.proofs.Members.{Has, contains-has, has-contains, has-flat_map, has-filter}
+use Rattle.watch_duty.proofs.Members.{Has, contains-has, has-flat_map, has-filter}
 use Rattle.watch_duty.proofs.Dues.{IsDue as IsDueFor, DueAfter, DueBetween, DueBefore, DueRespond, due_for-due}
-use Rattle.world_rules.specs.Events.{Event, Declares, Guards, Releases, log_of, coin_of_call, wallet_owner, accepted, signed_away_by, is_sent_from, is_bundle, guarded_by, watchers, is_command_of}
+use Rattle.world_rules.specs.Events.{Event, Guards, Releases, log_of, coin_of_call, wallet_owner, accepted, signed_away_by, is_bundle, guarded_by, watchers, is_command_of}
 use Rattle.world_rules.specs.Exhibits.{seen, is_forged}
 use Rattle.world_rules.specs.Safety.{was_deposited, holds_with, holds, is_quiet, is_watched_by, is_guarded}
-use Rattle.world_laws.specs.Legal.{ShowsTip, Taken, Bare, IsGuarding, ShowsGuard, IsLegal}
+use Rattle.world_laws.specs.Legal.{Taken, Bare, IsGuarding, ShowsGuard, IsLegal}
 use Rattle.world_laws.proofs.Lists.{some_same, any-some}
 use Rattle.world_laws.proofs.Clash.{HasOneLeaf}
 use Rattle.world_laws.proofs.Bound.{SignsBy, Holding, is_noted, is_kept}
-use Rattle.world_laws.proofs.Held.{Known, known-from, IsGoodGuard, good_guard, HeldAt, held_top, deposited-coin, empty-walk, bundle-named}
+use Rattle.world_laws.proofs.Held.{known-from, IsGoodGuard, good_guard, HeldAt, held_top, deposited-coin, empty-walk}
 use Rattle.world_laws.proofs.Nodes.{owner-same, IsUndue, quiet_due}
 use Rattle.world_laws.proofs.Quiet.{IsStill, IsStillGuard, still}
 

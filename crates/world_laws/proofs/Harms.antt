@@ -2,15 +2,15 @@
 use Rattle.std.proofs.Common.{◌≡◌, ℕ, ◌+◌, ◌<◌, ◌≤◌, ◌==◌, ◌&&◌, not, Bool, true, false, if◌then◌else◌, List, [], ◌∷◌, Option, Some, None, inl, inr, refl, sym, ap, ◌∙◌, subst, arith}
 use Rattle.std.specs.Prelude.{is_none, nat_lt, nat_le}
 use Rattle.std.specs.List.{AllByRecursion, list_all}
-use Rattle.std.proofs.lemmas.Bool.{cases_Bool, eq-eqb, eqb-true, le-ltb, ltb-false, leb-true, and_parts, and_from, not-true, not_from_false, true≢false, false_from_ne_true}
+use Rattle.std.proofs.lemmas.Bool.{cases_Bool, eqb-true, le-ltb, ltb-false, leb-true, and_parts, and_from, not-true, not_from_false, true≢false, false_from_ne_true}
 use Rattle.plasma_tx.specs.declared.opening.RawOpening.{RawOpening}
 use Rattle.plasma_tx.specs.declared.call.RootCall.{RootCall}
 use Rattle.plasma_tx.specs.declared.call.RootCall.TheVariants.{After, Between, Finish}
 use Rattle.plasma_tx.specs.declared.answer.Answer.{Answer}
 use Rattle.plasma_tx.specs.declared.answer.Answer.TheVariants.{Paid, Dropped, Refused}
 use Rattle.plasma_tx.specs.declared.answer.Refusal.TheVariants.{Early}
-use Rattle.plasma_tx.specs.Views.{now, Challenge, Exit, exits, exit_at, challenge_at, is_withdrawn, has_no_open_challenge}
-use Rattle.root_rules.specs.declared.TheConstants.{CHALLENGE_WINDOW, RESPONSE_WINDOW, EXIT_PERIOD}
+use Rattle.plasma_tx.specs.Views.{now, Challenge, Exit, exits, exit_at, challenge_at, is_withdrawn}
+use Rattle.root_rules.specs.declared.TheConstants.{RESPONSE_WINDOW, EXIT_PERIOD}
 use Rattle.root_rules.specs.Shown.{Tests, Rules}
 use Rattle.root_rules.specs.Table.{decided, finish_causes, finish_effect, is_payable, where_exit, answer_to, is_accepted}
 use Rattle.root_rules.specs.Accepted.{CancelsAfter, CancelsBetween}

@@ -1,11 +1,10 @@
 -- Histories as walks, absences block by block, and that both stay as the log grows.
-use Rattle.std.proofs.Common.{◌≡◌, ℕ, suc, ◌<◌, ◌≤◌, ◌==◌, ◌||◌, Bool, true, false, if◌then◌else◌, List, [], ◌∷◌, Option, Some, None, inl, inr, refl, sym, ap, ◌∙◌, subst, arith}
+use Rattle.std.proofs.Common.{◌≡◌, ℕ, suc, ◌<◌, ◌≤◌, ◌==◌, ◌||◌, true, false, List, [], ◌∷◌, Option, Some, None, inl, inr, refl, sym, ap, ◌∙◌, subst, arith}
 use Rattle.std.specs.Prelude.{is_some}
 use Rattle.std.specs.Option.{option_map, option_map_or}
 use Rattle.std.specs.List.{AllByRecursion, cons_option}
 use Rattle.std.proofs.lemmas.Bool.{eqb-true, true≢false, false≢true, false_from_ne_true, or_cases}
 use Rattle.std.proofs.lemmas.List.Elements.{recursion_from_All}
-use Rattle.plasma_tx.specs.declared.owner.Owner.{Owner}
 use Rattle.plasma_tx.specs.declared.opening.RawOpening.{RawOpening}
 use Rattle.plasma_tx.specs.declared.signed_tx.SignedTx.{SignedTx}
 use Rattle.plasma_tx.specs.declared.links.Link.{Link}
@@ -13,18 +12,17 @@ use Rattle.plasma_tx.specs.declared.links.Links.{Links}
 use Rattle.plasma_tx.specs.declared.call.RootCall.{RootCall}
 use Rattle.plasma_tx.specs.declared.views.CoinView.{CoinView}
 use Rattle.plasma_tx.specs.Links.{tip_of, last_owner_of}
-use Rattle.plasma_tx.specs.Views.{coin_at}
 use Rattle.root_rules.specs.Shown.{Tests, Rules, root_at}
 use Rattle.coin_history.specs.declared.bundle.Bundle.{Bundle}
 use Rattle.coin_history.specs.History.{is_empty, is_absent, leaf_of_opening, transfer_of, opens_block, links_in, links_of, AreLinked, IsHistory, IsAbsent}
 use Rattle.coin_history.specs.Checking.{is_asked, opening_at}
-use Rattle.coin_history.proofs.HistoryOpenings.{Up, up-each, below-none, past-head, asked-parts, asked-from, AreAsked, asked-from_blocks}
+use Rattle.coin_history.proofs.HistoryOpenings.{up-each, below-none, past-head, asked-parts, asked-from, AreAsked, asked-from_blocks}
 use Rattle.coin_history.proofs.HistoryLinks.{tip_from, owner_from, tip-is, last_owner-is, with_tx}
 use Rattle.coin_history.proofs.HistoryGrow.{root_at-grown, committed-le}
 use Rattle.watch_duty.proofs.Members.{Has, all-has}
-use Rattle.world_laws.proofs.Lists.{some_same, none_some, find-has}
+use Rattle.world_laws.proofs.Lists.{find-has}
 use Rattle.world_laws.proofs.Clash.{IsOpened}
-use Rattle.world_laws.proofs.Walk.{Place, IsGap, IsStep, Absent, Moves, IsWalk}
+use Rattle.world_laws.proofs.Walk.{Place, IsGap, Absent, Moves, IsWalk}
 
 abbrev pub place_of : CoinView → Place
 place_of made = record { block = made.deposit; owner = made.owner }

@@ -1,18 +1,17 @@
 -- What stays of a node while others act, and that what a quiet node guards has nothing due.
-use Rattle.std.proofs.Common.{◌≡◌, ℕ, ◌≤◌, ◌==◌, ◌&&◌, ◌||◌, not, Bool, true, false, if◌then◌else◌, List, [], ◌∷◌, Option, Some, None, inl, inr, refl, sym, ap, ◌∙◌, subst, filter}
+use Rattle.std.proofs.Common.{◌≡◌, ℕ, ◌==◌, ◌&&◌, ◌||◌, not, Bool, true, false, if◌then◌else◌, List, [], ◌∷◌, Option, Some, None, refl, sym, ap, ◌∙◌, subst, filter}
 use Rattle.std.specs.List.{Contains, list_any}
-use Rattle.std.proofs.lemmas.Bool.{eq-eqb, eqb-true, and_parts, or_left, or_right, not-true, true≢false, false≢true}
+use Rattle.std.proofs.lemmas.Bool.{eq-eqb, eqb-true, and_parts, not-true, true≢false, false≢true}
 use Rattle.plasma_tx.specs.declared.owner.Owner.{Owner}
-use Rattle.plasma_tx.specs.declared.body.Body.{Body}
 use Rattle.plasma_tx.specs.declared.call.RootCall.{RootCall}
 use Rattle.plasma_tx.specs.Views.{coin_at}
 use Rattle.root_rules.specs.Shown.{Tests, Rules}
 use Rattle.coin_history.specs.declared.bundle.Bundle.{Bundle}
 use Rattle.node_rules.specs.Watcher.{due_for_kept}
 use Rattle.watch_duty.proofs.Members.{Has, has-contains, contains-has}
-use Rattle.world_rules.specs.Events.{Event, Declares, Joins, Accepts, Guards, Releases, Binds, TakesBack, Watches, Leaves, Seals, Other, Idle, log_of, coin_of_call, wallet_owner, accepted, bound_by, taken_back, not_taken, is_bundle, guarded_by, is_command_of, offered}
+use Rattle.world_rules.specs.Events.{Event, Declares, Joins, Accepts, Guards, Releases, Binds, TakesBack, Watches, log_of, coin_of_call, wallet_owner, accepted, bound_by, taken_back, not_taken, is_bundle, guarded_by, is_command_of, offered}
 use Rattle.world_rules.specs.Safety.{was_deposited, holds_with, holds, offers_none, is_watch, is_joined, is_quiet}
-use Rattle.world_laws.specs.Legal.{is_tip, IsAtTop, ShowsTip, Taken, Bare, IsGuarding, ShowsGuard, IsLegal}
+use Rattle.world_laws.specs.Legal.{is_tip, ShowsTip, Taken, Bare, IsGuarding, ShowsGuard, IsLegal}
 use Rattle.world_laws.proofs.Lists.{any-none}
 
 -- what the events say of node n is the same with the event

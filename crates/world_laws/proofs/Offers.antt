@@ -1,12 +1,11 @@
 -- A start that a wallet offers is the start of an exit at its tip.
-use Rattle.std.proofs.Common.{◌≡◌, ◌⊎◌, ℕ, zero, suc, ◌-◌, ◌≤◌, ◌==◌, ◌||◌, Bool, true, false, if◌then◌else◌, List, [], ◌∷◌, length, Option, Some, None, inl, inr, refl, sym, ap, ◌∙◌, subst}
+use Rattle.std.proofs.Common.{◌≡◌, ◌⊎◌, ℕ, zero, suc, ◌-◌, ◌≤◌, ◌||◌, true, false, if◌then◌else◌, List, [], ◌∷◌, length, Option, Some, None, inl, inr, refl, sym, ap, ◌∙◌, subst}
 use Rattle.std.specs.Prelude.{slice_get}
 use Rattle.std.specs.Option.{option_map, option_map_or}
 use Rattle.std.specs.List.{AllByRecursion, list_any, cons_option}
 use Rattle.std.proofs.lemmas.Bool.{eqb-true, or_left, or_right, true≢false, false≢true}
 use Rattle.plasma_tx.specs.declared.owner.Owner.{Owner}
 use Rattle.plasma_tx.specs.declared.opening.RawOpening.{RawOpening}
-use Rattle.plasma_tx.specs.declared.signed_tx.SignedTx.{SignedTx}
 use Rattle.plasma_tx.specs.declared.links.Link.{Link}
 use Rattle.plasma_tx.specs.declared.links.Links.{Links}
 use Rattle.plasma_tx.specs.declared.call.RootCall.{RootCall}
@@ -30,8 +29,8 @@ use Rattle.world_rules.specs.Events.{Event, Joins, Watches, Leaves, Seals, log_o
 use Rattle.world_rules.specs.Deeds.{exit_block}
 use Rattle.world_rules.specs.Safety.{was_deposited}
 use Rattle.world_laws.specs.Headline.{is_start}
-use Rattle.world_laws.specs.Legal.{starts_by, is_tip, ShowsTip, Taken, Bare, LegalLeave, LegalWatch, IsLegal}
-use Rattle.world_laws.proofs.Lists.{some_same, none_some}
+use Rattle.world_laws.specs.Legal.{starts_by, is_tip, ShowsTip, Taken, Bare, LegalLeave, IsLegal}
+use Rattle.world_laws.proofs.Lists.{some_same}
 use Rattle.world_laws.proofs.Bound.{owner-stays, Holding, holding, is_noted}
 use Rattle.world_laws.proofs.Held.{held_at, deposited-coin}
 use Rattle.world_laws.proofs.Nodes.{same-node, tip-same}

@@ -1,24 +1,21 @@
 -- The exits of a coin that a quiet node guards are still: nothing is due for them.
-use Rattle.std.proofs.Common.{◌≡◌, ◌⊎◌, ℕ, ◌+◌, ◌<◌, ◌≤◌, ◌==◌, ◌&&◌, ◌||◌, cond, not, Bool, true, false, if◌then◌else◌, List, [], ◌∷◌, ◌++◌, map, Option, Some, None, inl, inr, refl, sym, ap, ◌∙◌, subst, arith, find, filter}
+use Rattle.std.proofs.Common.{◌≡◌, ℕ, ◌+◌, ◌<◌, ◌≤◌, ◌==◌, ◌&&◌, ◌||◌, cond, not, Bool, true, false, if◌then◌else◌, List, [], ◌∷◌, map, Option, Some, None, inl, inr, refl, sym, ap, ◌∙◌, subst, arith, find, filter}
 use Rattle.std.specs.Prelude.{is_some, is_none, nat_lt, unwrap_or}
 use Rattle.std.specs.Option.{option_map, option_map_or, option_or}
-use Rattle.std.specs.List.{Contains, list_any, flat_map}
-use Rattle.std.proofs.lemmas.Bool.{eq-eqb, lt-ltb, le-ltb, lt-leb, and_parts, and_from, or_cases, not_from_false, true≢false, false≢true}
+use Rattle.std.specs.List.{list_any, flat_map}
+use Rattle.std.proofs.lemmas.Bool.{eq-eqb, lt-ltb, le-ltb, lt-leb, and_from, not_from_false, false≢true}
 use Rattle.plasma_tx.specs.declared.owner.Owner.{Owner}
-use Rattle.plasma_tx.specs.declared.opening.RawOpening.{RawOpening}
 use Rattle.plasma_tx.specs.declared.links.Link.{Link}
 use Rattle.plasma_tx.specs.declared.links.Links.{Links}
 use Rattle.plasma_tx.specs.declared.call.RootCall.{RootCall}
 use Rattle.plasma_tx.specs.declared.call.RootCall.TheVariants.{After, Between, Before, Respond}
 use Rattle.plasma_tx.specs.declared.views.ChallengeView.{ChallengeView}
 use Rattle.plasma_tx.specs.declared.views.CoinView.{CoinView}
-use Rattle.plasma_tx.specs.declared.views.ExitView.{ExitView}
 use Rattle.plasma_tx.specs.ChallengeLists.{is_challenged}
 use Rattle.plasma_tx.specs.Links.{tip_of}
-use Rattle.plasma_tx.specs.Views.{now, coin_at, Challenge, Exit, exits, challenge_at, challenge_view, exit_view, exits_of}
+use Rattle.plasma_tx.specs.Views.{now, Challenge, Exit, exits, challenge_at, challenge_view, exit_view, exits_of}
 use Rattle.root_rules.specs.declared.TheConstants.{CHALLENGE_WINDOW, RESPONSE_WINDOW}
 use Rattle.root_rules.specs.Shown.{Tests, Rules}
-use Rattle.root_rules.specs.Table.{is_over}
 use Rattle.watch_duty.specs.Duty.{link_after, tip_shown, within, answer, due_for, due_of}
 use Rattle.watch_duty.proofs.Members.{Has, has-left, has-right, any-map}
 use Rattle.world_rules.specs.Events.{Event, log_of}

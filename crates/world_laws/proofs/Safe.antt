@@ -1,7 +1,7 @@
 -- A held coin that is attended is safe, at every one of legal events.
-use Rattle.std.proofs.Common.{◌≡◌, ◌≢◌, ◌⊎◌, ℕ, ◌+◌, ◌==◌, ◌&&◌, ◌||◌, not, Bool, true, false, if◌then◌else◌, List, [], ◌∷◌, ◌++◌, map, Option, Some, None, inl, inr, refl, sym, ap, ◌∙◌, subst, arith, filter}
+use Rattle.std.proofs.Common.{◌≡◌, ◌≢◌, ◌⊎◌, ℕ, ◌+◌, ◌==◌, ◌&&◌, not, Bool, true, false, if◌then◌else◌, List, [], ◌∷◌, ◌++◌, Option, Some, None, inl, inr, refl, sym, ap, ◌∙◌, subst, arith, filter}
 use Rattle.std.specs.List.{list_any, flat_map}
-use Rattle.std.proofs.lemmas.Bool.{cases_Bool, cases_eq, ne_eqb, eq-eqb, eqb-true, and_parts, and_from, and_right, or_parts, or_cases, or_left, or_right, not-true, not_from_false, true≢false, false≢true, false_from_ne_true}
+use Rattle.std.proofs.lemmas.Bool.{cases_Bool, cases_eq, ne_eqb, eq-eqb, eqb-true, and_parts, and_from, and_right, or_parts, or_cases, or_left, or_right, not_from_false, true≢false, false≢true, false_from_ne_true}
 use Rattle.plasma_tx.specs.declared.owner.Owner.{Owner}
 use Rattle.plasma_tx.specs.declared.body.Body.{Body}
 use Rattle.plasma_tx.specs.declared.opening.RawOpening.{RawOpening}
@@ -12,26 +12,24 @@ use Rattle.plasma_tx.specs.declared.views.ExitView.{ExitView}
 use Rattle.plasma_tx.specs.Views.{now, coins, coin_at, new_coin, Exit, exits, exit_at, exit_view, exits_of, is_withdrawn, has_no_open_challenge}
 use Rattle.root_rules.specs.Shown.{Tests, Rules, tests_by}
 use Rattle.root_rules.proofs.Bounds.{coin_at-le}
-use Rattle.coin_history.specs.declared.bundle.Bundle.{Bundle}
-use Rattle.watch_duty.specs.Laws.{openings_of_call}
-use Rattle.watch_duty.proofs.Members.{Has, all-has}
+use Rattle.watch_duty.proofs.Members.{Has}
 use Rattle.wallet_core.specs.State.{is_owner}
 use Rattle.world_rules.specs.Laws.{IsDigest}
-use Rattle.world_rules.specs.Events.{Event, Declares, Joins, Bounces, Accepts, Binds, TakesBack, log_of, coin_of_call, wallet_owner, accepted, bound_by, taken_back, not_taken, leaf_at, signed_away_by, is_sent_from, is_bundle, offers_of}
+use Rattle.world_rules.specs.Events.{Event, Declares, Joins, Bounces, Accepts, Binds, TakesBack, log_of, coin_of_call, wallet_owner, accepted, bound_by, taken_back, not_taken, leaf_at, is_sent_from, is_bundle, offers_of}
 use Rattle.world_rules.specs.Deeds.{exit_block}
 use Rattle.world_rules.specs.Exhibits.{openings_of, seen, strings_in, strings_of, has_clash, collides, forges_one, is_forged}
 use Rattle.world_rules.specs.Safety.{was_deposited, holds, is_guarded, meets_deadline, is_attended, harms, is_harmed, is_safe}
 use Rattle.world_laws.specs.Legal.{deposits_by, starts_by, is_tip, LegalCall, IsLegal}
 use Rattle.world_laws.specs.LegalLaws.{LegalCoinsAreSafe}
 use Rattle.world_laws.proofs.Lists.{some_same, none_some, all-from, any-some, append-assoc}
-use Rattle.world_laws.proofs.Clash.{HasOneLeaf, one_leaf}
-use Rattle.world_laws.proofs.Shown.{IsShownExit, all_shown, seen-grow, seen-call}
+use Rattle.world_laws.proofs.Clash.{one_leaf}
+use Rattle.world_laws.proofs.Shown.{all_shown, seen-grow, seen-call}
 use Rattle.world_laws.proofs.Absences.{names, away-untake, away-unbind, parted, back-more}
 use Rattle.world_laws.proofs.Bound.{Holding, holding, is_noted, owner-is}
 use Rattle.world_laws.proofs.Held.{held_at, held_top}
 use Rattle.world_laws.proofs.Quiet.{has-mapped, has-kept}
 use Rattle.world_laws.proofs.Guards.{holds-from}
-use Rattle.world_laws.proofs.Offers.{IsOfferedStart, start-any, offered_start}
+use Rattle.world_laws.proofs.Offers.{start-any, offered_start}
 use Rattle.world_laws.proofs.Watched.{IfOf, AllWatched, AtEvent}
 use Rattle.world_laws.proofs.Steps.{keeps}
 use Rattle.world_laws.proofs.Harms.{call-harmless, refused-harmless}

@@ -1,9 +1,9 @@
 -- Each standing exit was started with openings that show it, and so was each challenge; whoever holds the coin.
-use Rattle.std.proofs.Common.{◌≡◌, ℕ, ◌+◌, ◌<◌, ◌==◌, ◌&&◌, Bool, true, false, if◌then◌else◌, List, [], ◌∷◌, ◌++◌, map, Option, Some, None, inl, inr, refl, sym, ap, ◌∙◌, subst, arith}
+use Rattle.std.proofs.Common.{◌≡◌, ℕ, ◌+◌, ◌<◌, ◌==◌, ◌&&◌, Bool, true, false, if◌then◌else◌, List, [], ◌∷◌, ◌++◌, Option, Some, None, inl, inr, refl, sym, ap, ◌∙◌, subst}
 use Rattle.std.specs.Prelude.{is_some, nat_lt}
 use Rattle.std.specs.Option.{option_map}
-use Rattle.std.specs.List.{AllByRecursion, flat_map}
-use Rattle.std.proofs.lemmas.Bool.{and_parts, eqb-true, ltb-true, eq-eqb}
+use Rattle.std.specs.List.{AllByRecursion}
+use Rattle.std.proofs.lemmas.Bool.{and_parts, eqb-true, ltb-true}
 use Rattle.plasma_tx.specs.declared.owner.Owner.{Owner}
 use Rattle.plasma_tx.specs.declared.opening.RawOpening.{RawOpening}
 use Rattle.plasma_tx.specs.declared.signed_tx.SignedTx.{SignedTx}
@@ -12,14 +12,13 @@ use Rattle.plasma_tx.specs.declared.call.Shown.TheVariants.{Deposit as AtDeposit
 use Rattle.plasma_tx.specs.declared.call.RootCall.{RootCall}
 use Rattle.plasma_tx.specs.declared.call.RootCall.TheVariants.{StartDeposit, StartSpend, Before, Respond}
 use Rattle.plasma_tx.specs.declared.views.CoinView.{CoinView}
-use Rattle.plasma_tx.specs.Views.{now, Challenge, Exit, coin_at, exits, exit_at, block_of, challenge_at, with_challenge, with_answer_at, new_challenge}
+use Rattle.plasma_tx.specs.Views.{now, Challenge, Exit, coin_at, exits, block_of, challenge_at, with_challenge, with_answer_at, new_challenge}
 use Rattle.root_rules.specs.declared.TheConstants.{CHALLENGE_WINDOW}
-use Rattle.root_rules.specs.Shown.{Tests, Rules, root_at, shown_tx, shown_owner}
-use Rattle.root_rules.specs.Table.{is_parent_of, IsLegal as IsLegalLog}
-use Rattle.root_rules.specs.Accepted.{ShowsTx, StartsSpend, Challenges}
+use Rattle.root_rules.specs.Shown.{Tests, Rules, root_at, shown_tx}
+use Rattle.root_rules.specs.Table.{IsLegal as IsLegalLog}
+use Rattle.root_rules.specs.Accepted.{ShowsTx, StartsSpend}
 use Rattle.root_rules.proofs.Accepted.{openings_show, accepted_calls_show}
-use Rattle.root_rules.proofs.Each.{all-append, all-map, all-weaker, each-exit}
-use Rattle.coin_history.specs.History.{transfer_of}
+use Rattle.root_rules.proofs.Each.{all-append, all-map, each-exit}
 use Rattle.watch_duty.specs.Laws.{IsLegalBy, shown_openings, openings_of_call}
 use Rattle.watch_duty.proofs.Members.{Has, has-left, has-right, has-cases, all-has}
 use Rattle.watch_duty.proofs.Shown.{seen as log_seen, IsSpent, IsShownAt as IsLogShownAt, Deposited as LogDeposited, Transferred as LogTransferred, IsShownChallenge as IsLogShownChallenge, IsBegun as IsLogBegun, OfDeposit as LogOfDeposit, OfSpend as LogOfSpend, IsShownExit as IsLogShownExit, exits-shown}

@@ -1,8 +1,8 @@
 -- An accepted call keeps what holds of each exit of a held coin.
-use Rattle.std.proofs.Common.{◌≡◌, ◌≢◌, ℕ, ◌+◌, ◌<◌, ◌≤◌, ◌==◌, ◌&&◌, ◌||◌, not, Bool, true, false, if◌then◌else◌, List, [], ◌∷◌, ◌++◌, Option, Some, None, inl, inr, refl, sym, ap, ◌∙◌, subst, arith}
+use Rattle.std.proofs.Common.{◌≡◌, ◌≢◌, ℕ, ◌+◌, ◌<◌, ◌≤◌, ◌==◌, ◌&&◌, not, Bool, true, false, if◌then◌else◌, List, [], ◌∷◌, ◌++◌, Some, inl, inr, refl, sym, ap, ◌∙◌, subst, arith}
 use Rattle.std.specs.Prelude.{is_some, is_none, nat_lt}
 use Rattle.std.specs.List.{AllByRecursion, list_any}
-use Rattle.std.proofs.lemmas.Bool.{eqb-true, cases_eq, cases_order, eq-eqb, lt-ltb, ltb-true, le-leb, and_parts, and_from, or_left, or_right, not_from_false, true≢false, false≢true, false_from_ne_true}
+use Rattle.std.proofs.lemmas.Bool.{eqb-true, cases_eq, cases_order, eq-eqb, lt-ltb, ltb-true, le-leb, and_parts, and_from, or_left, or_right, not_from_false, true≢false, false_from_ne_true}
 use Rattle.plasma_tx.specs.declared.owner.Owner.{Owner}
 use Rattle.plasma_tx.specs.declared.opening.RawOpening.{RawOpening}
 use Rattle.plasma_tx.specs.declared.call.Shown.{Shown}
@@ -11,7 +11,7 @@ use Rattle.plasma_tx.specs.declared.call.RootCall.{RootCall}
 use Rattle.plasma_tx.specs.declared.call.RootCall.TheVariants.{Fund, Tick, Deposit, Commit, StartDeposit, StartSpend, After, Between, Before, Respond, Finish}
 use Rattle.plasma_tx.specs.declared.views.CoinView.{CoinView}
 use Rattle.plasma_tx.specs.Laws.{is_challenged_at}
-use Rattle.plasma_tx.specs.Views.{now, coin_at, coins, blocks, new_coin, Challenge, Exit, is_exit, exits, exit_at, block_of, deposit_exit, spend_exit, without_exit, challenge_at, with_challenge, with_answer, new_challenge}
+use Rattle.plasma_tx.specs.Views.{now, coin_at, coins, new_coin, Challenge, Exit, is_exit, exits, exit_at, block_of, deposit_exit, spend_exit, without_exit, challenge_at, with_challenge, with_answer, new_challenge}
 use Rattle.plasma_tx.proofs.Answered.{new_challenges_are_open}
 use Rattle.root_rules.specs.declared.TheConstants.{CHALLENGE_WINDOW, RESPONSE_WINDOW}
 use Rattle.root_rules.specs.Shown.{Tests, Rules, root_at}

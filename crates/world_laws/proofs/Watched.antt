@@ -1,5 +1,5 @@
 -- What each event keeps of the exits of a held coin.
-use Rattle.std.proofs.Common.{◌≡◌, ◌≢◌, ℕ, ◌+◌, ◌<◌, ◌≤◌, ◌==◌, Bool, true, false, if◌then◌else◌, List, [], ◌∷◌, ◌++◌, map, Some, inl, inr, refl, sym, ap, ◌∙◌, subst, arith}
+use Rattle.std.proofs.Common.{◌≡◌, ◌≢◌, ℕ, ◌+◌, ◌<◌, ◌≤◌, ◌==◌, Bool, true, false, if◌then◌else◌, List, [], ◌∷◌, ◌++◌, map, Some, inl, inr, refl, sym, ◌∙◌, subst, arith}
 use Rattle.std.specs.Prelude.{is_some, is_none}
 use Rattle.std.specs.List.{AllByRecursion}
 use Rattle.std.proofs.lemmas.Bool.{cases_lt, true≢false}
@@ -13,7 +13,6 @@ use Rattle.root_rules.specs.Shown.{Tests, Rules}
 use Rattle.root_rules.specs.Accepted.{ShowsTx}
 use Rattle.root_rules.proofs.Each.{all-append}
 use Rattle.coin_history.specs.History.{transfer_of}
-use Rattle.watch_duty.specs.Laws.{openings_of_call}
 use Rattle.watch_duty.proofs.Members.{Has, all-has}
 use Rattle.world_rules.specs.Events.{Event, log_of, wallet_owner, bound_by, signed_away_by}
 use Rattle.world_rules.specs.Exhibits.{seen, forges_one}
