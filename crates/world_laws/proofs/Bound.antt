@@ -284,7 +284,7 @@ pub record IsKept (tests : Tests) (rules : Rules) (events : List Event) (b : Bun
   pub history : IsHistory tests rules (log_of events) b links
   pub is_seen : (o : RawOpening) → Has b.openings o → Has (seen events b.coin) o
 
-kept-grow : (tests : Tests) (rules : Rules) (event : Event) (events : List Event) (b : Bundle)
+pub kept-grow : (tests : Tests) (rules : Rules) (event : Event) (events : List Event) (b : Bundle)
     → IsKept tests rules events b → IsKept tests rules (event ∷ events) b
 kept-grow tests rules event events b k = record {
   links = k.links;

@@ -25,3 +25,4 @@ pub mod Harms
 pub mod Offers
 pub mod Safe
 pub mod OneHolder
+pub mod DueTaken
