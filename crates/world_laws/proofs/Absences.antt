@@ -75,8 +75,12 @@ parted-leaf taken (x ∷ xs) body (inl same) =
       | false ↦ λ off. inl (inl same)
       | true ↦ λ on.
           let r = any-some (λ (k : ℕ). k == length xs) taken on in
-          inr (r.0, r.1, subst (λ b. (if b then Some x else leaf_at r.0 xs) ≡ Some body) (sym r.2)
-          (ap (λ (y : Body). Some y) same))
+          inr (
+            r.0,
+            r.1,
+            subst (λ b. (if b then Some x else leaf_at r.0 xs) ≡ Some body) (sym r.2)
+                (ap (λ (y : Body). Some y) same),
+          )
     ]) refl
 parted-leaf taken (x ∷ xs) body (inr h) =
     elim (parted-leaf taken xs body h) [
