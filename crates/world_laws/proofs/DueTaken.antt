@@ -1,9 +1,8 @@
 -- A call that a watch offers is accepted at once, where there is money for a Before.
-use Rattle.std.proofs.Common.{◌≡◌, ℕ, zero, ◌+◌, ◌-◌, ◌==◌, ◌&&◌, ◌||◌, Bool, true, false, if◌then◌else◌, List, [], ◌∷◌, ◌++◌, Option, Some, None, inl, inr, refl, sym, ap, ◌∙◌, subst, arith, filter}
+use Rattle.std.proofs.Common.{◌≡◌, ℕ, ◌+◌, ◌-◌, ◌||◌, true, false, if◌then◌else◌, List, [], ◌∷◌, ◌++◌, Option, Some, None, inl, inr, refl, sym, ap, ◌∙◌, subst, arith, filter}
 use Rattle.std.specs.Prelude.{is_some}
 use Rattle.std.specs.Option.{option_map_or}
-use Rattle.std.specs.List.{All, Contains, flat_map, range_with_len}
-use Rattle.std.proofs.lemmas.Bool.{eqb-true, true≢false, false≢true}
+use Rattle.std.specs.List.{All, range_with_len}
 use Rattle.plasma_tx.specs.declared.opening.RawOpening.{RawOpening}
 use Rattle.plasma_tx.specs.declared.owner.Owner.{Owner}
 use Rattle.plasma_tx.specs.declared.links.Links.{Links}
@@ -12,31 +11,28 @@ use Rattle.plasma_tx.specs.declared.views.CoinView.{CoinView}
 use Rattle.plasma_tx.specs.declared.views.ExitView.{ExitView}
 use Rattle.plasma_tx.specs.Views.{coin_at, exits_of}
 use Rattle.root_rules.specs.Shown.{Tests, Rules, tests_by, root_at}
-use Rattle.root_rules.specs.Table.{answer_to, is_accepted}
 use Rattle.coin_history.specs.declared.bundle.Bundle.{Bundle}
 use Rattle.coin_history.specs.History.{is_absent, transfer_of, opens_block, is_committed, committed_blocks, blocks_of, links_in, links_of, AreLinked, IsHistory}
 use Rattle.coin_history.proofs.HistoryLinks.{tip-is, tip_from, none-linked}
 use Rattle.node_rules.specs.Kept.{kept_links}
 use Rattle.node_rules.specs.Watcher.{due_for_kept}
 use Rattle.watch_duty.specs.Duty.{due_for, due_of}
-use Rattle.watch_duty.specs.Laws.{openings_of_call, HaveOneLeaf, is_poor_before}
+use Rattle.watch_duty.specs.Laws.{HaveOneLeaf, is_poor_before}
 use Rattle.watch_duty.proofs.Members.{Has, has-cases, has-contains, contains-has, has-flat_map}
 use Rattle.watch_duty.proofs.Dues.{IsDue as IsDueFor, DueAfter, DueBetween, DueBefore, DueRespond, due_for-due}
 use Rattle.watch_duty.proofs.Shown.{seen as log_seen}
 use Rattle.watch_duty.proofs.Accepts.{due_calls_are_accepted}
-use Rattle.world_rules.specs.Laws.{IsDigest}
-use Rattle.world_rules.specs.Events.{Event, Joins, Watches, log_of, coin_of_call, wallet_owner, accepted, guarded_by, is_command_of, offered}
+use Rattle.world_rules.specs.Events.{Event, Watches, log_of, coin_of_call, wallet_owner, accepted, guarded_by, is_command_of, offered}
 use Rattle.world_rules.specs.Exhibits.{seen, collides}
-use Rattle.world_rules.specs.Safety.{was_deposited, is_watch, is_joined}
+use Rattle.world_rules.specs.Safety.{is_watch, is_joined}
 use Rattle.world_laws.specs.Headline.{fresh_offers, lacks_bond}
-use Rattle.world_laws.specs.Legal.{ShowsTip, Taken, Bare, ShowsGuard, IsLegal}
+use Rattle.world_laws.specs.Legal.{Taken, Bare, ShowsGuard, IsLegal}
 use Rattle.world_laws.specs.LegalLaws.{LegalDueCallsAreTaken}
-use Rattle.world_laws.proofs.Lists.{some_same, none_some}
 use Rattle.world_laws.proofs.Clash.{HasOneLeaf, one_leaf}
 use Rattle.world_laws.proofs.Shown.{legal-log, log-seen}
 use Rattle.world_laws.proofs.Bound.{is_noted, IsKept, is_kept, kept-grow}
 use Rattle.world_laws.proofs.Held.{deposited-coin}
-use Rattle.world_laws.proofs.Nodes.{SameNode, same-node}
+use Rattle.world_laws.proofs.Nodes.{same-node}
 use Rattle.world_laws.proofs.Guards.{kept-some, due_of-coin}
 
 -- nothing at a deposit is a history
