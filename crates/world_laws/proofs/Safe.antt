@@ -37,7 +37,7 @@ use Rattle.watch_duty.proofs.Members.{contains-has}
 
 -- ---- events that don't exhibit didn't before
 
-strings-append : (dig : List ℕ → List ℕ) (c : ℕ) (xs ys : List RawOpening)
+pub strings-append : (dig : List ℕ → List ℕ) (c : ℕ) (xs ys : List RawOpening)
     → strings_of dig c (xs ++ ys) ≡ strings_of dig c xs ++ strings_of dig c ys
 unfolding strings_of
 strings-append dig c [] ys = refl
