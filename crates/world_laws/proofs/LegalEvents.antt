@@ -209,9 +209,9 @@ module _ (dig : List ℕ → List ℕ) (events : List Event) (world : World) (be
       subst (λ (e : LineEffect). P e.event) (sym is) (λ left. tt)
   legal-does effect (AddsRogue name who is) = subst (λ (e : LineEffect). P e.event) (sym is) (λ left. tt)
   legal-does effect (Crashes n node node_is is) = subst (λ (e : LineEffect). P e.event) (sym is) (λ left. tt)
-  legal-does effect (Commands command n node deed done is) =
+  legal-does effect (Commands command n node deed fit done is) =
       subst (λ (e : LineEffect). P e.event) (sym is) (legal-deed command n node deed done)
-  legal-does effect (Cuts command calls outcome n node deed done is) =
+  legal-does effect (Cuts command calls outcome n node deed fit done is) =
       subst (λ (e : LineEffect). P e.event) (sym is)
       (legal-cut n node deed (cut world n node calls outcome command deed) (legal-deed command n node deed done)
       (is_cut world n node calls outcome command deed))

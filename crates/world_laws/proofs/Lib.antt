@@ -22,3 +22,4 @@ pub mod Watched
 pub mod Steps
 pub mod Harms
 pub mod Offers
+pub mod GuardsShown
