@@ -23,3 +23,4 @@ pub mod Steps
 pub mod Harms
 pub mod Offers
 pub mod GuardsShown
+pub mod Guarding
