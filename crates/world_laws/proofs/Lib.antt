@@ -24,3 +24,4 @@ pub mod Harms
 pub mod Offers
 pub mod GuardsShown
 pub mod Guarding
+pub mod LegalWatches
