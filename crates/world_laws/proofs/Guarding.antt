@@ -1,48 +1,36 @@
 -- In every run what watchers keep is shown by what they guard, so what a watcher's watch offers is what is due for it.
-use Rattle.std.proofs.Common.{◌≡◌, ◌≢◌, ◌⊎◌, ℕ, zero, suc, ◌==◌, Bool, true, false, if◌then◌else◌, List, [], ◌∷◌, ◌++◌, length, set, slice_get, Option, Some, None, inl, inr, refl, sym, ap, ◌∙◌, subst}
-use Rattle.std.specs.Option.{option_map}
-use Rattle.std.specs.List.{Contains, list_any, flat_map}
-use Rattle.std.proofs.lemmas.Bool.{cases_eq, ne_eqb, and_parts, eqb-true, false≢true}
-use Rattle.plasma_tx.specs.declared.owner.Owner.{Owner}
-use Rattle.plasma_tx.specs.declared.links.Link.{Link}
-use Rattle.plasma_tx.specs.declared.links.Links.{Links}
+use Rattle.std.proofs.Common.{◌≡◌, ℕ, zero, suc, ◌==◌, true, false, if◌then◌else◌, List, [], ◌∷◌, ◌++◌, length, set, slice_get, Some, inl, inr, refl, sym, ap, ◌∙◌, subst}
+use Rattle.std.proofs.lemmas.Bool.{cases_eq, ne_eqb, false≢true}
 use Rattle.plasma_tx.specs.declared.call.RootCall.{RootCall}
 use Rattle.plasma_tx.specs.declared.answer.Answer.{Answer}
-use Rattle.plasma_tx.specs.Views.{coin_at}
-use Rattle.root_rules.specs.Shown.{Rules, tests_by, rules_of}
+use Rattle.root_rules.specs.Shown.{tests_by, rules_of}
 use Rattle.root_rules.specs.Table.{answer_to, is_accepted}
 use Rattle.coin_history.specs.declared.bundle.Bundle.{Bundle}
-use Rattle.coin_history.specs.History.{links_in}
 use Rattle.schedule_text.specs.declared.line.Line.{Line}
 use Rattle.schedule_text.specs.declared.command.Command.{Command}
 use Rattle.schedule_text.specs.Grammar.{IsLine}
-use Rattle.node_rules.specs.Kept.{chain_of, kept_links}
-use Rattle.node_rules.specs.Watcher.{WatcherIdentity, identity_text as watcher_text, who_is, notes_of, is_of, guards_of, guards_in, due_for_kept, watch_answer}
-use Rattle.node_rules.specs.WalletRecords.{identity_text as wallet_text}
-use Rattle.watch_duty.proofs.Members.{Has, has-contains, contains-has, has-flat_map}
-use Rattle.world_rules.specs.Events.{Event, Declares, Joins, Bounces, Watches, Other, Idle, log_of, wallet_owner, is_bundle, guarded_by}
-use Rattle.world_rules.specs.World.{Role, Wallet, Watcher, Operator, Node, World, with_node, is_watcher_role}
-use Rattle.world_rules.specs.Deeds.{Deed, Gives, with_record}
-use Rattle.world_rules.specs.Steps.{LineEffect, new_chain, operator_node, new_node, called, with_records, after_command, after_crash, commanded, crashed, cut, without_offers, step, TraceEntry, entry_of, Run, events_of}
-use Rattle.world_rules.specs.Laws.{IsDigest}
+use Rattle.node_rules.specs.Watcher.{WatcherIdentity, identity_text as watcher_text, who_is, notes_of, guards_of, guards_in}
+use Rattle.watch_duty.proofs.Members.{Has}
+use Rattle.world_rules.specs.Events.{Event, Joins, Bounces, Other, Idle}
+use Rattle.world_rules.specs.World.{Role, Wallet, Watcher, Operator, Node, World, is_watcher_role}
+use Rattle.world_rules.specs.Deeds.{Deed, with_record}
+use Rattle.world_rules.specs.Steps.{LineEffect, new_chain, operator_node, called, with_records, after_command, after_crash, cut, without_offers, step, TraceEntry, entry_of, Run, events_of}
 use Rattle.world_rules.proofs.Shapes.{IsDone, IsCut, Kept, Lost, is_cut}
 use Rattle.world_rules.proofs.OwnEvents.{of_node}
 use Rattle.world_rules.proofs.StepLaws.{stepped}
 use Rattle.world_rules.proofs.Runs.{begun, set-same, set-other, push-same, push-other}
 use Rattle.world_rules.proofs.Said.{Said, said, told, is_said_of, said-other}
-use Rattle.world_rules.proofs.KeptWatcher.{KeptWatcher}
 use Rattle.world_rules.proofs.KeptNode.{IsFit}
-use Rattle.world_rules.proofs.KeptWorld.{KeptWorld, IsOf}
+use Rattle.world_rules.proofs.KeptWorld.{KeptWorld}
 use Rattle.world_rules.proofs.NodeEvents.{IsTold, command-told, cut-of, other-of}
 use Rattle.world_rules.proofs.KeptRun.{run-kept}
 use Rattle.world_laws.specs.Headline.{IsRun}
-use Rattle.world_laws.specs.Legal.{IsGuarding, ShowsGuard, HasDue, IsDue, LegalWatch}
-use Rattle.world_laws.proofs.Lists.{some_same, none_some, any-some}
+use Rattle.world_laws.proofs.Lists.{some_same, none_some}
 use Rattle.world_laws.proofs.Origins.{Does, Rests, Enters, AddsWallet, AddsWatcher, AddsRogue, Crashes, Commands, Cuts, does}
 use Rattle.world_laws.proofs.Identities.{IsOfRole, IsWatcher, watcher-who}
 use Rattle.world_laws.proofs.Keeps.{Keeps}
 use Rattle.world_laws.proofs.Acts.{over_lines, runs-keep}
-use Rattle.world_laws.proofs.GuardsShown.{IsShown, AreShown, deed-shown}
+use Rattle.world_laws.proofs.GuardsShown.{AreShown, deed-shown}
 
 -- what each watcher keeps is shown by what it guards
 abbrev pub GuardsAreShown : (List ℕ → List ℕ) → List Event → List ℕ → List Node → Type 0

@@ -1,42 +1,37 @@
 -- What a watcher's records keep is shown by a bundle that events say it guards: one of the same coin and tip, with the
 -- same links.
-use Rattle.std.proofs.Common.{◌≡◌, ◌≢◌, ◌⊎◌, ℕ, ◌==◌, ◌&&◌, not, Bool, true, false, if◌then◌else◌, cond, ◌^◌, ◌<◌, List, [], ◌∷◌, ◌++◌, filter, length, set, slice_get, Option, Some, None, Ok, Err, inl, inr, refl, sym, ap, ◌∙◌, subst, lit<}
+use Rattle.std.proofs.Common.{◌≡◌, ◌⊎◌, ℕ, ◌==◌, ◌&&◌, not, Bool, true, false, if◌then◌else◌, cond, ◌^◌, ◌<◌, List, [], ◌∷◌, ◌++◌, filter, Option, Some, None, Ok, Err, inl, inr, refl, sym, ap, ◌∙◌, subst, lit<}
 use Rattle.std.specs.Prelude.{Result, IfSome}
 use Rattle.std.specs.List.{list_any}
-use Rattle.std.proofs.lemmas.Bool.{cases_eq, ne_eqb, false≢true}
+use Rattle.std.proofs.lemmas.Bool.{false≢true}
 use Rattle.node_journal.specs.Effect.{Effect, first_cause, unless, only}
-use Rattle.plasma_tx.specs.declared.links.Link.{Link}
 use Rattle.plasma_tx.specs.declared.links.Links.{Links}
 use Rattle.plasma_tx.specs.declared.call.RootCall.{RootCall}
 use Rattle.plasma_tx.specs.Links.{tip_of}
-use Rattle.plasma_tx.specs.Spelling.{AreBytes}
-use Rattle.root_rules.specs.Shown.{tests_by}
-use Rattle.root_rules.specs.Table.{is_accepted}
 use Rattle.coin_history.specs.declared.bundle.Bundle.{Bundle}
 use Rattle.coin_history.specs.declared.refusal.HistoryRefusal.{HistoryRefusal}
-use Rattle.coin_history.specs.History.{IsHistory, links_in}
-use Rattle.schedule_text.specs.declared.line.Line.{Line}
+use Rattle.coin_history.specs.History.{links_in}
 use Rattle.schedule_text.specs.declared.command.Command.{Command}
 use Rattle.schedule_text.specs.declared.command.WatcherCommand.{WatcherCommand}
 use Rattle.node_rules.specs.declared.answers.Accepted.{Accepted}
 use Rattle.node_rules.specs.declared.refusal.WatcherRefusal.{WatcherRefusal}
-use Rattle.node_rules.specs.declared.refusal.WatcherRefusal.TheVariants.{History, NoGuard}
+use Rattle.node_rules.specs.declared.refusal.WatcherRefusal.TheVariants.{NoGuard}
 use Rattle.node_rules.specs.Kept.{chain_of, kept_of, links_handed}
 use Rattle.node_rules.specs.Laws.{IsReadBack}
-use Rattle.node_rules.specs.Watcher.{Guarded, Released, note_text, who_is, is_of, is_before, with_guard, guards_of, guards_in, notes_of, guard_causes, guard_by, guard_effect, release_effect}
+use Rattle.node_rules.specs.Watcher.{Guarded, Released, note_text, who_is, is_of, is_before, with_guard, guards_of, guards_in, guard_causes, guard_by, guard_effect, release_effect}
 use Rattle.node_rules.specs.WatcherLaws.{AddsNote, AddsGuard}
 use Rattle.node_rules.proofs.WatcherRole.{commands_add_their_notes}
 use Rattle.watch_duty.proofs.Members.{Has, has-cases, has-filter}
 use Rattle.world_rules.specs.Causes.{watcher_cause}
-use Rattle.world_rules.specs.Events.{Event, Declares, Joins, Bounces, Guards, Releases, Watches, Other, Idle, is_bundle}
-use Rattle.world_rules.specs.World.{Role, Wallet, Watcher, Operator, Node, World, with_node, is_wallet_role, is_watcher_role, is_operator_role, bytes_of}
+use Rattle.world_rules.specs.Events.{Event, Guards, Releases, is_bundle}
+use Rattle.world_rules.specs.World.{Role, Wallet, Watcher, Operator, Node, World, is_wallet_role, is_watcher_role, is_operator_role, bytes_of}
 use Rattle.world_rules.specs.Deeds.{answered, on_guarded, on_released, bundle_read, with_record, on_open, watcher_command, deed_of, Deed}
 use Rattle.world_rules.proofs.ByteTexts.{Small, small-nil}
-use Rattle.world_rules.proofs.Said.{Said, said, told, is_said_of, said-other}
+use Rattle.world_rules.proofs.Said.{Said, told}
 use Rattle.world_rules.proofs.KeptWatcher.{KeptWatcher}
 use Rattle.world_rules.proofs.KeptNode.{IsFit, IsFitWatcher, token-small}
 use Rattle.world_rules.proofs.OperatorItems.{AreSmallRecords}
-use Rattle.world_laws.proofs.Lists.{some_same, none_some}
+use Rattle.world_laws.proofs.Lists.{some_same}
 use Rattle.world_rules.proofs.Shapes.{IsDone}
 use Rattle.world_laws.proofs.DeedOffers.{done-role}
 use Rattle.world_laws.proofs.Handed.{handed-history}

@@ -18,13 +18,13 @@ use Rattle.schedule_text.specs.Grammar.{IsLine}
 use Rattle.node_rules.specs.declared.answers.Accepted.{Accepted}
 use Rattle.node_rules.specs.Kept.{links_handed}
 use Rattle.node_rules.specs.Wallet.{WalletRecords, accept_effect, send_effect, again_answer, leave_effect, reclaim_effect, migrate_effect}
-use Rattle.node_rules.specs.Watcher.{WatcherIdentity, who_is, guards_in, guard_by, guard_effect, release_effect}
+use Rattle.node_rules.specs.Watcher.{who_is, guards_in, guard_by, guard_effect, release_effect}
 use Rattle.operator_rules.specs.Commands.{offer_effect, lay_effect, seal_effect, prove_answer, bundle_answer, absences_answer}
-use Rattle.world_rules.specs.Causes.{wallet_cause, watcher_cause, offer_cause, lay_cause, seal_cause, prove_cause}
+use Rattle.world_rules.specs.Causes.{wallet_cause, watcher_cause, offer_cause, lay_cause, prove_cause}
 use Rattle.world_rules.specs.Events.{Event, Accepts, Binds, TakesBack, Watches, Leaves, Seals, wallet_owner}
 use Rattle.node_rules.specs.WalletRecords.{owner_of}
 use Rattle.world_rules.specs.World.{Role, Wallet, Watcher, Operator, Node, World, is_watcher_role, wallet_of, bytes_of, new_owner_of, is_wallet_role, does_watch}
-use Rattle.world_rules.specs.Deeds.{Gives, Deed, answered, bundle_read, on_accepted, on_sent, on_sent_again, on_leaving, on_reclaimed, on_migrated, send_deed, wallet_command, on_guarded, on_released, watcher_command, on_pooled, on_laid, on_sealed, on_bundled, on_proved, operator_command, on_open, deed_of, due_at_node}
+use Rattle.world_rules.specs.Deeds.{Gives, Deed, answered, bundle_read, on_accepted, on_sent, on_sent_again, on_leaving, on_reclaimed, on_migrated, send_deed, wallet_command, on_guarded, on_released, watcher_command, on_pooled, on_laid, on_bundled, on_proved, operator_command, on_open, deed_of, due_at_node}
 use Rattle.world_rules.specs.Steps.{LineEffect, cut, without_offers, step, entry_of, Run, events_of}
 use Rattle.world_rules.proofs.Shapes.{IsDone, IsCut, Kept, Lost, is_cut}
 use Rattle.world_rules.proofs.StepLaws.{stepped, steps_keep_the_log}
@@ -33,7 +33,7 @@ use Rattle.world_laws.specs.Headline.{IsRun}
 use Rattle.world_laws.specs.Legal.{LegalAccept, LegalGuard, LegalBinding, LegalReclaim, LegalWatch, LegalLeave, IsLegalEvent, IsLegal}
 use Rattle.world_laws.proofs.Lists.{some_same}
 use Rattle.world_laws.proofs.Origins.{Does, Rests, Enters, AddsWallet, AddsWatcher, AddsRogue, Crashes, Commands, Cuts, does}
-use Rattle.world_laws.proofs.Identities.{IsOfRole, IsWatcher, watcher-who}
+use Rattle.world_laws.proofs.Identities.{IsWatcher}
 use Rattle.world_rules.proofs.KeptWorld.{KeptWorld}
 use Rattle.world_laws.proofs.Keeps.{is-wallet}
 use Rattle.world_laws.proofs.Guarding.{GuardsAreShown, is-watcher, watcher-tag, kept-world, runs-shown}

@@ -1,5 +1,5 @@
 -- What a watcher's watch offers is legal: it is what is due for the coins that it guards.
-use Rattle.std.proofs.Common.{◌≡◌, ℕ, ◌==◌, Bool, true, false, List, [], ◌∷◌, slice_get, Option, Some, None, inl, inr, refl, sym, ap, ◌∙◌, subst}
+use Rattle.std.proofs.Common.{◌≡◌, ℕ, ◌==◌, true, List, [], ◌∷◌, slice_get, Option, Some, None, inl, inr, refl, sym, ap, ◌∙◌, subst}
 use Rattle.std.specs.Option.{option_map, option_map_or}
 use Rattle.std.specs.List.{Contains, list_any, flat_map}
 use Rattle.std.proofs.lemmas.Bool.{and_parts, eqb-true}
@@ -16,11 +16,9 @@ use Rattle.watch_duty.proofs.Members.{Has, has-contains, contains-has, has-flat_
 use Rattle.world_rules.specs.Events.{Event, log_of, wallet_owner, is_bundle, guarded_by}
 use Rattle.world_rules.specs.World.{Node, World, is_watcher_role}
 use Rattle.world_rules.proofs.Said.{said}
-use Rattle.world_rules.proofs.KeptWatcher.{KeptWatcher}
 use Rattle.world_rules.proofs.KeptWorld.{KeptWorld}
-use Rattle.world_laws.specs.Legal.{IsGuarding, ShowsGuard, HasDue, IsDue, LegalWatch}
+use Rattle.world_laws.specs.Legal.{IsGuarding, ShowsGuard, LegalWatch}
 use Rattle.world_laws.proofs.Lists.{any-some}
-use Rattle.world_laws.proofs.Identities.{IsWatcher}
 use Rattle.world_laws.proofs.Keeps.{Keeps}
 use Rattle.world_laws.proofs.GuardsShown.{IsShown, AreShown}
 use Rattle.world_laws.proofs.Guarding.{GuardsAreShown, is-watcher, watcher-tag}
