@@ -154,8 +154,8 @@ module _ (dig : List ℕ → List ℕ) (events : List Event) (world : World) (ke
       subst (λ (w : World). GuardsAreShown dig (effect.event ∷ events) w.chain.tag w.nodes) (sym world_is)
       (subst (λ (e : Event). GuardsAreShown dig (e ∷ events) world.chain.tag
       (set world.nodes n (after_crash (with_records node deed)))) (sym event_is)
-      (shown-deed command n node (after_crash (with_records node deed)) deed (without_offers n deed.gives.event) fit done
-      refl refl (cut-of n events command deed.gives (of_node dig world n node command deed done.deed_is))))
+      (shown-deed command n node (after_crash (with_records node deed)) deed (without_offers n deed.gives.event) fit
+      done refl refl (cut-of n events command deed.gives (of_node dig world n node command deed done.deed_is))))
   shown-cut command n node deed effect fit done (Lost event_is world_is) =
       subst (λ (w : World). GuardsAreShown dig (effect.event ∷ events) w.chain.tag w.nodes) (sym world_is)
       (subst (λ (e : Event). GuardsAreShown dig (e ∷ events) world.chain.tag

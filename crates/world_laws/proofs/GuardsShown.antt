@@ -254,6 +254,7 @@ module _ (dig : List ℕ → List ℕ) (world : World) (n : ℕ) (node : Node) (
   deed-shown (Command.Open name) deed fit done =
       subst ShownAfter (some_same _ deed done.deed_is) (opened node.is_up)
     where
-      opened : (b : Bool) → AreShown world.chain.tag (told (on_open n node b).event s).guarded (guards_in dig node.notes)
+      opened : (b : Bool)
+          → AreShown world.chain.tag (told (on_open n node b).event s).guarded (guards_in dig node.notes)
       opened true = shown
       opened false = shown

@@ -70,7 +70,8 @@ module _ (dig : List ℕ → List ℕ) (events : List Event) (world : World) (be
       → (guard_effect dig node.notes world.chain.log bytes).answer ≡ Ok taken
       → LegalGuard (tests_by dig) (rules_of world.chain) events n (bundle_read bytes)
   unfolding guard_effect
-  legal-guarded n node bytes taken node_is role is = by (links_handed dig (who_is node.notes).tag world.chain.log bytes) refl is
+  legal-guarded n node bytes taken node_is role is =
+      by (links_handed dig (who_is node.notes).tag world.chain.log bytes) refl is
     where
       watcher : IsWatcher events world.chain.tag n node
       watcher = is-watcher events world behind.keeps n node node_is role

@@ -72,7 +72,8 @@ module _ (tag : List ℕ) (log : List RootCall) (account : ℕ) (bundles guards 
       has-contains calls call
       (has-in-flat_map (due_for_kept tag log account) guards kept call has
       (contains-has (due_for_kept tag log account kept) call
-      (subst (λ (some : List RootCall). Contains some call) (due-same tag log account bundles kept (shown kept has)) due)))
+      (subst (λ (some : List RootCall). Contains some call)
+      (due-same tag log account bundles kept (shown kept has)) due)))
 
   record OfShown (call : RootCall) : Type 0 where
     bundle : Bundle

@@ -1,4 +1,5 @@
--- What each line does in a world: where a call that it enters comes from, and which rules a name keeps that it declares.
+-- What each line does in a world: where a call that it enters comes from, and which rules a name that it declares
+-- keeps.
 use Rattle.std.proofs.Common.{◌≡◌, ℕ, zero, suc, ◌-◌, ◌==◌, not, Bool, true, false, if◌then◌else◌, List, [], ◌∷◌, Option, Some, None, is_some, inl, inr, refl, sym, ap, ◌∙◌, find}
 use Rattle.std.specs.Prelude.{slice_get, option_map, option_and_then}
 use Rattle.std.specs.Option.{option_or}
