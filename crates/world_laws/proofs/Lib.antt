@@ -27,3 +27,6 @@ pub mod Safe
 pub mod OneHolder
 pub mod DueTaken
 pub mod Exhibited
+pub mod GuardsShown
+pub mod Guarding
+pub mod LegalWatches
