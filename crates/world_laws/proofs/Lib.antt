@@ -1,4 +1,3 @@
-pub mod Words
 pub mod Lists
 pub mod Clash
 pub mod Walk
@@ -30,3 +29,5 @@ pub mod Exhibited
 pub mod GuardsShown
 pub mod Guarding
 pub mod LegalWatches
+pub mod Words
+pub mod Promises

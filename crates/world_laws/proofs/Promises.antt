@@ -1,0 +1,76 @@
+-- The promises of every schedule, from those of legal events: the events of a run are legal, and so are those up to
+-- each line.
+use Rattle.std.proofs.Common.{◌≡◌, ◌⊎◌, ◌≤◌, ◌<◌, ℕ, ◌+◌, ◌==◌, ◌&&◌, ◌||◌, not, Bool, true, false, if◌then◌else◌, List, [], ◌∷◌, ◌++◌, Option, Some, None, is_some, Contains, inl, inr, refl, sym, ap, ◌∙◌, subst, arith}
+use Rattle.std.specs.List.{list_any}
+use Rattle.std.proofs.lemmas.Bool.{or_parts, ne_eqb, eq-eqb}
+use Rattle.plasma_tx.specs.declared.call.RootCall.{RootCall}
+use Rattle.plasma_tx.specs.Views.{coins}
+use Rattle.root_rules.specs.Shown.{Tests, Rules, tests_by, rules_of}
+use Rattle.schedule_text.specs.declared.line.Line.{Line}
+use Rattle.world_rules.specs.Events.{Event, Joins, Watches, log_of, wallet_owner, is_command_of, offered}
+use Rattle.world_rules.specs.World.{World}
+use Rattle.world_rules.specs.Steps.{Run, events_of}
+use Rattle.world_rules.specs.Safety.{is_watch, is_joined}
+use Rattle.world_laws.specs.Headline.{IsRun, HeldCoinsAreSafe, was_declared_before, AreDeclaredBefore, OneWalletHolds, fresh_offers, IsFreshWatch, DueCallsAreTaken}
+use Rattle.world_laws.specs.Legal.{IsLegal}
+use Rattle.world_laws.proofs.Safe.{legal_coins_are_safe}
+use Rattle.world_laws.proofs.OneHolder.{one_wallet_holds}
+use Rattle.world_laws.proofs.DueTaken.{due_calls_are_taken}
+
+-- the earlier of legal events are legal
+suffix-legal : (tests : Tests) (rules : Rules) (later events : List Event) → IsLegal tests rules (later ++ events)
+    → IsLegal tests rules events
+unfolding IsLegal
+suffix-legal tests rules [] events legal = legal
+suffix-legal tests rules (event ∷ later) events legal = suffix-legal tests rules later events legal.1
+
+-- a log has as many coins as deposits, so an earlier deposit isn't of a later number
+coins-later : (later : List Event) (account amount : ℕ) (key : List ℕ) (earlier : List Event)
+    → coins (log_of earlier) + 1 ≤ coins (log_of (later ++ Joins (RootCall.Deposit account amount key) ∷ earlier))
+unfolding log_of coins
+coins-later later account amount key earlier = ?
+
+-- the wallets were declared before the deposit
+declared-before : (later : List Event) (account amount : ℕ) (key : List ℕ) (earlier : List Event) (w c : ℕ)
+    → c ≡ coins (log_of earlier) + 1 → is_some (wallet_owner earlier w) ≡ true
+    → was_declared_before (later ++ Joins (RootCall.Deposit account amount key) ∷ earlier) w c ≡ true
+unfolding was_declared_before
+declared-before later account amount key earlier w c coin some = ?
+
+-- the calls of a fresh watch
+fresh-watch : (later : List Event) (n : ℕ) (calls : List RootCall) (earlier : List Event)
+    → list_any (λ event. is_command_of n event || is_joined event) later ≡ false
+    → fresh_offers (later ++ Watches n calls ∷ earlier) n ≡ calls
+unfolding fresh_offers
+fresh-watch [] n calls earlier since = ap (λ b. if b then calls else _) (eq-eqb n n refl)
+fresh-watch (event ∷ later) n calls earlier since =
+    let parts = or_parts (is_command_of n event || is_joined event)
+        (list_any (λ event. is_command_of n event || is_joined event) later) since in
+    let both = or_parts (is_command_of n event) (is_joined event) parts.0 in
+    ap (λ b. if b then (if is_watch event then offered event else [])
+    else if is_joined event then [] else fresh_offers (later ++ Watches n calls ∷ earlier) n) both.0
+    ∙ ap (λ b. if b then [] else fresh_offers (later ++ Watches n calls ∷ earlier) n) both.1
+    ∙ fresh-watch later n calls earlier parts.1
+
+module _ (legal : (dig : List ℕ → List ℕ) (lines : List Line) (run : Run) (world : World)
+    → IsRun dig lines run world → IsLegal (tests_by dig) (rules_of world.chain) (events_of run.entries)) where
+  pub held_coins_are_safe : HeldCoinsAreSafe
+  held_coins_are_safe dig lines run world later events event w c e is split attended whole honest =
+      legal_coins_are_safe dig (rules_of world.chain) event events w c e is.digest
+      (suffix-legal (tests_by dig) (rules_of world.chain) later (event ∷ events)
+      (subst (IsLegal (tests_by dig) (rules_of world.chain)) split (legal dig lines run world is)))
+      attended whole honest
+
+  pub one_holds : OneWalletHolds
+  one_holds dig lines run world v w c d e is apart before whole honest other held also =
+      one_wallet_holds dig (rules_of world.chain) (events_of run.entries) v w c d e is.digest
+      (legal dig lines run world is) apart (declared v before.one) (declared w before.other) whole honest other held
+      also
+    where
+      declared : (u : ℕ) → is_some (wallet_owner before.earlier u) ≡ true
+          → was_declared_before (events_of run.entries) u c ≡ true
+      declared u some = ap (λ events. was_declared_before events u c) before.events_are
+          ∙ declared-before before.later before.account before.amount before.key before.earlier u c before.coin some
+
+  pub due_are_taken : DueCallsAreTaken
+  due_are_taken dig lines run world n calls call is fresh has whole rich = ?
