@@ -73,7 +73,7 @@ IsSince [] w c o = ⊥
 IsSince (event ∷ events) w c o =
     ((is_some (wallet_owner events w) ≡ true) × Has (openings_of c event) o) ⊎ IsSince events w c o
 
-owner-some : (events : List Event) (w : ℕ) → is_some (wallet_owner events w) ≡ true
+pub owner-some : (events : List Event) (w : ℕ) → is_some (wallet_owner events w) ≡ true
     → (me : Owner) × (wallet_owner events w ≡ Some me)
 owner-some events w is = by_owner (wallet_owner events w) refl is
   where
@@ -285,7 +285,7 @@ pub record IsKept (tests : Tests) (rules : Rules) (events : List Event) (b : Bun
   pub history : IsHistory tests rules (log_of events) b links
   pub is_seen : (o : RawOpening) → Has b.openings o → Has (seen events b.coin) o
 
-kept-grow : (tests : Tests) (rules : Rules) (event : Event) (events : List Event) (b : Bundle)
+pub kept-grow : (tests : Tests) (rules : Rules) (event : Event) (events : List Event) (b : Bundle)
     → IsKept tests rules events b → IsKept tests rules (event ∷ events) b
 kept-grow tests rules event events b k = record {
   links = k.links;

@@ -25,3 +25,7 @@ pub mod Offers
 pub mod GuardsShown
 pub mod Guarding
 pub mod LegalWatches
+pub mod Safe
+pub mod OneHolder
+pub mod DueTaken
+pub mod Exhibited

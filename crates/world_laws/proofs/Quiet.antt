@@ -28,12 +28,12 @@ use Rattle.world_laws.proofs.Held.{IsGoodGuard}
 
 -- ---- members
 
-has-mapped : {X Y : Type 0} (f : X → Y) (xs : List X) (x : X) → Has xs x → Has (map f xs) (f x)
+pub has-mapped : {X Y : Type 0} (f : X → Y) (xs : List X) (x : X) → Has xs x → Has (map f xs) (f x)
 has-mapped f [] x h = absurd h
 has-mapped f (y ∷ ys) x (inl is) = inl (ap f is)
 has-mapped f (y ∷ ys) x (inr h) = inr (has-mapped f ys x h)
 
-has-kept : {X : Type 0} (p : X → Bool) (xs : List X) (x : X) → Has xs x → p x ≡ true → Has (filter p xs) x
+pub has-kept : {X : Type 0} (p : X → Bool) (xs : List X) (x : X) → Has xs x → p x ≡ true → Has (filter p xs) x
 has-kept p [] x h is = absurd h
 has-kept p (y ∷ ys) x (inl same) is =
     subst (λ b. Has (cond b (y ∷ filter p ys) (filter p ys)) x) (sym (ap p same ∙ is)) (inl same)

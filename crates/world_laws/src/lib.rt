@@ -1,2 +1,6 @@
 //! What is promised of every schedule, as laws over the world's definitions.
 #![tactic(auto)]
+
+mod laws;
+
+pub use laws::{due_calls_are_taken, held_coins_are_safe, one_wallet_holds};

@@ -1,0 +1,43 @@
+-- What is promised of every list of legal events.
+use Rattle.std.specs.Prelude.{◌≡◌, ◌≢◌, ℕ, true, false, List, ◌∷◌}
+use Rattle.std.specs.List.{Contains}
+use Rattle.plasma_tx.specs.declared.call.RootCall.{RootCall}
+use Rattle.root_rules.specs.Shown.{Rules, tests_by}
+use Rattle.root_rules.specs.Table.{answer_to, is_accepted}
+use Rattle.world_rules.specs.Events.{Event, log_of, coin_of_call}
+use Rattle.world_rules.specs.Exhibits.{collides, is_forged}
+use Rattle.world_rules.specs.Safety.{holds, is_attended, is_safe}
+use Rattle.world_rules.specs.Laws.{IsDigest}
+use Rattle.world_laws.specs.Headline.{was_declared_before, fresh_offers, lacks_bond}
+use Rattle.world_laws.specs.Legal.{IsLegal}
+
+-- The coin that a wallet holds is safe at each event. Unless the events up to it show, at this coin, two byte strings
+-- with one digest, or a signature that is valid under the wallet's key and that the wallet never made, no exit of
+-- another account was paid while the wallet held the coin at e, and its own exit at e wasn't cancelled or dropped, and
+-- paid where it was finished at its end; where each tick before the event that met a deadline of the coin was attended.
+abbrev pub LegalCoinsAreSafe : Type 0
+LegalCoinsAreSafe = (dig : List ℕ → List ℕ) (rules : Rules) (event : Event) (events : List Event) (w c e : ℕ)
+    → IsDigest dig → IsLegal (tests_by dig) rules (event ∷ events)
+    → is_attended events w c e ≡ true
+    → collides dig (event ∷ events) c ≡ false
+    → is_forged rules.tag (event ∷ events) w c ≡ false
+    → is_safe (tests_by dig) rules (event ∷ events) w c e ≡ true
+
+-- Two wallets that were declared before its deposit don't both hold a coin, unless the events exhibit.
+abbrev pub OneWalletHoldsLegally : Type 0
+OneWalletHoldsLegally = (dig : List ℕ → List ℕ) (rules : Rules) (events : List Event) (v w c d e : ℕ)
+    → IsDigest dig → IsLegal (tests_by dig) rules events → v ≢ w
+    → was_declared_before events v c ≡ true → was_declared_before events w c ≡ true
+    → collides dig events c ≡ false
+    → is_forged rules.tag events v c ≡ false
+    → is_forged rules.tag events w c ≡ false
+    → holds events v c d ≡ true → holds events w c e ≡ true → ⊥
+
+-- A call that a watch offers is accepted where no call was accepted since, unless it is a Before for which its account
+-- doesn't have the money; where the events show no clash at its coin.
+abbrev pub LegalDueCallsAreTaken : Type 0
+LegalDueCallsAreTaken = (dig : List ℕ → List ℕ) (rules : Rules) (events : List Event) (n : ℕ) (call : RootCall)
+    → IsDigest dig → IsLegal (tests_by dig) rules events → Contains (fresh_offers events n) call
+    → collides dig events (coin_of_call call) ≡ false
+    → lacks_bond (log_of events) call ≡ false
+    → is_accepted (answer_to (tests_by dig) rules (log_of events) call) ≡ true
