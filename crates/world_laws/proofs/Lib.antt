@@ -22,12 +22,12 @@ pub mod Watched
 pub mod Steps
 pub mod Harms
 pub mod Offers
+pub mod GuardsShown
+pub mod Guarding
+pub mod LegalWatches
 pub mod Safe
 pub mod OneHolder
 pub mod DueTaken
 pub mod Exhibited
-pub mod GuardsShown
-pub mod Guarding
-pub mod LegalWatches
 pub mod Words
 pub mod Promises

@@ -2,17 +2,20 @@
 -- each line.
 use Rattle.std.proofs.Common.{◌≡◌, ◌⊎◌, ◌≤◌, ◌<◌, ℕ, ◌+◌, ◌==◌, ◌&&◌, ◌||◌, not, Bool, true, false, if◌then◌else◌, List, [], ◌∷◌, ◌++◌, Option, Some, None, is_some, Contains, inl, inr, refl, sym, ap, ◌∙◌, subst, arith}
 use Rattle.std.specs.List.{list_any}
+use Rattle.std.proofs.Math.Nat.{le_refl}
 use Rattle.std.proofs.lemmas.Bool.{or_parts, ne_eqb, eq-eqb}
 use Rattle.plasma_tx.specs.declared.call.RootCall.{RootCall}
 use Rattle.plasma_tx.specs.Views.{coins}
 use Rattle.root_rules.specs.Shown.{Tests, Rules, tests_by, rules_of}
+use Rattle.root_rules.specs.Table.{answer_to, is_accepted}
 use Rattle.schedule_text.specs.declared.line.Line.{Line}
 use Rattle.world_rules.specs.Events.{Event, Joins, Watches, log_of, wallet_owner, is_command_of, offered}
 use Rattle.world_rules.specs.World.{World}
 use Rattle.world_rules.specs.Steps.{Run, events_of}
 use Rattle.world_rules.specs.Safety.{is_watch, is_joined}
-use Rattle.world_laws.specs.Headline.{IsRun, HeldCoinsAreSafe, was_declared_before, AreDeclaredBefore, OneWalletHolds, fresh_offers, IsFreshWatch, DueCallsAreTaken}
+use Rattle.world_laws.specs.Headline.{IsRun, HeldCoinsAreSafe, was_declared_before, AreDeclaredBefore, OneWalletHolds, fresh_offers, IsFreshWatch, lacks_bond, DueCallsAreTaken}
 use Rattle.world_laws.specs.Legal.{IsLegal}
+use Rattle.world_rules.proofs.RunLaws.{logs_are_of_events}
 use Rattle.world_laws.proofs.Safe.{legal_coins_are_safe}
 use Rattle.world_laws.proofs.OneHolder.{one_wallet_holds}
 use Rattle.world_laws.proofs.DueTaken.{due_calls_are_taken}
@@ -25,24 +28,44 @@ suffix-legal tests rules [] events legal = legal
 suffix-legal tests rules (event ∷ later) events legal = suffix-legal tests rules later events legal.1
 
 -- a log has as many coins as deposits, so an earlier deposit isn't of a later number
+coins-up : (event : Event) (events : List Event) → coins (log_of events) ≤ coins (log_of (event ∷ events))
+unfolding log_of coins
+coins-up (Joins (RootCall.Deposit account amount key)) events = omega arith
+coins-up event events = le_refl (coins (log_of events))
+
 coins-later : (later : List Event) (account amount : ℕ) (key : List ℕ) (earlier : List Event)
     → coins (log_of earlier) + 1 ≤ coins (log_of (later ++ Joins (RootCall.Deposit account amount key) ∷ earlier))
 unfolding log_of coins
-coins-later later account amount key earlier = ?
+coins-later [] account amount key earlier = le_refl (coins (log_of earlier) + 1)
+coins-later (event ∷ later) account amount key earlier =
+    let more = coins-later later account amount key earlier in
+    let up = coins-up event (later ++ Joins (RootCall.Deposit account amount key) ∷ earlier) in
+    omega (arith, more, up)
 
 -- the wallets were declared before the deposit
 declared-before : (later : List Event) (account amount : ℕ) (key : List ℕ) (earlier : List Event) (w c : ℕ)
     → c ≡ coins (log_of earlier) + 1 → is_some (wallet_owner earlier w) ≡ true
     → was_declared_before (later ++ Joins (RootCall.Deposit account amount key) ∷ earlier) w c ≡ true
 unfolding was_declared_before
-declared-before later account amount key earlier w c coin some = ?
+declared-before [] account amount key earlier w c coin some =
+    ap (λ b. if b then is_some (wallet_owner earlier w) else was_declared_before earlier w c)
+    (eq-eqb c (coins (log_of earlier) + 1) coin) ∙ some
+declared-before (Joins (RootCall.Deposit other much its) ∷ later) account amount key earlier w c coin some =
+    let behind = later ++ Joins (RootCall.Deposit account amount key) ∷ earlier in
+    let more = coins-later later account amount key earlier in
+    ap (λ b. if b then is_some (wallet_owner behind w) else was_declared_before behind w c)
+    (ne_eqb c (coins (log_of behind) + 1) (λ same. omega (arith, same, coin, more)))
+    ∙ declared-before later account amount key earlier w c coin some
+declared-before (event ∷ later) account amount key earlier w c coin some =
+    declared-before later account amount key earlier w c coin some
 
 -- the calls of a fresh watch
 fresh-watch : (later : List Event) (n : ℕ) (calls : List RootCall) (earlier : List Event)
     → list_any (λ event. is_command_of n event || is_joined event) later ≡ false
     → fresh_offers (later ++ Watches n calls ∷ earlier) n ≡ calls
 unfolding fresh_offers
-fresh-watch [] n calls earlier since = ap (λ b. if b then calls else _) (eq-eqb n n refl)
+fresh-watch [] n calls earlier since =
+    ap (λ b. if b then calls else (if false then [] else fresh_offers earlier n)) (eq-eqb n n refl)
 fresh-watch (event ∷ later) n calls earlier since =
     let parts = or_parts (is_command_of n event || is_joined event)
         (list_any (λ event. is_command_of n event || is_joined event) later) since in
@@ -73,4 +96,12 @@ module _ (legal : (dig : List ℕ → List ℕ) (lines : List Line) (run : Run) 
           ∙ declared-before before.later before.account before.amount before.key before.earlier u c before.coin some
 
   pub due_are_taken : DueCallsAreTaken
-  due_are_taken dig lines run world n calls call is fresh has whole rich = ?
+  due_are_taken dig lines run world n calls call is fresh has whole rich =
+      let log = logs_are_of_events dig lines run world is.run_is is.world_is in
+      let offers : fresh_offers (events_of run.entries) n ≡ calls =
+          ap (λ events. fresh_offers events n) fresh.events_are
+          ∙ fresh-watch fresh.later n calls fresh.earlier fresh.since in
+      ap (λ l. is_accepted (answer_to (tests_by dig) (rules_of world.chain) l call)) log
+      ∙ due_calls_are_taken dig (rules_of world.chain) (events_of run.entries) n call is.digest
+      (legal dig lines run world is) (subst (λ cs. Contains cs call) (sym offers) has) whole
+      (ap (λ l. lacks_bond l call) (sym log) ∙ rich)
