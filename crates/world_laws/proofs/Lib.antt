@@ -30,4 +30,5 @@ pub mod OneHolder
 pub mod DueTaken
 pub mod Exhibited
 pub mod Words
+pub mod Takings
 pub mod Promises

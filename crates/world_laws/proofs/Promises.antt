@@ -13,11 +13,12 @@ use Rattle.world_rules.specs.Events.{Event, Joins, Watches, log_of, wallet_owner
 use Rattle.world_rules.specs.World.{World}
 use Rattle.world_rules.specs.Steps.{Run, events_of}
 use Rattle.world_rules.specs.Safety.{is_watch, is_joined}
-use Rattle.world_laws.specs.Headline.{IsRun, HeldCoinsAreSafe, was_declared_before, AreDeclaredBefore, OneWalletHolds, fresh_offers, IsFreshWatch, lacks_bond, DueCallsAreTaken}
+use Rattle.world_laws.specs.Headline.{IsRun, HeldCoinsAreSafe, was_declared_before, AreDeclaredBefore, OneWalletHolds, fresh_offers, IsFreshWatch, lacks_bond, DueCallsAreTaken, HarmsAreTakings}
 use Rattle.world_laws.specs.Legal.{IsLegal}
 use Rattle.world_rules.proofs.RunLaws.{logs_are_of_events}
 use Rattle.world_laws.proofs.Safe.{legal_coins_are_safe}
 use Rattle.world_laws.proofs.OneHolder.{one_wallet_holds}
+use Rattle.world_laws.proofs.Takings.{legal-takings}
 use Rattle.world_laws.proofs.DueTaken.{due_calls_are_taken}
 
 -- the earlier of legal events are legal
@@ -105,3 +106,11 @@ module _ (legal : (dig : List ℕ → List ℕ) (lines : List Line) (run : Run) 
       ∙ due_calls_are_taken dig (rules_of world.chain) (events_of run.entries) n call is.digest
       (legal dig lines run world is) (subst (λ cs. Contains cs call) (sym offers) has) whole
       (ap (λ l. lacks_bond l call) (sym log) ∙ rich)
+
+  pub harms_are_takings : HarmsAreTakings
+  unfolding IsLegal
+  harms_are_takings dig lines run world later events event me w c e is split owner held =
+      legal-takings (tests_by dig) (rules_of world.chain) events event me w c e
+      (suffix-legal (tests_by dig) (rules_of world.chain) later (event ∷ events)
+      (subst (IsLegal (tests_by dig) (rules_of world.chain)) split (legal dig lines run world is))).0
+      owner held
