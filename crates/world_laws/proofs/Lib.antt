@@ -17,3 +17,4 @@ pub mod Safe
 pub mod OneHolder
 pub mod DueTaken
 pub mod Exhibited
+pub mod OwnExits
