@@ -18,3 +18,4 @@ pub mod OneHolder
 pub mod DueTaken
 pub mod Exhibited
 pub mod OwnExits
+pub mod Lost

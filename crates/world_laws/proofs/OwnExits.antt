@@ -71,7 +71,7 @@ pub record IsStartedBy (log : List RootCall) (me : Owner) (c e : ℕ) (call : Ro
 abbrev pub CameFrom : List RootCall → Owner → ℕ → ℕ → RootCall → Type 0
 CameFrom log me c e call = ((y : Exit) × Has (exits log) y × IsOwnAt me c e y) ⊎ IsStartedBy log me c e call
 
-abbrev IfOwn : List RootCall → Owner → ℕ → ℕ → RootCall → Exit → Type 0
+abbrev pub IfOwn : List RootCall → Owner → ℕ → ℕ → RootCall → Exit → Type 0
 IfOwn log me c e call x = IsOwnAt me c e x → CameFrom log me c e call
 
 module _ (tests : Tests) (rules : Rules) (log : List RootCall) (me : Owner) (c e : ℕ) where
