@@ -18,7 +18,7 @@ use Rattle.world_laws.proofs.Lists.{none_some, any-none, any-some}
 use Rattle.world_laws.proofs.Clash.{clash-from}
 use Rattle.world_laws.proofs.Safe.{strings-append}
 
-or-none : {X : Type 0} (o p : Option X) → option_or o p ≡ None → (o ≡ None) × (p ≡ None)
+pub or-none : {X : Type 0} (o p : Option X) → option_or o p ≡ None → (o ≡ None) × (p ≡ None)
 or-none None p is = (refl, is)
 or-none (Some x) p is = absurd (none_some x (sym is))
 

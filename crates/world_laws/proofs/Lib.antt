@@ -29,6 +29,8 @@ pub mod Safe
 pub mod OneHolder
 pub mod DueTaken
 pub mod Exhibited
-pub mod Words
 pub mod Takings
+pub mod OwnExits
+pub mod Lost
+pub mod Words
 pub mod Promises

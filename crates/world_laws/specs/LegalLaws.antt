@@ -1,12 +1,16 @@
 -- What is promised of every list of legal events.
-use Rattle.std.specs.Prelude.{◌≡◌, ◌≢◌, ℕ, true, false, List, ◌∷◌}
+use Rattle.std.specs.Prelude.{◌≡◌, ◌≢◌, ℕ, true, false, List, ◌∷◌, Some}
 use Rattle.std.specs.List.{Contains}
+use Rattle.plasma_tx.specs.declared.owner.Owner.{Owner}
 use Rattle.plasma_tx.specs.declared.call.RootCall.{RootCall}
 use Rattle.root_rules.specs.Shown.{Rules, tests_by}
 use Rattle.root_rules.specs.Table.{answer_to, is_accepted}
-use Rattle.world_rules.specs.Events.{Event, log_of, coin_of_call}
-use Rattle.world_rules.specs.Exhibits.{collides, is_forged}
+use Rattle.world_rules.specs.declared.verdict.VerdictKind.{VerdictKind}
+use Rattle.world_rules.specs.declared.verdict.Exhibit.{Exhibit}
+use Rattle.world_rules.specs.Events.{Event, log_of, coin_of_call, wallet_owner}
+use Rattle.world_rules.specs.Exhibits.{collides, is_forged, exhibit_of}
 use Rattle.world_rules.specs.Safety.{holds, is_attended, is_safe}
+use Rattle.world_rules.specs.Verdicts.{verdict_at}
 use Rattle.world_rules.specs.Laws.{IsDigest}
 use Rattle.world_laws.specs.Headline.{was_declared_before, fresh_offers, lacks_bond}
 use Rattle.world_laws.specs.Legal.{IsLegal}
@@ -41,3 +45,10 @@ LegalDueCallsAreTaken = (dig : List ℕ → List ℕ) (rules : Rules) (events : 
     → collides dig events (coin_of_call call) ≡ false
     → lacks_bond (log_of events) call ≡ false
     → is_accepted (answer_to (tests_by dig) rules (log_of events) call) ≡ true
+
+-- A verdict `lost` on a declared wallet stands only above an exhibit.
+abbrev pub LegalLostIsExhibited : Type 0
+LegalLostIsExhibited = (dig : List ℕ → List ℕ) (rules : Rules) (events : List Event) (w c e : ℕ) (me : Owner)
+    → IsDigest dig → IsLegal (tests_by dig) rules events → wallet_owner events w ≡ Some me
+    → verdict_at (tests_by dig) rules events me w c e ≡ VerdictKind.Lost
+    → exhibit_of dig rules.tag events ≢ Exhibit.Nothing

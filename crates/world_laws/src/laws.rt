@@ -1,4 +1,4 @@
-ghost use Rattle.world_laws.specs.LegalLaws.{LegalCoinsAreSafe, LegalDueCallsAreTaken, OneWalletHoldsLegally};
+ghost use Rattle.world_laws.specs.LegalLaws.{LegalCoinsAreSafe, LegalDueCallsAreTaken, LegalLostIsExhibited, OneWalletHoldsLegally};
 
 /// A law: of legal events, no other account's exit of an attended coin that a wallet holds is paid, and its
 /// own exit is never cancelled or dropped, and pays when it is finished at its end; unless they show two
@@ -16,4 +16,9 @@ pub fn one_wallet_holds()
 /// which its account doesn't have the money; where the events show no clash at its coin.
 pub fn due_calls_are_taken()
     ensures legal { LegalDueCallsAreTaken }
+{}
+
+/// A law: a verdict `lost` on a wallet stands only above an exhibit.
+pub fn lost_is_exhibited()
+    ensures legal { LegalLostIsExhibited }
 {}
