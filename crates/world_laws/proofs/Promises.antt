@@ -13,11 +13,17 @@ use Rattle.world_rules.specs.Events.{Event, Joins, Watches, log_of, wallet_owner
 use Rattle.world_rules.specs.World.{World}
 use Rattle.world_rules.specs.Steps.{Run, events_of}
 use Rattle.world_rules.specs.Safety.{is_watch, is_joined}
-use Rattle.world_laws.specs.Headline.{IsRun, HeldCoinsAreSafe, was_declared_before, AreDeclaredBefore, OneWalletHolds, fresh_offers, IsFreshWatch, lacks_bond, DueCallsAreTaken, HarmsAreTakings}
+use Rattle.world_laws.specs.Headline.{IsRun, HeldCoinsAreSafe, was_declared_before, AreDeclaredBefore, OneWalletHolds, fresh_offers, IsFreshWatch, lacks_bond, DueCallsAreTaken, HarmsAreTakings, LostIsExhibited}
 use Rattle.world_laws.specs.Legal.{IsLegal}
 use Rattle.world_rules.proofs.RunLaws.{logs_are_of_events}
 use Rattle.world_laws.proofs.Safe.{legal_coins_are_safe}
 use Rattle.world_laws.proofs.OneHolder.{one_wallet_holds}
+use Rattle.world_rules.specs.declared.verdict.Exhibit.{Exhibit}
+use Rattle.world_rules.specs.Exhibits.{exhibit_of}
+use Rattle.world_rules.specs.Verdicts.{exhibit_of_run}
+use Rattle.std.specs.Option.{option_map_or}
+use Rattle.world_rules.proofs.VerdictLaws.{verdicts_are_of_held_coins}
+use Rattle.world_laws.proofs.Lost.{lost_is_exhibited}
 use Rattle.world_laws.proofs.Takings.{legal-takings}
 use Rattle.world_laws.proofs.DueTaken.{due_calls_are_taken}
 
@@ -114,3 +120,12 @@ module _ (legal : (dig : List ℕ → List ℕ) (lines : List Line) (run : Run) 
       (suffix-legal (tests_by dig) (rules_of world.chain) later (event ∷ events)
       (subst (IsLegal (tests_by dig) (rules_of world.chain)) split (legal dig lines run world is))).0
       owner held
+
+  pub lost_is_shown : LostIsExhibited
+  unfolding exhibit_of_run
+  lost_is_shown dig lines run world verdict is has lost nothing =
+      let held = verdicts_are_of_held_coins dig lines run world verdict is.run_is is.world_is has in
+      lost_is_exhibited dig (rules_of world.chain) (events_of run.entries) held.number verdict.coin held.tip held.owner
+      is.digest (legal dig lines run world is) held.is_owner (sym held.kind ∙ lost)
+      (sym (ap (λ w. option_map_or (λ world. exhibit_of dig world.chain.tag (events_of run.entries)) w
+      Exhibit.Nothing) is.world_is) ∙ nothing)
