@@ -1,0 +1,138 @@
+use super::chain::{STRANGER, deposited};
+use super::outcomes::{ROWS, crashed};
+use super::wallets::{Wallet, begun, closed, digest_of, disk_of, leaf, make_key, opened, owner_of};
+use crash_disk::MemDisk;
+use plasma_tx::RootLog;
+use std::alloc::Global;
+use std::process::Abort;
+use std::test::Fail;
+use wallet_node::{NodeRefusal, WalletKey};
+
+type Disks = (MemDisk, MemDisk);
+
+// The disks of a wallet that was begun, of which the leaves' one fails at the call with this number of a send.
+fn fails_at(alloc: Global, call: u64) -> Result<Disks, Fail> {
+    let (notes, leaves) = begun(alloc)?;
+    let fails = if call > 0 { call.saturating_add(3) } else { 0 };
+    Ok((
+        disk_of(alloc, notes.bytes(), 0)?,
+        disk_of(alloc, leaves.bytes(), fails)?,
+    ))
+}
+
+// The answer to a send of coin 1, and the disks.
+fn send(
+    alloc: Global,
+    disks: Disks,
+    log: &RootLog,
+    key: &mut Option<WalletKey>,
+) -> Result<(Result<u32, NodeRefusal>, Disks), Fail> {
+    let (notes, leaves) = disks;
+    let mut node = opened(alloc, notes, leaves, key.take())?;
+    let sent = leaf(node.send(log, 1, &STRANGER));
+    Ok((sent, closed(node, key)))
+}
+
+// What a wallet answers that is opened then: how many notes and leaves it has, the leaf of the transfer that it makes
+// again, and that of a further send, with the digest of the one that is there; and the leaf of coin 2.
+#[derive(Debug, PartialEq, Drop)]
+struct Left {
+    records: (u64, u64),
+    again: Result<u32, NodeRefusal>,
+    sent: Result<u32, NodeRefusal>,
+    digest: Option<[u8; 32]>,
+    other: Result<u32, NodeRefusal>,
+}
+
+fn look(node: &mut Wallet, log: &RootLog) -> Left {
+    Left {
+        records: node.records(),
+        again: leaf(node.again(1)),
+        sent: leaf(node.send(log, 1, &STRANGER)),
+        digest: digest_of(&node.again(1)),
+        other: leaf(node.send(log, 2, &STRANGER)),
+    }
+}
+
+fn look_again(
+    alloc: Global,
+    disks: Disks,
+    log: &RootLog,
+    key: &mut Option<WalletKey>,
+) -> Result<Left, Fail> {
+    let (notes, leaves) = disks;
+    let mut node = opened(alloc, notes, leaves, key.take())?;
+    let left = look(&mut node, log);
+    let _ = closed(node, key);
+    Ok(left)
+}
+
+// A send of which that call fails, a crash with the outcome at this place, and what is left.
+fn stop(
+    alloc: Global,
+    call: u64,
+    place: usize,
+    log: &RootLog,
+    key: &mut Option<WalletKey>,
+) -> Result<(Result<u32, NodeRefusal>, Left), Fail> {
+    let (sent, disks) = send(alloc, fails_at(alloc, call)?, log, key)?;
+    let (notes, leaves) = disks;
+    let disks = (
+        crashed(alloc, notes, place)?,
+        crashed(alloc, leaves, place)?,
+    );
+    Ok((sent, look_again(alloc, disks, log, key)?))
+}
+
+// What has to be left, where the transfer was bound and where it wasn't. Its bytes are the same in both.
+fn want(is_bound: bool, digest: Option<[u8; 32]>) -> Left {
+    let (records, again, sent) = if is_bound {
+        ((0, 1), Ok(0), Err(NodeRefusal::NotHeld))
+    } else {
+        ((0, 0), Err(NodeRefusal::NotSending), Ok(0))
+    };
+    Left {
+        records,
+        again,
+        sent,
+        digest,
+        other: Ok(1),
+    }
+}
+
+fn try_call(
+    rt: &impl Abort,
+    alloc: Global,
+    call: u64,
+    row: &[bool; 4],
+    log: &RootLog,
+    key: &mut Option<WalletKey>,
+) -> Result<(), Fail> {
+    let answer = if call > 0 {
+        Err(NodeRefusal::DeviceFault)
+    } else {
+        Ok(0)
+    };
+    let (_, first) = stop(alloc, 0, 0, log, key)?;
+    for (place, is_bound) in row.iter().enumerate() {
+        let (sent, left) = stop(alloc, call, place, log, key)?;
+        assert_eq!(rt; sent, answer, "call {call} outcome {place}");
+        assert_eq!(rt;
+            left,
+            want(*is_bound, first.digest),
+            "call {call} outcome {place}"
+        );
+    }
+    Ok(())
+}
+
+#[test]
+fn a_stopped_send(rt: HostRuntime) -> Result<(), Fail> {
+    let key = make_key(rt.alloc())?;
+    let log = deposited(rt.alloc(), 2, &owner_of(&key))?;
+    let mut key = Some(key);
+    for (call, row) in ROWS.iter().enumerate() {
+        try_call(&rt, rt.alloc(), call as u64, row, &log, &mut key)?;
+    }
+    Ok(())
+}

@@ -1,0 +1,227 @@
+ghost use Rattle.std.specs.Prelude.{◌≡◌, true};
+ghost use Rattle.lms_sign.specs.Types.{is_supported};
+
+use super::chain::TAG;
+use super::outcomes::{crashed, is_begun};
+use super::wallets::{begun, closed, disk_of, make_key, opened, owner_of, who};
+use crash_disk::{Disk, MemDisk};
+use gate_journal::{InitRefusal, JournalRefusal};
+use lms_sign::LmsTypes;
+use plasma_base::{NoMemory, Toy};
+use plasma_tx::Owner;
+use std::alloc::Global;
+use std::process::Abort;
+use std::test::Fail;
+use wallet_node::{Identity, WalletKey, WalletNode, init};
+
+// The disks of the notes and of the leaves.
+type Disks = (MemDisk, MemDisk);
+
+fn crash_both(alloc: Global, disks: Disks, place: usize) -> Result<Disks, NoMemory> {
+    let (notes, leaves) = disks;
+    Ok((
+        crashed(alloc, notes, place)?,
+        crashed(alloc, leaves, place)?,
+    ))
+}
+
+fn begin(alloc: Global, disks: Disks) -> (Disks, Result<(), InitRefusal>) {
+    let (notes, leaves) = disks;
+    let (notes, leaves, answer) = init(alloc, notes, leaves, &who());
+    ((notes, leaves), answer)
+}
+
+// What an init answers over these disks, and one over what a crash leaves. Then a crash leaves what was synced.
+fn begin_twice(
+    alloc: Global,
+    disks: Disks,
+    place: usize,
+) -> Result<(Disks, [Result<(), InitRefusal>; 2]), NoMemory> {
+    let (disks, first) = begin(alloc, disks);
+    let (disks, again) = begin(alloc, crash_both(alloc, disks, place)?);
+    Ok((crash_both(alloc, disks, 0)?, [first, again]))
+}
+
+// How many notes and leaves the wallet of two disks has.
+fn records(alloc: Global, disks: Disks, key: &mut Option<WalletKey>) -> Result<(u64, u64), Fail> {
+    let (notes, leaves) = disks;
+    let node = opened(alloc, notes, leaves, key.take())?;
+    let records = node.records();
+    let _ = closed(node, key);
+    Ok(records)
+}
+
+// Both inits where the calls with these numbers fail; what is there then.
+fn fail(
+    alloc: Global,
+    fails: (u64, u64),
+    place: usize,
+    key: &mut Option<WalletKey>,
+) -> Result<([Result<(), InitRefusal>; 2], (u64, u64)), Fail> {
+    let disks = (disk_of(alloc, &[], fails.0)?, disk_of(alloc, &[], fails.1)?);
+    let (disks, answers) = begin_twice(alloc, disks, place)?;
+    Ok((answers, records(alloc, disks, key)?))
+}
+
+// With each outcome of the crash between both.
+fn try_calls(
+    rt: &impl Abort,
+    alloc: Global,
+    fails: (u64, u64),
+    key: &mut Option<WalletKey>,
+) -> Result<(), Fail> {
+    let first = if fails == (0, 0) {
+        Ok(())
+    } else {
+        Err(InitRefusal::DeviceFault)
+    };
+    for place in 0..4 {
+        let again = if fails.1 == 0 && is_begun(fails.0, place) {
+            Err(InitRefusal::AlreadyMade { length: 91 })
+        } else {
+            Ok(())
+        };
+        let (answers, records) = fail(alloc, fails, place, key)?;
+        assert_eq!(rt; answers, [first, again], "fails {fails:?} place {place}");
+        assert_eq!(rt; records, (0, 0), "fails {fails:?} place {place}");
+    }
+    Ok(())
+}
+
+#[test]
+fn each_call_of_an_init_fails(rt: HostRuntime) -> Result<(), Fail> {
+    let mut key = Some(make_key(rt.alloc())?);
+    for call in 0..11 {
+        try_calls(&rt, rt.alloc(), (call, 0), &mut key)?;
+    }
+    for call in 1..7 {
+        try_calls(&rt, rt.alloc(), (0, call), &mut key)?;
+    }
+    Ok(())
+}
+
+// A disk on which an empty journal is written, but not synced.
+fn unsynced(alloc: Global) -> Result<MemDisk, Fail> {
+    let mut disk = MemDisk::make(alloc, Vec::new(alloc), Vec::new(alloc));
+    disk.make_room(1, 5)?;
+    disk.write_at(0, &[0x50, 0x47, 0x4a, 0x31, 0x00])?;
+    Ok(disk)
+}
+
+// What an init answers over such disks, and what is there once a crash left what was synced.
+fn begin_unsynced(
+    alloc: Global,
+    key: &mut Option<WalletKey>,
+) -> Result<(Result<(), InitRefusal>, (u64, u64)), Fail> {
+    let (disks, answer) = begin(alloc, (unsynced(alloc)?, unsynced(alloc)?));
+    let disks = crash_both(alloc, disks, 0)?;
+    Ok((answer, records(alloc, disks, key)?))
+}
+
+#[test]
+fn journals_that_stand_are_synced(rt: HostRuntime) -> Result<(), Fail> {
+    let mut key = None;
+    assert_eq!(rt; begin_unsynced(rt.alloc(), &mut key)?, (Ok(()), (0, 0)));
+    Ok(())
+}
+
+// The identity of a wallet with one-time keys of type 4.
+fn of_first_form() -> Identity
+    ensures { is_supported result.types ≡ true }
+{
+    Identity {
+        types: LmsTypes { lms: 5, ots: 4 },
+        ..who()
+    }
+}
+
+// What two inits answer with an identity of the first form.
+fn begin_first_form(alloc: Global) -> Result<[Result<(), InitRefusal>; 2], NoMemory> {
+    let (notes, leaves) = (disk_of(alloc, &[], 0)?, disk_of(alloc, &[], 0)?);
+    let (notes, leaves, first) = init(alloc, notes, leaves, &of_first_form());
+    let (_, _, again) = init(alloc, notes, leaves, &of_first_form());
+    Ok([first, again])
+}
+
+#[test]
+fn an_identity_of_the_first_form(rt: HostRuntime) -> Result<(), Fail> {
+    let key = make_key(rt.alloc())?;
+    let made = Err(InitRefusal::AlreadyMade { length: 83 });
+    assert_eq!(rt; begin_first_form(rt.alloc())?, [Ok(()), made]);
+    assert!(rt; key.is_of(&who()) && !key.is_of(&of_first_form()));
+    Ok(())
+}
+
+// What a wallet says that was opened: its owner, its tag, and whether it is closed.
+type Said = (Owner, [u8; 32], bool);
+
+// Opened under SHA-256, with a key of another wallet at hand.
+fn open_with_another(alloc: Global, disks: Disks) -> Result<(Said, Disks), Fail> {
+    let (notes, leaves) = disks;
+    let other = WalletKey::make(
+        alloc,
+        &Identity {
+            seed: [8; 32],
+            ..who()
+        },
+    )?;
+    let node = opened(alloc, notes, leaves, Some(other))?;
+    let said = (node.owner(), node.tag(), node.is_closed());
+    Ok((said, node.take_disks()))
+}
+
+// Opened under SHA-256, without a key.
+fn open_bare(alloc: Global, disks: Disks) -> Result<(Said, Disks), Fail> {
+    let (notes, leaves) = disks;
+    match WalletNode::open(alloc, notes, leaves) {
+        Ok(node) => {
+            let said = (node.owner(), node.tag(), node.is_closed());
+            Ok((said, node.take_disks()))
+        }
+        Err(returned) => Err(returned.why.into()),
+    }
+}
+
+// Opened under another digest.
+fn open_under_toy(alloc: Global, disks: Disks) -> Result<(Said, Disks), Fail> {
+    let (notes, leaves) = disks;
+    match WalletNode::open_with(alloc, notes, leaves, Toy) {
+        Ok(node) => {
+            let said = (node.owner(), node.tag(), node.is_closed());
+            Ok((said, node.take_disks()))
+        }
+        Err(returned) => Err(returned.why.into()),
+    }
+}
+
+fn open_thrice(alloc: Global) -> Result<[Said; 3], Fail> {
+    let (first, disks) = open_with_another(alloc, begun(alloc)?)?;
+    let (second, disks) = open_bare(alloc, disks)?;
+    let (third, _) = open_under_toy(alloc, disks)?;
+    Ok([first, second, third])
+}
+
+#[test]
+fn a_wallet_is_opened_alike(rt: HostRuntime) -> Result<(), Fail> {
+    let said = (owner_of(&make_key(rt.alloc())?), TAG, false);
+    assert_eq!(rt; open_thrice(rt.alloc())?, [said, said, said]);
+    Ok(())
+}
+
+// Why the wallet of two empty journals isn't opened.
+fn open_empty(alloc: Global) -> Result<Option<JournalRefusal>, NoMemory> {
+    let empty = [0x50, 0x47, 0x4a, 0x31, 0x00];
+    let (notes, leaves) = (disk_of(alloc, &empty, 0)?, disk_of(alloc, &empty, 0)?);
+    match WalletNode::open(alloc, notes, leaves) {
+        Ok(_) => Ok(None),
+        Err(returned) => Ok(Some(returned.why)),
+    }
+}
+
+#[test]
+fn notes_without_an_identity(rt: HostRuntime) -> Result<(), Fail> {
+    let place = 4;
+    let why = JournalRefusal::NotJournal { place };
+    assert_eq!(rt; open_empty(rt.alloc())?, Some(why));
+    Ok(())
+}
