@@ -5,6 +5,7 @@ use super::wallets::{Transfer, Wallet, closed, make_key, opened, owner_of, start
 use coin_history::HistoryRefusal;
 use crash_disk::MemDisk;
 use std::alloc::Global;
+use std::process::Abort;
 use std::test::Fail;
 use wallet_core::CoinState;
 use wallet_node::{Accepted, NodeRefusal, WalletKey};
@@ -24,10 +25,10 @@ struct Accepts {
 }
 
 fn accept(node: &mut Wallet, given: &Payment, cut: &[u8]) -> Accepts {
-    let (log, history) = (&given.cancelled, given.history.as_slice());
+    let (log, history) = (&given.payers_exit.cancelled, given.history.as_slice());
     Accepts {
-        stands: node.accept(&given.stands, history),
-        withdrawn: node.accept(&given.withdrawn, history),
+        stands: node.accept(&given.payers_exit.stands, history),
+        withdrawn: node.accept(&given.exit.withdrawn, history),
         cut: node.accept(log, cut),
         bad: node.accept(log, &[1]),
         before: node.state(log, 1),
@@ -51,8 +52,8 @@ fn send_on(alloc: Global, node: &mut Wallet, given: &Payment) -> Keeps {
         records: node.records(),
         state: node.state(&given.quiet, 1),
         due: [
-            due_of(node.watch(&given.stands)),
-            due_of(node.watch(&given.cancelled)),
+            due_of(node.watch(&given.payers_exit.stands)),
+            due_of(node.watch(&given.payers_exit.cancelled)),
         ],
         sent: told(alloc, &node.owner(), &node.send(&given.quiet, 1, &STRANGER)),
     }
@@ -99,21 +100,9 @@ fn play(
     Ok((accepts, send_then(alloc, disks, given, key)?))
 }
 
-#[test]
-fn a_paid_coin_is_taken_up(rt: HostRuntime) -> Result<(), Fail> {
-    let alloc = rt.alloc();
-    let key = make_key(alloc)?;
-    let given = make_payment(alloc, &owner_of(&key))?;
-    let cut = bundle(alloc, 1, 2, &[])?;
-    let (accepts, keeps) = play(alloc, &given, cut.as_slice(), &mut Some(key))?;
+fn assert_accepts(rt: &impl Abort, accepts: &Accepts) {
     let accepted = Ok(Accepted { coin: 1, tip: 2 });
     let history = |why| Err(NodeRefusal::History { why });
-    let after = Due::After {
-        account: 11,
-        coin: 1,
-        exit: 1,
-        block: 2,
-    };
     assert_eq!(rt; accepts.stands, Err(NodeRefusal::ExitStands { block: 1 }));
     assert_eq!(rt; accepts.withdrawn, Err(NodeRefusal::Withdrawn));
     assert_eq!(rt; accepts.cut, history(HistoryRefusal::MissingBlock { n: 2 }));
@@ -124,19 +113,37 @@ fn a_paid_coin_is_taken_up(rt: HostRuntime) -> Result<(), Fail> {
     assert_eq!(rt; accepts.before, CoinState::Nothing);
     assert_eq!(rt; accepts.accepted, [accepted, accepted]);
     assert_eq!(rt; accepts.records, (1, 0));
+}
+
+fn assert_keeps(rt: &impl Abort, keeps: &Keeps) {
+    let after = Due::After {
+        account: 11,
+        coin: 1,
+        exit: 1,
+        block: 2,
+    };
+    let transfer = Transfer {
+        q: 0,
+        coin: 1,
+        parent: 2,
+        to: 12,
+        last: None,
+        is_signed: true,
+    };
     assert_eq!(rt; keeps.records, (1, 0));
     assert_eq!(rt; keeps.state, CoinState::Held { tip: 2 });
     assert_eq!(rt; keeps.due, [after, Due::Nothing]);
-    assert_eq!(rt;
-        keeps.sent,
-        Ok(Transfer {
-            q: 0,
-            coin: 1,
-            parent: 2,
-            to: 12,
-            last: None,
-            is_signed: true,
-        })
-    );
+    assert_eq!(rt; keeps.sent, Ok(transfer));
+}
+
+#[test]
+fn a_paid_coin_is_taken_up(rt: HostRuntime) -> Result<(), Fail> {
+    let alloc = rt.alloc();
+    let key = make_key(alloc)?;
+    let given = make_payment(alloc, &owner_of(&key))?;
+    let cut = bundle(alloc, 1, 2, &[])?;
+    let (accepts, keeps) = play(alloc, &given, cut.as_slice(), &mut Some(key))?;
+    assert_accepts(&rt, &accepts);
+    assert_keeps(&rt, &keeps);
     Ok(())
 }

@@ -6,6 +6,7 @@ use coin_history::HistoryRefusal;
 use crash_disk::MemDisk;
 use plasma_base::Toy;
 use std::alloc::Global;
+use std::process::Abort;
 use std::test::Fail;
 use watcher_node::{Accepted, NodeRefusal, WatcherNode};
 
@@ -47,12 +48,12 @@ fn watch(node: &mut Watcher, given: &Payment) -> Watches {
     Watches {
         records: node.records(),
         due: [
-            due_of(node.watch(&given.stands)),
-            due_of(node.watch(&given.cancelled)),
+            due_of(node.watch(&given.payers_exit.stands)),
+            due_of(node.watch(&given.payers_exit.cancelled)),
         ],
-        guard: node.guard(&given.stands, given.history.as_slice()),
+        guard: node.guard(&given.payers_exit.stands, given.history.as_slice()),
         releases: [node.release(1, 1), node.release(1, 2), node.release(1, 2)],
-        last_due: due_of(node.watch(&given.stands)),
+        last_due: due_of(node.watch(&given.payers_exit.stands)),
         last_records: node.records(),
     }
 }
@@ -74,14 +75,17 @@ fn play(alloc: Global, given: &Payment, cut: &[u8]) -> Result<(Guards, Watches),
     Ok((guards, watch_then(alloc, disk, given)?))
 }
 
-#[test]
-fn a_paid_coin_is_guarded(rt: HostRuntime) -> Result<(), Fail> {
-    let alloc = rt.alloc();
-    let given = make_payment(alloc, &owner_of(&make_key(alloc)?))?;
-    let cut = bundle(alloc, 1, 2, &[])?;
-    let (guards, watches) = play(alloc, &given, cut.as_slice())?;
+fn assert_guards(rt: &impl Abort, guards: &Guards) {
     let accepted = Ok(Accepted { coin: 1, tip: 2 });
     let history = |why| Err(NodeRefusal::History { why });
+    assert_eq!(rt; guards.guards, [accepted, accepted]);
+    assert_eq!(rt; guards.cut, history(HistoryRefusal::MissingBlock { n: 2 }));
+    assert_eq!(rt; guards.bad, history(HistoryRefusal::BadBundle { place: 0 }));
+    assert_eq!(rt; guards.records, (1, 0));
+    assert_eq!(rt; guards.due, Due::Nothing);
+}
+
+fn assert_watches(rt: &impl Abort, watches: &Watches) {
     let no_guard = Err(NodeRefusal::NoGuard);
     let after = Due::After {
         account: WATCHER,
@@ -89,17 +93,22 @@ fn a_paid_coin_is_guarded(rt: HostRuntime) -> Result<(), Fail> {
         exit: 1,
         block: 2,
     };
-    assert_eq!(rt; guards.guards, [accepted, accepted]);
-    assert_eq!(rt; guards.cut, history(HistoryRefusal::MissingBlock { n: 2 }));
-    assert_eq!(rt; guards.bad, history(HistoryRefusal::BadBundle { place: 0 }));
-    assert_eq!(rt; guards.records, (1, 0));
-    assert_eq!(rt; guards.due, Due::Nothing);
     assert_eq!(rt; watches.records, (1, 0));
     assert_eq!(rt; watches.due, [after, Due::Nothing]);
     assert_eq!(rt; watches.guard, Err(NodeRefusal::ExitStands { block: 1 }));
     assert_eq!(rt; watches.releases, [no_guard, Ok(()), no_guard]);
     assert_eq!(rt; watches.last_due, Due::Nothing);
     assert_eq!(rt; watches.last_records, (2, 0));
+}
+
+#[test]
+fn a_paid_coin_is_guarded(rt: HostRuntime) -> Result<(), Fail> {
+    let alloc = rt.alloc();
+    let given = make_payment(alloc, &owner_of(&make_key(alloc)?))?;
+    let cut = bundle(alloc, 1, 2, &[])?;
+    let (guards, watches) = play(alloc, &given, cut.as_slice())?;
+    assert_guards(&rt, &guards);
+    assert_watches(&rt, &watches);
     Ok(())
 }
 

@@ -3,6 +3,7 @@ use super::transfers::{Payment, make_payment};
 use super::wallets::{Wallet, leaf, make_key, owner_of, started};
 use plasma_tx::{RootCall, RootLog, Shown};
 use std::alloc::Global;
+use std::process::Abort;
 use std::test::Fail;
 use wallet_core::CoinState;
 use wallet_node::{Accepted, NodeRefusal, WalletKey};
@@ -81,6 +82,20 @@ fn play(
     Ok((leaves, accept(&mut node, log, other, bundle)))
 }
 
+fn assert_leaves(rt: &impl Abort, leaves: &Leaves) {
+    assert_eq!(rt; leaves.starts, [Ok((11, 2, 2, None)), Ok((11, 2, 2, None))]);
+    assert_eq!(rt; leaves.records, (1, 0));
+    assert_eq!(rt; leaves.state, CoinState::Leaving { tip: 2 });
+    assert_eq!(rt; leaves.sent, Err(NodeRefusal::Leaving));
+}
+
+fn assert_accepts(rt: &impl Abort, accepts: &Accepts) {
+    assert_eq!(rt; accepts.own, Ok(Accepted { coin: 1, tip: 1 }));
+    assert_eq!(rt; accepts.other, Err(NodeRefusal::NotMine));
+    assert_eq!(rt; accepts.records, (1, 0));
+    assert_eq!(rt; accepts.due, Due::Nothing);
+}
+
 #[test]
 fn a_coin_is_left_with(rt: HostRuntime) -> Result<(), Fail> {
     let alloc = rt.alloc();
@@ -89,14 +104,8 @@ fn a_coin_is_left_with(rt: HostRuntime) -> Result<(), Fail> {
     let other = deposited(alloc, 2, &STRANGER)?;
     let shown = bundle(alloc, 1, 1, &[])?;
     let (leaves, accepts) = play(alloc, key, &log, &other, shown.as_slice())?;
-    assert_eq!(rt; leaves.starts, [Ok((11, 2, 2, None)), Ok((11, 2, 2, None))]);
-    assert_eq!(rt; leaves.records, (1, 0));
-    assert_eq!(rt; leaves.state, CoinState::Leaving { tip: 2 });
-    assert_eq!(rt; leaves.sent, Err(NodeRefusal::Leaving));
-    assert_eq!(rt; accepts.own, Ok(Accepted { coin: 1, tip: 1 }));
-    assert_eq!(rt; accepts.other, Err(NodeRefusal::NotMine));
-    assert_eq!(rt; accepts.records, (1, 0));
-    assert_eq!(rt; accepts.due, Due::Nothing);
+    assert_leaves(&rt, &leaves);
+    assert_accepts(&rt, &accepts);
     Ok(())
 }
 
@@ -116,11 +125,11 @@ fn leave_paid(node: &mut Wallet, given: &Payment) -> Paid {
         accepted: node.accept(&given.quiet, given.history.as_slice()),
         start: start(node.leave(&given.quiet, 1)),
         states: [
-            node.state(&given.challenged, 1),
-            node.state(&given.withdrawn, 1),
+            node.state(&given.exit.challenged, 1),
+            node.state(&given.exit.withdrawn, 1),
         ],
-        due: due_of(node.watch(&given.challenged)),
-        late: start(node.leave(&given.withdrawn, 1)),
+        due: due_of(node.watch(&given.exit.challenged)),
+        late: start(node.leave(&given.exit.withdrawn, 1)),
     }
 }
 
@@ -129,11 +138,7 @@ fn leave_once(alloc: Global, key: WalletKey, given: &Payment) -> Result<Paid, Fa
     Ok(leave_paid(&mut node, given))
 }
 
-#[test]
-fn a_paid_coin_is_left_with(rt: HostRuntime) -> Result<(), Fail> {
-    let key = make_key(rt.alloc())?;
-    let given = make_payment(rt.alloc(), &owner_of(&key))?;
-    let paid = leave_once(rt.alloc(), key, &given)?;
+fn assert_paid(rt: &impl Abort, paid: &Paid) {
     let answer = Due::Respond {
         account: 11,
         coin: 1,
@@ -141,13 +146,18 @@ fn a_paid_coin_is_left_with(rt: HostRuntime) -> Result<(), Fail> {
         challenged: 1,
         block: 2,
     };
+    let leaving = CoinState::Leaving { tip: 2 };
     assert_eq!(rt; paid.accepted, Ok(Accepted { coin: 1, tip: 2 }));
     assert_eq!(rt; paid.start, Ok((11, 1, 2, Some(1))));
-    assert_eq!(rt;
-        paid.states,
-        [CoinState::Leaving { tip: 2 }, CoinState::Nothing]
-    );
+    assert_eq!(rt; paid.states, [leaving, CoinState::Nothing]);
     assert_eq!(rt; paid.due, answer);
     assert_eq!(rt; paid.late, Err(NodeRefusal::NotHeld));
+}
+
+#[test]
+fn a_paid_coin_is_left_with(rt: HostRuntime) -> Result<(), Fail> {
+    let key = make_key(rt.alloc())?;
+    let given = make_payment(rt.alloc(), &owner_of(&key))?;
+    assert_paid(&rt, &leave_once(rt.alloc(), key, &given)?);
     Ok(())
 }

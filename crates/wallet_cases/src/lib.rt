@@ -7,8 +7,6 @@ mod accepting;
 #[cfg(test)]
 mod chain;
 #[cfg(test)]
-mod closing;
-#[cfg(test)]
 mod guarding;
 #[cfg(test)]
 mod leaving;

@@ -3,8 +3,9 @@ use super::wallets::{
     Transfer, Wallet, digest_of, leaf, make_key, owner_of, reopened, started, told,
 };
 use plasma_base::NoMemory;
-use plasma_tx::RootLog;
+use plasma_tx::{Owner, RootLog};
 use std::alloc::Global;
+use std::process::Abort;
 use std::test::Fail;
 use wallet_core::CoinState;
 use wallet_node::{NodeRefusal, Reclaimed, WalletKey};
@@ -83,27 +84,30 @@ fn look_again(alloc: Global, node: Wallet, log: &RootLog) -> Result<Kept, Fail> 
     Ok(look(&node, log))
 }
 
-// Both, with the block in between.
+// Both; the second log has the block.
 fn play(
     alloc: Global,
     node: &mut Wallet,
-    log: &mut RootLog,
+    log: &RootLog,
+    later: &RootLog,
     shown: &[u8],
-) -> Result<(Sends, Takes), NoMemory> {
-    let sends = send(alloc, node, log, shown);
-    commit_empty(alloc, log)?;
-    Ok((sends, take_back(alloc, node, log, shown)))
+) -> (Sends, Takes) {
+    (
+        send(alloc, node, log, shown),
+        take_back(alloc, node, later, shown),
+    )
 }
 
 fn reclaim(
     alloc: Global,
     key: WalletKey,
-    log: &mut RootLog,
+    log: &RootLog,
+    later: &RootLog,
     shown: &[u8],
 ) -> Result<(Sends, Takes, Kept), Fail> {
     let mut node = started(alloc, Some(key))?;
-    let (sends, takes) = play(alloc, &mut node, log, shown)?;
-    Ok((sends, takes, look_again(alloc, node, log)?))
+    let (sends, takes) = play(alloc, &mut node, log, later, shown);
+    Ok((sends, takes, look_again(alloc, node, later)?))
 }
 
 fn transfer(q: u32, last: Option<u64>) -> Result<Transfer, NodeRefusal> {
@@ -117,34 +121,55 @@ fn transfer(q: u32, last: Option<u64>) -> Result<Transfer, NodeRefusal> {
     })
 }
 
+fn assert_sends(rt: &impl Abort, sends: &Sends) {
+    assert_eq!(rt; sends.late, Err(NodeRefusal::BadLast { blocks: 2 }));
+    assert_eq!(rt; sends.unmarked, Err(NodeRefusal::OldJournal));
+    assert_eq!(rt; sends.migrations, [Ok(()), Err(NodeRefusal::AlreadyNew)]);
+    assert_eq!(rt; sends.sent, transfer(0, Some(3)));
+    assert_eq!(rt; sends.early, Err(NodeRefusal::NotYet { last: 3 }));
+}
+
+const SENDING: CoinState = CoinState::Sending { tip: 1, q: 1 };
+
+fn assert_takes(rt: &impl Abort, takes: &Takes) {
+    let taken = Ok(Reclaimed {
+        coin: 1,
+        tip: 1,
+        q: 0,
+    });
+    assert_eq!(rt; takes.taken, [taken, Err(NodeRefusal::NotSending)]);
+    assert_eq!(rt; takes.state, CoinState::Held { tip: 1 });
+    assert_eq!(rt; takes.sent, transfer(1, None));
+    assert_eq!(rt; takes.after, SENDING);
+    assert_ne!(rt; takes.first, takes.last);
+}
+
+fn assert_kept(rt: &impl Abort, kept: &Kept, digest: Option<[u8; 32]>) {
+    assert_eq!(rt; kept.records, (1, 2));
+    assert_eq!(rt; kept.state, SENDING);
+    assert_eq!(rt; kept.again, Ok(1));
+    assert_eq!(rt; kept.digest, digest);
+}
+
+// The log in which the wallet deposited two coins, with a block behind them that has no leaf.
+fn later(alloc: Global, owner: &Owner) -> Result<RootLog, NoMemory> {
+    let mut log = deposited(alloc, 2, owner)?;
+    commit_empty(alloc, &mut log)?;
+    Ok(log)
+}
+
 // The coin is sent with the first leaf and a last block, taken back, and sent with the second leaf. The transfer
 // that is made again is the last one.
 #[test]
 fn a_transfer_is_taken_back(rt: HostRuntime) -> Result<(), Fail> {
     let alloc = rt.alloc();
     let key = make_key(alloc)?;
-    let mut log = deposited(alloc, 2, &owner_of(&key))?;
+    let owner = owner_of(&key);
+    let (log, later) = (deposited(alloc, 2, &owner)?, later(alloc, &owner)?);
     let shown = bundle(alloc, 1, 3, &[&no_leaf(alloc, 3)?])?;
-    let (sends, takes, kept) = reclaim(alloc, key, &mut log, shown.as_slice())?;
-    let taken = Ok(Reclaimed {
-        coin: 1,
-        tip: 1,
-        q: 0,
-    });
-    let sending = CoinState::Sending { tip: 1, q: 1 };
-    assert_eq!(rt; sends.late, Err(NodeRefusal::BadLast { blocks: 2 }));
-    assert_eq!(rt; sends.unmarked, Err(NodeRefusal::OldJournal));
-    assert_eq!(rt; sends.migrations, [Ok(()), Err(NodeRefusal::AlreadyNew)]);
-    assert_eq!(rt; sends.sent, transfer(0, Some(3)));
-    assert_eq!(rt; sends.early, Err(NodeRefusal::NotYet { last: 3 }));
-    assert_eq!(rt; takes.taken, [taken, Err(NodeRefusal::NotSending)]);
-    assert_eq!(rt; takes.state, CoinState::Held { tip: 1 });
-    assert_eq!(rt; takes.sent, transfer(1, None));
-    assert_eq!(rt; takes.after, sending);
-    assert_ne!(rt; takes.first, takes.last);
-    assert_eq!(rt; kept.records, (1, 2));
-    assert_eq!(rt; kept.state, sending);
-    assert_eq!(rt; kept.again, Ok(1));
-    assert_eq!(rt; kept.digest, takes.last);
+    let (sends, takes, kept) = reclaim(alloc, key, &log, &later, shown.as_slice())?;
+    assert_sends(&rt, &sends);
+    assert_takes(&rt, &takes);
+    assert_kept(&rt, &kept, takes.last);
     Ok(())
 }

@@ -4,6 +4,7 @@ use super::wallets::{
 };
 use plasma_tx::{Owner, RootLog};
 use std::alloc::Global;
+use std::process::Abort;
 use std::test::Fail;
 use wallet_core::CoinState;
 use wallet_node::{NodeRefusal, WalletKey};
@@ -66,30 +67,40 @@ fn send_once(alloc: Global, key: WalletKey, log: &RootLog) -> Result<(Sends, Kep
     Ok((sends, look_again(alloc, node, log)?))
 }
 
+const SENDING: CoinState = CoinState::Sending { tip: 1, q: 0 };
+
+const TRANSFER: Transfer = Transfer {
+    q: 0,
+    coin: 1,
+    parent: 1,
+    to: 12,
+    last: None,
+    is_signed: true,
+};
+
+fn assert_sends(rt: &impl Abort, sends: &Sends, owner: &Owner) {
+    assert_eq!(rt; sends.owner, *owner);
+    assert_eq!(rt; sends.before, CoinState::Held { tip: 1 });
+    assert_eq!(rt; sends.first, Ok(TRANSFER));
+    assert_eq!(rt; sends.second, Err(NodeRefusal::NotHeld));
+    assert_eq!(rt; sends.after, SENDING);
+}
+
+fn assert_kept(rt: &impl Abort, kept: &Kept, digest: Option<[u8; 32]>) {
+    assert_eq!(rt; kept.records, (0, 1));
+    assert_eq!(rt; kept.state, SENDING);
+    assert_eq!(rt; kept.again, Ok(TRANSFER));
+    assert_eq!(rt; kept.digest, digest);
+    assert_eq!(rt; kept.other, Err(NodeRefusal::NotSending));
+}
+
 #[test]
 fn a_coin_is_sent_once(rt: HostRuntime) -> Result<(), Fail> {
     let key = make_key(rt.alloc())?;
     let owner = owner_of(&key);
     let log = deposited(rt.alloc(), 2, &owner)?;
     let (sends, kept) = send_once(rt.alloc(), key, &log)?;
-    let transfer = Ok(Transfer {
-        q: 0,
-        coin: 1,
-        parent: 1,
-        to: 12,
-        last: None,
-        is_signed: true,
-    });
-    let sending = CoinState::Sending { tip: 1, q: 0 };
-    assert_eq!(rt; sends.owner, owner);
-    assert_eq!(rt; sends.before, CoinState::Held { tip: 1 });
-    assert_eq!(rt; sends.first, transfer);
-    assert_eq!(rt; sends.second, Err(NodeRefusal::NotHeld));
-    assert_eq!(rt; sends.after, sending);
-    assert_eq!(rt; kept.records, (0, 1));
-    assert_eq!(rt; kept.state, sending);
-    assert_eq!(rt; kept.again, transfer);
-    assert_eq!(rt; kept.digest, sends.digest);
-    assert_eq!(rt; kept.other, Err(NodeRefusal::NotSending));
+    assert_sends(&rt, &sends, &owner);
+    assert_kept(&rt, &kept, sends.digest);
     Ok(())
 }

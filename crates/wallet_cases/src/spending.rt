@@ -2,6 +2,7 @@ use super::chain::{STRANGER, deposited};
 use super::wallets::{Wallet, leaf, make_key, owner_of, started};
 use plasma_tx::RootLog;
 use std::alloc::Global;
+use std::process::Abort;
 use std::test::Fail;
 use wallet_core::CoinState;
 use wallet_node::{NodeRefusal, WalletKey};
@@ -43,14 +44,17 @@ fn spend_once(alloc: Global, key: WalletKey, log: &RootLog) -> Result<Answers, F
     Ok(spend(&mut node, log))
 }
 
-#[test]
-fn a_key_is_spent(rt: HostRuntime) -> Result<(), Fail> {
-    let key = make_key(rt.alloc())?;
-    let log = deposited(rt.alloc(), 33, &owner_of(&key))?;
-    let answers = spend_once(rt.alloc(), key, &log)?;
+fn assert_answers(rt: &impl Abort, answers: &Answers) {
     assert!(rt; answers.all && answers.left);
     assert_eq!(rt; answers.spent, Err(NodeRefusal::KeySpent { used: 32 }));
     assert_eq!(rt; answers.records, (1, 32));
     assert_eq!(rt; answers.state, CoinState::Leaving { tip: 33 });
+}
+
+#[test]
+fn a_key_is_spent(rt: HostRuntime) -> Result<(), Fail> {
+    let key = make_key(rt.alloc())?;
+    let log = deposited(rt.alloc(), 33, &owner_of(&key))?;
+    assert_answers(&rt, &spend_once(rt.alloc(), key, &log)?);
     Ok(())
 }

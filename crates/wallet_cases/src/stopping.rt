@@ -1,23 +1,28 @@
-use super::chain::{STRANGER, deposited};
+use super::chain::{Due, STRANGER, deposited, due_of};
 use super::outcomes::{ROWS, crashed};
 use super::wallets::{Wallet, begun, closed, digest_of, disk_of, leaf, make_key, opened, owner_of};
 use crash_disk::MemDisk;
+use plasma_base::NoMemory;
 use plasma_tx::RootLog;
 use std::alloc::Global;
 use std::process::Abort;
 use std::test::Fail;
+use wallet_core::CoinState;
 use wallet_node::{NodeRefusal, WalletKey};
 
 type Disks = (MemDisk, MemDisk);
 
-// The disks of a wallet that was begun, of which the leaves' one fails at the call with this number of a send.
+// A disk with the same bytes, without its calls, whose call with this number fails.
+fn failing(alloc: Global, disk: MemDisk, fails: u64) -> Result<MemDisk, NoMemory> {
+    disk_of(alloc, disk.bytes(), fails)
+}
+
+// The disks of a wallet that was begun, of which the leaves' one fails at the call with this number of a send; at 0
+// none does.
 fn fails_at(alloc: Global, call: u64) -> Result<Disks, Fail> {
     let (notes, leaves) = begun(alloc)?;
     let fails = if call > 0 { call.saturating_add(3) } else { 0 };
-    Ok((
-        disk_of(alloc, notes.bytes(), 0)?,
-        disk_of(alloc, leaves.bytes(), fails)?,
-    ))
+    Ok((notes, failing(alloc, leaves, fails)?))
 }
 
 // The answer to a send of coin 1, and the disks.
@@ -106,6 +111,7 @@ fn try_call(
     call: u64,
     row: &[bool; 4],
     log: &RootLog,
+    digest: Option<[u8; 32]>,
     key: &mut Option<WalletKey>,
 ) -> Result<(), Fail> {
     let answer = if call > 0 {
@@ -113,15 +119,23 @@ fn try_call(
     } else {
         Ok(0)
     };
-    let (_, first) = stop(alloc, 0, 0, log, key)?;
     for (place, is_bound) in row.iter().enumerate() {
-        let (sent, left) = stop(alloc, call, place, log, key)?;
-        assert_eq!(rt; sent, answer, "call {call} outcome {place}");
-        assert_eq!(rt;
-            left,
-            want(*is_bound, first.digest),
-            "call {call} outcome {place}"
-        );
+        let left = stop(alloc, call, place, log, key)?;
+        let want = (answer, want(*is_bound, digest));
+        assert_eq!(rt; left, want, "call {call} outcome {place}");
+    }
+    Ok(())
+}
+
+fn try_calls(
+    rt: &impl Abort,
+    alloc: Global,
+    log: &RootLog,
+    key: &mut Option<WalletKey>,
+) -> Result<(), Fail> {
+    let (_, first) = stop(alloc, 0, 0, log, key)?;
+    for (call, row) in ROWS.iter().enumerate() {
+        try_call(rt, alloc, call as u64, row, log, first.digest, key)?;
     }
     Ok(())
 }
@@ -130,9 +144,53 @@ fn try_call(
 fn a_stopped_send(rt: HostRuntime) -> Result<(), Fail> {
     let key = make_key(rt.alloc())?;
     let log = deposited(rt.alloc(), 2, &owner_of(&key))?;
-    let mut key = Some(key);
-    for (call, row) in ROWS.iter().enumerate() {
-        try_call(&rt, rt.alloc(), call as u64, row, &log, &mut key)?;
+    try_calls(&rt, rt.alloc(), &log, &mut Some(key))
+}
+
+// What a wallet answers of whose leaves' disk the first call of a send fails: to the send, to a leaving, to a
+// migration, and whether it is closed before and then. What coin 1 is, and what is due.
+#[derive(Drop)]
+struct Answers {
+    sent: Result<u32, NodeRefusal>,
+    left: Option<NodeRefusal>,
+    migrated: Result<(), NodeRefusal>,
+    closed: [bool; 2],
+    state: CoinState,
+    due: Due,
+}
+
+fn fail(node: &mut Wallet, log: &RootLog) -> Answers {
+    let before = node.is_closed();
+    let sent = leaf(node.send(log, 1, &STRANGER));
+    Answers {
+        sent,
+        left: node.leave(log, 1).err(),
+        migrated: node.migrate(),
+        closed: [before, node.is_closed()],
+        state: node.state(log, 1),
+        due: due_of(node.watch(log)),
     }
+}
+
+fn fail_once(alloc: Global, key: WalletKey, log: &RootLog) -> Result<Answers, Fail> {
+    let (notes, leaves) = fails_at(alloc, 1)?;
+    let mut node = opened(alloc, notes, leaves, Some(key))?;
+    Ok(fail(&mut node, log))
+}
+
+fn assert_answers(rt: &impl Abort, answers: &Answers) {
+    assert_eq!(rt; answers.sent, Err(NodeRefusal::DeviceFault));
+    assert_eq!(rt; answers.left, Some(NodeRefusal::Closed));
+    assert_eq!(rt; answers.migrated, Err(NodeRefusal::Closed));
+    assert_eq!(rt; answers.closed, [false, true]);
+    assert_eq!(rt; answers.state, CoinState::Held { tip: 1 });
+    assert_eq!(rt; answers.due, Due::Nothing);
+}
+
+#[test]
+fn a_fault_closes_both(rt: HostRuntime) -> Result<(), Fail> {
+    let key = make_key(rt.alloc())?;
+    let log = deposited(rt.alloc(), 2, &owner_of(&key))?;
+    assert_answers(&rt, &fail_once(rt.alloc(), key, &log)?);
     Ok(())
 }

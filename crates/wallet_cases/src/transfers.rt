@@ -67,17 +67,29 @@ pub fn paid(alloc: Global, key: &SecretKey, to: Owner, block: u64) -> Result<InB
     in_block(alloc, block, 1, signed(alloc, key, to)?.as_slice())
 }
 
-/// A payment of coin 1 in block 2, the history that it ends, and logs behind it: with the payment alone, with the exit
-/// by which the payer leaves with the coin, where a transfer that was shown cancelled that exit, where the new owner
-/// leaves with the coin and is challenged at its deposit, and where the coin is paid out to him.
+/// Logs of the exit by which the payer leaves with the coin that it paid: where it stands, and where a transfer that
+/// was shown cancelled it.
+#[derive(Drop)]
+pub struct PayersExit {
+    pub stands: RootLog,
+    pub cancelled: RootLog,
+}
+
+/// Logs of the new owner's exit: where it is challenged at the coin's deposit, and where the coin is paid out.
+#[derive(Drop)]
+pub struct OwnersExit {
+    pub challenged: RootLog,
+    pub withdrawn: RootLog,
+}
+
+/// A payment of coin 1 in block 2: the history that it ends, the log with the payment alone, and the logs of exits
+/// behind it.
 #[derive(Drop)]
 pub struct Payment {
     pub history: Vec<u8>,
     pub quiet: RootLog,
-    pub stands: RootLog,
-    pub cancelled: RootLog,
-    pub challenged: RootLog,
-    pub withdrawn: RootLog,
+    pub payers_exit: PayersExit,
+    pub exit: OwnersExit,
 }
 
 fn quiet(alloc: Global, payer: &Owner, paid: &InBlock) -> Result<RootLog, NoMemory> {
@@ -150,17 +162,38 @@ fn withdrawn(
     Ok(log)
 }
 
+fn old_exit(alloc: Global, payer: &Owner, paid: &InBlock) -> Result<PayersExit, NoMemory> {
+    Ok(PayersExit {
+        stands: stands(alloc, payer, paid)?,
+        cancelled: cancelled(alloc, payer, paid)?,
+    })
+}
+
+fn new_exit(
+    alloc: Global,
+    payer: &Owner,
+    to: &Owner,
+    paid: &InBlock,
+) -> Result<OwnersExit, NoMemory> {
+    Ok(OwnersExit {
+        challenged: challenged(alloc, payer, to, paid)?,
+        withdrawn: withdrawn(alloc, payer, to, paid)?,
+    })
+}
+
+// What is behind a payment from a payer.
+fn behind(alloc: Global, payer: &Owner, to: &Owner, paid: &InBlock) -> Result<Payment, NoMemory> {
+    Ok(Payment {
+        history: bundle(alloc, 1, 2, &[&paid.opening])?,
+        quiet: quiet(alloc, payer, paid)?,
+        payers_exit: old_exit(alloc, payer, paid)?,
+        exit: new_exit(alloc, payer, to, paid)?,
+    })
+}
+
 /// The payment to this owner.
 pub fn make_payment(alloc: Global, to: &Owner) -> Result<Payment, NoMemory> {
     let key = payer_key(alloc)?;
-    let payer = payer(&key);
     let paid = paid(alloc, &key, *to, 2)?;
-    Ok(Payment {
-        history: bundle(alloc, 1, 2, &[&paid.opening])?,
-        quiet: quiet(alloc, &payer, &paid)?,
-        stands: stands(alloc, &payer, &paid)?,
-        cancelled: cancelled(alloc, &payer, &paid)?,
-        challenged: challenged(alloc, &payer, to, &paid)?,
-        withdrawn: withdrawn(alloc, &payer, to, &paid)?,
-    })
+    behind(alloc, &payer(&key), to, &paid)
 }

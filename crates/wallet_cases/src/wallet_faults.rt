@@ -63,24 +63,29 @@ fn bytes_of(alloc: Global, notes: &MemDisk, leaves: &MemDisk) -> Result<Images, 
 }
 
 // A wallet that was just begun.
-fn begin(alloc: Global) -> Result<Images, Fail> {
+fn fresh(alloc: Global) -> Result<Images, Fail> {
     let (notes, leaves) = begun(alloc)?;
     Ok(bytes_of(alloc, &notes, &leaves)?)
 }
 
-// A wallet that sends coin 2 by a transfer that no block behind the third may hold; the log has two blocks yet.
-fn send(alloc: Global, log: &RootLog, key: &mut Option<WalletKey>) -> Result<Images, Fail> {
+// The disks of a wallet that sends coin 2 by a transfer that no block behind the third may hold, in a log of two
+// blocks.
+fn send(
+    alloc: Global,
+    log: &RootLog,
+    key: &mut Option<WalletKey>,
+) -> Result<(MemDisk, MemDisk), Fail> {
     let (notes, leaves) = begun(alloc)?;
     let mut node = opened(alloc, notes, leaves, key.take())?;
-    let answers = (
-        node.migrate(),
-        node.send_until(log, 2, &STRANGER, 3).is_ok(),
-    );
-    let (notes, leaves) = closed(node, key);
-    match answers {
-        (Ok(()), true) => Ok(bytes_of(alloc, &notes, &leaves)?),
-        _ => Err(NodeRefusal::NotSending.into()),
-    }
+    let _ = node.migrate();
+    let _ = node.send_until(log, 2, &STRANGER, 3);
+    Ok(closed(node, key))
+}
+
+fn sending(alloc: Global, me: &Owner, key: &mut Option<WalletKey>) -> Result<Images, Fail> {
+    let log = deposited(alloc, 2, me)?;
+    let (notes, leaves) = send(alloc, &log, key)?;
+    Ok(bytes_of(alloc, &notes, &leaves)?)
 }
 
 // The disks of which the one that the command writes on fails at the call with this number behind an opening's
@@ -268,10 +273,10 @@ fn try_call(
     key: &mut Option<WalletKey>,
 ) -> Result<(), Fail> {
     for (place, there) in row.iter().enumerate() {
-        let (said, left) = fail_and_crash(alloc, images, case.command, call, place, given, key)?;
-        let want = if *there { case.new } else { case.old };
-        assert_eq!(rt; said, answers(case, call), "call {call}");
-        assert_eq!(rt; left, want, "call {call} outcome {place}");
+        let tried = fail_and_crash(alloc, images, case.command, call, place, given, key)?;
+        let left = if *there { case.new } else { case.old };
+        let want = (answers(case, call), left);
+        assert_eq!(rt; tried, want, "call {call} outcome {place}");
     }
     Ok(())
 }
@@ -290,47 +295,65 @@ fn try_command(
     Ok(())
 }
 
-// The log of two blocks: coin 1 is a payer's, and coin 2 the wallet's.
-fn two_coins(alloc: Global, payer: &Owner, me: &Owner) -> Result<RootLog, NoMemory> {
+// The log of four blocks: coin 1 is deposited by the payer, and coin 2 by the wallet; the third has no leaf, and the
+// fourth has the payment.
+fn make_log(
+    alloc: Global,
+    payer: &Owner,
+    me: &Owner,
+    payment: &InBlock,
+) -> Result<RootLog, NoMemory> {
     let mut log = deposited(alloc, 1, payer)?;
     log.push(RootCall::Deposit {
         account: me.account,
         amount: 10,
         key: me.key,
     })?;
+    commit_empty(alloc, &mut log)?;
+    commit(&mut log, payment.root)?;
     Ok(log)
 }
 
-// With two more blocks: one that has no leaf, and one with the payment.
-fn make_given(alloc: Global, log: RootLog, payment: &InBlock) -> Result<Given, NoMemory> {
-    let mut log = log;
-    commit_empty(alloc, &mut log)?;
-    commit(&mut log, payment.root)?;
+// What is given with a payment from a payer.
+fn behind(alloc: Global, payer: &Owner, me: &Owner, payment: &InBlock) -> Result<Given, NoMemory> {
     let third = no_leaf(alloc, 3)?;
     Ok(Given {
-        log,
+        log: make_log(alloc, payer, me, payment)?,
         history: bundle(alloc, 1, 4, &[&third, &payment.opening])?,
         absence: bundle(alloc, 2, 3, &[&third])?,
     })
 }
 
+fn make_given(alloc: Global, me: &Owner) -> Result<Given, NoMemory> {
+    let key = payer_key(alloc)?;
+    let payment = paid(alloc, &key, *me, 4)?;
+    behind(alloc, &payer(&key), me, &payment)
+}
+
+// A command, over the disks of a wallet that was just begun or sends the coin.
+fn try_case(
+    rt: &impl Abort,
+    alloc: Global,
+    case: &Case,
+    me: &Owner,
+    given: &Given,
+    key: &mut Option<WalletKey>,
+) -> Result<(), Fail> {
+    let images = match case.command {
+        Command::Reclaim => sending(alloc, me, key)?,
+        _ => fresh(alloc)?,
+    };
+    try_command(rt, alloc, &images, case, given, key)
+}
+
 #[test]
 fn each_call_of_a_command_fails(rt: HostRuntime) -> Result<(), Fail> {
-    let alloc = rt.alloc();
-    let own = make_key(alloc)?;
+    let own = make_key(rt.alloc())?;
     let me = owner_of(&own);
     let mut key = Some(own);
-    let payer_key = payer_key(alloc)?;
-    let payment = paid(alloc, &payer_key, me, 4)?;
-    let log = two_coins(alloc, &payer(&payer_key), &me)?;
-    let (fresh, sending) = (begin(alloc)?, send(alloc, &log, &mut key)?);
-    let given = make_given(alloc, log, &payment)?;
+    let given = make_given(rt.alloc(), &me)?;
     for case in &CASES {
-        let images = match case.command {
-            Command::Reclaim => &sending,
-            _ => &fresh,
-        };
-        try_command(&rt, alloc, images, case, &given, &mut key)?;
+        try_case(&rt, rt.alloc(), case, &me, &given, &mut key)?;
     }
     Ok(())
 }

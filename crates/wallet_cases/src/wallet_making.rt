@@ -81,9 +81,12 @@ fn try_calls(
         } else {
             Ok(())
         };
-        let (answers, records) = fail(alloc, fails, place, key)?;
-        assert_eq!(rt; answers, [first, again], "fails {fails:?} place {place}");
-        assert_eq!(rt; records, (0, 0), "fails {fails:?} place {place}");
+        let begins = fail(alloc, fails, place, key)?;
+        assert_eq!(rt;
+            begins,
+            ([first, again], (0, 0)),
+            "fails {fails:?} place {place}"
+        );
     }
     Ok(())
 }
@@ -100,11 +103,14 @@ fn each_call_of_an_init_fails(rt: HostRuntime) -> Result<(), Fail> {
     Ok(())
 }
 
-// A disk on which an empty journal is written, but not synced.
+// The image of a journal without records.
+const EMPTY: [u8; 5] = [0x50, 0x47, 0x4a, 0x31, 0x00];
+
+// A disk on which it is written, but not synced.
 fn unsynced(alloc: Global) -> Result<MemDisk, Fail> {
     let mut disk = MemDisk::make(alloc, Vec::new(alloc), Vec::new(alloc));
     disk.make_room(1, 5)?;
-    disk.write_at(0, &[0x50, 0x47, 0x4a, 0x31, 0x00])?;
+    disk.write_at(0, &EMPTY)?;
     Ok(disk)
 }
 
@@ -137,7 +143,7 @@ fn of_first_form() -> Identity
 
 // What two inits answer with an identity of the first form.
 fn begin_first_form(alloc: Global) -> Result<[Result<(), InitRefusal>; 2], NoMemory> {
-    let (notes, leaves) = (disk_of(alloc, &[], 0)?, disk_of(alloc, &[], 0)?);
+    let (notes, leaves) = (empty(alloc)?, empty(alloc)?);
     let (notes, leaves, first) = init(alloc, notes, leaves, &of_first_form());
     let (_, _, again) = init(alloc, notes, leaves, &of_first_form());
     Ok([first, again])
@@ -208,20 +214,24 @@ fn a_wallet_is_opened_alike(rt: HostRuntime) -> Result<(), Fail> {
     Ok(())
 }
 
-// Why the wallet of two empty journals isn't opened.
-fn open_empty(alloc: Global) -> Result<Option<JournalRefusal>, NoMemory> {
-    let empty = [0x50, 0x47, 0x4a, 0x31, 0x00];
-    let (notes, leaves) = (disk_of(alloc, &empty, 0)?, disk_of(alloc, &empty, 0)?);
+// Why the wallet of two disks isn't opened.
+fn refusal(alloc: Global, disks: Disks) -> Option<JournalRefusal> {
+    let (notes, leaves) = disks;
     match WalletNode::open(alloc, notes, leaves) {
-        Ok(_) => Ok(None),
-        Err(returned) => Ok(Some(returned.why)),
+        Ok(_) => None,
+        Err(returned) => Some(returned.why),
     }
+}
+
+// A disk with a journal that has no record.
+fn empty(alloc: Global) -> Result<MemDisk, NoMemory> {
+    disk_of(alloc, &EMPTY, 0)
 }
 
 #[test]
 fn notes_without_an_identity(rt: HostRuntime) -> Result<(), Fail> {
-    let place = 4;
-    let why = JournalRefusal::NotJournal { place };
-    assert_eq!(rt; open_empty(rt.alloc())?, Some(why));
+    let alloc = rt.alloc();
+    let why = refusal(alloc, (empty(alloc)?, empty(alloc)?));
+    assert_eq!(rt; why, Some(JournalRefusal::NotJournal { place: 4 }));
     Ok(())
 }

@@ -37,9 +37,9 @@ fn each_call_of_an_init_fails(rt: HostRuntime) -> Result<(), Fail> {
             } else {
                 Ok(())
             };
-            let (answers, records) = begin_twice(rt.alloc(), call, place)?;
-            assert_eq!(rt; answers, [first, again], "call {call} outcome {place}");
-            assert_eq!(rt; records, (0, 0), "call {call} outcome {place}");
+            let begins = begin_twice(rt.alloc(), call, place)?;
+            let want = ([first, again], (0, 0));
+            assert_eq!(rt; begins, want, "call {call} outcome {place}");
         }
     }
     Ok(())
@@ -156,23 +156,28 @@ fn try_call(
     given: &Payment,
 ) -> Result<(), Fail> {
     for (place, there) in row.iter().enumerate() {
-        let (said, left) = fail_and_crash(alloc, image, case.command, call, place, given)?;
-        let want = if *there { case.new } else { case.old };
-        assert_eq!(rt; said, answers(case, call), "call {call} outcome {place}");
-        assert_eq!(rt; left, want, "call {call} outcome {place}");
+        let tried = fail_and_crash(alloc, image, case.command, call, place, given)?;
+        let left = if *there { case.new } else { case.old };
+        let want = (answers(case, call), left);
+        assert_eq!(rt; tried, want, "call {call} outcome {place}");
+    }
+    Ok(())
+}
+
+fn try_calls(rt: &impl Abort, alloc: Global, case: &Case, given: &Payment) -> Result<(), Fail> {
+    let image = image(alloc, case.command, given)?;
+    for (call, row) in ROWS.iter().enumerate() {
+        try_call(rt, alloc, image.as_slice(), case, call as u64, row, given)?;
     }
     Ok(())
 }
 
 #[test]
 fn each_call_of_a_command_fails(rt: HostRuntime) -> Result<(), Fail> {
-    let alloc = rt.alloc();
-    let given = make_payment(alloc, &owner_of(&make_key(alloc)?))?;
+    let owner = owner_of(&make_key(rt.alloc())?);
+    let given = make_payment(rt.alloc(), &owner)?;
     for case in &CASES {
-        let image = image(alloc, case.command, &given)?;
-        for (call, row) in ROWS.iter().enumerate() {
-            try_call(&rt, alloc, image.as_slice(), case, call as u64, row, &given)?;
-        }
+        try_calls(&rt, rt.alloc(), case, &given)?;
     }
     Ok(())
 }
