@@ -1,9 +1,8 @@
 use super::chain::{Due, STRANGER, bundle, due_of};
-use super::outcomes::crashed;
+use super::outcomes::crash_both;
 use super::transfers::{Payment, make_payment};
-use super::wallets::{Transfer, Wallet, closed, make_key, opened, owner_of, started, told};
+use super::wallets::{Disks, Transfer, Wallet, closed, make_key, opened, owner_of, started, told};
 use coin_history::HistoryRefusal;
-use crash_disk::MemDisk;
 use std::alloc::Global;
 use std::process::Abort;
 use std::test::Fail;
@@ -59,9 +58,7 @@ fn send_on(alloc: Global, node: &mut Wallet, given: &Payment) -> Keeps {
     }
 }
 
-// The wallet that took the coin up, crashed to what was synced.
-type Disks = (MemDisk, MemDisk);
-
+// Behind it both disks crash to what was synced.
 fn accept_first(
     alloc: Global,
     given: &Payment,
@@ -70,11 +67,7 @@ fn accept_first(
 ) -> Result<(Accepts, Disks), Fail> {
     let mut node = started(alloc, key.take())?;
     let accepts = accept(&mut node, given, cut);
-    let (notes, leaves) = closed(node, key);
-    Ok((
-        accepts,
-        (crashed(alloc, notes, 0)?, crashed(alloc, leaves, 0)?),
-    ))
+    Ok((accepts, crash_both(alloc, closed(node, key), 0)?))
 }
 
 fn send_then(
@@ -83,8 +76,7 @@ fn send_then(
     given: &Payment,
     key: &mut Option<WalletKey>,
 ) -> Result<Keeps, Fail> {
-    let (notes, leaves) = disks;
-    let mut node = opened(alloc, notes, leaves, key.take())?;
+    let mut node = opened(alloc, disks, key.take())?;
     let keeps = send_on(alloc, &mut node, given);
     let _ = closed(node, key);
     Ok(keeps)

@@ -1,6 +1,7 @@
 ghost use Rattle.std.specs.Prelude.{IfOk};
 ghost use Rattle.crash_disk.specs.Outcomes.{HasPattern};
 
+use super::wallets::Disks;
 use crash_disk::{MemDisk, Outcome};
 use plasma_base::{Bytes, NoMemory};
 use std::alloc::Global;
@@ -41,6 +42,15 @@ pub fn crashed(alloc: Global, disk: MemDisk, place: usize) -> Result<MemDisk, No
     let mut disk = disk;
     disk.crash(&outcome(alloc, place)?)?;
     Ok(disk)
+}
+
+/// Both disks of a wallet after crashes with that outcome.
+pub fn crash_both(alloc: Global, disks: Disks, place: usize) -> Result<Disks, NoMemory> {
+    let (notes, leaves) = disks;
+    Ok((
+        crashed(alloc, notes, place)?,
+        crashed(alloc, leaves, place)?,
+    ))
 }
 
 /// Whether the identity is there after such a crash, where the call with this number of an init fails on the notes'

@@ -1,6 +1,8 @@
 use super::chain::{Due, STRANGER, deposited, due_of};
-use super::outcomes::{ROWS, crashed};
-use super::wallets::{Wallet, begun, closed, digest_of, disk_of, leaf, make_key, opened, owner_of};
+use super::outcomes::{ROWS, crash_both};
+use super::wallets::{
+    Disks, Wallet, begun, closed, digest_of, disk_of, leaf, make_key, opened, owner_of,
+};
 use crash_disk::MemDisk;
 use plasma_base::NoMemory;
 use plasma_tx::RootLog;
@@ -9,8 +11,6 @@ use std::process::Abort;
 use std::test::Fail;
 use wallet_core::CoinState;
 use wallet_node::{NodeRefusal, WalletKey};
-
-type Disks = (MemDisk, MemDisk);
 
 // A disk with the same bytes, without its calls, whose call with this number fails.
 fn failing(alloc: Global, disk: MemDisk, fails: u64) -> Result<MemDisk, NoMemory> {
@@ -32,8 +32,7 @@ fn send(
     log: &RootLog,
     key: &mut Option<WalletKey>,
 ) -> Result<(Result<u32, NodeRefusal>, Disks), Fail> {
-    let (notes, leaves) = disks;
-    let mut node = opened(alloc, notes, leaves, key.take())?;
+    let mut node = opened(alloc, disks, key.take())?;
     let sent = leaf(node.send(log, 1, &STRANGER));
     Ok((sent, closed(node, key)))
 }
@@ -65,8 +64,7 @@ fn look_again(
     log: &RootLog,
     key: &mut Option<WalletKey>,
 ) -> Result<Left, Fail> {
-    let (notes, leaves) = disks;
-    let mut node = opened(alloc, notes, leaves, key.take())?;
+    let mut node = opened(alloc, disks, key.take())?;
     let left = look(&mut node, log);
     let _ = closed(node, key);
     Ok(left)
@@ -81,11 +79,7 @@ fn stop(
     key: &mut Option<WalletKey>,
 ) -> Result<(Result<u32, NodeRefusal>, Left), Fail> {
     let (sent, disks) = send(alloc, fails_at(alloc, call)?, log, key)?;
-    let (notes, leaves) = disks;
-    let disks = (
-        crashed(alloc, notes, place)?,
-        crashed(alloc, leaves, place)?,
-    );
+    let disks = crash_both(alloc, disks, place)?;
     Ok((sent, look_again(alloc, disks, log, key)?))
 }
 
@@ -173,8 +167,7 @@ fn fail(node: &mut Wallet, log: &RootLog) -> Answers {
 }
 
 fn fail_once(alloc: Global, key: WalletKey, log: &RootLog) -> Result<Answers, Fail> {
-    let (notes, leaves) = fails_at(alloc, 1)?;
-    let mut node = opened(alloc, notes, leaves, Some(key))?;
+    let mut node = opened(alloc, fails_at(alloc, 1)?, Some(key))?;
     Ok(fail(&mut node, log))
 }
 

@@ -1,8 +1,7 @@
 use super::chain::{STRANGER, bundle, commit, commit_empty, deposited, no_leaf};
-use super::outcomes::{ROWS, crashed};
+use super::outcomes::{ROWS, crash_both};
 use super::transfers::{InBlock, paid, payer, payer_key};
-use super::wallets::{Wallet, begun, closed, disk_of, make_key, opened, owner_of};
-use crash_disk::MemDisk;
+use super::wallets::{Disks, Wallet, begun, closed, disk_of, make_key, opened, owner_of, started};
 use plasma_base::NoMemory;
 use plasma_tx::{Owner, RootCall, RootLog};
 use std::alloc::Global;
@@ -55,7 +54,8 @@ struct Images {
     leaves: Vec<u8>,
 }
 
-fn bytes_of(alloc: Global, notes: &MemDisk, leaves: &MemDisk) -> Result<Images, NoMemory> {
+fn bytes_of(alloc: Global, disks: Disks) -> Result<Images, NoMemory> {
+    let (notes, leaves) = disks;
     Ok(Images {
         notes: notes.bytes().to_vec(alloc)?,
         leaves: leaves.bytes().to_vec(alloc)?,
@@ -64,19 +64,13 @@ fn bytes_of(alloc: Global, notes: &MemDisk, leaves: &MemDisk) -> Result<Images, 
 
 // A wallet that was just begun.
 fn fresh(alloc: Global) -> Result<Images, Fail> {
-    let (notes, leaves) = begun(alloc)?;
-    Ok(bytes_of(alloc, &notes, &leaves)?)
+    Ok(bytes_of(alloc, begun(alloc)?)?)
 }
 
 // The disks of a wallet that sends coin 2 by a transfer that no block behind the third may hold, in a log of two
 // blocks.
-fn send(
-    alloc: Global,
-    log: &RootLog,
-    key: &mut Option<WalletKey>,
-) -> Result<(MemDisk, MemDisk), Fail> {
-    let (notes, leaves) = begun(alloc)?;
-    let mut node = opened(alloc, notes, leaves, key.take())?;
+fn send(alloc: Global, log: &RootLog, key: &mut Option<WalletKey>) -> Result<Disks, Fail> {
+    let mut node = started(alloc, key.take())?;
     let _ = node.migrate();
     let _ = node.send_until(log, 2, &STRANGER, 3);
     Ok(closed(node, key))
@@ -84,18 +78,17 @@ fn send(
 
 fn sending(alloc: Global, me: &Owner, key: &mut Option<WalletKey>) -> Result<Images, Fail> {
     let log = deposited(alloc, 2, me)?;
-    let (notes, leaves) = send(alloc, &log, key)?;
-    Ok(bytes_of(alloc, &notes, &leaves)?)
+    Ok(bytes_of(alloc, send(alloc, &log, key)?)?)
 }
 
 // The disks of which the one that the command writes on fails at the call with this number behind an opening's
 // three; at 0 none does.
-fn disks(
+fn make_disks(
     alloc: Global,
     images: &Images,
     command: Command,
     call: u64,
-) -> Result<(MemDisk, MemDisk), NoMemory> {
+) -> Result<Disks, NoMemory> {
     let fails = if call > 0 { call.saturating_add(3) } else { 0 };
     let (notes, leaves) = match command {
         Command::Send => (0, fails),
@@ -124,24 +117,11 @@ fn fail(
     call: u64,
     given: &Given,
     key: &mut Option<WalletKey>,
-) -> Result<(Answers, (MemDisk, MemDisk)), Fail> {
-    let (notes, leaves) = disks(alloc, images, command, call)?;
-    let mut node = opened(alloc, notes, leaves, key.take())?;
+) -> Result<(Answers, Disks), Fail> {
+    let disks = make_disks(alloc, images, command, call)?;
+    let mut node = opened(alloc, disks, key.take())?;
     let answers = run_twice(&mut node, command, given);
     Ok((answers, closed(node, key)))
-}
-
-// The outcome with this number of a crash of both disks.
-fn crash(
-    alloc: Global,
-    disks: (MemDisk, MemDisk),
-    place: usize,
-) -> Result<(MemDisk, MemDisk), NoMemory> {
-    let (notes, leaves) = disks;
-    Ok((
-        crashed(alloc, notes, place)?,
-        crashed(alloc, leaves, place)?,
-    ))
 }
 
 // What is there of a wallet that is opened: how many notes and leaves, what the command's coin is, and what the
@@ -163,13 +143,12 @@ fn look(node: &mut Wallet, command: Command, given: &Given) -> Left {
 
 fn look_again(
     alloc: Global,
-    disks: (MemDisk, MemDisk),
+    disks: Disks,
     command: Command,
     given: &Given,
     key: &mut Option<WalletKey>,
 ) -> Result<Left, Fail> {
-    let (notes, leaves) = disks;
-    let mut node = opened(alloc, notes, leaves, key.take())?;
+    let mut node = opened(alloc, disks, key.take())?;
     let left = look(&mut node, command, given);
     let _ = closed(node, key);
     Ok(left)
@@ -186,7 +165,7 @@ fn fail_and_crash(
     key: &mut Option<WalletKey>,
 ) -> Result<(Answers, Left), Fail> {
     let (answers, disks) = fail(alloc, images, command, call, given, key)?;
-    let disks = crash(alloc, disks, place)?;
+    let disks = crash_both(alloc, disks, place)?;
     Ok((answers, look_again(alloc, disks, command, given, key)?))
 }
 

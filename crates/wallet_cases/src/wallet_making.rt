@@ -2,8 +2,8 @@ ghost use Rattle.std.specs.Prelude.{◌≡◌, true};
 ghost use Rattle.lms_sign.specs.Types.{is_supported};
 
 use super::chain::TAG;
-use super::outcomes::{crashed, is_begun};
-use super::wallets::{begun, closed, disk_of, make_key, opened, owner_of, who};
+use super::outcomes::{crash_both, is_begun};
+use super::wallets::{Disks, begun, closed, disk_of, make_key, opened, owner_of, who};
 use crash_disk::{Disk, MemDisk};
 use gate_journal::{InitRefusal, JournalRefusal};
 use lms_sign::LmsTypes;
@@ -13,17 +13,6 @@ use std::alloc::Global;
 use std::process::Abort;
 use std::test::Fail;
 use wallet_node::{Identity, WalletKey, WalletNode, init};
-
-// The disks of the notes and of the leaves.
-type Disks = (MemDisk, MemDisk);
-
-fn crash_both(alloc: Global, disks: Disks, place: usize) -> Result<Disks, NoMemory> {
-    let (notes, leaves) = disks;
-    Ok((
-        crashed(alloc, notes, place)?,
-        crashed(alloc, leaves, place)?,
-    ))
-}
 
 fn begin(alloc: Global, disks: Disks) -> (Disks, Result<(), InitRefusal>) {
     let (notes, leaves) = disks;
@@ -44,8 +33,7 @@ fn begin_twice(
 
 // How many notes and leaves the wallet of two disks has.
 fn records(alloc: Global, disks: Disks, key: &mut Option<WalletKey>) -> Result<(u64, u64), Fail> {
-    let (notes, leaves) = disks;
-    let node = opened(alloc, notes, leaves, key.take())?;
+    let node = opened(alloc, disks, key.take())?;
     let records = node.records();
     let _ = closed(node, key);
     Ok(records)
@@ -163,7 +151,6 @@ type Said = (Owner, [u8; 32], bool);
 
 // Opened under SHA-256, with a key of another wallet at hand.
 fn open_with_another(alloc: Global, disks: Disks) -> Result<(Said, Disks), Fail> {
-    let (notes, leaves) = disks;
     let other = WalletKey::make(
         alloc,
         &Identity {
@@ -171,7 +158,7 @@ fn open_with_another(alloc: Global, disks: Disks) -> Result<(Said, Disks), Fail>
             ..who()
         },
     )?;
-    let node = opened(alloc, notes, leaves, Some(other))?;
+    let node = opened(alloc, disks, Some(other))?;
     let said = (node.owner(), node.tag(), node.is_closed());
     Ok((said, node.take_disks()))
 }

@@ -14,6 +14,9 @@ use wallet_node::{Identity, NodeRefusal, Sent, WalletKey, WalletNode, init};
 /// A wallet over two disks in memory.
 pub type Wallet = WalletNode<MemDisk, Sha>;
 
+/// The disks of the notes and of the leaves.
+pub type Disks = (MemDisk, MemDisk);
+
 /// The wallet of account 11.
 pub fn who() -> Identity
     ensures { is_supported result.types ≡ true }
@@ -46,8 +49,8 @@ pub fn disk_of(alloc: Global, bytes: &[u8], fails: u64) -> Result<MemDisk, NoMem
     Ok(MemDisk::make(alloc, bytes, fails))
 }
 
-/// The disks of the notes and of the leaves on which the wallet was begun.
-pub fn begun(alloc: Global) -> Result<(MemDisk, MemDisk), Fail> {
+/// The disks on which the wallet was begun.
+pub fn begun(alloc: Global) -> Result<Disks, Fail> {
     let (notes, leaves, answer) = init(
         alloc,
         disk_of(alloc, &[], 0)?,
@@ -61,12 +64,8 @@ pub fn begun(alloc: Global) -> Result<(MemDisk, MemDisk), Fail> {
 }
 
 /// The wallet of two disks, with a key at hand or without one.
-pub fn opened(
-    alloc: Global,
-    notes: MemDisk,
-    leaves: MemDisk,
-    key: Option<WalletKey>,
-) -> Result<Wallet, Fail> {
+pub fn opened(alloc: Global, disks: Disks, key: Option<WalletKey>) -> Result<Wallet, Fail> {
+    let (notes, leaves) = disks;
     match WalletNode::open_keyed(alloc, notes, leaves, Sha, key) {
         Ok(node) => Ok(node),
         Err(returned) => Err(returned.why.into()),
@@ -74,7 +73,7 @@ pub fn opened(
 }
 
 /// The disks of a wallet, with its key at hand again.
-pub fn closed(node: Wallet, key: &mut Option<WalletKey>) -> (MemDisk, MemDisk) {
+pub fn closed(node: Wallet, key: &mut Option<WalletKey>) -> Disks {
     let (notes, leaves, own) = node.take_apart();
     *key = Some(own);
     (notes, leaves)
@@ -82,14 +81,13 @@ pub fn closed(node: Wallet, key: &mut Option<WalletKey>) -> (MemDisk, MemDisk) {
 
 /// The wallet that was just begun, with its key at hand or without it.
 pub fn started(alloc: Global, key: Option<WalletKey>) -> Result<Wallet, Fail> {
-    let (notes, leaves) = begun(alloc)?;
-    opened(alloc, notes, leaves, key)
+    opened(alloc, begun(alloc)?, key)
 }
 
 /// The same wallet, taken apart and opened again.
 pub fn reopened(alloc: Global, node: Wallet) -> Result<Wallet, Fail> {
     let (notes, leaves, key) = node.take_apart();
-    opened(alloc, notes, leaves, Some(key))
+    opened(alloc, (notes, leaves), Some(key))
 }
 
 /// What a transfer says that was sent: the leaf that signs it, the coin, its parent, the account of the new
