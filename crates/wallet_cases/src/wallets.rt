@@ -3,7 +3,6 @@ ghost use Rattle.lms_sign.specs.Types.{is_supported};
 
 use super::chain::TAG;
 use crash_disk::MemDisk;
-use gate_journal::InitRefusal;
 use lms_sign::LmsTypes;
 use plasma_base::{Hash32, NoMemory, Sha};
 use plasma_tx::{Owner, SignedTx, signed_by};
