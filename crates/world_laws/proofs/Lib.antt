@@ -19,3 +19,4 @@ pub mod DueTaken
 pub mod Exhibited
 pub mod OwnExits
 pub mod Lost
+pub mod Starts
