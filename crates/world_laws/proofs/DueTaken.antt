@@ -36,7 +36,7 @@ use Rattle.world_laws.proofs.Nodes.{same-node}
 use Rattle.world_laws.proofs.Guards.{kept-some, due_of-coin}
 
 -- nothing at a deposit is a history
-bare-history : (tests : Tests) (rules : Rules) (log : List RootCall) (b : Bundle) (made : CoinView)
+pub bare-history : (tests : Tests) (rules : Rules) (log : List RootCall) (b : Bundle) (made : CoinView)
     → coin_at log b.coin ≡ Some made → made.deposit ≡ b.tip → b.openings ≡ []
     → IsHistory tests rules log b (links_of rules made b)
 unfolding committed_blocks AreLinked

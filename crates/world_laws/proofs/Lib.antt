@@ -32,5 +32,6 @@ pub mod Exhibited
 pub mod Takings
 pub mod OwnExits
 pub mod Lost
+pub mod Starts
 pub mod Words
 pub mod Promises

@@ -84,7 +84,7 @@ links-at rules c (o ∷ os) =
       | Some tx ↦ (refl, links-at rules c os)
     ]
 
-got-has : (xs : List Link) (i : ℕ) (link : Link) → slice_get xs i ≡ Some link → Has xs link
+pub got-has : (xs : List Link) (i : ℕ) (link : Link) → slice_get xs i ≡ Some link → Has xs link
 got-has [] i link is = absurd (cc is)
 got-has (x ∷ xs) zero link is = inl (some_same x link is)
 got-has (x ∷ xs) (suc i) link is = inr (got-has xs i link is)

@@ -7,12 +7,13 @@ use Rattle.root_rules.specs.Shown.{Rules, tests_by}
 use Rattle.root_rules.specs.Table.{answer_to, is_accepted}
 use Rattle.world_rules.specs.declared.verdict.VerdictKind.{VerdictKind}
 use Rattle.world_rules.specs.declared.verdict.Exhibit.{Exhibit}
-use Rattle.world_rules.specs.Events.{Event, log_of, coin_of_call, wallet_owner}
+use Rattle.world_rules.specs.Events.{Event, log_of, coin_of_call, wallet_owner, offers_of}
+use Rattle.world_rules.specs.Deeds.{exit_block}
 use Rattle.world_rules.specs.Exhibits.{collides, is_forged, exhibit_of}
 use Rattle.world_rules.specs.Safety.{holds, is_attended, is_safe}
 use Rattle.world_rules.specs.Verdicts.{verdict_at}
 use Rattle.world_rules.specs.Laws.{IsDigest}
-use Rattle.world_laws.specs.Headline.{was_declared_before, fresh_offers, lacks_bond}
+use Rattle.world_laws.specs.Headline.{was_declared_before, fresh_offers, lacks_bond, is_start, IsTaken}
 use Rattle.world_laws.specs.Legal.{IsLegal}
 
 -- The coin that a wallet holds is safe at each event. Unless the events up to it show, at this coin, two byte strings
@@ -52,3 +53,11 @@ LegalLostIsExhibited = (dig : List ℕ → List ℕ) (rules : Rules) (events : L
     → IsDigest dig → IsLegal (tests_by dig) rules events → wallet_owner events w ≡ Some me
     → verdict_at (tests_by dig) rules events me w c e ≡ VerdictKind.Lost
     → exhibit_of dig rules.tag events ≢ Exhibit.Nothing
+
+-- A start that a wallet offers is taken while the wallet holds the coin at the exit's block, but where the exit stands
+-- or the money is missing.
+abbrev pub LegalStartsAreTaken : Type 0
+LegalStartsAreTaken = (dig : List ℕ → List ℕ) (rules : Rules) (events : List Event) (w : ℕ) (call : RootCall)
+    → IsLegal (tests_by dig) rules events → Contains (offers_of events w) call → is_start call ≡ true
+    → holds events w (coin_of_call call) (exit_block call) ≡ true
+    → IsTaken (answer_to (tests_by dig) rules (log_of events) call)

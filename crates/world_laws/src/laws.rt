@@ -1,4 +1,4 @@
-ghost use Rattle.world_laws.specs.LegalLaws.{LegalCoinsAreSafe, LegalDueCallsAreTaken, LegalLostIsExhibited, OneWalletHoldsLegally};
+ghost use Rattle.world_laws.specs.LegalLaws.{LegalCoinsAreSafe, LegalDueCallsAreTaken, LegalLostIsExhibited, LegalStartsAreTaken, OneWalletHoldsLegally};
 
 /// A law: of legal events, no other account's exit of an attended coin that a wallet holds is paid, and its
 /// own exit is never cancelled or dropped, and pays when it is finished at its end; unless they show two
@@ -21,4 +21,10 @@ pub fn due_calls_are_taken()
 /// A law: a verdict `lost` on a wallet stands only above an exhibit.
 pub fn lost_is_exhibited()
     ensures legal { LegalLostIsExhibited }
+{}
+
+/// A law: a start that a wallet offers is taken while the wallet holds the coin at the exit's block, but where
+/// the exit stands or the money is missing.
+pub fn starts_are_taken()
+    ensures legal { LegalStartsAreTaken }
 {}
