@@ -26,3 +26,4 @@ pub mod Offers
 pub mod Safe
 pub mod OneHolder
 pub mod DueTaken
+pub mod SignedMessages
