@@ -27,3 +27,4 @@ pub mod Safe
 pub mod OneHolder
 pub mod DueTaken
 pub mod SignedMessages
+pub mod SignedDeeds
