@@ -28,3 +28,4 @@ pub mod OneHolder
 pub mod DueTaken
 pub mod SignedMessages
 pub mod SignedDeeds
+pub mod SignedStays
