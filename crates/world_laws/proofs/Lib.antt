@@ -29,3 +29,4 @@ pub mod DueTaken
 pub mod SignedMessages
 pub mod SignedDeeds
 pub mod SignedStays
+pub mod SignedRuns

@@ -2,5 +2,7 @@
 #![tactic(auto)]
 
 mod laws;
+mod signed_laws;
 
 pub use laws::{due_calls_are_taken, held_coins_are_safe, one_wallet_holds};
+pub use signed_laws::leaves_sign_one_message;
