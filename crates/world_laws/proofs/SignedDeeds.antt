@@ -1,5 +1,5 @@
 -- What a wallet's command gives out that is answered with a leaf is the body that the leaf binds, with the signature.
-use Rattle.std.proofs.Common.{◌≡◌, ℕ, ◌^◌, ◌<◌, ◌&&◌, not, nat_lt, Bool, true, false, if◌then◌else◌, List, [], ◌∷◌, ◌++◌, Option, Some, None, Ok, Err, inl, inr, refl, sym, ap, ◌∙◌, subst, bytes_eq}
+use Rattle.std.proofs.Common.{◌≡◌, ℕ, ◌^◌, ◌<◌, ◌&&◌, not, Bool, true, false, if◌then◌else◌, List, [], ◌∷◌, ◌++◌, Option, Some, None, Ok, Err, inl, inr, refl, sym, ap, ◌∙◌, subst, bytes_eq}
 use Rattle.std.specs.Prelude.{Result, IfSome, slice_get, unwrap_or, option_map}
 use Rattle.std.proofs.lemmas.Bool.{and_parts, eq-eqb}
 use Rattle.line_forms.specs.declared.tokens.OutcomeToken.{OutcomeToken}
@@ -33,7 +33,7 @@ use Rattle.world_rules.specs.Steps.{LineEffect, says, is_opening, with_records, 
 use Rattle.world_rules.specs.Laws.{IsCommandIn}
 use Rattle.world_rules.proofs.Existence.{position-is}
 use Rattle.world_rules.proofs.FitLines.{command-fit, cut-fit}
-use Rattle.world_rules.proofs.KeptNode.{IsGoodOwner, IsFitWallet, IsFit}
+use Rattle.world_rules.proofs.KeptNode.{IsGoodOwner, IsFitWallet}
 use Rattle.world_rules.proofs.KeptWallet.{KeptWallet}
 use Rattle.world_rules.proofs.KeptWorld.{KeptWorld, to-owner, few-blocks}
 use Rattle.world_rules.proofs.Said.{said}

@@ -1,12 +1,12 @@
 -- A message that a leaf binds is a body's bytes, and the events of a run say which body each leaf binds.
-use Rattle.std.proofs.Common.{◌≡◌, ℕ, zero, suc, ◌<◌, ◌==◌, ◌&&◌, Bool, true, false, if◌then◌else◌, List, [], ◌∷◌, ◌++◌, length, map, drop, reverse, Option, Some, None, Ok, Err, is_ok, inl, inr, refl, sym, ap, ◌∙◌, subst, find, append-nil, arith}
+use Rattle.std.proofs.Common.{◌≡◌, ℕ, zero, suc, ◌==◌, true, false, if◌then◌else◌, List, [], ◌∷◌, ◌++◌, length, drop, reverse, Option, Some, None, Ok, Err, is_ok, inl, inr, refl, sym, ap, ◌∙◌, append-nil, arith}
 use Rattle.std.specs.Prelude.{Result, slice_get, option_map}
 use Rattle.std.specs.Option.{option_map_or}
-use Rattle.std.specs.List.{AllByRecursion, slice_range, range_with_len}
+use Rattle.std.specs.List.{slice_range, range_with_len}
 use Rattle.std.proofs.lemmas.Bool.{and_parts, cases_eq, eqb-true, eq-eqb, ne_eqb, false≢true}
 use Rattle.std.proofs.lemmas.List.{drop_all, length-map, length-reverse, reverse-append}
 use Rattle.std.proofs.lemmas.List.Elements.{All-contains}
-use Rattle.std.proofs.lemmas.Option.{slice_get-map, slice_get_within}
+use Rattle.std.proofs.lemmas.Option.{slice_get-map}
 use Rattle.leaf_journal.specs.Records.{messages_of}
 use Rattle.leaf_journal.proofs.KindRecords.{messages_pass}
 use Rattle.plasma_tx.specs.declared.body.Body.{Body}
@@ -20,7 +20,7 @@ use Rattle.node_rules.specs.WalletRecords.{is_body, leaves_in}
 use Rattle.node_rules.specs.Wallet.{WalletRecords, used, names_coin, last_leaf}
 use Rattle.node_rules.specs.WalletOpening.{leaves_of}
 use Rattle.node_rules.proofs.WalletGrow.{wallet-parts}
-use Rattle.watch_duty.proofs.Members.{Has, has-contains, contains-has, all-has}
+use Rattle.watch_duty.proofs.Members.{Has, has-contains, all-has}
 use Rattle.world_rules.specs.Events.{leaf_at}
 use Rattle.world_rules.proofs.ByteTexts.{Small}
 use Rattle.world_rules.proofs.Said.{Said}

@@ -1,5 +1,5 @@
 -- Over every run, what a wallet's node gave out is what its leaf binds, so no leaf of its key signs two messages.
-use Rattle.std.proofs.Common.{◌≡◌, ℕ, zero, suc, Bool, true, false, List, [], ◌∷◌, ◌++◌, slice_get, find, Option, Some, None, inl, inr, refl, sym, ap, ◌∙◌, subst}
+use Rattle.std.proofs.Common.{◌≡◌, ℕ, zero, suc, true, List, [], ◌∷◌, ◌++◌, slice_get, find, Option, Some, None, inl, inr, refl, sym, ap, ◌∙◌, subst}
 use Rattle.std.specs.Prelude.{option_map, option_and_then}
 use Rattle.std.specs.Option.{option_or}
 use Rattle.std.specs.List.{filter_map, cons_option}
@@ -29,12 +29,16 @@ use Rattle.world_rules.proofs.KeptWorld.{KeptWorld}
 use Rattle.world_rules.proofs.NodeLaws.{records_grow}
 use Rattle.world_rules.proofs.Runs.{begun}
 use Rattle.world_rules.proofs.StepLaws.{stepped}
-use Rattle.world_laws.specs.Headline.{IsRun, IsBoundTo, GivenOutIsBound, LeavesSignOneMessage}
+use Rattle.world_laws.specs.Headline.{IsRun, GivenOutIsBound, LeavesSignOneMessage}
 use Rattle.world_laws.proofs.Lists.{some_same, none_some}
 use Rattle.world_laws.proofs.Origins.{does}
 use Rattle.world_laws.proofs.Acts.{over_lines}
 use Rattle.world_laws.proofs.SignedDeeds.{named-role, new-sent}
 use Rattle.world_laws.proofs.SignedStays.{stays, leaf-stays, KeysApart, keys-does}
+
+-- what there is is one
+one-of : {A : Type 0} (o : Option A) (x y : A) → o ≡ Some x → o ≡ Some y → x ≡ y
+one-of o x y one other = some_same x y (sym one ∙ other)
 
 -- ---- what holds of a run
 
@@ -236,9 +240,10 @@ given_out_is_bound dig lines run world entry name own q n node run_is has in_com
     let events = events_of run.entries in
     let there = contains-has run.entries entry has in
     let signed = (runs-signed dig lines run world run_is).signed entry there name own q in_command sent in
-    let same_n : signed.n ≡ n = some_same signed.n n (sym signed.number ∙ number) in
+    let same_n : signed.n ≡ n = one-of (number_of is_wallet_role world name) signed.n n signed.number number in
     let same_node : signed.node ≡ node =
-    some_same signed.node node (sym signed.node_is ∙ ap (slice_get world.nodes) same_n ∙ node_is) in
+    one-of (slice_get world.nodes signed.n) signed.node node signed.node_is
+    (ap (slice_get world.nodes) same_n ∙ node_is) in
     record {
       body = signed.body;
       leaf = subst (λ (k : ℕ). leaf_at q (bound_by events k) ≡ Some signed.body) same_n signed.leaf;
@@ -264,60 +269,66 @@ record IsOwn (events : List Event) (world : World) (given : GivenOut) : Type 0 w
 
 module _ (dig : List ℕ → List ℕ) (lines : List Line) (run : Run) (world : World) (run_is : IsRun dig lines run world)
   where
+    own-from : (entry : TraceEntry) (name : List ℕ) (own : WalletCommand) (q : ℕ) (owner : Owner)
+      → Has run.entries entry → IsCommandIn entry.line (Command.Wallet name own) → entry.reply ≡ Reply.Sent q
+      → owner_named world name ≡ Some owner → IsOwn (events_of run.entries) world (given-of q entry.made owner)
+  own-from entry name own q owner has in_command sent owner_is =
+      let kept = (run-kept dig run_is.digest lines run run_is.lines_are run_is.run_is).world world run_is.world_is in
+      let signed = (runs-signed dig lines run world run_is).signed entry has name own q in_command sent in
+      let same : owner ≡ owner_of_node signed.node =
+      one-of (owner_named world name) owner (owner_of_node signed.node) owner_is
+      (owner-of world name signed.n signed.node signed.number signed.node_is) in
+      record {
+        n = signed.n;
+        node = signed.node;
+        node_is = signed.node_is;
+        role = named-role dig (events_of run.entries) world kept name signed.n signed.node signed.number
+            signed.node_is;
+        key = ap (λ (o : Owner). o.key) same;
+        body = signed.body;
+        leaf = signed.leaf;
+        bytes = signed.made_is;
+      }
+
   own-of : (entry : TraceEntry) (given : GivenOut) → Has run.entries entry → given_by world entry ≡ Some given
       → IsOwn (events_of run.entries) world given
   own-of entry given has is =
-      let kept = (run-kept dig run_is.digest lines run run_is.lines_are run_is.run_is).world world run_is.world_is in
       let sent = and_then_some (λ leaf. option_map (given-of leaf entry.made)
       (option_and_then (owner_named world) (wallet_of_line entry.line))) (leaf_sent entry.reply) given is in
       let mapped = option_map_some (given-of sent.0 entry.made)
       (option_and_then (owner_named world) (wallet_of_line entry.line)) given sent.2 in
       let named = and_then_some (owner_named world) (wallet_of_line entry.line) mapped.0 mapped.1 in
       let command = command-of entry.line named.0 named.1 in
-      let signed = (runs-signed dig lines run world run_is).signed entry has named.0 command.0 sent.0 command.1
-      (sent-of entry.reply sent.0 sent.1) in
-      let owner : mapped.0 ≡ owner_of_node signed.node =
-      some_same mapped.0 (owner_of_node signed.node)
-      (sym named.2 ∙ owner-of world named.0 signed.n signed.node signed.number signed.node_is) in
-      subst (IsOwn (events_of run.entries) world) mapped.2 (record {
-        n = signed.n;
-        node = signed.node;
-        node_is = signed.node_is;
-        role = named-role dig (events_of run.entries) world kept named.0 signed.n signed.node signed.number
-            signed.node_is;
-        key = ap (λ (o : Owner). o.key) owner;
-        body = signed.body;
-        leaf = signed.leaf;
-        bytes = signed.made_is;
-      })
+      subst (IsOwn (events_of run.entries) world) mapped.2
+      (own-from entry named.0 command.0 sent.0 mapped.0 has command.1 (sent-of entry.reply sent.0 sent.1) named.2)
 
   given-own : (given : GivenOut) → Has (given_out world run.entries) given
-      → IsOwn (events_of run.entries) world given
-  unfolding given_out
-  given-own given has =
-      let found = read-from (given_by world) run.entries given has in own-of found.0 given found.1 found.2
+        → IsOwn (events_of run.entries) world given
+    unfolding given_out
+    given-own given has =
+        let found = read-from (given_by world) run.entries given has in own-of found.0 given found.1 found.2
 
-  one-message : (one other : GivenOut) → IsOwn (events_of run.entries) world one
-      → IsOwn (events_of run.entries) world other → one.key ≡ other.key → one.leaf ≡ other.leaf
-      → one.bytes ≡ other.bytes
-  one-message one other first second same_key same_leaf =
-      let events = events_of run.entries in
-      let same_n : first.n ≡ second.n =
-      (runs-signed dig lines run world run_is).apart first.n second.n first.node second.node first.node_is
-      second.node_is first.role second.role (sym first.key ∙ same_key ∙ second.key) in
-      let same_node : first.node ≡ second.node =
-      some_same first.node second.node
-      (sym first.node_is ∙ ap (slice_get world.nodes) same_n ∙ second.node_is) in
-      let same_body : first.body ≡ second.body =
-      some_same first.body second.body
-      (sym first.leaf ∙ (λ i. leaf_at (same_leaf i) (bound_by events (same_n i))) ∙ second.leaf) in
-      first.bytes
-      ∙ (λ i. body_text (same_body i)
-      ++ signature_of (secret_of (who_is (same_node i).notes)) (same_leaf i) (body_text (same_body i)))
-      ∙ sym second.bytes
+    one-message : (one other : GivenOut) → IsOwn (events_of run.entries) world one
+        → IsOwn (events_of run.entries) world other → one.key ≡ other.key → one.leaf ≡ other.leaf
+        → one.bytes ≡ other.bytes
+    one-message one other first second same_key same_leaf =
+        let events = events_of run.entries in
+        let same_n : first.n ≡ second.n =
+        (runs-signed dig lines run world run_is).apart first.n second.n first.node second.node first.node_is
+        second.node_is first.role second.role (sym first.key ∙ same_key ∙ second.key) in
+        let same_node : first.node ≡ second.node =
+        one-of (slice_get world.nodes first.n) first.node second.node first.node_is
+        (ap (slice_get world.nodes) same_n ∙ second.node_is) in
+        let same_body : first.body ≡ second.body =
+        one-of (leaf_at one.leaf (bound_by events first.n)) first.body second.body first.leaf
+        ((λ i. leaf_at (same_leaf i) (bound_by events (same_n i))) ∙ second.leaf) in
+        first.bytes
+        ∙ (λ i. body_text (same_body i)
+        ++ signature_of (secret_of (who_is (same_node i).notes)) (same_leaf i) (body_text (same_body i)))
+        ∙ sym second.bytes
 
 pub leaves_sign_one_message : LeavesSignOneMessage
-leaves_sign_one_message dig lines run begun run_is world one other world_is has_one has_other same_key same_leaf =
+leaves_sign_one_message dig lines run known run_is world one other world_is has_one has_other same_key same_leaf =
     let here : IsRun dig lines run world =
     record { digest = run_is.digest; lines_are = run_is.lines_are; run_is = run_is.run_is; world_is = world_is } in
     ap (λ (bytes : List ℕ). body_at_start bytes)

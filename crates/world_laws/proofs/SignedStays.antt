@@ -1,12 +1,11 @@
 -- What stays of a wallet as lines follow: the number that its name has, who it is, and what its leaves bind; and that
 -- no two wallets have one key.
-use Rattle.std.proofs.Common.{◌≡◌, ◌≢◌, ◌⊎◌, ℕ, zero, suc, ◌+◌, ◌<◌, ◌==◌, ◌&&◌, ◌||◌, not, nat_lt, cond, Bool, true, false, if◌then◌else◌, List, [], ◌∷◌, ◌++◌, length, set, slice_get, bytes_eq, Option, Some, None, inl, inr, refl, sym, ap, ◌∙◌, subst, arith}
+use Rattle.std.proofs.Common.{◌≡◌, ◌≢◌, ◌⊎◌, ℕ, zero, suc, ◌+◌, ◌<◌, ◌==◌, ◌&&◌, ◌||◌, not, cond, Bool, true, false, if◌then◌else◌, List, [], ◌∷◌, ◌++◌, length, set, slice_get, bytes_eq, Option, Some, None, inl, inr, refl, sym, ap, ◌∙◌, subst, arith}
 use Rattle.std.specs.List.{position, position_or_len}
 use Rattle.std.proofs.lemmas.Bool.{and_parts, or_parts, not-true, cases_eq, lt-ltb, true≢false, false≢true}
 use Rattle.std.proofs.lemmas.List.{length-set, length_push}
 use Rattle.std.proofs.lemmas.Slice.Eq.{bytes_eq-Decides}
 use Rattle.lms_sign.specs.declared.types.LmsTypes.{LmsTypes}
-use Rattle.plasma_tx.specs.declared.owner.Owner.{Owner}
 use Rattle.plasma_tx.specs.declared.body.Body.{Body}
 use Rattle.node_journal.specs.Role.{are_of}
 use Rattle.schedule_text.specs.declared.line.Line.{Line}
@@ -16,16 +15,16 @@ use Rattle.node_rules.specs.WalletRecords.{wallet_kinds, identity_text, who_is, 
 use Rattle.node_rules.proofs.WalletGrow.{who-same, wallet-parts}
 use Rattle.world_rules.specs.Events.{Event, Binds, bound_by, leaf_at}
 use Rattle.world_rules.specs.World.{Wallet, Node, World, is_named, is_wallet_role, owner_of_node, wallet_of}
-use Rattle.world_rules.specs.Declarations.{declared_wallet, wallet_nodes, is_declared_account, is_caller, is_wallet_key, is_wallet_seed, may_be_wallet}
+use Rattle.world_rules.specs.Declarations.{declared_wallet, is_wallet_key, is_wallet_seed, may_be_wallet}
 use Rattle.world_rules.specs.Deeds.{Deed, with_record}
 use Rattle.world_rules.specs.Steps.{LineEffect, new_node, with_records, after_command, after_crash, cut}
-use Rattle.world_rules.specs.Laws.{GrowsAtMost, ChangesOneNode, DeclaresOneNode}
+use Rattle.world_rules.specs.Laws.{GrowsAtMost}
 use Rattle.world_rules.proofs.KeptWorld.{KeptWorld}
 use Rattle.world_rules.proofs.NodeLaws.{NodesGrow}
 use Rattle.world_rules.proofs.Runs.{set-same, set-other, push-same, push-other}
 use Rattle.world_rules.proofs.Existence.{position-parts}
 use Rattle.world_rules.proofs.Shapes.{IsCut, Kept, Lost, is_cut}
-use Rattle.world_laws.proofs.Lists.{some_same, none_some}
+use Rattle.world_laws.proofs.Lists.{some_same}
 use Rattle.world_laws.proofs.Absences.{leaf_at-push}
 use Rattle.world_laws.proofs.Holders.{any-filter}
 use Rattle.world_laws.proofs.Identities.{wallet-who, wallet-identity}
