@@ -270,39 +270,39 @@ record IsOwn (events : List Event) (world : World) (given : GivenOut) : Type 0 w
 module _ (dig : List ℕ → List ℕ) (lines : List Line) (run : Run) (world : World) (run_is : IsRun dig lines run world)
   where
     own-from : (entry : TraceEntry) (name : List ℕ) (own : WalletCommand) (q : ℕ) (owner : Owner)
-      → Has run.entries entry → IsCommandIn entry.line (Command.Wallet name own) → entry.reply ≡ Reply.Sent q
-      → owner_named world name ≡ Some owner → IsOwn (events_of run.entries) world (given-of q entry.made owner)
-  own-from entry name own q owner has in_command sent owner_is =
-      let kept = (run-kept dig run_is.digest lines run run_is.lines_are run_is.run_is).world world run_is.world_is in
-      let signed = (runs-signed dig lines run world run_is).signed entry has name own q in_command sent in
-      let same : owner ≡ owner_of_node signed.node =
-      one-of (owner_named world name) owner (owner_of_node signed.node) owner_is
-      (owner-of world name signed.n signed.node signed.number signed.node_is) in
-      record {
-        n = signed.n;
-        node = signed.node;
-        node_is = signed.node_is;
-        role = named-role dig (events_of run.entries) world kept name signed.n signed.node signed.number
-            signed.node_is;
-        key = ap (λ (o : Owner). o.key) same;
-        body = signed.body;
-        leaf = signed.leaf;
-        bytes = signed.made_is;
-      }
+        → Has run.entries entry → IsCommandIn entry.line (Command.Wallet name own) → entry.reply ≡ Reply.Sent q
+        → owner_named world name ≡ Some owner → IsOwn (events_of run.entries) world (given-of q entry.made owner)
+    own-from entry name own q owner has in_command sent owner_is =
+        let kept = (run-kept dig run_is.digest lines run run_is.lines_are run_is.run_is).world world run_is.world_is in
+        let signed = (runs-signed dig lines run world run_is).signed entry has name own q in_command sent in
+        let same : owner ≡ owner_of_node signed.node =
+        one-of (owner_named world name) owner (owner_of_node signed.node) owner_is
+        (owner-of world name signed.n signed.node signed.number signed.node_is) in
+        record {
+          n = signed.n;
+          node = signed.node;
+          node_is = signed.node_is;
+          role = named-role dig (events_of run.entries) world kept name signed.n signed.node signed.number
+              signed.node_is;
+          key = ap (λ (o : Owner). o.key) same;
+          body = signed.body;
+          leaf = signed.leaf;
+          bytes = signed.made_is;
+        }
 
-  own-of : (entry : TraceEntry) (given : GivenOut) → Has run.entries entry → given_by world entry ≡ Some given
-      → IsOwn (events_of run.entries) world given
-  own-of entry given has is =
-      let sent = and_then_some (λ leaf. option_map (given-of leaf entry.made)
-      (option_and_then (owner_named world) (wallet_of_line entry.line))) (leaf_sent entry.reply) given is in
-      let mapped = option_map_some (given-of sent.0 entry.made)
-      (option_and_then (owner_named world) (wallet_of_line entry.line)) given sent.2 in
-      let named = and_then_some (owner_named world) (wallet_of_line entry.line) mapped.0 mapped.1 in
-      let command = command-of entry.line named.0 named.1 in
-      subst (IsOwn (events_of run.entries) world) mapped.2
-      (own-from entry named.0 command.0 sent.0 mapped.0 has command.1 (sent-of entry.reply sent.0 sent.1) named.2)
+    own-of : (entry : TraceEntry) (given : GivenOut) → Has run.entries entry → given_by world entry ≡ Some given
+        → IsOwn (events_of run.entries) world given
+    own-of entry given has is =
+        let sent = and_then_some (λ leaf. option_map (given-of leaf entry.made)
+        (option_and_then (owner_named world) (wallet_of_line entry.line))) (leaf_sent entry.reply) given is in
+        let mapped = option_map_some (given-of sent.0 entry.made)
+        (option_and_then (owner_named world) (wallet_of_line entry.line)) given sent.2 in
+        let named = and_then_some (owner_named world) (wallet_of_line entry.line) mapped.0 mapped.1 in
+        let command = command-of entry.line named.0 named.1 in
+        subst (IsOwn (events_of run.entries) world) mapped.2
+        (own-from entry named.0 command.0 sent.0 mapped.0 has command.1 (sent-of entry.reply sent.0 sent.1) named.2)
 
-  given-own : (given : GivenOut) → Has (given_out world run.entries) given
+    given-own : (given : GivenOut) → Has (given_out world run.entries) given
         → IsOwn (events_of run.entries) world given
     unfolding given_out
     given-own given has =
