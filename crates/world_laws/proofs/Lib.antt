@@ -11,6 +11,7 @@ pub mod Acts
 pub mod Handed
 pub mod LegalCalls
 pub mod LegalEvents
+pub mod Fits
 pub mod Histories
 pub mod Shown
 pub mod Absences
