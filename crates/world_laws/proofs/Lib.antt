@@ -12,6 +12,7 @@ pub mod Handed
 pub mod LegalCalls
 pub mod LegalEvents
 pub mod Fits
+pub mod LeftNotes
 pub mod Histories
 pub mod Shown
 pub mod Absences
