@@ -1,72 +1,58 @@
 -- In every run, a wallet's notes have each coin and block with which its leaves offered to leave; and each bundle that
 -- they accept has openings.
-use Rattle.std.proofs.Common.{◌≡◌, ◌≢◌, ◌⊎◌, ℕ, zero, suc, ◌^◌, ◌<◌, ◌==◌, ◌&&◌, ◌||◌, Bool, true, false, if◌then◌else◌, List, [], ◌∷◌, ◌++◌, length, Option, Some, None, Ok, Err, inl, inr, refl, sym, ap, ◌∙◌, subst, set, slice_get}
+use Rattle.std.proofs.Common.{◌≡◌, ◌≢◌, ◌⊎◌, ℕ, ◌^◌, ◌<◌, ◌==◌, ◌&&◌, true, false, List, [], ◌∷◌, ◌++◌, Option, Some, None, Ok, Err, inl, inr, refl, sym, ap, ◌∙◌, subst}
 use Rattle.std.specs.Prelude.{Result, IfSome, option_map}
-use Rattle.std.specs.List.{All, AllByRecursion, list_any}
-use Rattle.std.proofs.lemmas.Bool.{cases_eq, eqb-true, eq-eqb, and_parts, and_from, or_cases, or_left, or_right, false≢true}
-use Rattle.std.proofs.lemmas.List.Elements.{All-nil, All-push}
+use Rattle.std.specs.List.{All, AllByRecursion}
+use Rattle.std.proofs.lemmas.Bool.{eq-eqb, and_from, or_left, or_right}
+use Rattle.std.proofs.lemmas.List.Elements.{All-push}
 use Rattle.std.proofs.lemmas.List.Folds.{list_any-append}
 use Rattle.line_forms.proofs.FormLaws.{option_map_some}
 use Rattle.plasma_tx.specs.declared.links.Links.{Links}
 use Rattle.plasma_tx.specs.declared.owner.Owner.{Owner}
 use Rattle.plasma_tx.specs.declared.call.RootCall.{RootCall}
 use Rattle.plasma_tx.specs.Links.{tip_of}
-use Rattle.plasma_tx.specs.Spelling.{AreBytes}
 use Rattle.plasma_tx.specs.Views.{blocks, coin_at}
 use Rattle.plasma_tx.specs.declared.views.CoinView.{CoinView}
 use Rattle.coin_history.specs.declared.bundle.Bundle.{Bundle}
 use Rattle.coin_history.specs.History.{links_of}
-use Rattle.schedule_text.specs.declared.line.Line.{Line}
-use Rattle.schedule_text.specs.declared.command.Command.{Command}
 use Rattle.schedule_text.specs.declared.command.WalletCommand.{WalletCommand}
-use Rattle.schedule_text.specs.Grammar.{IsLine}
 use Rattle.wallet_core.specs.declared.notes.CoinTip.{CoinTip}
 use Rattle.wallet_core.specs.declared.notes.Notes.{Notes}
 use Rattle.wallet_core.specs.declared.coin_state.CoinState.{CoinState}
 use Rattle.wallet_core.specs.declared.coin_state.CoinState.TheVariants.{Nothing, Sending, Leaving, Held}
 use Rattle.wallet_core.specs.State.{is_noted}
-use Rattle.wallet_core.proofs.StateLaws.{leaving_is, held_is}
+use Rattle.wallet_core.proofs.StateLaws.{leaving_is}
 use Rattle.node_rules.specs.declared.refusal.WalletRefusal.{WalletRefusal}
-use Rattle.node_rules.specs.Kept.{kept_of, chain_of, kept_links}
+use Rattle.node_rules.specs.Kept.{kept_of, chain_of}
 use Rattle.node_rules.specs.WalletLaws.{AddsNote}
 use Rattle.node_rules.specs.WalletCommandLaws.{HaveOpenings, AddsAccepted, AddsLeaving, AddsReclaimed}
 use Rattle.node_rules.specs.WalletRecords.{Note, Accepts as AcceptsNote, LeavesWith, Reclaims, note_text, owner_of, notes_of, accepted_of, state_notes, leaves_in, coin_tip}
-use Rattle.node_rules.specs.Wallet.{WalletRecords, WalletEffect, who, noted, coin_state, kept_at, links_at, start_of, exit_start, leave_from, accept_effect, send_effect, again_answer, leave_effect, reclaim_effect, migrate_effect}
+use Rattle.node_rules.specs.Wallet.{WalletRecords, who, noted, coin_state, kept_at, links_at, start_of, leave_from, accept_effect, send_effect, again_answer, leave_effect, reclaim_effect, migrate_effect}
 use Rattle.node_rules.proofs.WalletGrow.{noted-grow, state-accepts, state-leaves, state-reclaims, accepted-accepts, accepted-leaves, accepted-reclaims}
 use Rattle.node_rules.proofs.WalletAdded.{send-note, migrate-note}
 use Rattle.node_rules.proofs.WalletRole.{accepts_add_their_notes, leaves_add_their_notes, leaves_are_answered, reclaims_add_their_notes}
 use Rattle.node_rules.proofs.ExitTips.{exits_are_of_the_tip}
 use Rattle.world_rules.specs.Causes.{wallet_cause}
-use Rattle.world_rules.specs.Events.{Event, Declares, Joins, Bounces, Accepts, Guards, Releases, Binds, TakesBack, Watches, Leaves, Seals, Other, Idle, coin_of_call, node_in, is_command_of}
-use Rattle.world_rules.specs.World.{Node, World, is_wallet_role, wallet_of, bytes_of, new_owner_of}
-use Rattle.world_rules.specs.Deeds.{Gives, Deed, answered, without_record, wallet_deed, on_accepted, on_sent, on_sent_again, on_leaving, on_reclaimed, on_migrated, send_deed, wallet_command, with_record, exit_block, deed_of}
-use Rattle.world_rules.specs.Steps.{LineEffect, with_records, after_command, after_crash, commanded, cut, without_offers, step, entry_of, Run, events_of}
+use Rattle.world_rules.specs.Events.{Event, Leaves, coin_of_call}
+use Rattle.world_rules.specs.World.{World, bytes_of, new_owner_of}
+use Rattle.world_rules.specs.Deeds.{Gives, Deed, answered, without_record, wallet_deed, on_accepted, on_sent, on_sent_again, on_leaving, on_reclaimed, on_migrated, send_deed, wallet_command, with_record, exit_block}
 use Rattle.world_rules.proofs.ByteTexts.{Small}
-use Rattle.world_rules.proofs.Said.{Said, said}
+use Rattle.world_rules.proofs.Said.{Said}
 use Rattle.world_rules.proofs.KeptWallet.{KeptWallet, with_note}
-use Rattle.world_rules.proofs.KeptNode.{IsFit, IsFitWallet, Feeds, token-small}
-use Rattle.world_rules.proofs.KeptWorld.{KeptWorld, world-feeds}
-use Rattle.world_rules.proofs.KeptRun.{run-kept}
+use Rattle.world_rules.proofs.KeptNode.{IsFitWallet, Feeds, token-small}
 use Rattle.world_rules.proofs.WalletSends.{words}
-use Rattle.world_rules.proofs.Shapes.{IsDone, IsCut, Kept, Lost, is_cut}
-use Rattle.world_rules.proofs.StepLaws.{stepped}
-use Rattle.world_rules.proofs.Runs.{begun, set-same, set-other, push-same, push-other}
-use Rattle.world_laws.specs.Headline.{IsRun}
-use Rattle.world_laws.specs.Legal.{left_by, is_left}
-use Rattle.world_laws.proofs.Lists.{some_same, none_some}
+use Rattle.world_laws.proofs.Lists.{some_same}
 use Rattle.world_laws.proofs.Offers.{StartsAt, start-at, links-at}
-use Rattle.world_laws.proofs.Acts.{over_lines, runs-keep}
-use Rattle.world_laws.proofs.Fits.{DoesFit, Still, Adds, Crashes, Commands, Cuts, does-fit}
 
 -- ---- one more note
 
 -- a note of an accepted coin has openings
-abbrev HasOpenings : Note → Type 0
+abbrev pub HasOpenings : Note → Type 0
 HasOpenings (AcceptsNote kept) = kept.openings ≢ []
 HasOpenings note = Unit {0}
 
 -- what a command adds to the notes: nothing, or one note
-data Noting (dig : List ℕ → List ℕ) (wallet : WalletRecords) (note : Option (List ℕ)) : Type 0 where
+pub data Noting (dig : List ℕ → List ℕ) (wallet : WalletRecords) (note : Option (List ℕ)) : Type 0 where
   NoNote : note ≡ None → Noting dig wallet note
   OneNote : (body : List ℕ) (added : Note) → note ≡ Some body → AddsNote dig wallet.notes added body
       → HasOpenings added → Noting dig wallet note
@@ -310,14 +296,14 @@ module _ (dig : List ℕ → List ℕ) (s : Said) (world : World) (feeds : Feeds
   IsStillLeft deed = StillLeft dig wallet (after_deed wallet deed) deed.gives.event
 
   -- a deed whose event is no leave
-  other-left : (deed : Deed) → Noting dig wallet deed.note
+  pub other-left : (deed : Deed) → Noting dig wallet deed.note
       → ((m : ℕ) (call : RootCall) → deed.gives.event ≡ Leaves m call → ⊥) → IsStillLeft deed
   other-left deed noting other = record {
     still = still-noted dig wallet deed.note deed.leaf noting;
     left = λ m call is. absurd (other m call is);
   }
 
-  wallet-left : (own : WalletCommand) (deed : Deed) → IsFitWallet own
+  pub wallet-left : (own : WalletCommand) (deed : Deed) → IsFitWallet own
       → wallet_command dig world n wallet own ≡ Some deed → IsStillLeft deed
   wallet-left (WalletCommand.Accept bundle) deed fit is =
       let bytes = bytes_of world bundle in

@@ -13,6 +13,7 @@ pub mod LegalCalls
 pub mod LegalEvents
 pub mod Fits
 pub mod LeftNotes
+pub mod LeftRuns
 pub mod Histories
 pub mod Shown
 pub mod Absences
