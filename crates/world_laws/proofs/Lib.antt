@@ -14,6 +14,7 @@ pub mod LegalEvents
 pub mod Fits
 pub mod LeftNotes
 pub mod LeftRuns
+pub mod LegalCoins
 pub mod Histories
 pub mod Shown
 pub mod Absences
