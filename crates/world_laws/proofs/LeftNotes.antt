@@ -257,7 +257,8 @@ module _ (dig : List ℕ → List ℕ) (s : Said) (log : List RootCall) (wallet 
           → is_noted coin tip (noted dig after).leaving ≡ true
       held tip is =
           let text = note_text (LeavesWith coin tip) in
-          let some : (leave_effect dig wallet log coin).note ≡ Some text = ap (λ e. e.note) (leave-made dig wallet log coin (Held tip) is) in
+          let some : (leave_effect dig wallet log coin).note ≡ Some text =
+          ap (λ e. e.note) (leave-made dig wallet log coin (Held tip) is) in
           let added : AddsLeaving dig wallet log coin text =
           subst (λ (o : Option (List ℕ)). IfSome o (AddsLeaving dig wallet log coin)) some
           (leaves_add_their_notes dig wallet log coin kept.is (words dig s log wallet kept few) fits) in

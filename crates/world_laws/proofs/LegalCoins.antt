@@ -1,5 +1,5 @@
 -- What a wallet's accepts, sends and reclaims are: each is legal after the events behind its world.
-use Rattle.std.proofs.Common.{◌≡◌, ◌≢◌, ◌⊎◌, ℕ, zero, suc, ◌^◌, ◌<◌, ◌≤◌, ◌==◌, ◌&&◌, ◌||◌, not, nat_lt, Bool, true, false, if◌then◌else◌, List, [], ◌∷◌, ◌++◌, length, map, Option, Some, None, Ok, Err, inl, inr, refl, sym, ap, ◌∙◌, subst, slice_get, arith}
+use Rattle.std.proofs.Common.{◌≡◌, ℕ, zero, suc, ◌^◌, ◌<◌, ◌≤◌, ◌==◌, ◌&&◌, ◌||◌, not, nat_lt, Bool, true, false, if◌then◌else◌, List, [], ◌∷◌, ◌++◌, length, map, Option, Some, None, Ok, Err, inl, inr, refl, sym, ap, ◌∙◌, subst, slice_get}
 use Rattle.std.specs.Prelude.{Result, IfSome, reverse, unwrap_or}
 use Rattle.std.specs.List.{list_any}
 use Rattle.std.specs.Option.{option_map_or}
@@ -24,10 +24,9 @@ use Rattle.coin_history.specs.Checking.{absence_of}
 use Rattle.coin_history.specs.History.{IsHistory, IsAbsent}
 use Rattle.coin_history.proofs.HistoryAbsent.{absences_are_found}
 use Rattle.wallet_core.specs.declared.notes.LeafRecord.{LeafRecord}
-use Rattle.wallet_core.specs.declared.notes.Notes.{Notes}
 use Rattle.wallet_core.specs.declared.coin_state.CoinState.{CoinState}
 use Rattle.wallet_core.specs.declared.coin_state.CoinState.TheVariants.{Nothing, Sending, Leaving, Held}
-use Rattle.wallet_core.specs.State.{is_noted, is_owner, spends_tip, sends_by}
+use Rattle.wallet_core.specs.State.{is_owner, spends_tip, sends_by}
 use Rattle.wallet_core.proofs.StateLaws.{held_is, sending_is, kept_coins_are_held}
 use Rattle.node_rules.specs.declared.answers.Accepted.{Accepted}
 use Rattle.node_rules.specs.declared.answers.Sent.{Sent}
@@ -59,7 +58,7 @@ use Rattle.world_laws.proofs.Identities.{wallet-node}
 use Rattle.world_laws.proofs.Keeps.{is-wallet}
 use Rattle.world_laws.proofs.Handed.{read-rising, handed-history}
 use Rattle.world_laws.proofs.LegalCalls.{IsBehind}
-use Rattle.world_laws.proofs.LeftRuns.{AreLeft, NodeLeft}
+use Rattle.world_laws.proofs.LeftRuns.{AreLeft}
 
 -- ---- causes that don't hold
 
@@ -93,8 +92,11 @@ accept-cleared links me log none =
     let withdrawn : Bool × WalletRefusal = (is_withdrawn log links.coin, WalletRefusal.Withdrawn) in
     let foreign : Bool × WalletRefusal = (not (is_owner (last_owner_of links) me), WalletRefusal.NotMine) in
     let first = first-none foreign (withdrawn ∷ standing) none in
-    let second = first-none withdrawn standing first.1 in
-    (not-false (is_owner (last_owner_of links) me) first.0, second.0, standing-none (exits_of log links.coin) long second.1)
+    let second = first-none withdrawn standing first.1 in (
+      not-false (is_owner (last_owner_of links) me) first.0,
+      second.0,
+      standing-none (exits_of log links.coin) long second.1,
+    )
 
 -- what an answer that isn't refused was not refused for
 unless-ok : {A : Type 0} (failed : Option WalletRefusal) (effect : WalletEffect (Result A WalletRefusal)) (answer : A)
@@ -214,7 +216,8 @@ module _ (dig : List ℕ → List ℕ) (events : List Event) (world : World) (be
       → LegalBinding events n (sent_body wallet coin tip to last)
   unfolding coin_state holds
   held-binding coin tip to last held = record {
-    not_sent = held-unsent (log_of events) (wallet_owner events n) (signed_away_by events n) (accepted events n) coin tip
+    not_sent = held-unsent (log_of events) (wallet_owner events n) (signed_away_by events n) (accepted events n)
+        coin tip
         (are.held coin tip
         ∙ kept_coins_are_held (noted dig wallet) (leaves_in wallet.leaves) log coin tip (inl held));
     not_left = false_from_ne_true (is_left (left_by events n) coin tip)
@@ -272,7 +275,8 @@ module _ (dig : List ℕ → List ℕ) (events : List Event) (world : World) (be
       by_absence last last_is reached (Err why) absent is = absurd (cc is)
       by_absence last last_is reached (Ok done) absent is =
           let causes = standing_causes (standing_block log bundle.coin) in
-          let passed = unless-ok (first_cause causes) (notes_it (Ok made) (note_text (Reclaims bundle.coin tip q))) taken is in
+          let passed = unless-ok (first_cause causes) (notes_it (Ok made) (note_text (Reclaims bundle.coin tip q)))
+          taken is in
           record {
             taken_is = cc passed.1;
             last_is = last_is;
@@ -288,7 +292,8 @@ module _ (dig : List ℕ → List ℕ) (events : List Event) (world : World) (be
           → IsReclaimed bundle taken tip q last
       by_late last last_is true late is = absurd (cc is)
       by_late last last_is false late is =
-          by_absence last last_is (ltb-false (blocks log) last late) (absence_of (tests_by dig) log tip last bundle) refl is
+          by_absence last last_is (ltb-false (blocks log) last late)
+          (absence_of (tests_by dig) log tip last bundle) refl is
 
       by_last : (found : Option ℕ) → last_of (leaves_in wallet.leaves) q ≡ found
           → (reclaim_last dig log bundle made found).answer ≡ Ok taken
@@ -326,7 +331,8 @@ module _ (dig : List ℕ → List ℕ) (events : List Event) (world : World) (be
           → LegalReclaim (tests_by dig) events n taken.q bundle
       by None none sends has = absurd (cc has)
       by (Some leaf) some sends has =
-          let spends = (and_parts (spends_tip bundle.coin tip leaf) (not (list_any (λ other. other == q) gone)) sends).0 in
+          let kept_leaf = not (list_any (λ other. other == q) gone) in
+          let spends = (and_parts (spends_tip bundle.coin tip leaf) kept_leaf sends).0 in
           let parts = and_parts (leaf.body.coin == bundle.coin) (leaf.body.parent == tip) spends in
           let parent : leaf.body.parent ≡ tip = eqb-true leaf.body.parent tip parts.1 in
           record {

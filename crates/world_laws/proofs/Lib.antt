@@ -15,6 +15,7 @@ pub mod Fits
 pub mod LeftNotes
 pub mod LeftRuns
 pub mod LegalCoins
+pub mod CoinEvents
 pub mod Histories
 pub mod Shown
 pub mod Absences
