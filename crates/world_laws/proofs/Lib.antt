@@ -25,6 +25,10 @@ pub mod Offers
 pub mod GuardsShown
 pub mod Guarding
 pub mod LegalWatches
+pub mod AcceptsShown
+pub mod Accepting
+pub mod AtTops
+pub mod LegalLeaves
 pub mod Safe
 pub mod OneHolder
 pub mod DueTaken
