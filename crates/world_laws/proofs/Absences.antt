@@ -75,8 +75,12 @@ parted-leaf taken (x ∷ xs) body (inl same) =
       | false ↦ λ off. inl (inl same)
       | true ↦ λ on.
           let r = any-some (λ (k : ℕ). k == length xs) taken on in
-          inr (r.0, r.1, subst (λ b. (if b then Some x else leaf_at r.0 xs) ≡ Some body) (sym r.2)
-          (ap (λ (y : Body). Some y) same))
+          inr (
+            r.0,
+            r.1,
+            subst (λ b. (if b then Some x else leaf_at r.0 xs) ≡ Some body) (sym r.2)
+                (ap (λ (y : Body). Some y) same),
+          )
     ]) refl
 parted-leaf taken (x ∷ xs) body (inr h) =
     elim (parted-leaf taken xs body h) [
@@ -91,17 +95,17 @@ parted-leaf taken (x ∷ xs) body (inr h) =
 
 -- ---- what taking back does to 'signed away'
 
-any-rest : {A : Type 0} (p : A → Bool) (b : Bool) (x : A) (xs : List A)
+pub any-rest : {A : Type 0} (p : A → Bool) (b : Bool) (x : A) (xs : List A)
     → list_any p (if b then xs else x ∷ xs) ≡ false → list_any p xs ≡ false
 any-rest p true x xs is = is
 any-rest p false x xs is = (or_parts _ _ is).1
 
-any-without : {A : Type 0} (p : A → Bool) (b : Bool) (x : A) (xs : List A) → (b ≡ false → p x ≡ false)
+pub any-without : {A : Type 0} (p : A → Bool) (b : Bool) (x : A) (xs : List A) → (b ≡ false → p x ≡ false)
     → list_any p xs ≡ false → list_any p (if b then xs else x ∷ xs) ≡ false
 any-without p true x xs first rest = rest
 any-without p false x xs first rest = or_from _ _ (first refl) rest
 
-any-top : {A : Type 0} (p : A → Bool) (b : Bool) (x : A) (xs : List A) → b ≡ false
+pub any-top : {A : Type 0} (p : A → Bool) (b : Bool) (x : A) (xs : List A) → b ≡ false
     → list_any p (if b then xs else x ∷ xs) ≡ false → p x ≡ false
 any-top p true x xs off is = absurd (true≢false off)
 any-top p false x xs off is = (or_parts _ _ is).0

@@ -170,11 +170,11 @@ module _ (dig : List ℕ → List ℕ) (events : List Event) (world : World) (ke
   keeps-more effect (Crashes n node node_is is) =
       subst After (sym is)
       (keeps-act events world keeps (crashed world n node) n node (after_crash node) (crash-acts world n node node_is))
-  keeps-more effect (Commands command n node deed done is) =
+  keeps-more effect (Commands command n node deed fit done is) =
       subst After (sym is)
       (keeps-act events world keeps (commanded world n node deed) n node (after_command node deed)
       (command-acts command n node deed done))
-  keeps-more effect (Cuts command calls outcome n node deed done is) =
+  keeps-more effect (Cuts command calls outcome n node deed fit done is) =
       subst After (sym is)
       (cut-keeps command n node deed (cut world n node calls outcome command deed) done
       (is_cut world n node calls outcome command deed))

@@ -224,7 +224,7 @@ pub record IsNoted (tests : Tests) (rules : Rules) (events : List Event) (w : �
   pub is_seen : (o : RawOpening) → Has b.openings o → Has (seen events b.coin) o
   pub is_since : (o : RawOpening) → Has b.openings o → IsSince events w b.coin o
 
-history-stays : (tests : Tests) (rules : Rules) (event : Event) (events : List Event) (b : Bundle) (links : Links)
+pub history-stays : (tests : Tests) (rules : Rules) (event : Event) (events : List Event) (b : Bundle) (links : Links)
     → IsHistory tests rules (log_of events) b links → IsHistory tests rules (log_of (event ∷ events)) b links
 unfolding log_of
 history-stays tests rules (Joins call) events b links is = histories_stay tests rules (log_of events) call b links is
@@ -284,7 +284,7 @@ pub record IsKept (tests : Tests) (rules : Rules) (events : List Event) (b : Bun
   pub history : IsHistory tests rules (log_of events) b links
   pub is_seen : (o : RawOpening) → Has b.openings o → Has (seen events b.coin) o
 
-kept-grow : (tests : Tests) (rules : Rules) (event : Event) (events : List Event) (b : Bundle)
+abbrev pub kept-grow : (tests : Tests) (rules : Rules) (event : Event) (events : List Event) (b : Bundle)
     → IsKept tests rules events b → IsKept tests rules (event ∷ events) b
 kept-grow tests rules event events b k = record {
   links = k.links;

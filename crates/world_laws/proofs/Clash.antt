@@ -57,7 +57,7 @@ module _ (dig : List ℕ → List ℕ) where
   strings-has c (p ∷ os) o s (inr h) is =
       has-right (strings_in dig c p) (flat_map (strings_in dig c) os) s (strings-has c os o s h is)
 
-  clash-from : (x y : List ℕ) → x ≢ y → dig x ≡ dig y → do_clash dig x y ≡ true
+  pub clash-from : (x y : List ℕ) → x ≢ y → dig x ≡ dig y → do_clash dig x y ≡ true
   clash-from x y differ same =
       and_from _ _ (not_from_false _ (false_from_ne_true (bytes_eq x y) (λ is. differ (bytes-same x y is))))
       ((bytes_eq-Decides (dig x) (dig y)).1 same)

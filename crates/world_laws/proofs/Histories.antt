@@ -126,7 +126,7 @@ module _ (tests : Tests) (rules : Rules) (log : List RootCall) (c tip : ℕ) whe
             opened = opened-from tests log c o opened.0;
             next = last;
             step = Absent (leaf-empty (leaf_of_opening o) (absent_then none)) refl;
-            rest = rest last chain at (omega (arith, low, parts.1)) parts.2
+            rest = rest last chain at (omega (arith, low, parts.1)) parts.2;
           }
       by_tx (Some tx) some chain at rest =
           let parts = asked-parts log n tip o.block are.each.0 in
@@ -136,7 +136,7 @@ module _ (tests : Tests) (rules : Rules) (log : List RootCall) (c tip : ℕ) whe
             opened = opened-from tests log c o opened.0;
             next = record { block = o.block; owner = tx.body.to };
             step = Moves tx some chain.0 chain.1 refl;
-            rest = rest (record { block = o.block; owner = tx.body.to }) chain.2 at (omega arith) parts.2
+            rest = rest (record { block = o.block; owner = tx.body.to }) chain.2 at (omega arith) parts.2;
           }
 
 pub history-walk : (tests : Tests) (rules : Rules) (log : List RootCall) (bundle : Bundle) (links : Links)

@@ -41,7 +41,8 @@ holder-at (first ∷ rest) (suc n) node is = holder-at rest n node is
 pub held-node : (nodes : List Node) (n account : ℕ) → slice_get (holders nodes) n ≡ Some (Some account)
     → (node : Node) × (slice_get nodes n ≡ Some node) × (is_wallet_role node.role ≡ true) × (node.account ≡ account)
 held-node [] n account is = absurd (cc is)
-held-node (first ∷ rest) zero account is = by (is_wallet_role first.role) refl (some_same (holder first) (Some account) is)
+held-node (first ∷ rest) zero account is =
+    by (is_wallet_role first.role) refl (some_same (holder first) (Some account) is)
   where
     by : (b : Bool) → is_wallet_role first.role ≡ b → (if b then Some first.account else None) ≡ Some account
         → (node : Node) × (Some first ≡ Some node) × (is_wallet_role node.role ≡ true) × (node.account ≡ account)

@@ -229,7 +229,8 @@ module _ (events : List Event) (world : World) (keeps : Keeps events world) wher
               first = refl;
               tag_is = refl;
               account_is = refl;
-              owner = owner-same Idle events (length world.nodes) refl ∙ (next-unknown events world.chain.tag world.nodes keeps.nodes).0;
+              owner = owner-same Idle events (length world.nodes) refl
+                  ∙ (next-unknown events world.chain.tag world.nodes keeps.nodes).0;
             })
             keeps.nodes;
         accounts = subst (λ (held : List (Option ℕ)). KeepAccounts held world.raw_callers world.chain.log)

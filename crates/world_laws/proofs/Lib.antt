@@ -1,4 +1,3 @@
-pub mod Words
 pub mod Lists
 pub mod Clash
 pub mod Walk
@@ -28,5 +27,20 @@ pub mod Watched
 pub mod Steps
 pub mod Harms
 pub mod Offers
+pub mod GuardsShown
+pub mod Guarding
+pub mod LegalWatches
+pub mod AcceptsShown
+pub mod Accepting
+pub mod AtTops
+pub mod LegalLeaves
 pub mod Safe
 pub mod OneHolder
+pub mod DueTaken
+pub mod Exhibited
+pub mod Takings
+pub mod OwnExits
+pub mod Lost
+pub mod Starts
+pub mod Words
+pub mod Promises

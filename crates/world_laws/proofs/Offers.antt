@@ -45,7 +45,7 @@ due-no_start log account links x call (DueBetween link a b d same) = ap is_start
 due-no_start log account links x call (DueBefore a b d same) = ap is_start (sym same)
 due-no_start log account links x call (DueRespond ch link a b d f g same) = ap is_start (sym same)
 
-kept-no_start : (tag : List ℕ) (log : List RootCall) (account : ℕ) (bundle : Bundle) (call : RootCall)
+pub kept-no_start : (tag : List ℕ) (log : List RootCall) (account : ℕ) (bundle : Bundle) (call : RootCall)
     → Has (due_for_kept tag log account bundle) call → is_start call ≡ false
 kept-no_start tag log account bundle call h = by_links (kept_links tag log bundle) h
   where
@@ -84,7 +84,7 @@ links-at rules c (o ∷ os) =
       | Some tx ↦ (refl, links-at rules c os)
     ]
 
-got-has : (xs : List Link) (i : ℕ) (link : Link) → slice_get xs i ≡ Some link → Has xs link
+pub got-has : (xs : List Link) (i : ℕ) (link : Link) → slice_get xs i ≡ Some link → Has xs link
 got-has [] i link is = absurd (cc is)
 got-has (x ∷ xs) zero link is = inl (some_same x link is)
 got-has (x ∷ xs) (suc i) link is = inr (got-has xs i link is)
@@ -167,7 +167,7 @@ tip-stays (Joins call) events w me c n made found other =
 tip-stays event events w me c n made found other =
     tip-same event events w me c n (same-node event events w other refl)
 
-coin-stays : (event : Event) (events : List Event) (c : ℕ) (made : CoinView)
+pub coin-stays : (event : Event) (events : List Event) (c : ℕ) (made : CoinView)
     → coin_at (log_of events) c ≡ Some made → coin_at (log_of (event ∷ events)) c ≡ Some made
 unfolding log_of
 coin-stays (Joins call) events c made is = coin_at-grown (log_of events) call c made is
@@ -190,6 +190,17 @@ module _ (tests : Tests) (rules : Rules) where
         top = λ n is. k.top n (sym (same n) ∙ is);
       }
 
+  -- a leave names the coin and the tip at which the wallet holds it
+  pub left-names : (events : List Event) (w : ℕ) (call : RootCall) → IsLegal tests rules events
+      → (l : LegalLeave rules events w call) → StartsAt call l.bundle.coin l.bundle.tip
+  left-names events w call legal l =
+      let shown = shown-links tests rules events w legal l.me l.bundle l.links l.shows l.links_are in
+      let at = start-at l.me.account l.bundle.tip l.links shown.1 shown.2 in
+      record {
+        coin_is = ap coin_of_call l.call_is ∙ at.coin_is ∙ shown.0;
+        block_is = ap exit_block l.call_is ∙ at.block_is;
+      }
+
   -- what a leave offers
   left-start : (events : List Event) (w : ℕ) (call : RootCall) → IsLegal tests rules events
       → LegalLeave rules events w call → IsOfferedStart events w call
@@ -197,10 +208,9 @@ module _ (tests : Tests) (rules : Rules) where
       let h = holding events w l.bundle.coin l.bundle.tip l.at_top.held in
       let mine : h.me ≡ l.me = some_same h.me l.me (sym h.me_is ∙ l.me_is) in
       let held = held_at tests rules events w l.bundle.coin l.bundle.tip legal h in
-      let shown = shown-links tests rules events w legal l.me l.bundle l.links l.shows l.links_are in
-      let at = start-at l.me.account l.bundle.tip l.links shown.1 shown.2 in
-      let coin : coin_of_call call ≡ l.bundle.coin = ap coin_of_call l.call_is ∙ at.coin_is ∙ shown.0 in
-      let block : exit_block call ≡ l.bundle.tip = ap exit_block l.call_is ∙ at.block_is in
+      let at = left-names events w call legal l in
+      let coin : coin_of_call call ≡ l.bundle.coin = at.coin_is in
+      let block : exit_block call ≡ l.bundle.tip = at.block_is in
       record {
         me = l.me;
         me_is = l.me_is;

@@ -70,8 +70,10 @@ module _ (tests : Tests) (rules : Rules) where
         | true ↦ λ h2. elim h2 [
           | inl is ↦
               let on : bundle.coin == c ≡ true = eq-eqb bundle.coin c (ap (λ (x : Bundle). x.coin) is ∙ c_is) in
-              inl (first-declared events v c before first,
-              simp on (subst (λ (x : Bundle). Has x.openings o) (sym is) has))
+              inl (
+                first-declared events v c before first,
+                simp on (subst (λ (x : Bundle). Has x.openings o) (sym is) has),
+              )
           | inr later ↦ inr (accepted_since events v w c b o before first later c_is has)
         ]
         | false ↦ λ h2. inr (accepted_since events v w c b o before first h2 c_is has)

@@ -1,4 +1,5 @@
--- What each line does in a world: where a call that it enters comes from, and which rules a name keeps that it declares.
+-- What each line does in a world: where a call that it enters comes from, and which rules a name that it declares
+-- keeps.
 use Rattle.std.proofs.Common.{◌≡◌, ℕ, zero, suc, ◌-◌, ◌==◌, not, Bool, true, false, if◌then◌else◌, List, [], ◌∷◌, Option, Some, None, is_some, inl, inr, refl, sym, ap, ◌∙◌, find}
 use Rattle.std.specs.Prelude.{slice_get, option_map, option_and_then}
 use Rattle.std.specs.Option.{option_or}
@@ -23,6 +24,8 @@ use Rattle.world_rules.specs.Declarations.{plays, declared_wallet, is_declared, 
 use Rattle.world_rules.specs.Deeds.{deed_of, Deed}
 use Rattle.world_rules.specs.Steps.{LineEffect, declares_wallet, declares_watcher, declares_rogue, called, raw_called, deposit_by, log_in, offer_numbered, entered, answers_down, commanded, down, crashed, cut, act_at, act_on, command_effect, cut_effect, signed_by, signed_body, effect_in}
 use Rattle.world_rules.proofs.Shapes.{IsDone}
+use Rattle.world_rules.proofs.KeptNode.{IsFit}
+use Rattle.world_rules.proofs.FitLines.{command-fit, cut-fit}
 use Rattle.world_rules.proofs.Existence.{position-parts, position-is}
 use Rattle.world_laws.specs.Legal.{starts_by, deposits_by}
 use Rattle.world_laws.proofs.Lists.{some_same}
@@ -65,10 +68,10 @@ pub data Does (dig : List ℕ → List ℕ) (world : World) (effect : LineEffect
       → Does dig world effect
   Crashes : (n : ℕ) (node : Node) → slice_get world.nodes n ≡ Some node → effect ≡ crashed world n node
       → Does dig world effect
-  Commands : (command : Command) (n : ℕ) (node : Node) (deed : Deed) → IsDone dig world command n node deed
-      → effect ≡ commanded world n node deed → Does dig world effect
+  Commands : (command : Command) (n : ℕ) (node : Node) (deed : Deed) → IsFit command
+      → IsDone dig world command n node deed → effect ≡ commanded world n node deed → Does dig world effect
   Cuts : (command : Command) (calls : ℕ) (outcome : OutcomeToken) (n : ℕ) (node : Node) (deed : Deed)
-      → IsDone dig world command n node deed → effect ≡ cut world n node calls outcome command deed
+      → IsFit command → IsDone dig world command n node deed → effect ≡ cut world n node calls outcome command deed
       → Does dig world effect
 
 same : (effect other : LineEffect) → Some effect ≡ Some other → other ≡ effect
@@ -156,10 +159,10 @@ module _ (dig : List ℕ → List ℕ) (world : World) where
           Enters world.raw_callers call (Offered n node node_is (offered-has number node call some) refl)
           (same _ _ is)
 
-  commands : (command : Command) (effect : LineEffect)
+  commands : (command : Command) (effect : LineEffect) → IsFit command
       → act_on (plays command) world (node_of command) (command_effect dig world command) ≡ Some effect
       → Does dig world effect
-  commands command effect is =
+  commands command effect fit is =
       let found = acted (plays command) (node_of command) (command_effect dig world command) effect is in
       by found.0 found.1 found.2 found.3 (answers_down found.1 command) refl found.4
     where
@@ -170,13 +173,13 @@ module _ (dig : List ℕ → List ℕ) (world : World) where
       by n node number node_is true down_is is = Rests Reply.Down [] (same _ _ is)
       by n node number node_is false down_is is =
           let deed = option_map_some (commanded world n node) (deed_of dig world n node command) effect is in
-          Commands command n node deed.0
+          Commands command n node deed.0 fit
           (record { number = number; node_is = node_is; is_up = down_is; deed_is = deed.1 }) (sym deed.2)
 
-  cuts : (command : Command) (count : ℕ) (outcome : OutcomeToken) (effect : LineEffect)
+  cuts : (command : Command) (count : ℕ) (outcome : OutcomeToken) (effect : LineEffect) → IsFit command
       → act_on (plays command) world (node_of command) (cut_effect dig world count outcome command) ≡ Some effect
       → Does dig world effect
-  cuts command count outcome effect is =
+  cuts command count outcome effect fit is =
       let found = acted (plays command) (node_of command) (cut_effect dig world count outcome command) effect is in
       by found.0 found.1 found.2 found.3 (answers_down found.1 command) refl found.4
     where
@@ -189,7 +192,7 @@ module _ (dig : List ℕ → List ℕ) (world : World) where
       by n node number node_is false down_is is =
           let deed = option_map_some (cut world n node count outcome command) (deed_of dig world n node command)
           effect is in
-          Cuts command count outcome n node deed.0
+          Cuts command count outcome n node deed.0 fit
           (record { number = number; node_is = node_is; is_up = down_is; deed_is = deed.1 }) (sym deed.2)
 
   signs : (leaf coin parent : ℕ) (last : Option ℕ) (rogue : Option Rogue) (to : Option Owner) (effect : LineEffect)
@@ -225,10 +228,11 @@ module _ (dig : List ℕ → List ℕ) (world : World) where
   does (Line.Enter node number) effect line keeps is =
       let found = acted any_role node (λ n found. Some (entered dig world (offer_numbered number found))) effect is in
       enters found.0 found.1 number effect found.3 found.4
-  does (Line.Command command) effect line keeps is = commands command effect is
+  does (Line.Command command) effect line keeps is = commands command effect (command-fit command line) is
   does (Line.Sign rogue leaf coin parent to last) effect line keeps is =
       signs leaf coin parent last (rogue_named world rogue) (new_owner_of world to) effect is
   does (Line.Crash node outcome) effect line keeps is =
       let found = acted any_role node (λ n found. Some (crashed world n found)) effect is in
       Crashes found.0 found.1 found.3 (same _ _ found.4)
-  does (Line.Cut node count outcome command) effect line keeps is = cuts command count outcome effect is
+  does (Line.Cut node count outcome command) effect line keeps is =
+      cuts command count outcome effect (cut-fit node count outcome command line) is

@@ -37,7 +37,7 @@ use Rattle.watch_duty.proofs.Members.{contains-has}
 
 -- ---- events that don't exhibit didn't before
 
-strings-append : (dig : List ℕ → List ℕ) (c : ℕ) (xs ys : List RawOpening)
+pub strings-append : (dig : List ℕ → List ℕ) (c : ℕ) (xs ys : List RawOpening)
     → strings_of dig c (xs ++ ys) ≡ strings_of dig c xs ++ strings_of dig c ys
 unfolding strings_of
 strings-append dig c [] ys = refl
@@ -137,13 +137,16 @@ held_before tests rules (Declares v me) events w c e legal h =
     (elim (v == w) as (λ b. (v == w) ≡ b → (if b then Some me else wallet_owner events w) ≡ Some h.me
     → HeldBefore (Declares v me) events w c e h.me) [
       | true ↦ λ same is. absurd (new-one (eqb-true v w same) (some_same me h.me is) h.source)
-      | false ↦ λ apart is. inl (record {
-        me = h.me;
-        me_is = is;
-        source = h.source;
-        not_away = h.not_away;
-        not_withdrawn = h.not_withdrawn;
-      }, refl)
+      | false ↦ λ apart is. inl (
+        record {
+          me = h.me;
+          me_is = is;
+          source = h.source;
+          not_away = h.not_away;
+          not_withdrawn = h.not_withdrawn;
+        },
+        refl,
+      )
     ]) refl h.me_is
   where
     new-one : v ≡ w → me ≡ h.me
@@ -164,72 +167,93 @@ held_before tests rules (Declares v me) events w c e legal h =
         none_some n.me (sym legal.0.new ∙ ap (wallet_owner events) same ∙ n.me_is)
 held_before tests rules (Joins (Deposit account amount key)) events w c e legal h =
     before-deposit tests rules account amount key events w c e legal.1 h
-held_before tests rules (Joins call) events w c e legal h = inl (record {
-  me = h.me;
-  me_is = h.me_is;
-  source = h.source;
-  not_away = h.not_away;
-  not_withdrawn = withdrawn-before call (log_of events) c h.not_withdrawn;
-}, refl)
+held_before tests rules (Joins call) events w c e legal h = inl (
+  record {
+    me = h.me;
+    me_is = h.me_is;
+    source = h.source;
+    not_away = h.not_away;
+    not_withdrawn = withdrawn-before call (log_of events) c h.not_withdrawn;
+  },
+  refl,
+)
 held_before tests rules (Accepts v bundle) events w c e legal h =
     (elim (v == w) as (λ b. (was_deposited h.me e (coin_at (log_of events) c) ≡ true)
     ⊎ (list_any (is_bundle c e) (if b then bundle ∷ accepted events w else accepted events w) ≡ true)
     → HeldBefore (Accepts v bundle) events w c e h.me) [
-      | false ↦ λ source. inl (record {
-        me = h.me;
-        me_is = h.me_is;
-        source = source;
-        not_away = h.not_away;
-        not_withdrawn = h.not_withdrawn;
-      }, refl)
-      | true ↦ λ source. elim source [
-        | inl deposited ↦ inl (record {
+      | false ↦ λ source. inl (
+        record {
           me = h.me;
           me_is = h.me_is;
-          source = inl deposited;
+          source = source;
           not_away = h.not_away;
           not_withdrawn = h.not_withdrawn;
-        }, refl)
-        | inr was ↦ elim (or_cases (is_bundle c e bundle) (list_any (is_bundle c e) (accepted events w)) was) [
-          | inr earlier ↦ inl (record {
+        },
+        refl,
+      )
+      | true ↦ λ source. elim source [
+        | inl deposited ↦ inl (
+          record {
             me = h.me;
             me_is = h.me_is;
-            source = inr earlier;
+            source = inl deposited;
             not_away = h.not_away;
             not_withdrawn = h.not_withdrawn;
-          }, refl)
+          },
+          refl,
+        )
+        | inr was ↦ elim (or_cases (is_bundle c e bundle) (list_any (is_bundle c e) (accepted events w)) was) [
+          | inr earlier ↦ inl (
+            record {
+              me = h.me;
+              me_is = h.me_is;
+              source = inr earlier;
+              not_away = h.not_away;
+              not_withdrawn = h.not_withdrawn;
+            },
+            refl,
+          )
           | inl this ↦ inr (none-stands (log_of events) bundle.coin c legal.0.none_stands
               (eqb-true bundle.coin c (and_parts (bundle.coin == c) (bundle.tip == e) this).0))
         ]
       ]
     ]) h.source
-held_before tests rules (Binds v body) events w c e legal h = inl (record {
-  me = h.me;
-  me_is = h.me_is;
-  source = h.source;
-  not_away = away-unbind (v == w) c e (taken_back events w) body (bound_by events w) h.not_away;
-  not_withdrawn = h.not_withdrawn;
-}, refl)
+held_before tests rules (Binds v body) events w c e legal h = inl (
+  record {
+    me = h.me;
+    me_is = h.me_is;
+    source = h.source;
+    not_away = away-unbind (v == w) c e (taken_back events w) body (bound_by events w) h.not_away;
+    not_withdrawn = h.not_withdrawn;
+  },
+  refl,
+)
 held_before tests rules (TakesBack v q bundle) events w c e legal h =
     (elim (v == w) as (λ b. (v == w) ≡ b
     → is_sent_from (not_taken (if b then q ∷ taken_back events w else taken_back events w) (bound_by events w)) c e
     ≡ false → HeldBefore (TakesBack v q bundle) events w c e h.me) [
-      | false ↦ λ apart off. inl (record {
-        me = h.me;
-        me_is = h.me_is;
-        source = h.source;
-        not_away = off;
-        not_withdrawn = h.not_withdrawn;
-      }, refl)
-      | true ↦ λ same off. elim (cases_eq bundle.coin c) [
-        | inl this ↦ inr (none-stands (log_of events) bundle.coin c legal.0.none_stands this)
-        | inr other ↦ inl (record {
+      | false ↦ λ apart off. inl (
+        record {
           me = h.me;
           me_is = h.me_is;
           source = h.source;
-          not_away = away-untake q c e (taken_back events w) (bound_by events w) (named other (eqb-true v w same)) off;
+          not_away = off;
           not_withdrawn = h.not_withdrawn;
-        }, refl)
+        },
+        refl,
+      )
+      | true ↦ λ same off. elim (cases_eq bundle.coin c) [
+        | inl this ↦ inr (none-stands (log_of events) bundle.coin c legal.0.none_stands this)
+        | inr other ↦ inl (
+          record {
+            me = h.me;
+            me_is = h.me_is;
+            source = h.source;
+            not_away = away-untake q c e (taken_back events w) (bound_by events w) (named other (eqb-true v w same)) off;
+            not_withdrawn = h.not_withdrawn;
+          },
+          refl,
+        )
       ]
     ]) refl h.not_away
   where
@@ -242,13 +266,16 @@ held_before tests rules (TakesBack v q bundle) events w c e legal h =
         false_from_ne_true ((body.coin == c) && (body.parent == e)) (λ on. other (sym legal.0.coin_is
         ∙ ap (λ (x : Body). x.coin) r
         ∙ eqb-true body.coin c (and_parts (body.coin == c) (body.parent == e) on).0))
-held_before tests rules event events w c e legal h = inl (record {
-  me = h.me;
-  me_is = h.me_is;
-  source = h.source;
-  not_away = h.not_away;
-  not_withdrawn = h.not_withdrawn;
-}, refl)
+held_before tests rules event events w c e legal h = inl (
+  record {
+    me = h.me;
+    me_is = h.me_is;
+    source = h.source;
+    not_away = h.not_away;
+    not_withdrawn = h.not_withdrawn;
+  },
+  refl,
+)
 
 pub attended-parts : (event : Event) (events : List Event) (w c e : ℕ)
     → is_attended (event ∷ events) w c e ≡ true

@@ -85,7 +85,7 @@ unfolding seen openings_of
 seen-call call events c o h = has-left (openings_of_call c call) (seen events c) o h
 
 -- the openings of the log's calls are accepted ones
-log-seen : (events : List Event) (c : ℕ) (o : RawOpening) → Has (log_seen (log_of events) c) o
+pub log-seen : (events : List Event) (c : ℕ) (o : RawOpening) → Has (log_seen (log_of events) c) o
     → Has (seen events c) o
 unfolding log_of
 log-seen [] c o h = absurd h

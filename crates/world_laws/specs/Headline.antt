@@ -22,12 +22,12 @@ use Rattle.world_rules.specs.declared.reply.Reply.{Reply}
 use Rattle.world_rules.specs.declared.verdict.Verdict.{Verdict}
 use Rattle.world_rules.specs.declared.verdict.VerdictKind.{VerdictKind}
 use Rattle.world_rules.specs.declared.verdict.Exhibit.{Exhibit}
-use Rattle.world_rules.specs.Events.{Event, Joins, Watches, log_of, coin_of_call, wallet_owner, bound_by, leaf_at, is_command_of, offers_of}
+use Rattle.world_rules.specs.Events.{Event, Joins, Watches, log_of, coin_of_call, wallet_owner, bound_by, leaf_at, is_command_of, offered, offers_of}
 use Rattle.world_rules.specs.World.{Node, World, is_wallet_role, number_of, owner_of_node}
 use Rattle.world_rules.specs.Deeds.{exit_block}
 use Rattle.world_rules.specs.Steps.{TraceEntry, Run, run_of, events_of}
 use Rattle.world_rules.specs.Exhibits.{collides, is_forged, exhibit_of}
-use Rattle.world_rules.specs.Safety.{holds, is_attended, is_safe, is_joined, is_harmed}
+use Rattle.world_rules.specs.Safety.{holds, is_attended, is_safe, is_watch, is_joined, is_harmed}
 use Rattle.world_rules.specs.Verdicts.{SignsOneMessage, given_out, verdicts_of, exhibit_of_run, first_unattended, takes_from}
 use Rattle.world_rules.specs.Laws.{IsDigest, IsCommandIn}
 
@@ -138,6 +138,14 @@ LostIsExhibited = (dig : List ℕ → List ℕ) (lines : List Line) (run : Run) 
 abbrev pub lacks_bond : List RootCall → RootCall → Bool
 lacks_bond log (RootCall.Before account coin exit shown) = nat_lt (balance_of log account) CHALLENGE_BOND
 lacks_bond log call = false
+
+-- the calls that a node's watch offers, where it was the node's last command and no call was accepted since
+unfoldable pub fresh_offers : List Event → ℕ → List RootCall
+fresh_offers [] n = []
+fresh_offers (event ∷ events) n =
+    if is_command_of n event then (if is_watch event then offered event else [])
+    else if is_joined event then []
+    else fresh_offers events n
 
 -- the node watched, and since then it had no command and no call was accepted
 pub record IsFreshWatch (events : List Event) (n : ℕ) (calls : List RootCall) : Type 0 where

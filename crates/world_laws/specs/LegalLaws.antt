@@ -1,11 +1,19 @@
 -- What is promised of every list of legal events.
-use Rattle.std.specs.Prelude.{◌≡◌, ◌≢◌, ℕ, true, false, List, ◌∷◌}
+use Rattle.std.specs.Prelude.{◌≡◌, ◌≢◌, ℕ, true, false, List, ◌∷◌, Some}
+use Rattle.std.specs.List.{Contains}
+use Rattle.plasma_tx.specs.declared.owner.Owner.{Owner}
+use Rattle.plasma_tx.specs.declared.call.RootCall.{RootCall}
 use Rattle.root_rules.specs.Shown.{Rules, tests_by}
-use Rattle.world_rules.specs.Events.{Event}
-use Rattle.world_rules.specs.Exhibits.{collides, is_forged}
+use Rattle.root_rules.specs.Table.{answer_to, is_accepted}
+use Rattle.world_rules.specs.declared.verdict.VerdictKind.{VerdictKind}
+use Rattle.world_rules.specs.declared.verdict.Exhibit.{Exhibit}
+use Rattle.world_rules.specs.Events.{Event, log_of, coin_of_call, wallet_owner, offers_of}
+use Rattle.world_rules.specs.Deeds.{exit_block}
+use Rattle.world_rules.specs.Exhibits.{collides, is_forged, exhibit_of}
 use Rattle.world_rules.specs.Safety.{holds, is_attended, is_safe}
+use Rattle.world_rules.specs.Verdicts.{verdict_at}
 use Rattle.world_rules.specs.Laws.{IsDigest}
-use Rattle.world_laws.specs.Headline.{was_declared_before}
+use Rattle.world_laws.specs.Headline.{was_declared_before, fresh_offers, lacks_bond, is_start, IsTaken}
 use Rattle.world_laws.specs.Legal.{IsLegal}
 
 -- The coin that a wallet holds is safe at each event. Unless the events up to it show, at this coin, two byte strings
@@ -29,3 +37,27 @@ OneWalletHoldsLegally = (dig : List ℕ → List ℕ) (rules : Rules) (events : 
     → is_forged rules.tag events v c ≡ false
     → is_forged rules.tag events w c ≡ false
     → holds events v c d ≡ true → holds events w c e ≡ true → ⊥
+
+-- A call that a watch offers is accepted where no call was accepted since, unless it is a Before for which its account
+-- doesn't have the money; where the events show no clash at its coin.
+abbrev pub LegalDueCallsAreTaken : Type 0
+LegalDueCallsAreTaken = (dig : List ℕ → List ℕ) (rules : Rules) (events : List Event) (n : ℕ) (call : RootCall)
+    → IsDigest dig → IsLegal (tests_by dig) rules events → Contains (fresh_offers events n) call
+    → collides dig events (coin_of_call call) ≡ false
+    → lacks_bond (log_of events) call ≡ false
+    → is_accepted (answer_to (tests_by dig) rules (log_of events) call) ≡ true
+
+-- A verdict `lost` on a declared wallet stands only above an exhibit.
+abbrev pub LegalLostIsExhibited : Type 0
+LegalLostIsExhibited = (dig : List ℕ → List ℕ) (rules : Rules) (events : List Event) (w c e : ℕ) (me : Owner)
+    → IsDigest dig → IsLegal (tests_by dig) rules events → wallet_owner events w ≡ Some me
+    → verdict_at (tests_by dig) rules events me w c e ≡ VerdictKind.Lost
+    → exhibit_of dig rules.tag events ≢ Exhibit.Nothing
+
+-- A start that a wallet offers is taken while the wallet holds the coin at the exit's block, but where the exit stands
+-- or the money is missing.
+abbrev pub LegalStartsAreTaken : Type 0
+LegalStartsAreTaken = (dig : List ℕ → List ℕ) (rules : Rules) (events : List Event) (w : ℕ) (call : RootCall)
+    → IsLegal (tests_by dig) rules events → Contains (offers_of events w) call → is_start call ≡ true
+    → holds events w (coin_of_call call) (exit_block call) ≡ true
+    → IsTaken (answer_to (tests_by dig) rules (log_of events) call)

@@ -3,4 +3,6 @@
 
 mod laws;
 
-pub use laws::{held_coins_are_safe, one_wallet_holds};
+pub use laws::{
+    due_calls_are_taken, held_coins_are_safe, lost_is_exhibited, one_wallet_holds, starts_are_taken,
+};

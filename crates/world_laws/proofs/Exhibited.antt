@@ -1,0 +1,225 @@
+-- Where the events exhibit nothing, no coin's strings clash and no wallet's signature is forged.
+use Rattle.std.proofs.Common.{◌≡◌, ◌≢◌, ◌⊎◌, ℕ, ◌+◌, ◌==◌, ◌&&◌, ◌||◌, not, Bool, true, false, if◌then◌else◌, List, [], ◌∷◌, ◌++◌, length, Option, Some, None, inl, inr, refl, sym, ap, ◌∙◌, subst, find}
+use Rattle.std.specs.List.{list_any}
+use Rattle.std.specs.Option.{option_map, option_or}
+use Rattle.std.specs.Str.{bytes_eq}
+use Rattle.std.proofs.lemmas.Bool.{cases_eq, ne_eqb, eq-eqb, eqb-true, and_parts, or_cases, or_from, or_left, or_right, not-true, true≢false, false≢true, false_from_ne_true}
+use Rattle.std.proofs.lemmas.Slice.Eq.{bytes_eq-Decides}
+use Rattle.plasma_tx.specs.declared.owner.Owner.{Owner}
+use Rattle.plasma_tx.specs.declared.opening.RawOpening.{RawOpening}
+use Rattle.plasma_tx.specs.declared.call.RootCall.{RootCall}
+use Rattle.plasma_tx.specs.declared.call.RootCall.TheVariants.{StartSpend, After, Between, Before, Respond}
+use Rattle.watch_duty.specs.Laws.{openings_of_call, shown_openings}
+use Rattle.watch_duty.proofs.Members.{Has, has-left, has-right, has-cases}
+use Rattle.world_rules.specs.declared.verdict.Exhibit.{Exhibit}
+use Rattle.world_rules.specs.Events.{Event, Declares, Joins, Accepts, Guards, TakesBack, wallet_owner, wallets, bound_by, coin_of_call}
+use Rattle.world_rules.specs.Exhibits.{Pair, openings_of, coin_of, seen, strings_of, strings_shown, all_strings, do_clash, has_clash, clash_with, first_clash, collision_or, forgery_or, forges_one, shows_forgery, is_forged, forges_some, first_forgery, exhibit_of}
+use Rattle.world_laws.proofs.Lists.{none_some, any-none, any-some}
+use Rattle.world_laws.proofs.Clash.{clash-from}
+use Rattle.world_laws.proofs.Safe.{strings-append}
+
+pub or-none : {X : Type 0} (o p : Option X) → option_or o p ≡ None → (o ≡ None) × (p ≡ None)
+or-none None p is = (refl, is)
+or-none (Some x) p is = absurd (none_some x (sym is))
+
+-- ---- the openings of an event are of one coin
+
+if-own : (k c : ℕ) (os : List RawOpening) → (c ≡ k) ⊎ ((if k == c then os else []) ≡ [])
+if-own k c os = elim (cases_eq k c) [
+  | inl same ↦ inl (sym same)
+  | inr apart ↦ inr (ap (λ (b : Bool). if b then os else []) (ne_eqb k c apart))
+]
+
+call-own : (c : ℕ) (call : RootCall) → (c ≡ coin_of_call call) ⊎ (openings_of_call c call ≡ [])
+call-own c (StartSpend account coin parent exit) = if-own coin c (shown_openings parent ++ exit ∷ [])
+call-own c (After account coin exit spend) = if-own coin c (spend ∷ [])
+call-own c (Between account coin exit spend) = if-own coin c (spend ∷ [])
+call-own c (Before account coin exit shown) = if-own coin c (shown_openings shown)
+call-own c (Respond account coin exit challenged spend) = if-own coin c (spend ∷ [])
+call-own c call = inr refl
+
+event-own : (c : ℕ) (event : Event) → (c ≡ coin_of event) ⊎ (openings_of c event ≡ [])
+unfolding openings_of coin_of
+event-own c (Joins call) = call-own c call
+event-own c (Accepts w bundle) = if-own bundle.coin c bundle.openings
+event-own c (Guards g bundle) = if-own bundle.coin c bundle.openings
+event-own c (TakesBack w q bundle) = if-own bundle.coin c bundle.openings
+event-own c event = inr refl
+
+-- ---- clashes
+
+module _ (dig : List ℕ → List ℕ) where
+  nothing-of : (c : ℕ) (s : List ℕ) → Has (strings_of dig c []) s → ⊥
+  unfolding strings_of
+  nothing-of c s h = h
+
+  -- the strings of one coin are among all
+  event-strings : (c : ℕ) (event : Event) (s : List ℕ) → Has (strings_of dig c (openings_of c event)) s
+      → Has (strings_shown dig event) s
+  event-strings c event s h = elim (event-own c event) [
+    | inl same ↦ subst (λ k. Has (strings_of dig k (openings_of k event)) s) same h
+    | inr none ↦ absurd (nothing-of c s (subst (λ (l : List RawOpening). Has (strings_of dig c l) s) none h))
+  ]
+
+  coin-strings : (events : List Event) (c : ℕ) (s : List ℕ) → Has (strings_of dig c (seen events c)) s
+      → Has (all_strings dig events) s
+  unfolding seen all_strings
+  coin-strings [] c s h = nothing-of c s h
+  coin-strings (event ∷ events) c s h =
+      elim (has-cases (strings_of dig c (openings_of c event)) (strings_of dig c (seen events c)) s
+      (subst (λ l. Has l s) (strings-append dig c (openings_of c event) (seen events c)) h)) [
+        | inl here ↦ has-right (all_strings dig events) (strings_shown dig event) s (event-strings c event s here)
+        | inr later ↦ has-left (all_strings dig events) (strings_shown dig event) s (coin-strings events c s later)
+      ]
+
+  -- where no string is behind one that it clashes with, no two clash
+  abbrev NoneClash : List (List ℕ) → List (List ℕ) → Type 0
+  NoneClash xs ys = (x y : List ℕ) → Has xs x → Has ys y → x ≢ y → dig x ≡ dig y → ⊥
+
+  mapped-none : {X Y : Type 0} (f : X → Y) (o : Option X) → option_map f o ≡ None → o ≡ None
+  mapped-none f None is = refl
+  mapped-none f (Some x) is = absurd (none_some (f x) (sym is))
+
+  find-none : (p : List ℕ → Bool) (xs : List (List ℕ)) (x : List ℕ) → find p xs ≡ None → Has xs x → p x ≡ false
+  find-none p [] x none h = absurd h
+  find-none p (y ∷ ys) x none h =
+      (elim (p y) as (λ b. p y ≡ b → (if b then Some y else find p ys) ≡ None → p x ≡ false) [
+        | true ↦ λ on wrong. absurd (none_some y (sym wrong))
+        | false ↦ λ off rest. elim h [
+          | inl same ↦ ap p (sym same) ∙ off
+          | inr later ↦ find-none p ys x rest later
+        ]
+      ]) refl none
+
+  push-has : (xs ys : List (List ℕ)) (s x : List ℕ) → Has (xs ++ s ∷ ys) x → Has ((xs ++ s ∷ []) ++ ys) x
+  push-has xs ys s x h = elim (has-cases xs (s ∷ ys) x h) [
+    | inl before ↦ has-left (xs ++ s ∷ []) ys x (has-left xs (s ∷ []) x before)
+    | inr behind ↦ elim behind [
+      | inl same ↦ has-left (xs ++ s ∷ []) ys x (has-right xs (s ∷ []) x (inl same))
+      | inr later ↦ has-right (xs ++ s ∷ []) ys x later
+    ]
+  ]
+
+  first-none : (earlier ss : List (List ℕ)) → first_clash dig earlier ss ≡ None → NoneClash (earlier ++ ss) ss
+  unfolding first_clash
+  first-none earlier [] none x y hx hy differ same = hy
+  first-none earlier (s ∷ ss) none x y hx hy differ same =
+      let parts = or-none (clash_with dig earlier s) (first_clash dig (earlier ++ s ∷ []) ss) none in
+      let rest = first-none (earlier ++ s ∷ []) ss parts.1 in
+      elim hy [
+        | inr later ↦ rest x y (push-has earlier ss s x hx) later differ same
+        | inl is_y ↦ elim (has-cases earlier (s ∷ ss) x hx) [
+          | inl before ↦
+              let found = find-none (λ other. do_clash dig other s) earlier x
+              (mapped-none (λ (first : List ℕ). record { first = first; second = s })
+              (find (λ other. do_clash dig other s) earlier) parts.0) before in
+              true≢false (sym (clash-from dig x s (λ e. differ (e ∙ is_y)) (same ∙ ap dig (sym is_y))) ∙ found)
+          | inr behind ↦ elim behind [
+            | inl is_x ↦ differ (sym is_x ∙ is_y)
+            | inr later ↦ rest s x
+                (has-left (earlier ++ s ∷ []) ss s (has-right earlier (s ∷ []) s (inl refl))) later
+                (λ e. differ (sym e ∙ is_y)) (ap dig is_y ∙ sym same)
+          ]
+        ]
+      ]
+
+  record Clashing (ss : List (List ℕ)) : Type 0 where
+    one : List ℕ
+    other : List ℕ
+    is_one : Has ss one
+    is_other : Has ss other
+    both : do_clash dig one other ≡ true
+
+  clashing : (ss : List (List ℕ)) → has_clash dig ss ≡ true → Clashing ss
+  unfolding has_clash
+  clashing [] is = absurd (false≢true is)
+  clashing (s ∷ ss) is =
+      elim (or_cases (list_any (do_clash dig s) ss) (has_clash dig ss) is) [
+        | inl here ↦
+            let r = any-some (do_clash dig s) ss here in
+            record { one = s; other = r.0; is_one = inl refl; is_other = inr r.1; both = r.2 }
+        | inr later ↦
+            let r = clashing ss later in record {
+              one = r.one;
+              other = r.other;
+              is_one = inr r.is_one;
+              is_other = inr r.is_other;
+              both = r.both;
+            }
+      ]
+
+  pub no-clash : (events : List Event) (c : ℕ) → first_clash dig [] (all_strings dig events) ≡ None
+      → has_clash dig (strings_of dig c (seen events c)) ≡ false
+  no-clash events c none =
+      false_from_ne_true _ (λ is.
+      let k = clashing (strings_of dig c (seen events c)) is in
+      let parts = and_parts (not (bytes_eq k.one k.other)) (bytes_eq (dig k.one) (dig k.other)) k.both in
+      first-none [] (all_strings dig events) none k.one k.other (coin-strings events c k.one k.is_one)
+      (coin-strings events c k.other k.is_other)
+      (λ e. true≢false (sym ((bytes_eq-Decides k.one k.other).1 e) ∙ not-true _ parts.0))
+      ((bytes_eq-Decides (dig k.one) (dig k.other)).0 parts.1))
+
+-- ---- forgeries
+
+wallet-listed : (events : List Event) (w : ℕ) (me : Owner) → wallet_owner events w ≡ Some me → Has (wallets events) w
+unfolding wallet_owner wallets
+wallet-listed [] w me is = absurd (none_some me is)
+wallet-listed (Declares v other ∷ events) w me is =
+    (elim (v == w) as (λ b. (v == w) ≡ b → (if b then Some other else wallet_owner events w) ≡ Some me
+    → Has (v ∷ wallets events) w) [
+      | true ↦ λ same here. inl (eqb-true v w same)
+      | false ↦ λ apart later. inr (wallet-listed events w me later)
+    ]) refl is
+wallet-listed (event ∷ events) w me is = wallet-listed events w me is
+
+forges-none : (tag : List ℕ) (o : Option Owner) (w c : ℕ) (events : List Event)
+    → forges_one tag o (bound_by events w) c [] ≡ false
+forges-none tag None w c events = refl
+forges-none tag (Some me) w c events = refl
+
+-- an event at which no wallet's signature is forged
+event-unforged : (tag : List ℕ) (events : List Event) (event : Event) (w c : ℕ)
+    → forges_some tag events event ≡ false → shows_forgery tag events w c (openings_of c event) ≡ false
+event-unforged tag events event w c none = by_owner (wallet_owner events w) refl
+  where
+    by_owner : (o : Option Owner) → wallet_owner events w ≡ o
+        → forges_one tag o (bound_by events w) c (openings_of c event) ≡ false
+    by_owner None o_is = refl
+    by_owner (Some me) o_is = elim (event-own c event) [
+      | inr empty ↦ ap (forges_one tag (Some me) (bound_by events w) c) empty
+          ∙ forges-none tag (Some me) w c events
+      | inl same ↦
+          let off = any-none (λ v. shows_forgery tag events v (coin_of event) (openings_of (coin_of event) event))
+          (wallets events) w none (wallet-listed events w me o_is) in
+          ap (λ o. forges_one tag o (bound_by events w) c (openings_of c event)) (sym o_is)
+          ∙ ap (λ k. shows_forgery tag events w k (openings_of k event)) same ∙ off
+    ]
+
+pub no-forgery : (tag : List ℕ) (events : List Event) (w c : ℕ) → first_forgery tag events ≡ None
+    → is_forged tag events w c ≡ false
+unfolding first_forgery is_forged
+no-forgery tag [] w c none = refl
+no-forgery tag (event ∷ events) w c none =
+    let parts = or-none (first_forgery tag events)
+    (if forges_some tag events event then Some (length events + 1) else None) none in
+    or_from _ _ (event-unforged tag events event w c (off (forges_some tag events event) parts.1))
+    (no-forgery tag events w c parts.0)
+  where
+    off : (b : Bool) → (if b then Some (length events + 1) else None) ≡ None → b ≡ false
+    off true wrong = absurd (none_some (length events + 1) (sym wrong))
+    off false is = refl
+
+-- ---- the exhibit
+
+pub nothing-exhibited : (dig : List ℕ → List ℕ) (tag : List ℕ) (events : List Event)
+    → exhibit_of dig tag events ≡ Exhibit.Nothing
+    → (first_clash dig [] (all_strings dig events) ≡ None) × (first_forgery tag events ≡ None)
+unfolding exhibit_of
+nothing-exhibited dig tag events is =
+    by_both (first_clash dig [] (all_strings dig events)) (first_forgery tag events) is
+  where
+    by_both : (p : Option Pair) (f : Option ℕ) → collision_or p (forgery_or f) ≡ Exhibit.Nothing
+        → (p ≡ None) × (f ≡ None)
+    by_both None None same = (refl, refl)
+    by_both None (Some line) wrong = absurd (cc wrong)
+    by_both (Some pair) f wrong = absurd (cc wrong)

@@ -1,0 +1,260 @@
+-- What a watcher's records keep is shown by a bundle that events say it guards: one of the same coin and tip, with the
+-- same links.
+use Rattle.std.proofs.Common.{◌≡◌, ◌⊎◌, ℕ, ◌==◌, ◌&&◌, not, Bool, true, false, if◌then◌else◌, cond, ◌^◌, ◌<◌, List, [], ◌∷◌, ◌++◌, filter, Option, Some, None, Ok, Err, inl, inr, refl, sym, ap, ◌∙◌, subst, lit<}
+use Rattle.std.specs.Prelude.{Result, IfSome}
+use Rattle.std.specs.List.{list_any}
+use Rattle.std.proofs.lemmas.Bool.{false≢true}
+use Rattle.node_journal.specs.Effect.{Effect, first_cause, unless, only}
+use Rattle.plasma_tx.specs.declared.links.Links.{Links}
+use Rattle.plasma_tx.specs.declared.call.RootCall.{RootCall}
+use Rattle.plasma_tx.specs.Links.{tip_of}
+use Rattle.coin_history.specs.declared.bundle.Bundle.{Bundle}
+use Rattle.coin_history.specs.declared.refusal.HistoryRefusal.{HistoryRefusal}
+use Rattle.coin_history.specs.History.{links_in}
+use Rattle.schedule_text.specs.declared.command.Command.{Command}
+use Rattle.schedule_text.specs.declared.command.WatcherCommand.{WatcherCommand}
+use Rattle.node_rules.specs.declared.answers.Accepted.{Accepted}
+use Rattle.node_rules.specs.declared.refusal.WatcherRefusal.{WatcherRefusal}
+use Rattle.node_rules.specs.declared.refusal.WatcherRefusal.TheVariants.{NoGuard}
+use Rattle.node_rules.specs.Kept.{chain_of, kept_of, links_handed}
+use Rattle.node_rules.specs.Laws.{IsReadBack}
+use Rattle.node_rules.specs.Watcher.{Guarded, Released, note_text, who_is, is_of, is_before, with_guard, guards_of, guards_in, guard_causes, guard_by, guard_effect, release_effect}
+use Rattle.node_rules.specs.WatcherLaws.{AddsNote, AddsGuard}
+use Rattle.node_rules.proofs.WatcherRole.{commands_add_their_notes}
+use Rattle.watch_duty.proofs.Members.{Has, has-cases, has-filter}
+use Rattle.world_rules.specs.Causes.{watcher_cause}
+use Rattle.world_rules.specs.Events.{Event, Guards, Releases, is_bundle}
+use Rattle.world_rules.specs.World.{Role, Wallet, Watcher, Operator, Node, World, is_wallet_role, is_watcher_role, is_operator_role, bytes_of}
+use Rattle.world_rules.specs.Deeds.{answered, on_guarded, on_released, bundle_read, with_record, on_open, watcher_command, deed_of, Deed}
+use Rattle.world_rules.proofs.ByteTexts.{Small, small-nil}
+use Rattle.world_rules.proofs.Said.{Said, told}
+use Rattle.world_rules.proofs.KeptWatcher.{KeptWatcher}
+use Rattle.world_rules.proofs.KeptNode.{IsFit, IsFitWatcher, token-small}
+use Rattle.world_rules.proofs.OperatorItems.{AreSmallRecords}
+use Rattle.world_laws.proofs.Lists.{some_same}
+use Rattle.world_rules.proofs.Shapes.{IsDone}
+use Rattle.world_laws.proofs.DeedOffers.{done-role}
+use Rattle.world_laws.proofs.Handed.{handed-history}
+
+-- a bundle shows a kept coin: it is of the coin and the tip, and has the links
+pub record IsShown (tag : List ℕ) (bundles : List Bundle) (kept : Bundle) : Type 0 where
+  pub bundle : Bundle
+  pub has : Has bundles bundle
+  pub coin : bundle.coin ≡ kept.coin
+  pub tip : bundle.tip ≡ kept.tip
+  pub links : links_in (chain_of tag) bundle.coin bundle.openings ≡ links_in (chain_of tag) kept.coin kept.openings
+
+-- each kept coin is shown
+abbrev pub AreShown : List ℕ → List Bundle → List Bundle → Type 0
+AreShown tag bundles guards = (kept : Bundle) → Has guards kept → IsShown tag bundles kept
+
+-- ---- lists
+
+has-guard : (kept : Bundle) (guards : List Bundle) (other : Bundle) → Has (with_guard kept guards) other
+    → (kept ≡ other) ⊎ Has guards other
+has-guard kept guards other h = by (list_any (is_of kept.coin kept.tip) guards) h
+  where
+    front : List Bundle
+    front = filter (λ one. is_before one kept) guards
+
+    back : List Bundle
+    back = filter (λ one. not (is_before one kept)) guards
+
+    by : (b : Bool) → Has (if b then guards else front ++ kept ∷ back) other → (kept ≡ other) ⊎ Has guards other
+    by true h = inr h
+    by false h = elim (has-cases front (kept ∷ back) other h) [
+      | inl first ↦ inr (has-filter (λ one. is_before one kept) guards other first).0
+      | inr rest ↦ elim rest [
+        | inl same ↦ inl same
+        | inr later ↦ inr (has-filter (λ one. not (is_before one kept)) guards other later).0
+      ]
+    ]
+
+filter-has : {X : Type 0} (p : X → Bool) (xs : List X) (x : X) → Has xs x → p x ≡ true → Has (filter p xs) x
+filter-has p [] x h passes = absurd h
+filter-has p (y ∷ ys) x (inl same) passes =
+    subst (λ b. Has (cond b (y ∷ filter p ys) (filter p ys)) x) (sym (ap p same ∙ passes)) (inl same)
+filter-has p (y ∷ ys) x (inr h) passes =
+    elim (p y) as (λ b. Has (cond b (y ∷ filter p ys) (filter p ys)) x) [
+      | true ↦ inr (filter-has p ys x h passes)
+      | false ↦ filter-has p ys x h passes
+    ]
+
+-- one more bundle shows no less
+pub shown-more : (tag : List ℕ) (bundle : Bundle) (bundles guards : List Bundle) → AreShown tag bundles guards
+    → AreShown tag (bundle ∷ bundles) guards
+shown-more tag bundle bundles guards shown kept has = let by = shown kept has in record {
+  bundle = by.bundle;
+  has = inr by.has;
+  coin = by.coin;
+  tip = by.tip;
+  links = by.links;
+}
+
+-- what is let go of both
+shown-released : (tag : List ℕ) (c e : ℕ) (bundles guards : List Bundle) → AreShown tag bundles guards
+    → AreShown tag (filter (λ bundle. not (is_bundle c e bundle)) bundles)
+    (filter (λ kept. not (is_of c e kept)) guards)
+shown-released tag c e bundles guards shown kept has =
+    let old = has-filter (λ (one : Bundle). not (is_of c e one)) guards kept has in
+    let by = shown kept old.0 in
+    record {
+      bundle = by.bundle;
+      has = filter-has (λ (one : Bundle). not (is_bundle c e one)) bundles by.bundle by.has
+          ((λ i. not ((by.coin i == c) && (by.tip i == e))) ∙ old.1);
+      coin = by.coin;
+      tip = by.tip;
+      links = by.links;
+    }
+
+-- ---- a watcher's commands
+
+-- the bundle that was handed in shows what is kept of its links
+pub handed-shown : (dig : List ℕ → List ℕ) (tag : List ℕ) (log : List RootCall) (bytes : List ℕ) (links : Links)
+    (bundles : List Bundle) → links_handed dig tag log bytes ≡ Ok links → IsReadBack dig tag log links
+    → IsShown tag (bundle_read bytes ∷ bundles) (kept_of links)
+handed-shown dig tag log bytes links bundles handed back =
+    let history = handed-history dig (chain_of tag) log bytes links handed in record {
+      bundle = bundle_read bytes;
+      has = inl refl;
+      coin = ap (λ (l : Links). l.coin) (sym history.shown);
+      tip = sym history.tip;
+      links = ap (λ (l : Links). l.spends) (sym history.shown) ∙ sym back.shown;
+    }
+
+-- the release of a guard that is there, or isn't
+abbrev releasing : ℕ → ℕ → Bool → Effect (Result (Unit {0}) WatcherRefusal)
+releasing c e has =
+    if has then record { answer = Ok tt; note = Some (note_text (Released c e)) } else only (Err NoGuard)
+
+-- the guard of links that aren't refused, which may be known
+abbrev guarding : Links → Bool → Effect (Result Accepted WatcherRefusal)
+guarding links known = record {
+  answer = Ok (record { coin = links.coin; tip = tip_of links });
+  note = if known then None else Some (note_text (Guarded (kept_of links)));
+}
+
+module _ (dig : List ℕ → List ℕ) (tag : List ℕ) (s : Said) (log : List RootCall) (records : List (List ℕ))
+    (kept : KeptWatcher dig s records) (tag_is : (who_is records).tag ≡ tag)
+    (shown : AreShown tag s.guarded (guards_in dig records)) where
+  abbrev IsAfter : Event → Option (List ℕ) → Type 0
+  IsAfter event note = AreShown tag (told event s).guarded (guards_in dig (with_record records note))
+
+  guard-new : (n : ℕ) (bytes body : List ℕ) (links : Links)
+      → links_handed dig (who_is records).tag log bytes ≡ Ok links
+      → IsReadBack dig (who_is records).tag log links → AddsNote dig records (Guarded (kept_of links)) body
+      → IsAfter (Guards n (bundle_read bytes)) (Some body)
+  unfolding guards_of
+  guard-new n bytes body links handed back adds =
+      subst (λ notes. AreShown tag (bundle_read bytes ∷ s.guarded) (guards_of notes)) (sym adds.1) each
+    where
+      each : AreShown tag (bundle_read bytes ∷ s.guarded) (with_guard (kept_of links) (guards_in dig records))
+      each other has = elim (has-guard (kept_of links) (guards_in dig records) other has) [
+        | inl same ↦
+            subst (IsShown tag (bundle_read bytes ∷ s.guarded)) same
+            (subst (λ t. IsShown t (bundle_read bytes ∷ s.guarded) (kept_of links)) tag_is
+            (handed-shown dig (who_is records).tag log bytes links s.guarded handed back))
+        | inr old ↦
+            shown-more tag (bundle_read bytes) s.guarded (guards_in dig records) shown other old
+      ]
+
+  abbrev IsGuarded : ℕ → List ℕ → Effect (Result Accepted WatcherRefusal) → Type 0
+  IsGuarded n bytes effect =
+      IsAfter (answered n watcher_cause (on_guarded n bytes) effect.answer).event effect.note
+
+  pub guard-shown : (n : ℕ) (bytes : List ℕ) → Small bytes → IsGuarded n bytes (guard_effect dig records log bytes)
+  unfolding guard_effect
+  guard-shown n bytes small =
+      at (links_handed dig (who_is records).tag log bytes) refl
+      (commands_add_their_notes dig records log bytes 0 0 kept.is small.are (lit< tt) (lit< tt)).0
+    where
+      by : (links : Links) → links_handed dig (who_is records).tag log bytes ≡ Ok links
+          → (failed : Option WatcherRefusal) (known : Bool)
+          → IfSome (unless failed (guarding links known)).note (AddsGuard dig records log bytes)
+          → IsGuarded n bytes (unless failed (guarding links known))
+      by links handed (Some why) known adds = shown
+      by links handed None true adds = shown-more tag (bundle_read bytes) s.guarded (guards_in dig records) shown
+      by links handed None false adds =
+          guard-new n bytes (note_text (Guarded (kept_of links))) adds.0 adds.1 adds.2
+          adds.3
+
+      at : (handed : Result Links HistoryRefusal) → links_handed dig (who_is records).tag log bytes ≡ handed
+          → IfSome (guard_by log (guards_in dig records) handed).note (AddsGuard dig records log bytes)
+          → IsGuarded n bytes (guard_by log (guards_in dig records) handed)
+      at (Err why) handed adds = shown
+      at (Ok links) handed adds =
+          by links handed (first_cause (guard_causes log links))
+          (list_any (is_of links.coin (tip_of links)) (guards_in dig records)) adds
+
+  release-new : (n c e : ℕ) (body : List ℕ) → AddsNote dig records (Released c e) body
+      → IsAfter (Releases n c e) (Some body)
+  unfolding guards_of
+  release-new n c e body adds =
+      subst (λ notes. AreShown tag (filter (λ bundle. not (is_bundle c e bundle)) s.guarded) (guards_of notes))
+      (sym adds.1) (shown-released tag c e s.guarded (guards_in dig records) shown)
+
+  abbrev IsReleased : ℕ → ℕ → ℕ → Effect (Result (Unit {0}) WatcherRefusal) → Type 0
+  IsReleased n c e effect =
+      IsAfter (answered n watcher_cause (on_released n c e) effect.answer).event effect.note
+
+  pub release-shown : (n c e : ℕ) → c < 2 ^ 64 → e < 2 ^ 64 → IsReleased n c e (release_effect dig records c e)
+  unfolding release_effect
+  release-shown n c e coin_fits tip_fits =
+      by (list_any (is_of c e) (guards_in dig records))
+      (commands_add_their_notes dig records log [] c e kept.is small-nil.are coin_fits tip_fits).1
+    where
+      by : (has : Bool) → IfSome (releasing c e has).note (AddsNote dig records (Released c e))
+          → IsReleased n c e (releasing c e has)
+      by true adds = release-new n c e (note_text (Released c e)) adds
+      by false adds = shown
+
+-- what a watcher's own command leaves
+module _ (dig : List ℕ → List ℕ) (world : World) (n : ℕ) (node : Node) (s : Said)
+    (mail : AreSmallRecords world.mail) (role : is_watcher_role node.role ≡ true)
+    (kept : KeptWatcher dig s node.notes) (tag_is : (who_is node.notes).tag ≡ world.chain.tag)
+    (shown : AreShown world.chain.tag s.guarded (guards_in dig node.notes)) where
+  abbrev ShownAfter : Deed → Type 0
+  ShownAfter deed =
+      AreShown world.chain.tag (told deed.gives.event s).guarded (guards_in dig (with_record node.notes deed.note))
+
+  watcher-shown : (own : WatcherCommand) → IsFitWatcher own → ShownAfter (watcher_command dig world n node.notes own)
+  watcher-shown (WatcherCommand.Guard bundle) fit =
+      guard-shown dig world.chain.tag s world.chain.log node.notes kept tag_is shown n (bytes_of world bundle)
+      (token-small world bundle mail fit)
+  watcher-shown (WatcherCommand.Release coin tip) fit =
+      release-shown dig world.chain.tag s world.chain.log node.notes kept tag_is shown n coin tip fit.0 fit.1
+
+  not-wallet : is_wallet_role node.role ≡ true → ⊥
+  not-wallet = by node.role role
+    where
+      by : (r : Role) → is_watcher_role r ≡ true → is_wallet_role r ≡ true → ⊥
+      by Wallet watcher wallet = false≢true watcher
+      by Watcher watcher wallet = false≢true wallet
+      by Operator watcher wallet = false≢true wallet
+
+  not-operator : is_operator_role node.role ≡ true → ⊥
+  not-operator = by node.role role
+    where
+      by : (r : Role) → is_watcher_role r ≡ true → is_operator_role r ≡ true → ⊥
+      by Wallet watcher operator = false≢true watcher
+      by Watcher watcher operator = false≢true operator
+      by Operator watcher operator = false≢true watcher
+
+  -- each command of a watcher
+  pub deed-shown : (command : Command) (deed : Deed) → IsFit command → IsDone dig world command n node deed
+      → ShownAfter deed
+  unfolding deed_of
+  deed-shown (Command.Wallet name own) deed fit done =
+      absurd (not-wallet (done-role dig world (Command.Wallet name own) n node deed done))
+  deed-shown (Command.Watcher name own) deed fit done =
+      subst ShownAfter (some_same _ deed done.deed_is) (watcher-shown own fit)
+  deed-shown (Command.Operator own) deed fit done =
+      absurd (not-operator (done-role dig world (Command.Operator own) n node deed done))
+  deed-shown (Command.Watch name) deed fit done = subst ShownAfter (some_same _ deed done.deed_is) shown
+  deed-shown (Command.Open name) deed fit done =
+      subst ShownAfter (some_same _ deed done.deed_is) (opened node.is_up)
+    where
+      opened : (b : Bool)
+          → AreShown world.chain.tag (told (on_open n node b).event s).guarded (guards_in dig node.notes)
+      opened true = shown
+      opened false = shown

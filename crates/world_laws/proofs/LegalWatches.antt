@@ -1,0 +1,140 @@
+-- What a watcher's watch offers is legal: it is what is due for the coins that it guards.
+use Rattle.std.proofs.Common.{◌≡◌, ℕ, ◌==◌, true, List, [], ◌∷◌, slice_get, Option, Some, None, inl, inr, refl, sym, ap, ◌∙◌, subst}
+use Rattle.std.specs.Option.{option_map, option_map_or}
+use Rattle.std.specs.List.{Contains, list_any, flat_map}
+use Rattle.std.proofs.lemmas.Bool.{and_parts, eqb-true}
+use Rattle.plasma_tx.specs.declared.owner.Owner.{Owner}
+use Rattle.plasma_tx.specs.declared.links.Links.{Links}
+use Rattle.plasma_tx.specs.declared.call.RootCall.{RootCall}
+use Rattle.plasma_tx.specs.declared.views.CoinView.{CoinView}
+use Rattle.plasma_tx.specs.Views.{coin_at}
+use Rattle.root_rules.specs.Shown.{Rules, rules_of}
+use Rattle.coin_history.specs.declared.bundle.Bundle.{Bundle}
+use Rattle.node_rules.specs.Watcher.{who_is, is_of, guards_in, due_for_kept, watch_answer}
+use Rattle.watch_duty.specs.Duty.{due_of}
+use Rattle.watch_duty.proofs.Members.{Has, has-contains, contains-has, has-flat_map, has-left, has-right}
+use Rattle.world_rules.specs.Events.{Event, log_of, wallet_owner, is_bundle, guarded_by}
+use Rattle.world_rules.specs.World.{Node, World, is_watcher_role}
+use Rattle.world_rules.proofs.Said.{said}
+use Rattle.world_rules.proofs.KeptWorld.{KeptWorld}
+use Rattle.world_laws.specs.Legal.{IsGuarding, ShowsGuard, LegalWatch}
+use Rattle.world_laws.proofs.Lists.{any-some}
+use Rattle.world_laws.proofs.Keeps.{Keeps}
+use Rattle.world_laws.proofs.GuardsShown.{IsShown, AreShown}
+use Rattle.world_laws.proofs.Guarding.{GuardsAreShown, is-watcher, watcher-tag}
+
+-- a bundle that shows a kept coin has the same due as it
+due-same : (tag : List ℕ) (log : List RootCall) (account : ℕ) (bundles : List Bundle) (kept : Bundle)
+    → (by : IsShown tag bundles kept)
+    → due_for_kept tag log account by.bundle ≡ due_for_kept tag log account kept
+due-same tag log account bundles kept by = λ i.
+    option_map_or (λ (links : Links). due_of log account (record { links = links }))
+    (option_map (λ (made : CoinView). record {
+      coin = by.coin i;
+      deposit = made.deposit;
+      owner = made.owner;
+      spends = by.links i;
+    }) (coin_at log (by.coin i)))
+    []
+
+pub has-in-flat_map : {X Y : Type 0} (f : X → List Y) (xs : List X) (x : X) (y : Y) → Has xs x → Has (f x) y
+    → Has (flat_map f xs) y
+has-in-flat_map f [] x y h there = absurd h
+has-in-flat_map f (z ∷ zs) x y (inl same) there =
+    has-left (f z) (flat_map f zs) y (subst (λ w. Has (f w) y) (sym same) there)
+has-in-flat_map f (z ∷ zs) x y (inr h) there = has-right (f z) (flat_map f zs) y (has-in-flat_map f zs x y h there)
+
+module _ (tag : List ℕ) (log : List RootCall) (account : ℕ) (bundles guards : List Bundle)
+    (shown : AreShown tag bundles guards) where
+  abbrev calls : List RootCall
+  calls = flat_map (due_for_kept tag log account) guards
+
+  -- what shows a kept coin, and what of its due is offered
+  record Found (c e : ℕ) : Type 0 where
+    kept : Bundle
+    has : Has guards kept
+    coin_is : kept.coin ≡ c
+    tip_is : kept.tip ≡ e
+
+  found : (c e : ℕ) → list_any (is_of c e) guards ≡ true → Found c e
+  found c e is =
+      let r = any-some (is_of c e) guards is in
+      let parts = and_parts (r.0.coin == c) (r.0.tip == e) r.2 in record {
+        kept = r.0;
+        has = r.1;
+        coin_is = eqb-true r.0.coin c parts.0;
+        tip_is = eqb-true r.0.tip e parts.1;
+      }
+
+  due-offered : (kept : Bundle) → (has : Has guards kept) → (call : RootCall)
+      → Contains (due_for_kept tag log account (shown kept has).bundle) call → Contains calls call
+  due-offered kept has call due =
+      has-contains calls call
+      (has-in-flat_map (due_for_kept tag log account) guards kept call has
+      (contains-has (due_for_kept tag log account kept) call
+      (subst (λ (some : List RootCall). Contains some call)
+      (due-same tag log account bundles kept (shown kept has)) due)))
+
+  record OfShown (call : RootCall) : Type 0 where
+    bundle : Bundle
+    has : Has bundles bundle
+    due : Contains (due_for_kept tag log account bundle) call
+
+  offered-due : (call : RootCall) → Contains calls call → OfShown call
+  offered-due call is =
+      let r = has-flat_map (due_for_kept tag log account) guards call (contains-has calls call is) in
+      let by = shown r.0 r.1 in record {
+        bundle = by.bundle;
+        has = by.has;
+        due = subst (λ (some : List RootCall). Contains some call) (sym (due-same tag log account bundles r.0 by))
+            (has-contains (due_for_kept tag log account r.0) call r.2);
+      }
+
+  -- so the calls are legal of a node that guards the bundles and is no wallet
+  watch-by : (rules : Rules) (events : List Event) (n : ℕ) → rules.tag ≡ tag → log ≡ log_of events
+      → wallet_owner events n ≡ None → guarded_by events n ≡ bundles
+      → ((c e : ℕ) → list_any (is_bundle c e) bundles ≡ list_any (is_of c e) guards)
+      → LegalWatch rules events n calls
+  watch-by rules events n tag_is log_is owner guarded same = record {
+    account = account;
+    all = λ c e guarding.
+        let here : list_any (is_bundle c e) (guarded_by events n) ≡ true =
+        subst (λ (o : Option Owner). IsGuarding events n o c e) owner guarding in
+        let f = found c e (sym (same c e) ∙ ap (list_any (is_bundle c e)) (sym guarded) ∙ here) in
+        let by = shown f.kept f.has in record {
+          bundle = by.bundle;
+          coin_is = by.coin ∙ f.coin_is;
+          tip_is = by.tip ∙ f.tip_is;
+          shows = shows by.bundle by.has;
+          due = λ call due. due-offered f.kept f.has call
+              (subst (λ t. Contains (due_for_kept t log account by.bundle) call) tag_is
+              (subst (λ l. Contains (due_for_kept rules.tag l account by.bundle) call) (sym log_is) due));
+        };
+    only = λ call is.
+        let by = offered-due call is in record {
+          bundle = by.bundle;
+          shows = shows by.bundle by.has;
+          due = subst (λ l. Contains (due_for_kept rules.tag l account by.bundle) call) log_is
+              (subst (λ t. Contains (due_for_kept t log account by.bundle) call) (sym tag_is) by.due);
+        };
+  }
+    where
+      shows : (bundle : Bundle) → Has bundles bundle → ShowsGuard events n (wallet_owner events n) bundle
+      shows bundle has =
+          subst (λ (o : Option Owner). ShowsGuard events n o bundle) (sym owner)
+          (subst (λ (some : List Bundle). Contains some bundle) (sym guarded) (has-contains bundles bundle has))
+
+-- what a watcher's watch offers
+pub legal-watched : (dig : List ℕ → List ℕ) (events : List Event) (world : World) → KeptWorld dig events world
+    → Keeps events world → GuardsAreShown dig events world.chain.tag world.nodes → (n : ℕ) (node : Node)
+    → slice_get world.nodes n ≡ Some node → is_watcher_role node.role ≡ true
+    → LegalWatch (rules_of world.chain) events n (watch_answer dig node.notes world.chain.log)
+unfolding watch_answer said
+legal-watched dig events world kept keeps guards n node is role =
+    let watcher = is-watcher events world keeps n node is role in
+    let tag_is = watcher-tag events world.chain.tag n node watcher in
+    let account = (who_is node.notes).account in
+    watch-by (who_is node.notes).tag world.chain.log account (guarded_by events n) (guards_in dig node.notes)
+    (subst (λ t. AreShown t (guarded_by events n) (guards_in dig node.notes)) (sym tag_is) (guards n node is role))
+    (rules_of world.chain) events n (sym tag_is) kept.log_is watcher.owner refl
+    ((kept.nodes n node is).watcher role).guards

@@ -1,0 +1,449 @@
+-- A verdict `lost` stands only above an exhibit.
+use Rattle.std.proofs.Common.{◌≡◌, ◌≢◌, ◌⊎◌, ℕ, ◌+◌, ◌≤◌, ◌==◌, ◌&&◌, ◌||◌, not, Bool, true, false, if◌then◌else◌, List, [], ◌∷◌, length, Option, Some, None, inl, inr, refl, sym, ap, ◌∙◌, subst}
+use Rattle.std.specs.Prelude.{nat_le}
+use Rattle.std.specs.Option.{option_or, option_map_or}
+use Rattle.std.specs.List.{AllByRecursion, list_any, list_all}
+use Rattle.std.proofs.lemmas.Bool.{cases_Bool, eq-eqb, eqb-true, le-leb, and_parts, and_from, or_parts, or_cases, or_from, or_left, or_right, not-true, not_from_false, true≢false, false≢true, false_from_ne_true}
+use Rattle.plasma_tx.specs.declared.owner.Owner.{Owner}
+use Rattle.plasma_tx.specs.declared.call.RootCall.{RootCall}
+use Rattle.plasma_tx.specs.declared.call.RootCall.TheVariants.{After, Between, Finish}
+use Rattle.plasma_tx.specs.declared.answer.Answer.{Answer}
+use Rattle.plasma_tx.specs.declared.views.CoinView.{CoinView}
+use Rattle.plasma_tx.specs.Views.{now, coin_at, Exit, exits, exit_at, is_withdrawn, has_no_open_challenge}
+use Rattle.root_rules.specs.declared.TheConstants.{EXIT_PERIOD}
+use Rattle.root_rules.specs.Shown.{Tests, Rules, tests_by}
+use Rattle.root_rules.specs.Table.{is_accepted, answer_to}
+use Rattle.root_rules.specs.Accepted.{Finishes}
+use Rattle.root_rules.specs.Laws.{is_paid}
+use Rattle.root_rules.proofs.Accepted.{accepted_calls_show}
+use Rattle.root_rules.proofs.Ends.{paid_exactly}
+use Rattle.watch_duty.proofs.Members.{Has, all-has, contains-has}
+use Rattle.world_rules.specs.declared.verdict.VerdictKind.{VerdictKind}
+use Rattle.world_rules.specs.Laws.{IsDigest}
+use Rattle.world_rules.specs.Events.{Event, Declares, Joins, Accepts, log_of, coin_of_call, wallet_owner, accepted, bound_by, taken_back, signed_away_by, is_sent_from, is_bundle, offers_of}
+use Rattle.world_rules.specs.Exhibits.{seen, strings_of, has_clash, is_forged}
+use Rattle.world_rules.specs.Safety.{was_deposited, holds, is_attended, goes_unattended, is_mine, is_own, finish_harms, call_harms, harms, is_harmed}
+use Rattle.world_rules.specs.Verdicts.{is_others, is_finish_paid, pays_own, pays_other, ends_own, takes_from, before_taking, first_unattended, exit_was_paid, lost_or, taken_or, verdict_at}
+use Rattle.world_laws.specs.Legal.{starts_by, is_tip, LegalCall, IsLegal}
+use Rattle.world_laws.specs.LegalLaws.{LegalLostIsExhibited}
+use Rattle.world_laws.proofs.Lists.{some_same, none_some, found-has}
+use Rattle.world_laws.proofs.Bound.{owner-stays, Holding, holding}
+use Rattle.world_laws.proofs.Guards.{holds-from}
+use Rattle.world_laws.proofs.Offers.{offered_start, start-any, coin-stays}
+use Rattle.world_laws.proofs.Watched.{IsWatched, IfOf, AllWatched}
+use Rattle.world_laws.proofs.Safe.{none-before, forged-parts, attended-parts, legal-before, watched, safe-event}
+use Rattle.world_laws.proofs.OwnExits.{IsOwnAt, IfOwn, CameFrom, IsStartedBy, came-from, undeclared-none, own_kept}
+use Rattle.world_laws.proofs.Exhibited.{or-none, no-clash, no-forgery, nothing-exhibited}
+
+-- ---- holding goes on
+
+abbrev IsSource : List Event → ℕ → Owner → ℕ → ℕ → Type 0
+IsSource events w me c e =
+    (was_deposited me e (coin_at (log_of events) c) ≡ true) ⊎ (list_any (is_bundle c e) (accepted events w) ≡ true)
+
+deposited-on : (event : Event) (events : List Event) (me : Owner) (c e : ℕ)
+    → was_deposited me e (coin_at (log_of events) c) ≡ true
+    → was_deposited me e (coin_at (log_of (event ∷ events)) c) ≡ true
+deposited-on event events me c e is = by_coin (coin_at (log_of events) c) refl is
+  where
+    by_coin : (o : Option CoinView) → coin_at (log_of events) c ≡ o → was_deposited me e o ≡ true
+        → was_deposited me e (coin_at (log_of (event ∷ events)) c) ≡ true
+    by_coin None none wrong = absurd (false≢true wrong)
+    by_coin (Some made) some own = ap (was_deposited me e) (coin-stays event events c made some) ∙ own
+
+accepted-on : (event : Event) (events : List Event) (w c e : ℕ)
+    → list_any (is_bundle c e) (accepted events w) ≡ true
+    → list_any (is_bundle c e) (accepted (event ∷ events) w) ≡ true
+unfolding accepted
+accepted-on (Accepts v bundle) events w c e is = either (v == w)
+  where
+    either : (b : Bool)
+        → list_any (is_bundle c e) (if b then bundle ∷ accepted events w else accepted events w) ≡ true
+    either true = or_right (is_bundle c e bundle) (list_any (is_bundle c e) (accepted events w)) is
+    either false = is
+accepted-on event events w c e is = is
+
+holds-on : (tests : Tests) (rules : Rules) (event : Event) (events : List Event) (w c e : ℕ)
+    → IsLegal tests rules (event ∷ events) → holds events w c e ≡ true
+    → is_sent_from (signed_away_by (event ∷ events) w) c e ≡ false
+    → is_withdrawn (log_of (event ∷ events)) c ≡ false → holds (event ∷ events) w c e ≡ true
+holds-on tests rules event events w c e legal is not_away stays =
+    let h = holding events w c e is in
+    holds-from (event ∷ events) w c e (record {
+      me = h.me;
+      me_is = owner-stays tests rules event events w h.me legal h.me_is;
+      source = elim h.source [
+        | inl l ↦ inl (deposited-on event events h.me c e l)
+        | inr r ↦ inr (accepted-on event events w c e r)
+      ];
+      not_away = not_away;
+      not_withdrawn = stays;
+    })
+
+-- ---- what one call does
+
+module _ (tests : Tests) (rules : Rules) (me : Owner) (c e : ℕ) (log : List RootCall) where
+  own-there : (k f : ℕ) (x : Exit) → exit_at log k f ≡ Some x → k ≡ c → f ≡ e → is_mine me x ≡ true
+      → Has (exits log) x × IsOwnAt me c e x
+  own-there k f x found k_is f_is mine =
+      let place = found-has log k f x found in (place.0, (place.1 ∙ k_is, mine, place.2 ∙ f_is))
+
+  -- an own exit of that name is there
+  own-found : (k f : ℕ) → (k == c) ≡ true → (f == e) ≡ true → is_own me (exit_at log k f) ≡ true
+      → (x : Exit) × Has (exits log) x × IsOwnAt me c e x
+  own-found k f k_is f_is own = by_exit (exit_at log k f) refl own
+    where
+      by_exit : (o : Option Exit) → exit_at log k f ≡ o → is_own me o ≡ true
+          → (x : Exit) × Has (exits log) x × IsOwnAt me c e x
+      by_exit None none wrong = absurd (false≢true wrong)
+      by_exit (Some x) found mine =
+          let r = own-there k f x found (eqb-true k c k_is) (eqb-true f e f_is) mine in (x, r.0, r.1)
+
+  -- a Finish that is accepted withdraws the coin only where it pays another's exit or the own one
+  stays-in : (time : ℕ) (call : RootCall) → is_accepted (answer_to tests rules log call) ≡ true
+      → is_withdrawn log c ≡ false → AllWatched c me e time (exits log)
+      → pays_other tests rules log me c (Joins call) ≡ false → pays_own tests rules log me c e (Joins call) ≡ false
+      → is_withdrawn (call ∷ log) c ≡ false
+  unfolding is_withdrawn
+  stays-in time (Finish account k f) is stays all no_other no_own =
+      or_from ((k == c) && has_no_open_challenge (exit_at log k f)) (is_withdrawn log c)
+      (false_from_ne_true ((k == c) && has_no_open_challenge (exit_at log k f)) withdraws) stays
+    where
+      withdraws : ((k == c) && has_no_open_challenge (exit_at log k f)) ≡ true → ⊥
+      withdraws on =
+          let s = accepted_calls_show tests rules log (Finish account k f) is in
+          let parts = and_parts (k == c) (has_no_open_challenge (exit_at log k f)) on in
+          let k_is : k ≡ c = eqb-true k c parts.0 in
+          let unopposed : has_no_open_challenge (Some s.exit) ≡ true =
+          ap has_no_open_challenge (sym s.stands) ∙ parts.1 in
+          let paid : is_finish_paid tests rules log account k f ≡ true = ap is_paid
+          ((paid_exactly tests rules log account k f).1 (s, and_from _ _ unopposed
+          (not_from_false _ (ap (is_withdrawn log) k_is ∙ stays)))) in
+          let place = found-has log k f s.exit s.stands in
+          let w = all-has (IfOf c me e time) (exits log) s.exit all place.0 (place.1 ∙ k_is) in
+          elim (cases_Bool (is_mine me s.exit)) [
+            | inl mine ↦ true≢false (sym (and_from _ _ (and_from _ _ (and_from _ _ parts.0
+                (eq-eqb f e (sym place.2 ∙ w.own_block mine)))
+                (ap (is_own me) s.stands ∙ mine)) paid) ∙ no_own)
+            | inr theirs ↦ true≢false (sym (and_from _ _ (and_from _ _ parts.0
+                (ap (is_others me) s.stands ∙ not_from_false _ theirs)) paid) ∙ no_other)
+          ]
+  stays-in time call is stays all no_other no_own = stays
+
+  -- what ends the own exit names it, and harms if the coin is held
+  ends-harms : (call : RootCall) → is_accepted (answer_to tests rules log call) ≡ true
+      → ends_own tests rules log me c e (Joins call) ≡ true
+      → ((x : Exit) × Has (exits log) x × IsOwnAt me c e x) × (call_harms tests rules log me c e call ≡ true)
+  unfolding call_harms
+  ends-harms (After account k f spend) is ends =
+      let parts = and_parts ((k == c) && (f == e)) (is_own me (exit_at log k f)) ends in
+      let names = and_parts (k == c) (f == e) parts.0 in
+      (own-found k f names.0 names.1 parts.1, and_from _ _ ends is)
+  ends-harms (Between account k f spend) is ends =
+      let parts = and_parts ((k == c) && (f == e)) (is_own me (exit_at log k f)) ends in
+      let names = and_parts (k == c) (f == e) parts.0 in
+      (own-found k f names.0 names.1 parts.1, and_from _ _ ends is)
+  ends-harms (Finish account k f) is ends =
+      let answer : Answer = answer_to tests rules log (Finish account k f) in
+      let s = accepted_calls_show tests rules log (Finish account k f) is in
+      let whole = and_parts ((k == c) && (f == e) && is_own me (exit_at log k f)) (not (is_paid answer)) ends in
+      let parts = and_parts ((k == c) && (f == e)) (is_own me (exit_at log k f)) whole.0 in
+      let names = and_parts (k == c) (f == e) parts.0 in
+      let mine : is_mine me s.exit ≡ true = ap (is_own me) (sym s.stands) ∙ parts.1 in
+      let place = found-has log k f s.exit s.stands in
+      let tip : s.exit.block ≡ e = place.2 ∙ eqb-true f e names.1 in
+      let harm : finish_harms me e (now log) answer (Some s.exit) ≡ true =
+      subst (λ (b : Bool). (if b then (s.exit.block == e) && nat_le (s.exit.start + EXIT_PERIOD) (now log)
+      && not (is_paid answer) else is_paid answer) ≡ true) (sym mine)
+      (and_from _ _ (and_from _ _ (eq-eqb s.exit.block e tip) (le-leb _ _ s.in_time)) whole.1) in
+      (own-found k f names.0 names.1 parts.1,
+      and_from _ _ names.0 (ap (finish_harms me e (now log) answer) s.stands ∙ harm))
+  ends-harms call is ends = absurd (false≢true ends)
+
+  -- another's exit that is paid harms
+  pays-harms : (call : RootCall) → pays_other tests rules log me c (Joins call) ≡ true
+      → call_harms tests rules log me c e call ≡ true
+  unfolding call_harms
+  pays-harms (Finish account k f) pays =
+      let answer : Answer = answer_to tests rules log (Finish account k f) in
+      let whole = and_parts ((k == c) && is_others me (exit_at log k f)) (is_paid answer) pays in
+      let parts = and_parts (k == c) (is_others me (exit_at log k f)) whole.0 in
+      and_from _ _ parts.0 (by_exit answer (exit_at log k f) parts.1 whole.1)
+    where
+      by_exit : (answer : Answer) (o : Option Exit) → is_others me o ≡ true → is_paid answer ≡ true
+          → finish_harms me e (now log) answer o ≡ true
+      by_exit answer None wrong paid = absurd (false≢true wrong)
+      by_exit answer (Some x) others paid =
+          subst (λ (b : Bool). (if b then (x.block == e) && nat_le (x.start + EXIT_PERIOD) (now log)
+          && not (is_paid answer) else is_paid answer) ≡ true) (sym (not-true _ others)) paid
+  pays-harms call pays = absurd (false≢true pays)
+
+-- ---- all events
+
+module _ (dig : List ℕ → List ℕ) (digest : IsDigest dig) (rules : Rules) (me : Owner) (w c e : ℕ) where
+  taking-parts : (event : Event) (events : List Event)
+      → before_taking (tests_by dig) rules (event ∷ events) me w c e ≡ None
+      → (before_taking (tests_by dig) rules events me w c e ≡ None)
+      × (takes_from (tests_by dig) rules events me w c e event ≡ false)
+  unfolding before_taking
+  taking-parts event events none =
+      let parts = or-none (before_taking (tests_by dig) rules events me w c e)
+      (if takes_from (tests_by dig) rules events me w c e event then Some events else None) none in
+      (parts.0, off (takes_from (tests_by dig) rules events me w c e event) parts.1)
+    where
+      off : (b : Bool) → (if b then Some events else None) ≡ None → b ≡ false
+      off true wrong = absurd (none_some events (sym wrong))
+      off false is = refl
+
+  unpaid-parts : (event : Event) (events : List Event)
+      → exit_was_paid (tests_by dig) rules (event ∷ events) me c e ≡ false
+      → (pays_own (tests_by dig) rules (log_of events) me c e event ≡ false)
+      × (exit_was_paid (tests_by dig) rules events me c e ≡ false)
+  unfolding exit_was_paid
+  unpaid-parts event events none = or_parts _ _ none
+
+  -- the tip of a start by the wallet is one that it has
+  start-source : (events : List Event) (call : RootCall) → IsLegal (tests_by dig) rules events
+      → wallet_owner events w ≡ Some me → LegalCall (tests_by dig) rules events call
+      → IsStartedBy (log_of events) me c e call
+      → (was_deposited me e (coin_at (log_of events) c) ≡ true)
+      ⊎ (list_any (is_bundle c e) (accepted events w) ≡ true)
+  start-source events call legal me_is allowed s =
+      let k = offered_start (tests_by dig) rules events w call legal
+      (contains-has (offers_of events w) call (allowed.offered w me me_is s.start))
+      (start-any me.account call s.start) in
+      let mine : k.me ≡ me = some_same k.me me (sym k.me_is ∙ me_is) in
+      let tip : is_tip events w me c e ≡ true =
+      (λ i. is_tip events w (sym mine i) (sym s.coin_is i) (sym s.block_is i)) ∙ k.tip in
+      or_cases (was_deposited me e (coin_at (log_of events) c)) (list_any (is_bundle c e) (accepted events w)) tip
+
+  -- after an accepted call that pays neither another's exit nor the own one
+  held-call : (call : RootCall) (events : List Event) → IsLegal (tests_by dig) rules (Joins call ∷ events)
+      → has_clash dig (strings_of dig c (seen events c)) ≡ false → is_forged rules.tag events w c ≡ false
+      → is_attended events w c e ≡ true → wallet_owner events w ≡ Some me
+      → takes_from (tests_by dig) rules events me w c e (Joins call) ≡ false
+      → pays_own (tests_by dig) rules (log_of events) me c e (Joins call) ≡ false
+      → is_sent_from (signed_away_by (Joins call ∷ events) w) c e ≡ false → holds events w c e ≡ true
+      → holds (Joins call ∷ events) w c e ≡ true
+  unfolding IsLegal log_of
+  held-call call events legal none unforged attended me_is untaken unpaid not_away is =
+      let h = holding events w c e is in
+      let mine : h.me ≡ me = some_same h.me me (sym h.me_is ∙ me_is) in
+      let all = watched dig digest rules w c e events legal.1 none unforged attended h in
+      let no_other : pays_other (tests_by dig) rules (log_of events) me c (Joins call) ≡ false =
+      false_from_ne_true _ (λ pays. true≢false (sym (and_from _ _ pays is) ∙ (or_parts _ _ untaken).0)) in
+      holds-on (tests_by dig) rules (Joins call) events w c e legal is not_away
+      (stays-in (tests_by dig) rules me c e (log_of events) (now (log_of events)) call legal.0.accepted h.not_withdrawn
+      (subst (λ m. AllWatched c m e (now (log_of events)) (exits (log_of events))) mine all) no_other unpaid)
+
+  -- while an own exit stands, the coin is held
+  own_held : (events : List Event) → IsLegal (tests_by dig) rules events
+      → has_clash dig (strings_of dig c (seen events c)) ≡ false → is_forged rules.tag events w c ≡ false
+      → is_attended events w c e ≡ true → before_taking (tests_by dig) rules events me w c e ≡ None
+      → exit_was_paid (tests_by dig) rules events me c e ≡ false → wallet_owner events w ≡ Some me → (x : Exit)
+      → Has (exits (log_of events)) x → IsOwnAt me c e x → holds events w c e ≡ true
+  unfolding IsLegal log_of exits wallet_owner taken_back bound_by
+  own_held [] legal none unforged attended untaken unpaid me_is x there own = absurd there
+  own_held (Declares v other ∷ events) legal none unforged attended untaken unpaid me_is x there own =
+      let taken = taking-parts (Declares v other) events untaken in
+      let paid = unpaid-parts (Declares v other) events unpaid in
+      (elim (v == w) as (λ b. (v == w) ≡ b → (if b then Some other else wallet_owner events w) ≡ Some me
+      → holds (Declares v other ∷ events) w c e ≡ true) [
+        | true ↦ λ same mine.
+            let owner = some_same other me mine in
+            absurd (undeclared-none (tests_by dig) rules w c e events me x
+            (ap (λ (o : Owner). list_any (starts_by o.account) (log_of events)) (sym owner) ∙ legal.0.no_start)
+            there own.1)
+        | false ↦ λ apart mine.
+            let is = own_held events legal.1 (none-before dig (Declares v other) events c none)
+            (forged-parts rules.tag (Declares v other) events w c unforged).1
+            (attended-parts (Declares v other) events w c e attended).1 taken.0 paid.1 mine x there own in
+            holds-on (tests_by dig) rules (Declares v other) events w c e legal is
+            (own_kept (tests_by dig) rules w c e (Declares v other ∷ events) legal me me_is x there own)
+            (holding events w c e is).not_withdrawn
+      ]) refl me_is
+  own_held (Joins call ∷ events) legal none unforged attended untaken unpaid me_is x there own =
+      let taken = taking-parts (Joins call) events untaken in
+      let paid = unpaid-parts (Joins call) events unpaid in
+      let before = none-before dig (Joins call) events c none in
+      let honest = (forged-parts rules.tag (Joins call) events w c unforged).1 in
+      let watches = (attended-parts (Joins call) events w c e attended).1 in
+      let kept = own_kept (tests_by dig) rules w c e (Joins call ∷ events) legal me me_is x there own in
+      held-call call events legal before honest watches me_is taken.1 paid.0 kept
+      (elim (all-has (IfOwn (log_of events) me c e call) (exits (call ∷ log_of events)) x
+      (came-from (tests_by dig) rules (log_of events) me c e call legal.0.accepted) there own) [
+        | inl r ↦ own_held events legal.1 before honest watches taken.0 paid.1 me_is r.0 r.1 r.2
+        | inr s ↦ holds-from events w c e (record {
+          me = me;
+          me_is = me_is;
+          source = start-source events call legal.1 me_is legal.0 s;
+          not_away = kept;
+          not_withdrawn = s.not_withdrawn;
+        })
+      ])
+  own_held (event ∷ events) legal none unforged attended untaken unpaid me_is x there own =
+      let is = own_held events legal.1 (none-before dig event events c none)
+      (forged-parts rules.tag event events w c unforged).1 (attended-parts event events w c e attended).1
+      (taking-parts event events untaken).0 (unpaid-parts event events unpaid).1 me_is x there own in
+      holds-on (tests_by dig) rules event events w c e legal is
+      (own_kept (tests_by dig) rules w c e (event ∷ events) legal me me_is x there own)
+      (holding events w c e is).not_withdrawn
+
+  -- ---- nothing takes the coin
+
+  -- who the wallet is, if it is declared; before that nobody starts an exit by its account
+  record Knows (events : List Event) : Type 0 where
+    same : (other : Owner) → wallet_owner events w ≡ Some other → other ≡ me
+    none : wallet_owner events w ≡ None → list_any (starts_by me.account) (log_of events) ≡ false
+
+  knows-none : (event : Event) (events : List Event) → IsLegal (tests_by dig) rules (event ∷ events)
+      → Knows (event ∷ events) → wallet_owner events w ≡ None
+      → list_any (starts_by me.account) (log_of events) ≡ false
+  unfolding IsLegal wallet_owner log_of
+  knows-none (Declares v other) events legal k undeclared =
+      (elim (v == w) as (λ b. (v == w) ≡ b
+      → ((o : Owner) → (if b then Some other else wallet_owner events w) ≡ Some o → o ≡ me)
+      → ((if b then Some other else wallet_owner events w) ≡ None
+      → list_any (starts_by me.account) (log_of events) ≡ false)
+      → list_any (starts_by me.account) (log_of events) ≡ false) [
+        | true ↦ λ on same none.
+            let owner = same other refl in
+            ap (λ (o : Owner). list_any (starts_by o.account) (log_of events)) (sym owner) ∙ legal.0.no_start
+        | false ↦ λ off same none. none undeclared
+      ]) refl k.same k.none
+  knows-none (Joins call) events legal k undeclared = (or_parts _ _ (k.none undeclared)).1
+  knows-none event events legal k undeclared = k.none undeclared
+
+  knows-before : (event : Event) (events : List Event) → IsLegal (tests_by dig) rules (event ∷ events)
+      → Knows (event ∷ events) → Knows events
+  knows-before event events legal k = record {
+    same = λ other is. k.same other (owner-stays (tests_by dig) rules event events w other legal is);
+    none = knows-none event events legal k;
+  }
+
+  -- where the coin is held, an event that harms can't be
+  harm-none : (event : Event) (events : List Event) → IsLegal (tests_by dig) rules (event ∷ events)
+      → has_clash dig (strings_of dig c (seen (event ∷ events) c)) ≡ false
+      → is_forged rules.tag (event ∷ events) w c ≡ false → is_attended events w c e ≡ true → Knows events
+      → holds events w c e ≡ true → harms (tests_by dig) rules (log_of events) (Some me) c e event ≡ true → ⊥
+  harm-none event events legal none unforged attended k held harm =
+      let h = holding events w c e held in
+      let owner : wallet_owner events w ≡ Some me = h.me_is ∙ ap (λ (o : Owner). Some o) (k.same h.me h.me_is) in
+      true≢false (sym (and_from _ _ held
+      (ap (λ o. harms (tests_by dig) rules (log_of events) o c e event) owner ∙ harm))
+      ∙ safe-event dig digest rules w c e event events legal attended none unforged)
+
+  pays-harm : (event : Event) (events : List Event)
+      → pays_other (tests_by dig) rules (log_of events) me c event ≡ true
+      → harms (tests_by dig) rules (log_of events) (Some me) c e event ≡ true
+  pays-harm (Joins call) events pays = pays-harms (tests_by dig) rules me c e (log_of events) call pays
+  pays-harm event events pays = absurd (false≢true pays)
+
+  ends-harm : (event : Event) (events : List Event) → IsLegal (tests_by dig) rules (event ∷ events)
+      → ends_own (tests_by dig) rules (log_of events) me c e event ≡ true
+      → ((x : Exit) × Has (exits (log_of events)) x × IsOwnAt me c e x)
+      × (harms (tests_by dig) rules (log_of events) (Some me) c e event ≡ true)
+  unfolding IsLegal
+  ends-harm (Joins call) events legal ends =
+      ends-harms (tests_by dig) rules me c e (log_of events) call legal.0.accepted ends
+  ends-harm event events legal ends = absurd (false≢true ends)
+
+  untaken : (event : Event) (events : List Event) → IsLegal (tests_by dig) rules (event ∷ events)
+      → has_clash dig (strings_of dig c (seen (event ∷ events) c)) ≡ false
+      → is_forged rules.tag (event ∷ events) w c ≡ false → is_attended events w c e ≡ true → Knows events
+      → before_taking (tests_by dig) rules events me w c e ≡ None
+      → exit_was_paid (tests_by dig) rules events me c e ≡ false
+      → takes_from (tests_by dig) rules events me w c e event ≡ true → ⊥
+  untaken event events legal none unforged attended k before unpaid takes =
+      elim (or_cases (pays_other (tests_by dig) rules (log_of events) me c event && holds events w c e)
+      (ends_own (tests_by dig) rules (log_of events) me c e event) takes) [
+        | inl paid ↦
+            let parts = and_parts (pays_other (tests_by dig) rules (log_of events) me c event) (holds events w c e)
+            paid in
+            harm-none event events legal none unforged attended k parts.1 (pays-harm event events parts.0)
+        | inr ended ↦
+            let r = ends-harm event events legal ended in
+            by_owner (wallet_owner events w) refl r.0.0 r.0.1 r.0.2 r.1
+      ]
+    where
+      by_owner : (o : Option Owner) → wallet_owner events w ≡ o → (x : Exit) → Has (exits (log_of events)) x
+          → IsOwnAt me c e x → harms (tests_by dig) rules (log_of events) (Some me) c e event ≡ true → ⊥
+      by_owner None o_is x there own harm =
+          undeclared-none (tests_by dig) rules w c e events me x (k.none o_is) there own.1
+      by_owner (Some other) o_is x there own harm =
+          let owner : wallet_owner events w ≡ Some me = o_is ∙ ap (λ (o : Owner). Some o) (k.same other o_is) in
+          harm-none event events legal none unforged attended k
+          (own_held events (legal-before (tests_by dig) rules event events legal) (none-before dig event events c none)
+          (forged-parts rules.tag event events w c unforged).1 attended before unpaid owner x there own) harm
+
+  -- where no deadline went unattended, each was attended
+  all-attended : (events : List Event) → first_unattended events w c e ≡ None → is_attended events w c e ≡ true
+  unfolding first_unattended is_attended
+  all-attended [] none = refl
+  all-attended (event ∷ events) none =
+      let parts = or-none (first_unattended events w c e)
+      (if goes_unattended events w c e event then Some (length events + 1) else None) none in
+      and_from _ _ (not_from_false _ (off (goes_unattended events w c e event) parts.1)) (all-attended events parts.0)
+    where
+      off : (b : Bool) → (if b then Some (length events + 1) else None) ≡ None → b ≡ false
+      off true wrong = absurd (none_some (length events + 1) (sym wrong))
+      off false is = refl
+
+  never-lost : (events : List Event) → IsLegal (tests_by dig) rules events
+      → has_clash dig (strings_of dig c (seen events c)) ≡ false → is_forged rules.tag events w c ≡ false
+      → Knows events → exit_was_paid (tests_by dig) rules events me c e ≡ false → (before : List Event)
+      → before_taking (tests_by dig) rules events me w c e ≡ Some before → first_unattended before w c e ≡ None → ⊥
+  unfolding before_taking
+  never-lost [] legal none unforged k unpaid before taken watches = none_some before taken
+  never-lost (event ∷ events) legal none unforged k unpaid before taken watches =
+      let earlier = legal-before (tests_by dig) rules event events legal in
+      let paid = (unpaid-parts event events unpaid).1 in
+      let known = knows-before event events legal k in
+      (elim (before_taking (tests_by dig) rules events me w c e) as (λ o.
+      before_taking (tests_by dig) rules events me w c e ≡ o
+      → option_or o (if takes_from (tests_by dig) rules events me w c e event then Some events else None)
+      ≡ Some before → ⊥) [
+        | Some b ↦ λ some same. never-lost events earlier (none-before dig event events c none)
+            (forged-parts rules.tag event events w c unforged).1 known paid before
+            (some ∙ same) watches
+        | None ↦ λ first here. (elim (takes_from (tests_by dig) rules events me w c e event) as (λ t.
+            takes_from (tests_by dig) rules events me w c e event ≡ t
+            → (if t then Some events else None) ≡ Some before → ⊥) [
+              | true ↦ λ takes same.
+                  let is : events ≡ before = some_same events before same in
+                  untaken event events legal none unforged
+                  (all-attended events (ap (λ (l : List Event). first_unattended l w c e) is ∙ watches)) known first paid
+                  takes
+              | false ↦ λ not wrong. none_some before wrong
+            ]) refl here
+      ]) refl taken
+
+pub lost_is_exhibited : LegalLostIsExhibited
+unfolding verdict_at
+lost_is_exhibited dig rules events w c e me digest legal me_is lost nothing =
+    let shown = nothing-exhibited dig rules.tag events nothing in
+    let none = no-clash dig events c shown.0 in
+    let unforged = no-forgery rules.tag events w c shown.1 in
+    (elim (is_sent_from (signed_away_by events w) c e) as (λ b. (if b then VerdictKind.Away
+    else if exit_was_paid (tests_by dig) rules events me c e then VerdictKind.Paid
+    else taken_or (before_taking (tests_by dig) rules events me w c e) w c e) ≡ VerdictKind.Lost → ⊥) [
+      | true ↦ λ wrong. absurd (cc wrong)
+      | false ↦ λ rest. (elim (exit_was_paid (tests_by dig) rules events me c e) as (λ b.
+          exit_was_paid (tests_by dig) rules events me c e ≡ b → (if b then VerdictKind.Paid
+          else taken_or (before_taking (tests_by dig) rules events me w c e) w c e) ≡ VerdictKind.Lost → ⊥) [
+            | true ↦ λ paid wrong. absurd (cc wrong)
+            | false ↦ λ unpaid is. (elim (before_taking (tests_by dig) rules events me w c e) as (λ o.
+                before_taking (tests_by dig) rules events me w c e ≡ o → taken_or o w c e ≡ VerdictKind.Lost → ⊥) [
+                  | None ↦ λ none_taken wrong. absurd (cc wrong)
+                  | Some before ↦ λ taken at. (elim (first_unattended before w c e) as (λ f.
+                      first_unattended before w c e ≡ f → lost_or f ≡ VerdictKind.Lost → ⊥) [
+                        | Some line ↦ λ some wrong. absurd (cc wrong)
+                        | None ↦ λ watches here. never-lost dig digest rules me w c e events legal none unforged
+                            (record {
+                              same = λ other other_is. some_same other me (sym other_is ∙ me_is);
+                              none = λ undeclared. absurd (none_some me (sym undeclared ∙ me_is));
+                            }) unpaid before taken watches
+                      ]) refl at
+                ]) refl is
+          ]) refl rest
+    ]) lost

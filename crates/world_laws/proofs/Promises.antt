@@ -1,0 +1,131 @@
+-- The promises of every schedule, from those of legal events: the events of a run are legal, and so are those up to
+-- each line.
+use Rattle.std.proofs.Common.{◌≡◌, ◌⊎◌, ◌≤◌, ◌<◌, ℕ, ◌+◌, ◌==◌, ◌&&◌, ◌||◌, not, Bool, true, false, if◌then◌else◌, List, [], ◌∷◌, ◌++◌, Option, Some, None, is_some, Contains, inl, inr, refl, sym, ap, ◌∙◌, subst, arith}
+use Rattle.std.specs.List.{list_any}
+use Rattle.std.proofs.Math.Nat.{le_refl}
+use Rattle.std.proofs.lemmas.Bool.{or_parts, ne_eqb, eq-eqb}
+use Rattle.plasma_tx.specs.declared.call.RootCall.{RootCall}
+use Rattle.plasma_tx.specs.Views.{coins}
+use Rattle.root_rules.specs.Shown.{Tests, Rules, tests_by, rules_of}
+use Rattle.root_rules.specs.Table.{answer_to, is_accepted}
+use Rattle.schedule_text.specs.declared.line.Line.{Line}
+use Rattle.world_rules.specs.Events.{Event, Joins, Watches, log_of, wallet_owner, is_command_of, offered}
+use Rattle.world_rules.specs.World.{World}
+use Rattle.world_rules.specs.Steps.{Run, events_of}
+use Rattle.world_rules.specs.Safety.{is_watch, is_joined}
+use Rattle.world_laws.specs.Headline.{IsRun, HeldCoinsAreSafe, was_declared_before, AreDeclaredBefore, OneWalletHolds, fresh_offers, IsFreshWatch, lacks_bond, DueCallsAreTaken, HarmsAreTakings, LostIsExhibited}
+use Rattle.world_laws.specs.Legal.{IsLegal}
+use Rattle.world_rules.proofs.RunLaws.{logs_are_of_events}
+use Rattle.world_laws.proofs.Safe.{legal_coins_are_safe}
+use Rattle.world_laws.proofs.OneHolder.{one_wallet_holds}
+use Rattle.world_rules.specs.declared.verdict.Exhibit.{Exhibit}
+use Rattle.world_rules.specs.Exhibits.{exhibit_of}
+use Rattle.world_rules.specs.Verdicts.{exhibit_of_run}
+use Rattle.std.specs.Option.{option_map_or}
+use Rattle.world_rules.proofs.VerdictLaws.{verdicts_are_of_held_coins}
+use Rattle.world_laws.proofs.Lost.{lost_is_exhibited}
+use Rattle.world_laws.proofs.Takings.{legal-takings}
+use Rattle.world_laws.proofs.DueTaken.{due_calls_are_taken}
+
+-- the earlier of legal events are legal
+suffix-legal : (tests : Tests) (rules : Rules) (later events : List Event) → IsLegal tests rules (later ++ events)
+    → IsLegal tests rules events
+unfolding IsLegal
+suffix-legal tests rules [] events legal = legal
+suffix-legal tests rules (event ∷ later) events legal = suffix-legal tests rules later events legal.1
+
+-- a log has as many coins as deposits, so an earlier deposit isn't of a later number
+coins-up : (event : Event) (events : List Event) → coins (log_of events) ≤ coins (log_of (event ∷ events))
+unfolding log_of coins
+coins-up (Joins (RootCall.Deposit account amount key)) events = omega arith
+coins-up event events = le_refl (coins (log_of events))
+
+coins-later : (later : List Event) (account amount : ℕ) (key : List ℕ) (earlier : List Event)
+    → coins (log_of earlier) + 1 ≤ coins (log_of (later ++ Joins (RootCall.Deposit account amount key) ∷ earlier))
+unfolding log_of coins
+coins-later [] account amount key earlier = le_refl (coins (log_of earlier) + 1)
+coins-later (event ∷ later) account amount key earlier =
+    let more = coins-later later account amount key earlier in
+    let up = coins-up event (later ++ Joins (RootCall.Deposit account amount key) ∷ earlier) in
+    omega (arith, more, up)
+
+-- the wallets were declared before the deposit
+declared-before : (later : List Event) (account amount : ℕ) (key : List ℕ) (earlier : List Event) (w c : ℕ)
+    → c ≡ coins (log_of earlier) + 1 → is_some (wallet_owner earlier w) ≡ true
+    → was_declared_before (later ++ Joins (RootCall.Deposit account amount key) ∷ earlier) w c ≡ true
+unfolding was_declared_before
+declared-before [] account amount key earlier w c coin some =
+    ap (λ b. if b then is_some (wallet_owner earlier w) else was_declared_before earlier w c)
+    (eq-eqb c (coins (log_of earlier) + 1) coin) ∙ some
+declared-before (Joins (RootCall.Deposit other much its) ∷ later) account amount key earlier w c coin some =
+    let behind = later ++ Joins (RootCall.Deposit account amount key) ∷ earlier in
+    let more = coins-later later account amount key earlier in
+    ap (λ b. if b then is_some (wallet_owner behind w) else was_declared_before behind w c)
+    (ne_eqb c (coins (log_of behind) + 1) (λ same. omega (arith, same, coin, more)))
+    ∙ declared-before later account amount key earlier w c coin some
+declared-before (event ∷ later) account amount key earlier w c coin some =
+    declared-before later account amount key earlier w c coin some
+
+-- the calls of a fresh watch
+fresh-watch : (later : List Event) (n : ℕ) (calls : List RootCall) (earlier : List Event)
+    → list_any (λ event. is_command_of n event || is_joined event) later ≡ false
+    → fresh_offers (later ++ Watches n calls ∷ earlier) n ≡ calls
+unfolding fresh_offers
+fresh-watch [] n calls earlier since =
+    ap (λ b. if b then calls else (if false then [] else fresh_offers earlier n)) (eq-eqb n n refl)
+fresh-watch (event ∷ later) n calls earlier since =
+    let parts = or_parts (is_command_of n event || is_joined event)
+        (list_any (λ event. is_command_of n event || is_joined event) later) since in
+    let both = or_parts (is_command_of n event) (is_joined event) parts.0 in
+    ap (λ b. if b then (if is_watch event then offered event else [])
+    else if is_joined event then [] else fresh_offers (later ++ Watches n calls ∷ earlier) n) both.0
+    ∙ ap (λ b. if b then [] else fresh_offers (later ++ Watches n calls ∷ earlier) n) both.1
+    ∙ fresh-watch later n calls earlier parts.1
+
+module _ (legal : (dig : List ℕ → List ℕ) (lines : List Line) (run : Run) (world : World)
+    → IsRun dig lines run world → IsLegal (tests_by dig) (rules_of world.chain) (events_of run.entries)) where
+  pub held_coins_are_safe : HeldCoinsAreSafe
+  held_coins_are_safe dig lines run world later events event w c e is split attended whole honest =
+      legal_coins_are_safe dig (rules_of world.chain) event events w c e is.digest
+      (suffix-legal (tests_by dig) (rules_of world.chain) later (event ∷ events)
+      (subst (IsLegal (tests_by dig) (rules_of world.chain)) split (legal dig lines run world is)))
+      attended whole honest
+
+  pub one_holds : OneWalletHolds
+  one_holds dig lines run world v w c d e is apart before whole honest other held also =
+      one_wallet_holds dig (rules_of world.chain) (events_of run.entries) v w c d e is.digest
+      (legal dig lines run world is) apart (declared v before.one) (declared w before.other) whole honest other held
+      also
+    where
+      declared : (u : ℕ) → is_some (wallet_owner before.earlier u) ≡ true
+          → was_declared_before (events_of run.entries) u c ≡ true
+      declared u some = ap (λ events. was_declared_before events u c) before.events_are
+          ∙ declared-before before.later before.account before.amount before.key before.earlier u c before.coin some
+
+  pub due_are_taken : DueCallsAreTaken
+  due_are_taken dig lines run world n calls call is fresh has whole rich =
+      let log = logs_are_of_events dig lines run world is.run_is is.world_is in
+      let offers : fresh_offers (events_of run.entries) n ≡ calls =
+          ap (λ events. fresh_offers events n) fresh.events_are
+          ∙ fresh-watch fresh.later n calls fresh.earlier fresh.since in
+      ap (λ l. is_accepted (answer_to (tests_by dig) (rules_of world.chain) l call)) log
+      ∙ due_calls_are_taken dig (rules_of world.chain) (events_of run.entries) n call is.digest
+      (legal dig lines run world is) (subst (λ cs. Contains cs call) (sym offers) has) whole
+      (ap (λ l. lacks_bond l call) (sym log) ∙ rich)
+
+  pub harms_are_takings : HarmsAreTakings
+  unfolding IsLegal
+  harms_are_takings dig lines run world later events event me w c e is split owner held =
+      legal-takings (tests_by dig) (rules_of world.chain) events event me w c e
+      (suffix-legal (tests_by dig) (rules_of world.chain) later (event ∷ events)
+      (subst (IsLegal (tests_by dig) (rules_of world.chain)) split (legal dig lines run world is))).0
+      owner held
+
+  pub lost_is_shown : LostIsExhibited
+  unfolding exhibit_of_run
+  lost_is_shown dig lines run world verdict is has lost nothing =
+      let held = verdicts_are_of_held_coins dig lines run world verdict is.run_is is.world_is has in
+      lost_is_exhibited dig (rules_of world.chain) (events_of run.entries) held.number verdict.coin held.tip held.owner
+      is.digest (legal dig lines run world is) held.is_owner (sym held.kind ∙ lost)
+      (sym (ap (λ w. option_map_or (λ world. exhibit_of dig world.chain.tag (events_of run.entries)) w
+      Exhibit.Nothing) is.world_is) ∙ nothing)

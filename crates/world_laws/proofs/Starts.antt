@@ -1,0 +1,364 @@
+-- A start that a wallet offers is taken while the wallet holds the coin there.
+use Rattle.std.proofs.Common.{◌≡◌, ◌⊎◌, ℕ, zero, suc, ◌+◌, ◌-◌, ◌<◌, ◌==◌, ◌&&◌, ◌||◌, not, Bool, true, false, if◌then◌else◌, List, [], ◌∷◌, ◌++◌, length, take, Option, Some, None, inl, inr, refl, sym, ap, ◌∙◌, subst, arith}
+use Rattle.std.specs.Prelude.{is_some, is_none, nat_lt, slice_get}
+use Rattle.std.specs.Option.{option_map, option_map_or}
+use Rattle.std.specs.List.{AllByRecursion}
+use Rattle.std.proofs.lemmas.Bool.{eq-eqb, eqb-true, lt-ltb, ltb-true, and_from, not_from_true, true≢false, false≢true}
+use Rattle.std.proofs.lemmas.List.Elements.{recursion_from_All}
+use Rattle.plasma_tx.specs.declared.owner.Owner.{Owner}
+use Rattle.plasma_tx.specs.declared.opening.RawOpening.{RawOpening}
+use Rattle.plasma_tx.specs.declared.signed_tx.SignedTx.{SignedTx}
+use Rattle.plasma_tx.specs.declared.links.Link.{Link}
+use Rattle.plasma_tx.specs.declared.links.Links.{Links}
+use Rattle.plasma_tx.specs.declared.call.Shown.{Shown}
+use Rattle.plasma_tx.specs.declared.call.Shown.TheVariants.{Deposit as AtDeposit, Spend}
+use Rattle.plasma_tx.specs.declared.call.RootCall.{RootCall}
+use Rattle.plasma_tx.specs.declared.call.RootCall.TheVariants.{StartDeposit, StartSpend}
+use Rattle.plasma_tx.specs.declared.answer.Answer.{Answer}
+use Rattle.plasma_tx.specs.declared.answer.Answer.TheVariants.{Started, Refused}
+use Rattle.plasma_tx.specs.declared.answer.Refusal.{Refusal}
+use Rattle.plasma_tx.specs.declared.answer.Refusal.TheVariants.{Withdrawn, BadBlock, NotOwner, ExitStands, BadOpening, NotChild, BadSignature, NoFunds}
+use Rattle.plasma_tx.specs.declared.views.CoinView.{CoinView}
+use Rattle.plasma_tx.specs.Links.{last_spend, tip_of, last_owner_of}
+use Rattle.plasma_tx.specs.Views.{now, coin_at, exit_at, block_of, is_withdrawn}
+use Rattle.root_rules.specs.declared.TheConstants.{EXIT_BOND, EXIT_PERIOD}
+use Rattle.root_rules.specs.Shown.{Tests, Rules, tests_by, root_at, shown_tx, shown_owner, spends, signs, goes_to}
+use Rattle.root_rules.specs.Table.{Cause, decided, too_poor, is_committed_after, is_parent_of, may_exit_at, start_deposit_causes, start_spend_causes, where_coin, answer_to, is_accepted}
+use Rattle.root_rules.specs.Money.{balance_of}
+use Rattle.root_rules.specs.Accepted.{ShowsTx}
+use Rattle.root_rules.proofs.Acceptance.{transfers_are_shown}
+use Rattle.coin_history.specs.declared.bundle.Bundle.{Bundle}
+use Rattle.coin_history.specs.History.{opens_block, links_in, links_of, AreLinked, IsHistory}
+use Rattle.coin_history.specs.Laws.{first_links}
+use Rattle.coin_history.proofs.HistoryLinks.{tip_from, owner_from, tip-is, last_owner-is, none-linked}
+use Rattle.coin_history.proofs.HistoryShape.{links_rise}
+use Rattle.node_rules.specs.Kept.{kept_links}
+use Rattle.node_rules.specs.Wallet.{start_by, start_of}
+use Rattle.watch_duty.specs.Duty.{tip_shown}
+use Rattle.watch_duty.proofs.Members.{Has, has-left, has-right, has-contains, contains-has, all-has}
+use Rattle.watch_duty.proofs.GuardLinks.{Rises, rises-from, has-above, IsOpened, links-opened}
+use Rattle.world_rules.specs.Events.{Event, Watches, Leaves, Seals, log_of, coin_of_call, wallet_owner, accepted, is_command_of, offered, offers_of}
+use Rattle.world_rules.specs.Deeds.{exit_block}
+use Rattle.world_rules.specs.Safety.{holds}
+use Rattle.world_laws.specs.Headline.{is_start, IsTaken}
+use Rattle.world_laws.specs.Legal.{ShowsTip, Taken, Bare, LegalLeave, IsLegal}
+use Rattle.world_laws.specs.LegalLaws.{LegalStartsAreTaken}
+use Rattle.world_laws.proofs.Lists.{some_same}
+use Rattle.world_laws.proofs.Bound.{owner-stays, holding, is_noted, IsKept, kept-grow}
+use Rattle.world_laws.proofs.Held.{deposited-coin}
+use Rattle.world_laws.proofs.Guards.{kept-some}
+use Rattle.world_laws.proofs.Offers.{kept-no_start, got-has}
+use Rattle.world_laws.proofs.DueTaken.{bare-history}
+use Rattle.node_rules.specs.Watcher.{due_for_kept}
+
+-- ---- answers
+
+skip : (cause : Bool) (why : Refusal) (causes : List Cause) (effect : Answer) → cause ≡ false
+    → IsTaken (decided causes effect) → IsTaken (decided ((cause, why) ∷ causes) effect)
+skip cause why causes effect off rest =
+    subst (λ (b : Bool). IsTaken (if b then Refused why else decided causes effect)) (sym off) rest
+
+-- none of the causes holds
+skip-all : (causes rest : List Cause) (effect : Answer) → AllByRecursion (λ cause. cause.0 ≡ false) causes
+    → IsTaken (decided rest effect) → IsTaken (decided (causes ++ rest) effect)
+skip-all [] rest effect off taken = taken
+skip-all (cause ∷ causes) rest effect off taken =
+    skip cause.0 cause.1 (causes ++ rest) effect off.0 (skip-all causes rest effect off.1 taken)
+
+-- where the exit stands or the money is missing at most
+last-causes : (stands : Bool) (log : List RootCall) (account : ℕ) (effect : Answer) → is_accepted effect ≡ true
+    → IsTaken (decided ((stands, ExitStands) ∷ too_poor log account EXIT_BOND ∷ []) effect)
+last-causes true log account effect is = inr (inl refl)
+last-causes false log account effect is =
+    (elim (nat_lt (balance_of log account) EXIT_BOND) as (λ b. nat_lt (balance_of log account) EXIT_BOND ≡ b
+    → IsTaken (if b then Refused (NoFunds (balance_of log account) EXIT_BOND) else effect)) [
+      | true ↦ λ poor. inr (inr (balance_of log account, refl, ltb-true _ _ poor))
+      | false ↦ λ rich. inl is
+    ]) refl
+
+-- ---- the last link, and those before it
+
+record IsSplit (ls : List Link) (link : Link) : Type 0 where
+  front : List Link
+  whole : ls ≡ front ++ link ∷ []
+  taken : take (length ls - 1) ls ≡ front
+
+split : (ls : List Link) (link : Link) → slice_get ls (length ls - 1) ≡ Some link → IsSplit ls link
+split [] link is = absurd (cc is)
+split (x ∷ []) link is = record { front = []; whole = ap (λ y. y ∷ []) (some_same x link is); taken = refl }
+split (x ∷ y ∷ ys) link is =
+    let e : length (x ∷ y ∷ ys) - 1 ≡ suc (length (y ∷ ys) - 1) = omega arith in
+    let r = split (y ∷ ys) link (sym (ap (slice_get (x ∷ y ∷ ys)) e) ∙ is) in
+    record {
+      front = x ∷ r.front;
+      whole = ap (λ l. x ∷ l) r.whole;
+      taken = ap (λ n. take n (x ∷ y ∷ ys)) e ∙ ap (λ l. x ∷ l) r.taken;
+    }
+
+-- the last link spends what those before it end with
+split-linked : (tests : Tests) (block : ℕ) (owner : Owner) (front : List Link) (link : Link)
+    → AreLinked tests block owner (front ++ link ∷ [])
+    → (link.tx.body.parent ≡ tip_from block front) × (tests.is_signed link.tx (owner_from owner front) ≡ true)
+unfolding AreLinked
+split-linked tests block owner [] link are = (are.0, are.1)
+split-linked tests block owner (x ∷ xs) link are = split-linked tests x.block x.tx.body.to xs link are.2
+
+-- and is later than each
+split-rises : (low : ℕ) (front : List Link) (link q : Link) → Rises low (front ++ link ∷ []) → Has front q
+    → q.block < link.block
+split-rises low [] link q rise h = absurd h
+split-rises low (x ∷ xs) link q rise (inl same) =
+    let above = has-above x.block (xs ++ link ∷ []) link rise.1 (has-right xs (link ∷ []) link (inl refl)) in
+    omega (arith, above, ap (λ (l : Link). l.block) same)
+split-rises low (x ∷ xs) link q rise (inr h) = split-rises x.block xs link q rise.1 h
+
+-- ---- a start at the end of a history
+
+module _ (tests : Tests) (rules : Rules) (log : List RootCall) (b : Bundle) (made : CoinView) (me : Owner)
+    (found : coin_at log b.coin ≡ Some made)
+    (opens : AllByRecursion (λ o. opens_block tests log b.coin o ≡ true) b.openings)
+    (linked : AreLinked tests made.deposit made.owner (links_in rules b.coin b.openings))
+    (rise : Rises made.deposit (links_in rules b.coin b.openings))
+    (end : tip_of (links_of rules made b) ≡ b.tip) (mine : last_owner_of (links_of rules made b) ≡ me)
+    (alive : is_withdrawn log b.coin ≡ false) where
+  abbrev Own : Links
+  Own = links_of rules made b
+
+  abbrev With : List Link → Links
+  With front = record (links_of rules made b) { spends = front }
+
+  deposit-taken : b.tip ≡ made.deposit → me.account ≡ made.owner.account
+      → IsTaken (answer_to tests rules log (StartDeposit me.account b.coin b.tip))
+  unfolding answer_to
+  deposit-taken tip account =
+      subst (λ (o : Option CoinView). IsTaken (where_coin o (λ coin. decided
+      (start_deposit_causes log me.account b.coin b.tip coin) (Started (now log + EXIT_PERIOD))))) (sym found)
+      (skip-all
+      ((is_withdrawn log b.coin, Withdrawn) ∷ (not (b.tip == made.deposit), BadBlock)
+      ∷ (not (me.account == made.owner.account), NotOwner) ∷ [])
+      ((is_some (exit_at log b.coin b.tip), ExitStands) ∷ too_poor log me.account EXIT_BOND ∷ [])
+      (Started (now log + EXIT_PERIOD))
+      (alive, (not_from_true _ (eq-eqb b.tip made.deposit tip),
+      (not_from_true _ (eq-eqb me.account made.owner.account account), tt)))
+      (last-causes (is_some (exit_at log b.coin b.tip)) log me.account (Started (now log + EXIT_PERIOD)) refl))
+
+  spend-taken : (parent : Shown) (owner : Owner) (exit : RawOpening) (tx : SignedTx)
+      → shown_owner tests rules log b.coin parent ≡ Some owner → ShowsTx tests rules log b.coin exit tx
+      → is_committed_after log made.deposit exit.block ≡ true → is_parent_of log made exit.block parent ≡ true
+      → tx.body.parent ≡ block_of parent → tests.is_signed tx owner ≡ true → tx.body.to.account ≡ me.account
+      → IsTaken (answer_to tests rules log (StartSpend me.account b.coin parent exit))
+  unfolding answer_to
+  spend-taken parent owner exit tx owner_is shown committed fits child signed to =
+      let spend = transfers_are_shown tests rules log b.coin exit tx shown in
+      let effect : Answer = Started (now log + EXIT_PERIOD) in
+      subst (λ (o : Option CoinView). IsTaken (where_coin o (λ coin. decided
+      (start_spend_causes tests log me.account b.coin parent exit.block (shown_owner tests rules log b.coin parent)
+      (shown_tx tests rules log b.coin exit) coin) (Started (now log + EXIT_PERIOD))))) (sym found)
+      (subst (λ (p : Option Owner × Option SignedTx). IsTaken (decided
+      (start_spend_causes tests log me.account b.coin parent exit.block p.0 p.1 made)
+      (Started (now log + EXIT_PERIOD)))) (λ i. (sym owner_is i, sym spend i))
+      (skip-all
+      ((is_withdrawn log b.coin, Withdrawn) ∷ (not (may_exit_at log made parent exit.block), BadBlock)
+      ∷ (false, BadOpening) ∷ (not (tx.body.parent == block_of parent), NotChild)
+      ∷ (not (tests.is_signed tx owner), BadSignature) ∷ (not (tx.body.to.account == me.account), NotOwner) ∷ [])
+      ((is_some (exit_at log b.coin exit.block), ExitStands) ∷ too_poor log me.account EXIT_BOND ∷ []) effect
+      (alive, (not_from_true _ (and_from _ _ committed fits), (refl, (not_from_true _ (eq-eqb _ _ child),
+      (not_from_true _ signed, (not_from_true _ (eq-eqb _ _ to), tt))))))
+      (last-causes (is_some (exit_at log b.coin exit.block)) log me.account effect refl)))
+
+  -- a link of the history is shown, and committed after the deposit
+  link-shown : (link : Link) → Has (links_in rules b.coin b.openings) link
+      → ShowsTx tests rules log b.coin link.opening link.tx × (link.opening.block ≡ link.block)
+      × (made.deposit < link.opening.block) × (is_some (root_at log link.opening.block) ≡ true)
+  link-shown link h =
+      let o = links-opened tests rules log b.coin b.openings link opens h in
+      let above = has-above made.deposit (links_in rules b.coin b.openings) link rise h in
+      (o.shown, o.block, omega (arith, above, o.block), ap is_some o.shown.committed)
+
+  by_parent : (link : Link) (front : List Link) → links_in rules b.coin b.openings ≡ front ++ link ∷ []
+      → link.tx.body.to ≡ me → (p : Option Link) → slice_get front (length front - 1) ≡ p
+      → IsTaken (answer_to tests rules log (StartSpend me.account b.coin
+      (option_map_or (λ (l : Link). Spend l.opening) p (AtDeposit made.deposit)) link.opening))
+  by_parent link front whole to p p_is =
+      by_case p p_is
+    where
+      last-has : Has (links_in rules b.coin b.openings) link
+      last-has = subst (λ (l : List Link). Has l link) (sym whole) (has-right front (link ∷ []) link (inl refl))
+
+      chain : (link.tx.body.parent ≡ tip_from made.deposit front)
+          × (tests.is_signed link.tx (owner_from made.owner front) ≡ true)
+      chain = split-linked tests made.deposit made.owner front link
+          (subst (AreLinked tests made.deposit made.owner) whole linked)
+
+      by_case : (o : Option Link) → slice_get front (length front - 1) ≡ o
+          → IsTaken (answer_to tests rules log (StartSpend me.account b.coin
+          (option_map_or (λ (l : Link). Spend l.opening) o (AtDeposit made.deposit)) link.opening))
+      by_case None none =
+          let s = link-shown link last-has in
+          let at : tip_from made.deposit front ≡ made.deposit =
+          sym (tip-is (With front)) ∙ ap (λ (q : Option Link). option_map_or (λ (l : Link). l.block) q made.deposit) none in
+          let owner : owner_from made.owner front ≡ made.owner =
+          sym (last_owner-is (With front))
+          ∙ ap (λ (q : Option Link). option_map_or (λ (l : Link). l.tx.body.to) q made.owner) none in
+          spend-taken (AtDeposit made.deposit) made.owner link.opening link.tx
+          (ap (option_map (λ (m : CoinView). m.owner)) found) s.0 (and_from _ _ s.3 (lt-ltb _ _ s.2))
+          (eq-eqb made.deposit made.deposit refl) (chain.0 ∙ at)
+          (subst (λ w. tests.is_signed link.tx w ≡ true) owner chain.1) (ap (λ (w : Owner). w.account) to)
+      by_case (Some q) some =
+          let s = link-shown link last-has in
+          let q_front = got-has front (length front - 1) q some in
+          let q_has = subst (λ (l : List Link). Has l q) (sym whole) (has-left front (link ∷ []) q q_front) in
+          let r = link-shown q q_has in
+          let less = split-rises made.deposit front link q (subst (Rises made.deposit) whole rise) q_front in
+          let at : tip_from made.deposit front ≡ q.block =
+          sym (tip-is (With front)) ∙ ap (λ (o : Option Link). option_map_or (λ (l : Link). l.block) o made.deposit) some in
+          let owner : owner_from made.owner front ≡ q.tx.body.to =
+          sym (last_owner-is (With front))
+          ∙ ap (λ (o : Option Link). option_map_or (λ (l : Link). l.tx.body.to) o made.owner) some in
+          spend-taken (Spend q.opening) q.tx.body.to link.opening link.tx
+          (ap (option_map (λ (t : SignedTx). t.body.to))
+          (transfers_are_shown tests rules log b.coin q.opening q.tx r.0)) s.0
+          (and_from _ _ s.3 (lt-ltb _ _ s.2))
+          (and_from _ _ (and_from _ _ r.3 (lt-ltb _ _ r.2))
+          (lt-ltb _ _ (omega (arith, less, r.1, s.1)))) (chain.0 ∙ at ∙ sym r.1)
+          (subst (λ w. tests.is_signed link.tx w ≡ true) owner chain.1) (ap (λ (w : Owner). w.account) to)
+
+  start-taken : IsTaken (answer_to tests rules log (start_of me.account b.tip (links_of rules made b)))
+  start-taken = by_last (last_spend (links_of rules made b)) refl
+    where
+      by_last : (o : Option Link) → last_spend (links_of rules made b) ≡ o
+          → IsTaken (answer_to tests rules log (start_by me.account b.tip (links_of rules made b) o))
+      by_last None none =
+          deposit-taken
+          (sym end ∙ ap (λ (o : Option Link). option_map_or (λ (l : Link). l.block) o made.deposit) none)
+          (ap (λ (w : Owner). w.account) (sym mine
+          ∙ ap (λ (o : Option Link). option_map_or (λ (l : Link). l.tx.body.to) o made.owner) none))
+      by_last (Some link) some =
+          let r = split (links_in rules b.coin b.openings) link some in
+          let to : link.tx.body.to ≡ me =
+          sym (ap (λ (o : Option Link). option_map_or (λ (l : Link). l.tx.body.to) o made.owner) some) ∙ mine in
+          subst (λ (ls : List Link). IsTaken (answer_to tests rules log (StartSpend me.account b.coin
+          (tip_shown (record (links_of rules made b) { spends = ls })) link.opening))) (sym r.taken)
+          (by_parent link r.front r.whole to (slice_get r.front (length r.front - 1)) refl)
+
+-- ---- a start on offer
+
+pub record IsStartOffered (tests : Tests) (rules : Rules) (events : List Event) (w : ℕ) (call : RootCall)
+    : Type 0 where
+  pub me : Owner
+  pub me_is : wallet_owner events w ≡ Some me
+  pub bundle : Bundle
+  pub kept : IsKept tests rules events bundle
+  pub mine : last_owner_of kept.links ≡ me
+  pub call_is : call ≡ start_of me.account bundle.tip kept.links
+
+module _ (tests : Tests) (rules : Rules) where
+  left-shown : (events : List Event) (w : ℕ) (me : Owner) (b : Bundle) (links : Links)
+      → IsLegal tests rules events → wallet_owner events w ≡ Some me → ShowsTip events w me b
+      → kept_links rules.tag (log_of events) b ≡ Some links
+      → (k : IsKept tests rules events b) × (last_owner_of k.links ≡ me) × (links ≡ k.links)
+  left-shown events w me b links legal me_is (Taken has) kept =
+      let n = is_noted tests rules events w b legal (contains-has (accepted events w) b has) in
+      let own = kept-some rules (log_of events) b n.history.made n.history.coin in (
+        record { links = n.links; history = n.history; is_seen = n.is_seen },
+        n.mine ∙ some_same n.me me (sym n.me_is ∙ me_is),
+        some_same links (links_of rules n.history.made b) (sym kept ∙ own) ∙ sym n.history.shown,
+      )
+  left-shown events w me b links legal me_is (Bare own none) kept =
+      let d = deposited-coin me b.tip (coin_at (log_of events) b.coin) own in
+      let h = bare-history tests rules (log_of events) b d.0 d.1 d.2 none in
+      let empty : links_in rules b.coin b.openings ≡ [] = ap (links_in rules b.coin) none ∙ none-linked rules b.coin in (
+        record {
+          links = links_of rules d.0 b;
+          history = h;
+          is_seen = λ o there. absurd (subst (λ (l : List RawOpening). Has l o) none there);
+        },
+        last_owner-is (links_of rules d.0 b) ∙ ap (owner_from d.0.owner) empty ∙ d.3,
+        some_same links (links_of rules d.0 b) (sym kept ∙ kept-some rules (log_of events) b d.0 d.1),
+      )
+
+  start-after : (event : Event) (events : List Event) (w : ℕ) (call : RootCall)
+      → IsLegal tests rules (event ∷ events) → IsStartOffered tests rules events w call
+      → IsStartOffered tests rules (event ∷ events) w call
+  start-after event events w call legal k = record {
+    me = k.me;
+    me_is = owner-stays tests rules event events w k.me legal k.me_is;
+    bundle = k.bundle;
+    kept = kept-grow tests rules event events k.bundle k.kept;
+    mine = k.mine;
+    call_is = k.call_is;
+  }
+
+  left-offered : (events : List Event) (w : ℕ) (call : RootCall) → IsLegal tests rules events
+      → LegalLeave rules events w call → IsStartOffered tests rules events w call
+  left-offered events w call legal l =
+      let s = left-shown events w l.me l.bundle l.links legal l.me_is l.shows l.links_are in
+      record {
+        me = l.me;
+        me_is = l.me_is;
+        bundle = l.bundle;
+        kept = s.0;
+        mine = s.1;
+        call_is = l.call_is ∙ ap (start_of l.me.account l.bundle.tip) s.2;
+      }
+
+  command-offered : (event : Event) (events : List Event) (w : ℕ) (call : RootCall)
+      → IsLegal tests rules (event ∷ events) → is_command_of w event ≡ true → Has (offered event) call
+      → is_start call ≡ true → IsStartOffered tests rules (event ∷ events) w call
+  unfolding IsLegal
+  command-offered (Watches m calls) events w call legal own h start =
+      let due = legal.0.only call (has-contains calls call h) in
+      absurd (true≢false (sym start ∙ kept-no_start rules.tag (log_of events) legal.0.account due.bundle call
+      (contains-has (due_for_kept rules.tag (log_of events) legal.0.account due.bundle) call due.due)))
+  command-offered (Leaves m made) events w call legal own (inl same) start =
+      start-after (Leaves m made) events w call legal
+      (subst (λ x. IsStartOffered tests rules events w x) same
+      (subst (λ x. IsStartOffered tests rules events x made) (eqb-true m w own)
+      (left-offered events m made legal.1 legal.0)))
+  command-offered (Leaves m made) events w call legal own (inr none) start = absurd none
+  command-offered (Seals made) events w call legal own (inl same) start =
+      absurd (true≢false (sym start ∙ ap is_start (sym same) ∙ legal.0))
+  command-offered (Seals made) events w call legal own (inr none) start = absurd none
+  command-offered event events w call legal own h start = absurd h
+
+  start-offered : (events : List Event) (w : ℕ) (call : RootCall) → IsLegal tests rules events
+      → Has (offers_of events w) call → is_start call ≡ true → IsStartOffered tests rules events w call
+  unfolding IsLegal offers_of
+  start-offered [] w call legal h start = absurd h
+  start-offered (event ∷ events) w call legal h start =
+      (elim (is_command_of w event) as (λ b. is_command_of w event ≡ b
+      → Has (if b then offered event else offers_of events w) call
+      → IsStartOffered tests rules (event ∷ events) w call) [
+        | true ↦ λ own there. command-offered event events w call legal own there start
+        | false ↦ λ other there. start-after event events w call legal
+            (start-offered events w call legal.1 there start)
+      ]) refl h
+
+-- the coin of a start
+start-coin : (account tip : ℕ) (links : Links) → coin_of_call (start_of account tip links) ≡ links.coin
+start-coin account tip links = by_last (last_spend links)
+  where
+    by_last : (o : Option Link) → coin_of_call (start_by account tip links o) ≡ links.coin
+    by_last None = refl
+    by_last (Some link) = refl
+
+pub starts_are_taken : LegalStartsAreTaken
+starts_are_taken dig rules events w call legal offer start held =
+    let tests : Tests = tests_by dig in
+    let log : List RootCall = log_of events in
+    let k = start-offered tests rules events w call legal (contains-has (offers_of events w) call offer) start in
+    let h = k.kept.history in
+    let own : Links = links_of rules h.made k.bundle in
+    let coin : coin_of_call call ≡ k.bundle.coin = ap coin_of_call k.call_is
+    ∙ start-coin k.me.account k.bundle.tip k.kept.links ∙ ap (λ (l : Links). l.coin) h.shown in
+    let alive : is_withdrawn log k.bundle.coin ≡ false =
+    ap (is_withdrawn log) (sym coin) ∙ (holding events w (coin_of_call call) (exit_block call) held).not_withdrawn in
+    let call_is : start_of k.me.account k.bundle.tip own ≡ call =
+    ap (start_of k.me.account k.bundle.tip) (sym h.shown) ∙ sym k.call_is in
+    subst (λ x. IsTaken (answer_to (tests_by dig) rules (log_of events) x)) call_is
+    (start-taken tests rules log k.bundle h.made k.me h.coin
+    (recursion_from_All (λ o. opens_block tests log k.bundle.coin o ≡ true) k.bundle.openings h.opened)
+    (subst (λ (l : Links). AreLinked tests l.deposit l.owner l.spends) h.shown h.linked)
+    (subst (λ (l : Links). Rises l.deposit l.spends) h.shown
+    (rises-from k.kept.links.deposit k.kept.links.spends (links_rise tests rules log k.bundle k.kept.links h)))
+    (ap tip_of (sym h.shown) ∙ h.tip) (ap last_owner_of (sym h.shown) ∙ k.mine) alive)
