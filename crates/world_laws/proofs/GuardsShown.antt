@@ -81,7 +81,7 @@ filter-has p (y ∷ ys) x (inr h) passes =
     ]
 
 -- one more bundle shows no less
-shown-more : (tag : List ℕ) (bundle : Bundle) (bundles guards : List Bundle) → AreShown tag bundles guards
+pub shown-more : (tag : List ℕ) (bundle : Bundle) (bundles guards : List Bundle) → AreShown tag bundles guards
     → AreShown tag (bundle ∷ bundles) guards
 shown-more tag bundle bundles guards shown kept has = let by = shown kept has in record {
   bundle = by.bundle;
@@ -110,7 +110,7 @@ shown-released tag c e bundles guards shown kept has =
 -- ---- a watcher's commands
 
 -- the bundle that was handed in shows what is kept of its links
-handed-shown : (dig : List ℕ → List ℕ) (tag : List ℕ) (log : List RootCall) (bytes : List ℕ) (links : Links)
+pub handed-shown : (dig : List ℕ → List ℕ) (tag : List ℕ) (log : List RootCall) (bytes : List ℕ) (links : Links)
     (bundles : List Bundle) → links_handed dig tag log bytes ≡ Ok links → IsReadBack dig tag log links
     → IsShown tag (bundle_read bytes ∷ bundles) (kept_of links)
 handed-shown dig tag log bytes links bundles handed back =

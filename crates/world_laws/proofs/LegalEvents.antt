@@ -4,7 +4,6 @@ use Rattle.std.proofs.Common.{◌≡◌, ℕ, Bool, true, false, List, [], ◌�
 use Rattle.std.specs.Prelude.{Result}
 use Rattle.std.proofs.lemmas.Bool.{false≢true}
 use Rattle.line_forms.proofs.FormLaws.{option_map_some}
-use Rattle.plasma_tx.specs.declared.owner.Owner.{Owner}
 use Rattle.plasma_tx.specs.declared.links.Links.{Links}
 use Rattle.root_rules.specs.Shown.{Tests, Rules, tests_by, rules_of}
 use Rattle.coin_history.specs.declared.refusal.HistoryRefusal.{HistoryRefusal}
@@ -17,12 +16,11 @@ use Rattle.schedule_text.specs.declared.command.OperatorCommand.{OperatorCommand
 use Rattle.schedule_text.specs.Grammar.{IsLine}
 use Rattle.node_rules.specs.declared.answers.Accepted.{Accepted}
 use Rattle.node_rules.specs.Kept.{links_handed}
-use Rattle.node_rules.specs.Wallet.{WalletRecords, accept_effect, send_effect, again_answer, leave_effect, reclaim_effect, migrate_effect}
+use Rattle.node_rules.specs.Wallet.{accept_effect, send_effect, again_answer, leave_effect, reclaim_effect, migrate_effect}
 use Rattle.node_rules.specs.Watcher.{who_is, guards_in, guard_by, guard_effect, release_effect}
 use Rattle.operator_rules.specs.Commands.{offer_effect, lay_effect, seal_effect, prove_answer, bundle_answer, absences_answer}
 use Rattle.world_rules.specs.Causes.{wallet_cause, watcher_cause, offer_cause, lay_cause, prove_cause}
-use Rattle.world_rules.specs.Events.{Event, Accepts, Binds, TakesBack, Watches, Leaves, Seals, wallet_owner}
-use Rattle.node_rules.specs.WalletRecords.{owner_of}
+use Rattle.world_rules.specs.Events.{Event, Accepts, Binds, TakesBack, Watches, Leaves, Seals}
 use Rattle.world_rules.specs.World.{Role, Wallet, Watcher, Operator, Node, World, is_watcher_role, wallet_of, bytes_of, new_owner_of, is_wallet_role, does_watch}
 use Rattle.world_rules.specs.Deeds.{Gives, Deed, answered, bundle_read, on_accepted, on_sent, on_sent_again, on_leaving, on_reclaimed, on_migrated, send_deed, wallet_command, on_guarded, on_released, watcher_command, on_pooled, on_laid, on_bundled, on_proved, operator_command, on_open, deed_of, due_at_node}
 use Rattle.world_rules.specs.Steps.{LineEffect, cut, without_offers, step, entry_of, Run, events_of}
@@ -30,27 +28,25 @@ use Rattle.world_rules.proofs.Shapes.{IsDone, IsCut, Kept, Lost, is_cut}
 use Rattle.world_rules.proofs.StepLaws.{stepped, steps_keep_the_log}
 use Rattle.world_rules.proofs.Runs.{begun}
 use Rattle.world_laws.specs.Headline.{IsRun}
-use Rattle.world_laws.specs.Legal.{LegalAccept, LegalGuard, LegalBinding, LegalReclaim, LegalWatch, LegalLeave, IsLegalEvent, IsLegal}
+use Rattle.world_laws.specs.Legal.{LegalAccept, LegalGuard, LegalBinding, LegalReclaim, IsLegalEvent, IsLegal}
 use Rattle.world_laws.proofs.Lists.{some_same}
 use Rattle.world_laws.proofs.Origins.{Does, Rests, Enters, AddsWallet, AddsWatcher, AddsRogue, Crashes, Commands, Cuts, does}
 use Rattle.world_laws.proofs.Identities.{IsWatcher}
 use Rattle.world_rules.proofs.KeptWorld.{KeptWorld}
-use Rattle.world_laws.proofs.Keeps.{is-wallet}
 use Rattle.world_laws.proofs.Guarding.{GuardsAreShown, is-watcher, watcher-tag, kept-world, runs-shown}
 use Rattle.world_laws.proofs.LegalWatches.{legal-watched}
+use Rattle.world_laws.proofs.Accepting.{AcceptsAreShown, runs-accept-shown}
+use Rattle.world_laws.proofs.LegalLeaves.{legal-left, legal-wallet-watched}
 use Rattle.world_laws.proofs.DeedOffers.{done-role}
 use Rattle.world_laws.proofs.Acts.{over_lines}
 use Rattle.world_laws.proofs.Handed.{handed-history}
 use Rattle.world_laws.proofs.LegalCalls.{IsBehind, is-behind, legal-entered, legal-declared}
 
--- what is left to be shown of an event: that those of a wallet's coins are legal, its watch among them
+-- what is left to be shown of an event: that those of a wallet's coins are legal, but for its leaves and its watches
 abbrev pub IsLeft : Tests → Rules → List Event → Event → Type 0
 IsLeft tests rules events (Accepts w bundle) = LegalAccept tests rules events w bundle
 IsLeft tests rules events (Binds w body) = LegalBinding events w body
 IsLeft tests rules events (TakesBack w q bundle) = LegalReclaim tests events w q bundle
-IsLeft tests rules events (Watches n calls) =
-    (me : Owner) → wallet_owner events n ≡ Some me → LegalWatch rules events n calls
-IsLeft tests rules events (Leaves w call) = LegalLeave rules events w call
 IsLeft tests rules events event = Unit {0}
 
 -- the event is legal where what is left of it is shown
@@ -60,7 +56,8 @@ IsLegalWhere tests rules events event = IsLeft tests rules events event → IsLe
 -- ---- guards
 
 module _ (dig : List ℕ → List ℕ) (events : List Event) (world : World) (behind : IsBehind events world)
-    (kept : KeptWorld dig events world) (shown : GuardsAreShown dig events world.chain.tag world.nodes) where
+    (kept : KeptWorld dig events world) (shown : GuardsAreShown dig events world.chain.tag world.nodes)
+    (accepts : AcceptsAreShown dig events world.chain.tag world.nodes) where
   abbrev P : Event → Type 0
   P event = IsLegalWhere (tests_by dig) (rules_of world.chain) events event
 
@@ -101,33 +98,37 @@ module _ (dig : List ℕ → List ℕ) (events : List Event) (world : World) (be
   legal-answered n cause give (Ok answer) each = each answer refl
   legal-answered n cause give (Err why) each = λ left. tt
 
-  legal-wallet : (n : ℕ) (wallet : WalletRecords) (own : WalletCommand) (deed : Deed)
-      → wallet_command dig world n wallet own ≡ Some deed → P deed.gives.event
-  legal-wallet n wallet (WalletCommand.Accept bundle) deed is =
+  legal-wallet : (n : ℕ) (node : Node) (own : WalletCommand) (deed : Deed) → slice_get world.nodes n ≡ Some node
+      → is_wallet_role node.role ≡ true → wallet_command dig world n (wallet_of node) own ≡ Some deed
+      → P deed.gives.event
+  legal-wallet n node (WalletCommand.Accept bundle) deed node_is role is =
       let bytes = bytes_of world bundle in
       subst (λ (d : Deed). P d.gives.event) (some_same _ deed is)
-      (legal-answered n wallet_cause (on_accepted n bytes) (accept_effect dig wallet world.chain.log bytes).answer
+      (legal-answered n wallet_cause (on_accepted n bytes)
+      (accept_effect dig (wallet_of node) world.chain.log bytes).answer
       (λ taken made left. left))
-  legal-wallet n wallet (WalletCommand.Send coin to last) deed is =
-      let found = option_map_some (send_deed dig world n wallet coin last) (new_owner_of world to) deed is in
+  legal-wallet n node (WalletCommand.Send coin to last) deed node_is role is =
+      let found = option_map_some (send_deed dig world n (wallet_of node) coin last) (new_owner_of world to) deed is in
       subst (λ (d : Deed). P d.gives.event) found.2
-      (legal-answered n wallet_cause (on_sent n) (send_effect dig wallet world.chain.log coin found.0 last).answer
+      (legal-answered n wallet_cause (on_sent n)
+      (send_effect dig (wallet_of node) world.chain.log coin found.0 last).answer
       (λ sent made left. left))
-  legal-wallet n wallet (WalletCommand.Again coin) deed is =
+  legal-wallet n node (WalletCommand.Again coin) deed node_is role is =
       subst (λ (d : Deed). P d.gives.event) (some_same _ deed is)
-      (legal-answered n wallet_cause (on_sent_again n) (again_answer wallet coin) (λ sent made left. tt))
-  legal-wallet n wallet (WalletCommand.Leave coin) deed is =
+      (legal-answered n wallet_cause (on_sent_again n) (again_answer (wallet_of node) coin) (λ sent made left. tt))
+  legal-wallet n node (WalletCommand.Leave coin) deed node_is role is =
       subst (λ (d : Deed). P d.gives.event) (some_same _ deed is)
-      (legal-answered n wallet_cause (on_leaving n) (leave_effect dig wallet world.chain.log coin).answer
-      (λ call made left. left))
-  legal-wallet n wallet (WalletCommand.Reclaim bundle) deed is =
+      (legal-answered n wallet_cause (on_leaving n) (leave_effect dig (wallet_of node) world.chain.log coin).answer
+      (λ call made left. legal-left dig events world kept behind.keeps accepts n node node_is role coin call made))
+  legal-wallet n node (WalletCommand.Reclaim bundle) deed node_is role is =
       let bytes = bytes_of world bundle in
       subst (λ (d : Deed). P d.gives.event) (some_same _ deed is)
-      (legal-answered n wallet_cause (on_reclaimed n bytes) (reclaim_effect dig wallet world.chain.log bytes).answer
+      (legal-answered n wallet_cause (on_reclaimed n bytes)
+      (reclaim_effect dig (wallet_of node) world.chain.log bytes).answer
       (λ taken made left. left))
-  legal-wallet n wallet WalletCommand.Migrate deed is =
+  legal-wallet n node WalletCommand.Migrate deed node_is role is =
       subst (λ (d : Deed). P d.gives.event) (some_same _ deed is)
-      (legal-answered n wallet_cause (on_migrated n) (migrate_effect wallet).answer (λ done made left. tt))
+      (legal-answered n wallet_cause (on_migrated n) (migrate_effect (wallet_of node)).answer (λ done made left. tt))
 
   legal-watcher : (n : ℕ) (node : Node) (own : WatcherCommand) → slice_get world.nodes n ≡ Some node
       → is_watcher_role node.role ≡ true → P (watcher_command dig world n node.notes own).gives.event
@@ -159,12 +160,11 @@ module _ (dig : List ℕ → List ℕ) (events : List Event) (world : World) (be
       legal-answered n prove_cause (on_bundled n) (absences_answer dig notes world.chain.log coin after last)
       (λ bundle made left. tt)
 
-  -- a watch is legal: a wallet's is left, a watcher's is of its guards, and the operator has none
+  -- a watch is legal: a wallet's is of what it holds, a watcher's of its guards, and the operator has none
   legal-watch : (n : ℕ) (node : Node) → slice_get world.nodes n ≡ Some node → (role : Role) → node.role ≡ role
       → does_watch role ≡ true → P (Watches n (due_at_node dig world.chain.log node role))
   legal-watch n node is Wallet role watches left =
-      let own = is-wallet events world.chain.tag n node (behind.keeps.nodes.each n node is) (ap is_wallet_role role) in
-      left (owner_of own.who) own.owner
+      legal-wallet-watched dig events world kept behind.keeps accepts n node is (ap is_wallet_role role)
   legal-watch n node is Watcher role watches left =
       legal-watched dig events world kept behind.keeps shown n node is (ap is_watcher_role role)
   legal-watch n node is Operator role watches left = absurd (false≢true watches)
@@ -173,7 +173,9 @@ module _ (dig : List ℕ → List ℕ) (events : List Event) (world : World) (be
   legal-deed : (command : Command) (n : ℕ) (node : Node) (deed : Deed) → IsDone dig world command n node deed
       → P deed.gives.event
   unfolding deed_of
-  legal-deed (Command.Wallet name own) n node deed done = legal-wallet n (wallet_of node) own deed done.deed_is
+  legal-deed (Command.Wallet name own) n node deed done =
+      legal-wallet n node own deed done.node_is (done-role dig world (Command.Wallet name own) n node deed done)
+      done.deed_is
   legal-deed (Command.Watcher name own) n node deed done =
       subst (λ (d : Deed). P d.gives.event) (some_same _ deed done.deed_is)
       (legal-watcher n node own done.node_is (done-role dig world (Command.Watcher name own) n node deed done))
@@ -234,7 +236,8 @@ legal-event dig lines run world line effect run_is in_grammar is =
     subst (λ (e : LineEffect). IsLegalWhere (tests_by dig) (rules_of world.chain) (events_of run.entries) e.event)
     (sym made.effect_is)
     (legal-does dig (events_of run.entries) world (is-behind dig lines run world run_is)
-    (kept-world dig lines run world run_is) (runs-shown dig lines run world run_is) made.bare
+    (kept-world dig lines run world run_is) (runs-shown dig lines run world run_is)
+    (runs-accept-shown dig lines run world run_is) made.bare
     (does dig world line made.bare in_grammar made.keeps made.bare_is))
 
 -- what is left of the events of every run

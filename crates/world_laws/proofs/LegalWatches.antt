@@ -37,7 +37,7 @@ due-same tag log account bundles kept by = λ i.
     }) (coin_at log (by.coin i)))
     []
 
-has-in-flat_map : {X Y : Type 0} (f : X → List Y) (xs : List X) (x : X) (y : Y) → Has xs x → Has (f x) y
+pub has-in-flat_map : {X Y : Type 0} (f : X → List Y) (xs : List X) (x : X) (y : Y) → Has xs x → Has (f x) y
     → Has (flat_map f xs) y
 has-in-flat_map f [] x y h there = absurd h
 has-in-flat_map f (z ∷ zs) x y (inl same) there =

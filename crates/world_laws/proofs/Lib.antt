@@ -10,6 +10,11 @@ pub mod Acts
 pub mod Handed
 pub mod LegalCalls
 pub mod LegalEvents
+pub mod Fits
+pub mod LeftNotes
+pub mod LeftRuns
+pub mod LegalCoins
+pub mod CoinEvents
 pub mod Histories
 pub mod Shown
 pub mod Absences
@@ -25,6 +30,10 @@ pub mod Offers
 pub mod GuardsShown
 pub mod Guarding
 pub mod LegalWatches
+pub mod AcceptsShown
+pub mod Accepting
+pub mod AtTops
+pub mod LegalLeaves
 pub mod Safe
 pub mod OneHolder
 pub mod DueTaken

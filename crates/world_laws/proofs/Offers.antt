@@ -73,7 +73,7 @@ start-any account (RootCall.Finish by coin exit) is = absurd (false≢true is)
 -- ---- the start at the end of links
 
 -- a link is in the block of its opening
-links-at : (rules : Rules) (c : ℕ) (os : List RawOpening)
+pub links-at : (rules : Rules) (c : ℕ) (os : List RawOpening)
     → AllByRecursion (λ link. link.opening.block ≡ link.block) (links_in rules c os)
 unfolding links_in
 links-at rules c [] = tt
@@ -94,7 +94,7 @@ pub record StartsAt (call : RootCall) (c e : ℕ) : Type 0 where
   pub coin_is : coin_of_call call ≡ c
   pub block_is : exit_block call ≡ e
 
-start-at : (account tip : ℕ) (links : Links) → tip_of links ≡ tip
+pub start-at : (account tip : ℕ) (links : Links) → tip_of links ≡ tip
     → AllByRecursion (λ link. link.opening.block ≡ link.block) links.spends
     → StartsAt (start_of account tip links) links.coin tip
 start-at account tip links end at = by_last (last_spend links) refl

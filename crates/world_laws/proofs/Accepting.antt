@@ -1,0 +1,204 @@
+-- In every run what wallets' notes accept is shown by what they accepted.
+use Rattle.std.proofs.Common.{◌≡◌, ℕ, zero, suc, ◌==◌, true, false, if◌then◌else◌, List, [], ◌∷◌, ◌++◌, length, set, slice_get, Some, inl, inr, refl, sym, ap, ◌∙◌, subst}
+use Rattle.std.proofs.lemmas.Bool.{cases_eq, ne_eqb, false≢true}
+use Rattle.plasma_tx.specs.declared.call.RootCall.{RootCall}
+use Rattle.plasma_tx.specs.declared.answer.Answer.{Answer}
+use Rattle.root_rules.specs.Shown.{tests_by, rules_of}
+use Rattle.root_rules.specs.Table.{answer_to, is_accepted}
+use Rattle.coin_history.specs.declared.bundle.Bundle.{Bundle}
+use Rattle.schedule_text.specs.declared.line.Line.{Line}
+use Rattle.schedule_text.specs.declared.command.Command.{Command}
+use Rattle.schedule_text.specs.Grammar.{IsLine}
+use Rattle.node_rules.specs.WalletRecords.{notes_of, accepted_of, identity_text as wallet_text}
+use Rattle.watch_duty.proofs.Members.{Has}
+use Rattle.world_rules.specs.Events.{Event, Joins, Bounces, Other, Idle}
+use Rattle.world_rules.specs.World.{Node, World, is_wallet_role}
+use Rattle.world_rules.specs.Declarations.{declared_wallet}
+use Rattle.world_rules.specs.Deeds.{Deed, with_record}
+use Rattle.world_rules.specs.Steps.{LineEffect, new_chain, operator_node, called, with_records, after_command, after_crash, cut, without_offers, step, TraceEntry, entry_of, Run, events_of}
+use Rattle.world_rules.proofs.Shapes.{IsDone, IsCut, Kept, Lost, is_cut}
+use Rattle.world_rules.proofs.OwnEvents.{of_node}
+use Rattle.world_rules.proofs.StepLaws.{stepped}
+use Rattle.world_rules.proofs.Runs.{begun, set-same, set-other, push-same, push-other}
+use Rattle.world_rules.proofs.Said.{Said, said, told, is_said_of, said-other}
+use Rattle.world_rules.proofs.KeptNode.{IsFit}
+use Rattle.world_rules.proofs.KeptWorld.{KeptWorld, few-blocks}
+use Rattle.world_rules.proofs.NodeEvents.{IsTold, command-told, cut-of, other-of}
+use Rattle.world_laws.specs.Headline.{IsRun}
+use Rattle.world_laws.proofs.Lists.{some_same, none_some}
+use Rattle.world_laws.proofs.Origins.{Does, Rests, Enters, AddsWallet, AddsWatcher, AddsRogue, Crashes, Commands, Cuts, does}
+use Rattle.world_laws.proofs.Identities.{wallet-node}
+use Rattle.world_laws.proofs.Keeps.{Keeps, is-wallet}
+use Rattle.world_laws.proofs.Acts.{over_lines, runs-keep}
+use Rattle.world_laws.proofs.GuardsShown.{AreShown}
+use Rattle.world_laws.proofs.Guarding.{kept-world}
+use Rattle.world_laws.proofs.AcceptsShown.{accepted_in, accepts-shown}
+
+-- what each wallet's notes accept is shown by what it accepted
+abbrev pub AcceptsAreShown : (List ℕ → List ℕ) → List Event → List ℕ → List Node → Type 0
+AcceptsAreShown dig events tag nodes = (n : ℕ) (node : Node) → slice_get nodes n ≡ Some node
+    → is_wallet_role node.role ≡ true → AreShown tag (said events n).accepted (accepted_in dig node.notes)
+
+-- ---- one more event
+
+module _ (dig : List ℕ → List ℕ) (events : List Event) (tag : List ℕ) (nodes : List Node)
+    (accepts : AcceptsAreShown dig events tag nodes) where
+  -- an event that says nothing
+  accepts-still : (event : Event) → ((n : ℕ) → is_said_of n event ≡ false)
+      → AcceptsAreShown dig (event ∷ events) tag nodes
+  accepts-still event silent n node is role =
+      subst (λ (s : Said). AreShown tag s.accepted (accepted_in dig node.notes))
+      (sym (said-other event events n (silent n))) (accepts n node is role)
+
+  -- one that says something of one node, which changed
+  accepts-set : (event : Event) (n : ℕ) (old after : Node) → slice_get nodes n ≡ Some old → after.role ≡ old.role
+      → ((m : ℕ) → (n == m) ≡ false → is_said_of m event ≡ false)
+      → (is_wallet_role old.role ≡ true
+      → AreShown tag (said (event ∷ events) n).accepted (accepted_in dig after.notes))
+      → AcceptsAreShown dig (event ∷ events) tag (set nodes n after)
+  accepts-set event n old after old_is same others own m node is role = elim (cases_eq n m) [
+    | inl here ↦
+        let after_is : after ≡ node = some_same after node
+        (sym (set-same nodes n old after old_is) ∙ ap (slice_get (set nodes n after)) here ∙ is) in
+        subst (λ k. AreShown tag (said (event ∷ events) k).accepted (accepted_in dig node.notes)) here
+        (subst (λ (k : Node). AreShown tag (said (event ∷ events) n).accepted (accepted_in dig k.notes)) after_is
+        (own (ap is_wallet_role (sym same) ∙ ap (λ (k : Node). is_wallet_role k.role) after_is ∙ role)))
+    | inr apart ↦
+        subst (λ (s : Said). AreShown tag s.accepted (accepted_in dig node.notes))
+        (sym (said-other event events m (others m (ne_eqb n m apart))))
+        (accepts m node (sym (set-other nodes n m after apart) ∙ is) role)
+  ]
+
+  -- a new node, whose notes accept nothing
+  accepts-push : (event : Event) (new : Node) → ((m : ℕ) → (length nodes == m) ≡ false → is_said_of m event ≡ false)
+      → (is_wallet_role new.role ≡ true → (kept : Bundle) → Has (accepted_in dig new.notes) kept → ⊥)
+      → AcceptsAreShown dig (event ∷ events) tag (nodes ++ new ∷ [])
+  accepts-push event new others none m node is role = elim (cases_eq (length nodes) m) [
+    | inl here ↦
+        let new_is : new ≡ node = some_same new node
+        (sym (push-same nodes new) ∙ ap (slice_get (nodes ++ new ∷ [])) here ∙ is) in
+        λ kept has. absurd (none (ap (λ (k : Node). is_wallet_role k.role) new_is ∙ role) kept
+        (subst (λ (k : Node). Has (accepted_in dig k.notes) kept) (sym new_is) has))
+    | inr apart ↦
+        subst (λ (s : Said). AreShown tag s.accepted (accepted_in dig node.notes))
+        (sym (said-other event events m (others m (ne_eqb (length nodes) m apart))))
+        (accepts m node (sym (push-other nodes new m apart) ∙ is) role)
+  ]
+
+-- a new wallet accepted nothing
+none-accepted : (dig : List ℕ → List ℕ) (body : List ℕ) (kept : Bundle) → Has (accepted_in dig (body ∷ [])) kept → ⊥
+unfolding notes_of accepted_of
+none-accepted dig body kept h = h
+
+-- ---- each line
+
+module _ (dig : List ℕ → List ℕ) (events : List Event) (world : World) (kept : KeptWorld dig events world)
+    (keeps : Keeps events world) (accepts : AcceptsAreShown dig events world.chain.tag world.nodes) where
+  abbrev After : LineEffect → Type 0
+  After effect = AcceptsAreShown dig (effect.event ∷ events) effect.world.chain.tag effect.world.nodes
+
+  shown-call : (callers : List ℕ) (call : RootCall) → After (called dig (record world { raw_callers = callers }) call)
+  shown-call callers call =
+      (elim (is_accepted answer) as (λ b. AcceptsAreShown dig ((if b then Joins call else Bounces call) ∷ events)
+      world.chain.tag world.nodes) [
+        | true ↦ accepts-still dig events world.chain.tag world.nodes accepts (Joins call) (λ n. refl)
+        | false ↦ accepts-still dig events world.chain.tag world.nodes accepts (Bounces call) (λ n. refl)
+      ])
+    where
+      answer : Answer
+      answer = answer_to (tests_by dig) (rules_of world.chain) world.chain.log call
+
+  -- a node whose notes stay
+  shown-quiet : (n : ℕ) (node after : Node) → slice_get world.nodes n ≡ Some node → after.role ≡ node.role
+      → after.notes ≡ node.notes → AcceptsAreShown dig (Other n ∷ events) world.chain.tag (set world.nodes n after)
+  shown-quiet n node after is role notes =
+      let silent = other-of n events in
+      accepts-set dig events world.chain.tag world.nodes accepts (Other n) n node after is role silent.of.others
+      (λ wallet. subst (λ (s : Said). AreShown world.chain.tag s.accepted (accepted_in dig after.notes)) (sym silent.is)
+      (subst (λ (records : List (List ℕ)). AreShown world.chain.tag (said events n).accepted (accepted_in dig records))
+      (sym notes) (accepts n node is wallet)))
+
+  -- one whose notes are those of a deed
+  shown-deed : (command : Command) (n : ℕ) (node after : Node) (deed : Deed) (event : Event) → IsFit command
+      → IsDone dig world command n node deed → after.role ≡ node.role
+      → after.notes ≡ with_record node.notes deed.note → IsTold n events event deed.gives.event
+      → AcceptsAreShown dig (event ∷ events) world.chain.tag (set world.nodes n after)
+  shown-deed command n node after deed event fit done role notes own =
+      accepts-set dig events world.chain.tag world.nodes accepts event n node after done.node_is role own.of.others
+      (λ wallet. subst (λ (s : Said). AreShown world.chain.tag s.accepted (accepted_in dig after.notes)) (sym own.is)
+      (subst (λ (records : List (List ℕ)).
+      AreShown world.chain.tag (told deed.gives.event (said events n)).accepted (accepted_in dig records)) (sym notes)
+      (accepts-shown dig world n node (said events n) kept.mail (few-blocks dig events world kept) wallet
+      ((kept.nodes n node done.node_is).wallet wallet)
+      (wallet-node events world.chain.tag n node
+      (is-wallet events world.chain.tag n node (keeps.nodes.each n node done.node_is) wallet)).2
+      (accepts n node done.node_is wallet) command deed fit done)))
+
+  shown-cut : (command : Command) (n : ℕ) (node : Node) (deed : Deed) (effect : LineEffect) → IsFit command
+      → IsDone dig world command n node deed → IsCut world n node deed effect → After effect
+  shown-cut command n node deed effect fit done (Kept event_is world_is) =
+      subst (λ (w : World). AcceptsAreShown dig (effect.event ∷ events) w.chain.tag w.nodes) (sym world_is)
+      (subst (λ (e : Event). AcceptsAreShown dig (e ∷ events) world.chain.tag
+      (set world.nodes n (after_crash (with_records node deed)))) (sym event_is)
+      (shown-deed command n node (after_crash (with_records node deed)) deed (without_offers n deed.gives.event) fit
+      done refl refl (cut-of n events command deed.gives (of_node dig world n node command deed done.deed_is))))
+  shown-cut command n node deed effect fit done (Lost event_is world_is) =
+      subst (λ (w : World). AcceptsAreShown dig (effect.event ∷ events) w.chain.tag w.nodes) (sym world_is)
+      (subst (λ (e : Event). AcceptsAreShown dig (e ∷ events) world.chain.tag
+      (set world.nodes n (after_crash node))) (sym event_is)
+      (shown-quiet n node (after_crash node) done.node_is refl refl))
+
+  shown-does : (effect : LineEffect) → Does dig world effect → After effect
+  shown-does effect (Rests reply made is) =
+      subst After (sym is) (accepts-still dig events world.chain.tag world.nodes accepts Idle (λ n. refl))
+  shown-does effect (Enters callers call from is) = subst After (sym is) (shown-call callers call)
+  shown-does effect (AddsWallet name account seed types line may is) =
+      subst After (sym is)
+      (accepts-push dig events world.chain.tag world.nodes accepts _ _ (λ m apart. apart)
+      (λ wallet. none-accepted dig (wallet_text (declared_wallet world account seed types))))
+  shown-does effect (AddsWatcher name account line may is) =
+      subst After (sym is)
+      (accepts-push dig events world.chain.tag world.nodes accepts Idle _ (λ m apart. refl)
+      (λ wallet. absurd (false≢true wallet)))
+  shown-does effect (AddsRogue name who is) =
+      subst After (sym is) (accepts-still dig events world.chain.tag world.nodes accepts Idle (λ n. refl))
+  shown-does effect (Crashes n node node_is is) =
+      subst After (sym is) (shown-quiet n node (after_crash node) node_is refl refl)
+  shown-does effect (Commands command n node deed fit done is) =
+      subst After (sym is)
+      (shown-deed command n node (after_command node deed) deed deed.gives.event fit done refl refl
+      (command-told n events command deed.gives (of_node dig world n node command deed done.deed_is)))
+  shown-does effect (Cuts command calls outcome n node deed fit done is) =
+      subst After (sym is)
+      (shown-cut command n node deed (cut world n node calls outcome command deed) fit done
+      (is_cut world n node calls outcome command deed))
+
+-- ---- every run
+
+abbrev Accepted : (List ℕ → List ℕ) → List TraceEntry → World → Type 0
+Accepted dig entries world = AcceptsAreShown dig (events_of entries) world.chain.tag world.nodes
+
+first-shown : (dig : List ℕ → List ℕ) (tag operator most : ℕ)
+    → Accepted dig (entry_of (Line.Chain tag operator most) (begun tag operator most) ∷ [])
+    (begun tag operator most).world
+first-shown dig tag operator most zero node is role =
+    absurd (false≢true (ap (λ (k : Node). is_wallet_role k.role)
+    (some_same (operator_node (new_chain tag operator most)) node is) ∙ role))
+first-shown dig tag operator most (suc n) node is role = absurd (none_some node is)
+
+next-shown : (dig : List ℕ → List ℕ) (lines : List Line) (run : Run) (world : World) (line : Line)
+    (effect : LineEffect) → IsRun dig lines run world → IsLine line → Accepted dig run.entries world
+    → step dig (Some world) line ≡ Some effect → Accepted dig (entry_of line effect ∷ run.entries) effect.world
+unfolding events_of
+next-shown dig lines run world line effect run_is in_grammar accepts is =
+    let made = stepped dig world line effect is in
+    subst (λ (e : LineEffect). AcceptsAreShown dig (e.event ∷ events_of run.entries) e.world.chain.tag e.world.nodes)
+    (sym made.effect_is)
+    (shown-does dig (events_of run.entries) world (kept-world dig lines run world run_is)
+    (runs-keep dig lines run world run_is) accepts made.bare
+    (does dig world line made.bare in_grammar made.keeps made.bare_is))
+
+pub runs-accept-shown : (dig : List ℕ → List ℕ) (lines : List Line) (run : Run) (world : World)
+    → IsRun dig lines run world → AcceptsAreShown dig (events_of run.entries) world.chain.tag world.nodes
+runs-accept-shown dig lines run world run_is =
+    over_lines dig (Accepted dig) (first-shown dig) (next-shown dig) lines run world run_is

@@ -1,0 +1,296 @@
+-- What a wallet holds at its top, as events say it, is what its records say that it holds or leaves with; and a bundle
+-- shows it.
+use Rattle.std.proofs.Common.{◌≡◌, ◌≢◌, ◌⊎◌, ℕ, ◌≤◌, ◌==◌, ◌&&◌, ◌||◌, Bool, true, false, if◌then◌else◌, List, [], ◌∷◌, map, filter, find, slice_get, Option, Some, None, inl, inr, refl, sym, ap, ◌∙◌, subst}
+use Rattle.std.specs.Prelude.{unwrap_or}
+use Rattle.std.specs.List.{All, list_any}
+use Rattle.std.specs.Option.{option_map}
+use Rattle.std.proofs.lemmas.Bool.{eqb-true, eq-eqb, and_parts, and_from, or_cases, or_left, or_right, true≢false, false≢true}
+use Rattle.std.proofs.lemmas.List.Elements.{All-nil, All-cons, All-contains}
+use Rattle.plasma_tx.specs.declared.owner.Owner.{Owner}
+use Rattle.plasma_tx.specs.declared.call.RootCall.{RootCall}
+use Rattle.plasma_tx.specs.declared.views.CoinView.{CoinView}
+use Rattle.plasma_tx.specs.Views.{coin_at, is_withdrawn}
+use Rattle.coin_history.specs.declared.bundle.Bundle.{Bundle}
+use Rattle.wallet_core.specs.declared.notes.CoinTip.{CoinTip}
+use Rattle.wallet_core.specs.declared.notes.Notes.{Notes}
+use Rattle.wallet_core.specs.declared.coin_state.CoinState.TheVariants.{Leaving, Held}
+use Rattle.wallet_core.specs.State.{is_owner, own_deposit, noted_tips, tips_of, is_noted}
+use Rattle.wallet_core.specs.Laws.{IsTip}
+use Rattle.wallet_core.proofs.StateLaws.{kept_coins_are_held, held_coins_are_kept}
+use Rattle.node_rules.specs.Kept.{kept_links}
+use Rattle.node_rules.specs.Watcher.{is_of}
+use Rattle.node_rules.specs.WalletRecords.{notes_of, owner_of, leaves_in, coin_tip}
+use Rattle.node_rules.specs.Wallet.{WalletRecords, who, noted, coin_state, kept_at}
+use Rattle.node_rules.proofs.WalletRole.{held-tip, leaving-tip}
+use Rattle.node_rules.proofs.ExitTips.{accepted-tips}
+use Rattle.watch_duty.proofs.Members.{Has, has-contains, contains-has, has-left, has-right, has-cases, has-filter, has-map, any-has, any-map}
+use Rattle.world_rules.specs.Events.{Event, log_of, accepted, is_bundle}
+use Rattle.world_rules.specs.World.{Node, World, wallet_of, is_wallet_role, owner_of_node}
+use Rattle.world_rules.specs.Safety.{was_deposited, holds}
+use Rattle.world_rules.specs.Laws.{AreKept}
+use Rattle.world_rules.proofs.Said.{Said, said}
+use Rattle.world_rules.proofs.KeptWallet.{KeptWallet, state-me}
+use Rattle.world_rules.proofs.KeptWorld.{KeptWorld}
+use Rattle.world_rules.proofs.HeldSame.{are_kept}
+use Rattle.world_laws.specs.Legal.{is_tip, IsAtTop, ShowsTip, Taken, Bare}
+use Rattle.world_laws.proofs.Lists.{some_same, find-has}
+use Rattle.world_laws.proofs.Bound.{holding}
+use Rattle.world_laws.proofs.GuardsShown.{IsShown, AreShown}
+use Rattle.world_laws.proofs.Accepting.{AcceptsAreShown}
+use Rattle.world_laws.proofs.AcceptsShown.{accepted_in}
+
+-- ---- lists
+
+-- what holds of what is in a list
+all-listed : {X : Type 0} (P : X → Type 0) (xs : List X) → ((x : X) → Has xs x → P x) → All P xs
+all-listed P [] each = All-nil P
+all-listed P (x ∷ xs) each = All-cons P x xs (each x (inl refl)) (all-listed P xs (λ y h. each y (inr h)))
+
+find-none : {X : Type 0} (p : X → Bool) (xs : List X) → find p xs ≡ None → list_any p xs ≡ false
+find-none p [] none = refl
+find-none {X} p (x ∷ xs) none =
+    (elim (p x) as (λ b. (if b then Some x else find p xs) ≡ None → (b || list_any p xs) ≡ false) [
+      | true ↦ λ wrong. absurd (cc wrong)
+      | false ↦ λ rest. find-none p xs rest
+    ]) none
+
+-- ---- the tips of a coin
+
+own-listed : (me : Owner) (e : ℕ) (made : Option CoinView) → was_deposited me e made ≡ true
+    → Has (own_deposit me made) e
+own-listed me e None is = absurd (false≢true is)
+own-listed me e (Some made) is =
+    let parts = and_parts (made.deposit == e) (is_owner made.owner me) is in
+    subst (λ (b : Bool). Has (if b then made.deposit ∷ [] else []) e) (sym parts.1)
+    (inl (eqb-true made.deposit e parts.0))
+
+listed-own : (me : Owner) (e : ℕ) (made : Option CoinView) → Has (own_deposit me made) e
+    → was_deposited me e made ≡ true
+listed-own me e None has = absurd has
+listed-own me e (Some made) has =
+    (elim (is_owner made.owner me) as (λ b. Has (if b then made.deposit ∷ [] else []) e
+    → ((made.deposit == e) && b) ≡ true) [
+      | true ↦ λ there. elim there [
+        | inl same ↦ and_from (made.deposit == e) true (eq-eqb made.deposit e same) refl
+        | inr none ↦ absurd none
+      ]
+      | false ↦ λ none. absurd none
+    ]) has
+
+noted-listed : (c e : ℕ) (notes : List CoinTip) → is_noted c e notes ≡ true → Has (noted_tips c notes) e
+noted-listed c e [] is = absurd (false≢true is)
+noted-listed c e (note ∷ notes) is = at (note.coin == c) is (noted-listed c e notes)
+  where
+    at : (b : Bool) → ((b && (note.tip == e)) || is_noted c e notes) ≡ true
+        → (is_noted c e notes ≡ true → Has (noted_tips c notes) e)
+        → Has (map (λ (one : CoinTip). one.tip)
+        (if b then note ∷ filter (λ one. one.coin == c) notes else filter (λ one. one.coin == c) notes)) e
+    at true is rest = elim (or_cases (note.tip == e) (is_noted c e notes) is) [
+      | inl here ↦ inl (eqb-true note.tip e here)
+      | inr later ↦ inr (rest later)
+    ]
+    at false is rest = rest is
+
+listed-noted : (c e : ℕ) (notes : List CoinTip) → Has (noted_tips c notes) e → is_noted c e notes ≡ true
+listed-noted c e notes has =
+    let named : CoinTip → Bool = λ one. one.coin == c in
+    let one = has-map (λ (note : CoinTip). note.tip) (filter named notes) e has in
+    let old = has-filter named notes one.0 one.1 in
+    any-has (λ (note : CoinTip). (note.coin == c) && (note.tip == e)) notes one.0 old.0
+    (and_from (one.0.coin == c) (one.0.tip == e) old.1 (eq-eqb one.0.tip e one.2))
+
+module _ (dig : List ℕ → List ℕ) (s : Said) (log : List RootCall) (wallet : WalletRecords)
+    (kept : KeptWallet dig s log wallet) (c e : ℕ) where
+  abbrev notes : Notes
+  notes = noted dig wallet
+
+  abbrev me : Owner
+  me = owner_of (who wallet)
+
+  -- what is said of where it came to the wallet
+  abbrev came : Bool
+  came = was_deposited me e (coin_at log c) || list_any (is_bundle c e) s.accepted
+
+  me-same : notes.me ≡ me
+  me-same = state-me me (notes_of dig wallet.notes)
+
+  own-tip : was_deposited me e (coin_at log c) ≡ true → Has (tips_of notes log c) e
+  own-tip own =
+      has-left (own_deposit notes.me (coin_at log c)) (noted_tips c notes.accepted) e
+      (subst (λ (o : Owner). Has (own_deposit o (coin_at log c)) e) (sym me-same)
+      (own-listed me e (coin_at log c) own))
+
+  came-tip : came ≡ true → Has (tips_of notes log c) e
+  came-tip is =
+      elim (or_cases (was_deposited me e (coin_at log c)) (list_any (is_bundle c e) s.accepted) is) [
+        | inl own ↦ own-tip own
+        | inr among ↦
+            let known = kept.known c e among in
+            elim (or_cases (was_deposited me e (Some known.made)) (is_noted c e notes.accepted) known.known) [
+              | inl own ↦ own-tip (ap (was_deposited me e) known.made_is ∙ own)
+              | inr noted ↦
+                  has-right (own_deposit notes.me (coin_at log c)) (noted_tips c notes.accepted) e
+                  (noted-listed c e notes.accepted noted)
+            ]
+      ]
+
+  came-there : came ≡ true → coin_at log c ≢ None
+  came-there is none =
+      elim (or_cases (was_deposited me e (coin_at log c)) (list_any (is_bundle c e) s.accepted) is) [
+        | inl own ↦ false≢true (sym (ap (was_deposited me e) none) ∙ own)
+        | inr among ↦ let known = kept.known c e among in cc (sym known.made_is ∙ none)
+      ]
+
+  tip-own : Has (own_deposit notes.me (coin_at log c)) e → was_deposited me e (coin_at log c) ≡ true
+  tip-own has =
+      listed-own me e (coin_at log c) (subst (λ (o : Owner). Has (own_deposit o (coin_at log c)) e) me-same has)
+
+  tip-came : Has (tips_of notes log c) e → came ≡ true
+  tip-came has = elim (has-cases (own_deposit notes.me (coin_at log c)) (noted_tips c notes.accepted) e has) [
+    | inl own ↦ or_left (was_deposited me e (coin_at log c)) (list_any (is_bundle c e) s.accepted) (tip-own own)
+    | inr noted ↦
+        or_right (was_deposited me e (coin_at log c)) (list_any (is_bundle c e) s.accepted)
+        (kept.noted c e (listed-noted c e notes.accepted noted))
+  ]
+
+  -- a tip of which no note accepts anything is the wallet's own deposit
+  bare-own : find (is_of c e) (accepted_in dig wallet.notes) ≡ None → Has (tips_of notes log c) e
+      → was_deposited me e (coin_at log c) ≡ true
+  bare-own none has = elim (has-cases (own_deposit notes.me (coin_at log c)) (noted_tips c notes.accepted) e has) [
+    | inl own ↦ tip-own own
+    | inr noted ↦ absurd (true≢false (
+        sym (listed-noted c e notes.accepted noted)
+        ∙ ap (is_noted c e) (accepted-tips me (notes_of dig wallet.notes))
+        ∙ any-map (λ (one : Bundle). coin_tip one.coin one.tip)
+        (λ (note : CoinTip). (note.coin == c) && (note.tip == e)) (accepted_in dig wallet.notes)
+        ∙ find-none (is_of c e) (accepted_in dig wallet.notes) none))
+  ]
+
+-- ---- at the top
+
+-- a bundle that shows a kept coin has its links
+links-same : (tag : List ℕ) (log : List RootCall) (bundles : List Bundle) (kept : Bundle)
+    → (by : IsShown tag bundles kept) → kept_links tag log by.bundle ≡ kept_links tag log kept
+links-same tag log bundles kept by = λ i.
+    option_map (λ (made : CoinView). record {
+      coin = by.coin i;
+      deposit = made.deposit;
+      owner = made.owner;
+      spends = by.links i;
+    }) (coin_at log (by.coin i))
+
+-- a bundle shows the coin at the tip, and has the links of what the wallet keeps
+pub record IsShownAt (dig : List ℕ → List ℕ) (events : List Event) (tag : List ℕ) (n : ℕ) (node : Node) (c e : ℕ)
+    : Type 0 where
+  pub bundle : Bundle
+  pub coin_is : bundle.coin ≡ c
+  pub tip_is : bundle.tip ≡ e
+  pub shows : ShowsTip events n (owner_of_node node) bundle
+  pub links : (log : List RootCall)
+      → kept_links tag log bundle ≡ kept_links tag log (kept_at dig (wallet_of node) c e)
+
+module _ (dig : List ℕ → List ℕ) (events : List Event) (world : World) (kept : KeptWorld dig events world)
+    (n : ℕ) (node : Node) (at : slice_get world.nodes n ≡ Some node) (role : is_wallet_role node.role ≡ true) where
+  abbrev log : List RootCall
+  log = world.chain.log
+
+  abbrev wallet : WalletRecords
+  wallet = wallet_of node
+
+  own : KeptWallet dig (said events n) log wallet
+  own = (kept.nodes n node at).wallet role
+
+  are : AreKept dig events log n node
+  are = are_kept dig events log n node kept.log_is own
+
+  -- what the wallet holds or leaves with
+  abbrev pub IsHeldAt : ℕ → ℕ → Type 0
+  IsHeldAt c e = (coin_state dig wallet log c ≡ Held e) ⊎ (coin_state dig wallet log c ≡ Leaving e)
+
+  pub held-at-tip : (c e : ℕ) → IsHeldAt c e → IsTip (noted dig wallet) log c e
+  held-at-tip c e (inl held) = held-tip dig wallet log c e held
+  held-at-tip c e (inr leaving) = leaving-tip dig wallet log c e leaving
+
+  came-same : (c e : ℕ) → is_tip events n (owner_of_node node) c e ≡ came dig (said events n) log wallet own c e
+  unfolding said
+  came-same c e =
+      ap (λ l. was_deposited (owner_of_node node) e (coin_at l c) || list_any (is_bundle c e) (accepted events n))
+      (sym kept.log_is)
+
+  held-came : (c e : ℕ) → holds events n c e ≡ true → is_tip events n (owner_of_node node) c e ≡ true
+  held-came c e held =
+      let h = holding events n c e held in
+      let same : h.me ≡ owner_of_node node = some_same h.me (owner_of_node node) (sym h.me_is ∙ are.owner) in
+      elim h.source [
+        | inl own ↦
+            or_left (was_deposited (owner_of_node node) e (coin_at (log_of events) c))
+            (list_any (is_bundle c e) (accepted events n))
+            (ap (λ (o : Owner). was_deposited o e (coin_at (log_of events) c)) (sym same) ∙ own)
+        | inr among ↦
+            or_right (was_deposited (owner_of_node node) e (coin_at (log_of events) c))
+            (list_any (is_bundle c e) (accepted events n)) among
+      ]
+
+  top-tip : (c e : ℕ) → IsAtTop events n (owner_of_node node) c e → IsTip (noted dig wallet) log c e
+  top-tip c e top =
+      let here : came dig (said events n) log wallet own c e ≡ true = sym (came-same c e) ∙ held-came c e top.held in
+      record {
+        exists = came-there dig (said events n) log wallet own c e here;
+        not_withdrawn = ap (λ l. is_withdrawn l c) kept.log_is ∙ (holding events n c e top.held).not_withdrawn;
+        is_one = has-contains (tips_of (noted dig wallet) log c) e
+            (came-tip dig (said events n) log wallet own c e here);
+        greatest = all-listed (λ other. other ≤ e) (tips_of (noted dig wallet) log c)
+            (λ m has. top.top m (came-same c m ∙ tip-came dig (said events n) log wallet own c m has));
+      }
+
+  pub top-held : (c e : ℕ) → IsAtTop events n (owner_of_node node) c e → IsHeldAt c e
+  unfolding coin_state
+  top-held c e top =
+      held_coins_are_kept (noted dig wallet) (leaves_in wallet.leaves) log c e (top-tip c e top)
+      (sym (are.held c e) ∙ top.held)
+
+  pub held-top : (c e : ℕ) → IsHeldAt c e → IsAtTop events n (owner_of_node node) c e
+  unfolding coin_state
+  held-top c e is = record {
+    held = are.held c e ∙ kept_coins_are_held (noted dig wallet) (leaves_in wallet.leaves) log c e is;
+    top = λ m tip.
+        All-contains (λ other. other ≤ e) (tips_of (noted dig wallet) log c) m (held-at-tip c e is).greatest
+        (has-contains (tips_of (noted dig wallet) log c) m
+        (came-tip dig (said events n) log wallet own c m (sym (came-same c m) ∙ tip)));
+  }
+
+  -- what shows a coin at its tip
+  pub shown-at : AcceptsAreShown dig events world.chain.tag world.nodes → (c e : ℕ)
+      → IsTip (noted dig wallet) log c e → IsShownAt dig events world.chain.tag n node c e
+  unfolding said
+  shown-at accepts c e tip = by (find (is_of c e) (accepted_in dig node.notes)) refl
+    where
+      bare : Bundle
+      bare = record { coin = c; tip = e; openings = [] }
+
+      shown : AreShown world.chain.tag (accepted events n) (accepted_in dig node.notes)
+      shown = accepts n node at role
+
+      by : (found : Option Bundle) → find (is_of c e) (accepted_in dig node.notes) ≡ found
+          → IsShownAt dig events world.chain.tag n node c e
+      by None none = record {
+        bundle = bare;
+        coin_is = refl;
+        tip_is = refl;
+        shows = Bare (ap (λ l. was_deposited (owner_of_node node) e (coin_at l c)) (sym kept.log_is)
+            ∙ bare-own dig (said events n) log wallet own c e none
+            (contains-has (tips_of (noted dig wallet) log c) e tip.is_one)) refl;
+        links = λ l. ap (λ (o : Option Bundle). kept_links world.chain.tag l (unwrap_or o bare)) (sym none);
+      }
+      by (Some one) some =
+          let in_notes = find-has (is_of c e) (accepted_in dig node.notes) one some in
+          let parts = and_parts (one.coin == c) (one.tip == e) in_notes.1 in
+          let is = shown one in_notes.0 in
+          record {
+            bundle = is.bundle;
+            coin_is = is.coin ∙ eqb-true one.coin c parts.0;
+            tip_is = is.tip ∙ eqb-true one.tip e parts.1;
+            shows = Taken (has-contains (accepted events n) is.bundle is.has);
+            links = λ l. links-same world.chain.tag l (accepted events n) one is
+                ∙ ap (λ (o : Option Bundle). kept_links world.chain.tag l (unwrap_or o bare)) (sym some);
+          }

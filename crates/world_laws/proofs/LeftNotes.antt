@@ -1,0 +1,356 @@
+-- In every run, a wallet's notes have each coin and block with which its leaves offered to leave; and each bundle that
+-- they accept has openings.
+use Rattle.std.proofs.Common.{◌≡◌, ◌≢◌, ◌⊎◌, ℕ, ◌^◌, ◌<◌, ◌==◌, ◌&&◌, true, false, List, [], ◌∷◌, ◌++◌, Option, Some, None, Ok, Err, inl, inr, refl, sym, ap, ◌∙◌, subst}
+use Rattle.std.specs.Prelude.{Result, IfSome, option_map}
+use Rattle.std.specs.List.{All, AllByRecursion}
+use Rattle.std.proofs.lemmas.Bool.{eq-eqb, and_from, or_left, or_right}
+use Rattle.std.proofs.lemmas.List.Elements.{All-push}
+use Rattle.std.proofs.lemmas.List.Folds.{list_any-append}
+use Rattle.line_forms.proofs.FormLaws.{option_map_some}
+use Rattle.plasma_tx.specs.declared.links.Links.{Links}
+use Rattle.plasma_tx.specs.declared.owner.Owner.{Owner}
+use Rattle.plasma_tx.specs.declared.call.RootCall.{RootCall}
+use Rattle.plasma_tx.specs.Links.{tip_of}
+use Rattle.plasma_tx.specs.Views.{blocks, coin_at}
+use Rattle.plasma_tx.specs.declared.views.CoinView.{CoinView}
+use Rattle.coin_history.specs.declared.bundle.Bundle.{Bundle}
+use Rattle.coin_history.specs.History.{links_of}
+use Rattle.schedule_text.specs.declared.command.WalletCommand.{WalletCommand}
+use Rattle.wallet_core.specs.declared.notes.CoinTip.{CoinTip}
+use Rattle.wallet_core.specs.declared.notes.Notes.{Notes}
+use Rattle.wallet_core.specs.declared.coin_state.CoinState.{CoinState}
+use Rattle.wallet_core.specs.declared.coin_state.CoinState.TheVariants.{Nothing, Sending, Leaving, Held}
+use Rattle.wallet_core.specs.State.{is_noted}
+use Rattle.wallet_core.proofs.StateLaws.{leaving_is}
+use Rattle.node_rules.specs.declared.refusal.WalletRefusal.{WalletRefusal}
+use Rattle.node_rules.specs.Kept.{kept_of, chain_of}
+use Rattle.node_rules.specs.WalletLaws.{AddsNote}
+use Rattle.node_rules.specs.WalletCommandLaws.{HaveOpenings, AddsAccepted, AddsLeaving, AddsReclaimed}
+use Rattle.node_rules.specs.WalletRecords.{Note, Accepts as AcceptsNote, LeavesWith, Reclaims, note_text, owner_of, notes_of, accepted_of, state_notes, leaves_in, coin_tip}
+use Rattle.node_rules.specs.Wallet.{WalletRecords, who, noted, coin_state, kept_at, links_at, start_of, leave_from, accept_effect, send_effect, again_answer, leave_effect, reclaim_effect, migrate_effect}
+use Rattle.node_rules.proofs.WalletGrow.{noted-grow, state-accepts, state-leaves, state-reclaims, accepted-accepts, accepted-leaves, accepted-reclaims}
+use Rattle.node_rules.proofs.WalletAdded.{send-note, migrate-note}
+use Rattle.node_rules.proofs.WalletRole.{accepts_add_their_notes, leaves_add_their_notes, leaves_are_answered, reclaims_add_their_notes}
+use Rattle.node_rules.proofs.ExitTips.{exits_are_of_the_tip}
+use Rattle.world_rules.specs.Causes.{wallet_cause}
+use Rattle.world_rules.specs.Events.{Event, Leaves, coin_of_call}
+use Rattle.world_rules.specs.World.{World, bytes_of, new_owner_of}
+use Rattle.world_rules.specs.Deeds.{Gives, Deed, answered, without_record, wallet_deed, on_accepted, on_sent, on_sent_again, on_leaving, on_reclaimed, on_migrated, send_deed, wallet_command, with_record, exit_block}
+use Rattle.world_rules.proofs.ByteTexts.{Small}
+use Rattle.world_rules.proofs.Said.{Said}
+use Rattle.world_rules.proofs.KeptWallet.{KeptWallet, with_note}
+use Rattle.world_rules.proofs.KeptNode.{IsFitWallet, Feeds, token-small}
+use Rattle.world_rules.proofs.WalletSends.{words}
+use Rattle.world_laws.proofs.Lists.{some_same}
+use Rattle.world_laws.proofs.Offers.{StartsAt, start-at, links-at}
+
+-- ---- one more note
+
+-- a note of an accepted coin has openings
+abbrev pub HasOpenings : Note → Type 0
+HasOpenings (AcceptsNote kept) = kept.openings ≢ []
+HasOpenings note = Unit {0}
+
+-- what a command adds to the notes: nothing, or one note
+pub data Noting (dig : List ℕ → List ℕ) (wallet : WalletRecords) (note : Option (List ℕ)) : Type 0 where
+  NoNote : note ≡ None → Noting dig wallet note
+  OneNote : (body : List ℕ) (added : Note) → note ≡ Some body → AddsNote dig wallet.notes added body
+      → HasOpenings added → Noting dig wallet note
+
+-- the notes have openings, and where they had that the wallet leaves with a coin they have it still
+pub record StillNoted (dig : List ℕ → List ℕ) (wallet after : WalletRecords) : Type 0 where
+  pub openings : HaveOpenings dig wallet → HaveOpenings dig after
+  pub leaving : (c e : ℕ) → is_noted c e (noted dig wallet).leaving ≡ true
+      → is_noted c e (noted dig after).leaving ≡ true
+
+noted-before : (c e : ℕ) (notes more : List CoinTip) → is_noted c e notes ≡ true → is_noted c e (notes ++ more) ≡ true
+noted-before c e notes more is =
+    list_any-append (λ (note : CoinTip). (note.coin == c) && (note.tip == e)) notes more
+    ∙ or_left (is_noted c e notes) (is_noted c e more) is
+
+noted-new : (c e : ℕ) (notes : List CoinTip) → is_noted c e (notes ++ coin_tip c e ∷ []) ≡ true
+noted-new c e notes =
+    list_any-append (λ (note : CoinTip). (note.coin == c) && (note.tip == e)) notes (coin_tip c e ∷ [])
+    ∙ or_right (is_noted c e notes) (is_noted c e (coin_tip c e ∷ []))
+    (or_left ((c == c) && (e == e)) false (and_from (c == c) (e == e) (eq-eqb c c refl) (eq-eqb e e refl)))
+
+module _ (dig : List ℕ → List ℕ) (wallet : WalletRecords) where
+  abbrev Opened : Bundle → Type 0
+  Opened kept = kept.openings ≢ []
+
+  opened-more : (note : Note) → HasOpenings note → (notes : List Note) → All Opened (accepted_of notes)
+      → All Opened (accepted_of (note ∷ notes))
+  opened-more (AcceptsNote kept) has notes all =
+      subst (All Opened) (sym (accepted-accepts kept notes)) (All-push Opened (accepted_of notes) kept all has)
+  opened-more (LeavesWith coin tip) has notes all =
+      subst (All Opened) (sym (accepted-leaves coin tip notes)) all
+  opened-more (Reclaims coin tip q) has notes all =
+      subst (All Opened) (sym (accepted-reclaims coin tip q notes)) all
+
+  leaving-more : (note : Note) (me : Owner) (notes : List Note) (c e : ℕ)
+      → is_noted c e (state_notes me notes).leaving ≡ true
+      → is_noted c e (state_notes me (note ∷ notes)).leaving ≡ true
+  leaving-more (AcceptsNote kept) me notes c e is =
+      ap (λ (n : Notes). is_noted c e n.leaving) (state-accepts me kept notes) ∙ is
+  leaving-more (LeavesWith coin tip) me notes c e is =
+      ap (λ (n : Notes). is_noted c e n.leaving) (state-leaves me coin tip notes)
+      ∙ noted-before c e (state_notes me notes).leaving (coin_tip coin tip ∷ []) is
+  leaving-more (Reclaims coin tip q) me notes c e is =
+      ap (λ (n : Notes). is_noted c e n.leaving) (state-reclaims me coin tip q notes) ∙ is
+
+  -- one more note leaves what was noted
+  one-more : (body : List ℕ) (added : Note) → AddsNote dig wallet.notes added body → HasOpenings added
+      → StillNoted dig wallet (with_note wallet body)
+  one-more body added adds has = record {
+    openings = λ all.
+        subst (λ (notes : List Note). All Opened (accepted_of notes)) (sym adds.1)
+        (opened-more added has (notes_of dig wallet.notes) all);
+    leaving = λ c e is.
+        ap (λ (n : Notes). is_noted c e n.leaving) (noted-grow dig wallet body added adds)
+        ∙ leaving-more added (owner_of (who wallet)) (notes_of dig wallet.notes) c e is;
+  }
+
+  -- and so does what a command adds
+  still-noted : (note leaf : Option (List ℕ)) → Noting dig wallet note
+      → StillNoted dig wallet
+      (record { notes = with_record wallet.notes note; leaves = with_record wallet.leaves leaf })
+  still-noted one leaf (NoNote none) =
+      subst (λ (o : Option (List ℕ)). StillNoted dig wallet
+      (record { notes = with_record wallet.notes o; leaves = with_record wallet.leaves leaf })) (sym none)
+      (record { openings = λ all. all; leaving = λ c e is. is })
+  still-noted one leaf (OneNote body added some adds has) =
+      let more = one-more body added adds has in
+      subst (λ (o : Option (List ℕ)). StillNoted dig wallet
+      (record { notes = with_record wallet.notes o; leaves = with_record wallet.leaves leaf })) (sym some)
+      (record { openings = more.openings; leaving = more.leaving })
+
+-- ---- the start that a leave offers
+
+-- the links of a coin at a tip are those of what is kept
+start-there : (dig : List ℕ → List ℕ) (wallet : WalletRecords) (log : List RootCall) (coin tip : ℕ) (links : Links)
+    → links_at dig wallet log coin tip ≡ Some links → (links.coin ≡ coin) × (tip_of links ≡ tip)
+    → StartsAt (start_of (who wallet).account tip links) coin tip
+start-there dig wallet log coin tip links shown ends =
+    let start = start-at (who wallet).account tip links ends.1 (by (coin_at log kept.coin) shown) in
+    record { coin_is = start.coin_is ∙ ends.0; block_is = start.block_is }
+  where
+    kept : Bundle
+    kept = kept_at dig wallet coin tip
+
+    by : (found : Option CoinView)
+        → option_map (λ made. links_of (chain_of (who wallet).tag) made kept) found ≡ Some links
+        → AllByRecursion (λ link. link.opening.block ≡ link.block) links.spends
+    by None wrong = absurd (cc wrong)
+    by (Some made) is =
+        subst (λ (l : Links). AllByRecursion (λ link. link.opening.block ≡ link.block) l.spends)
+        (some_same (links_of (chain_of (who wallet).tag) made kept) links is)
+        (links-at (chain_of (who wallet).tag) kept.coin kept.openings)
+
+-- ---- a wallet's commands
+
+-- what a deed of a wallet leaves of its notes
+pub record StillLeft (dig : List ℕ → List ℕ) (wallet after : WalletRecords) (event : Event) : Type 0 where
+  pub still : StillNoted dig wallet after
+  pub left : (m : ℕ) (call : RootCall) → event ≡ Leaves m call
+      → is_noted (coin_of_call call) (exit_block call) (noted dig after).leaving ≡ true
+
+-- an answer that is no leave
+answered-other : {A E : Type 0} (n : ℕ) (cause : E → List ℕ) (give : A → Gives) (result : Result A E)
+    → ((answer : A) (m : ℕ) (call : RootCall) → (give answer).event ≡ Leaves m call → ⊥)
+    → (m : ℕ) (call : RootCall) → (answered n cause give result).event ≡ Leaves m call → ⊥
+answered-other n cause give (Ok answer) other m call is = other answer m call is
+answered-other n cause give (Err why) other m call is = cc is
+
+module _ (dig : List ℕ → List ℕ) (wallet : WalletRecords) (log : List RootCall) (coin : ℕ) where
+  leave-made : (state : CoinState) → coin_state dig wallet log coin ≡ state
+      → leave_effect dig wallet log coin ≡ leave_from dig wallet log coin state
+  unfolding leave_effect
+  leave-made state is = ap (leave_from dig wallet log coin) is
+
+  -- a wallet that leaves with a coin has noted it
+  leaving-noted : (tip : ℕ) → coin_state dig wallet log coin ≡ Leaving tip
+      → is_noted coin tip (noted dig wallet).leaving ≡ true
+  unfolding coin_state
+  leaving-noted tip is = ((leaving_is (noted dig wallet) (leaves_in wallet.leaves) log coin tip).0 is).2
+
+module _ (dig : List ℕ → List ℕ) (s : Said) (log : List RootCall) (wallet : WalletRecords)
+    (kept : KeptWallet dig s log wallet) (few : blocks log < 2 ^ 64) where
+  abbrev notes : Notes
+  notes = noted dig wallet
+
+  accept-noting : (bytes : List ℕ) → Small bytes → Noting dig wallet (accept_effect dig wallet log bytes).note
+  accept-noting bytes small =
+      by (accept_effect dig wallet log bytes).note (accepts_add_their_notes dig wallet log bytes kept.is small.are)
+    where
+      by : (note : Option (List ℕ)) → IfSome note (AddsAccepted dig wallet log bytes) → Noting dig wallet note
+      by None none = NoNote refl
+      by (Some body) added = OneNote body (AcceptsNote (kept_of added.0)) refl added.4 added.3
+
+  reclaim-noting : (bytes : List ℕ) → Small bytes → Noting dig wallet (reclaim_effect dig wallet log bytes).note
+  reclaim-noting bytes small =
+      by (reclaim_effect dig wallet log bytes).note
+      (reclaims_add_their_notes dig wallet log bytes kept.is small.are (words dig s log wallet kept few))
+    where
+      by : (note : Option (List ℕ)) → IfSome note (AddsReclaimed dig wallet log bytes) → Noting dig wallet note
+      by None none = NoNote refl
+      by (Some body) added =
+          OneNote body (Reclaims added.0.coin added.0.tip added.0.q) refl added.3 tt
+
+  leave-noting : (coin : ℕ) → coin < 2 ^ 64 → Noting dig wallet (leave_effect dig wallet log coin).note
+  leave-noting coin fits =
+      by (leave_effect dig wallet log coin).note
+      (leaves_add_their_notes dig wallet log coin kept.is (words dig s log wallet kept few) fits)
+    where
+      by : (note : Option (List ℕ)) → IfSome note (AddsLeaving dig wallet log coin) → Noting dig wallet note
+      by None none = NoNote refl
+      by (Some body) added = OneNote body (LeavesWith coin added.0) refl added.2 tt
+
+  send-noting : (coin : ℕ) (to : Owner) (last : Option ℕ)
+      → Noting dig wallet (send_effect dig wallet log coin to last).note
+  unfolding send_effect
+  send-noting coin to last = NoNote (send-note wallet log coin to last (coin_state dig wallet log coin))
+
+  -- a leave that offers a start notes its coin and block, or had noted them
+  leave-left : (coin : ℕ) → coin < 2 ^ 64 → HaveOpenings dig wallet → (call : RootCall)
+      → (leave_effect dig wallet log coin).answer ≡ Ok call
+      → is_noted (coin_of_call call) (exit_block call)
+      (noted dig (record {
+        notes = with_record wallet.notes (leave_effect dig wallet log coin).note;
+        leaves = with_record wallet.leaves (leave_effect dig wallet log coin).leaf;
+      })).leaving ≡ true
+  leave-left coin fits have call gives = by (coin_state dig wallet log coin) refl
+    where
+      after : WalletRecords
+      after = record {
+        notes = with_record wallet.notes (leave_effect dig wallet log coin).note;
+        leaves = with_record wallet.leaves (leave_effect dig wallet log coin).leaf;
+      }
+
+      -- the call is of the coin and the tip
+      there : (tip : ℕ)
+          → (coin_state dig wallet log coin ≡ Held tip) ⊎ (coin_state dig wallet log coin ≡ Leaving tip)
+          → is_noted coin tip (noted dig after).leaving ≡ true
+          → is_noted (coin_of_call call) (exit_block call) (noted dig after).leaving ≡ true
+      there tip state is =
+          let start = leaves_are_answered dig wallet log coin tip state in
+          let same : start_of (who wallet).account tip start.0 ≡ call = cc (start.2, gives) in
+          let at = start-there dig wallet log coin tip start.0 start.1
+          (exits_are_of_the_tip dig wallet log coin tip start.0 state have start.1) in
+          ap (λ (k : RootCall). is_noted (coin_of_call k) (exit_block k) (noted dig after).leaving) (sym same)
+          ∙ ap (λ (c : ℕ). is_noted c (exit_block (start_of (who wallet).account tip start.0))
+          (noted dig after).leaving) at.coin_is
+          ∙ ap (λ (e : ℕ). is_noted coin e (noted dig after).leaving) at.block_is ∙ is
+
+      refused : (state : CoinState) → coin_state dig wallet log coin ≡ state
+          → (leave_from dig wallet log coin state).answer ≡ Err WalletRefusal.NotHeld
+          → is_noted (coin_of_call call) (exit_block call) (noted dig after).leaving ≡ true
+      refused state is wrong =
+          absurd (cc (sym gives ∙ ap (λ e. e.answer) (leave-made dig wallet log coin state is) ∙ wrong))
+
+      leaving : (tip : ℕ) → coin_state dig wallet log coin ≡ Leaving tip
+          → is_noted coin tip (noted dig after).leaving ≡ true
+      leaving tip is =
+          (still-noted dig wallet (leave_effect dig wallet log coin).note (leave_effect dig wallet log coin).leaf
+          (leave-noting coin fits)).leaving coin tip (leaving-noted dig wallet log coin tip is)
+
+      held : (tip : ℕ) → coin_state dig wallet log coin ≡ Held tip
+          → is_noted coin tip (noted dig after).leaving ≡ true
+      held tip is =
+          let text = note_text (LeavesWith coin tip) in
+          let some : (leave_effect dig wallet log coin).note ≡ Some text =
+          ap (λ e. e.note) (leave-made dig wallet log coin (Held tip) is) in
+          let added : AddsLeaving dig wallet log coin text =
+          subst (λ (o : Option (List ℕ)). IfSome o (AddsLeaving dig wallet log coin)) some
+          (leaves_add_their_notes dig wallet log coin kept.is (words dig s log wallet kept few) fits) in
+          let same : added.0 ≡ tip = cc (added.1, is) in
+          let adds : AddsNote dig wallet.notes (LeavesWith coin tip) text =
+          subst (λ (t : ℕ). AddsNote dig wallet.notes (LeavesWith coin t) text) same added.2 in
+          ap (λ (o : Option (List ℕ)). is_noted coin tip (noted dig (record {
+            notes = with_record wallet.notes o;
+            leaves = with_record wallet.leaves (leave_effect dig wallet log coin).leaf;
+          })).leaving) some
+          ∙ ap (λ (n : Notes). is_noted coin tip n.leaving)
+          (noted-grow dig wallet text (LeavesWith coin tip) adds
+          ∙ state-leaves (owner_of (who wallet)) coin tip (notes_of dig wallet.notes))
+          ∙ noted-new coin tip notes.leaving
+
+      by : (state : CoinState) → coin_state dig wallet log coin ≡ state
+          → is_noted (coin_of_call call) (exit_block call) (noted dig after).leaving ≡ true
+      by Nothing is = refused Nothing is refl
+      by (Sending tip q) is = refused (Sending tip q) is refl
+      by (Leaving tip) is = there tip (inr is) (leaving tip is)
+      by (Held tip) is = there tip (inl is) (held tip is)
+
+-- ---- deeds
+
+-- what a deed leaves of a wallet's records
+abbrev pub after_deed : WalletRecords → Deed → WalletRecords
+after_deed wallet deed =
+    record { notes = with_record wallet.notes deed.note; leaves = with_record wallet.leaves deed.leaf }
+
+module _ (dig : List ℕ → List ℕ) (s : Said) (world : World) (feeds : Feeds world) (wallet : WalletRecords)
+    (kept : KeptWallet dig s world.chain.log wallet) (have : HaveOpenings dig wallet) (n : ℕ) where
+  abbrev log : List RootCall
+  log = world.chain.log
+
+  abbrev IsStillLeft : Deed → Type 0
+  IsStillLeft deed = StillLeft dig wallet (after_deed wallet deed) deed.gives.event
+
+  -- a deed whose event is no leave
+  pub other-left : (deed : Deed) → Noting dig wallet deed.note
+      → ((m : ℕ) (call : RootCall) → deed.gives.event ≡ Leaves m call → ⊥) → IsStillLeft deed
+  other-left deed noting other = record {
+    still = still-noted dig wallet deed.note deed.leaf noting;
+    left = λ m call is. absurd (other m call is);
+  }
+
+  pub wallet-left : (own : WalletCommand) (deed : Deed) → IsFitWallet own
+      → wallet_command dig world n wallet own ≡ Some deed → IsStillLeft deed
+  wallet-left (WalletCommand.Accept bundle) deed fit is =
+      let bytes = bytes_of world bundle in
+      let effect = accept_effect dig wallet log bytes in
+      subst IsStillLeft (some_same _ deed is)
+      (other-left (wallet_deed n (on_accepted n bytes) effect)
+      (accept-noting dig s log wallet kept feeds.few bytes (token-small world bundle feeds.mail fit))
+      (answered-other n wallet_cause (on_accepted n bytes) effect.answer (λ taken m call is. cc is)))
+  wallet-left (WalletCommand.Send coin to last) deed fit is =
+      let found = option_map_some (send_deed dig world n wallet coin last) (new_owner_of world to) deed is in
+      let effect = send_effect dig wallet log coin found.0 last in
+      subst IsStillLeft found.2
+      (other-left (wallet_deed n (on_sent n) effect) (send-noting dig s log wallet kept feeds.few coin found.0 last)
+      (answered-other n wallet_cause (on_sent n) effect.answer (λ sent m call is. cc is)))
+  wallet-left (WalletCommand.Again coin) deed fit is =
+      let answer = again_answer wallet coin in
+      subst IsStillLeft (some_same _ deed is)
+      (other-left (without_record (answered n wallet_cause (on_sent_again n) answer)) (NoNote refl)
+      (answered-other n wallet_cause (on_sent_again n) answer (λ sent m call is. cc is)))
+  wallet-left (WalletCommand.Leave coin) deed fit is =
+      let effect = leave_effect dig wallet log coin in
+      subst IsStillLeft (some_same _ deed is) (record {
+        still = still-noted dig wallet effect.note effect.leaf
+            (leave-noting dig s log wallet kept feeds.few coin fit);
+        left = by effect.answer refl;
+      })
+    where
+      by : (result : Result RootCall WalletRefusal) → (leave_effect dig wallet log coin).answer ≡ result
+          → (m : ℕ) (call : RootCall) → (answered n wallet_cause (on_leaving n) result).event ≡ Leaves m call
+          → is_noted (coin_of_call call) (exit_block call)
+          (noted dig (after_deed wallet (wallet_deed n (on_leaving n) (leave_effect dig wallet log coin)))).leaving
+          ≡ true
+      by (Err why) answered m call is = absurd (cc is)
+      by (Ok start) answered m call is =
+          let same : start ≡ call = cc is in
+          leave-left dig s log wallet kept feeds.few coin fit have call
+          (answered ∙ ap (λ (k : RootCall). Ok k) same)
+  wallet-left (WalletCommand.Reclaim bundle) deed fit is =
+      let bytes = bytes_of world bundle in
+      let effect = reclaim_effect dig wallet log bytes in
+      subst IsStillLeft (some_same _ deed is)
+      (other-left (wallet_deed n (on_reclaimed n bytes) effect)
+      (reclaim-noting dig s log wallet kept feeds.few bytes (token-small world bundle feeds.mail fit))
+      (answered-other n wallet_cause (on_reclaimed n bytes) effect.answer (λ taken m call is. cc is)))
+  wallet-left WalletCommand.Migrate deed fit is =
+      let effect = migrate_effect wallet in
+      subst IsStillLeft (some_same _ deed is)
+      (other-left (wallet_deed n (on_migrated n) effect) (NoNote (migrate-note wallet))
+      (answered-other n wallet_cause (on_migrated n) effect.answer (λ done m call is. cc is)))

@@ -1,0 +1,243 @@
+-- What a wallet's leave and its watch offer is legal: the start of the exit of a coin at its top, and what is due for
+-- the coins that it holds there.
+use Rattle.std.proofs.Common.{◌≡◌, ◌≢◌, ℕ, zero, suc, ◌+◌, ◌<◌, ◌≤◌, true, List, [], ◌∷◌, slice_get, Option, Some, None, Ok, Err, inl, inr, refl, sym, ap, ◌∙◌, subst, arith}
+use Rattle.std.specs.Prelude.{Result}
+use Rattle.std.specs.List.{Contains, range_with_len}
+use Rattle.std.specs.Option.{option_map_or}
+use Rattle.std.proofs.lemmas.Bool.{cases_eq, ne_eqb}
+use Rattle.plasma_tx.specs.declared.owner.Owner.{Owner}
+use Rattle.plasma_tx.specs.declared.links.Links.{Links}
+use Rattle.plasma_tx.specs.declared.call.RootCall.{RootCall}
+use Rattle.plasma_tx.specs.declared.call.RootCall.TheVariants.{Deposit}
+use Rattle.plasma_tx.specs.declared.views.CoinView.{CoinView}
+use Rattle.plasma_tx.specs.Views.{coins, coin_at}
+use Rattle.coin_history.specs.declared.bundle.Bundle.{Bundle}
+use Rattle.root_rules.specs.Shown.{rules_of}
+use Rattle.root_rules.proofs.Bounds.{coin_at-le}
+use Rattle.watch_duty.specs.Duty.{due_of}
+use Rattle.wallet_core.specs.declared.coin_state.CoinState.{CoinState}
+use Rattle.wallet_core.specs.declared.coin_state.CoinState.TheVariants.{Nothing, Sending, Leaving, Held}
+use Rattle.schedule_text.specs.declared.line.Line.{Line}
+use Rattle.node_rules.specs.declared.refusal.WalletRefusal.{WalletRefusal}
+use Rattle.node_rules.specs.declared.refusal.WalletRefusal.TheVariants.{NotHeld}
+use Rattle.node_rules.specs.Kept.{kept_links}
+use Rattle.node_rules.specs.Watcher.{due_for_kept}
+use Rattle.node_rules.specs.WalletRecords.{owner_of}
+use Rattle.node_rules.specs.Wallet.{WalletRecords, who, coin_state, kept_at, links_at, start_of, exit_start, leave_from, leave_effect, due_at, due_in, watch_answer}
+use Rattle.node_rules.proofs.WalletRole.{links-some}
+use Rattle.watch_duty.proofs.Members.{Has, has-contains, contains-has, has-flat_map}
+use Rattle.world_rules.specs.Events.{Event, log_of, wallet_owner}
+use Rattle.world_rules.specs.World.{Node, World, wallet_of, is_wallet_role, owner_of_node}
+use Rattle.world_rules.specs.Steps.{Run, events_of}
+use Rattle.world_rules.proofs.KeptWorld.{KeptWorld}
+use Rattle.world_laws.specs.Headline.{IsRun}
+use Rattle.world_laws.specs.Legal.{IsAtTop, IsGuarding, ShowsGuard, ShowsTip, LegalWatch, LegalLeave}
+use Rattle.world_laws.proofs.Identities.{wallet-node}
+use Rattle.world_laws.proofs.Keeps.{Keeps, is-wallet}
+use Rattle.world_laws.proofs.Acts.{runs-keep}
+use Rattle.world_laws.proofs.Guarding.{kept-world}
+use Rattle.world_laws.proofs.LegalWatches.{has-in-flat_map}
+use Rattle.world_laws.proofs.Accepting.{AcceptsAreShown, runs-accept-shown}
+use Rattle.world_laws.proofs.AtTops.{IsShownAt, IsHeldAt, held-at-tip, top-held, held-top, shown-at}
+
+-- ---- the coins of a log
+
+coin-first : (log : List RootCall) (c : ℕ) (made : CoinView) → coin_at log c ≡ Some made → 1 ≤ c
+unfolding coin_at coins
+coin-first [] c made is = absurd (cc is)
+coin-first (Deposit account amount key ∷ log) c made is =
+    elim (cases_eq c (coins log + 1)) [
+      | inl last ↦ omega (arith, last)
+      | inr other ↦ coin-first log c made (simp (ne_eqb c (coins log + 1) other) at is)
+    ]
+coin-first (call ∷ log) c made is = coin-first log c made is
+
+range-has : (a n x : ℕ) → a ≤ x → x < a + n → Has (range_with_len a n) x
+range-has a zero x low high = absurd (omega (arith, low, high))
+range-has a (suc n) x low high = elim (cases_eq a x) [
+  | inl same ↦ inl same
+  | inr other ↦ inr (range-has (a + 1) n x (omega (arith, low, other)) (omega (arith, high)))
+]
+
+coin-among : (log : List RootCall) (c : ℕ) → coin_at log c ≢ None → Has (range_with_len 1 (coins log)) c
+coin-among log c there = by (coin_at log c) refl
+  where
+    by : (made : Option CoinView) → coin_at log c ≡ made → Has (range_with_len 1 (coins log)) c
+    by None none = absurd (there none)
+    by (Some made) some =
+        range-has 1 (coins log) c (coin-first log c made some) (omega (arith, coin_at-le log c made some))
+
+-- a start that is answered
+as_answer : RootCall → Result RootCall WalletRefusal
+as_answer call = Ok call
+
+answer-same : (one other : RootCall) → as_answer one ≡ Ok other → one ≡ other
+unfolding as_answer
+answer-same one other is = cc is
+
+-- ---- a wallet's node
+
+module _ (dig : List ℕ → List ℕ) (events : List Event) (world : World) (kept : KeptWorld dig events world)
+    (keeps : Keeps events world) (accepts : AcceptsAreShown dig events world.chain.tag world.nodes) (n : ℕ)
+    (node : Node) (at : slice_get world.nodes n ≡ Some node) (role : is_wallet_role node.role ≡ true) where
+  abbrev log : List RootCall
+  log = world.chain.log
+
+  abbrev tag : List ℕ
+  tag = world.chain.tag
+
+  abbrev wallet : WalletRecords
+  wallet = wallet_of node
+
+  abbrev account : ℕ
+  account = (who wallet).account
+
+  own : (wallet_owner events n ≡ Some (owner_of_node node)) × ((owner_of_node node).account ≡ node.account)
+      × ((who wallet).tag ≡ tag)
+  own = wallet-node events tag n node (is-wallet events tag n node (keeps.nodes.each n node at) role)
+
+  -- what shows a coin that the wallet holds or leaves with
+  shown : (c e : ℕ) → IsHeldAt dig events world kept n node at role c e → IsShownAt dig events tag n node c e
+  shown c e held =
+      shown-at dig events world kept n node at role accepts c e
+      (held-at-tip dig events world kept n node at role c e held)
+
+  -- its links are those of what the wallet keeps
+  links-shown : (c e : ℕ) (by : IsShownAt dig events tag n node c e)
+      → kept_links tag (log_of events) by.bundle ≡ links_at dig wallet log c e
+  links-shown c e by =
+      by.links (log_of events)
+      ∙ (λ i. kept_links (sym own.2 i) (sym kept.log_is i) (kept_at dig wallet c e))
+
+  -- so is what is due
+  due-shown : (c e : ℕ) (by : IsShownAt dig events tag n node c e)
+      → due_for_kept tag (log_of events) account by.bundle ≡ due_at dig wallet log c e
+  due-shown c e by = λ i.
+      option_map_or (λ (links : Links). due_of (sym kept.log_is i) account (record { links = links }))
+      (links-shown c e by i) []
+
+  -- ---- leaves
+
+  leave-at : (c e : ℕ) (call : RootCall) → IsHeldAt dig events world kept n node at role c e
+      → exit_start dig wallet log c e ≡ Ok call → LegalLeave (rules_of world.chain) events n call
+  unfolding owner_of as_answer
+  leave-at c e call held is =
+      let by = shown c e held in
+      let found = links-some dig wallet log c e (held-at-tip dig events world kept n node at role c e held).exists in
+      let top = held-top dig events world kept n node at role c e held in
+      let start : start_of account e found.0 ≡ call = answer-same (start_of account e found.0) call
+      (ap (λ (o : Option Links). option_map_or (λ links. as_answer (start_of account e links)) o (Err NotHeld))
+      (sym found.1) ∙ is) in
+      record {
+        me = owner_of_node node;
+        me_is = own.0;
+        bundle = by.bundle;
+        shows = by.shows;
+        at_top = subst (λ a. IsAtTop events n (owner_of_node node) a by.bundle.tip) (sym by.coin_is)
+            (subst (IsAtTop events n (owner_of_node node) c) (sym by.tip_is) top);
+        links = found.0;
+        links_are = links-shown c e by ∙ found.1;
+        call_is = sym start ∙ ap (λ t. start_of account t found.0) (sym by.tip_is);
+      }
+
+  -- the start that a leave offers
+  pub legal-left : (c : ℕ) (call : RootCall) → (leave_effect dig wallet log c).answer ≡ Ok call
+      → LegalLeave (rules_of world.chain) events n call
+  unfolding leave_effect
+  legal-left c call is = by (coin_state dig wallet log c) refl is
+    where
+      by : (state : CoinState) → coin_state dig wallet log c ≡ state
+          → (leave_from dig wallet log c state).answer ≡ Ok call → LegalLeave (rules_of world.chain) events n call
+      by Nothing none is = absurd (cc is)
+      by (Sending e q) sends is = absurd (cc is)
+      by (Leaving e) leaves is = leave-at c e call (inr leaves) is
+      by (Held e) holds is = leave-at c e call (inl holds) is
+
+  -- ---- watches
+
+  -- what is due for a coin at its tip is offered
+  due-offered : (c e : ℕ) → IsHeldAt dig events world kept n node at role c e → (call : RootCall)
+      → Has (due_at dig wallet log c e) call → Has (watch_answer dig wallet log) call
+  unfolding watch_answer
+  due-offered c e held call due =
+      has-in-flat_map (λ coin. due_in dig wallet log coin (coin_state dig wallet log coin))
+      (range_with_len 1 (coins log)) c call
+      (coin-among log c (held-at-tip dig events world kept n node at role c e held).exists) (in-state held)
+    where
+      in-state : IsHeldAt dig events world kept n node at role c e
+          → Has (due_in dig wallet log c (coin_state dig wallet log c)) call
+      in-state (inl holds) = subst (λ state. Has (due_in dig wallet log c state) call) (sym holds) due
+      in-state (inr leaves) = subst (λ state. Has (due_in dig wallet log c state) call) (sym leaves) due
+
+  -- and what is offered is due for one
+  record IsOfHeld (call : RootCall) : Type 0 where
+    c : ℕ
+    e : ℕ
+    held : IsHeldAt dig events world kept n node at role c e
+    due : Has (due_at dig wallet log c e) call
+
+  offered-due : (call : RootCall) → Has (watch_answer dig wallet log) call → IsOfHeld call
+  unfolding watch_answer
+  offered-due call has =
+      let found = has-flat_map (λ coin. due_in dig wallet log coin (coin_state dig wallet log coin))
+      (range_with_len 1 (coins log)) call has in
+      by found.0 (coin_state dig wallet log found.0) refl found.2
+    where
+      by : (c : ℕ) (state : CoinState) → coin_state dig wallet log c ≡ state → Has (due_in dig wallet log c state) call
+          → IsOfHeld call
+      by c Nothing none due = absurd due
+      by c (Sending e q) sends due = absurd due
+      by c (Leaving e) leaves due = record { c = c; e = e; held = inr leaves; due = due }
+      by c (Held e) holds due = record { c = c; e = e; held = inl holds; due = due }
+
+  shows-guard : (bundle : Bundle) → ShowsTip events n (owner_of_node node) bundle
+      → ShowsGuard events n (wallet_owner events n) bundle
+  shows-guard bundle shows = subst (λ (o : Option Owner). ShowsGuard events n o bundle) (sym own.0) shows
+
+  -- what a wallet's watch offers
+  pub legal-wallet-watched : LegalWatch (rules_of world.chain) events n (watch_answer dig wallet log)
+  legal-wallet-watched = record {
+    account = account;
+    all = λ c e guarding.
+        let top = subst (λ (o : Option Owner). IsGuarding events n o c e) own.0 guarding in
+        let held = top-held dig events world kept n node at role c e top in
+        let by = shown c e held in
+        record {
+          bundle = by.bundle;
+          coin_is = by.coin_is;
+          tip_is = by.tip_is;
+          shows = shows-guard by.bundle by.shows;
+          due = λ call due.
+              has-contains (watch_answer dig wallet log) call
+              (due-offered c e held call
+              (contains-has (due_at dig wallet log c e) call
+              (subst (λ (calls : List RootCall). Contains calls call) (due-shown c e by) due)));
+        };
+    only = λ call has.
+        let of = offered-due call (contains-has (watch_answer dig wallet log) call has) in
+        let by = shown of.c of.e of.held in
+        record {
+          bundle = by.bundle;
+          shows = shows-guard by.bundle by.shows;
+          due = subst (λ (calls : List RootCall). Contains calls call) (sym (due-shown of.c of.e by))
+              (has-contains (due_at dig wallet log of.c of.e) call of.due);
+        };
+  }
+
+-- ---- every run
+
+module _ (dig : List ℕ → List ℕ) (lines : List Line) (run : Run) (world : World) (is : IsRun dig lines run world)
+    (n : ℕ) (node : Node) (at : slice_get world.nodes n ≡ Some node) (role : is_wallet_role node.role ≡ true) where
+  -- the start that a leave offers
+  pub left-in-run : (c : ℕ) (call : RootCall) → (leave_effect dig (wallet_of node) world.chain.log c).answer ≡ Ok call
+      → LegalLeave (rules_of world.chain) (events_of run.entries) n call
+  left-in-run =
+      legal-left dig (events_of run.entries) world (kept-world dig lines run world is)
+      (runs-keep dig lines run world is) (runs-accept-shown dig lines run world is) n node at role
+
+  -- what a wallet's watch offers
+  pub watched-in-run : LegalWatch (rules_of world.chain) (events_of run.entries) n
+      (watch_answer dig (wallet_of node) world.chain.log)
+  watched-in-run =
+      legal-wallet-watched dig (events_of run.entries) world (kept-world dig lines run world is)
+      (runs-keep dig lines run world is) (runs-accept-shown dig lines run world is) n node at role
