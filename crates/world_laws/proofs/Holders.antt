@@ -75,7 +75,7 @@ any-at p [] n x is passes = absurd (cc is)
 any-at p (y ∷ ys) zero x is passes = or_left (p y) (list_any p ys) (ap p (some_same y x is) ∙ passes)
 any-at p (y ∷ ys) (suc n) x is passes = or_right (p y) (list_any p ys) (any-at p ys n x is passes)
 
-any-filter : (p q : Node → Bool) (xs : List Node) (n : ℕ) (x : Node) → slice_get xs n ≡ Some x → q x ≡ true
+pub any-filter : (p q : Node → Bool) (xs : List Node) (n : ℕ) (x : Node) → slice_get xs n ≡ Some x → q x ≡ true
     → p x ≡ true → list_any p (filter q xs) ≡ true
 any-filter p q [] n x is kept passes = absurd (cc is)
 any-filter p q (y ∷ ys) zero x is kept passes =

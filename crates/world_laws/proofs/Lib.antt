@@ -42,5 +42,9 @@ pub mod Takings
 pub mod OwnExits
 pub mod Lost
 pub mod Starts
+pub mod SignedMessages
+pub mod SignedDeeds
+pub mod SignedStays
+pub mod SignedRuns
 pub mod Words
 pub mod Promises

@@ -13,7 +13,7 @@ use Rattle.world_rules.specs.Events.{Event, Joins, Watches, log_of, wallet_owner
 use Rattle.world_rules.specs.World.{World}
 use Rattle.world_rules.specs.Steps.{Run, events_of}
 use Rattle.world_rules.specs.Safety.{is_watch, is_joined}
-use Rattle.world_laws.specs.Headline.{IsRun, HeldCoinsAreSafe, was_declared_before, AreDeclaredBefore, OneWalletHolds, fresh_offers, IsFreshWatch, lacks_bond, DueCallsAreTaken, HarmsAreTakings, LostIsExhibited}
+use Rattle.world_laws.specs.Headline.{IsRun, HeldCoinsAreSafe, was_declared_before, AreDeclaredBefore, OneWalletHolds, fresh_offers, IsFreshWatch, lacks_bond, DueCallsAreTaken, HarmsAreTakings, LostIsExhibited, IsTaken, StartsAreTaken}
 use Rattle.world_laws.specs.Legal.{IsLegal}
 use Rattle.world_rules.proofs.RunLaws.{logs_are_of_events}
 use Rattle.world_laws.proofs.Safe.{legal_coins_are_safe}
@@ -23,6 +23,7 @@ use Rattle.world_rules.specs.Exhibits.{exhibit_of}
 use Rattle.world_rules.specs.Verdicts.{exhibit_of_run}
 use Rattle.std.specs.Option.{option_map_or}
 use Rattle.world_rules.proofs.VerdictLaws.{verdicts_are_of_held_coins}
+use Rattle.world_laws.proofs.Starts.{starts_are_taken}
 use Rattle.world_laws.proofs.Lost.{lost_is_exhibited}
 use Rattle.world_laws.proofs.Takings.{legal-takings}
 use Rattle.world_laws.proofs.DueTaken.{due_calls_are_taken}
@@ -129,3 +130,10 @@ module _ (legal : (dig : List ℕ → List ℕ) (lines : List Line) (run : Run) 
       is.digest (legal dig lines run world is) held.is_owner (sym held.kind ∙ lost)
       (sym (ap (λ w. option_map_or (λ world. exhibit_of dig world.chain.tag (events_of run.entries)) w
       Exhibit.Nothing) is.world_is) ∙ nothing)
+
+  pub starts_taken : StartsAreTaken
+  starts_taken dig lines run world w account call is offer start held =
+      let log = logs_are_of_events dig lines run world is.run_is is.world_is in
+      subst (λ l. IsTaken l account call (answer_to (tests_by dig) (rules_of world.chain) l call)) (sym log)
+      (starts_are_taken dig (rules_of world.chain) (events_of run.entries) w account call
+      (legal dig lines run world is) offer start held)

@@ -40,7 +40,7 @@ use Rattle.watch_duty.proofs.GuardLinks.{Rises, rises-from, has-above, IsOpened,
 use Rattle.world_rules.specs.Events.{Event, Watches, Leaves, Seals, log_of, coin_of_call, wallet_owner, accepted, is_command_of, offered, offers_of}
 use Rattle.world_rules.specs.Deeds.{exit_block}
 use Rattle.world_rules.specs.Safety.{holds}
-use Rattle.world_laws.specs.Headline.{is_start, IsTaken}
+use Rattle.world_laws.specs.Headline.{is_start, starter, IsTakenAt, IsTaken}
 use Rattle.world_laws.specs.Legal.{ShowsTip, Taken, Bare, LegalLeave, IsLegal}
 use Rattle.world_laws.specs.LegalLaws.{LegalStartsAreTaken}
 use Rattle.world_laws.proofs.Lists.{some_same}
@@ -53,28 +53,34 @@ use Rattle.node_rules.specs.Watcher.{due_for_kept}
 
 -- ---- answers
 
-skip : (cause : Bool) (why : Refusal) (causes : List Cause) (effect : Answer) → cause ≡ false
-    → IsTaken (decided causes effect) → IsTaken (decided ((cause, why) ∷ causes) effect)
-skip cause why causes effect off rest =
-    subst (λ (b : Bool). IsTaken (if b then Refused why else decided causes effect)) (sym off) rest
+skip : (P : Answer → Type 0) (cause : Bool) (why : Refusal) (causes : List Cause) (effect : Answer) → cause ≡ false
+    → P (decided causes effect) → P (decided ((cause, why) ∷ causes) effect)
+skip P cause why causes effect off rest =
+    subst (λ (b : Bool). P (if b then Refused why else decided causes effect)) (sym off) rest
 
 -- none of the causes holds
-skip-all : (causes rest : List Cause) (effect : Answer) → AllByRecursion (λ cause. cause.0 ≡ false) causes
-    → IsTaken (decided rest effect) → IsTaken (decided (causes ++ rest) effect)
-skip-all [] rest effect off taken = taken
-skip-all (cause ∷ causes) rest effect off taken =
-    skip cause.0 cause.1 (causes ++ rest) effect off.0 (skip-all causes rest effect off.1 taken)
+skip-all : (P : Answer → Type 0) (causes rest : List Cause) (effect : Answer)
+    → AllByRecursion (λ cause. cause.0 ≡ false) causes → P (decided rest effect)
+    → P (decided (causes ++ rest) effect)
+skip-all P [] rest effect off taken = taken
+skip-all P (cause ∷ causes) rest effect off taken =
+    skip P cause.0 cause.1 (causes ++ rest) effect off.0 (skip-all P causes rest effect off.1 taken)
 
 -- where the exit stands or the money is missing at most
-last-causes : (stands : Bool) (log : List RootCall) (account : ℕ) (effect : Answer) → is_accepted effect ≡ true
-    → IsTaken (decided ((stands, ExitStands) ∷ too_poor log account EXIT_BOND ∷ []) effect)
-last-causes true log account effect is = inr (inl refl)
-last-causes false log account effect is =
-    (elim (nat_lt (balance_of log account) EXIT_BOND) as (λ b. nat_lt (balance_of log account) EXIT_BOND ≡ b
-    → IsTaken (if b then Refused (NoFunds (balance_of log account) EXIT_BOND) else effect)) [
-      | true ↦ λ poor. inr (inr (balance_of log account, refl, ltb-true _ _ poor))
-      | false ↦ λ rich. inl is
-    ]) refl
+last-causes : (log : List RootCall) (account c e : ℕ) (effect : Answer) → is_accepted effect ≡ true
+    → IsTakenAt log account c e
+    (decided ((is_some (exit_at log c e), ExitStands) ∷ too_poor log account EXIT_BOND ∷ []) effect)
+last-causes log account c e effect is = by (is_some (exit_at log c e)) refl
+  where
+    by : (stands : Bool) → is_some (exit_at log c e) ≡ stands
+        → IsTakenAt log account c e (decided ((stands, ExitStands) ∷ too_poor log account EXIT_BOND ∷ []) effect)
+    by true stands = inr (inl (refl, stands))
+    by false stands =
+        (elim (nat_lt (balance_of log account) EXIT_BOND) as (λ b. nat_lt (balance_of log account) EXIT_BOND ≡ b
+        → IsTakenAt log account c e (if b then Refused (NoFunds (balance_of log account) EXIT_BOND) else effect)) [
+          | true ↦ λ poor. inr (inr (refl, ltb-true _ _ poor))
+          | false ↦ λ rich. inl is
+        ]) refl
 
 -- ---- the last link, and those before it
 
@@ -128,43 +134,43 @@ module _ (tests : Tests) (rules : Rules) (log : List RootCall) (b : Bundle) (mad
   With front = record (links_of rules made b) { spends = front }
 
   deposit-taken : b.tip ≡ made.deposit → me.account ≡ made.owner.account
-      → IsTaken (answer_to tests rules log (StartDeposit me.account b.coin b.tip))
+      → IsTakenAt log me.account b.coin b.tip (answer_to tests rules log (StartDeposit me.account b.coin b.tip))
   unfolding answer_to
   deposit-taken tip account =
-      subst (λ (o : Option CoinView). IsTaken (where_coin o (λ coin. decided
+      subst (λ (o : Option CoinView). IsTakenAt log me.account b.coin b.tip (where_coin o (λ coin. decided
       (start_deposit_causes log me.account b.coin b.tip coin) (Started (now log + EXIT_PERIOD))))) (sym found)
-      (skip-all
+      (skip-all (IsTakenAt log me.account b.coin b.tip)
       ((is_withdrawn log b.coin, Withdrawn) ∷ (not (b.tip == made.deposit), BadBlock)
       ∷ (not (me.account == made.owner.account), NotOwner) ∷ [])
       ((is_some (exit_at log b.coin b.tip), ExitStands) ∷ too_poor log me.account EXIT_BOND ∷ [])
       (Started (now log + EXIT_PERIOD))
       (alive, (not_from_true _ (eq-eqb b.tip made.deposit tip),
       (not_from_true _ (eq-eqb me.account made.owner.account account), tt)))
-      (last-causes (is_some (exit_at log b.coin b.tip)) log me.account (Started (now log + EXIT_PERIOD)) refl))
+      (last-causes log me.account b.coin b.tip (Started (now log + EXIT_PERIOD)) refl))
 
   spend-taken : (parent : Shown) (owner : Owner) (exit : RawOpening) (tx : SignedTx)
       → shown_owner tests rules log b.coin parent ≡ Some owner → ShowsTx tests rules log b.coin exit tx
       → is_committed_after log made.deposit exit.block ≡ true → is_parent_of log made exit.block parent ≡ true
       → tx.body.parent ≡ block_of parent → tests.is_signed tx owner ≡ true → tx.body.to.account ≡ me.account
-      → IsTaken (answer_to tests rules log (StartSpend me.account b.coin parent exit))
+      → IsTakenAt log me.account b.coin exit.block (answer_to tests rules log (StartSpend me.account b.coin parent exit))
   unfolding answer_to
   spend-taken parent owner exit tx owner_is shown committed fits child signed to =
       let spend = transfers_are_shown tests rules log b.coin exit tx shown in
       let effect : Answer = Started (now log + EXIT_PERIOD) in
-      subst (λ (o : Option CoinView). IsTaken (where_coin o (λ coin. decided
+      subst (λ (o : Option CoinView). IsTakenAt log me.account b.coin exit.block (where_coin o (λ coin. decided
       (start_spend_causes tests log me.account b.coin parent exit.block (shown_owner tests rules log b.coin parent)
       (shown_tx tests rules log b.coin exit) coin) (Started (now log + EXIT_PERIOD))))) (sym found)
-      (subst (λ (p : Option Owner × Option SignedTx). IsTaken (decided
+      (subst (λ (p : Option Owner × Option SignedTx). IsTakenAt log me.account b.coin exit.block (decided
       (start_spend_causes tests log me.account b.coin parent exit.block p.0 p.1 made)
       (Started (now log + EXIT_PERIOD)))) (λ i. (sym owner_is i, sym spend i))
-      (skip-all
+      (skip-all (IsTakenAt log me.account b.coin exit.block)
       ((is_withdrawn log b.coin, Withdrawn) ∷ (not (may_exit_at log made parent exit.block), BadBlock)
       ∷ (false, BadOpening) ∷ (not (tx.body.parent == block_of parent), NotChild)
       ∷ (not (tests.is_signed tx owner), BadSignature) ∷ (not (tx.body.to.account == me.account), NotOwner) ∷ [])
       ((is_some (exit_at log b.coin exit.block), ExitStands) ∷ too_poor log me.account EXIT_BOND ∷ []) effect
       (alive, (not_from_true _ (and_from _ _ committed fits), (refl, (not_from_true _ (eq-eqb _ _ child),
       (not_from_true _ signed, (not_from_true _ (eq-eqb _ _ to), tt))))))
-      (last-causes (is_some (exit_at log b.coin exit.block)) log me.account effect refl)))
+      (last-causes log me.account b.coin exit.block effect refl)))
 
   -- a link of the history is shown, and committed after the deposit
   link-shown : (link : Link) → Has (links_in rules b.coin b.openings) link
@@ -177,7 +183,7 @@ module _ (tests : Tests) (rules : Rules) (log : List RootCall) (b : Bundle) (mad
 
   by_parent : (link : Link) (front : List Link) → links_in rules b.coin b.openings ≡ front ++ link ∷ []
       → link.tx.body.to ≡ me → (p : Option Link) → slice_get front (length front - 1) ≡ p
-      → IsTaken (answer_to tests rules log (StartSpend me.account b.coin
+      → IsTakenAt log me.account b.coin link.opening.block (answer_to tests rules log (StartSpend me.account b.coin
       (option_map_or (λ (l : Link). Spend l.opening) p (AtDeposit made.deposit)) link.opening))
   by_parent link front whole to p p_is =
       by_case p p_is
@@ -191,7 +197,7 @@ module _ (tests : Tests) (rules : Rules) (log : List RootCall) (b : Bundle) (mad
           (subst (AreLinked tests made.deposit made.owner) whole linked)
 
       by_case : (o : Option Link) → slice_get front (length front - 1) ≡ o
-          → IsTaken (answer_to tests rules log (StartSpend me.account b.coin
+          → IsTakenAt log me.account b.coin link.opening.block (answer_to tests rules log (StartSpend me.account b.coin
           (option_map_or (λ (l : Link). Spend l.opening) o (AtDeposit made.deposit)) link.opening))
       by_case None none =
           let s = link-shown link last-has in
@@ -223,11 +229,13 @@ module _ (tests : Tests) (rules : Rules) (log : List RootCall) (b : Bundle) (mad
           (lt-ltb _ _ (omega (arith, less, r.1, s.1)))) (chain.0 ∙ at ∙ sym r.1)
           (subst (λ w. tests.is_signed link.tx w ≡ true) owner chain.1) (ap (λ (w : Owner). w.account) to)
 
-  start-taken : IsTaken (answer_to tests rules log (start_of me.account b.tip (links_of rules made b)))
+  start-taken : IsTaken log me.account (start_of me.account b.tip (links_of rules made b))
+      (answer_to tests rules log (start_of me.account b.tip (links_of rules made b)))
   start-taken = by_last (last_spend (links_of rules made b)) refl
     where
       by_last : (o : Option Link) → last_spend (links_of rules made b) ≡ o
-          → IsTaken (answer_to tests rules log (start_by me.account b.tip (links_of rules made b) o))
+          → IsTaken log me.account (start_by me.account b.tip (links_of rules made b) o)
+          (answer_to tests rules log (start_by me.account b.tip (links_of rules made b) o))
       by_last None none =
           deposit-taken
           (sym end ∙ ap (λ (o : Option Link). option_map_or (λ (l : Link). l.block) o made.deposit) none)
@@ -237,7 +245,8 @@ module _ (tests : Tests) (rules : Rules) (log : List RootCall) (b : Bundle) (mad
           let r = split (links_in rules b.coin b.openings) link some in
           let to : link.tx.body.to ≡ me =
           sym (ap (λ (o : Option Link). option_map_or (λ (l : Link). l.tx.body.to) o made.owner) some) ∙ mine in
-          subst (λ (ls : List Link). IsTaken (answer_to tests rules log (StartSpend me.account b.coin
+          subst (λ (ls : List Link). IsTakenAt log me.account b.coin link.opening.block
+          (answer_to tests rules log (StartSpend me.account b.coin
           (tip_shown (record (links_of rules made b) { spends = ls })) link.opening))) (sym r.taken)
           (by_parent link r.front r.whole to (slice_get r.front (length r.front - 1)) refl)
 
@@ -342,11 +351,20 @@ start-coin account tip links = by_last (last_spend links)
     by_last None = refl
     by_last (Some link) = refl
 
+-- its account
+start-starter : (account tip : ℕ) (links : Links) → starter (start_of account tip links) ≡ Some account
+start-starter account tip links = by_last (last_spend links)
+  where
+    by_last : (o : Option Link) → starter (start_by account tip links o) ≡ Some account
+    by_last None = refl
+    by_last (Some link) = refl
+
 pub starts_are_taken : LegalStartsAreTaken
-starts_are_taken dig rules events w call legal offer start held =
+starts_are_taken dig rules events w account call legal offer start held =
     let tests : Tests = tests_by dig in
     let log : List RootCall = log_of events in
-    let k = start-offered tests rules events w call legal (contains-has (offers_of events w) call offer) start in
+    let k = start-offered tests rules events w call legal (contains-has (offers_of events w) call offer)
+        (ap is_some start) in
     let h = k.kept.history in
     let own : Links = links_of rules h.made k.bundle in
     let coin : coin_of_call call ≡ k.bundle.coin = ap coin_of_call k.call_is
@@ -355,10 +373,13 @@ starts_are_taken dig rules events w call legal offer start held =
     ap (is_withdrawn log) (sym coin) ∙ (holding events w (coin_of_call call) (exit_block call) held).not_withdrawn in
     let call_is : start_of k.me.account k.bundle.tip own ≡ call =
     ap (start_of k.me.account k.bundle.tip) (sym h.shown) ∙ sym k.call_is in
-    subst (λ x. IsTaken (answer_to (tests_by dig) rules (log_of events) x)) call_is
+    let account_is : k.me.account ≡ account = some_same k.me.account account
+    (sym (start-starter k.me.account k.bundle.tip own) ∙ ap starter call_is ∙ start) in
+    subst (λ a. IsTaken log a call (answer_to (tests_by dig) rules (log_of events) call)) account_is
+    (subst (λ x. IsTaken log k.me.account x (answer_to (tests_by dig) rules (log_of events) x)) call_is
     (start-taken tests rules log k.bundle h.made k.me h.coin
     (recursion_from_All (λ o. opens_block tests log k.bundle.coin o ≡ true) k.bundle.openings h.opened)
     (subst (λ (l : Links). AreLinked tests l.deposit l.owner l.spends) h.shown h.linked)
     (subst (λ (l : Links). Rises l.deposit l.spends) h.shown
     (rises-from k.kept.links.deposit k.kept.links.spends (links_rise tests rules log k.bundle k.kept.links h)))
-    (ap tip_of (sym h.shown) ∙ h.tip) (ap last_owner_of (sym h.shown) ∙ k.mine) alive)
+    (ap tip_of (sym h.shown) ∙ h.tip) (ap last_owner_of (sym h.shown) ∙ k.mine) alive))

@@ -174,15 +174,17 @@ starter call = None
 abbrev pub is_start : RootCall → Bool
 is_start call = is_some (starter call)
 
--- the answer accepts a start by the account; or the exit stands, or the balance is less than the bond, and the answer
--- says so
-abbrev pub IsTaken : List RootCall → ℕ → RootCall → Answer → Type 0
-IsTaken log account call answer =
+-- the answer accepts a start of the coin's exit at a block by the account; or the exit stands, or the balance is less
+-- than the bond, and the answer says so
+abbrev pub IsTakenAt : List RootCall → ℕ → ℕ → ℕ → Answer → Type 0
+IsTakenAt log account c e answer =
     (is_accepted answer ≡ true)
-    ⊎ ((answer ≡ Answer.Refused Refusal.ExitStands)
-    × (is_some (exit_at log (coin_of_call call) (exit_block call)) ≡ true))
+    ⊎ ((answer ≡ Answer.Refused Refusal.ExitStands) × (is_some (exit_at log c e) ≡ true))
     ⊎ ((answer ≡ Answer.Refused (Refusal.NoFunds (balance_of log account) EXIT_BOND))
     × (balance_of log account < EXIT_BOND))
+
+abbrev pub IsTaken : List RootCall → ℕ → RootCall → Answer → Type 0
+IsTaken log account call answer = IsTakenAt log account (coin_of_call call) (exit_block call) answer
 
 -- A start that a wallet offers is taken while the wallet holds the coin at the exit's block, but where the exit stands
 -- or the money is missing.

@@ -13,7 +13,7 @@ use Rattle.world_rules.specs.Exhibits.{collides, is_forged, exhibit_of}
 use Rattle.world_rules.specs.Safety.{holds, is_attended, is_safe}
 use Rattle.world_rules.specs.Verdicts.{verdict_at}
 use Rattle.world_rules.specs.Laws.{IsDigest}
-use Rattle.world_laws.specs.Headline.{was_declared_before, fresh_offers, lacks_bond, is_start, IsTaken}
+use Rattle.world_laws.specs.Headline.{was_declared_before, fresh_offers, lacks_bond, starter, IsTaken}
 use Rattle.world_laws.specs.Legal.{IsLegal}
 
 -- The coin that a wallet holds is safe at each event. Unless the events up to it show, at this coin, two byte strings
@@ -57,7 +57,8 @@ LegalLostIsExhibited = (dig : List ℕ → List ℕ) (rules : Rules) (events : L
 -- A start that a wallet offers is taken while the wallet holds the coin at the exit's block, but where the exit stands
 -- or the money is missing.
 abbrev pub LegalStartsAreTaken : Type 0
-LegalStartsAreTaken = (dig : List ℕ → List ℕ) (rules : Rules) (events : List Event) (w : ℕ) (call : RootCall)
-    → IsLegal (tests_by dig) rules events → Contains (offers_of events w) call → is_start call ≡ true
+LegalStartsAreTaken = (dig : List ℕ → List ℕ) (rules : Rules) (events : List Event) (w account : ℕ)
+    (call : RootCall)
+    → IsLegal (tests_by dig) rules events → Contains (offers_of events w) call → starter call ≡ Some account
     → holds events w (coin_of_call call) (exit_block call) ≡ true
-    → IsTaken (answer_to (tests_by dig) rules (log_of events) call)
+    → IsTaken (log_of events) account call (answer_to (tests_by dig) rules (log_of events) call)

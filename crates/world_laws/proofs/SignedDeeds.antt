@@ -1,0 +1,296 @@
+-- What a wallet's command gives out that is answered with a leaf is the body that the leaf binds, with the signature.
+use Rattle.std.proofs.Common.{◌≡◌, ℕ, ◌^◌, ◌<◌, ◌&&◌, not, Bool, true, false, if◌then◌else◌, List, [], ◌∷◌, ◌++◌, Option, Some, None, Ok, Err, inl, inr, refl, sym, ap, ◌∙◌, subst, bytes_eq}
+use Rattle.std.specs.Prelude.{Result, IfSome, slice_get, unwrap_or, option_map}
+use Rattle.std.proofs.lemmas.Bool.{and_parts, eq-eqb}
+use Rattle.line_forms.specs.declared.tokens.OutcomeToken.{OutcomeToken}
+use Rattle.line_forms.proofs.FormLaws.{option_map_some}
+use Rattle.gate_journal.specs.Laws.{is_added}
+use Rattle.leaf_journal.specs.Records.{messages_of}
+use Rattle.lms_sign.specs.Tree.{signature_of}
+use Rattle.plasma_tx.specs.declared.owner.Owner.{Owner}
+use Rattle.plasma_tx.specs.declared.body.Body.{Body}
+use Rattle.plasma_tx.specs.declared.call.RootCall.{RootCall}
+use Rattle.plasma_tx.specs.Spelling.{IsBody, body_text, body_at_start}
+use Rattle.schedule_text.specs.declared.line.Line.{Line}
+use Rattle.schedule_text.specs.declared.command.Command.{Command}
+use Rattle.schedule_text.specs.declared.command.WalletCommand.{WalletCommand}
+use Rattle.schedule_text.specs.Grammar.{IsLine}
+use Rattle.wallet_core.specs.declared.coin_state.CoinState.TheVariants.{Held}
+use Rattle.node_rules.specs.declared.answers.Sent.{Sent}
+use Rattle.node_rules.specs.declared.refusal.WalletRefusal.{WalletRefusal}
+use Rattle.node_rules.specs.WalletRecords.{who_is, secret_of, leaves_in}
+use Rattle.node_rules.specs.Wallet.{WalletRecords, WalletEffect, who, used, coin_state, last_leaf, accept_effect, send_effect, again_by, again_answer, leave_effect, reclaim_effect, migrate_effect}
+use Rattle.node_rules.specs.WalletCommandLaws.{sent_body}
+use Rattle.node_rules.proofs.WalletGrow.{wallet-parts}
+use Rattle.node_rules.proofs.WalletTips.{tag-long, tip-fits}
+use Rattle.node_rules.proofs.WalletRole.{held-tip}
+use Rattle.world_rules.specs.declared.reply.Reply.{Reply}
+use Rattle.world_rules.specs.Causes.{wallet_cause}
+use Rattle.world_rules.specs.Events.{Event, Binds, Watches, Leaves, Seals, Other, bound_by, leaf_at}
+use Rattle.world_rules.specs.World.{Node, World, with_node, is_named, is_wallet_role, number_of, wallet_of, bytes_of, new_owner_of}
+use Rattle.world_rules.specs.Deeds.{Gives, Deed, answered, on_accepted, on_sent, on_sent_again, on_leaving, on_reclaimed, on_migrated, send_deed, wallet_command, deed_of}
+use Rattle.world_rules.specs.Steps.{LineEffect, says, is_opening, with_records, after_crash, answers_down, commanded, down, is_stopped, outcome_of, without_offers, stopped, finished, cut, command_effect, cut_effect, effect_in}
+use Rattle.world_rules.specs.Laws.{IsCommandIn}
+use Rattle.world_rules.proofs.Existence.{position-is}
+use Rattle.world_rules.proofs.FitLines.{command-fit, cut-fit}
+use Rattle.world_rules.proofs.KeptNode.{IsGoodOwner, IsFitWallet}
+use Rattle.world_rules.proofs.KeptWallet.{KeptWallet}
+use Rattle.world_rules.proofs.KeptWorld.{KeptWorld, to-owner, few-blocks}
+use Rattle.world_rules.proofs.Said.{said}
+use Rattle.world_rules.proofs.Shapes.{acted}
+use Rattle.world_rules.proofs.WalletEnds.{SendEnds, Refused, Sends, send_ends}
+use Rattle.world_rules.proofs.WalletSends.{body-signed, words}
+use Rattle.world_laws.proofs.Lists.{some_same}
+use Rattle.world_laws.proofs.SignedMessages.{leaf-newest, used-is, message-body, last-message}
+
+-- The bytes are the text of the body that leaf q of node n binds, with the event, and the signature of it by that leaf.
+pub record IsMade (events : List Event) (n : ℕ) (node : Node) (event : Event) (made : List ℕ) (q : ℕ) : Type 0 where
+  pub body : Body
+  pub leaf : leaf_at q (bound_by (event ∷ events) n) ≡ Some body
+  pub made_is : made ≡ body_text body ++ signature_of (secret_of (who_is node.notes)) q (body_text body)
+
+-- in a cut the event binds the same
+pub cut-bound : (n m : ℕ) (event : Event) (events : List Event)
+    → bound_by (without_offers n event ∷ events) m ≡ bound_by (event ∷ events) m
+unfolding bound_by
+cut-bound n m (Watches k calls) events = refl
+cut-bound n m (Leaves k call) events = refl
+cut-bound n m (Seals call) events = refl
+cut-bound n m event events = refl
+
+-- ---- a wallet's commands
+
+module _ (dig : List ℕ → List ℕ) (events : List Event) (world : World) (kept : KeptWorld dig events world) (n : ℕ)
+    (node : Node) (node_is : slice_get world.nodes n ≡ Some node) (role : is_wallet_role node.role ≡ true) where
+  abbrev wallet : WalletRecords
+  wallet = wallet_of node
+
+  abbrev log : List RootCall
+  log = world.chain.log
+
+  abbrev Makes : Gives → Type 0
+  Makes gives = (q : ℕ) → gives.reply ≡ Reply.Sent q → IsMade events n node gives.event gives.made q
+
+  wallet-kept : KeptWallet dig (said events n) log wallet
+  wallet-kept = (kept.nodes n node node_is).wallet role
+
+  -- what isn't answered with a leaf
+  others : {A E : Type 0} (cause : E → List ℕ) (give : A → Gives)
+      → ((answer : A) (q : ℕ) → (give answer).reply ≡ Reply.Sent q → ⊥) → (result : Result A E)
+      → Makes (answered n cause give result)
+  others cause give never (Ok answer) q is = absurd (never answer q is)
+  others cause give never (Err why) q is = absurd (cc is)
+
+  -- a transfer that is signed
+  module _ (coin : ℕ) (to : Owner) (last : Option ℕ) (coin_fits : coin < 2 ^ 64) (good : IsGoodOwner to)
+      (last_fits : IfSome last (λ n. n < 2 ^ 64)) where
+    sent-is : (tip : ℕ) → coin_state dig wallet log coin ≡ Held tip → IsBody (sent_body wallet coin tip to last)
+    sent-is tip held = record {
+      tag = tag-long dig wallet.notes (wallet-parts dig wallet wallet-kept.is).role;
+      coin = coin_fits;
+      parent = tip-fits dig wallet log coin tip
+          (words dig (said events n) log wallet wallet-kept (few-blocks dig events world kept))
+          (held-tip dig wallet log coin tip held);
+      to = good.is;
+      last = last_fits;
+    }
+
+    sent-made : (body : Body) (signature : List ℕ) → IsBody body → (q : ℕ) → used wallet ≡ q
+        → leaf_at q (bound_by (Binds n (body_at_start (body_text body ++ signature)) ∷ events) n) ≡ Some body
+    unfolding bound_by said
+    sent-made body signature fits q number =
+        ap (λ b. leaf_at q (if b then body_at_start (body_text body ++ signature) ∷ bound_by events n
+        else bound_by events n)) (eq-eqb n n refl)
+        ∙ ap (λ (first : Body). leaf_at q (first ∷ bound_by events n)) (body-signed body signature fits)
+        ∙ leaf-newest (bound_by events n) q body
+        (sym number ∙ used-is dig (said events n) log wallet wallet-kept)
+
+    sends : Makes (answered n wallet_cause (on_sent n) (send_effect dig wallet log coin to last).answer)
+    sends = by (send_ends dig wallet log coin to last)
+      where
+        MakesBy : WalletEffect (Result Sent WalletRefusal) → Type 0
+        MakesBy effect = Makes (answered n wallet_cause (on_sent n) effect.answer)
+
+        by : SendEnds dig wallet log coin to last (send_effect dig wallet log coin to last)
+            → MakesBy (send_effect dig wallet log coin to last)
+        by (Refused why is) = subst MakesBy (sym is) (λ q wrong. absurd (cc wrong))
+        by (Sends tip held is) =
+            let body = sent_body wallet coin tip to last in
+            let sign : ℕ → List ℕ = λ q. signature_of (secret_of (who wallet)) q (body_text body) in
+            subst MakesBy (sym is)
+            (λ q same.
+            let number : used wallet ≡ q = cc same in
+            record {
+              body = body;
+              leaf = sent-made body (sign (used wallet)) (sent-is tip held) q number;
+              made_is = ap (λ (k : ℕ). body_text body ++ sign k) number;
+            })
+
+  -- a transfer that is made again
+  again : (coin : ℕ) → Makes (answered n wallet_cause (on_sent_again n) (again_answer wallet coin))
+  unfolding again_answer bound_by said
+  again coin = by (last_leaf (leaves_in wallet.leaves) coin) refl
+    where
+      of : (k q : ℕ) → last_leaf (leaves_in wallet.leaves) coin ≡ Some k → k ≡ q
+          → IsMade events n node (on_sent_again n (record { q = k; bytes = [] })).event
+          (unwrap_or (slice_get (messages_of wallet.leaves) k) []
+          ++ signature_of (secret_of (who wallet)) k (unwrap_or (slice_get (messages_of wallet.leaves) k) [])) q
+      of k q found same =
+          let there = last-message dig (said events n) log wallet wallet-kept coin k found in
+          let bound = message-body dig (said events n) log wallet wallet-kept k there.0 there.1 in
+          let text : unwrap_or (slice_get (messages_of wallet.leaves) k) [] ≡ body_text bound.body =
+          ap (λ (o : Option (List ℕ)). unwrap_or o []) there.1 ∙ bound.text in
+          record {
+            body = bound.body;
+            leaf = subst (λ (j : ℕ). leaf_at j (bound_by events n) ≡ Some bound.body) same bound.leaf;
+            made_is = λ i. text i ++ signature_of (secret_of (who wallet)) (same i) (text i);
+          }
+
+      by : (o : Option ℕ) → last_leaf (leaves_in wallet.leaves) coin ≡ o
+          → Makes (answered n wallet_cause (on_sent_again n) (again_by wallet o))
+      by None none q is = absurd (cc is)
+      by (Some k) found q is = of k q found (cc is)
+
+  wallet-makes : (own : WalletCommand) (deed : Deed) → IsFitWallet own
+      → wallet_command dig world n wallet own ≡ Some deed → Makes deed.gives
+  wallet-makes (WalletCommand.Accept bundle) deed fit is =
+      let bytes = bytes_of world bundle in
+      subst (λ (d : Deed). Makes d.gives) (some_same _ deed is)
+      (others wallet_cause (on_accepted n bytes) (λ taken q wrong. cc wrong) (accept_effect dig wallet log bytes).answer)
+  wallet-makes (WalletCommand.Send coin to last) deed fit is =
+      let found = option_map_some (send_deed dig world n wallet coin last) (new_owner_of world to) deed is in
+      subst (λ (d : Deed). Makes d.gives) found.2
+      (sends coin found.0 last fit.0 (to-owner dig events world kept to found.0 fit.1 found.1) fit.2)
+  wallet-makes (WalletCommand.Again coin) deed fit is =
+      subst (λ (d : Deed). Makes d.gives) (some_same _ deed is) (again coin)
+  wallet-makes (WalletCommand.Leave coin) deed fit is =
+      subst (λ (d : Deed). Makes d.gives) (some_same _ deed is)
+      (others wallet_cause (on_leaving n) (λ call q wrong. cc wrong) (leave_effect dig wallet log coin).answer)
+  wallet-makes (WalletCommand.Reclaim bundle) deed fit is =
+      let bytes = bytes_of world bundle in
+      subst (λ (d : Deed). Makes d.gives) (some_same _ deed is)
+      (others wallet_cause (on_reclaimed n bytes) (λ taken q wrong. cc wrong)
+      (reclaim_effect dig wallet log bytes).answer)
+  wallet-makes WalletCommand.Migrate deed fit is =
+      subst (λ (d : Deed). Makes d.gives) (some_same _ deed is)
+      (others wallet_cause (on_migrated n) (λ done q wrong. cc wrong) (migrate_effect wallet).answer)
+
+  deed-makes : (name : List ℕ) (own : WalletCommand) (deed : Deed) → IsFitWallet own
+      → deed_of dig world n node (Command.Wallet name own) ≡ Some deed → Makes deed.gives
+  unfolding deed_of
+  deed-makes name own deed fit is = wallet-makes own deed fit is
+
+  -- so does a line with the command, cut or not
+  abbrev MakesLine : LineEffect → Type 0
+  MakesLine effect = (q : ℕ) → effect.reply ≡ Reply.Sent q → IsMade events n node effect.event effect.made q
+
+  pub command-makes : (name : List ℕ) (own : WalletCommand) (effect : LineEffect) → IsFitWallet own
+      → command_effect dig world (Command.Wallet name own) n node ≡ Some effect → MakesLine effect
+  command-makes name own effect fit is = at (answers_down node (Command.Wallet name own)) is
+    where
+      at : (b : Bool)
+          → (if b then Some (down world)
+          else option_map (commanded world n node) (deed_of dig world n node (Command.Wallet name own))) ≡ Some effect
+          → MakesLine effect
+      at true is = subst MakesLine (some_same _ effect is) (λ q wrong. absurd (cc wrong))
+      at false is =
+          let found = option_map_some (commanded world n node) (deed_of dig world n node (Command.Wallet name own))
+          effect is in
+          subst MakesLine found.2 (deed-makes name own found.0 fit found.1)
+
+  cut-makes : (calls : ℕ) (outcome : OutcomeToken) (command : Command) (deed : Deed) → Makes deed.gives
+      → MakesLine (cut world n node calls outcome command deed)
+  cut-makes calls outcome command deed makes =
+      (elim (is_stopped calls node command deed) as (λ b. MakesLine
+      (if b then stopped world n node calls outcome command deed else finished world n node deed)) [
+        | true ↦ by (not (is_opening command) && is_added calls (outcome_of outcome))
+        | false ↦ λ q is.
+            let made = makes q is in
+            record {
+              body = made.body;
+              leaf = ap (leaf_at q) (cut-bound n n deed.gives.event events) ∙ made.leaf;
+              made_is = made.made_is;
+            }
+      ])
+    where
+      by : (b : Bool) → MakesLine
+          (if b
+          then says Reply.Stopped (without_offers n deed.gives.event)
+          (with_node world n (after_crash (with_records node deed)))
+          else says Reply.Stopped (Other n) (with_node world n (after_crash node)))
+      by true q wrong = absurd (cc wrong)
+      by false q wrong = absurd (cc wrong)
+
+  pub cut-line-makes : (calls : ℕ) (outcome : OutcomeToken) (name : List ℕ) (own : WalletCommand)
+      (effect : LineEffect) → IsFitWallet own
+      → cut_effect dig world calls outcome (Command.Wallet name own) n node ≡ Some effect → MakesLine effect
+  cut-line-makes calls outcome name own effect fit is = at (answers_down node command) is
+    where
+      command : Command
+      command = Command.Wallet name own
+
+      at : (b : Bool)
+          → (if b then Some (down world)
+          else option_map (cut world n node calls outcome command) (deed_of dig world n node command)) ≡ Some effect
+          → MakesLine effect
+      at true is = subst MakesLine (some_same _ effect is) (λ q wrong. absurd (cc wrong))
+      at false is =
+          let found = option_map_some (cut world n node calls outcome command) (deed_of dig world n node command)
+          effect is in
+          subst MakesLine found.2
+          (cut-makes calls outcome command found.0 (deed-makes name own found.0 fit found.1))
+
+-- ---- a line
+
+-- the line is a command of the wallet with the name, which makes what the leaf binds
+pub record IsNew (events : List Event) (world : World) (effect : LineEffect) (name : List ℕ) (q : ℕ) : Type 0 where
+  pub n : ℕ
+  pub node : Node
+  pub number : number_of is_wallet_role world name ≡ Some n
+  pub node_is : slice_get world.nodes n ≡ Some node
+  pub made : IsMade events n node effect.event effect.made q
+
+module _ (dig : List ℕ → List ℕ) (events : List Event) (world : World) (kept : KeptWorld dig events world) where
+  -- the node has a role that passes
+  pub named-role : (name : List ℕ) (n : ℕ) (node : Node) → number_of is_wallet_role world name ≡ Some n
+      → slice_get world.nodes n ≡ Some node → is_wallet_role node.role ≡ true
+  named-role name n node number at =
+      let found = position-is (is_named is_wallet_role name) world.nodes n number in
+      let same : found.0 ≡ node = some_same found.0 node (sym found.1 ∙ at) in
+      (and_parts (bytes_eq node.name name) (is_wallet_role node.role)
+      (ap (is_named is_wallet_role name) (sym same) ∙ found.2)).1
+
+  pub new-sent : (line : Line) (effect : LineEffect) (name : List ℕ) (own : WalletCommand) (q : ℕ) → IsLine line
+      → effect_in dig world line ≡ Some effect → IsCommandIn line (Command.Wallet name own)
+      → effect.reply ≡ Reply.Sent q → IsNew events world effect name q
+  unfolding effect_in
+  new-sent line effect name own q fits is (inl plain) sent =
+      let command = Command.Wallet name own in
+      let made : effect_in dig world (Line.Command command) ≡ Some effect = ap (effect_in dig world) (sym plain) ∙ is in
+      let fit : IsFitWallet own = command-fit command (subst IsLine plain fits) in
+      let found = acted dig world is_wallet_role name (command_effect dig world command) effect made in
+      record {
+        n = found.0;
+        node = found.1;
+        number = found.2;
+        node_is = found.3;
+        made = command-makes dig events world kept found.0 found.1 found.3
+            (named-role name found.0 found.1 found.2 found.3) name own effect fit found.4 q sent;
+      }
+  new-sent line effect name own q fits is (inr in_cut) sent =
+      let command = Command.Wallet name own in
+      let calls = in_cut.1 in
+      let outcome = in_cut.2 in
+      let cut_is = in_cut.3 in
+      let made : effect_in dig world (Line.Cut in_cut.0 calls outcome command) ≡ Some effect =
+      ap (effect_in dig world) (sym cut_is) ∙ is in
+      let fit : IsFitWallet own = cut-fit in_cut.0 calls outcome command (subst IsLine cut_is fits) in
+      let found = acted dig world is_wallet_role name (cut_effect dig world calls outcome command) effect made in
+      record {
+        n = found.0;
+        node = found.1;
+        number = found.2;
+        node_is = found.3;
+        made = cut-line-makes dig events world kept found.0 found.1 found.3
+            (named-role name found.0 found.1 found.2 found.3) calls outcome name own effect fit found.4 q sent;
+      }

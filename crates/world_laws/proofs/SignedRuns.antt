@@ -1,0 +1,338 @@
+-- Over every run, what a wallet's node gave out is what its leaf binds, so no leaf of its key signs two messages.
+use Rattle.std.proofs.Common.{◌≡◌, ℕ, zero, suc, true, List, [], ◌∷◌, ◌++◌, slice_get, find, Option, Some, None, inl, inr, refl, sym, ap, ◌∙◌, subst}
+use Rattle.std.specs.Prelude.{option_map, option_and_then}
+use Rattle.std.specs.Option.{option_or}
+use Rattle.std.specs.List.{filter_map, cons_option}
+use Rattle.std.proofs.lemmas.Bool.{false≢true}
+use Rattle.std.proofs.lemmas.List.Folds.{find_at}
+use Rattle.line_forms.proofs.FormLaws.{and_then_some, option_map_some}
+use Rattle.lms_sign.specs.Tree.{signature_of}
+use Rattle.plasma_tx.specs.declared.owner.Owner.{Owner}
+use Rattle.plasma_tx.specs.declared.body.Body.{Body}
+use Rattle.plasma_tx.specs.Spelling.{body_text, body_at_start}
+use Rattle.schedule_text.specs.declared.line.Line.{Line}
+use Rattle.schedule_text.specs.declared.command.Command.{Command}
+use Rattle.schedule_text.specs.declared.command.WalletCommand.{WalletCommand}
+use Rattle.schedule_text.specs.Grammar.{IsLine}
+use Rattle.node_rules.specs.declared.identity.WalletIdentity.{WalletIdentity}
+use Rattle.node_rules.specs.WalletRecords.{secret_of, who_is}
+use Rattle.watch_duty.proofs.Members.{Has, has-contains, contains-has}
+use Rattle.world_rules.specs.declared.reply.Reply.{Reply}
+use Rattle.world_rules.specs.Events.{Event, bound_by, leaf_at}
+use Rattle.world_rules.specs.World.{Node, World, is_named, is_wallet_role, number_of, owner_of_node, owner_of_rogue, rogue_named, owner_named}
+use Rattle.world_rules.specs.Steps.{LineEffect, operator_node, new_chain, step, TraceEntry, entry_of, Run, events_of}
+use Rattle.world_rules.specs.Verdicts.{GivenOut, wallet_of_line, leaf_sent, given_by, given_out}
+use Rattle.world_rules.specs.Laws.{IsCommandIn}
+use Rattle.world_rules.proofs.Existence.{position-parts}
+use Rattle.world_rules.proofs.KeptRun.{run-kept}
+use Rattle.world_rules.proofs.KeptWorld.{KeptWorld}
+use Rattle.world_rules.proofs.NodeLaws.{records_grow}
+use Rattle.world_rules.proofs.Runs.{begun}
+use Rattle.world_rules.proofs.StepLaws.{stepped}
+use Rattle.world_laws.specs.Headline.{IsRun, GivenOutIsBound, LeavesSignOneMessage}
+use Rattle.world_laws.proofs.Lists.{some_same, none_some}
+use Rattle.world_laws.proofs.Origins.{does}
+use Rattle.world_laws.proofs.Acts.{over_lines}
+use Rattle.world_laws.proofs.SignedDeeds.{named-role, new-sent}
+use Rattle.world_laws.proofs.SignedStays.{stays, leaf-stays, KeysApart, keys-does}
+
+-- what there is is one
+one-of : {A : Type 0} (o : Option A) (x y : A) → o ≡ Some x → o ≡ Some y → x ≡ y
+one-of o x y one other = some_same x y (sym one ∙ other)
+
+-- ---- what holds of a run
+
+-- a wallet with the name is there, and the bytes are the body that its leaf binds, with the leaf's signature
+record IsSigned (events : List Event) (world : World) (name made : List ℕ) (q : ℕ) : Type 0 where
+  n : ℕ
+  node : Node
+  number : number_of is_wallet_role world name ≡ Some n
+  node_is : slice_get world.nodes n ≡ Some node
+  body : Body
+  leaf : leaf_at q (bound_by events n) ≡ Some body
+  made_is : made ≡ body_text body ++ signature_of (secret_of (who_is node.notes)) q (body_text body)
+
+-- so it is of each of these entries, behind the events
+abbrev AreSigned : List Event → List TraceEntry → World → Type 0
+AreSigned events entries world = (entry : TraceEntry) → Has entries entry → (name : List ℕ) (own : WalletCommand)
+    (q : ℕ) → IsCommandIn entry.line (Command.Wallet name own) → entry.reply ≡ Reply.Sent q
+    → IsSigned events world name entry.made q
+
+record IsSignedRun (entries : List TraceEntry) (world : World) : Type 0 where
+  signed : AreSigned (events_of entries) entries world
+  apart : KeysApart world.nodes
+
+-- the first line is no command, and there is no wallet yet
+first-signed : (tag operator most : ℕ)
+    → IsSignedRun (entry_of (Line.Chain tag operator most) (begun tag operator most) ∷ [])
+    (begun tag operator most).world
+first-signed tag operator most = record { signed = signed; apart = apart }
+  where
+    signed : AreSigned (events_of (entry_of (Line.Chain tag operator most) (begun tag operator most) ∷ []))
+        (entry_of (Line.Chain tag operator most) (begun tag operator most) ∷ []) (begun tag operator most).world
+    signed entry (inl same) name own q (inl plain) sent =
+        let wrong : Line.Chain tag operator most ≡ Line.Command (Command.Wallet name own) =
+        ap (λ (e : TraceEntry). e.line) same ∙ plain in
+        absurd (cc wrong)
+    signed entry (inl same) name own q (inr in_cut) sent =
+        let wrong : Line.Chain tag operator most ≡ Line.Cut in_cut.0 in_cut.1 in_cut.2 (Command.Wallet name own) =
+        ap (λ (e : TraceEntry). e.line) same ∙ in_cut.3 in
+        absurd (cc wrong)
+    signed entry (inr none) name own q in_command sent = absurd none
+
+    apart : KeysApart (operator_node (new_chain tag operator most) ∷ [])
+    apart zero m one other one_is other_is one_role other_role key =
+        absurd (false≢true (ap (λ (x : Node). is_wallet_role x.role) (some_same _ one one_is) ∙ one_role))
+    apart (suc n) m one other one_is other_is one_role other_role key = absurd (none_some one one_is)
+
+module _ (dig : List ℕ → List ℕ) (events : List Event) (entries : List TraceEntry) (world : World)
+    (kept : KeptWorld dig events world) (line : Line) (effect : LineEffect) (in_grammar : IsLine line)
+    (is : step dig (Some world) line ≡ Some effect) where
+  -- the entry of the line
+  newest-signed : (name : List ℕ) (own : WalletCommand) (q : ℕ) → IsCommandIn line (Command.Wallet name own)
+      → effect.reply ≡ Reply.Sent q → IsSigned (effect.event ∷ events) effect.world name effect.made q
+  newest-signed name own q in_command sent =
+      let made = stepped dig world line effect is in
+      let new = new-sent dig events world kept line made.bare name own q in_grammar made.bare_is in_command
+      (sym (ap (λ (e : LineEffect). e.reply) made.effect_is) ∙ sent) in
+      let stay = stays dig events world kept name new.n new.node new.number new.node_is effect.world.nodes
+      (records_grow dig world line effect is) in
+      record {
+        n = new.n;
+        node = stay.new;
+        number = stay.number;
+        node_is = stay.is_new;
+        body = new.made.body;
+        leaf = ap (λ (e : LineEffect). leaf_at q (bound_by (e.event ∷ events) new.n)) made.effect_is ∙ new.made.leaf;
+        made_is = ap (λ (e : LineEffect). e.made) made.effect_is ∙ new.made.made_is
+            ∙ ap (λ (w : WalletIdentity). body_text new.made.body
+            ++ signature_of (secret_of w) q (body_text new.made.body)) (sym stay.who);
+      }
+
+  -- and those before it
+  older-signed : (name made : List ℕ) (q : ℕ) → IsSigned events world name made q
+      → IsSigned (effect.event ∷ events) effect.world name made q
+  older-signed name made q old =
+      let stay = stays dig events world kept name old.n old.node old.number old.node_is effect.world.nodes
+      (records_grow dig world line effect is) in
+      record {
+        n = old.n;
+        node = stay.new;
+        number = stay.number;
+        node_is = stay.is_new;
+        body = old.body;
+        leaf = leaf-stays effect.event events old.n q old.body old.leaf;
+        made_is = old.made_is
+            ∙ ap (λ (w : WalletIdentity). body_text old.body ++ signature_of (secret_of w) q (body_text old.body))
+            (sym stay.who);
+      }
+
+  more-signed : AreSigned events entries world
+      → AreSigned (effect.event ∷ events) (entry_of line effect ∷ entries) effect.world
+  more-signed are entry (inl same) name own q in_command sent =
+      subst (λ (e : TraceEntry). IsSigned (effect.event ∷ events) effect.world name e.made q) same
+      (newest-signed name own q
+      (subst (λ (e : TraceEntry). IsCommandIn e.line (Command.Wallet name own)) (sym same) in_command)
+      (ap (λ (e : TraceEntry). e.reply) same ∙ sent))
+  more-signed are entry (inr has) name own q in_command sent =
+      older-signed name entry.made q (are entry has name own q in_command sent)
+
+  more-apart : KeysApart world.nodes → KeysApart effect.world.nodes
+  more-apart apart =
+      let made = stepped dig world line effect is in
+      subst (λ (e : LineEffect). KeysApart e.world.nodes) (sym made.effect_is)
+      (keys-does dig events world kept apart made.bare (does dig world line made.bare in_grammar made.keeps made.bare_is))
+
+next-signed : (dig : List ℕ → List ℕ) (lines : List Line) (run : Run) (world : World) (line : Line)
+    (effect : LineEffect) → IsRun dig lines run world → IsLine line → IsSignedRun run.entries world
+    → step dig (Some world) line ≡ Some effect → IsSignedRun (entry_of line effect ∷ run.entries) effect.world
+unfolding events_of
+next-signed dig lines run world line effect run_is in_grammar holds is =
+    let kept = (run-kept dig run_is.digest lines run run_is.lines_are run_is.run_is).world world run_is.world_is in
+    record {
+      signed = more-signed dig (events_of run.entries) run.entries world kept line effect in_grammar is holds.signed;
+      apart = more-apart dig (events_of run.entries) run.entries world kept line effect in_grammar is holds.apart;
+    }
+
+runs-signed : (dig : List ℕ → List ℕ) (lines : List Line) (run : Run) (world : World) → IsRun dig lines run world
+    → IsSignedRun run.entries world
+runs-signed dig lines run world run_is =
+    over_lines dig IsSignedRun first-signed (next-signed dig) lines run world run_is
+
+-- ---- what is given out
+
+module _ {X Y : Type 0} (read : X → Option Y) where
+  has-read : (xs : List X) (x : X) (y : Y) → Has xs x → read x ≡ Some y → Has (filter_map read xs) y
+  has-read [] x y has is = absurd has
+  has-read (z ∷ zs) x y (inl same) is =
+      subst (λ (o : Option Y). Has (cons_option o (filter_map read zs)) y) (sym (ap read same ∙ is)) (inl refl)
+  has-read (z ∷ zs) x y (inr has) is =
+      elim (read z) as (λ (o : Option Y). Has (cons_option o (filter_map read zs)) y) [
+        | None ↦ has-read zs x y has is
+        | Some w ↦ inr (has-read zs x y has is)
+      ]
+
+  read-from : (xs : List X) (y : Y) → Has (filter_map read xs) y → (x : X) × Has xs x × (read x ≡ Some y)
+  read-from [] y has = absurd has
+  read-from (z ∷ zs) y has =
+      (elim (read z) as (λ (o : Option Y). read z ≡ o → Has (cons_option o (filter_map read zs)) y
+      → (x : X) × Has (z ∷ zs) x × (read x ≡ Some y)) [
+        | None ↦ λ none later. let found = read-from zs y later in (found.0, inr found.1, found.2)
+        | Some w ↦ λ some there. elim there [
+          | inl same ↦ (z, inl refl, some ∙ ap Some same)
+          | inr later ↦ let found = read-from zs y later in (found.0, inr found.1, found.2)
+        ]
+      ]) refl has
+
+-- the wallet of a command's line, and the command of a wallet's
+wallet-of : (line : Line) (name : List ℕ) (own : WalletCommand) → IsCommandIn line (Command.Wallet name own)
+    → wallet_of_line line ≡ Some name
+wallet-of line name own (inl plain) = ap wallet_of_line plain
+wallet-of line name own (inr in_cut) = ap wallet_of_line in_cut.3
+
+command-of : (line : Line) (name : List ℕ) → wallet_of_line line ≡ Some name
+    → (own : WalletCommand) × IsCommandIn line (Command.Wallet name own)
+command-of (Line.Command (Command.Wallet other own)) name is =
+    (own, inl (ap (λ (n : List ℕ). Line.Command (Command.Wallet n own)) (some_same other name is)))
+command-of (Line.Cut node calls outcome (Command.Wallet other own)) name is = (
+  own,
+  inr (
+    node,
+    calls,
+    outcome,
+    ap (λ (n : List ℕ). Line.Cut node calls outcome (Command.Wallet n own)) (some_same other name is),
+  ),
+)
+command-of line name is = absurd (cc is)
+
+sent-of : (reply : Reply) (q : ℕ) → leaf_sent reply ≡ Some q → reply ≡ Reply.Sent q
+sent-of (Reply.Sent leaf) q is = ap Reply.Sent (some_same leaf q is)
+sent-of reply q is = absurd (cc is)
+
+-- the owner that a wallet's name stands for
+owner-of : (world : World) (name : List ℕ) (n : ℕ) (node : Node) → number_of is_wallet_role world name ≡ Some n
+    → slice_get world.nodes n ≡ Some node → owner_named world name ≡ Some (owner_of_node node)
+owner-of world name n node number node_is =
+    let named = is_named is_wallet_role name in
+    let found : find named world.nodes ≡ Some node =
+    find_at named world.nodes ∙ ap (slice_get world.nodes) (position-parts named world.nodes n number).0 ∙ node_is in
+    ap (λ (o : Option Node). option_or (option_map owner_of_node o) (option_map owner_of_rogue (rogue_named world name)))
+    found
+
+abbrev given-of : ℕ → List ℕ → Owner → GivenOut
+given-of leaf made owner = record { key = owner.key; leaf = leaf; bytes = made }
+
+given-by : (world : World) (entry : TraceEntry) (name : List ℕ) (own : WalletCommand) (q : ℕ) (owner : Owner)
+    → IsCommandIn entry.line (Command.Wallet name own) → entry.reply ≡ Reply.Sent q
+    → owner_named world name ≡ Some owner → given_by world entry ≡ Some (given-of q entry.made owner)
+given-by world entry name own q owner in_command sent owner_is =
+    ap (λ (r : Reply). option_and_then (λ leaf. option_map (given-of leaf entry.made)
+    (option_and_then (owner_named world) (wallet_of_line entry.line))) (leaf_sent r)) sent
+    ∙ ap (λ (o : Option (List ℕ)). option_map (given-of q entry.made) (option_and_then (owner_named world) o))
+    (wallet-of entry.line name own in_command)
+    ∙ ap (option_map (given-of q entry.made)) owner_is
+
+-- ---- the laws
+
+pub given_out_is_bound : GivenOutIsBound
+unfolding given_out
+given_out_is_bound dig lines run world entry name own q n node run_is has in_command sent number node_is =
+    let events = events_of run.entries in
+    let there = contains-has run.entries entry has in
+    let signed = (runs-signed dig lines run world run_is).signed entry there name own q in_command sent in
+    let same_n : signed.n ≡ n = one-of (number_of is_wallet_role world name) signed.n n signed.number number in
+    let same_node : signed.node ≡ node =
+    one-of (slice_get world.nodes signed.n) signed.node node signed.node_is
+    (ap (slice_get world.nodes) same_n ∙ node_is) in
+    record {
+      body = signed.body;
+      leaf = subst (λ (k : ℕ). leaf_at q (bound_by events k) ≡ Some signed.body) same_n signed.leaf;
+      made = signed.made_is
+          ∙ ap (λ (x : Node). body_text signed.body
+          ++ signature_of (secret_of (who_is x.notes)) q (body_text signed.body)) same_node;
+      given = has-contains (given_out world run.entries) (given-of q entry.made (owner_of_node node))
+          (has-read (given_by world) run.entries entry (given-of q entry.made (owner_of_node node)) there
+          (given-by world entry name own q (owner_of_node node) in_command sent
+          (owner-of world name n node number node_is)));
+    }
+
+-- whose the bytes are that were given out
+record IsOwn (events : List Event) (world : World) (given : GivenOut) : Type 0 where
+  n : ℕ
+  node : Node
+  node_is : slice_get world.nodes n ≡ Some node
+  role : is_wallet_role node.role ≡ true
+  key : given.key ≡ (owner_of_node node).key
+  body : Body
+  leaf : leaf_at given.leaf (bound_by events n) ≡ Some body
+  bytes : given.bytes ≡ body_text body ++ signature_of (secret_of (who_is node.notes)) given.leaf (body_text body)
+
+module _ (dig : List ℕ → List ℕ) (lines : List Line) (run : Run) (world : World) (run_is : IsRun dig lines run world)
+  where
+    own-from : (entry : TraceEntry) (name : List ℕ) (own : WalletCommand) (q : ℕ) (owner : Owner)
+        → Has run.entries entry → IsCommandIn entry.line (Command.Wallet name own) → entry.reply ≡ Reply.Sent q
+        → owner_named world name ≡ Some owner → IsOwn (events_of run.entries) world (given-of q entry.made owner)
+    own-from entry name own q owner has in_command sent owner_is =
+        let kept = (run-kept dig run_is.digest lines run run_is.lines_are run_is.run_is).world world run_is.world_is in
+        let signed = (runs-signed dig lines run world run_is).signed entry has name own q in_command sent in
+        let same : owner ≡ owner_of_node signed.node =
+        one-of (owner_named world name) owner (owner_of_node signed.node) owner_is
+        (owner-of world name signed.n signed.node signed.number signed.node_is) in
+        record {
+          n = signed.n;
+          node = signed.node;
+          node_is = signed.node_is;
+          role = named-role dig (events_of run.entries) world kept name signed.n signed.node signed.number
+              signed.node_is;
+          key = ap (λ (o : Owner). o.key) same;
+          body = signed.body;
+          leaf = signed.leaf;
+          bytes = signed.made_is;
+        }
+
+    own-of : (entry : TraceEntry) (given : GivenOut) → Has run.entries entry → given_by world entry ≡ Some given
+        → IsOwn (events_of run.entries) world given
+    own-of entry given has is =
+        let sent = and_then_some (λ leaf. option_map (given-of leaf entry.made)
+        (option_and_then (owner_named world) (wallet_of_line entry.line))) (leaf_sent entry.reply) given is in
+        let mapped = option_map_some (given-of sent.0 entry.made)
+        (option_and_then (owner_named world) (wallet_of_line entry.line)) given sent.2 in
+        let named = and_then_some (owner_named world) (wallet_of_line entry.line) mapped.0 mapped.1 in
+        let command = command-of entry.line named.0 named.1 in
+        subst (IsOwn (events_of run.entries) world) mapped.2
+        (own-from entry named.0 command.0 sent.0 mapped.0 has command.1 (sent-of entry.reply sent.0 sent.1) named.2)
+
+    given-own : (given : GivenOut) → Has (given_out world run.entries) given
+        → IsOwn (events_of run.entries) world given
+    unfolding given_out
+    given-own given has =
+        let found = read-from (given_by world) run.entries given has in own-of found.0 given found.1 found.2
+
+    one-message : (one other : GivenOut) → IsOwn (events_of run.entries) world one
+        → IsOwn (events_of run.entries) world other → one.key ≡ other.key → one.leaf ≡ other.leaf
+        → one.bytes ≡ other.bytes
+    one-message one other first second same_key same_leaf =
+        let events = events_of run.entries in
+        let same_n : first.n ≡ second.n =
+        (runs-signed dig lines run world run_is).apart first.n second.n first.node second.node first.node_is
+        second.node_is first.role second.role (sym first.key ∙ same_key ∙ second.key) in
+        let same_node : first.node ≡ second.node =
+        one-of (slice_get world.nodes first.n) first.node second.node first.node_is
+        (ap (slice_get world.nodes) same_n ∙ second.node_is) in
+        let same_body : first.body ≡ second.body =
+        one-of (leaf_at one.leaf (bound_by events first.n)) first.body second.body first.leaf
+        ((λ i. leaf_at (same_leaf i) (bound_by events (same_n i))) ∙ second.leaf) in
+        first.bytes
+        ∙ (λ i. body_text (same_body i)
+        ++ signature_of (secret_of (who_is (same_node i).notes)) (same_leaf i) (body_text (same_body i)))
+        ∙ sym second.bytes
+
+pub leaves_sign_one_message : LeavesSignOneMessage
+leaves_sign_one_message dig lines run known run_is world one other world_is has_one has_other same_key same_leaf =
+    let here : IsRun dig lines run world =
+    record { digest = run_is.digest; lines_are = run_is.lines_are; run_is = run_is.run_is; world_is = world_is } in
+    ap (λ (bytes : List ℕ). body_at_start bytes)
+    (one-message dig lines run world here one other
+    (given-own dig lines run world here one (contains-has (given_out world run.entries) one has_one))
+    (given-own dig lines run world here other (contains-has (given_out world run.entries) other has_other))
+    same_key same_leaf)
