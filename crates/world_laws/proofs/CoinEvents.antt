@@ -1,9 +1,9 @@
 -- In every run, what wallets do with their coins is legal: each accept, each transfer that a leaf binds, and each that
--- is taken back, in cuts too.
+-- is taken back, in cuts too. It is what was left to be shown, so all events of every run are legal.
 use Rattle.std.proofs.Common.{◌≡◌, ℕ, Bool, true, false, List, Some, None, Ok, Err, refl, sym, subst, slice_get}
 use Rattle.std.specs.Prelude.{Result}
 use Rattle.line_forms.proofs.FormLaws.{option_map_some}
-use Rattle.root_rules.specs.Shown.{Tests, Rules, tests_by, rules_of}
+use Rattle.root_rules.specs.Shown.{tests_by, rules_of}
 use Rattle.schedule_text.specs.declared.line.Line.{Line}
 use Rattle.schedule_text.specs.declared.command.Command.{Command}
 use Rattle.schedule_text.specs.declared.command.WalletCommand.{WalletCommand}
@@ -24,42 +24,19 @@ use Rattle.world_rules.proofs.KeptRun.{run-kept}
 use Rattle.world_rules.proofs.Shapes.{IsDone, IsCut, Kept, Lost, is_cut}
 use Rattle.world_rules.proofs.StepLaws.{stepped}
 use Rattle.world_laws.specs.Headline.{IsRun}
-use Rattle.world_laws.specs.Legal.{LegalAccept, LegalBinding, LegalReclaim, LegalWatch, LegalLeave}
+use Rattle.world_laws.specs.Legal.{IsLegal}
 use Rattle.world_laws.proofs.Lists.{some_same, none_some}
 use Rattle.world_laws.proofs.DeedOffers.{done-role}
 use Rattle.world_laws.proofs.LegalCalls.{IsBehind, is-behind}
-use Rattle.world_laws.proofs.LegalEvents.{IsLeft, LeftAreLegal}
+use Rattle.world_laws.proofs.LegalEvents.{IsLeft, LeftAreLegal, runs-are-legal}
 use Rattle.world_laws.proofs.Fits.{DoesFit, Still, Adds, Crashes, Commands, Cuts, does-fit}
 use Rattle.world_laws.proofs.LeftRuns.{AreLeft, runs-left}
 use Rattle.world_laws.proofs.LegalCoins.{legal-accepted, legal-bound, legal-reclaimed}
 
--- what a wallet does with a coin is legal
-abbrev pub IsCoinLegal : Tests → Rules → List Event → Event → Type 0
-IsCoinLegal tests rules events (Accepts w bundle) = LegalAccept tests rules events w bundle
-IsCoinLegal tests rules events (Binds w body) = LegalBinding events w body
-IsCoinLegal tests rules events (TakesBack w q bundle) = LegalReclaim tests events w q bundle
-IsCoinLegal tests rules events event = Unit {0}
-
--- what a node watches, and what a wallet leaves with, is legal
-abbrev pub IsOfferLegal : Tests → Rules → List Event → Event → Type 0
-IsOfferLegal tests rules events (Watches n calls) = LegalWatch rules events n calls
-IsOfferLegal tests rules events (Leaves w call) = LegalLeave rules events w call
-IsOfferLegal tests rules events event = Unit {0}
-
--- both are what is left to be shown of an event
-pub both-left : (tests : Tests) (rules : Rules) (events : List Event) (event : Event)
-    → IsCoinLegal tests rules events event → IsOfferLegal tests rules events event → IsLeft tests rules events event
-both-left tests rules events (Accepts w bundle) coin offer = coin
-both-left tests rules events (Binds w body) coin offer = coin
-both-left tests rules events (TakesBack w q bundle) coin offer = coin
-both-left tests rules events (Watches n calls) coin offer = offer
-both-left tests rules events (Leaves w call) coin offer = offer
-both-left tests rules events event coin offer = tt
-
 module _ (dig : List ℕ → List ℕ) (events : List Event) (world : World) (behind : IsBehind events world)
     (kept : KeptWorld dig events world) (left : AreLeft dig events world.nodes) where
   abbrev P : Event → Type 0
-  P event = IsCoinLegal (tests_by dig) (rules_of world.chain) events event
+  P event = IsLeft (tests_by dig) (rules_of world.chain) events event
 
   no-node : (event : Event) → node_in event ≡ None → P event
   no-node (Accepts w bundle) none = absurd (none_some w (sym none))
@@ -179,25 +156,17 @@ module _ (dig : List ℕ → List ℕ) (events : List Event) (world : World) (be
       (cut-coins n node deed (cut world n node calls outcome command deed) (deed-coins command n node deed fit done)
       (is_cut world n node calls outcome command deed))
 
--- what wallets do with coins in the next line of a run is legal after the events of the run
-pub coins-legal : (dig : List ℕ → List ℕ) (lines : List Line) (run : Run) (world : World) (line : Line)
-    (effect : LineEffect) → IsRun dig lines run world → IsLine line → step dig (Some world) line ≡ Some effect
-    → IsCoinLegal (tests_by dig) (rules_of world.chain) (events_of run.entries) effect.event
-coins-legal dig lines run world line effect run_is in_grammar is =
+-- what was left of the events of every run is legal
+pub left-are-legal : (dig : List ℕ → List ℕ) → LeftAreLegal dig
+left-are-legal dig lines run world line effect run_is in_grammar is =
     let made = stepped dig world line effect is in
     let kept = (run-kept dig run_is.digest lines run run_is.lines_are run_is.run_is).world world run_is.world_is in
-    subst (λ (e : LineEffect). IsCoinLegal (tests_by dig) (rules_of world.chain) (events_of run.entries) e.event)
+    subst (λ (e : LineEffect). IsLeft (tests_by dig) (rules_of world.chain) (events_of run.entries) e.event)
     (sym made.effect_is)
     (does-coins dig (events_of run.entries) world (is-behind dig lines run world run_is) kept
     (runs-left dig lines run world run_is) made.bare (does-fit dig world line made.bare in_grammar made.bare_is))
 
--- so what is left of all events of every run is legal, where what is offered is
-pub left-are-legal : (dig : List ℕ → List ℕ)
-    → ((lines : List Line) (run : Run) (world : World) (line : Line) (effect : LineEffect)
-    → IsRun dig lines run world → IsLine line → step dig (Some world) line ≡ Some effect
-    → IsOfferLegal (tests_by dig) (rules_of world.chain) (events_of run.entries) effect.event)
-    → LeftAreLegal dig
-left-are-legal dig offers lines run world line effect run_is in_grammar is =
-    both-left (tests_by dig) (rules_of world.chain) (events_of run.entries) effect.event
-    (coins-legal dig lines run world line effect run_is in_grammar is)
-    (offers lines run world line effect run_is in_grammar is)
+-- so all events of every run are legal
+pub runs-legal : (dig : List ℕ → List ℕ) (lines : List Line) (run : Run) (world : World)
+    → IsRun dig lines run world → IsLegal (tests_by dig) (rules_of world.chain) (events_of run.entries)
+runs-legal dig = runs-are-legal dig (left-are-legal dig)

@@ -10,11 +10,6 @@ pub mod Acts
 pub mod Handed
 pub mod LegalCalls
 pub mod LegalEvents
-pub mod Fits
-pub mod LeftNotes
-pub mod LeftRuns
-pub mod LegalCoins
-pub mod CoinEvents
 pub mod Histories
 pub mod Shown
 pub mod Absences
@@ -34,6 +29,11 @@ pub mod AcceptsShown
 pub mod Accepting
 pub mod AtTops
 pub mod LegalLeaves
+pub mod Fits
+pub mod LeftNotes
+pub mod LeftRuns
+pub mod LegalCoins
+pub mod CoinEvents
 pub mod Safe
 pub mod OneHolder
 pub mod DueTaken
