@@ -9,7 +9,6 @@ use Rattle.schedule_text.specs.declared.command.Command.{Command}
 use Rattle.schedule_text.specs.declared.command.WalletCommand.{WalletCommand}
 use Rattle.schedule_text.specs.declared.command.WatcherCommand.{WatcherCommand}
 use Rattle.schedule_text.specs.declared.command.OperatorCommand.{OperatorCommand}
-use Rattle.schedule_text.specs.Grammar.{IsLine}
 use Rattle.node_rules.specs.Wallet.{accept_effect, send_effect, again_answer, leave_effect, reclaim_effect, migrate_effect}
 use Rattle.node_rules.specs.Watcher.{guard_effect, release_effect}
 use Rattle.operator_rules.specs.Commands.{offer_effect, lay_effect, seal_effect, prove_answer, bundle_answer, absences_answer}
@@ -17,7 +16,7 @@ use Rattle.world_rules.specs.Causes.{wallet_cause, watcher_cause, offer_cause, l
 use Rattle.world_rules.specs.Events.{Event, Accepts, Binds, TakesBack, Watches, Leaves, Seals, node_in}
 use Rattle.world_rules.specs.World.{Node, World, is_wallet_role, wallet_of, bytes_of, new_owner_of}
 use Rattle.world_rules.specs.Deeds.{Gives, Deed, answered, on_accepted, on_sent, on_sent_again, on_leaving, on_reclaimed, on_migrated, send_deed, wallet_command, on_guarded, on_released, watcher_command, on_pooled, on_laid, on_sealed, on_bundled, on_proved, operator_command, on_open, deed_of}
-use Rattle.world_rules.specs.Steps.{LineEffect, cut, without_offers, step, Run, events_of}
+use Rattle.world_rules.specs.Steps.{LineEffect, cut, without_offers, Run, events_of}
 use Rattle.world_rules.proofs.KeptNode.{IsFit, IsFitWallet}
 use Rattle.world_rules.proofs.KeptWorld.{KeptWorld, world-feeds}
 use Rattle.world_rules.proofs.KeptRun.{run-kept}

@@ -25,7 +25,8 @@ use Rattle.watch_duty.proofs.Accepts.{due_calls_are_accepted}
 use Rattle.world_rules.specs.Events.{Event, Watches, log_of, coin_of_call, wallet_owner, accepted, guarded_by, is_command_of, offered}
 use Rattle.world_rules.specs.Exhibits.{seen, collides}
 use Rattle.world_rules.specs.Safety.{is_watch, is_joined}
-use Rattle.world_laws.specs.Headline.{fresh_offers, lacks_bond}
+use Rattle.world_laws.specs.Headline.{lacks_bond}
+use Rattle.world_laws.specs.LegalLaws.{fresh_offers}
 use Rattle.world_laws.specs.Legal.{Taken, Bare, ShowsGuard, IsLegal}
 use Rattle.world_laws.specs.LegalLaws.{LegalDueCallsAreTaken}
 use Rattle.world_laws.proofs.Clash.{HasOneLeaf, one_leaf}

@@ -1,9 +1,9 @@
 -- A verdict `lost` stands only above an exhibit.
-use Rattle.std.proofs.Common.{◌≡◌, ◌≢◌, ◌⊎◌, ℕ, ◌+◌, ◌≤◌, ◌==◌, ◌&&◌, ◌||◌, not, Bool, true, false, if◌then◌else◌, List, [], ◌∷◌, length, Option, Some, None, inl, inr, refl, sym, ap, ◌∙◌, subst}
+use Rattle.std.proofs.Common.{◌≡◌, ◌⊎◌, ℕ, ◌+◌, ◌==◌, ◌&&◌, not, Bool, true, false, if◌then◌else◌, List, [], ◌∷◌, length, Option, Some, None, inl, inr, refl, sym, ap, ◌∙◌, subst}
 use Rattle.std.specs.Prelude.{nat_le}
-use Rattle.std.specs.Option.{option_or, option_map_or}
-use Rattle.std.specs.List.{AllByRecursion, list_any, list_all}
-use Rattle.std.proofs.lemmas.Bool.{cases_Bool, eq-eqb, eqb-true, le-leb, and_parts, and_from, or_parts, or_cases, or_from, or_left, or_right, not-true, not_from_false, true≢false, false≢true, false_from_ne_true}
+use Rattle.std.specs.Option.{option_or}
+use Rattle.std.specs.List.{list_any}
+use Rattle.std.proofs.lemmas.Bool.{cases_Bool, eq-eqb, eqb-true, le-leb, and_parts, and_from, or_parts, or_cases, or_from, or_right, not-true, not_from_false, true≢false, false≢true, false_from_ne_true}
 use Rattle.plasma_tx.specs.declared.owner.Owner.{Owner}
 use Rattle.plasma_tx.specs.declared.call.RootCall.{RootCall}
 use Rattle.plasma_tx.specs.declared.call.RootCall.TheVariants.{After, Between, Finish}
@@ -13,26 +13,25 @@ use Rattle.plasma_tx.specs.Views.{now, coin_at, Exit, exits, exit_at, is_withdra
 use Rattle.root_rules.specs.declared.TheConstants.{EXIT_PERIOD}
 use Rattle.root_rules.specs.Shown.{Tests, Rules, tests_by}
 use Rattle.root_rules.specs.Table.{is_accepted, answer_to}
-use Rattle.root_rules.specs.Accepted.{Finishes}
 use Rattle.root_rules.specs.Laws.{is_paid}
 use Rattle.root_rules.proofs.Accepted.{accepted_calls_show}
 use Rattle.root_rules.proofs.Ends.{paid_exactly}
 use Rattle.watch_duty.proofs.Members.{Has, all-has, contains-has}
 use Rattle.world_rules.specs.declared.verdict.VerdictKind.{VerdictKind}
 use Rattle.world_rules.specs.Laws.{IsDigest}
-use Rattle.world_rules.specs.Events.{Event, Declares, Joins, Accepts, log_of, coin_of_call, wallet_owner, accepted, bound_by, taken_back, signed_away_by, is_sent_from, is_bundle, offers_of}
+use Rattle.world_rules.specs.Events.{Event, Declares, Joins, Accepts, log_of, wallet_owner, accepted, bound_by, taken_back, signed_away_by, is_sent_from, is_bundle, offers_of}
 use Rattle.world_rules.specs.Exhibits.{seen, strings_of, has_clash, is_forged}
-use Rattle.world_rules.specs.Safety.{was_deposited, holds, is_attended, goes_unattended, is_mine, is_own, finish_harms, call_harms, harms, is_harmed}
+use Rattle.world_rules.specs.Safety.{was_deposited, holds, is_attended, goes_unattended, is_mine, is_own, finish_harms, call_harms, harms}
 use Rattle.world_rules.specs.Verdicts.{is_others, is_finish_paid, pays_own, pays_other, ends_own, takes_from, before_taking, first_unattended, exit_was_paid, lost_or, taken_or, verdict_at}
 use Rattle.world_laws.specs.Legal.{starts_by, is_tip, LegalCall, IsLegal}
 use Rattle.world_laws.specs.LegalLaws.{LegalLostIsExhibited}
 use Rattle.world_laws.proofs.Lists.{some_same, none_some, found-has}
-use Rattle.world_laws.proofs.Bound.{owner-stays, Holding, holding}
+use Rattle.world_laws.proofs.Bound.{owner-stays, holding}
 use Rattle.world_laws.proofs.Guards.{holds-from}
 use Rattle.world_laws.proofs.Offers.{offered_start, start-any, coin-stays}
-use Rattle.world_laws.proofs.Watched.{IsWatched, IfOf, AllWatched}
+use Rattle.world_laws.proofs.Watched.{IfOf, AllWatched}
 use Rattle.world_laws.proofs.Safe.{none-before, forged-parts, attended-parts, legal-before, watched, safe-event}
-use Rattle.world_laws.proofs.OwnExits.{IsOwnAt, IfOwn, CameFrom, IsStartedBy, came-from, undeclared-none, own_kept}
+use Rattle.world_laws.proofs.OwnExits.{IsOwnAt, IfOwn, IsStartedBy, came-from, undeclared-none, own_kept}
 use Rattle.world_laws.proofs.Exhibited.{or-none, no-clash, no-forgery, nothing-exhibited}
 
 -- ---- holding goes on
@@ -117,8 +116,11 @@ module _ (tests : Tests) (rules : Rules) (me : Owner) (c e : ℕ) (log : List Ro
           let unopposed : has_no_open_challenge (Some s.exit) ≡ true =
           ap has_no_open_challenge (sym s.stands) ∙ parts.1 in
           let paid : is_finish_paid tests rules log account k f ≡ true = ap is_paid
-          ((paid_exactly tests rules log account k f).1 (s, and_from _ _ unopposed
-          (not_from_false _ (ap (is_withdrawn log) k_is ∙ stays)))) in
+          ((paid_exactly tests rules log account k f).1 (
+            s,
+            and_from _ _ unopposed
+                (not_from_false _ (ap (is_withdrawn log) k_is ∙ stays)),
+          )) in
           let place = found-has log k f s.exit s.stands in
           let w = all-has (IfOf c me e time) (exits log) s.exit all place.0 (place.1 ∙ k_is) in
           elim (cases_Bool (is_mine me s.exit)) [
@@ -155,9 +157,10 @@ module _ (tests : Tests) (rules : Rules) (me : Owner) (c e : ℕ) (log : List Ro
       let harm : finish_harms me e (now log) answer (Some s.exit) ≡ true =
       subst (λ (b : Bool). (if b then (s.exit.block == e) && nat_le (s.exit.start + EXIT_PERIOD) (now log)
       && not (is_paid answer) else is_paid answer) ≡ true) (sym mine)
-      (and_from _ _ (and_from _ _ (eq-eqb s.exit.block e tip) (le-leb _ _ s.in_time)) whole.1) in
-      (own-found k f names.0 names.1 parts.1,
-      and_from _ _ names.0 (ap (finish_harms me e (now log) answer) s.stands ∙ harm))
+      (and_from _ _ (and_from _ _ (eq-eqb s.exit.block e tip) (le-leb _ _ s.in_time)) whole.1) in (
+        own-found k f names.0 names.1 parts.1,
+        and_from _ _ names.0 (ap (finish_harms me e (now log) answer) s.stands ∙ harm),
+      )
   ends-harms call is ends = absurd (false≢true ends)
 
   -- another's exit that is paid harms

@@ -12,7 +12,7 @@ use Rattle.coin_history.specs.declared.bundle.Bundle.{Bundle}
 use Rattle.watch_duty.proofs.Members.{Has}
 use Rattle.world_rules.specs.Events.{Event, Joins, Accepts, log_of, wallet_owner, accepted, bound_by, signed_away_by}
 use Rattle.world_rules.specs.Exhibits.{openings_of, seen, collides, is_forged}
-use Rattle.world_laws.specs.Headline.{was_declared_before}
+use Rattle.world_laws.specs.LegalLaws.{was_declared_before}
 use Rattle.world_laws.specs.Legal.{IsLegal}
 use Rattle.world_laws.specs.LegalLaws.{OneWalletHoldsLegally}
 use Rattle.world_laws.proofs.Lists.{some_same}

@@ -1,8 +1,8 @@
 -- Where a wallet's own exit comes from: a start that the wallet's leave offered. From then on no leaf sends the coin
 -- from there.
-use Rattle.std.proofs.Common.{◌≡◌, ◌⊎◌, ℕ, ◌==◌, ◌&&◌, ◌||◌, Bool, true, false, if◌then◌else◌, List, [], ◌∷◌, length, Option, Some, None, inl, inr, refl, sym, ap, ◌∙◌, subst}
+use Rattle.std.proofs.Common.{◌≡◌, ◌⊎◌, ℕ, ◌==◌, ◌&&◌, ◌||◌, Bool, true, false, if◌then◌else◌, List, [], ◌∷◌, length, Some, inl, inr, refl, sym, ap, ◌∙◌, subst}
 use Rattle.std.specs.List.{AllByRecursion, list_any}
-use Rattle.std.proofs.lemmas.Bool.{eqb-true, eq-eqb, and_parts, and_from, or_cases, or_left, or_right, or_from, or_parts, true≢false, false≢true, false_from_ne_true}
+use Rattle.std.proofs.lemmas.Bool.{eqb-true, eq-eqb, and_parts, and_from, or_cases, or_left, or_right, or_parts, true≢false, false≢true, false_from_ne_true}
 use Rattle.plasma_tx.specs.declared.owner.Owner.{Owner}
 use Rattle.plasma_tx.specs.declared.body.Body.{Body}
 use Rattle.plasma_tx.specs.declared.call.RootCall.{RootCall}
@@ -18,7 +18,7 @@ use Rattle.world_rules.specs.Events.{Event, Declares, Joins, Binds, TakesBack, W
 use Rattle.world_rules.specs.Deeds.{exit_block}
 use Rattle.world_rules.specs.Safety.{is_mine}
 use Rattle.world_laws.specs.Headline.{is_start}
-use Rattle.world_laws.specs.Legal.{starts_by, left_by, is_left, LegalCall, LegalLeave, IsLegal}
+use Rattle.world_laws.specs.Legal.{starts_by, left_by, is_left, LegalLeave, IsLegal}
 use Rattle.world_laws.proofs.Lists.{some_same, all-from}
 use Rattle.world_laws.proofs.Absences.{names, any-rest, any-without, any-top}
 use Rattle.world_laws.proofs.Bound.{holding}

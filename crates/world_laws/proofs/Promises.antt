@@ -1,6 +1,6 @@
 -- The promises of every schedule, from those of legal events: the events of a run are legal, and so are those up to
 -- each line.
-use Rattle.std.proofs.Common.{◌≡◌, ◌⊎◌, ◌≤◌, ◌<◌, ℕ, ◌+◌, ◌==◌, ◌&&◌, ◌||◌, not, Bool, true, false, if◌then◌else◌, List, [], ◌∷◌, ◌++◌, Option, Some, None, is_some, Contains, inl, inr, refl, sym, ap, ◌∙◌, subst, arith}
+use Rattle.std.proofs.Common.{◌≡◌, ◌≤◌, ℕ, ◌+◌, ◌||◌, true, false, if◌then◌else◌, List, [], ◌∷◌, ◌++◌, is_some, Contains, refl, sym, ap, ◌∙◌, subst, arith}
 use Rattle.std.specs.List.{list_any}
 use Rattle.std.proofs.Math.Nat.{le_refl}
 use Rattle.std.proofs.lemmas.Bool.{or_parts, ne_eqb, eq-eqb}
@@ -13,9 +13,11 @@ use Rattle.world_rules.specs.Events.{Event, Joins, Watches, log_of, wallet_owner
 use Rattle.world_rules.specs.World.{World}
 use Rattle.world_rules.specs.Steps.{Run, events_of}
 use Rattle.world_rules.specs.Safety.{is_watch, is_joined}
-use Rattle.world_laws.specs.Headline.{IsRun, HeldCoinsAreSafe, was_declared_before, AreDeclaredBefore, OneWalletHolds, fresh_offers, IsFreshWatch, lacks_bond, DueCallsAreTaken, HarmsAreTakings, LostIsExhibited, IsTaken, StartsAreTaken}
+use Rattle.world_laws.specs.Headline.{IsRun, HeldCoinsAreSafe, OneWalletHolds, lacks_bond, DueCallsAreTaken, HarmsAreTakings, LostIsExhibited, IsTaken, StartsAreTaken}
+use Rattle.world_laws.specs.LegalLaws.{was_declared_before, fresh_offers}
 use Rattle.world_laws.specs.Legal.{IsLegal}
 use Rattle.world_rules.proofs.RunLaws.{logs_are_of_events}
+use Rattle.world_laws.proofs.CoinEvents.{runs-legal}
 use Rattle.world_laws.proofs.Safe.{legal_coins_are_safe}
 use Rattle.world_laws.proofs.OneHolder.{one_wallet_holds}
 use Rattle.world_rules.specs.declared.verdict.Exhibit.{Exhibit}
@@ -76,64 +78,67 @@ fresh-watch [] n calls earlier since =
     ap (λ b. if b then calls else (if false then [] else fresh_offers earlier n)) (eq-eqb n n refl)
 fresh-watch (event ∷ later) n calls earlier since =
     let parts = or_parts (is_command_of n event || is_joined event)
-        (list_any (λ event. is_command_of n event || is_joined event) later) since in
+    (list_any (λ event. is_command_of n event || is_joined event) later) since in
     let both = or_parts (is_command_of n event) (is_joined event) parts.0 in
     ap (λ b. if b then (if is_watch event then offered event else [])
     else if is_joined event then [] else fresh_offers (later ++ Watches n calls ∷ earlier) n) both.0
     ∙ ap (λ b. if b then [] else fresh_offers (later ++ Watches n calls ∷ earlier) n) both.1
     ∙ fresh-watch later n calls earlier parts.1
 
-module _ (legal : (dig : List ℕ → List ℕ) (lines : List Line) (run : Run) (world : World)
-    → IsRun dig lines run world → IsLegal (tests_by dig) (rules_of world.chain) (events_of run.entries)) where
-  pub held_coins_are_safe : HeldCoinsAreSafe
-  held_coins_are_safe dig lines run world later events event w c e is split attended whole honest =
-      legal_coins_are_safe dig (rules_of world.chain) event events w c e is.digest
-      (suffix-legal (tests_by dig) (rules_of world.chain) later (event ∷ events)
-      (subst (IsLegal (tests_by dig) (rules_of world.chain)) split (legal dig lines run world is)))
-      attended whole honest
+-- every run's events are legal
+legal : (dig : List ℕ → List ℕ) (lines : List Line) (run : Run) (world : World)
+    → IsRun dig lines run world → IsLegal (tests_by dig) (rules_of world.chain) (events_of run.entries)
+legal = runs-legal
 
-  pub one_holds : OneWalletHolds
-  one_holds dig lines run world v w c d e is apart before whole honest other held also =
-      one_wallet_holds dig (rules_of world.chain) (events_of run.entries) v w c d e is.digest
-      (legal dig lines run world is) apart (declared v before.one) (declared w before.other) whole honest other held
-      also
-    where
-      declared : (u : ℕ) → is_some (wallet_owner before.earlier u) ≡ true
-          → was_declared_before (events_of run.entries) u c ≡ true
-      declared u some = ap (λ events. was_declared_before events u c) before.events_are
-          ∙ declared-before before.later before.account before.amount before.key before.earlier u c before.coin some
+pub held_coins_are_safe : HeldCoinsAreSafe
+held_coins_are_safe dig lines run world later events event w c e is split attended whole honest =
+    legal_coins_are_safe dig (rules_of world.chain) event events w c e is.digest
+    (suffix-legal (tests_by dig) (rules_of world.chain) later (event ∷ events)
+    (subst (IsLegal (tests_by dig) (rules_of world.chain)) split (legal dig lines run world is)))
+    attended whole honest
 
-  pub due_are_taken : DueCallsAreTaken
-  due_are_taken dig lines run world n calls call is fresh has whole rich =
-      let log = logs_are_of_events dig lines run world is.run_is is.world_is in
-      let offers : fresh_offers (events_of run.entries) n ≡ calls =
-          ap (λ events. fresh_offers events n) fresh.events_are
-          ∙ fresh-watch fresh.later n calls fresh.earlier fresh.since in
-      ap (λ l. is_accepted (answer_to (tests_by dig) (rules_of world.chain) l call)) log
-      ∙ due_calls_are_taken dig (rules_of world.chain) (events_of run.entries) n call is.digest
-      (legal dig lines run world is) (subst (λ cs. Contains cs call) (sym offers) has) whole
-      (ap (λ l. lacks_bond l call) (sym log) ∙ rich)
+pub one_holds : OneWalletHolds
+one_holds dig lines run world v w c d e is apart before whole honest other held also =
+    one_wallet_holds dig (rules_of world.chain) (events_of run.entries) v w c d e is.digest
+    (legal dig lines run world is) apart (declared v before.one) (declared w before.other) whole honest other held
+    also
+  where
+    declared : (u : ℕ) → is_some (wallet_owner before.earlier u) ≡ true
+        → was_declared_before (events_of run.entries) u c ≡ true
+    declared u some = ap (λ events. was_declared_before events u c) before.events_are
+        ∙ declared-before before.later before.account before.amount before.key before.earlier u c before.coin some
 
-  pub harms_are_takings : HarmsAreTakings
-  unfolding IsLegal
-  harms_are_takings dig lines run world later events event me w c e is split owner held =
-      legal-takings (tests_by dig) (rules_of world.chain) events event me w c e
-      (suffix-legal (tests_by dig) (rules_of world.chain) later (event ∷ events)
-      (subst (IsLegal (tests_by dig) (rules_of world.chain)) split (legal dig lines run world is))).0
-      owner held
+pub due_are_taken : DueCallsAreTaken
+due_are_taken dig lines run world n calls call is fresh has whole rich =
+    let log = logs_are_of_events dig lines run world is.run_is is.world_is in
+    let offers : fresh_offers (events_of run.entries) n ≡ calls =
+    ap (λ events. fresh_offers events n) fresh.events_are
+    ∙ fresh-watch fresh.later n calls fresh.earlier fresh.since in
+    ap (λ l. is_accepted (answer_to (tests_by dig) (rules_of world.chain) l call)) log
+    ∙ due_calls_are_taken dig (rules_of world.chain) (events_of run.entries) n call is.digest
+    (legal dig lines run world is) (subst (λ cs. Contains cs call) (sym offers) has) whole
+    (ap (λ l. lacks_bond l call) (sym log) ∙ rich)
 
-  pub lost_is_shown : LostIsExhibited
-  unfolding exhibit_of_run
-  lost_is_shown dig lines run world verdict is has lost nothing =
-      let held = verdicts_are_of_held_coins dig lines run world verdict is.run_is is.world_is has in
-      lost_is_exhibited dig (rules_of world.chain) (events_of run.entries) held.number verdict.coin held.tip held.owner
-      is.digest (legal dig lines run world is) held.is_owner (sym held.kind ∙ lost)
-      (sym (ap (λ w. option_map_or (λ world. exhibit_of dig world.chain.tag (events_of run.entries)) w
-      Exhibit.Nothing) is.world_is) ∙ nothing)
+pub harms_are_takings : HarmsAreTakings
+unfolding IsLegal
+harms_are_takings dig lines run world later events event me w c e is split owner held =
+    legal-takings (tests_by dig) (rules_of world.chain) events event me w c e
+    (suffix-legal (tests_by dig) (rules_of world.chain) later (event ∷ events)
+    (subst (IsLegal (tests_by dig) (rules_of world.chain)) split (legal dig lines run world is))).0
+    owner held
 
-  pub starts_taken : StartsAreTaken
-  starts_taken dig lines run world w account call is offer start held =
-      let log = logs_are_of_events dig lines run world is.run_is is.world_is in
-      subst (λ l. IsTaken l account call (answer_to (tests_by dig) (rules_of world.chain) l call)) (sym log)
-      (starts_are_taken dig (rules_of world.chain) (events_of run.entries) w account call
-      (legal dig lines run world is) offer start held)
+pub lost_is_shown : LostIsExhibited
+unfolding exhibit_of_run
+lost_is_shown dig lines run world verdict is has lost nothing =
+    let held = verdicts_are_of_held_coins dig lines run world verdict is.run_is is.world_is has in
+    lost_is_exhibited dig (rules_of world.chain) (events_of run.entries) held.number verdict.coin held.tip held.owner
+    is.digest (legal dig lines run world is) held.is_owner (sym held.kind ∙ lost)
+    (sym (ap (λ w. option_map_or (λ world. exhibit_of dig world.chain.tag (events_of run.entries)) w
+    Exhibit.Nothing) is.world_is) ∙ nothing)
+
+pub starts_taken : StartsAreTaken
+starts_taken dig lines run world w account call is offer start held =
+    let log = logs_are_of_events dig lines run world is.run_is is.world_is in
+    subst (λ l. IsTaken l account call (answer_to (tests_by dig) (rules_of world.chain) l call)) (sym log)
+    (starts_are_taken dig (rules_of world.chain) (events_of run.entries) w account call
+    (legal dig lines run world is) offer start held)

@@ -1,9 +1,9 @@
 -- A start that a wallet offers is taken while the wallet holds the coin there.
-use Rattle.std.proofs.Common.{◌≡◌, ◌⊎◌, ℕ, zero, suc, ◌+◌, ◌-◌, ◌<◌, ◌==◌, ◌&&◌, ◌||◌, not, Bool, true, false, if◌then◌else◌, List, [], ◌∷◌, ◌++◌, length, take, Option, Some, None, inl, inr, refl, sym, ap, ◌∙◌, subst, arith}
-use Rattle.std.specs.Prelude.{is_some, is_none, nat_lt, slice_get}
+use Rattle.std.proofs.Common.{◌≡◌, ℕ, suc, ◌+◌, ◌-◌, ◌<◌, ◌==◌, not, Bool, true, false, if◌then◌else◌, List, [], ◌∷◌, ◌++◌, length, take, Option, Some, None, inl, inr, refl, sym, ap, ◌∙◌, subst, arith}
+use Rattle.std.specs.Prelude.{is_some, nat_lt, slice_get}
 use Rattle.std.specs.Option.{option_map, option_map_or}
 use Rattle.std.specs.List.{AllByRecursion}
-use Rattle.std.proofs.lemmas.Bool.{eq-eqb, eqb-true, lt-ltb, ltb-true, and_from, not_from_true, true≢false, false≢true}
+use Rattle.std.proofs.lemmas.Bool.{eq-eqb, eqb-true, lt-ltb, ltb-true, and_from, not_from_true, true≢false}
 use Rattle.std.proofs.lemmas.List.Elements.{recursion_from_All}
 use Rattle.plasma_tx.specs.declared.owner.Owner.{Owner}
 use Rattle.plasma_tx.specs.declared.opening.RawOpening.{RawOpening}
@@ -22,24 +22,22 @@ use Rattle.plasma_tx.specs.declared.views.CoinView.{CoinView}
 use Rattle.plasma_tx.specs.Links.{last_spend, tip_of, last_owner_of}
 use Rattle.plasma_tx.specs.Views.{now, coin_at, exit_at, block_of, is_withdrawn}
 use Rattle.root_rules.specs.declared.TheConstants.{EXIT_BOND, EXIT_PERIOD}
-use Rattle.root_rules.specs.Shown.{Tests, Rules, tests_by, root_at, shown_tx, shown_owner, spends, signs, goes_to}
+use Rattle.root_rules.specs.Shown.{Tests, Rules, tests_by, root_at, shown_tx, shown_owner}
 use Rattle.root_rules.specs.Table.{Cause, decided, too_poor, is_committed_after, is_parent_of, may_exit_at, start_deposit_causes, start_spend_causes, where_coin, answer_to, is_accepted}
 use Rattle.root_rules.specs.Money.{balance_of}
 use Rattle.root_rules.specs.Accepted.{ShowsTx}
 use Rattle.root_rules.proofs.Acceptance.{transfers_are_shown}
 use Rattle.coin_history.specs.declared.bundle.Bundle.{Bundle}
-use Rattle.coin_history.specs.History.{opens_block, links_in, links_of, AreLinked, IsHistory}
-use Rattle.coin_history.specs.Laws.{first_links}
+use Rattle.coin_history.specs.History.{opens_block, links_in, links_of, AreLinked}
 use Rattle.coin_history.proofs.HistoryLinks.{tip_from, owner_from, tip-is, last_owner-is, none-linked}
 use Rattle.coin_history.proofs.HistoryShape.{links_rise}
 use Rattle.node_rules.specs.Kept.{kept_links}
 use Rattle.node_rules.specs.Wallet.{start_by, start_of}
 use Rattle.watch_duty.specs.Duty.{tip_shown}
-use Rattle.watch_duty.proofs.Members.{Has, has-left, has-right, has-contains, contains-has, all-has}
-use Rattle.watch_duty.proofs.GuardLinks.{Rises, rises-from, has-above, IsOpened, links-opened}
+use Rattle.watch_duty.proofs.Members.{Has, has-left, has-right, has-contains, contains-has}
+use Rattle.watch_duty.proofs.GuardLinks.{Rises, rises-from, has-above, links-opened}
 use Rattle.world_rules.specs.Events.{Event, Watches, Leaves, Seals, log_of, coin_of_call, wallet_owner, accepted, is_command_of, offered, offers_of}
 use Rattle.world_rules.specs.Deeds.{exit_block}
-use Rattle.world_rules.specs.Safety.{holds}
 use Rattle.world_laws.specs.Headline.{is_start, starter, IsTakenAt, IsTaken}
 use Rattle.world_laws.specs.Legal.{ShowsTip, Taken, Bare, LegalLeave, IsLegal}
 use Rattle.world_laws.specs.LegalLaws.{LegalStartsAreTaken}
@@ -143,9 +141,13 @@ module _ (tests : Tests) (rules : Rules) (log : List RootCall) (b : Bundle) (mad
       ((is_withdrawn log b.coin, Withdrawn) ∷ (not (b.tip == made.deposit), BadBlock)
       ∷ (not (me.account == made.owner.account), NotOwner) ∷ [])
       ((is_some (exit_at log b.coin b.tip), ExitStands) ∷ too_poor log me.account EXIT_BOND ∷ [])
-      (Started (now log + EXIT_PERIOD))
-      (alive, (not_from_true _ (eq-eqb b.tip made.deposit tip),
-      (not_from_true _ (eq-eqb me.account made.owner.account account), tt)))
+      (Started (now log + EXIT_PERIOD)) (
+        alive,
+        (
+          not_from_true _ (eq-eqb b.tip made.deposit tip),
+          (not_from_true _ (eq-eqb me.account made.owner.account account), tt),
+        ),
+      )
       (last-causes log me.account b.coin b.tip (Started (now log + EXIT_PERIOD)) refl))
 
   spend-taken : (parent : Shown) (owner : Owner) (exit : RawOpening) (tx : SignedTx)
@@ -167,9 +169,19 @@ module _ (tests : Tests) (rules : Rules) (log : List RootCall) (b : Bundle) (mad
       ((is_withdrawn log b.coin, Withdrawn) ∷ (not (may_exit_at log made parent exit.block), BadBlock)
       ∷ (false, BadOpening) ∷ (not (tx.body.parent == block_of parent), NotChild)
       ∷ (not (tests.is_signed tx owner), BadSignature) ∷ (not (tx.body.to.account == me.account), NotOwner) ∷ [])
-      ((is_some (exit_at log b.coin exit.block), ExitStands) ∷ too_poor log me.account EXIT_BOND ∷ []) effect
-      (alive, (not_from_true _ (and_from _ _ committed fits), (refl, (not_from_true _ (eq-eqb _ _ child),
-      (not_from_true _ signed, (not_from_true _ (eq-eqb _ _ to), tt))))))
+      ((is_some (exit_at log b.coin exit.block), ExitStands) ∷ too_poor log me.account EXIT_BOND ∷ []) effect (
+        alive,
+        (
+          not_from_true _ (and_from _ _ committed fits),
+          (
+            refl,
+            (
+              not_from_true _ (eq-eqb _ _ child),
+              (not_from_true _ signed, (not_from_true _ (eq-eqb _ _ to), tt)),
+            ),
+          ),
+        ),
+      )
       (last-causes log me.account b.coin exit.block effect refl)))
 
   -- a link of the history is shown, and committed after the deposit
@@ -364,7 +376,7 @@ starts_are_taken dig rules events w account call legal offer start held =
     let tests : Tests = tests_by dig in
     let log : List RootCall = log_of events in
     let k = start-offered tests rules events w call legal (contains-has (offers_of events w) call offer)
-        (ap is_some start) in
+    (ap is_some start) in
     let h = k.kept.history in
     let own : Links = links_of rules h.made k.bundle in
     let coin : coin_of_call call ≡ k.bundle.coin = ap coin_of_call k.call_is

@@ -1,5 +1,5 @@
 -- An event of a run harms a holder exactly where it takes the coin.
-use Rattle.std.proofs.Common.{◌≡◌, ◌⊎◌, ◌≤◌, ◌<◌, ℕ, ◌+◌, ◌==◌, ◌&&◌, ◌||◌, not, Bool, true, false, if◌then◌else◌, List, [], ◌∷◌, ◌++◌, Option, Some, None, inl, inr, refl, sym, ap, ◌∙◌, subst, arith}
+use Rattle.std.proofs.Common.{◌≡◌, ◌<◌, ℕ, ◌+◌, ◌==◌, ◌&&◌, ◌||◌, not, Bool, true, false, if◌then◌else◌, List, [], ◌∷◌, Option, Some, None, refl, sym, ap, ◌∙◌, arith}
 use Rattle.std.specs.Prelude.{find, nat_lt, nat_le}
 use Rattle.std.proofs.lemmas.Bool.{and_parts, true≢false, ltb-true, ltb-false, le-leb, eqb-true, false_from_ne_true, leb-true}
 use Rattle.root_rules.specs.declared.TheConstants.{EXIT_PERIOD}
@@ -13,7 +13,7 @@ use Rattle.root_rules.specs.Laws.{is_paid}
 use Rattle.root_rules.specs.Table.{answer_to, is_accepted, decided, where_exit, finish_causes, is_payable, finish_effect}
 use Rattle.world_rules.specs.Events.{Event, Joins, Bounces, log_of, wallet_owner}
 use Rattle.world_rules.specs.Safety.{holds, is_mine, is_own, finish_harms, call_harms, harms, is_harmed}
-use Rattle.world_rules.specs.Verdicts.{is_others, is_finish_paid, pays_other, ends_own, takes_from}
+use Rattle.world_rules.specs.Verdicts.{is_others, pays_other, ends_own, takes_from}
 use Rattle.world_laws.specs.Legal.{IsLegalEvent}
 
 -- an exit that is found is of the block
@@ -91,7 +91,7 @@ module _ (tests : Tests) (rules : Rules) (log : List RootCall) (me : Owner) (c e
       over exit here late =
           let paid = is_paid (finish_effect log coin exit) in
           let reached = le-leb (exit.start + EXIT_PERIOD) (now log) (ltb-false (now log) (exit.start + EXIT_PERIOD)
-              late) in
+          late) in
           ap (λ b. (coin == c) && (if is_mine me exit then (exit.block == e) && b && not paid else paid)) reached
           ∙ ap (λ n. (coin == c) && (if is_mine me exit then (n == e) && true && not paid else paid))
           (eqb-true exit.block block here)

@@ -1,8 +1,7 @@
 -- The words of the headline and the printed lines: what is attended, and what is exhibited.
-use Rattle.std.proofs.Common.{◌≡◌, ◌⊎◌, ℕ, ◌+◌, ◌&&◌, not, Bool, true, false, if◌then◌else◌, List, [], ◌∷◌, length, Option, Some, None, is_none, inl, inr, refl, sym, ap, ◌∙◌}
+use Rattle.std.proofs.Common.{◌≡◌, ℕ, ◌+◌, ◌&&◌, not, Bool, true, false, if◌then◌else◌, [], ◌∷◌, length, Option, Some, None, is_none, inl, inr, refl, sym, ap, ◌∙◌}
 use Rattle.std.specs.Option.{option_or}
 use Rattle.std.proofs.lemmas.Bool.{true≢false}
-use Rattle.world_rules.specs.Events.{Event}
 use Rattle.world_rules.specs.Safety.{goes_unattended, is_attended}
 use Rattle.world_rules.specs.Verdicts.{first_unattended}
 use Rattle.world_rules.specs.Exhibits.{collides}

@@ -1,5 +1,5 @@
 -- What is promised of every schedule: of operator, strangers, losses and crashes.
-use Rattle.std.specs.Prelude.{[], if◌then◌else◌, ◌==◌, ◌≡◌, ◌≢◌, ◌⊎◌, ◌<◌, ℕ, ◌+◌, ◌||◌, Bool, true, false, nat_lt, List, ◌∷◌, ◌++◌, slice_get, Option, Some, None, is_some, is_none}
+use Rattle.std.specs.Prelude.{◌≡◌, ◌≢◌, ◌⊎◌, ◌<◌, ℕ, ◌+◌, ◌||◌, Bool, true, false, nat_lt, List, ◌∷◌, ◌++◌, slice_get, Option, Some, None, is_some, is_none}
 use Rattle.std.specs.List.{All, Contains, list_any}
 use Rattle.root_rules.specs.declared.TheConstants.{EXIT_BOND, CHALLENGE_BOND}
 use Rattle.lms_sign.specs.Tree.{signature_of}
@@ -22,12 +22,12 @@ use Rattle.world_rules.specs.declared.reply.Reply.{Reply}
 use Rattle.world_rules.specs.declared.verdict.Verdict.{Verdict}
 use Rattle.world_rules.specs.declared.verdict.VerdictKind.{VerdictKind}
 use Rattle.world_rules.specs.declared.verdict.Exhibit.{Exhibit}
-use Rattle.world_rules.specs.Events.{Event, Joins, Watches, log_of, coin_of_call, wallet_owner, bound_by, leaf_at, is_command_of, offered, offers_of}
+use Rattle.world_rules.specs.Events.{Event, Joins, Watches, log_of, coin_of_call, wallet_owner, bound_by, leaf_at, is_command_of, offers_of}
 use Rattle.world_rules.specs.World.{Node, World, is_wallet_role, number_of, owner_of_node}
 use Rattle.world_rules.specs.Deeds.{exit_block}
 use Rattle.world_rules.specs.Steps.{TraceEntry, Run, run_of, events_of}
 use Rattle.world_rules.specs.Exhibits.{collides, is_forged, exhibit_of}
-use Rattle.world_rules.specs.Safety.{holds, is_attended, is_safe, is_watch, is_joined, is_harmed}
+use Rattle.world_rules.specs.Safety.{holds, is_attended, is_safe, is_joined, is_harmed}
 use Rattle.world_rules.specs.Verdicts.{SignsOneMessage, given_out, verdicts_of, exhibit_of_run, first_unattended, takes_from}
 use Rattle.world_rules.specs.Laws.{IsDigest, IsCommandIn}
 
@@ -75,13 +75,6 @@ HeldCoinsAreSafe = (dig : List ℕ → List ℕ) (lines : List Line) (run : Run)
     → collides dig (event ∷ events) c ≡ false
     → is_forged world.chain.tag (event ∷ events) w c ≡ false
     → is_safe (tests_by dig) (rules_of world.chain) (event ∷ events) w c e ≡ true
-
--- the wallet was declared before the deposit of the coin
-unfoldable pub was_declared_before : List Event → ℕ → ℕ → Bool
-was_declared_before [] w c = false
-was_declared_before (Joins (RootCall.Deposit account amount key) ∷ events) w c =
-    if c == coins (log_of events) + 1 then is_some (wallet_owner events w) else was_declared_before events w c
-was_declared_before (event ∷ events) w c = was_declared_before events w c
 
 -- the coin was deposited by this call behind these events, before which both wallets were declared
 pub record AreDeclaredBefore (events : List Event) (v w c : ℕ) : Type 0 where
@@ -138,14 +131,6 @@ LostIsExhibited = (dig : List ℕ → List ℕ) (lines : List Line) (run : Run) 
 abbrev pub lacks_bond : List RootCall → RootCall → Bool
 lacks_bond log (RootCall.Before account coin exit shown) = nat_lt (balance_of log account) CHALLENGE_BOND
 lacks_bond log call = false
-
--- the calls that a node's watch offers, where it was the node's last command and no call was accepted since
-unfoldable pub fresh_offers : List Event → ℕ → List RootCall
-fresh_offers [] n = []
-fresh_offers (event ∷ events) n =
-    if is_command_of n event then (if is_watch event then offered event else [])
-    else if is_joined event then []
-    else fresh_offers events n
 
 -- the node watched, and since then it had no command and no call was accepted
 pub record IsFreshWatch (events : List Event) (n : ℕ) (calls : List RootCall) : Type 0 where

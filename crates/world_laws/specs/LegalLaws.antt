@@ -1,5 +1,5 @@
 -- What is promised of every list of legal events.
-use Rattle.std.specs.Prelude.{◌≡◌, ◌≢◌, ℕ, true, false, List, ◌∷◌, Some}
+use Rattle.std.specs.Prelude.{◌≡◌, ◌≢◌, ℕ, true, false, List, ◌∷◌, Some, ◌+◌, ◌==◌, Bool, if◌then◌else◌, [], is_some}
 use Rattle.std.specs.List.{Contains}
 use Rattle.plasma_tx.specs.declared.owner.Owner.{Owner}
 use Rattle.plasma_tx.specs.declared.call.RootCall.{RootCall}
@@ -7,14 +7,30 @@ use Rattle.root_rules.specs.Shown.{Rules, tests_by}
 use Rattle.root_rules.specs.Table.{answer_to, is_accepted}
 use Rattle.world_rules.specs.declared.verdict.VerdictKind.{VerdictKind}
 use Rattle.world_rules.specs.declared.verdict.Exhibit.{Exhibit}
-use Rattle.world_rules.specs.Events.{Event, log_of, coin_of_call, wallet_owner, offers_of}
+use Rattle.plasma_tx.specs.Views.{coins}
+use Rattle.world_rules.specs.Events.{Event, log_of, coin_of_call, wallet_owner, offers_of, Joins, is_command_of, offered}
 use Rattle.world_rules.specs.Deeds.{exit_block}
 use Rattle.world_rules.specs.Exhibits.{collides, is_forged, exhibit_of}
-use Rattle.world_rules.specs.Safety.{holds, is_attended, is_safe}
+use Rattle.world_rules.specs.Safety.{holds, is_attended, is_safe, is_watch, is_joined}
 use Rattle.world_rules.specs.Verdicts.{verdict_at}
 use Rattle.world_rules.specs.Laws.{IsDigest}
-use Rattle.world_laws.specs.Headline.{was_declared_before, fresh_offers, lacks_bond, starter, IsTaken}
+use Rattle.world_laws.specs.Headline.{lacks_bond, starter, IsTaken}
 use Rattle.world_laws.specs.Legal.{IsLegal}
+
+-- the wallet was declared before the deposit of the coin
+unfoldable pub was_declared_before : List Event → ℕ → ℕ → Bool
+was_declared_before [] w c = false
+was_declared_before (Joins (RootCall.Deposit account amount key) ∷ events) w c =
+    if c == coins (log_of events) + 1 then is_some (wallet_owner events w) else was_declared_before events w c
+was_declared_before (event ∷ events) w c = was_declared_before events w c
+
+-- the calls that a node's watch offers, where it was the node's last command and no call was accepted since
+unfoldable pub fresh_offers : List Event → ℕ → List RootCall
+fresh_offers [] n = []
+fresh_offers (event ∷ events) n =
+    if is_command_of n event then (if is_watch event then offered event else [])
+    else if is_joined event then []
+    else fresh_offers events n
 
 -- The coin that a wallet holds is safe at each event. Unless the events up to it show, at this coin, two byte strings
 -- with one digest, or a signature that is valid under the wallet's key and that the wallet never made, no exit of

@@ -1,30 +1,40 @@
-ghost use Rattle.world_laws.specs.LegalLaws.{LegalCoinsAreSafe, LegalDueCallsAreTaken, LegalLostIsExhibited, LegalStartsAreTaken, OneWalletHoldsLegally};
+ghost use Rattle.world_laws.specs.Headline.{HeldCoinsAreSafe, OneWalletHolds, AttendedIsNoneUnattended, ExhibitsAreShown, HarmsAreTakings, LostIsExhibited, DueCallsAreTaken, StartsAreTaken};
 
-/// A law: of legal events, no other account's exit of an attended coin that a wallet holds is paid, and its
-/// own exit is never cancelled or dropped, and pays when it is finished at its end; unless they show two
-/// byte strings with one digest, or a signature that the wallet never made.
+/// The headline, a law: for every schedule of operator, strangers, losses and crashes, at each line: unless the
+/// trace up to it shows two byte strings with one digest at the coin, or a valid signature that the wallet's
+/// key never made, no other account's exit of an attended coin that the wallet holds is paid, and the wallet's
+/// own exit is never cancelled or dropped, and pays when it is finished at its end.
 pub fn held_coins_are_safe()
-    ensures legal { LegalCoinsAreSafe }
+    ensures { HeldCoinsAreSafe }
 {}
 
-/// A law: two wallets that were declared before its deposit don't both hold a coin, unless the events exhibit.
+/// A law: two wallets that were declared before its deposit don't both hold a coin, unless the trace exhibits.
 pub fn one_wallet_holds()
-    ensures legal { OneWalletHoldsLegally }
+    ensures { OneWalletHolds }
+{}
+
+/// A law: a verdict `lost` stands only above an exhibit.
+pub fn lost_is_exhibited()
+    ensures { LostIsExhibited }
+{}
+
+/// A law: the words of the headline are those of the printed lines. Each tick was attended exactly where no line
+/// is the first that wasn't; a collision and a forgery are exhibited; and an event harms a holder exactly where
+/// it takes the coin.
+pub fn words_are_printed()
+    ensures attended { AttendedIsNoneUnattended }
+    ensures exhibits { ExhibitsAreShown }
+    ensures harms { HarmsAreTakings }
 {}
 
 /// A law: a call that a watch offers is accepted where no call was accepted since, unless it is a Before for
-/// which its account doesn't have the money; where the events show no clash at its coin.
+/// which its account doesn't have the money; where the trace shows no clash at its coin.
 pub fn due_calls_are_taken()
-    ensures legal { LegalDueCallsAreTaken }
+    ensures { DueCallsAreTaken }
 {}
 
-/// A law: a verdict `lost` on a wallet stands only above an exhibit.
-pub fn lost_is_exhibited()
-    ensures legal { LegalLostIsExhibited }
-{}
-
-/// A law: a start that a wallet offers is taken while the wallet holds the coin at the exit's block, but where
-/// the exit stands or the money is missing.
+/// A law: a start that a wallet offers is accepted while the wallet holds the coin at the exit's block, but
+/// where the exit stands or the money is missing.
 pub fn starts_are_taken()
-    ensures legal { LegalStartsAreTaken }
+    ensures { StartsAreTaken }
 {}

@@ -5,6 +5,7 @@ mod laws;
 mod signed_laws;
 
 pub use laws::{
-    due_calls_are_taken, held_coins_are_safe, lost_is_exhibited, one_wallet_holds, starts_are_taken,
+    due_calls_are_taken, held_coins_are_safe, lost_is_exhibited, one_wallet_holds,
+    starts_are_taken, words_are_printed,
 };
 pub use signed_laws::leaves_sign_one_message;

@@ -1,5 +1,5 @@
-use Rattle.world_laws.proofs.Lost.{lost_is_exhibited}
+use Rattle.world_laws.proofs.Promises.{lost_is_shown}
 use Rattle.world_laws.proofs.laws.lost_is_exhibited.Goals as goal
 
 pub returns : goal.returns
-returns c = record { legal = lost_is_exhibited }
+returns c = lost_is_shown

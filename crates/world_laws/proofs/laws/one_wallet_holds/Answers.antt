@@ -1,5 +1,5 @@
-use Rattle.world_laws.proofs.OneHolder.{one_wallet_holds}
+use Rattle.world_laws.proofs.Promises.{one_holds}
 use Rattle.world_laws.proofs.laws.one_wallet_holds.Goals as goal
 
 pub returns : goal.returns
-returns c = record { legal = one_wallet_holds }
+returns c = one_holds
