@@ -297,11 +297,11 @@ module _ (dig : List ℕ → List ℕ) (events : List Event) (world : World) (ke
   keys-does effect (AddsRogue name who is) = subst ApartIn (sym is) apart
   keys-does effect (Crashes n node node_is is) =
       subst ApartIn (sym is) (keys-set world.nodes n node (after_crash node) apart node_is refl (λ role. refl))
-  keys-does effect (Commands command n node deed done is) =
+  keys-does effect (Commands command n node deed fit done is) =
       subst ApartIn (sym is)
       (keys-set world.nodes n node (after_command node deed) apart done.node_is refl
       (λ role. who-recorded dig events world kept n node deed.note done.node_is role))
-  keys-does effect (Cuts command calls outcome n node deed done is) =
+  keys-does effect (Cuts command calls outcome n node deed fit done is) =
       subst ApartIn (sym is)
       (keys-cut n node deed (cut world n node calls outcome command deed) done.node_is
       (is_cut world n node calls outcome command deed))
