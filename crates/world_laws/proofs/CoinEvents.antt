@@ -1,9 +1,10 @@
 -- In every run, what wallets do with their coins is legal: each accept, each transfer that a leaf binds, and each that
 -- is taken back, in cuts too. It is what was left to be shown, so all events of every run are legal.
-use Rattle.std.proofs.Common.{◌≡◌, ℕ, Bool, true, false, List, Some, None, Ok, Err, refl, sym, subst, slice_get}
+use Rattle.std.proofs.Common.{◌≡◌, ℕ, Bool, true, false, if◌then◌else◌, List, Some, Ok, Err, refl, sym, subst, slice_get}
 use Rattle.std.specs.Prelude.{Result}
 use Rattle.line_forms.proofs.FormLaws.{option_map_some}
 use Rattle.root_rules.specs.Shown.{tests_by, rules_of}
+use Rattle.root_rules.specs.Table.{answer_to, is_accepted}
 use Rattle.schedule_text.specs.declared.line.Line.{Line}
 use Rattle.schedule_text.specs.declared.command.Command.{Command}
 use Rattle.schedule_text.specs.declared.command.WalletCommand.{WalletCommand}
@@ -13,7 +14,7 @@ use Rattle.node_rules.specs.Wallet.{accept_effect, send_effect, again_answer, le
 use Rattle.node_rules.specs.Watcher.{guard_effect, release_effect}
 use Rattle.operator_rules.specs.Commands.{offer_effect, lay_effect, seal_effect, prove_answer, bundle_answer, absences_answer}
 use Rattle.world_rules.specs.Causes.{wallet_cause, watcher_cause, offer_cause, lay_cause, seal_cause, prove_cause}
-use Rattle.world_rules.specs.Events.{Event, Accepts, Binds, TakesBack, Watches, Leaves, Seals, node_in}
+use Rattle.world_rules.specs.Events.{Event, Watches, Leaves, Seals, Joins, Bounces}
 use Rattle.world_rules.specs.World.{Node, World, is_wallet_role, wallet_of, bytes_of, new_owner_of}
 use Rattle.world_rules.specs.Deeds.{Gives, Deed, answered, on_accepted, on_sent, on_sent_again, on_leaving, on_reclaimed, on_migrated, send_deed, wallet_command, on_guarded, on_released, watcher_command, on_pooled, on_laid, on_sealed, on_bundled, on_proved, operator_command, on_open, deed_of}
 use Rattle.world_rules.specs.Steps.{LineEffect, cut, without_offers, Run, events_of}
@@ -24,11 +25,11 @@ use Rattle.world_rules.proofs.Shapes.{IsDone, IsCut, Kept, Lost, is_cut}
 use Rattle.world_rules.proofs.StepLaws.{stepped}
 use Rattle.world_laws.specs.Headline.{IsRun}
 use Rattle.world_laws.specs.Legal.{IsLegal}
-use Rattle.world_laws.proofs.Lists.{some_same, none_some}
+use Rattle.world_laws.proofs.Lists.{some_same}
 use Rattle.world_laws.proofs.DeedOffers.{done-role}
 use Rattle.world_laws.proofs.LegalCalls.{IsBehind, is-behind}
 use Rattle.world_laws.proofs.LegalEvents.{IsLeft, LeftAreLegal, runs-are-legal}
-use Rattle.world_laws.proofs.Fits.{DoesFit, Still, Adds, Crashes, Commands, Cuts, does-fit}
+use Rattle.world_laws.proofs.Origins.{Does, Rests, Enters, AddsWallet, AddsWatcher, AddsRogue, Crashes, Commands, Cuts, does}
 use Rattle.world_laws.proofs.LeftRuns.{AreLeft, runs-left}
 use Rattle.world_laws.proofs.LegalCoins.{legal-accepted, legal-bound, legal-reclaimed}
 
@@ -36,12 +37,6 @@ module _ (dig : List ℕ → List ℕ) (events : List Event) (world : World) (be
     (kept : KeptWorld dig events world) (left : AreLeft dig events world.nodes) where
   abbrev P : Event → Type 0
   P event = IsLeft (tests_by dig) (rules_of world.chain) events event
-
-  no-node : (event : Event) → node_in event ≡ None → P event
-  no-node (Accepts w bundle) none = absurd (none_some w (sym none))
-  no-node (Binds w body) none = absurd (none_some w (sym none))
-  no-node (TakesBack w q bundle) none = absurd (none_some w (sym none))
-  no-node event none = tt
 
   -- a refusal is another event, so what is answered is legal where each answer is
   coin-answered : {A E : Type 0} (n : ℕ) (cause : E → List ℕ) (give : A → Gives) (result : Result A E)
@@ -144,9 +139,19 @@ module _ (dig : List ℕ → List ℕ) (events : List Event) (world : World) (be
       subst P (sym event_is) (without-coins n deed.gives.event legal)
   cut-coins n node deed effect legal (Lost event_is world_is) = subst P (sym event_is) tt
 
-  does-coins : (effect : LineEffect) → DoesFit dig world effect → P effect.event
-  does-coins effect (Still nodes none) = no-node effect.event none
-  does-coins effect (Adds node identity nodes notes none) = no-node effect.event none
+  does-coins : (effect : LineEffect) → Does dig world effect → P effect.event
+  does-coins effect (Rests reply made is) = subst (λ (e : LineEffect). P e.event) (sym is) tt
+  does-coins effect (Enters callers call from is) =
+      subst (λ (e : LineEffect). P e.event) (sym is)
+      (entered (is_accepted (answer_to (tests_by dig) (rules_of world.chain) world.chain.log call)))
+    where
+      entered : (b : Bool) → P (if b then Joins call else Bounces call)
+      entered true = tt
+      entered false = tt
+  does-coins effect (AddsWallet name account seed types line may is) =
+      subst (λ (e : LineEffect). P e.event) (sym is) tt
+  does-coins effect (AddsWatcher name account line may is) = subst (λ (e : LineEffect). P e.event) (sym is) tt
+  does-coins effect (AddsRogue name who is) = subst (λ (e : LineEffect). P e.event) (sym is) tt
   does-coins effect (Crashes n node node_is is) = subst (λ (e : LineEffect). P e.event) (sym is) tt
   does-coins effect (Commands command n node deed fit done is) =
       subst (λ (e : LineEffect). P e.event) (sym is) (deed-coins command n node deed fit done)
@@ -163,7 +168,7 @@ left-are-legal dig lines run world line effect run_is in_grammar is =
     subst (λ (e : LineEffect). IsLeft (tests_by dig) (rules_of world.chain) (events_of run.entries) e.event)
     (sym made.effect_is)
     (does-coins dig (events_of run.entries) world (is-behind dig lines run world run_is) kept
-    (runs-left dig lines run world run_is) made.bare (does-fit dig world line made.bare in_grammar made.bare_is))
+    (runs-left dig lines run world run_is) made.bare (does dig world line made.bare in_grammar made.keeps made.bare_is))
 
 -- so all events of every run are legal
 pub runs-legal : (dig : List ℕ → List ℕ) (lines : List Line) (run : Run) (world : World)

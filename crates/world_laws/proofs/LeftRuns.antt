@@ -5,6 +5,8 @@ use Rattle.std.specs.List.{All, list_any}
 use Rattle.std.proofs.lemmas.Bool.{cases_eq, eqb-true, ne_eqb, and_parts, or_cases, or_parts, false≢true}
 use Rattle.std.proofs.lemmas.List.Elements.{All-nil}
 use Rattle.plasma_tx.specs.declared.call.RootCall.{RootCall}
+use Rattle.root_rules.specs.Shown.{tests_by, rules_of}
+use Rattle.root_rules.specs.Table.{answer_to, is_accepted}
 use Rattle.schedule_text.specs.declared.line.Line.{Line}
 use Rattle.schedule_text.specs.declared.command.Command.{Command}
 use Rattle.schedule_text.specs.Grammar.{IsLine}
@@ -14,10 +16,10 @@ use Rattle.wallet_core.specs.State.{is_noted}
 use Rattle.node_rules.specs.WalletCommandLaws.{HaveOpenings}
 use Rattle.node_rules.specs.WalletRecords.{notes_of, accepted_of}
 use Rattle.node_rules.specs.Wallet.{WalletRecords, noted}
-use Rattle.world_rules.specs.Events.{Event, Watches, Leaves, Seals, Other, coin_of_call, node_in, is_command_of}
+use Rattle.world_rules.specs.Events.{Event, Joins, Bounces, Idle, Watches, Leaves, Seals, Other, coin_of_call, node_in, is_command_of}
 use Rattle.world_rules.specs.World.{Role, Wallet, Watcher, Operator, Node, World, is_wallet_role, is_watcher_role, is_operator_role, wallet_of}
 use Rattle.world_rules.specs.Deeds.{Gives, Deed, without_record, due_at_node, on_watch, on_open, exit_block, deed_of}
-use Rattle.world_rules.specs.Steps.{LineEffect, new_chain, operator_node, with_records, after_command, after_crash, cut, without_offers, step, entry_of, Run, events_of}
+use Rattle.world_rules.specs.Steps.{LineEffect, called, new_chain, operator_node, with_records, after_command, after_crash, cut, without_offers, step, entry_of, Run, events_of}
 use Rattle.world_rules.proofs.Said.{said}
 use Rattle.world_rules.proofs.OwnEvents.{IsOfNode, Owns, Sealing, of_node}
 use Rattle.world_rules.proofs.OfferLaws.{own-by}
@@ -33,7 +35,7 @@ use Rattle.world_laws.proofs.Lists.{some_same, none_some}
 use Rattle.world_laws.proofs.Identities.{next-unknown}
 use Rattle.world_laws.proofs.DeedOffers.{done-role}
 use Rattle.world_laws.proofs.Acts.{over_lines, runs-keep}
-use Rattle.world_laws.proofs.Fits.{DoesFit, Still, Adds, Crashes, Commands, Cuts, does-fit}
+use Rattle.world_laws.proofs.Origins.{Does, Rests, Enters, AddsWallet, AddsWatcher, AddsRogue, Crashes, Commands, Cuts, does}
 use Rattle.world_laws.proofs.LeftNotes.{NoNote, StillLeft, after_deed, other-left, wallet-left}
 
 -- ---- what is left by one more event
@@ -274,30 +276,47 @@ module _ (dig : List ℕ → List ℕ) (events : List Event) (world : World) (ke
   abbrev After : LineEffect → Type 0
   After effect = AreLeft dig (effect.event ∷ events) effect.world.nodes
 
-  does-left : list_any (is_command_of (length world.nodes)) events ≡ false → (effect : LineEffect)
-      → DoesFit dig world effect → After effect
-  does-left unused effect (Still nodes none) =
-      subst (AreLeft dig (effect.event ∷ events)) (sym nodes) (record {
-        each = λ n node is wallet.
-            node-same dig events (effect.event ∷ events) n node (left-plain effect.event events n none)
-            (are.each n node is wallet);
-      })
-  does-left unused effect (Adds node identity nodes notes none) =
-      subst (AreLeft dig (effect.event ∷ events)) (sym nodes)
-      (push-left dig events effect.event world.nodes node (record {
-        openings = bare-openings dig (wallet_of node) identity notes;
-        left = λ c e is. absurd (false≢true
-            (sym (ap (λ starts. is_left starts c e) (left-plain effect.event events (length world.nodes) none
-            ∙ unused-left events (length world.nodes) unused)) ∙ is));
-      }) none are)
-  does-left unused effect (Crashes n node is effect_is) =
-      subst After (sym effect_is) (crash-left n node is)
-  does-left unused effect (Commands command n node deed fit done effect_is) =
-      subst After (sym effect_is) (done-left command n node deed fit done)
-  does-left unused effect (Cuts command calls outcome n node deed fit done effect_is) =
-      subst After (sym effect_is)
-      (cut-left command n node deed fit done (cut world n node calls outcome command deed)
-      (is_cut world n node calls outcome command deed))
+  -- an event of no node leaves the nodes
+  still : (event : Event) → node_in event ≡ None → AreLeft dig (event ∷ events) world.nodes
+  still event none = record {
+    each = λ n node is wallet.
+        node-same dig events (event ∷ events) n node (left-plain event events n none) (are.each n node is wallet);
+  }
+
+  module _ (unused : list_any (is_command_of (length world.nodes)) events ≡ false) where
+    -- a node is declared, whose one note is its identity
+    added : (event : Event) (node : Node) (identity : List ℕ) → node_in event ≡ None → node.notes ≡ identity ∷ []
+        → AreLeft dig (event ∷ events) (world.nodes ++ node ∷ [])
+    added event node identity none notes =
+        push-left dig events event world.nodes node (record {
+          openings = bare-openings dig (wallet_of node) identity notes;
+          left = λ c e is. absurd (false≢true
+              (sym (ap (λ starts. is_left starts c e) (left-plain event events (length world.nodes) none
+              ∙ unused-left events (length world.nodes) unused)) ∙ is));
+        }) none are
+
+    does-left : (effect : LineEffect) → Does dig world effect → After effect
+    does-left effect (Rests reply made is) = subst After (sym is) (still Idle refl)
+    does-left effect (Enters callers call from is) =
+        subst After (sym is)
+        (still (called dig (record world { raw_callers = callers }) call).event
+        (entered (is_accepted (answer_to (tests_by dig) (rules_of world.chain) world.chain.log call))))
+      where
+        entered : (b : Bool) → node_in (if b then Joins call else Bounces call) ≡ None
+        entered true = refl
+        entered false = refl
+    does-left effect (AddsWallet name account seed types line may is) =
+        subst After (sym is) (added _ _ _ refl refl)
+    does-left effect (AddsWatcher name account line may is) = subst After (sym is) (added _ _ _ refl refl)
+    does-left effect (AddsRogue name who is) = subst After (sym is) (still Idle refl)
+    does-left effect (Crashes n node is effect_is) =
+        subst After (sym effect_is) (crash-left n node is)
+    does-left effect (Commands command n node deed fit done effect_is) =
+        subst After (sym effect_is) (done-left command n node deed fit done)
+    does-left effect (Cuts command calls outcome n node deed fit done effect_is) =
+        subst After (sym effect_is)
+        (cut-left command n node deed fit done (cut world n node calls outcome command deed)
+        (is_cut world n node calls outcome command deed))
 
 -- ---- every run
 
@@ -327,7 +346,7 @@ next-left dig lines run world line effect run_is in_grammar are is =
     subst (λ (e : LineEffect). AreLeft dig (e.event ∷ events_of run.entries) e.world.nodes) (sym made.effect_is)
     (does-left dig (events_of run.entries) world kept are
     (next-unknown (events_of run.entries) world.chain.tag world.nodes keeps.nodes).1 made.bare
-    (does-fit dig world line made.bare in_grammar made.bare_is))
+    (does dig world line made.bare in_grammar made.keeps made.bare_is))
 
 -- what each wallet left with is noted, and what it accepts has openings
 pub runs-left : (dig : List ℕ → List ℕ) (lines : List Line) (run : Run) (world : World) → IsRun dig lines run world

@@ -29,7 +29,6 @@ pub mod AcceptsShown
 pub mod Accepting
 pub mod AtTops
 pub mod LegalLeaves
-pub mod Fits
 pub mod LeftNotes
 pub mod LeftRuns
 pub mod LegalCoins
