@@ -47,3 +47,7 @@ pub mod SignedStays
 pub mod SignedRuns
 pub mod Words
 pub mod Promises
+pub mod Samples
+pub mod OwnExitSamples
+pub mod AttendanceSamples
+pub mod ExhibitSamples
