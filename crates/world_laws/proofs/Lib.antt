@@ -45,9 +45,9 @@ pub mod SignedMessages
 pub mod SignedDeeds
 pub mod SignedStays
 pub mod SignedRuns
-pub mod Words
-pub mod Promises
 pub mod Samples
 pub mod OwnExitSamples
 pub mod AttendanceSamples
 pub mod ExhibitSamples
+pub mod Words
+pub mod Promises
