@@ -77,13 +77,13 @@ unfolding is_attended is_guarded is_quiet guarded_by watchers holds log_of walle
     not_taken now blocks coins coin_at exits exit_at is_withdrawn
 watch-attends = refl
 
--- the watch offers a call for the coin; a second exit stands, so that a deadline is left when that call is entered, and
--- only a watch that then offers none attends
+-- the watch offers a call for the coin
 pub due-attends-not : attends (Watches 1 (After 21 1 5 spend ∷ []) ∷ started) ≡ false
 unfolding is_attended is_guarded is_quiet guarded_by watchers holds log_of wallet_owner accepted bound_by taken_back
     not_taken now blocks coins coin_at exits exit_at is_withdrawn
 due-attends-not = refl
 
+-- that call is entered, while a second exit stands: the tick needs another watch, which then offers none
 abbrev pub entered : List Event
 entered =
     Joins (After 21 1 5 spend)

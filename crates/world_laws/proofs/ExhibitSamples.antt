@@ -1,25 +1,26 @@
 -- Small lists of events on which what they exhibit is computed, under digests that two strings share and under one
 -- that none do. A valid signature takes SHA-256, which isn't computed here: so no list here shows a forgery.
 use Rattle.std.proofs.Common.{◌≡◌, ℕ, ◌+◌, ◌&&◌, ◌||◌, not, Bool, true, false, List, [], ◌∷◌, ◌++◌, refl, ap, ◌∙◌}
-use Rattle.std.specs.Prelude.{replicate, slice_index_or}
+use Rattle.std.specs.Prelude.{slice_index_or}
 use Rattle.std.specs.List.{list_any}
 use Rattle.std.specs.Str.{bytes_eq}
-use Rattle.lms_sign.specs.Types.{u32_at}
+use Rattle.lms_sign.specs.Types.{height, chains, u32_at}
 use Rattle.sparse_merkle.specs.MaskedPath.{set_bits, siblings_in, proof_in, proof_path, lowest_default}
 use Rattle.sparse_merkle.specs.Opening.{hashed_string, hashed_strings}
 use Rattle.sparse_merkle.specs.TreeDigest.{subtree_digest}
 use Rattle.plasma_tx.specs.declared.opening.RawOpening.{RawOpening}
 use Rattle.plasma_tx.specs.declared.call.Shown.TheVariants.{Deposit as AtDeposit}
 use Rattle.plasma_tx.specs.declared.call.RootCall.{RootCall}
-use Rattle.plasma_tx.specs.declared.call.RootCall.TheVariants.{Tick, StartSpend, After, Finish}
+use Rattle.plasma_tx.specs.declared.call.RootCall.TheVariants.{StartSpend}
 use Rattle.plasma_tx.specs.Spelling.{owner_text, body_text, owner_in, body_in, signed_in}
 use Rattle.plasma_tx.specs.Openings.{leaf_in, opening_in}
 use Rattle.plasma_tx.specs.Transfer.{transfer_in, is_signed_by}
+use Rattle.lms_sign.specs.Valid.{is_valid}
 use Rattle.world_rules.specs.declared.verdict.Exhibit.{Exhibit}
-use Rattle.world_rules.specs.Events.{Event, Joins, Bounces, Accepts, Guards, Watches, wallet_owner, wallets, bound_by}
+use Rattle.world_rules.specs.Events.{Event, Joins, Bounces, Accepts, Guards, wallet_owner, wallets, bound_by}
 use Rattle.world_rules.specs.Exhibits.{openings_of, coin_of, seen, strings_of, do_clash, has_clash, collides, all_strings, first_clash, is_forged, first_forgery, exhibit_of}
-use Rattle.world_laws.proofs.Samples.{tag, spend, deposited, watched_loss}
-use Rattle.world_laws.proofs.OwnExitSamples.{own_started}
+use Rattle.world_laws.proofs.Samples.{tag, opened, watched_loss, shown_loss}
+use Rattle.world_laws.proofs.OwnExitSamples.{own_cancelled}
 
 -- ---- digests and openings
 
@@ -34,10 +35,6 @@ shared string = []
 -- the digest that is the string itself, which no two share
 abbrev pub itself : List ℕ → List ℕ
 itself string = string
-
--- an opening of a leaf of two bytes, each of whose siblings is the default of its level
-abbrev pub opened : ℕ → ℕ → ℕ → RawOpening
-opened block one other = record { block = block; bytes = 0 ∷ 0 ∷ 0 ∷ 2 ∷ one ∷ other ∷ replicate 8 0 }
 
 -- a wallet accepts these openings of coin 1, and a watcher takes them
 abbrev pub accepts : List RawOpening → Event
@@ -100,8 +97,9 @@ node-and-refused = refl
 pub two-nodes-exhibit : exhibit_of second_byte tag to_nodes
     ≡ Exhibit.Collision (1 ∷ 99 ∷ 1 ∷ []) (1 ∷ 99 ∷ 2 ∷ [])
 unfolding exhibit_of first_clash all_strings coin_of first_forgery openings_of strings_of wallets wallet_owner
-    bound_by owner_text body_text owner_in body_in signed_in transfer_in is_signed_by u32_at opening_in leaf_in
-    proof_in set_bits siblings_in lowest_default proof_path hashed_string hashed_strings subtree_digest
+    bound_by owner_text body_text owner_in body_in signed_in transfer_in is_signed_by is_valid height chains u32_at
+    opening_in leaf_in proof_in set_bits siblings_in lowest_default proof_path hashed_string hashed_strings
+    subtree_digest
 two-nodes-exhibit = refl
 
 -- where all strings share a digest, a leaf's string and that of the node above it do
@@ -145,24 +143,17 @@ watched-loss-collides dig = refl
 
 pub watched-loss-forged : is_forged tag watched_loss 1 1 ≡ false
 unfolding is_forged openings_of wallet_owner bound_by owner_text body_text owner_in body_in signed_in leaf_in
-    transfer_in is_signed_by u32_at
+    transfer_in is_signed_by is_valid height chains u32_at
 watched-loss-forged = refl
 
-pub watched-loss-exhibit : exhibit_of shared tag watched_loss ≡ Exhibit.Nothing
+pub watched-loss-exhibit : (dig : List ℕ → List ℕ) → exhibit_of dig tag watched_loss ≡ Exhibit.Nothing
 unfolding exhibit_of first_clash all_strings coin_of first_forgery openings_of strings_of wallets wallet_owner
-    bound_by owner_text body_text owner_in body_in signed_in transfer_in is_signed_by u32_at opening_in leaf_in
-    proof_in set_bits siblings_in lowest_default proof_path hashed_string hashed_strings subtree_digest
-watched-loss-exhibit = refl
+    bound_by owner_text body_text owner_in body_in signed_in transfer_in is_signed_by is_valid height chains u32_at
+    opening_in leaf_in proof_in set_bits siblings_in lowest_default proof_path hashed_string hashed_strings
+    subtree_digest
+watched-loss-exhibit dig = refl
 
--- the same where the start shows an opening, under the digest that all strings share: the loss exhibits
-abbrev pub shown_loss : List Event
-shown_loss =
-    Joins (Finish 30 1 5)
-    ∷ Joins (Tick 907200)
-    ∷ Watches 1 []
-    ∷ Joins (StartSpend 30 1 (AtDeposit 1) (opened 5 99 1))
-    ∷ deposited
-
+-- where its start shows an opening, and all strings share a digest, the loss exhibits
 pub shown-loss-collides : collides shared shown_loss 1 ≡ true
 unfolding collides has_clash strings_of seen openings_of opening_in leaf_in proof_in set_bits siblings_in
     lowest_default proof_path hashed_string hashed_strings subtree_digest
@@ -170,18 +161,21 @@ shown-loss-collides = refl
 
 pub shown-loss-exhibit : exhibit_of shared tag shown_loss ≡ Exhibit.Collision (1 ∷ 99 ∷ 1 ∷ []) (2 ∷ [])
 unfolding exhibit_of first_clash all_strings coin_of first_forgery openings_of strings_of wallets wallet_owner
-    bound_by owner_text body_text owner_in body_in signed_in transfer_in is_signed_by u32_at opening_in leaf_in
-    proof_in set_bits siblings_in lowest_default proof_path hashed_string hashed_strings subtree_digest
+    bound_by owner_text body_text owner_in body_in signed_in transfer_in is_signed_by is_valid height chains u32_at
+    opening_in leaf_in proof_in set_bits siblings_in lowest_default proof_path hashed_string hashed_strings
+    subtree_digest
 shown-loss-exhibit = refl
 
--- The exit that a spend cancelled: it has no signature, which `lax` took and a contract refuses, so it forges nothing.
-pub own-cancelled-forged : is_forged tag (Joins (After 30 1 1 spend) ∷ own_started) 1 1 ≡ false
+-- the wallet's exit that a spend without a signature cancelled: `lax` passes it, and no contract does; so it is no
+-- forgery, and nothing is exhibited
+pub own-cancelled-forged : is_forged tag own_cancelled 1 1 ≡ false
 unfolding is_forged openings_of wallet_owner bound_by owner_text body_text owner_in body_in signed_in leaf_in
-    transfer_in is_signed_by u32_at
+    transfer_in is_signed_by is_valid height chains u32_at
 own-cancelled-forged = refl
 
-pub own-cancelled-exhibit : exhibit_of shared tag (Joins (After 30 1 1 spend) ∷ own_started) ≡ Exhibit.Nothing
+pub own-cancelled-exhibit : (dig : List ℕ → List ℕ) → exhibit_of dig tag own_cancelled ≡ Exhibit.Nothing
 unfolding exhibit_of first_clash all_strings coin_of first_forgery openings_of strings_of wallets wallet_owner
-    bound_by owner_text body_text owner_in body_in signed_in transfer_in is_signed_by u32_at opening_in leaf_in
-    proof_in set_bits siblings_in lowest_default proof_path hashed_string hashed_strings subtree_digest
-own-cancelled-exhibit = refl
+    bound_by owner_text body_text owner_in body_in signed_in transfer_in is_signed_by is_valid height chains u32_at
+    opening_in leaf_in proof_in set_bits siblings_in lowest_default proof_path hashed_string hashed_strings
+    subtree_digest
+own-cancelled-exhibit dig = refl

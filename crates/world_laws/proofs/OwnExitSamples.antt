@@ -1,18 +1,21 @@
 -- Small lists of events on which it is computed what becomes of a wallet's own exit.
-use Rattle.std.proofs.Common.{◌≡◌, true, false, List, [], ◌∷◌, Some, None, refl}
+use Rattle.std.proofs.Common.{◌&&◌, ◌≡◌, Bool, true, false, List, [], ◌∷◌, Some, None, refl}
 use Rattle.plasma_tx.specs.declared.call.Shown.TheVariants.{Deposit as AtDeposit, Spend}
-use Rattle.plasma_tx.specs.declared.call.RootCall.TheVariants.{Tick, Commit, StartDeposit, StartSpend, After, Between, Before, Respond, Finish}
+use Rattle.plasma_tx.specs.declared.call.RootCall.{RootCall}
+use Rattle.plasma_tx.specs.declared.call.RootCall.TheVariants.{Fund, Tick, Deposit, Commit, StartDeposit, StartSpend, After, Between, Before, Respond, Finish}
 use Rattle.plasma_tx.specs.Spelling.{owner_text, body_text, owner_in, body_in, signed_in}
 use Rattle.plasma_tx.specs.Openings.{leaf_in}
 use Rattle.plasma_tx.specs.Transfer.{transfer_in, recipient_in}
 use Rattle.plasma_tx.specs.Views.{now, blocks, coins, block_at, coin_at, responses, exits, exit_at, is_withdrawn}
-use Rattle.root_rules.specs.Shown.{shown_tx}
-use Rattle.root_rules.specs.Table.{answer_to}
+use Rattle.root_rules.specs.Shown.{Tests, shown_tx}
+use Rattle.root_rules.specs.Money.{balance_of, funded, share_of, pays, takes}
+use Rattle.root_rules.specs.Table.{answer_to, is_accepted}
+use Rattle.lms_sign.specs.Types.{u32_at}
 use Rattle.world_rules.specs.declared.verdict.VerdictKind.{VerdictKind}
-use Rattle.world_rules.specs.Events.{Event, Joins, Bounces, Watches, log_of, wallet_owner, accepted, bound_by, taken_back, not_taken, guarded_by, watchers}
+use Rattle.world_rules.specs.Events.{Event, Declares, Joins, Bounces, Watches, Leaves, log_of, wallet_owner, accepted, bound_by, taken_back, not_taken, guarded_by, watchers}
 use Rattle.world_rules.specs.Safety.{holds, is_quiet, is_guarded, is_attended, is_safe, call_harms}
 use Rattle.world_rules.specs.Verdicts.{verdict_at, exit_was_paid, before_taking, first_unattended}
-use Rattle.world_laws.proofs.Samples.{blank, spend, judged, deposited, received}
+use Rattle.world_laws.proofs.Samples.{key, me, rules, blank, spend, judged, deposited, received}
 
 -- the wallet starts the deposit's exit; block 2 was committed before
 abbrev pub own_started : List Event
@@ -44,7 +47,10 @@ own-early-judged = refl
 
 -- A spend of its block cancels it, with no tick before: attended and lost. The tests took the spend for signed, which
 -- it isn't: no run has this list.
-pub own-cancelled-judged : judged (Joins (After 30 1 1 spend) ∷ own_started) 1
+abbrev pub own_cancelled : List Event
+own_cancelled = Joins (After 30 1 1 spend) ∷ own_started
+
+pub own-cancelled-judged : judged own_cancelled 1
     ≡ record { held = true; attended = true; safe = false; unattended = None; verdict = VerdictKind.Lost }
 unfolding holds is_attended is_guarded is_quiet is_safe call_harms first_unattended verdict_at exit_was_paid
     before_taking answer_to guarded_by watchers block_at responses log_of wallet_owner accepted bound_by taken_back
@@ -91,14 +97,15 @@ unfolding holds is_attended is_guarded is_quiet is_safe call_harms first_unatten
     leaf_in transfer_in shown_tx recipient_in
 own-between-judged = refl
 
--- the wallet starts the accepted coin's exit, whose parent is in block 2, and the deposit is held against it; then the
--- wallet answers that
+-- the wallet starts the accepted coin's exit, whose parent is in block 2, and a stranger challenges it with the
+-- deposit
 abbrev pub challenged : List Event
 challenged =
     Joins (Before 40 1 3 (AtDeposit 1))
     ∷ Joins (StartSpend 21 1 (Spend (blank 2)) (blank 3))
     ∷ received
 
+-- the wallet answers the challenge
 abbrev pub answered : List Event
 answered = Joins (Respond 21 1 3 1 spend) ∷ challenged
 
@@ -126,3 +133,37 @@ unfolding holds is_attended is_guarded is_quiet is_safe call_harms first_unatten
     before_taking answer_to guarded_by watchers block_at responses log_of wallet_owner accepted bound_by taken_back
     not_taken now blocks coins coin_at exits exit_at is_withdrawn
 own-answered-judged = refl
+
+-- ---- calls that each contract accepts
+
+-- each call of a log is accepted after those before it
+abbrev pub are_accepted : Tests → List RootCall → Bool
+are_accepted tests [] = true
+are_accepted tests (call ∷ log) = is_accepted (answer_to tests rules log call) && are_accepted tests log
+
+-- The wallet's account is funded for the deposit and the bond, and deposits; the wallet leaves, its start is entered,
+-- it watches, and its exit is paid at its end.
+abbrev pub left : List Event
+left =
+    Joins (Finish 21 1 1)
+    ∷ Joins (Tick 907200)
+    ∷ Watches 1 []
+    ∷ Joins (StartDeposit 21 1 1)
+    ∷ Leaves 1 (StartDeposit 21 1 1)
+    ∷ Joins (Deposit 21 5 (key 7))
+    ∷ Joins (Fund 21 105)
+    ∷ Declares 1 me
+    ∷ []
+
+-- a contract accepts these calls, whatever openings and signatures pass
+pub left-accepted : (tests : Tests) → are_accepted tests (log_of left) ≡ true
+unfolding answer_to balance_of funded share_of pays takes u32_at block_at responses log_of wallet_owner accepted
+    bound_by taken_back not_taken now blocks coins coin_at exits exit_at is_withdrawn
+left-accepted tests = refl
+
+pub left-judged : judged left 1
+    ≡ record { held = false; attended = true; safe = true; unattended = None; verdict = VerdictKind.Paid }
+unfolding holds is_attended is_guarded is_quiet is_safe call_harms first_unattended verdict_at exit_was_paid
+    before_taking answer_to guarded_by watchers block_at responses log_of wallet_owner accepted bound_by taken_back
+    not_taken now blocks coins coin_at exits exit_at is_withdrawn
+left-judged = refl

@@ -20,9 +20,9 @@ use Rattle.world_rules.specs.Verdicts.{verdict_at, exit_was_paid, before_taking,
 
 -- ---- who and what
 
--- the key of an owner: this byte, 56 times
+-- the key of an owner: a supported pair of types, and this byte 48 times
 abbrev pub key : ℕ → List ℕ
-key byte = replicate 56 byte
+key byte = 0 ∷ 0 ∷ 0 ∷ 5 ∷ 0 ∷ 0 ∷ 0 ∷ 3 ∷ replicate 48 byte
 
 -- The wallet is node 1 and the watcher node 2; account 9 is the operator's, 21 the wallet's, and all others are
 -- strangers'.
@@ -45,6 +45,10 @@ lax = record { opens = λ root coin opening. true; is_signed = λ tx owner. true
 -- an opening without bytes, which shows nothing
 abbrev pub blank : ℕ → RawOpening
 blank block = record { block = block; bytes = [] }
+
+-- an opening of a leaf of two bytes, each of whose siblings is the default of its level
+abbrev pub opened : ℕ → ℕ → ℕ → RawOpening
+opened block one other = record { block = block; bytes = 0 ∷ 0 ∷ 0 ∷ 2 ∷ one ∷ other ∷ replicate 8 0 }
 
 -- the transfer of a coin from block 1 to the stranger
 abbrev pub sends : ℕ → Body
@@ -264,8 +268,7 @@ unfolding holds is_attended is_guarded is_quiet is_safe call_harms first_unatten
 unwatched-judged = refl
 
 -- Paid although the wallet watched before the tick, and nothing was due: attended and lost. The headline holds since
--- this is no run's list: the start's opening is unreadable, so no contract accepts it. Where it is read, the list
--- exhibits, as `ExhibitSamples` has it.
+-- this is no run's list: the start's opening is unreadable, so that no contract accepts it.
 abbrev pub watched_loss : List Event
 watched_loss = Joins (Finish 30 1 5) ∷ Joins (Tick 907200) ∷ Watches 1 [] ∷ started
 
@@ -275,6 +278,22 @@ unfolding holds is_attended is_guarded is_quiet is_safe call_harms first_unatten
     before_taking answer_to guarded_by watchers block_at responses log_of wallet_owner accepted bound_by taken_back
     not_taken now blocks coins coin_at exits exit_at is_withdrawn
 watched-loss-judged = refl
+
+-- the same with an opening that is read; `ExhibitSamples` has what it exhibits
+abbrev pub shown_loss : List Event
+shown_loss =
+    Joins (Finish 30 1 5)
+    ∷ Joins (Tick 907200)
+    ∷ Watches 1 []
+    ∷ Joins (StartSpend 30 1 (AtDeposit 1) (opened 5 99 1))
+    ∷ deposited
+
+pub shown-loss-judged : judged shown_loss 1
+    ≡ record { held = false; attended = true; safe = false; unattended = None; verdict = VerdictKind.Lost }
+unfolding holds is_attended is_guarded is_quiet is_safe call_harms first_unattended verdict_at exit_was_paid
+    before_taking answer_to guarded_by watchers block_at responses log_of wallet_owner accepted bound_by taken_back
+    not_taken now blocks coins coin_at exits exit_at is_withdrawn
+shown-loss-judged = refl
 
 -- another account's exit of a coin that was sent away before is paid: no harm to the wallet, and nothing to attend
 pub sent-then-paid-judged : judged (Joins (Finish 30 1 5) ∷ Joins (Tick 907200) ∷ Binds 1 (sends 1) ∷ started) 1
