@@ -47,3 +47,4 @@ pub mod SignedStays
 pub mod SignedRuns
 pub mod Words
 pub mod Promises
+pub mod BundleTaken
