@@ -48,3 +48,4 @@ pub mod SignedRuns
 pub mod Words
 pub mod Promises
 pub mod BundleTaken
+pub mod OperatorLines
