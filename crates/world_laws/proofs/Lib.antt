@@ -49,3 +49,4 @@ pub mod Words
 pub mod Promises
 pub mod BundleTaken
 pub mod OperatorLines
+pub mod QuietOffers
