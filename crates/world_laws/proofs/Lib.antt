@@ -50,3 +50,6 @@ pub mod Promises
 pub mod BundleTaken
 pub mod OperatorLines
 pub mod QuietOffers
+pub mod OperatorKeeping
+pub mod OperatorSteps
+pub mod OperatorRuns
