@@ -53,3 +53,4 @@ pub mod QuietOffers
 pub mod OperatorKeeping
 pub mod OperatorSteps
 pub mod OperatorRuns
+pub mod OperatorGrowth
