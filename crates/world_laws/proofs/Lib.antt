@@ -54,3 +54,4 @@ pub mod OperatorKeeping
 pub mod OperatorSteps
 pub mod OperatorRuns
 pub mod OperatorGrowth
+pub mod BundleMade
