@@ -55,3 +55,5 @@ pub mod OperatorSteps
 pub mod OperatorRuns
 pub mod OperatorGrowth
 pub mod BundleMade
+pub mod BundleHistories
+pub mod BundlesTaken
