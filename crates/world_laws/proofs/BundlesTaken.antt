@@ -38,7 +38,7 @@ use Rattle.world_rules.proofs.KeptWorld.{KeptWorld}
 use Rattle.world_rules.proofs.Shapes.{acted}
 use Rattle.world_rules.proofs.StepLaws.{stepped}
 use Rattle.world_laws.specs.Headline.{IsRun}
-use Rattle.world_laws.specs.Bundles.{is_barred, CommitsOnce, IsHonestSoFar, WasBundled, IsTakenBundle}
+use Rattle.world_laws.specs.Bundles.{is_barred, CommitsOnce, IsHonestSoFar, WasBundled, IsTakenBundle, HonestBundlesAreTaken}
 use Rattle.world_laws.proofs.Lists.{some_same}
 use Rattle.world_laws.proofs.Acts.{runs-keep}
 use Rattle.world_laws.proofs.Identities.{IsWallet, IsOfRole, wallet-node}
@@ -46,6 +46,7 @@ use Rattle.world_laws.proofs.SignedDeeds.{named-role}
 use Rattle.world_laws.proofs.BundleTaken.{taken-bundle}
 use Rattle.world_laws.proofs.BundleMade.{bundle-again, IsMadeBundle, line-made}
 use Rattle.world_laws.proofs.BundleHistories.{coins-few, tree-at-same, place-same, distinct-before, IsGoodAt, good-at, IsOwnHistory, own-history}
+use Rattle.world_laws.proofs.NoteLengths.{note-short}
 use Rattle.world_laws.proofs.OperatorKeeping.{IsKeeping}
 use Rattle.world_laws.proofs.OperatorRuns.{AreAllowed, runs-keeping}
 use Rattle.world_laws.proofs.OperatorGrowth.{HasMore, HasTrees, grown-trees, IsSplit, split}
@@ -284,3 +285,14 @@ taken-by dig lines run world node n coin tip name bytes token effect run_is own 
     (accept_effect dig (wallet_of node) world.chain.log bytes).answer).reply) own.tip_is
     (subst (λ (c : ℕ). IsTakenBundle world.chain.log c (tip_of own.links) (answered n wallet_cause (on_accepted n bytes)
     (accept_effect dig (wallet_of node) world.chain.log bytes).answer).reply) own.coin_is taken))
+
+-- ---- the law
+
+pub honest_bundles_are_taken : HonestBundlesAreTaken
+honest_bundles_are_taken dig lines run world op node n coin tip name bytes token made effect run_is honest was number
+    node_is is_up coin_is place_is bytes_are is =
+    let own = own-bundle dig lines run world op coin tip bytes made (owner_of_node node) run_is honest was coin_is
+    place_is in
+    let short = note-short dig world.chain.tag world.chain.log own.0.bundle own.0.links own.0.history own.1 in
+    taken-by dig lines run world node n coin tip name bytes token effect run_is own.0 short number node_is is_up
+    bytes_are is

@@ -56,4 +56,5 @@ pub mod OperatorRuns
 pub mod OperatorGrowth
 pub mod BundleMade
 pub mod BundleHistories
+pub mod NoteLengths
 pub mod BundlesTaken
