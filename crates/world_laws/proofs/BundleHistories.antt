@@ -1,15 +1,10 @@
 -- A bundle that an operator makes that keeps to the rules is one of a history.
-use Rattle.std.proofs.Common.{◌≡◌, ◌⊎◌, ℕ, zero, suc, ◌+◌, ◌^◌, ◌<◌, ◌≤◌, ◌==◌, ◌&&◌, ◌||◌, not, Bool, true, false, if◌then◌else◌, List, [], ◌∷◌, ◌++◌, length, filter, Contains, Option, Some, None, Ok, inl, inr, refl, sym, ap, ◌∙◌, subst, slice_get, nat_lt, arith}
-use Rattle.std.specs.Prelude.{Result, option_map}
-use Rattle.std.specs.List.{list_any}
+use Rattle.std.proofs.Common.{◌≡◌, ℕ, zero, suc, ◌+◌, ◌^◌, ◌<◌, ◌≤◌, ◌==◌, Bool, true, false, if◌then◌else◌, List, [], ◌∷◌, length, filter, Contains, Option, Some, None, Ok, refl, sym, ap, ◌∙◌, subst, nat_lt, arith}
 use Rattle.std.specs.Option.{option_and_then}
 use Rattle.std.specs.Str.{bytes_eq}
-use Rattle.std.proofs.lemmas.Bool.{eq-eqb, and_from, or_parts, true≢false}
+use Rattle.std.proofs.lemmas.Bool.{eq-eqb, and_from}
 use Rattle.std.proofs.lemmas.List.Elements.{Contains-append_left}
-use Rattle.std.proofs.lemmas.List.Folds.{list_any-append}
 use Rattle.std.proofs.lemmas.Slice.Eq.{bytes_eq-Decides}
-use Rattle.line_forms.specs.declared.tokens.HexOrItem.{HexOrItem}
-use Rattle.line_forms.proofs.FormLaws.{and_then_some}
 use Rattle.sparse_merkle.specs.declared.tree.Entry.{Entry}
 use Rattle.sparse_merkle.specs.TreeDigest.{leaf_of}
 use Rattle.plasma_tx.specs.declared.owner.Owner.{Owner}
@@ -21,9 +16,7 @@ use Rattle.plasma_tx.specs.Links.{tip_of, last_owner_of}
 use Rattle.plasma_tx.specs.Transfer.{transfer_in}
 use Rattle.plasma_tx.specs.Views.{blocks, coins, block_at, coin_at}
 use Rattle.root_rules.specs.Shown.{root_in, root_at, tests_by}
-use Rattle.root_rules.proofs.Bounds.{coin_at-le}
 use Rattle.coin_history.specs.declared.bundle.Bundle.{Bundle}
-use Rattle.coin_history.specs.declared.refusal.HistoryRefusal.{HistoryRefusal}
 use Rattle.coin_history.specs.Bundles.{IsBundle, bundle_in, bundle_text}
 use Rattle.coin_history.specs.History.{IsHistory}
 use Rattle.coin_history.specs.Checking.{history_of}
@@ -31,10 +24,10 @@ use Rattle.coin_history.proofs.BundleLaws.{bundle_in-text}
 use Rattle.coin_history.proofs.HistoryFound.{histories_are_found}
 use Rattle.wallet_core.specs.State.{is_owner}
 use Rattle.node_rules.specs.Kept.{chain_of, checked_by, links_handed}
-use Rattle.operator_rules.specs.Records.{Note, notes_of}
+use Rattle.operator_rules.specs.Records.{Note}
 use Rattle.operator_rules.specs.Trees.{forest_of, tree_of, tree_at, commits}
-use Rattle.operator_rules.specs.Walk.{Place, start_of, moved_by, place_at}
-use Rattle.operator_rules.specs.Commands.{forest_in, bundle_of}
+use Rattle.operator_rules.specs.Walk.{start_of, moved_by, place_at}
+use Rattle.operator_rules.specs.Commands.{bundle_of}
 use Rattle.operator_rules.specs.Acts.{Act, log_of, kept_notes, times_committed, times_sealed, IsHonest, AreDistinct}
 use Rattle.operator_rules.proofs.Made.{bundles_are_histories}
 use Rattle.operator_rules.proofs.Trees.{root_at-deposit, sealed-tree}

@@ -1,5 +1,5 @@
 -- What a line makes that is answered with a bundle: the bytes of the bundle that the operator's notes and the log give.
-use Rattle.std.proofs.Common.{◌≡◌, ℕ, zero, suc, ◌==◌, ◌&&◌, Bool, true, false, if◌then◌else◌, List, [], ◌∷◌, Option, Some, None, Ok, Err, inl, inr, refl, sym, ap, ◌∙◌, subst, slice_get}
+use Rattle.std.proofs.Common.{◌≡◌, ℕ, ◌==◌, Bool, true, false, if◌then◌else◌, List, Some, Ok, Err, inl, inr, refl, sym, ap, ◌∙◌, slice_get}
 use Rattle.std.specs.Prelude.{Result}
 use Rattle.std.proofs.lemmas.Bool.{false≢true, eq-eqb, eqb-true, and_parts}
 use Rattle.line_forms.specs.declared.tokens.OutcomeToken.{OutcomeToken}

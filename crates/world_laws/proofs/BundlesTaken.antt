@@ -1,5 +1,5 @@
 -- A bundle that an operator made that keeps to the rules is taken by the wallet that it is for.
-use Rattle.std.proofs.Common.{◌≡◌, ℕ, zero, suc, ◌^◌, ◌<◌, ◌≤◌, ◌&&◌, ◌||◌, not, Bool, true, false, if◌then◌else◌, List, [], ◌∷◌, ◌++◌, length, Option, Some, None, Ok, inl, inr, refl, sym, ap, ◌∙◌, subst, slice_get, nat_lt, arith}
+use Rattle.std.proofs.Common.{◌≡◌, ℕ, zero, suc, ◌^◌, ◌<◌, ◌≤◌, ◌&&◌, not, Bool, true, false, if◌then◌else◌, List, [], ◌∷◌, ◌++◌, length, Some, Ok, refl, sym, ap, ◌∙◌, subst, slice_get, nat_lt, arith}
 use Rattle.std.specs.List.{list_any}
 use Rattle.std.proofs.lemmas.Bool.{or_parts, true≢false, false≢true}
 use Rattle.std.proofs.lemmas.List.Folds.{list_any-append}
@@ -11,9 +11,8 @@ use Rattle.plasma_tx.specs.declared.owner.Owner.{Owner}
 use Rattle.plasma_tx.specs.declared.views.CoinView.{CoinView}
 use Rattle.plasma_tx.specs.declared.call.RootCall.{RootCall}
 use Rattle.plasma_tx.specs.Spelling.{signed_in}
-use Rattle.plasma_tx.specs.Views.{blocks, coins, coin_at}
+use Rattle.plasma_tx.specs.Views.{blocks, coin_at}
 use Rattle.root_rules.proofs.Bounds.{coin_at-le}
-use Rattle.coin_history.specs.declared.bundle.Bundle.{Bundle}
 use Rattle.coin_history.specs.Bundles.{bundle_text}
 use Rattle.schedule_text.specs.declared.line.Line.{Line}
 use Rattle.schedule_text.specs.declared.command.Command.{Command}
@@ -22,14 +21,13 @@ use Rattle.schedule_text.specs.declared.command.OperatorCommand.{OperatorCommand
 use Rattle.node_rules.specs.Kept.{kept_of, links_handed, most_note}
 use Rattle.node_rules.specs.WalletRecords.{Accepts, note_text, who_is as who_is_wallet}
 use Rattle.node_rules.specs.Wallet.{accept_effect}
-use Rattle.operator_rules.specs.Records.{who_is, notes_of}
+use Rattle.operator_rules.specs.Records.{notes_of}
 use Rattle.operator_rules.specs.Trees.{tree_at}
 use Rattle.operator_rules.specs.Walk.{Place, place_at}
 use Rattle.operator_rules.specs.Commands.{forest_in, bundle_of, bundle_answer}
-use Rattle.world_rules.specs.declared.reply.Reply.{Reply}
 use Rattle.world_rules.specs.Causes.{wallet_cause}
 use Rattle.world_rules.specs.Events.{Event, Joins, log_of}
-use Rattle.world_rules.specs.World.{Role, Wallet, Watcher, Operator, Node, World, is_wallet_role, is_operator_role, number_of, owner_of_node, wallet_of, bytes_of}
+use Rattle.world_rules.specs.World.{Role, Wallet, Watcher, Operator, Node, World, is_wallet_role, number_of, owner_of_node, wallet_of, bytes_of}
 use Rattle.world_rules.specs.Safety.{is_joined}
 use Rattle.world_rules.specs.Deeds.{answered, on_accepted, wallet_deed, deed_of}
 use Rattle.world_rules.specs.Steps.{LineEffect, TraceEntry, Run, down, commanded, command_effect, effect_in, step, events_of}
@@ -48,7 +46,7 @@ use Rattle.world_laws.proofs.BundleMade.{bundle-again, IsMadeBundle, line-made}
 use Rattle.world_laws.proofs.BundleHistories.{coins-few, tree-at-same, place-same, distinct-before, IsGoodAt, good-at, IsOwnHistory, own-history}
 use Rattle.world_laws.proofs.NoteLengths.{note-short}
 use Rattle.world_laws.proofs.OperatorKeeping.{IsKeeping}
-use Rattle.world_laws.proofs.OperatorRuns.{AreAllowed, runs-keeping}
+use Rattle.world_laws.proofs.OperatorRuns.{AreAllowed, lines-same, runs-keeping}
 use Rattle.world_laws.proofs.OperatorGrowth.{HasMore, HasTrees, grown-trees, IsSplit, split}
 
 -- ---- events since a line
@@ -106,7 +104,7 @@ operator-answer dig events world coin asked tip effect keeping made =
 -- ---- the bundle is a history that ends with the wallet
 
 pub own-bundle : (dig : List ℕ → List ℕ) (lines : List Line) (run : Run) (world : World) (op : Node) (coin tip : ℕ)
-    (bytes : List ℕ) (made : CoinView) (me : Owner) → IsRun dig lines run world → IsHonestSoFar dig run world op
+    (bytes : List ℕ) (made : CoinView) (me : Owner) → IsRun dig lines run world → IsHonestSoFar dig lines run world op
     → WasBundled run coin tip bytes → coin_at world.chain.log coin ≡ Some made
     → place_at dig world.chain.tag world.chain.log (forest_in op.notes).sealed coin made tip
     ≡ record { block = tip; owner = me }
@@ -150,12 +148,15 @@ own-bundle dig lines run world op coin tip bytes made me run_is honest was coin_
     tag_same : world.chain.tag ≡ s.old.chain.tag
     tag_same = s.later.tag
 
+    allowed : AreAllowed run.entries
+    allowed = lines-same dig lines run run_is.run_is ∙ honest.allowed
+
     keeping : IsKeeping dig (events_of s.before.entries) s.old.chain s.old.nodes
     keeping =
         runs-keeping dig s.lines s.before s.old s.run_is
         (subst AreAllowed (sym s.entries_are)
         (allowed-before (was.entry ∷ []) was.earlier
-        (allowed-before was.later (was.entry ∷ was.earlier) (subst AreAllowed was.entries_are honest.allowed))))
+        (allowed-before was.later (was.entry ∷ was.earlier) (subst AreAllowed was.entries_are allowed))))
         (subst (λ (es : List TraceEntry). CommitsOnce (events_of es)) (sym s.entries_are)
         (once-rest was.entry was.earlier
         (once-before was.later (was.entry ∷ was.earlier)

@@ -1,6 +1,6 @@
 -- The note of a coin that a wallet accepts is never too long: a coin has at most as many links as the chain has blocks,
 -- and a link's opening is short, since its leaf is a transfer with a valid signature.
-use Rattle.std.proofs.Common.{◌≡◌, ℕ, zero, suc, ◌+◌, ◌-◌, ◌*◌, ◌<◌, ◌≤◌, ◌==◌, Bool, true, false, if◌then◌else◌, List, [], ◌∷◌, ◌++◌, length, map, filter, take, drop, All, Option, Some, None, Ok, Err, refl, sym, ap, ◌∙◌, subst, length-append, length-drop, nat_lt, nat_le, arith}
+use Rattle.std.proofs.Common.{◌≡◌, ℕ, zero, suc, ◌+◌, ◌-◌, ◌*◌, ◌≤◌, ◌==◌, Bool, true, false, if◌then◌else◌, List, [], ◌∷◌, ◌++◌, length, map, filter, drop, All, Option, Some, None, Ok, Err, refl, ap, subst, length-append, length-drop, nat_lt, nat_le, arith}
 use Rattle.std.specs.Prelude.{Result}
 use Rattle.std.specs.List.{filter_map, cons_option, flat_map, range_with_len}
 use Rattle.std.specs.Option.{option_map, option_map_or}

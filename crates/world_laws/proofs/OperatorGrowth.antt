@@ -3,7 +3,7 @@ use Rattle.std.proofs.Common.{◌≡◌, ℕ, zero, suc, Bool, true, false, if�
 use Rattle.std.specs.Prelude.{reverse}
 use Rattle.std.specs.List.{filter_map, cons_option, All}
 use Rattle.std.proofs.lemmas.List.{reverse-append}
-use Rattle.std.proofs.lemmas.List.Elements.{filter_map-append, All-head, All-tail}
+use Rattle.std.proofs.lemmas.List.Elements.{filter_map-append, All-tail}
 use Rattle.std.proofs.lemmas.Option.{slice_get_within}
 use Rattle.line_forms.proofs.FormLaws.{and_then_some, option_map_some}
 use Rattle.node_journal.specs.Role.{are_of}
@@ -16,7 +16,7 @@ use Rattle.operator_rules.specs.Trees.{Forest, after_note, forest_of, tree_of}
 use Rattle.operator_rules.specs.Commands.{forest_in}
 use Rattle.world_rules.specs.World.{Node, World}
 use Rattle.world_rules.specs.Declarations.{keeps_rules}
-use Rattle.world_rules.specs.Steps.{LineEffect, step, TraceEntry, entry_of, Run, no_lines, with_line, step_run, run_of, events_of}
+use Rattle.world_rules.specs.Steps.{LineEffect, step, TraceEntry, entry_of, Run, no_lines, with_line, step_run, run_of}
 use Rattle.world_rules.specs.Laws.{IsCommandIn, ChangesOneNode, GrowsAtMost}
 use Rattle.world_rules.proofs.KeptRun.{run-kept}
 use Rattle.world_rules.proofs.NodeLaws.{records_grow}

@@ -1,6 +1,6 @@
 -- An operator that keeps to the rules: what its notes and the log are as acts, that these are honest, and that one
 -- more event leaves it so.
-use Rattle.std.proofs.Common.{◌≡◌, ◌≢◌, ℕ, zero, suc, ◌+◌, ◌<◌, ◌≤◌, Bool, true, false, if◌then◌else◌, List, [], ◌∷◌, ◌++◌, length, filter, Some, Ok, inl, inr, refl, sym, ap, ◌∙◌, subst, set, slice_get, arith}
+use Rattle.std.proofs.Common.{◌≡◌, ℕ, suc, ◌+◌, ◌<◌, ◌≤◌, Bool, true, false, if◌then◌else◌, List, [], ◌∷◌, ◌++◌, length, filter, Some, Ok, inl, inr, refl, sym, ap, ◌∙◌, subst, set, slice_get, arith}
 use Rattle.std.specs.Option.{option_and_then}
 use Rattle.std.specs.Str.{bytes_eq}
 use Rattle.std.proofs.lemmas.Bool.{cases_eq, true≢false, false≢true}
@@ -25,7 +25,7 @@ use Rattle.operator_rules.specs.Commands.{forest_in}
 use Rattle.operator_rules.specs.Acts.{Act, Called, Kept, log_of, kept_notes, sealed_in, times_committed, times_sealed, IsInTime, IsHonestNote, IsHonestCall, IsHonest}
 use Rattle.operator_rules.proofs.Trees.{root_at-le, root_at-new, tree_of-grow, count-push}
 use Rattle.world_rules.specs.Events.{Event, Joins, is_command_of}
-use Rattle.world_rules.specs.World.{Role, Operator, Node, is_operator_role}
+use Rattle.world_rules.specs.World.{Operator, Node, is_operator_role}
 use Rattle.world_rules.proofs.Runs.{set-same, set-other, push-same, push-other}
 use Rattle.world_laws.specs.Bundles.{is_commit, commits_since}
 use Rattle.world_laws.proofs.Lists.{some_same}

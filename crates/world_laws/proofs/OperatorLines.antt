@@ -3,7 +3,7 @@ use Rattle.std.proofs.Common.{◌≡◌, ℕ, zero, suc, ◌-◌, ◌==◌, Bool
 use Rattle.std.specs.Prelude.{slice_get, option_map, option_and_then}
 use Rattle.std.proofs.lemmas.Bool.{false≢true}
 use Rattle.line_forms.specs.declared.tokens.OutcomeToken.{OutcomeToken}
-use Rattle.line_forms.proofs.FormLaws.{and_then_some, option_map_some}
+use Rattle.line_forms.proofs.FormLaws.{option_map_some}
 use Rattle.plasma_tx.specs.declared.owner.Owner.{Owner}
 use Rattle.plasma_tx.specs.declared.call.RootCall.{RootCall}
 use Rattle.schedule_text.specs.declared.line.Line.{Line}

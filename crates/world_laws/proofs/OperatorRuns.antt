@@ -1,26 +1,23 @@
 -- Over every run whose lines aren't barred, with each seal's commit entered once, the operator keeps to the rules.
-use Rattle.std.proofs.Common.{◌≡◌, ℕ, zero, suc, ◌+◌, ◌^◌, ◌<◌, ◌≤◌, ◌&&◌, ◌||◌, Bool, true, false, List, [], ◌∷◌, ◌++◌, length, Option, Some, None, is_some, inl, inr, refl, sym, ap, ◌∙◌, subst, slice_get, arith}
+use Rattle.std.proofs.Common.{◌≡◌, ℕ, ◌^◌, ◌<◌, ◌≤◌, ◌&&◌, ◌||◌, Bool, true, false, List, [], ◌∷◌, Option, Some, None, is_some, refl, sym, ap, ◌∙◌, subst, arith}
 use Rattle.std.specs.List.{All, list_any}
 use Rattle.std.specs.Option.{option_map_or}
 use Rattle.std.proofs.lemmas.Bool.{or_parts}
 use Rattle.std.proofs.lemmas.List.Elements.{All-head, All-tail}
 use Rattle.line_forms.proofs.FormLaws.{and_then_some, option_map_some}
-use Rattle.node_journal.specs.Role.{are_of}
 use Rattle.plasma_tx.specs.Chain.{Chain}
 use Rattle.schedule_text.specs.declared.line.Line.{Line}
 use Rattle.schedule_text.specs.Grammar.{IsLine}
-use Rattle.operator_rules.specs.Laws.{IsIdentity}
-use Rattle.operator_rules.specs.Records.{Identity, identity_text, identity_in, operator_kinds, who_is, notes_of}
+use Rattle.operator_rules.specs.Records.{Identity, identity_text, identity_in, who_is, notes_of}
 use Rattle.operator_rules.specs.Trees.{forest_of}
 use Rattle.operator_rules.specs.Acts.{log_of, kept_notes, IsHonest}
 use Rattle.operator_rules.proofs.RecordTexts.{identity_in-text}
-use Rattle.world_rules.specs.Events.{Event, Idle}
-use Rattle.world_rules.specs.World.{Node, World, padded}
+use Rattle.world_rules.specs.Events.{Idle}
+use Rattle.world_rules.specs.World.{World, padded}
 use Rattle.world_rules.specs.Declarations.{keeps_rules}
 use Rattle.world_rules.specs.Steps.{LineEffect, new_chain, operator_node, effect_of, step, TraceEntry, entry_of, Run, no_lines, with_line, step_run, run_of, events_of}
 use Rattle.world_rules.specs.Laws.{IsDigest}
-use Rattle.world_rules.proofs.KeptRun.{IsKeptRun, run-kept}
-use Rattle.world_rules.proofs.Runs.{begun}
+use Rattle.world_rules.proofs.KeptRun.{run-kept}
 use Rattle.world_rules.proofs.StepLaws.{stepped}
 use Rattle.world_laws.specs.Headline.{IsRun}
 use Rattle.world_laws.specs.Bundles.{is_barred, CommitsOnce}
@@ -68,6 +65,18 @@ module _ (dig : List ℕ → List ℕ) (tag operator most : ℕ) (fits : operato
 -- no line is barred
 abbrev pub AreAllowed : List TraceEntry → Type 0
 AreAllowed entries = list_any (λ entry. is_barred entry.line) entries ≡ false
+
+-- a trace has the lines of the schedule
+pub lines-same : (dig : List ℕ → List ℕ) (lines : List Line) (run : Run) → run_of dig lines ≡ Some run
+    → list_any (λ entry. is_barred entry.line) run.entries ≡ list_any is_barred lines
+unfolding run_of
+lines-same dig [] run is =
+    ap (λ (r : Run). list_any (λ entry. is_barred entry.line) r.entries) (sym (some_same no_lines run is))
+lines-same dig (line ∷ lines) run is =
+    let earlier = and_then_some (step_run dig line) (run_of dig lines) run is in
+    let made = option_map_some (with_line earlier.0 line) (step dig earlier.0.world line) run earlier.2 in
+    ap (λ (r : Run). list_any (λ entry. is_barred entry.line) r.entries) (sym made.2)
+    ∙ ap (λ (b : Bool). is_barred line || b) (lines-same dig lines earlier.0 earlier.1)
 
 -- an operator that keeps to the rules in each run that has begun
 abbrev pub Keeping : (List ℕ → List ℕ) → List TraceEntry → World → Type 0

@@ -1,11 +1,10 @@
 -- What each line that isn't barred leaves of an operator that keeps to the rules.
-use Rattle.std.proofs.Common.{◌≡◌, ◌⊎◌, ℕ, zero, suc, ◌+◌, ◌<◌, ◌≤◌, ◌==◌, Bool, true, false, if◌then◌else◌, List, [], ◌∷◌, ◌++◌, length, Option, Some, None, Ok, Err, inl, inr, refl, sym, ap, ◌∙◌, subst, set, slice_get, arith, lit<}
+use Rattle.std.proofs.Common.{◌≡◌, ◌⊎◌, ℕ, zero, suc, ◌<◌, ◌≤◌, ◌==◌, Bool, true, false, if◌then◌else◌, List, [], ◌∷◌, ◌++◌, Option, Some, None, Ok, Err, inl, inr, refl, sym, ap, ◌∙◌, subst, set, slice_get, arith, lit<}
 use Rattle.std.specs.Prelude.{Result}
 use Rattle.std.specs.Option.{option_map_or}
 use Rattle.std.specs.Str.{bytes_eq}
 use Rattle.std.proofs.lemmas.Bool.{ne_eqb, true≢false, false≢true}
 use Rattle.std.proofs.lemmas.Slice.Eq.{bytes_eq-Decides}
-use Rattle.line_forms.specs.declared.tokens.OutcomeToken.{OutcomeToken}
 use Rattle.node_journal.specs.Effect.{Effect, first_cause, unless}
 use Rattle.node_journal.specs.Role.{are_of}
 use Rattle.node_journal.proofs.Roles.{notes_follow}
@@ -24,20 +23,19 @@ use Rattle.schedule_text.specs.declared.command.Command.{Command}
 use Rattle.schedule_text.specs.declared.command.OperatorCommand.{OperatorCommand}
 use Rattle.watch_duty.proofs.Members.{Has}
 use Rattle.operator_rules.specs.declared.refusal.OfferRefusal.{OfferRefusal}
-use Rattle.operator_rules.specs.Records.{Note, Offered, Laid, Sealed, note_text, operator_kinds, who_is, notes_of}
+use Rattle.operator_rules.specs.Records.{Note, Offered, Sealed, note_text, operator_kinds, who_is, notes_of}
 use Rattle.operator_rules.specs.Trees.{Forest, after_note, forest_of, is_waiting}
 use Rattle.operator_rules.specs.Walk.{present}
-use Rattle.operator_rules.specs.Commands.{forest_in, offer_causes, offer_at, offer_of, offer_effect, lay_effect, seal_effect, prove_answer, bundle_answer, absences_answer}
-use Rattle.operator_rules.specs.Acts.{log_of, kept_notes, times_committed, times_sealed, IsHonestNote}
+use Rattle.operator_rules.specs.Commands.{forest_in, offer_causes, offer_at, offer_of, offer_effect, seal_effect, prove_answer, bundle_answer, absences_answer}
+use Rattle.operator_rules.specs.Acts.{log_of, kept_notes, times_committed, times_sealed}
 use Rattle.operator_rules.proofs.Role.{commands_keep_the_role, commands_add_their_notes}
 use Rattle.operator_rules.proofs.Trees.{one_if, count-push}
 use Rattle.world_rules.specs.Causes.{offer_cause, prove_cause}
-use Rattle.world_rules.specs.Events.{Event, Joins, Bounces, Watches, Leaves, Seals, Other, Idle, Declares, node_in, is_command_of}
-use Rattle.world_rules.specs.World.{Role, Wallet, Watcher, Operator, Node, World, is_operator_role, with_node, bytes_of}
+use Rattle.world_rules.specs.Events.{Event, Joins, Bounces, Watches, Leaves, Seals, Idle, node_in, is_command_of}
+use Rattle.world_rules.specs.World.{Operator, Node, World, with_node, bytes_of}
 use Rattle.world_rules.specs.Declarations.{plays}
-use Rattle.world_rules.specs.Deeds.{Gives, Deed, answered, on_pooled, on_sealed, on_bundled, on_proved, operator_command, on_open, deed_of, with_record}
+use Rattle.world_rules.specs.Deeds.{Gives, Deed, answered, on_pooled, on_bundled, on_proved, operator_command, on_open, deed_of, with_record}
 use Rattle.world_rules.specs.Steps.{LineEffect, called, with_records, after_command, after_crash, commanded, crashed, cut, without_offers}
-use Rattle.world_rules.proofs.ByteTexts.{Small}
 use Rattle.world_rules.proofs.OperatorItems.{AreSmallRecords}
 use Rattle.world_rules.proofs.KeptNode.{IsFit, token-small}
 use Rattle.world_rules.proofs.OfferLaws.{own-by}

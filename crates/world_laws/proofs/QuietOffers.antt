@@ -1,9 +1,9 @@
 -- No node but the operator offers a commit.
-use Rattle.std.proofs.Common.{◌≡◌, ℕ, Bool, true, false, List, [], ◌∷◌, Option, Some, None, Ok, Err, inl, inr, refl, sym, ap, ◌∙◌, subst}
+use Rattle.std.proofs.Common.{◌≡◌, ℕ, Bool, true, false, List, [], ◌∷◌, Option, Some, None, Ok, Err, inl, inr, refl, sym, ◌∙◌, subst}
 use Rattle.std.specs.Prelude.{Result}
 use Rattle.std.specs.List.{range_with_len}
 use Rattle.std.specs.Option.{option_map_or}
-use Rattle.std.proofs.lemmas.Bool.{and_parts, eqb-true, false≢true}
+use Rattle.std.proofs.lemmas.Bool.{false≢true}
 use Rattle.plasma_tx.specs.declared.links.Link.{Link}
 use Rattle.plasma_tx.specs.declared.links.Links.{Links}
 use Rattle.plasma_tx.specs.declared.call.RootCall.{RootCall}
@@ -15,25 +15,19 @@ use Rattle.line_forms.proofs.FormLaws.{option_map_some}
 use Rattle.schedule_text.specs.declared.command.Command.{Command}
 use Rattle.schedule_text.specs.declared.command.WalletCommand.{WalletCommand}
 use Rattle.schedule_text.specs.declared.command.WatcherCommand.{WatcherCommand}
-use Rattle.schedule_text.specs.declared.command.OperatorCommand.{OperatorCommand}
-use Rattle.schedule_text.specs.Grammar.{node_of}
 use Rattle.wallet_core.specs.declared.coin_state.CoinState.{CoinState}
 use Rattle.wallet_core.specs.declared.coin_state.CoinState.TheVariants.{Nothing, Sending, Leaving, Held}
 use Rattle.node_rules.specs.declared.refusal.WalletRefusal.{WalletRefusal}
 use Rattle.node_rules.specs.Kept.{kept_links}
-use Rattle.node_rules.specs.WalletRecords.{owner_of}
 use Rattle.node_rules.specs.Wallet.{WalletRecords, who, coin_state, links_at, start_by, start_of, exit_start, leave_from, leave_effect, due_in, watch_answer as wallet_watch, accept_effect, send_effect, again_answer, reclaim_effect, migrate_effect}
 use Rattle.node_rules.specs.Watcher.{due_for_kept, guards_in, who_is as who_is_watcher, watch_answer as watcher_watch, guard_effect, release_effect}
-use Rattle.operator_rules.specs.Commands.{offer_effect, lay_effect, seal_effect, prove_answer, bundle_answer, absences_answer}
 use Rattle.watch_duty.specs.Duty.{due_for, due_of}
 use Rattle.watch_duty.proofs.Members.{Has, has-flat_map}
 use Rattle.watch_duty.proofs.Dues.{IsDue, DueAfter, DueBetween, DueBefore, DueRespond, due_for-due}
-use Rattle.world_rules.specs.Causes.{wallet_cause, watcher_cause, offer_cause, lay_cause, prove_cause}
-use Rattle.world_rules.specs.World.{Role, Wallet, Watcher, Operator, Node, World, is_wallet_role, is_operator_role, wallet_of, owner_of_node, bytes_of, new_owner_of}
-use Rattle.world_rules.specs.Declarations.{plays}
-use Rattle.world_rules.specs.Deeds.{Gives, Deed, answered, on_accepted, on_sent, on_sent_again, on_leaving, on_reclaimed, on_migrated, send_deed, wallet_command, on_guarded, on_released, watcher_command, on_pooled, on_laid, on_bundled, on_proved, operator_command, due_at_node, on_open, deed_of}
+use Rattle.world_rules.specs.Causes.{wallet_cause, watcher_cause}
+use Rattle.world_rules.specs.World.{Role, Wallet, Watcher, Operator, Node, World, is_operator_role, wallet_of, bytes_of, new_owner_of}
+use Rattle.world_rules.specs.Deeds.{Gives, Deed, answered, on_accepted, on_sent, on_sent_again, on_leaving, on_reclaimed, on_migrated, send_deed, wallet_command, on_guarded, on_released, watcher_command, due_at_node, on_open, deed_of}
 use Rattle.world_rules.proofs.Shapes.{IsDone}
-use Rattle.world_rules.proofs.Existence.{position-is}
 use Rattle.world_laws.proofs.DeedOffers.{done-role}
 use Rattle.world_laws.proofs.OperatorLines.{commits_root}
 

@@ -63,9 +63,10 @@ CommitsOnce (event ∷ events) = (commits_since (event ∷ events) ≤ 1) × Com
 -- The operator kept to the rules so far: nothing was laid and no commit was raw, each seal's commit joined the log at
 -- most once, no two sealed trees with different leaves have one root, and no tree was committed at a block after the
 -- last block of a transfer in it.
-pub record IsHonestSoFar (dig : List ℕ → List ℕ) (run : Run) (world : World) (op : Node) : Type 0 where
+pub record IsHonestSoFar (dig : List ℕ → List ℕ) (lines : List Line) (run : Run) (world : World) (op : Node)
+    : Type 0 where
   pub op_is : slice_get world.nodes 0 ≡ Some op
-  pub allowed : list_any (λ entry. is_barred entry.line) run.entries ≡ false
+  pub allowed : list_any is_barred lines ≡ false
   pub once : CommitsOnce (events_of run.entries)
   pub distinct : AreDistinct dig (forest_in op.notes).sealed
   pub in_time : (n coin : ℕ) (tree : List Entry) (tx : SignedTx)
@@ -99,7 +100,7 @@ IsTakenBundle log coin tip reply =
 abbrev pub HonestBundlesAreTaken : Type 0
 HonestBundlesAreTaken = (dig : List ℕ → List ℕ) (lines : List Line) (run : Run) (world : World) (op node : Node)
     (n coin tip : ℕ) (name bytes : List ℕ) (token : HexOrItem) (made : CoinView) (effect : LineEffect)
-    → IsRun dig lines run world → IsHonestSoFar dig run world op → WasBundled run coin tip bytes
+    → IsRun dig lines run world → IsHonestSoFar dig lines run world op → WasBundled run coin tip bytes
     → number_of is_wallet_role world name ≡ Some n → slice_get world.nodes n ≡ Some node → node.is_up ≡ true
     → coin_at world.chain.log coin ≡ Some made
     → place_at dig world.chain.tag world.chain.log (forest_in op.notes).sealed coin made tip
