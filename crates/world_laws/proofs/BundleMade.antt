@@ -72,9 +72,11 @@ bundle-again dig tag log sealed coin asked tip made bundle coin_is is tip_is =
     let at : bundle_to dig log sealed coin made (tip_asked asked place) ≡ Ok bundle =
     ap (bundle_of dig tag log sealed coin asked) (sym coin_is) ∙ is in
     let parts = to-is dig log sealed coin made (tip_asked asked place) bundle at in
-    let asked_is : tip_asked asked place ≡ tip = sym parts.1 ∙ tip_is in
-    (ap (bundle_of dig tag log sealed coin tip) coin_is
-    ∙ ap (bundle_to dig log sealed coin made) (asked-again asked tip place asked_is ∙ sym asked_is) ∙ at, parts.0)
+    let asked_is : tip_asked asked place ≡ tip = sym parts.1 ∙ tip_is in (
+      ap (bundle_of dig tag log sealed coin tip) coin_is
+          ∙ ap (bundle_to dig log sealed coin made) (asked-again asked tip place asked_is ∙ sym asked_is) ∙ at,
+      parts.0,
+    )
 
 -- ---- the line
 

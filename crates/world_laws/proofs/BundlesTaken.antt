@@ -109,12 +109,13 @@ pub own-bundle : (dig : List ℕ → List ℕ) (lines : List Line) (run : Run) (
     → place_at dig world.chain.tag world.chain.log (forest_in op.notes).sealed coin made tip
     ≡ record { block = tip; owner = me }
     → IsOwnHistory dig world.chain.tag world.chain.log bytes coin tip me × (blocks world.chain.log ≤ 3000)
-own-bundle dig lines run world op coin tip bytes made me run_is honest was coin_is place_is =
-    (subst (λ (tag : List ℕ). IsOwnHistory dig tag world.chain.log bytes coin tip me) (sym tag_same)
-    (subst (λ (log : List RootCall). IsOwnHistory dig old.chain.tag log bytes coin tip me) (sym log_same)
-    (own-history dig old.chain.tag old.chain.log sealed line.bundle bytes coin tip made me good again.0 again.1
-    line.tip_is bytes_are (ap (λ (p : Place). p.owner) place_then))),
-    few)
+own-bundle dig lines run world op coin tip bytes made me run_is honest was coin_is place_is = (
+  subst (λ (tag : List ℕ). IsOwnHistory dig tag world.chain.log bytes coin tip me) (sym tag_same)
+      (subst (λ (log : List RootCall). IsOwnHistory dig old.chain.tag log bytes coin tip me) (sym log_same)
+      (own-history dig old.chain.tag old.chain.log sealed line.bundle bytes coin tip made me good again.0 again.1
+      line.tip_is bytes_are (ap (λ (p : Place). p.owner) place_then))),
+  few,
+)
   where
     command : Command
     command = Command.Operator (OperatorCommand.Bundle coin was.asked)

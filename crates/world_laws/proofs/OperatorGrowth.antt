@@ -53,12 +53,15 @@ later-then one two three first second = record {
   tag = second.tag ∙ first.tag;
   op = λ old is.
       let middle = first.op old is in
-      let last = second.op middle.0 middle.1 in
-      (last.0, last.1, record {
-        more = middle.2.more ++ last.2.more;
-        is = last.2.is ∙ ap (λ (l : List (List ℕ)). l ++ last.2.more) middle.2.is
-            ∙ sym (append-assoc old.notes middle.2.more last.2.more);
-      });
+      let last = second.op middle.0 middle.1 in (
+        last.0,
+        last.1,
+        record {
+          more = middle.2.more ++ last.2.more;
+          is = last.2.is ∙ ap (λ (l : List (List ℕ)). l ++ last.2.more) middle.2.is
+              ∙ sym (append-assoc old.notes middle.2.more last.2.more);
+        },
+      );
 }
 
 grown-notes : (old new : Node) → GrowsAtMost old new → HasMore old.notes new.notes
@@ -74,16 +77,18 @@ changed-first nodes after changes old is = by changes.number changes.is_old chan
     by : (n : ℕ) → slice_get nodes n ≡ Some changes.old → after ≡ set nodes n changes.new
         → (new : Node) × (slice_get after 0 ≡ Some new) × HasMore old.notes new.notes
     by zero old_is after_is =
-        let same : changes.old ≡ old = some_same changes.old old (sym old_is ∙ is) in
-        (changes.new,
-        ap (λ (l : List Node). slice_get l 0) after_is ∙ set-same nodes 0 old changes.new is,
-        subst (λ (n : Node). HasMore n.notes changes.new.notes) same
-        (grown-notes changes.old changes.new changes.grows))
-    by (suc n) old_is after_is =
-        (old,
-        ap (λ (l : List Node). slice_get l 0) after_is
-        ∙ set-other nodes (suc n) 0 changes.new (λ same. omega (arith, same)) ∙ is,
-        record { more = []; is = append-nil old.notes })
+        let same : changes.old ≡ old = some_same changes.old old (sym old_is ∙ is) in (
+          changes.new,
+          ap (λ (l : List Node). slice_get l 0) after_is ∙ set-same nodes 0 old changes.new is,
+          subst (λ (n : Node). HasMore n.notes changes.new.notes) same
+              (grown-notes changes.old changes.new changes.grows),
+        )
+    by (suc n) old_is after_is = (
+      old,
+      ap (λ (l : List Node). slice_get l 0) after_is
+          ∙ set-other nodes (suc n) 0 changes.new (λ same. omega (arith, same)) ∙ is,
+      record { more = []; is = append-nil old.notes },
+    )
 
 step-later : (dig : List ℕ → List ℕ) (world : World) (line : Line) (effect : LineEffect)
     → step dig (Some world) line ≡ Some effect → IsLater world effect.world
@@ -98,11 +103,12 @@ step-later dig world line effect is = record {
     | inr others ↦ elim others [
       | inl changes ↦ changed-first world.nodes effect.world.nodes changes old old_is
       | inr declares ↦
-          let within = slice_get_within world.nodes 0 old old_is in
-          (old,
-          ap (λ (l : List Node). slice_get l 0) declares.1
-          ∙ push-other world.nodes declares.0 0 (λ same. omega (arith, same, within)) ∙ old_is,
-          record { more = []; is = append-nil old.notes })
+          let within = slice_get_within world.nodes 0 old old_is in (
+            old,
+            ap (λ (l : List Node). slice_get l 0) declares.1
+                ∙ push-other world.nodes declares.0 0 (λ same. omega (arith, same, within)) ∙ old_is,
+            record { more = []; is = append-nil old.notes },
+          )
     ]
   ];
 }

@@ -240,9 +240,10 @@ module _ (dig : List ℕ → List ℕ) (events : List Event) (chain : Chain) (no
         (sym (not-committed call chain.log root none))
         (keeping.waiting account root has
         (sym (since-same (Joins call) events refl (is-commit call ∙ none)) ∙ since));
-    honest = λ in_time.
-        (no-commit-honest dig chain.tag keeping.acts call none,
-        keeping.honest (in-time-earlier dig chain.tag chain.log call (forest_in op.notes).sealed in_time));
+    honest = λ in_time. (
+      no-commit-honest dig chain.tag keeping.acts call none,
+      keeping.honest (in-time-earlier dig chain.tag chain.log call (forest_in op.notes).sealed in_time),
+    );
   }
 
   -- a commit that the operator offers, the first since its last command
@@ -265,9 +266,11 @@ module _ (dig : List ℕ → List ℕ) (events : List Event) (chain : Chain) (no
     counted = more;
     waiting = λ other committed offered since.
         absurd (omega (arith, since, since-commit account root events));
-    honest = λ in_time.
-        (now in_time, keeping.honest (in-time-earlier dig chain.tag chain.log (RootCall.Commit account root) sealed
-        in_time));
+    honest = λ in_time. (
+      now in_time,
+      keeping.honest (in-time-earlier dig chain.tag chain.log (RootCall.Commit account root) sealed
+          in_time),
+    );
   }
     where
       sealed : List (List Entry)
@@ -369,7 +372,9 @@ module _ (dig : List ℕ → List ℕ) (events : List Event) (chain : Chain) (no
     waiting = λ account root has since.
         subst (λ (notes : List Note). times_committed chain.log root
         < times_sealed dig (forest_of notes).sealed root) (sym added) (waits account root has);
-    honest = λ in_time.
-        (fine, keeping.honest (in-time-note dig chain.tag chain.log note (forest_in op.notes)
-        (subst (λ (notes : List Note). AreInTime dig chain.tag chain.log (forest_of notes).sealed) added in_time)));
+    honest = λ in_time. (
+      fine,
+      keeping.honest (in-time-note dig chain.tag chain.log note (forest_in op.notes)
+          (subst (λ (notes : List Note). AreInTime dig chain.tag chain.log (forest_of notes).sealed) added in_time)),
+    );
   }
