@@ -51,3 +51,14 @@ pub mod AttendanceSamples
 pub mod ExhibitSamples
 pub mod Words
 pub mod Promises
+pub mod BundleTaken
+pub mod OperatorLines
+pub mod QuietOffers
+pub mod OperatorKeeping
+pub mod OperatorSteps
+pub mod OperatorRuns
+pub mod OperatorGrowth
+pub mod BundleMade
+pub mod BundleHistories
+pub mod NoteLengths
+pub mod BundlesTaken

@@ -1,3 +1,4 @@
 pub mod Headline
 pub mod Legal
 pub mod LegalLaws
+pub mod Bundles

@@ -1,9 +1,11 @@
 //! What is promised of every schedule, as laws over the world's definitions.
 #![tactic(auto)]
 
+mod bundle_laws;
 mod laws;
 mod signed_laws;
 
+pub use bundle_laws::honest_bundles_are_taken;
 pub use laws::{
     due_calls_are_taken, held_coins_are_safe, lost_is_exhibited, one_wallet_holds,
     starts_are_taken, words_are_printed,

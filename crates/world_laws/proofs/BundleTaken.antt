@@ -1,0 +1,81 @@
+-- A wallet takes a bundle that is a history which ends with it, unless the coin was withdrawn or an exit stands.
+use Rattle.std.proofs.Common.{◌≡◌, ℕ, not, Bool, true, false, if◌then◌else◌, List, [], ◌∷◌, ◌++◌, length, Option, Some, None, Ok, inl, inr, refl, sym, ap, ◌∙◌, subst, nat_lt}
+use Rattle.std.specs.Prelude.{Result}
+use Rattle.plasma_tx.specs.declared.owner.Owner.{Owner}
+use Rattle.plasma_tx.specs.declared.links.Links.{Links}
+use Rattle.plasma_tx.specs.declared.call.RootCall.{RootCall}
+use Rattle.plasma_tx.specs.Links.{tip_of, last_owner_of}
+use Rattle.plasma_tx.specs.Views.{is_withdrawn}
+use Rattle.node_journal.specs.Effect.{first_cause}
+use Rattle.wallet_core.specs.declared.notes.Notes.{Notes}
+use Rattle.wallet_core.specs.State.{is_owner}
+use Rattle.node_rules.specs.declared.answers.Accepted.{Accepted}
+use Rattle.node_rules.specs.declared.refusal.WalletRefusal.{WalletRefusal}
+use Rattle.node_rules.specs.Kept.{kept_of, links_handed, standing_block, most_note}
+use Rattle.node_rules.specs.WalletRecords.{Accepts, note_text, owner_of, notes_of}
+use Rattle.node_rules.specs.Wallet.{WalletRecords, WalletEffect, answers, notes_it, unless, who, noted, standing_causes, is_known, accept_by, accept_effect}
+use Rattle.world_rules.specs.declared.reply.Reply.{Reply}
+use Rattle.world_rules.specs.Causes.{wallet_cause}
+use Rattle.world_rules.specs.Deeds.{answered, on_accepted}
+use Rattle.world_rules.proofs.KeptWallet.{state-me}
+use Rattle.world_laws.specs.Bundles.{IsTakenBundle}
+
+module _ (dig : List ℕ → List ℕ) (wallet : WalletRecords) (log : List RootCall) (n : ℕ) (bytes : List ℕ)
+    (links : Links) where
+  abbrev size : ℕ
+  size = length (note_text (Accepts (kept_of links)))
+
+  abbrev taken : Accepted
+  taken = record { coin = links.coin; tip = tip_of links }
+
+  abbrev reply_of : WalletEffect (Result Accepted WalletRefusal) → Reply
+  reply_of effect = (answered n wallet_cause (on_accepted n bytes) effect.answer).reply
+
+  -- what an accept of the wallet's own history does, by what is so of the coin
+  abbrev ends : Bool → Option ℕ → Bool → WalletEffect (Result Accepted WalletRefusal)
+  ends withdrawn standing known =
+      unless
+      (first_cause ((false, WalletRefusal.NotMine) ∷ (withdrawn, WalletRefusal.Withdrawn)
+      ∷ standing_causes standing ++ (false, WalletRefusal.NoteTooLong size) ∷ []))
+      (if known then answers (Ok taken) else notes_it (Ok taken) (note_text (Accepts (kept_of links))))
+
+  cases : (withdrawn : Bool) (standing : Option ℕ) (known : Bool) → is_withdrawn log links.coin ≡ withdrawn
+      → standing_block log links.coin ≡ standing
+      → IsTakenBundle log links.coin (tip_of links) (reply_of (ends withdrawn standing known))
+  cases true standing known withdrawn_is standing_is = inr (inl (withdrawn_is, refl))
+  cases false (Some block) known withdrawn_is standing_is = inr (inr (block, standing_is, refl))
+  cases false None true withdrawn_is standing_is = inl refl
+  cases false None false withdrawn_is standing_is = inl refl
+
+  pub taken-bundle : links_handed dig (who wallet).tag log bytes ≡ Ok links
+      → is_owner (last_owner_of links) (owner_of (who wallet)) ≡ true → nat_lt most_note size ≡ false
+      → IsTakenBundle log links.coin (tip_of links) (reply_of (accept_effect dig wallet log bytes))
+  unfolding accept_effect
+  taken-bundle handed mine short =
+      subst (λ (r : Result Links _). IsTakenBundle log links.coin (tip_of links)
+      (reply_of (accept_by log notes r))) (sym handed) all
+    where
+      notes : Notes
+      notes = noted dig wallet
+
+      is_mine : not (is_owner (last_owner_of links) notes.me) ≡ false
+      is_mine =
+          ap (λ (me : Owner). not (is_owner (last_owner_of links) me))
+          (state-me (owner_of (who wallet)) (notes_of dig wallet.notes))
+          ∙ ap (λ (b : Bool). not b) mine
+
+      all : IsTakenBundle log links.coin (tip_of links) (reply_of (accept_by log notes (Ok links)))
+      all =
+          subst (λ (b : Bool). IsTakenBundle log links.coin (tip_of links) (reply_of (unless
+          (first_cause ((b, WalletRefusal.NotMine) ∷ (is_withdrawn log links.coin, WalletRefusal.Withdrawn)
+          ∷ standing_causes (standing_block log links.coin)
+          ++ (nat_lt most_note size, WalletRefusal.NoteTooLong size) ∷ []))
+          (if is_known notes links then answers (Ok taken)
+          else notes_it (Ok taken) (note_text (Accepts (kept_of links))))))) (sym is_mine)
+          (subst (λ (b : Bool). IsTakenBundle log links.coin (tip_of links) (reply_of (unless
+          (first_cause ((false, WalletRefusal.NotMine) ∷ (is_withdrawn log links.coin, WalletRefusal.Withdrawn)
+          ∷ standing_causes (standing_block log links.coin)
+          ++ (b, WalletRefusal.NoteTooLong size) ∷ []))
+          (if is_known notes links then answers (Ok taken)
+          else notes_it (Ok taken) (note_text (Accepts (kept_of links))))))) (sym short)
+          (cases (is_withdrawn log links.coin) (standing_block log links.coin) (is_known notes links) refl refl))

@@ -1,0 +1,300 @@
+-- A bundle that an operator made that keeps to the rules is taken by the wallet that it is for.
+use Rattle.std.proofs.Common.{◌≡◌, ℕ, zero, suc, ◌^◌, ◌<◌, ◌≤◌, ◌&&◌, not, Bool, true, false, if◌then◌else◌, List, [], ◌∷◌, ◌++◌, length, Some, Ok, refl, sym, ap, ◌∙◌, subst, slice_get, nat_lt, arith}
+use Rattle.std.specs.List.{list_any}
+use Rattle.std.proofs.lemmas.Bool.{or_parts, true≢false, false≢true}
+use Rattle.std.proofs.lemmas.List.Folds.{list_any-append}
+use Rattle.line_forms.specs.declared.tokens.HexOrItem.{HexOrItem}
+use Rattle.sparse_merkle.specs.declared.tree.Entry.{Entry}
+use Rattle.sparse_merkle.specs.TreeDigest.{leaf_of}
+use Rattle.plasma_tx.specs.Links.{tip_of}
+use Rattle.plasma_tx.specs.declared.owner.Owner.{Owner}
+use Rattle.plasma_tx.specs.declared.views.CoinView.{CoinView}
+use Rattle.plasma_tx.specs.declared.call.RootCall.{RootCall}
+use Rattle.plasma_tx.specs.Spelling.{signed_in}
+use Rattle.plasma_tx.specs.Views.{blocks, coin_at}
+use Rattle.root_rules.proofs.Bounds.{coin_at-le}
+use Rattle.coin_history.specs.Bundles.{bundle_text}
+use Rattle.schedule_text.specs.declared.line.Line.{Line}
+use Rattle.schedule_text.specs.declared.command.Command.{Command}
+use Rattle.schedule_text.specs.declared.command.WalletCommand.{WalletCommand}
+use Rattle.schedule_text.specs.declared.command.OperatorCommand.{OperatorCommand}
+use Rattle.node_rules.specs.Kept.{kept_of, links_handed, most_note}
+use Rattle.node_rules.specs.WalletRecords.{Accepts, note_text, who_is as who_is_wallet}
+use Rattle.node_rules.specs.Wallet.{accept_effect}
+use Rattle.operator_rules.specs.Records.{notes_of}
+use Rattle.operator_rules.specs.Trees.{tree_at}
+use Rattle.operator_rules.specs.Walk.{Place, place_at}
+use Rattle.operator_rules.specs.Commands.{forest_in, bundle_of, bundle_answer}
+use Rattle.world_rules.specs.Causes.{wallet_cause}
+use Rattle.world_rules.specs.Events.{Event, Joins, log_of}
+use Rattle.world_rules.specs.World.{Role, Wallet, Watcher, Operator, Node, World, is_wallet_role, number_of, owner_of_node, wallet_of, bytes_of}
+use Rattle.world_rules.specs.Safety.{is_joined}
+use Rattle.world_rules.specs.Deeds.{answered, on_accepted, wallet_deed, deed_of}
+use Rattle.world_rules.specs.Steps.{LineEffect, TraceEntry, Run, down, commanded, command_effect, effect_in, step, events_of}
+use Rattle.world_rules.proofs.KeptRun.{run-kept}
+use Rattle.world_rules.proofs.KeptWorld.{KeptWorld}
+use Rattle.world_rules.proofs.Shapes.{acted}
+use Rattle.world_rules.proofs.StepLaws.{stepped}
+use Rattle.world_laws.specs.Headline.{IsRun}
+use Rattle.world_laws.specs.Bundles.{is_barred, CommitsOnce, IsHonestSoFar, WasBundled, IsTakenBundle, HonestBundlesAreTaken}
+use Rattle.world_laws.proofs.Lists.{some_same}
+use Rattle.world_laws.proofs.Acts.{runs-keep}
+use Rattle.world_laws.proofs.Identities.{IsWallet, IsOfRole, wallet-node}
+use Rattle.world_laws.proofs.SignedDeeds.{named-role}
+use Rattle.world_laws.proofs.BundleTaken.{taken-bundle}
+use Rattle.world_laws.proofs.BundleMade.{bundle-again, IsMadeBundle, line-made}
+use Rattle.world_laws.proofs.BundleHistories.{coins-few, tree-at-same, place-same, distinct-before, IsGoodAt, good-at, IsOwnHistory, own-history}
+use Rattle.world_laws.proofs.NoteLengths.{note-short}
+use Rattle.world_laws.proofs.OperatorKeeping.{IsKeeping}
+use Rattle.world_laws.proofs.OperatorRuns.{AreAllowed, lines-same, runs-keeping}
+use Rattle.world_laws.proofs.OperatorGrowth.{HasMore, HasTrees, grown-trees, IsSplit, split}
+
+-- ---- events since a line
+
+log-none : (event : Event) (events : List Event) → is_joined event ≡ false → log_of (event ∷ events) ≡ log_of events
+unfolding log_of
+log-none (Joins call) events none = absurd (true≢false none)
+log-none event events none = refl
+
+log-since : (later rest : List TraceEntry) → list_any is_joined (events_of later) ≡ false
+    → log_of (events_of (later ++ rest)) ≡ log_of (events_of rest)
+unfolding events_of
+log-since [] rest none = refl
+log-since (entry ∷ later) rest none =
+    let parts = or_parts (is_joined entry.event) (list_any is_joined (events_of later)) none in
+    log-none entry.event (events_of (later ++ rest)) parts.0 ∙ log-since later rest parts.1
+
+once-before : (later rest : List TraceEntry) → CommitsOnce (events_of (later ++ rest)) → CommitsOnce (events_of rest)
+unfolding events_of CommitsOnce
+once-before [] rest once = once
+once-before (entry ∷ later) rest once = once-before later rest once.1
+
+allowed-before : (later rest : List TraceEntry) → AreAllowed (later ++ rest) → AreAllowed rest
+allowed-before later rest allowed =
+    (or_parts (list_any (λ entry. is_barred entry.line) later) (list_any (λ entry. is_barred entry.line) rest)
+    (sym (list_any-append (λ entry. is_barred entry.line) later rest) ∙ allowed)).1
+
+once-rest : (entry : TraceEntry) (rest : List TraceEntry) → CommitsOnce (events_of (entry ∷ rest))
+    → CommitsOnce (events_of rest)
+unfolding events_of CommitsOnce
+once-rest entry rest once = once.1
+
+log-rest : (entry : TraceEntry) (rest : List TraceEntry) → is_joined entry.event ≡ false
+    → log_of (events_of (entry ∷ rest)) ≡ log_of (events_of rest)
+unfolding events_of
+log-rest entry rest none = log-none entry.event (events_of rest) none
+
+-- the operator's answer, by the node that is the operator
+operator-answer : (dig : List ℕ → List ℕ) (events : List Event) (world : World) (coin asked tip : ℕ)
+    (effect : LineEffect) (keeping : IsKeeping dig events world.chain world.nodes)
+    (made : IsMadeBundle dig world coin asked tip effect)
+    → bundle_of dig world.chain.tag world.chain.log (forest_in keeping.op.notes).sealed coin asked
+    (coin_at world.chain.log coin) ≡ Ok made.bundle
+unfolding bundle_answer
+operator-answer dig events world coin asked tip effect keeping made =
+    subst (λ (tag : List ℕ). bundle_of dig tag world.chain.log (forest_in keeping.op.notes).sealed coin asked
+    (coin_at world.chain.log coin) ≡ Ok made.bundle) keeping.tag
+    (subst (λ (node : Node). bundle_answer dig node.notes world.chain.log coin asked ≡ Ok made.bundle)
+    (by made.n made.node_is) made.answer_is)
+  where
+    by : (n : ℕ) → slice_get world.nodes n ≡ Some made.node → made.node ≡ keeping.op
+    by zero is = some_same made.node keeping.op (sym is ∙ keeping.op_is)
+    by (suc n) is = absurd (false≢true (sym (keeping.others n made.node is).role ∙ made.role))
+
+-- ---- the bundle is a history that ends with the wallet
+
+pub own-bundle : (dig : List ℕ → List ℕ) (lines : List Line) (run : Run) (world : World) (op : Node) (coin tip : ℕ)
+    (bytes : List ℕ) (made : CoinView) (me : Owner) → IsRun dig lines run world → IsHonestSoFar dig lines run world op
+    → WasBundled run coin tip bytes → coin_at world.chain.log coin ≡ Some made
+    → place_at dig world.chain.tag world.chain.log (forest_in op.notes).sealed coin made tip
+    ≡ record { block = tip; owner = me }
+    → IsOwnHistory dig world.chain.tag world.chain.log bytes coin tip me × (blocks world.chain.log ≤ 3000)
+own-bundle dig lines run world op coin tip bytes made me run_is honest was coin_is place_is = (
+  subst (λ (tag : List ℕ). IsOwnHistory dig tag world.chain.log bytes coin tip me) (sym tag_same)
+      (subst (λ (log : List RootCall). IsOwnHistory dig old.chain.tag log bytes coin tip me) (sym log_same)
+      (own-history dig old.chain.tag old.chain.log sealed line.bundle bytes coin tip made me good again.0 again.1
+      line.tip_is bytes_are (ap (λ (p : Place). p.owner) place_then))),
+  few,
+)
+  where
+    command : Command
+    command = Command.Operator (OperatorCommand.Bundle coin was.asked)
+
+    s : IsSplit dig world was.entry was.earlier
+    s = split dig was.entry was.earlier command was.command lines run world run_is was.later was.entries_are
+
+    old : World
+    old = s.old
+
+    line : IsMadeBundle dig s.old coin was.asked tip s.effect
+    line = line-made dig s.old coin was.asked tip was.entry.line s.effect was.command s.stepped
+        (ap (λ (e : TraceEntry). e.reply) (sym s.entry_is) ∙ was.reply)
+
+    kept : KeptWorld dig (events_of run.entries) world
+    kept = (run-kept dig run_is.digest lines run run_is.lines_are run_is.run_is).world world run_is.world_is
+
+    kept_then : KeptWorld dig (events_of s.before.entries) s.old
+    kept_then = (run-kept dig run_is.digest s.lines s.before s.run_is.lines_are s.run_is.run_is).world s.old
+        s.run_is.world_is
+
+    quiet : is_joined was.entry.event ≡ false
+    quiet = ap (λ (e : TraceEntry). is_joined e.event) s.entry_is ∙ ap is_joined line.event_is
+
+    log_same : world.chain.log ≡ s.old.chain.log
+    log_same =
+        kept.log_is ∙ ap (λ (es : List TraceEntry). log_of (events_of es)) was.entries_are
+        ∙ log-since was.later (was.entry ∷ was.earlier) was.since ∙ log-rest was.entry was.earlier quiet
+        ∙ ap (λ (es : List TraceEntry). log_of (events_of es)) (sym s.entries_are) ∙ sym kept_then.log_is
+
+    tag_same : world.chain.tag ≡ s.old.chain.tag
+    tag_same = s.later.tag
+
+    allowed : AreAllowed run.entries
+    allowed = lines-same dig lines run run_is.run_is ∙ honest.allowed
+
+    keeping : IsKeeping dig (events_of s.before.entries) s.old.chain s.old.nodes
+    keeping =
+        runs-keeping dig s.lines s.before s.old s.run_is
+        (subst AreAllowed (sym s.entries_are)
+        (allowed-before (was.entry ∷ []) was.earlier
+        (allowed-before was.later (was.entry ∷ was.earlier) (subst AreAllowed was.entries_are allowed))))
+        (subst (λ (es : List TraceEntry). CommitsOnce (events_of es)) (sym s.entries_are)
+        (once-rest was.entry was.earlier
+        (once-before was.later (was.entry ∷ was.earlier)
+        (subst (λ (es : List TraceEntry). CommitsOnce (events_of es)) was.entries_are honest.once))))
+
+    more : HasMore keeping.op.notes op.notes
+    more =
+        let new = s.later.op keeping.op keeping.op_is in
+        subst (λ (n : Node). HasMore keeping.op.notes n.notes) (some_same new.0 op (sym new.1 ∙ honest.op_is)) new.2
+
+    sealed : List (List Entry)
+    sealed = (forest_in keeping.op.notes).sealed
+
+    trees : HasTrees (forest_in keeping.op.notes).sealed (forest_in op.notes).sealed
+    trees = grown-trees keeping.op.notes op.notes keeping.kinds more
+
+    coin_then : coin_at s.old.chain.log coin ≡ Some made
+    coin_then = ap (λ (log : List RootCall). coin_at log coin) (sym log_same) ∙ coin_is
+
+    place_then : place_at dig s.old.chain.tag s.old.chain.log (forest_in keeping.op.notes).sealed coin made tip
+        ≡ record { block = tip; owner = me }
+    place_then =
+        sym (place-same dig s.old.chain.log (forest_in keeping.op.notes).sealed (forest_in op.notes).sealed
+        keeping.counted trees s.old.chain.tag coin made tip)
+        ∙ (λ i. place_at dig (sym tag_same i) (sym log_same i) (forest_in op.notes).sealed coin made tip)
+        ∙ place_is
+
+    small : blocks s.old.chain.log ≤ 3000
+    small = let below = kept_then.few in let few = keeping.few in omega (arith, below, few)
+
+    few : blocks world.chain.log ≤ 3000
+    few = subst (λ (log : List RootCall). blocks log ≤ 3000) (sym log_same) small
+
+    narrow : coin < 2 ^ 64
+    narrow =
+        let low = coin_at-le s.old.chain.log coin made coin_then in
+        let high = coins-few s.old.chain.log in
+        omega (arith, low, high, small)
+
+    good : IsGoodAt dig s.old.chain.tag s.old.chain.log (forest_in keeping.op.notes).sealed coin tip made
+    good =
+        good-at dig s.old.chain.tag keeping.acts s.old.chain.log (notes_of keeping.op.notes) coin tip made
+        keeping.log_is keeping.notes_is run_is.digest narrow (omega (arith, small))
+        (keeping.honest (λ n c tree tx tree_is signed.
+        honest.in_time n c tree tx
+        (ap (λ (log : List RootCall). tree_at dig log (forest_in op.notes).sealed n) log_same
+        ∙ tree-at-same dig s.old.chain.log (forest_in keeping.op.notes).sealed (forest_in op.notes).sealed
+        keeping.counted trees n ∙ tree_is)
+        (ap (λ (tag : List ℕ). signed_in tag (leaf_of tree c)) tag_same ∙ signed)))
+        (distinct-before dig (forest_in keeping.op.notes).sealed (forest_in op.notes).sealed trees honest.distinct)
+        coin_then (ap (λ (p : Place). p.block) place_then)
+
+    again : (bundle_of dig s.old.chain.tag s.old.chain.log (forest_in keeping.op.notes).sealed coin tip
+        (coin_at s.old.chain.log coin) ≡ Ok line.bundle) × (line.bundle.coin ≡ coin)
+    again =
+        bundle-again dig s.old.chain.tag s.old.chain.log (forest_in keeping.op.notes).sealed coin was.asked tip made
+        line.bundle coin_then
+        (operator-answer dig (events_of s.before.entries) s.old coin was.asked tip s.effect keeping line) line.tip_is
+
+    bytes_are : bytes ≡ bundle_text line.bundle
+    bytes_are = sym was.made ∙ ap (λ (e : TraceEntry). e.made) s.entry_is ∙ line.made_is
+
+-- ---- the accept
+
+wallet-tag : (events : List Event) (tag : List ℕ) (n : ℕ) (node : Node) (role : Role) → is_wallet_role role ≡ true
+    → IsOfRole events tag n node role → IsWallet events tag n node
+wallet-tag events tag n node Wallet is_role is = is
+wallet-tag events tag n node Watcher is_role is = absurd (false≢true is_role)
+wallet-tag events tag n node Operator is_role is = absurd (false≢true is_role)
+
+-- what the wallet answers that is up
+accept-reply : (dig : List ℕ → List ℕ) (world : World) (name : List ℕ) (n : ℕ) (node : Node) (token : HexOrItem)
+    (effect : LineEffect) → number_of is_wallet_role world name ≡ Some n → slice_get world.nodes n ≡ Some node
+    → node.is_up ≡ true
+    → step dig (Some world) (Line.Command (Command.Wallet name (WalletCommand.Accept token))) ≡ Some effect
+    → effect.reply ≡ (answered n wallet_cause (on_accepted n (bytes_of world token))
+    (accept_effect dig (wallet_of node) world.chain.log (bytes_of world token)).answer).reply
+unfolding effect_in deed_of
+accept-reply dig world name n node token effect number node_is is_up is =
+    let command = Command.Wallet name (WalletCommand.Accept token) in
+    let made = stepped dig world (Line.Command command) effect is in
+    let found = acted dig world is_wallet_role name (command_effect dig world command) made.bare made.bare_is in
+    let n_is : found.0 ≡ n = some_same found.0 n (sym found.2 ∙ number) in
+    let node_same : found.1 ≡ node =
+    some_same found.1 node (sym found.3 ∙ ap (slice_get world.nodes) n_is ∙ node_is) in
+    ap (λ (e : LineEffect). e.reply) made.effect_is
+    ∙ by made.bare node.is_up is_up
+    (subst (λ (k : Node). command_effect dig world command n k ≡ Some made.bare) node_same
+    (subst (λ (m : ℕ). command_effect dig world command m found.1 ≡ Some made.bare) n_is found.4))
+  where
+    by : (bare : LineEffect) (b : Bool) → b ≡ true
+        → (if not b && true then Some (down world)
+        else Some (commanded world n node
+        (wallet_deed n (on_accepted n (bytes_of world token))
+        (accept_effect dig (wallet_of node) world.chain.log (bytes_of world token))))) ≡ Some bare
+        → bare.reply ≡ (answered n wallet_cause (on_accepted n (bytes_of world token))
+        (accept_effect dig (wallet_of node) world.chain.log (bytes_of world token)).answer).reply
+    by bare true up is = ap (λ (e : LineEffect). e.reply) (sym (some_same _ bare is))
+    by bare false up is = absurd (false≢true up)
+
+-- a history that ends with the wallet is taken, where its note isn't too long
+pub taken-by : (dig : List ℕ → List ℕ) (lines : List Line) (run : Run) (world : World) (node : Node) (n coin tip : ℕ)
+    (name bytes : List ℕ) (token : HexOrItem) (effect : LineEffect) → IsRun dig lines run world
+    → (own : IsOwnHistory dig world.chain.tag world.chain.log bytes coin tip (owner_of_node node))
+    → nat_lt most_note (length (note_text (Accepts (kept_of own.links)))) ≡ false
+    → number_of is_wallet_role world name ≡ Some n → slice_get world.nodes n ≡ Some node → node.is_up ≡ true
+    → bytes_of world token ≡ bytes
+    → step dig (Some world) (Line.Command (Command.Wallet name (WalletCommand.Accept token))) ≡ Some effect
+    → IsTakenBundle world.chain.log coin tip effect.reply
+taken-by dig lines run world node n coin tip name bytes token effect run_is own short number node_is is_up bytes_are
+    is =
+    let kept = (run-kept dig run_is.digest lines run run_is.lines_are run_is.run_is).world world run_is.world_is in
+    let role = named-role dig (events_of run.entries) world kept name n node number node_is in
+    let one = (runs-keep dig lines run world run_is).nodes.each n node node_is in
+    let tag_is = (wallet-node (events_of run.entries) world.chain.tag n node
+    (wallet-tag (events_of run.entries) world.chain.tag n node node.role role one.is)).2 in
+    let handed : links_handed dig (who_is_wallet node.notes).tag world.chain.log bytes ≡ Ok own.links =
+    ap (λ (tag : List ℕ). links_handed dig tag world.chain.log bytes) tag_is ∙ own.handed in
+    let taken = taken-bundle dig (wallet_of node) world.chain.log n bytes own.links handed own.mine short in
+    let answer : effect.reply ≡ (answered n wallet_cause (on_accepted n bytes)
+    (accept_effect dig (wallet_of node) world.chain.log bytes).answer).reply =
+    accept-reply dig world name n node token effect number node_is is_up is
+    ∙ ap (λ (b : List ℕ). (answered n wallet_cause (on_accepted n b)
+    (accept_effect dig (wallet_of node) world.chain.log b).answer).reply) bytes_are in
+    subst (IsTakenBundle world.chain.log coin tip) (sym answer)
+    (subst (λ (t : ℕ). IsTakenBundle world.chain.log coin t (answered n wallet_cause (on_accepted n bytes)
+    (accept_effect dig (wallet_of node) world.chain.log bytes).answer).reply) own.tip_is
+    (subst (λ (c : ℕ). IsTakenBundle world.chain.log c (tip_of own.links) (answered n wallet_cause (on_accepted n bytes)
+    (accept_effect dig (wallet_of node) world.chain.log bytes).answer).reply) own.coin_is taken))
+
+-- ---- the law
+
+pub honest_bundles_are_taken : HonestBundlesAreTaken
+honest_bundles_are_taken dig lines run world op node n coin tip name bytes token made effect run_is honest was number
+    node_is is_up coin_is place_is bytes_are is =
+    let own = own-bundle dig lines run world op coin tip bytes made (owner_of_node node) run_is honest was coin_is
+    place_is in
+    let short = note-short dig world.chain.tag world.chain.log own.0.bundle own.0.links own.0.history own.1 in
+    taken-by dig lines run world node n coin tip name bytes token effect run_is own.0 short number node_is is_up
+    bytes_are is

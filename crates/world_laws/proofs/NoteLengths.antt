@@ -1,0 +1,220 @@
+-- The note of a coin that a wallet accepts is never too long: a coin has at most as many links as the chain has blocks,
+-- and a link's opening is short, since its leaf is a transfer with a valid signature.
+use Rattle.std.proofs.Common.{◌≡◌, ℕ, zero, suc, ◌+◌, ◌-◌, ◌*◌, ◌≤◌, ◌==◌, Bool, true, false, if◌then◌else◌, List, [], ◌∷◌, ◌++◌, length, map, filter, drop, All, Option, Some, None, Ok, Err, refl, ap, subst, length-append, length-drop, nat_lt, nat_le, arith}
+use Rattle.std.specs.Prelude.{Result}
+use Rattle.std.specs.List.{filter_map, cons_option, flat_map, range_with_len}
+use Rattle.std.specs.Option.{option_map, option_map_or}
+use Rattle.std.proofs.lemmas.Bool.{and_parts, eqb-true, le-ltb, false≢true}
+use Rattle.std.proofs.lemmas.List.{length-take-le, length-map}
+use Rattle.std.proofs.lemmas.List.Elements.{All-head, All-tail}
+use Rattle.sparse_merkle.specs.MaskedPath.{MaskedPath, set_bits, has_proof_length, mask_in, proof_in}
+use Rattle.sparse_merkle.proofs.ProofLaws.{set_bits-bound}
+use Rattle.plasma_tx.specs.declared.owner.Owner.{Owner}
+use Rattle.plasma_tx.specs.declared.opening.Opening.{Opening}
+use Rattle.plasma_tx.specs.declared.opening.RawOpening.{RawOpening}
+use Rattle.plasma_tx.specs.declared.opening.OpeningRefusal.{OpeningRefusal}
+use Rattle.plasma_tx.specs.declared.links.Link.{Link}
+use Rattle.plasma_tx.specs.declared.links.Links.{Links}
+use Rattle.plasma_tx.specs.declared.signed_tx.SignedTx.{SignedTx}
+use Rattle.plasma_tx.specs.declared.signed_tx.TxRefusal.{TxRefusal}
+use Rattle.plasma_tx.specs.declared.call.RootCall.{RootCall}
+use Rattle.plasma_tx.specs.Openings.{leaf_length, leaf_in, opening_in}
+use Rattle.plasma_tx.specs.Spelling.{number_text, signed_in}
+use Rattle.plasma_tx.specs.Transfer.{is_transfer, kept_transfer, transfer_in, is_signed_by}
+use Rattle.plasma_tx.specs.Views.{blocks}
+use Rattle.plasma_tx.proofs.OpeningTexts.{opening_in-ok}
+use Rattle.root_rules.specs.Shown.{opens_root, root_at, tests_by}
+use Rattle.coin_history.specs.declared.bundle.Bundle.{Bundle}
+use Rattle.coin_history.specs.Bundles.{length_text, item_text, bundle_text}
+use Rattle.coin_history.specs.History.{is_committed, committed_blocks, opens_block, transfer_of, link_of, links_in, AreLinked, IsHistory}
+use Rattle.coin_history.proofs.HistoryGrow.{committed-le}
+use Rattle.node_rules.specs.Kept.{chain_of, kept_of, most_note}
+use Rattle.node_rules.specs.WalletRecords.{Accepts, note_text}
+use Rattle.operator_rules.proofs.Openings.{leaf-short}
+use Rattle.world_laws.proofs.Lists.{some_same}
+
+-- ---- openings
+
+-- what is answered with a value passed
+passed : {A E : Type 0} (b : Bool) (result : Result A E) (why : E) (answer : A)
+    → (if b then result else Err why) ≡ Ok answer → b ≡ true
+passed true result why answer is = refl
+passed false result why answer is = absurd (cc is)
+
+-- a proof that is read
+proof-length : (dig : List ℕ → List ℕ) (bytes : List ℕ) (proof : MaskedPath) → proof_in dig bytes ≡ Ok proof
+    → length bytes ≤ 2056
+unfolding proof_in
+proof-length dig bytes proof is =
+    let long = passed (has_proof_length bytes) _ _ proof is in
+    let exact = eqb-true (length bytes) (8 + 32 * set_bits (mask_in bytes) 64)
+    (and_parts (nat_le 8 (length bytes)) (length bytes == 8 + 32 * set_bits (mask_in bytes) 64) long).1 in
+    omega (arith, exact, set_bits-bound (mask_in bytes) 64)
+
+-- an opening that is read
+opening-length : (dig : List ℕ → List ℕ) (raw : RawOpening) (opening : Opening) → opening_in dig raw ≡ Ok opening
+    → length raw.bytes ≤ 2060 + length (leaf_in raw.bytes)
+unfolding leaf_in
+opening-length dig raw opening is =
+    let read = opening_in-ok dig raw opening is in
+    let rest = proof-length dig (drop (4 + leaf_length raw.bytes) raw.bytes) opening.proof read.proof in
+    let cut = length-drop (4 + leaf_length raw.bytes) raw.bytes in
+    let front = length-drop 4 raw.bytes in
+    let long = read.long in
+    let leaf = length-take-le (leaf_length raw.bytes) (drop 4 raw.bytes) (omega (arith, front, long)) in
+    omega (arith, rest, cut, long, leaf)
+
+-- an opening that opens its block's root is read
+opened-read : (dig : List ℕ → List ℕ) (log : List RootCall) (coin : ℕ) (o : RawOpening)
+    → opens_block (tests_by dig) log coin o ≡ true → (opening : Opening) × (opening_in dig o ≡ Ok opening)
+opened-read dig log coin o is = by (root_at log o.block) is
+  where
+    read : (root : List ℕ) (r : Result Opening OpeningRefusal) → opening_in dig o ≡ r
+        → opens_root dig root coin r ≡ true → (opening : Opening) × (opening_in dig o ≡ Ok opening)
+    read root (Ok opening) here is = (opening, here)
+    read root (Err why) here is = absurd (false≢true is)
+
+    by : (root : Option (List ℕ)) → option_map_or (λ r. (tests_by dig).opens r coin o) root false ≡ true
+        → (opening : Opening) × (opening_in dig o ≡ Ok opening)
+    by None is = absurd (false≢true is)
+    by (Some root) is = read root (opening_in dig o) refl is
+
+-- a leaf that is a transfer reads as one
+leaf-read : (tag leaf : List ℕ) (coin block : ℕ) (tx : SignedTx) → transfer_in tag coin block leaf ≡ Some tx
+    → signed_in tag leaf ≡ Ok tx
+unfolding transfer_in
+leaf-read tag leaf coin block tx is = by (signed_in tag leaf) is
+  where
+    kept : (b : Bool) (one : SignedTx) → (if b then Some one else None) ≡ Some tx → one ≡ tx
+    kept true one is = some_same one tx is
+    kept false one is = absurd (cc is)
+
+    by : (r : Result SignedTx TxRefusal) → kept_transfer coin block r ≡ Some tx → r ≡ Ok tx
+    by (Err why) is = absurd (cc is)
+    by (Ok one) is = ap (λ (t : SignedTx). Ok t) (kept (is_transfer coin block one.body) one is)
+
+-- ---- links
+
+abbrev opening_of : Link → RawOpening
+opening_of link = link.opening
+
+abbrev link_by : RawOpening → Option SignedTx → Option Link
+link_by o found = option_map (λ tx. record { block = o.block; tx = tx; opening = o }) found
+
+item-length : (o : RawOpening) → length (item_text o) ≡ 12 + length o.bytes
+item-length o =
+    let block : length (number_text o.block) ≡ 8 = refl in
+    let count : length (length_text (length o.bytes)) ≡ 4 = refl in
+    omega (
+      arith,
+      block,
+      count,
+      length-append (number_text o.block) (length_text (length o.bytes) ++ o.bytes),
+      length-append (length_text (length o.bytes)) o.bytes,
+      length-append (number_text o.block ++ length_text (length o.bytes)) o.bytes,
+      length-append (number_text o.block) (length_text (length o.bytes)),
+    )
+
+module _ (dig : List ℕ → List ℕ) (tag : List ℕ) (log : List RootCall) (coin : ℕ) where
+  abbrev shown : List RawOpening → List Link
+  shown openings = filter_map (link_of (chain_of tag) coin) openings
+
+  abbrev texts : List Link → List ℕ
+  texts links = flat_map item_text (map opening_of links)
+
+  one-short : (o : RawOpening) (tx : SignedTx) (owner : Owner) → opens_block (tests_by dig) log coin o ≡ true
+      → transfer_of (chain_of tag) coin o ≡ Some tx → is_signed_by tx owner ≡ true → length (item_text o) ≤ 4704
+  one-short o tx owner opened is signed =
+      let read = opened-read dig log coin o opened in
+      let bytes = opening-length dig o read.0 read.1 in
+      let leaf = leaf-short tag (leaf_in o.bytes) tx owner
+      (leaf-read tag (leaf_in o.bytes) coin o.block tx is) signed in
+      let item = item-length o in
+      omega (arith, bytes, leaf, item)
+
+  links-short : (openings : List RawOpening) (block : ℕ) (owner : Owner)
+      → All (λ o. opens_block (tests_by dig) log coin o ≡ true) openings
+      → AreLinked (tests_by dig) block owner (shown openings)
+      → length (texts (shown openings)) ≤ 4704 * length openings
+  unfolding AreLinked
+  links-short [] block owner opened linked = omega arith
+  links-short (o ∷ openings) block owner opened linked =
+      by (transfer_of (chain_of tag) coin o) refl linked
+      (λ next to is.
+      links-short openings next to (All-tail (λ o. opens_block (tests_by dig) log coin o ≡ true) o openings opened) is)
+    where
+      here : opens_block (tests_by dig) log coin o ≡ true
+      here = All-head (λ o. opens_block (tests_by dig) log coin o ≡ true) o openings opened
+
+      by : (found : Option SignedTx) → transfer_of (chain_of tag) coin o ≡ found
+          → AreLinked (tests_by dig) block owner (cons_option (link_by o found) (shown openings))
+          → ((next : ℕ) (to : Owner) → AreLinked (tests_by dig) next to (shown openings)
+          → length (texts (shown openings)) ≤ 4704 * length openings)
+          → length (texts (cons_option (link_by o found) (shown openings))) ≤ 4704 * length (o ∷ openings)
+      by None none linked again = let more = again block owner linked in omega (arith, more)
+      by (Some tx) some linked again =
+          let more = again o.block tx.body.to linked.2 in
+          let item = one-short o tx owner here some linked.1 in
+          omega (arith, more, item, length-append (item_text o) (texts (shown openings)))
+
+-- ---- blocks
+
+committed-few : (log : List RootCall) (a n : ℕ)
+    → length (filter (is_committed log) (range_with_len a n)) ≤ blocks log + 1 - a
+committed-few log a zero = omega arith
+committed-few log a (suc n) =
+    (elim (is_committed log a) as (λ b. is_committed log a ≡ b
+    → length (if b then a ∷ filter (is_committed log) (range_with_len (a + 1) n)
+    else filter (is_committed log) (range_with_len (a + 1) n)) ≤ blocks log + 1 - a) [
+      | true ↦ λ is.
+          let low = committed-le log a is in
+          let more = committed-few log (a + 1) n in
+          omega (arith, low, more)
+      | false ↦ λ is. let more = committed-few log (a + 1) n in omega (arith, more)
+    ]) refl
+
+openings-few : (dig : List ℕ → List ℕ) (tag : List ℕ) (log : List RootCall) (bundle : Bundle) (links : Links)
+    → IsHistory (tests_by dig) (chain_of tag) log bundle links → length bundle.openings ≤ blocks log
+unfolding committed_blocks
+openings-few dig tag log bundle links history =
+    let long = length-map bundle.openings (λ (o : RawOpening). o.block) in
+    let same = ap (λ (l : List ℕ). length l) history.blocks in
+    let few = committed-few log (history.made.deposit + 1) (bundle.tip - history.made.deposit) in
+    omega (arith, long, same, few)
+
+-- ---- the note
+
+pub note-short : (dig : List ℕ → List ℕ) (tag : List ℕ) (log : List RootCall) (bundle : Bundle) (links : Links)
+    → IsHistory (tests_by dig) (chain_of tag) log bundle links → blocks log ≤ 3000
+    → nat_lt most_note (length (note_text (Accepts (kept_of links)))) ≡ false
+unfolding note_text bundle_text links_in
+note-short dig tag log bundle links history small =
+    let openings = openings-few dig tag log bundle links history in
+    let linked = subst (λ (l : Links). AreLinked (tests_by dig) links.deposit links.owner l.spends) history.shown
+    history.linked in
+    let items = links-short dig tag log bundle.coin bundle.openings links.deposit links.owner history.opened linked in
+    let spends : texts dig tag log bundle.coin links.spends ≡ texts dig tag log bundle.coin
+    (shown dig tag log bundle.coin bundle.openings) =
+    ap (λ (l : Links). texts dig tag log bundle.coin l.spends) history.shown in
+    let same = ap (λ (l : List ℕ). length l) spends in
+    let kept = kept_of links in
+    let items_text = flat_map item_text kept.openings in
+    let count : length (length_text (length kept.openings)) ≡ 4 = refl in
+    let coin : length (number_text kept.coin) ≡ 8 = refl in
+    let tip : length (number_text kept.tip) ≡ 8 = refl in
+    le-ltb most_note (length (note_text (Accepts (kept_of links)))) (omega (
+      arith,
+      openings,
+      small,
+      items,
+      same,
+      count,
+      coin,
+      tip,
+      length-append (number_text kept.coin) (number_text kept.tip ++ length_text (length kept.openings) ++ items_text),
+      length-append (number_text kept.tip) (length_text (length kept.openings) ++ items_text),
+      length-append (length_text (length kept.openings)) items_text,
+      length-append (number_text kept.coin ++ number_text kept.tip ++ length_text (length kept.openings)) items_text,
+      length-append (number_text kept.coin ++ number_text kept.tip) (length_text (length kept.openings)),
+      length-append (number_text kept.coin) (number_text kept.tip),
+    ))

@@ -1,0 +1,380 @@
+-- An operator that keeps to the rules: what its notes and the log are as acts, that these are honest, and that one
+-- more event leaves it so.
+use Rattle.std.proofs.Common.{◌≡◌, ℕ, suc, ◌+◌, ◌<◌, ◌≤◌, Bool, true, false, if◌then◌else◌, List, [], ◌∷◌, ◌++◌, length, filter, Some, Ok, inl, inr, refl, sym, ap, ◌∙◌, subst, set, slice_get, arith}
+use Rattle.std.specs.Option.{option_and_then}
+use Rattle.std.specs.Str.{bytes_eq}
+use Rattle.std.proofs.lemmas.Bool.{cases_eq, true≢false, false≢true}
+use Rattle.std.proofs.lemmas.Option.{slice_get_within}
+use Rattle.std.proofs.lemmas.Slice.Eq.{bytes_eq-Decides}
+use Rattle.line_forms.proofs.FormLaws.{and_then_some}
+use Rattle.node_journal.specs.Role.{are_of}
+use Rattle.sparse_merkle.specs.declared.tree.Entry.{Entry}
+use Rattle.sparse_merkle.specs.TreeDigest.{leaf_of, root_of}
+use Rattle.plasma_tx.specs.declared.signed_tx.SignedTx.{SignedTx}
+use Rattle.plasma_tx.specs.declared.call.RootCall.{RootCall}
+use Rattle.plasma_tx.specs.Chain.{Chain, with_log}
+use Rattle.plasma_tx.specs.Spelling.{signed_in}
+use Rattle.plasma_tx.specs.Transfer.{may_stand_in}
+use Rattle.plasma_tx.specs.Views.{blocks}
+use Rattle.root_rules.specs.Shown.{root_at}
+use Rattle.coin_history.proofs.HistoryGrow.{root_at-grown}
+use Rattle.watch_duty.proofs.Members.{Has}
+use Rattle.operator_rules.specs.Records.{Identity, Note, Offered, Laid, Sealed, operator_kinds, who_is, notes_of}
+use Rattle.operator_rules.specs.Trees.{Forest, after_note, forest_of, tree_of, tree_at, commits}
+use Rattle.operator_rules.specs.Commands.{forest_in}
+use Rattle.operator_rules.specs.Acts.{Act, Called, Kept, log_of, kept_notes, sealed_in, times_committed, times_sealed, IsInTime, IsHonestNote, IsHonestCall, IsHonest}
+use Rattle.operator_rules.proofs.Trees.{root_at-le, root_at-new, tree_of-grow, count-push}
+use Rattle.world_rules.specs.Events.{Event, Joins, is_command_of}
+use Rattle.world_rules.specs.World.{Operator, Node, is_operator_role}
+use Rattle.world_rules.proofs.Runs.{set-same, set-other, push-same, push-other}
+use Rattle.world_laws.specs.Bundles.{is_commit, commits_since}
+use Rattle.world_laws.proofs.Lists.{some_same}
+use Rattle.world_laws.proofs.OperatorLines.{commits_root}
+
+-- ---- what is kept
+
+-- a node that isn't the operator, and offers no commit
+pub record IsOther (node : Node) : Type 0 where
+  pub role : is_operator_role node.role ≡ false
+  pub offers : (call : RootCall) → Has node.offers call → commits_root call ≡ false
+
+-- so is each node but the first
+abbrev pub AreOthers : List Node → Type 0
+AreOthers nodes = (n : ℕ) (node : Node) → slice_get nodes (suc n) ≡ Some node → IsOther node
+
+-- no tree is committed at a block after the last block of a transfer in it
+abbrev pub AreInTime : (List ℕ → List ℕ) → List ℕ → List RootCall → List (List Entry) → Type 0
+AreInTime dig tag log sealed = (n coin : ℕ) (tree : List Entry) (tx : SignedTx)
+    → tree_at dig log sealed n ≡ Some tree → signed_in tag (leaf_of tree coin) ≡ Ok tx
+    → may_stand_in n tx.body.last ≡ true
+
+pub record IsKeeping (dig : List ℕ → List ℕ) (events : List Event) (chain : Chain) (nodes : List Node) : Type 0 where
+  pub op : Node
+  pub op_is : slice_get nodes 0 ≡ Some op
+  pub role : op.role ≡ Operator
+  pub kinds : are_of operator_kinds op.notes ≡ true
+  pub tag : (who_is op.notes).tag ≡ chain.tag
+  pub few : chain.most_blocks ≤ 3000
+  pub others : AreOthers nodes
+  pub acts : List Act
+  pub log_is : log_of acts ≡ chain.log
+  pub notes_is : kept_notes acts ≡ notes_of op.notes
+  pub counted : (root : List ℕ)
+      → times_committed chain.log root ≤ times_sealed dig (forest_in op.notes).sealed root
+  pub waiting : (account : ℕ) (root : List ℕ) → Has op.offers (RootCall.Commit account root)
+      → commits_since events ≡ 0
+      → times_committed chain.log root < times_sealed dig (forest_in op.notes).sealed root
+  pub honest : AreInTime dig chain.tag chain.log (forest_in op.notes).sealed → IsHonest dig chain.tag acts
+
+-- ---- what is in time
+
+module _ (dig : List ℕ → List ℕ) (tag : List ℕ) where
+  in-time-earlier : (log : List RootCall) (call : RootCall) (sealed : List (List Entry))
+      → AreInTime dig tag (call ∷ log) sealed → AreInTime dig tag log sealed
+  in-time-earlier log call sealed in_time n coin tree tx is signed =
+      let found = and_then_some (tree_of dig sealed) (root_at log n) tree is in
+      in_time n coin tree tx
+      (ap (option_and_then (tree_of dig sealed)) (root_at-grown log call n (root_at-le log n found.0 found.1)) ∙ is)
+      signed
+
+  in-time-sealed : (log : List RootCall) (sealed : List (List Entry)) (t : List Entry)
+      → AreInTime dig tag log (sealed ++ t ∷ []) → AreInTime dig tag log sealed
+  in-time-sealed log sealed t in_time n coin tree tx is signed =
+      let found = and_then_some (tree_of dig sealed) (root_at log n) tree is in
+      in_time n coin tree tx
+      (ap (option_and_then (tree_of dig (sealed ++ t ∷ []))) found.1
+      ∙ tree_of-grow dig sealed t found.0 tree found.2) signed
+
+  in-time-note : (log : List RootCall) (note : Note) (forest : Forest)
+      → AreInTime dig tag log (after_note note forest).sealed → AreInTime dig tag log forest.sealed
+  in-time-note log (Offered bytes) forest in_time = in_time
+  in-time-note log (Laid coin bytes) forest in_time = in_time
+  in-time-note log Sealed forest in_time = in-time-sealed log forest.sealed forest.pool in_time
+
+  -- a commit is in time
+  in-time-now : (account : ℕ) (root : List ℕ) (log : List RootCall) (sealed : List (List Entry))
+      → AreInTime dig tag (RootCall.Commit account root ∷ log) sealed → IsInTime dig tag sealed root (blocks log + 1)
+  in-time-now account root log sealed in_time tree coin tx is signed =
+      let next : suc (blocks log) ≡ blocks log + 1 = omega arith in
+      let new : root_at (RootCall.Commit account root ∷ log) (blocks log + 1) ≡ Some root =
+      ap (root_at (RootCall.Commit account root ∷ log)) (sym next) ∙ root_at-new account root log in
+      in_time (blocks log + 1) coin tree tx (ap (option_and_then (tree_of dig sealed)) new ∙ is) signed
+
+-- one more note makes no root rarer among the sealed trees
+sealed-more : (dig : List ℕ → List ℕ) (note : Note) (forest : Forest) (root : List ℕ)
+    → times_sealed dig forest.sealed root ≤ times_sealed dig (after_note note forest).sealed root
+sealed-more dig (Offered bytes) forest root = omega arith
+sealed-more dig (Laid coin bytes) forest root = omega arith
+sealed-more dig Sealed forest root =
+    let more = count-push (λ tree. bytes_eq (root_of dig tree) root) forest.sealed forest.pool in
+    omega (arith, more)
+
+-- ---- commits
+
+is-commit : (call : RootCall) → is_commit (Joins call) ≡ commits_root call
+is-commit (RootCall.Commit account root) = refl
+is-commit call = refl
+
+not-committed : (call : RootCall) (log : List RootCall) (root : List ℕ) → commits_root call ≡ false
+    → times_committed (call ∷ log) root ≡ times_committed log root
+not-committed (RootCall.Commit account committed) log root none = absurd (true≢false none)
+not-committed call log root none = refl
+
+no-commit-honest : (dig : List ℕ → List ℕ) (tag : List ℕ) (acts : List Act) (call : RootCall)
+    → commits_root call ≡ false → IsHonestCall dig tag acts call
+no-commit-honest dig tag acts (RootCall.Commit account root) none = absurd (true≢false none)
+no-commit-honest dig tag acts call none = tt
+
+-- what is committed is a root
+root-of-commit : (call : RootCall) → commits_root call ≡ true
+    → (account : ℕ) × (root : List ℕ) × (call ≡ RootCall.Commit account root)
+root-of-commit (RootCall.Commit account root) is = (account, root, refl)
+root-of-commit call is = absurd (false≢true is)
+
+since-same : (event : Event) (events : List Event) → is_command_of 0 event ≡ false → is_commit event ≡ false
+    → commits_since (event ∷ events) ≡ commits_since events
+unfolding commits_since
+since-same event events other none =
+    let less : 0 + commits_since events ≡ commits_since events = omega arith in
+    ap (λ (b : Bool). if b then 0 else (if is_commit event then 1 else 0) + commits_since events) other
+    ∙ ap (λ (b : Bool). (if b then 1 else 0) + commits_since events) none ∙ less
+
+since-commit : (account : ℕ) (root : List ℕ) (events : List Event)
+    → commits_since (Joins (RootCall.Commit account root) ∷ events) ≡ 1 + commits_since events
+unfolding commits_since
+since-commit account root events = refl
+
+-- ---- nodes
+
+others-set : (nodes : List Node) (n : ℕ) (old new : Node) → slice_get nodes (suc n) ≡ Some old → AreOthers nodes
+    → IsOther new → AreOthers (set nodes (suc n) new)
+others-set nodes n old new old_is others other m node is = elim (cases_eq n m) [
+  | inl same ↦
+      let here : new ≡ node = some_same new node
+      (sym (set-same nodes (suc n) old new old_is) ∙ ap (λ k. slice_get (set nodes (suc n) new) (suc k)) same ∙ is) in
+      subst IsOther here other
+  | inr apart ↦
+      others m node (sym (set-other nodes (suc n) (suc m) new (λ same. apart (omega (arith, same)))) ∙ is)
+]
+
+others-first : (nodes : List Node) (new : Node) → AreOthers nodes → AreOthers (set nodes 0 new)
+others-first nodes new others m node is =
+    others m node (sym (set-other nodes 0 (suc m) new (λ same. omega (arith, same))) ∙ is)
+
+others-push : (nodes : List Node) (new : Node) → AreOthers nodes → IsOther new → AreOthers (nodes ++ new ∷ [])
+others-push nodes new others other m node is = elim (cases_eq (length nodes) (suc m)) [
+  | inl same ↦
+      let here : new ≡ node = some_same new node
+      (sym (push-same nodes new) ∙ ap (slice_get (nodes ++ new ∷ [])) same ∙ is) in
+      subst IsOther here other
+  | inr apart ↦ others m node (sym (push-other nodes new (suc m) apart) ∙ is)
+]
+
+-- ---- one more event
+
+module _ (dig : List ℕ → List ℕ) (events : List Event) (chain : Chain) (nodes : List Node)
+    (keeping : IsKeeping dig events chain nodes) where
+  abbrev op : Node
+  op = keeping.op
+
+  -- of another node, or of none
+  pub keeps-still : (event : Event) (after : List Node) → slice_get after 0 ≡ Some op → AreOthers after
+      → is_command_of 0 event ≡ false → is_commit event ≡ false → IsKeeping dig (event ∷ events) chain after
+  keeps-still event after first others other none = record {
+    op = op;
+    op_is = first;
+    role = keeping.role;
+    kinds = keeping.kinds;
+    tag = keeping.tag;
+    few = keeping.few;
+    others = others;
+    acts = keeping.acts;
+    log_is = keeping.log_is;
+    notes_is = keeping.notes_is;
+    counted = keeping.counted;
+    waiting = λ account root has since.
+        keeping.waiting account root has (sym (since-same event events other none) ∙ since);
+    honest = keeping.honest;
+  }
+
+  pub keeps-here : (event : Event) → is_command_of 0 event ≡ false → is_commit event ≡ false
+      → IsKeeping dig (event ∷ events) chain nodes
+  keeps-here event other none = keeps-still event nodes keeping.op_is keeping.others other none
+
+  pub keeps-push : (event : Event) (new : Node) → IsOther new → is_command_of 0 event ≡ false
+      → is_commit event ≡ false → IsKeeping dig (event ∷ events) chain (nodes ++ new ∷ [])
+  keeps-push event new is other none =
+      let within = slice_get_within nodes 0 op keeping.op_is in
+      keeps-still event (nodes ++ new ∷ [])
+      (push-other nodes new 0 (λ same. omega (arith, same, within)) ∙ keeping.op_is)
+      (others-push nodes new keeping.others is) other none
+
+  pub keeps-set : (event : Event) (n : ℕ) (old new : Node) → slice_get nodes (suc n) ≡ Some old → IsOther new
+      → is_command_of 0 event ≡ false → is_commit event ≡ false
+      → IsKeeping dig (event ∷ events) chain (set nodes (suc n) new)
+  keeps-set event n old new old_is is other none =
+      keeps-still event (set nodes (suc n) new)
+      (set-other nodes (suc n) 0 new (λ same. omega (arith, same)) ∙ keeping.op_is)
+      (others-set nodes n old new old_is keeping.others is) other none
+
+  -- a call that is no commit
+  joins-other : (call : RootCall) → commits_root call ≡ false
+      → IsKeeping dig (Joins call ∷ events) (with_log chain (call ∷ chain.log)) nodes
+  unfolding log_of kept_notes IsHonest
+  joins-other call none = record {
+    op = op;
+    op_is = keeping.op_is;
+    role = keeping.role;
+    kinds = keeping.kinds;
+    tag = keeping.tag;
+    few = keeping.few;
+    others = keeping.others;
+    acts = Called call ∷ keeping.acts;
+    log_is = ap (λ (log : List RootCall). call ∷ log) keeping.log_is;
+    notes_is = keeping.notes_is;
+    counted = λ root.
+        subst (λ (n : ℕ). n ≤ times_sealed dig (forest_in op.notes).sealed root)
+        (sym (not-committed call chain.log root none)) (keeping.counted root);
+    waiting = λ account root has since.
+        subst (λ (n : ℕ). n < times_sealed dig (forest_in op.notes).sealed root)
+        (sym (not-committed call chain.log root none))
+        (keeping.waiting account root has
+        (sym (since-same (Joins call) events refl (is-commit call ∙ none)) ∙ since));
+    honest = λ in_time. (
+      no-commit-honest dig chain.tag keeping.acts call none,
+      keeping.honest (in-time-earlier dig chain.tag chain.log call (forest_in op.notes).sealed in_time),
+    );
+  }
+
+  -- a commit that the operator offers, the first since its last command
+  joins-commit : (account : ℕ) (root : List ℕ) → Has op.offers (RootCall.Commit account root)
+      → commits_since events ≡ 0
+      → IsKeeping dig (Joins (RootCall.Commit account root) ∷ events)
+      (with_log chain (RootCall.Commit account root ∷ chain.log)) nodes
+  unfolding log_of kept_notes IsHonest
+  joins-commit account root has zero_is = record {
+    op = op;
+    op_is = keeping.op_is;
+    role = keeping.role;
+    kinds = keeping.kinds;
+    tag = keeping.tag;
+    few = keeping.few;
+    others = keeping.others;
+    acts = Called (RootCall.Commit account root) ∷ keeping.acts;
+    log_is = ap (λ (log : List RootCall). RootCall.Commit account root ∷ log) keeping.log_is;
+    notes_is = keeping.notes_is;
+    counted = more;
+    waiting = λ other committed offered since.
+        absurd (omega (arith, since, since-commit account root events));
+    honest = λ in_time. (
+      now in_time,
+      keeping.honest (in-time-earlier dig chain.tag chain.log (RootCall.Commit account root) sealed
+          in_time),
+    );
+  }
+    where
+      sealed : List (List Entry)
+      sealed = (forest_in op.notes).sealed
+
+      strict : times_committed chain.log root < times_sealed dig (forest_in op.notes).sealed root
+      strict = keeping.waiting account root has zero_is
+
+      more : (other : List ℕ) → times_committed (RootCall.Commit account root ∷ chain.log) other
+          ≤ times_sealed dig (forest_in op.notes).sealed other
+      more other =
+          (elim (bytes_eq root other) as (λ b. bytes_eq root other ≡ b
+          → length (if b then RootCall.Commit account root ∷ filter (commits other) chain.log
+          else filter (commits other) chain.log) ≤ times_sealed dig (forest_in op.notes).sealed other) [
+            | true ↦ λ same.
+                let here = subst (λ (r : List ℕ). times_committed chain.log r
+                < times_sealed dig (forest_in op.notes).sealed r) ((bytes_eq-Decides root other).0 same) strict in
+                omega (arith, here)
+            | false ↦ λ apart. keeping.counted other
+          ]) refl
+
+      now : AreInTime dig chain.tag (RootCall.Commit account root ∷ chain.log) (forest_in op.notes).sealed
+          → (times_committed (log_of keeping.acts) root < times_sealed dig (sealed_in keeping.acts) root)
+          × IsInTime dig chain.tag (sealed_in keeping.acts) root (blocks (log_of keeping.acts) + 1)
+      now in_time =
+          subst (λ (log : List RootCall).
+          (times_committed log root < times_sealed dig (sealed_in keeping.acts) root)
+          × IsInTime dig chain.tag (sealed_in keeping.acts) root (blocks log + 1)) (sym keeping.log_is)
+          (subst (λ (notes : List Note).
+          (times_committed chain.log root < times_sealed dig (forest_of notes).sealed root)
+          × IsInTime dig chain.tag (forest_of notes).sealed root (blocks chain.log + 1)) (sym keeping.notes_is)
+          (strict, in-time-now dig chain.tag account root chain.log (forest_in op.notes).sealed in_time))
+
+  -- a call that joins the log
+  pub keeps-joins : (call : RootCall) → commits_since (Joins call ∷ events) ≤ 1
+      → (commits_root call ≡ true → Has op.offers call)
+      → IsKeeping dig (Joins call ∷ events) (with_log chain (call ∷ chain.log)) nodes
+  keeps-joins call once offered = by (commits_root call) refl
+    where
+      by : (b : Bool) → commits_root call ≡ b
+          → IsKeeping dig (Joins call ∷ events) (with_log chain (call ∷ chain.log)) nodes
+      by false none = joins-other call none
+      by true some =
+          let root = root-of-commit call some in
+          let first = subst (λ (c : RootCall). commits_since (Joins c ∷ events) ≤ 1) root.2 once in
+          subst (λ (c : RootCall). IsKeeping dig (Joins c ∷ events) (with_log chain (c ∷ chain.log)) nodes)
+          (sym root.2)
+          (joins-commit root.0 root.1 (subst (λ (c : RootCall). Has op.offers c) root.2 (offered some))
+          (omega (arith, first, since-commit root.0 root.1 events)))
+
+  -- the operator's own command or crash that adds no note, after which it offers nothing
+  pub keeps-own : (event : Event) (after : Node) → after.role ≡ op.role → after.notes ≡ op.notes
+      → after.offers ≡ [] → IsKeeping dig (event ∷ events) chain (set nodes 0 after)
+  keeps-own event after role notes none = record {
+    op = after;
+    op_is = set-same nodes 0 op after keeping.op_is;
+    role = role ∙ keeping.role;
+    kinds = ap (are_of operator_kinds) notes ∙ keeping.kinds;
+    tag = ap (λ (records : List (List ℕ)). (who_is records).tag) notes ∙ keeping.tag;
+    few = keeping.few;
+    others = others-first nodes after keeping.others;
+    acts = keeping.acts;
+    log_is = keeping.log_is;
+    notes_is = keeping.notes_is ∙ ap notes_of (sym notes);
+    counted = λ root.
+        subst (λ (records : List (List ℕ)). times_committed chain.log root
+        ≤ times_sealed dig (forest_in records).sealed root) (sym notes) (keeping.counted root);
+    waiting = λ account root has since.
+        absurd (subst (λ (calls : List RootCall). Has calls (RootCall.Commit account root)) none has);
+    honest = λ in_time.
+        keeping.honest (subst (λ (records : List (List ℕ)).
+        AreInTime dig chain.tag chain.log (forest_in records).sealed) notes in_time);
+  }
+
+  -- a command that adds a note
+  pub keeps-note : (event : Event) (note : Note) (after : Node) → after.role ≡ op.role
+      → are_of operator_kinds after.notes ≡ true → who_is after.notes ≡ who_is op.notes
+      → notes_of after.notes ≡ note ∷ notes_of op.notes → IsHonestNote dig chain.tag keeping.acts note
+      → ((account : ℕ) (root : List ℕ) → Has after.offers (RootCall.Commit account root)
+      → times_committed chain.log root < times_sealed dig (after_note note (forest_in op.notes)).sealed root)
+      → IsKeeping dig (event ∷ events) chain (set nodes 0 after)
+  unfolding log_of kept_notes IsHonest forest_of
+  keeps-note event note after role kinds who added fine waits = record {
+    op = after;
+    op_is = set-same nodes 0 op after keeping.op_is;
+    role = role ∙ keeping.role;
+    kinds = kinds;
+    tag = ap (λ (i : Identity). i.tag) who ∙ keeping.tag;
+    few = keeping.few;
+    others = others-first nodes after keeping.others;
+    acts = Kept note ∷ keeping.acts;
+    log_is = keeping.log_is;
+    notes_is = ap (λ (notes : List Note). note ∷ notes) keeping.notes_is ∙ sym added;
+    counted = λ root.
+        let before = keeping.counted root in
+        let more = sealed-more dig note (forest_in op.notes) root in
+        subst (λ (notes : List Note). times_committed chain.log root
+        ≤ times_sealed dig (forest_of notes).sealed root) (sym added) (omega (arith, before, more));
+    waiting = λ account root has since.
+        subst (λ (notes : List Note). times_committed chain.log root
+        < times_sealed dig (forest_of notes).sealed root) (sym added) (waits account root has);
+    honest = λ in_time. (
+      fine,
+      keeping.honest (in-time-note dig chain.tag chain.log note (forest_in op.notes)
+          (subst (λ (notes : List Note). AreInTime dig chain.tag chain.log (forest_of notes).sealed) added in_time)),
+    );
+  }
