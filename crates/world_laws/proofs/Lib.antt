@@ -49,8 +49,6 @@ pub mod Samples
 pub mod OwnExitSamples
 pub mod AttendanceSamples
 pub mod ExhibitSamples
-pub mod Words
-pub mod Promises
 pub mod BundleTaken
 pub mod OperatorLines
 pub mod QuietOffers
@@ -62,3 +60,5 @@ pub mod BundleMade
 pub mod BundleHistories
 pub mod NoteLengths
 pub mod BundlesTaken
+pub mod Words
+pub mod Promises
