@@ -1,7 +1,9 @@
-//! The text of a trace of the world: its lines, verdicts, exhibit and counts, and the causes of refusals.
+//! What nodes' commands give out, and the text of a trace of the world: its lines, verdicts and exhibit, and the
+//! causes of refusals.
 #![tactic(auto)]
 
 mod causes;
+mod given;
 mod printing;
 mod replies;
 #[cfg(test)]
@@ -11,4 +13,5 @@ mod words;
 pub use causes::{
     contract_cause, history_cause, lay_cause, offer_cause, prove_cause, wallet_cause, watcher_cause,
 };
+pub use given::{Given, makes, offers, refused, says};
 pub use printing::{print_exhibit, print_line, print_verdict};
