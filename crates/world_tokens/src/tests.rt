@@ -1,0 +1,62 @@
+use super::{Rogue, declared_wallet, lent, padded};
+use line_forms::HexOrItem;
+use plasma_base::{Bytes, NoMemory};
+use plasma_tx::{Body, SignedTx, signed_by};
+use std::alloc::Global;
+use std::test::Fail;
+
+fn bytes(alloc: Global, text: &[u8]) -> Result<Bytes, NoMemory> {
+    Ok(Bytes::from_vec(text.to_vec(alloc)?))
+}
+
+#[test]
+fn tokens_have_their_bytes(rt: HostRuntime) -> Result<(), Fail> {
+    let alloc = rt.alloc();
+    let mut mail = Vec::new(alloc);
+    for item in [b"first".as_slice(), b"", b"third"] {
+        mail.push(bytes(alloc, item)?)?;
+    }
+    let table: [(HexOrItem, &[u8]); 7] = [
+        (HexOrItem::Hex(bytes(alloc, b"own")?), b"own"),
+        (HexOrItem::Item(0), b""),
+        (HexOrItem::Item(1), b"first"),
+        (HexOrItem::Item(2), b""),
+        (HexOrItem::Item(3), b"third"),
+        (HexOrItem::Item(4), b""),
+        (HexOrItem::Item(u64::MAX), b""),
+    ];
+    for (token, expected) in &table {
+        assert_eq!(rt; lent(mail.as_slice(), token), *expected);
+    }
+    Ok(())
+}
+
+#[test]
+fn a_rogue_signs_as_a_wallet_with_its_identity(rt: HostRuntime) -> Result<(), Fail> {
+    let alloc = rt.alloc();
+    let mut tag = [0; 32];
+    tag[30] = 1;
+    tag[31] = 2;
+    assert_eq!(rt; padded(258), tag);
+    let rogue = Rogue::make(
+        alloc,
+        bytes(alloc, b"u")?,
+        &declared_wallet(&tag, 21, 7, None),
+    )?;
+    assert_eq!(rt; rogue.name(), b"u".as_slice());
+    assert_eq!(rt; rogue.leaves(), 32);
+    let body = Body {
+        tag,
+        coin: 3,
+        parent: 5,
+        to: rogue.owner(),
+        last: Some(8),
+    };
+    let signed = rogue.sign(alloc, 31, &body)?;
+    let Ok(read) = SignedTx::read(alloc, &tag, signed.as_slice()) else {
+        return Err(Fail::new("the transfer"));
+    };
+    assert_eq!(rt; read.body, body);
+    assert!(rt; signed_by(&read, &rogue.owner()));
+    Ok(())
+}
