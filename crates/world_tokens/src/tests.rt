@@ -1,9 +1,12 @@
-use super::{Rogue, declared_wallet, lent, padded};
-use line_forms::HexOrItem;
+use super::{Rogue, call_of, declared_wallet, lent, outcome_of, padded, reply_to};
+use crash_disk::Outcome;
+use line_forms::{HexOrItem, OutcomeToken, ShownToken};
 use plasma_base::{Bytes, NoMemory};
-use plasma_tx::{Body, SignedTx, signed_by};
+use plasma_tx::{Answer, Body, Refusal, RootCall, SignedTx, signed_by};
+use schedule_text::CallForm;
 use std::alloc::Global;
 use std::test::Fail;
+use world_rules::Reply;
 
 fn bytes(alloc: Global, text: &[u8]) -> Result<Bytes, NoMemory> {
     Ok(Bytes::from_vec(text.to_vec(alloc)?))
@@ -28,6 +31,35 @@ fn tokens_have_their_bytes(rt: HostRuntime) -> Result<(), Fail> {
     for (token, expected) in &table {
         assert_eq!(rt; lent(mail.as_slice(), token), *expected);
     }
+    Ok(())
+}
+
+#[test]
+fn values_are_made_with_ample_memory(rt: HostRuntime) -> Result<(), Fail> {
+    let alloc = rt.alloc();
+    let mail = [bytes(alloc, b"first")?];
+    let form = CallForm::Before {
+        coin: 1,
+        exit: 3,
+        block: 2,
+        shown: ShownToken::Bytes(HexOrItem::Item(1)),
+    };
+    let call = call_of(alloc, &mail, 21, &form, None)?;
+    let Some(RootCall::Before { shown, .. }) = call else {
+        return Err(Fail::new("the call"));
+    };
+    assert_eq!(rt; shown.block(), 2);
+    let mix = OutcomeToken::Mix {
+        extra: 4,
+        bytes: bytes(alloc, b"x")?,
+    };
+    assert!(rt; matches!(outcome_of(alloc, &mix)?, Outcome::Mix { extra: 4, .. }));
+    let refused = reply_to(alloc, &Answer::Refused(Refusal::Late))?;
+    let Reply::Refused { cause } = refused else {
+        return Err(Fail::new("the cause"));
+    };
+    assert_eq!(rt; cause.as_slice(), b"late".as_slice());
+    assert!(rt; reply_to(alloc, &Answer::NoMemory).is_err());
     Ok(())
 }
 
