@@ -1,6 +1,7 @@
 use super::{Rogue, call_of, declared_wallet, lent, outcome_of, padded, reply_to};
 use crash_disk::Outcome;
 use line_forms::{HexOrItem, OutcomeToken, ShownToken};
+use lms_sign::LmsTypes;
 use plasma_base::{Bytes, NoMemory};
 use plasma_tx::{Answer, Body, Refusal, RootCall, SignedTx, signed_by};
 use schedule_text::CallForm;
@@ -70,11 +71,9 @@ fn a_rogue_signs_as_a_wallet_with_its_identity(rt: HostRuntime) -> Result<(), Fa
     tag[30] = 1;
     tag[31] = 2;
     assert_eq!(rt; padded(258), tag);
-    let rogue = Rogue::make(
-        alloc,
-        bytes(alloc, b"u")?,
-        &declared_wallet(&tag, 21, 7, None),
-    )?;
+    let types = LmsTypes { lms: 5, ots: 3 };
+    let who = declared_wallet(&tag, 21, 7, Some(types));
+    let rogue = Rogue::make(alloc, bytes(alloc, b"u")?, &who)?;
     assert_eq!(rt; rogue.name(), b"u".as_slice());
     assert_eq!(rt; rogue.leaves(), 32);
     let body = Body {
