@@ -65,47 +65,37 @@ fn challenge(
     ensures { IfOk result (λ call. (world : World) → mail.now ≡ world.mail
         → Some call ≡ call_of world account form.now) }
 {
-    Ok(match form {
+    Ok(match *form {
         CallForm::After {
             coin,
             exit,
             block,
-            opening,
-        } => after(
-            account,
-            *coin,
-            *exit,
-            opening_of(alloc, mail, *block, opening)?,
-        ),
+            opening: ref token,
+        } => after(account, coin, exit, opening_of(alloc, mail, block, token)?),
         CallForm::Between {
             coin,
             exit,
             block,
-            opening,
-        } => between(
-            account,
-            *coin,
-            *exit,
-            opening_of(alloc, mail, *block, opening)?,
-        ),
+            opening: ref token,
+        } => between(account, coin, exit, opening_of(alloc, mail, block, token)?),
         CallForm::Before {
             coin,
             exit,
             block,
-            shown,
-        } => before(account, *coin, *exit, shown_of(alloc, mail, *block, shown)?),
+            shown: ref token,
+        } => before(account, coin, exit, shown_of(alloc, mail, block, token)?),
         CallForm::Respond {
             coin,
             exit,
             challenged,
             block,
-            opening,
+            opening: ref token,
         } => respond(
             account,
-            *coin,
-            *exit,
-            *challenged,
-            opening_of(alloc, mail, *block, opening)?,
+            coin,
+            exit,
+            challenged,
+            opening_of(alloc, mail, block, token)?,
         ),
         _ => unreachable!(),
     })
