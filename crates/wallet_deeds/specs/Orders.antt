@@ -18,7 +18,7 @@ again_deed n wallet coin = without_record (answered n wallet_cause (on_sent_agai
 abbrev pub migrate_deed : ℕ → WalletRecords → Deed
 migrate_deed n wallet = wallet_deed n (on_migrated n) (migrate_effect wallet)
 
--- What an order of a wallet does, which is up and is node n.
+-- What an order does at a wallet that is up, which is node n.
 unfoldable pub order_deed : (List ℕ → List ℕ) → List RootCall → ℕ → WalletRecords → WalletOrder → Deed
 order_deed dig log n wallet (WalletOrder.Accept bundle) =
     wallet_deed n (on_accepted n bundle) (accept_effect dig wallet log bundle)
