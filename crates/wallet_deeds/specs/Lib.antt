@@ -1,0 +1,3 @@
+pub mod Orders
+pub mod Inside
+pub mod Laws

@@ -1,0 +1,15 @@
+//! A wallet's commands, run over its node: what they give out, and what they do to its disks.
+#![tactic(auto)]
+
+mod causes;
+mod laws;
+mod leaf_orders;
+mod note_orders;
+mod order;
+mod running;
+#[cfg(test)]
+mod tests;
+
+pub use laws::{commands_are_orders, orders_add_one_record, orders_keep_the_role};
+pub use order::WalletOrder;
+pub use running::run;
