@@ -4,6 +4,7 @@
 
 mod causes;
 mod given;
+mod offering;
 mod printing;
 mod replies;
 #[cfg(test)]
@@ -14,4 +15,5 @@ pub use causes::{
     contract_cause, history_cause, lay_cause, offer_cause, prove_cause, wallet_cause, watcher_cause,
 };
 pub use given::{Given, makes, offers, refused, says};
+pub use offering::offer_kinds;
 pub use printing::{print_exhibit, print_line, print_verdict};
