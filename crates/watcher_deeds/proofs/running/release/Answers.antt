@@ -1,4 +1,3 @@
-use Rattle.std.proofs.Common.{sym}
 use Rattle.node_rules.specs.Watcher.{release_effect}
 use Rattle.watcher_node.specs.State.{stop_in}
 use Rattle.world_rules.specs.Causes.{watcher_cause}
@@ -21,5 +20,5 @@ returns-in-Err-clause-did g c =
     (release_effect dig node.notes.records c.args.coin c.args.tip).note node.notes _
     (stop_in c.in-Err.why) c.refusal.result c.in-Err.ensures.did
     (λ free. release-refused dig node.notes.records c.args.coin c.args.tip c.in-Err.why
-    (sym (c.in-Err.ensures.answer free)))
+    (c.in-Err.ensures.answer free))
     c.refusal.ensures.stop c.refusal.ensures.memory
