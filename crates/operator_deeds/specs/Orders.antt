@@ -1,4 +1,4 @@
--- What an order to the operator does, which order a command is, and what stops orders that add no record.
+-- What an order to the operator does, and which order a command is.
 use Rattle.std.specs.Prelude.{ℕ, List}
 use Rattle.plasma_tx.specs.declared.call.RootCall.{RootCall}
 use Rattle.schedule_text.specs.declared.command.OperatorCommand.{OperatorCommand}
