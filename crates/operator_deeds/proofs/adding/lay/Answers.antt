@@ -1,0 +1,20 @@
+use Rattle.std.proofs.Common.{Err, sym}
+use Rattle.operator_rules.specs.Commands.{lay_effect}
+use Rattle.operator_core.specs.State.{lay_stop}
+use Rattle.world_rules.specs.Causes.{lay_cause}
+use Rattle.world_rules.specs.Deeds.{on_laid}
+use Rattle.operator_deeds.proofs.Orders.{lay-refused, given-refused, did-refused}
+use Rattle.operator_deeds.proofs.adding.lay.Goals as goal
+
+pub returns-in-Err-clause-gives : goal.returns-in-Err-clause-gives
+returns-in-Err-clause-gives g c =
+    given-refused g.n lay_cause (on_laid g.n c.args.coin) (lay_effect c.args.coin c.args.leaf.now).answer c.in-Err.why
+    (lay_stop (Err c.in-Err.why)) c.lay_refusal.result c.in-Err.ensures.answer c.lay_refusal.ensures.gives
+    c.lay_refusal.ensures.stop
+
+pub returns-in-Err-clause-did : goal.returns-in-Err-clause-did
+returns-in-Err-clause-did g c =
+    did-refused g.D.Disk.told g.D.Disk.plan g.D.Disk.faults (lay_effect c.args.coin c.args.leaf.now).note
+    c.args.node.now.notes _ (lay_stop (Err c.in-Err.why)) c.lay_refusal.result c.in-Err.ensures.did
+    (λ free. lay-refused c.args.coin c.args.leaf.now c.in-Err.why (sym (c.in-Err.ensures.answer free)))
+    c.lay_refusal.ensures.stop c.lay_refusal.ensures.memory

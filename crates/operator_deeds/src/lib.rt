@@ -1,0 +1,14 @@
+//! The commands of the operator, run over its disk: what each gives out, and what it does to the operator.
+#![tactic(auto)]
+
+mod adding;
+mod laws;
+mod order;
+mod running;
+mod showing;
+#[cfg(test)]
+mod tests;
+
+pub use laws::{commands_are_orders, orders_add_no_leaf, orders_keep_the_role};
+pub use order::OperatorOrder;
+pub use running::run;
