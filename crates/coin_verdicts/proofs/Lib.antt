@@ -1,0 +1,5 @@
+pub mod Forms
+pub mod Views
+pub mod Lists
+pub mod QuietNodes
+pub mod GuardedTips
