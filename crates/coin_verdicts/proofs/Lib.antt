@@ -3,3 +3,6 @@ pub mod Views
 pub mod Lists
 pub mod QuietNodes
 pub mod GuardedTips
+pub mod SentLeaves
+pub mod Standing
+pub mod Agreeing
