@@ -6,3 +6,5 @@ pub mod GuardedTips
 pub mod SentLeaves
 pub mod Standing
 pub mod Agreeing
+pub mod Agreed
+pub mod Holders
