@@ -8,3 +8,7 @@ pub mod Standing
 pub mod Agreeing
 pub mod Agreed
 pub mod Holders
+pub mod Judging
+pub mod Judged
+pub mod Ending
+pub mod Tips

@@ -90,3 +90,26 @@ deposited_or me before change = before
 unfoldable pub deposited_in : Owner → List Note → List ℕ
 deposited_in me [] = []
 deposited_in me (note ∷ notes) = deposited_or me (deposited_in me notes) note.change
+
+-- what one change says of the tips that a wallet accepted
+abbrev pub tips_or : ℕ → List ℕ → Change → List ℕ
+tips_or w before (Change.Accepts wallet tip) = if wallet == w then tip ∷ before else before
+tips_or w before change = before
+
+-- the tips that a wallet accepted
+unfoldable pub tips_in : ℕ → List Note → List ℕ
+tips_in w [] = []
+tips_in w (note ∷ notes) = tips_or w (tips_in w notes) note.change
+
+-- the greatest block at which the wallet ever held the coin
+unfoldable pub tip_in : Holder → List Note → Option ℕ
+tip_in holder notes =
+    greatest (filter (was_held holder notes) (deposited_in holder.owner notes ++ tips_in holder.wallet notes))
+
+-- what became of a coin that a wallet held at a block: the first of these that applies
+abbrev pub kind_of : Standing → VerdictKind
+kind_of s =
+    if not (s.sent == 0) then VerdictKind.Away
+    else if s.paid then VerdictKind.Paid
+    else if s.taken then lost_or s.unattended
+    else VerdictKind.Held
