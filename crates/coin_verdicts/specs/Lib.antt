@@ -1,3 +1,5 @@
 pub mod Facts
 pub mod Notes
 pub mod Standings
+pub mod Books
+pub mod Signings

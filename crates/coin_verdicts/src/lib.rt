@@ -1,7 +1,10 @@
 //! What became of each coin, from what verdicts need to know of each line of a run.
 #![tactic(auto)]
 
+mod books;
 mod fact;
 mod note;
+mod quiet;
+mod signers;
 
 pub use fact::{Fact, Numbers};
