@@ -99,8 +99,11 @@ module _ (tests : Tests) (rules : Rules) (holder : Holder) (c e : ℕ) where
         (coin_at (log_of events) c) refl)
     call-step (RootCall.Tick time) fact h =
         let form = tick-form (log_of events) time fact h in
-        rw (form.is, after-each holder e (length facts + 1) c (nodes_at c (quiet_in facts))
-        (tips_at (nodes_at c (quiet_in facts)) (guards_in facts c)) form.met (notes_in facts c))
+        rw (
+          form.is,
+          after-each holder e (length facts + 1) c (nodes_at c (quiet_in facts))
+              (tips_at (nodes_at c (quiet_in facts)) (guards_in facts c)) form.met (notes_in facts c),
+        )
         (meets-at holder e (length facts + 1) (notes_in facts c) dep acc sent out same (has form.met c)
         (nodes_at c (quiet_in facts)) (tips_at (nodes_at c (quiet_in facts)) (guards_in facts c)))
     call-step (RootCall.After account coin block spend) fact h =
@@ -134,8 +137,11 @@ module _ (tests : Tests) (rules : Rules) (holder : Holder) (c e : ℕ) where
         ∙ ap (λ (ns : List ℕ). has ns (length (bound_in facts v))) (sym (taken-same tests rules events facts v are)))
         refl)
     event-step (TakesBack v q bundle) fact h =
-        rw (h, ap (λ leaves. leaf_in q leaves) (bound-same tests rules events facts v are),
-        leaf-same q (bound_by events v))
+        rw (
+          h,
+          ap (λ leaves. leaf_in q leaves) (bound-same tests rules events facts v are),
+          leaf-same q (bound_by events v),
+        )
         (after-returns holder e (length facts + 1) (notes_in facts c) dep acc sent out same v c q
         (has (taken_in facts v) q) (taken_back events holder.wallet) (bound_by events holder.wallet)
         (leaf_at q (bound_by events v))

@@ -62,21 +62,24 @@ module _ (tests : Tests) (rules : Rules) (holder : Holder) (c e : ℕ) where
       → TakenAs before events s
       → TakenAs (option_or before (if taking then Some events else None)) (event ∷ events) after
   unfolding first_unattended
-  taking-step (Some before) events event line taking unattended s after is taken at apart goes was =
-      (taken ∙ ap (λ b. b || taking) was.0,
-      was.1 ∙ sym (at ∙ ap (missed_by s.unattended line unattended) was.0))
-  taking-step None events event line true unattended s after is taken at apart goes was =
-      (taken ∙ ap (λ b. b || true) was.0,
-      was.1 ∙ sym (at ∙ ap (missed_by s.unattended line unattended) was.0
-      ∙ ap (λ (b : Bool). option_or s.unattended (if b then Some line else None)) (apart refl)
-      ∙ or-none s.unattended))
-  taking-step None events event line false unattended s after is taken at apart goes was =
-      (taken ∙ ap (λ b. b || false) was.0,
-      ap (λ o. option_or o (if goes_unattended events holder.wallet c e event then Some (length events + 1) else None))
-      was.1
-      ∙ ap (λ (b : Bool). option_or s.unattended (if b then Some (length events + 1) else None)) goes
-      ∙ ap (λ (n : ℕ). option_or s.unattended (if unattended then Some n else None)) (sym is)
-      ∙ sym (at ∙ ap (missed_by s.unattended line unattended) was.0))
+  taking-step (Some before) events event line taking unattended s after is taken at apart goes was = (
+    taken ∙ ap (λ b. b || taking) was.0,
+    was.1 ∙ sym (at ∙ ap (missed_by s.unattended line unattended) was.0),
+  )
+  taking-step None events event line true unattended s after is taken at apart goes was = (
+    taken ∙ ap (λ b. b || true) was.0,
+    was.1 ∙ sym (at ∙ ap (missed_by s.unattended line unattended) was.0
+        ∙ ap (λ (b : Bool). option_or s.unattended (if b then Some line else None)) (apart refl)
+        ∙ or-none s.unattended),
+  )
+  taking-step None events event line false unattended s after is taken at apart goes was = (
+    taken ∙ ap (λ b. b || false) was.0,
+    ap (λ o. option_or o (if goes_unattended events holder.wallet c e event then Some (length events + 1) else None))
+        was.1
+        ∙ ap (λ (b : Bool). option_or s.unattended (if b then Some (length events + 1) else None)) goes
+        ∙ ap (λ (n : ℕ). option_or s.unattended (if unattended then Some n else None)) (sym is)
+        ∙ sym (at ∙ ap (missed_by s.unattended line unattended) was.0),
+  )
 
   -- where no note came, time alone may have made the wallet a holder
   ever-kept : (was now has ever : Bool) → (was ≡ true → now ≡ true)
@@ -177,5 +180,8 @@ module _ (tests : Tests) (rules : Rules) (holder : Holder) (c e : ℕ) where
         let same = agreed tests rules holder c e events facts are in
         let sent : is_sent_from (signed_away_by events holder.wallet) c e ≡ not ((standing facts).sent == 0) =
         sent-counted c e (signed_away_by events holder.wallet) ∙ ap (λ n. not (n == 0)) (sym same.sent_is) in
-        rw (sent, was.paid_is,
-        taken-kind (before_taking tests rules events holder.owner holder.wallet c e) was.taken_is) refl
+        rw (
+          sent,
+          was.paid_is,
+          taken-kind (before_taking tests rules events holder.owner holder.wallet c e) was.taken_is,
+        ) refl

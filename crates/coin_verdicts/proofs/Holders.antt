@@ -25,9 +25,10 @@ IsDeclaredSo holder (event ∷ events) =
 before-declared : (holder : Holder) (events : List Event) → length events < holder.since → OwnersStay events
     → wallet_owner events holder.wallet ≡ None → IsDeclaredSo holder events
 before-declared holder [] early stay none = none ∙ sym (rw (le-ltb holder.since 1 (omega arith)) refl)
-before-declared holder (event ∷ events) early stay none =
-    (none ∙ sym (rw (le-ltb holder.since (length events + 2) (omega arith)) refl),
-    before-declared holder events (omega arith) stay.1 (at (wallet_owner events holder.wallet) refl))
+before-declared holder (event ∷ events) early stay none = (
+  none ∙ sym (rw (le-ltb holder.since (length events + 2) (omega arith)) refl),
+  before-declared holder events (omega arith) stay.1 (at (wallet_owner events holder.wallet) refl),
+)
   where
     at : (o : Option Owner) → wallet_owner events holder.wallet ≡ o → wallet_owner events holder.wallet ≡ None
     at None is = is
@@ -60,9 +61,10 @@ module _ (tests : Tests) (rules : Rules) where
       at : (b : Bool) → (v == w) ≡ b → Declared (Declares v me ∷ events) w (if b then Some holder else None)
       at true own =
           let owner : wallet_owner (Declares v me ∷ events) w ≡ Some me = rw own refl in
-          Somebody holder refl refl owner (omega arith)
-          (owner ∙ sym (rw (lt-ltb line (length events + 2) (omega arith)) refl),
-          before-declared holder events (omega arith) stay none)
+          Somebody holder refl refl owner (omega arith) (
+            owner ∙ sym (rw (lt-ltb line (length events + 2) (omega arith)) refl),
+            before-declared holder events (omega arith) stay none,
+          )
       at false apart = Nobody refl (rw apart none)
   first-step (Joins call) events fact w line is h stay none =
       Nobody (call-declares fact w line (call-form tests rules (log_of events) call fact h)) none
@@ -82,7 +84,9 @@ module _ (tests : Tests) (rules : Rules) where
             (ap (λ n. n + 1) (as-many tests rules events facts h.1)) h.0 stay.1 none)
         | Somebody holder found own is early so ↦
             Somebody holder (ap (λ o. earlier o (declared w (length facts + 1) fact)) found) own
-            (stay.0 w holder.owner is) (omega arith)
-            (ap (wallet_owner (event ∷ events)) own ∙ stay.0 w holder.owner is
-            ∙ sym (rw (lt-ltb holder.since (length events + 2) (omega arith)) refl), so)
+            (stay.0 w holder.owner is) (omega arith) (
+              ap (wallet_owner (event ∷ events)) own ∙ stay.0 w holder.owner is
+                  ∙ sym (rw (lt-ltb holder.since (length events + 2) (omega arith)) refl),
+              so,
+            )
       ]

@@ -80,9 +80,15 @@ module _ (tests : Tests) (rules : Rules) (holder : Holder) (c e : ℕ) where
           ≡ (b && has_coin (standing facts))
       at false same = refl
       at true same =
-          rw (same.deposited_is, same.accepted_is, same.sent_is, same.withdrawn_is,
-          sent-counted c e (signed_away_by events holder.wallet), withdrawn_is_paid rules (log_of events) c legal,
-          not-not (count_of (is_body c e) (signed_away_by events holder.wallet) == 0)) refl
+          rw (
+            same.deposited_is,
+            same.accepted_is,
+            same.sent_is,
+            same.withdrawn_is,
+            sent-counted c e (signed_away_by events holder.wallet),
+            withdrawn_is_paid rules (log_of events) c legal,
+            not-not (count_of (is_body c e) (signed_away_by events holder.wallet) == 0),
+          ) refl
 
   module _ (events : List Event) (facts : List Fact) (are : AreFacts tests rules events facts)
       (held_is : holds events holder.wallet c e ≡ is_held_at holder (length facts + 1) (standing facts)) where
@@ -112,8 +118,10 @@ module _ (tests : Tests) (rules : Rules) (holder : Holder) (c e : ℕ) where
         (standing_in holder e (noted (length facts + 1) (changes_in facts c (ended found coin block paid))
         ++ notes_in facts c))
     finish-step None coin block paid =
-        rw (pays-none (coin == c) (block == e) paid holder.owner,
-        takes-none (coin == c) (block == e) paid (holds events holder.wallet c e) holder.owner) plain
+        rw (
+          pays-none (coin == c) (block == e) paid holder.owner,
+          takes-none (coin == c) (block == e) paid (holds events holder.wallet c e) holder.owner,
+        ) plain
     finish-step (Some exit) coin block paid =
         rw (after-where holder e (length facts + 1) (coin == c) (Change.Ends block exit.account paid) (notes_in facts c))
         (judges-ends holder e (length facts + 1) (standing facts) (coin == c) block exit.account paid _ _
@@ -155,8 +163,11 @@ module _ (tests : Tests) (rules : Rules) (holder : Holder) (c e : ℕ) where
         (Change.Deposits (blocks (log_of events) + 1) (record { account = account; key = key })) refl)
     call-judged (RootCall.Tick time) fact h =
         let form = tick-form (log_of events) time fact h in
-        rw (form.is, after-each holder e (length facts + 1) c (nodes_at c (quiet_in facts))
-        (tips_at (nodes_at c (quiet_in facts)) (guards_in facts c)) form.met (notes_in facts c))
+        rw (
+          form.is,
+          after-each holder e (length facts + 1) c (nodes_at c (quiet_in facts))
+              (tips_at (nodes_at c (quiet_in facts)) (guards_in facts c)) form.met (notes_in facts c),
+        )
         (judges-meets holder e (length facts + 1) (standing facts) (has form.met c)
         (nodes_at c (quiet_in facts)) (tips_at (nodes_at c (quiet_in facts)) (guards_in facts c))
         (goes_unattended events holder.wallet c e (Joins (RootCall.Tick time)))
@@ -187,4 +198,3 @@ module _ (tests : Tests) (rules : Rules) (holder : Holder) (c e : ℕ) where
         rw h (taken-step v (has (taken_in facts v) q) (leaf_in q (bound_in facts v)))
     event-judged (Watches n calls) fact h = rw (watch-form n calls fact h).is plain
     event-judged event fact h = rw h plain
-

@@ -12,3 +12,5 @@ pub mod Judging
 pub mod Judged
 pub mod Ending
 pub mod Tips
+pub mod BookLaws
+pub mod KeptReadings

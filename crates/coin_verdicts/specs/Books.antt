@@ -6,8 +6,9 @@ use Rattle.std.specs.BTreeSet.{insert_key}
 use Rattle.coin_verdicts.specs.declared.note.Note.{Note}
 use Rattle.coin_verdicts.specs.declared.note.Leaf.{Leaf}
 use Rattle.coin_verdicts.specs.declared.note.Guard.{Guard}
+use Rattle.coin_verdicts.specs.declared.note.Quiet.{Quiet}
 use Rattle.coin_verdicts.specs.Facts.{has}
-use Rattle.coin_verdicts.specs.Notes.{is_guard}
+use Rattle.coin_verdicts.specs.Notes.{is_guard, meets, each_time, noted}
 
 -- the notes of a coin, the newest first, and its guards
 pub record CoinBook : Type 0 where
@@ -38,6 +39,20 @@ book_at books c = if c == 0 then None else slice_get books (c - 1)
 abbrev pub IsChanged : ℕ → (CoinBook → CoinBook) → List CoinBook → List CoinBook → Type 0
 IsChanged coin change books after =
     (c : ℕ) → book_at after c ≡ (if c == coin then option_map change (book_at books c) else book_at books c)
+
+-- the book with a note of a tick that meets a deadline of coin c, with these quiet nodes
+abbrev pub with_met : ℕ → ℕ → List Quiet → CoinBook → CoinBook
+with_met line c nodes book = with_more (record { line = line; change = meets c nodes book.guards }) book
+
+-- the book with such a note for each time that coin c is among these
+abbrev pub with_each : ℕ → ℕ → List Quiet → List ℕ → CoinBook → CoinBook
+with_each line c nodes met book =
+    record book { notes = noted line (each_time c (meets c nodes book.guards) met) ++ book.notes }
+
+-- the books after a tick
+abbrev pub AreMet : ℕ → List Quiet → List ℕ → List CoinBook → List CoinBook → Type 0
+AreMet line nodes met books after =
+    (c : ℕ) → book_at after c ≡ option_map (with_each line c nodes met) (book_at books c)
 
 -- a wallet's leaves in the order of time, and the numbers of those that it took back
 pub record Signing : Type 0 where

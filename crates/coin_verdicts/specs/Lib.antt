@@ -3,3 +3,4 @@ pub mod Notes
 pub mod Standings
 pub mod Books
 pub mod Signings
+pub mod Readings

@@ -1,10 +1,11 @@
-ghost use Rattle.std.specs.Prelude.{◌≡◌, ◌<◌, ◌-◌, ◌∷◌, ◌++◌, [], length, not, map, filter, replicate, slice_get, reverse, IfOk, OnOk, IfSome, IfNone, None};
+ghost use Rattle.std.specs.Prelude.{◌≡◌, ◌-◌, ◌==◌, ◌||◌, if◌then◌else◌, nat_lt, not, filter, replicate, reverse, IfOk, OnOk, IfSome, IfNone, Some, None};
 ghost use Rattle.coin_verdicts.specs.Facts.{has};
 ghost use Rattle.coin_verdicts.specs.Notes.{is_guard, tips_at};
-ghost use Rattle.coin_verdicts.specs.Books.{blank, with_more, with_guard, without_guard, book_at, IsChanged};
+ghost use Rattle.coin_verdicts.specs.Books.{blank, with_more, with_guard, without_guard, with_met, book_at, IsChanged, AreMet};
 
 use super::fact::Numbers;
-use super::note::{Guard, Note};
+use super::note::{Change, Guard, Note};
+use super::quiet::QuietNodes;
 use plasma_base::NoMemory;
 use std::alloc::Global;
 use std::marker::Model;
@@ -66,6 +67,24 @@ impl Book {
         Ok(Numbers::from_vec(tips_at(alloc, nodes, &self.guards)?))
     }
 
+    /// Notes that a tick met a deadline of the coin, whose book this is.
+    pub fn meet(
+        &mut self,
+        alloc: Global,
+        line: u64,
+        coin: u64,
+        nodes: &QuietNodes,
+    ) -> Result<(), NoMemory>
+        ensures { OnOk result (self.new ≡ with_met line coin nodes.now self.old) }
+    {
+        let nodes = nodes.at(alloc, coin)?;
+        let tips = self.tips(alloc, &nodes)?;
+        self.note(Note {
+            line,
+            change: Change::Meets { nodes, tips },
+        })
+    }
+
     /// The notes, the oldest first.
     pub fn notes(&self) -> &[Note]
         ensures { reverse result.now ≡ self.now.notes }
@@ -106,10 +125,83 @@ impl Books {
         ensures some { IfSome result (λ book. book_at self.now coin ≡ Some book.now) }
         ensures none { IfNone result (book_at self.now coin ≡ None) }
     {
-        match coin.checked_sub(1) {
+        match place_of(self.items.len(), coin) {
             None => None,
-            Some(place) => self.items.get(place as usize),
+            Some(place) => Some(&self.items[place]),
         }
+    }
+
+    /// Adds a note to the coin's book, where there is one.
+    pub fn note(&mut self, coin: u64, note: Note) -> Result<(), NoMemory>
+        ensures { OnOk result (IsChanged coin (with_more note) self.old self.new) }
+    {
+        match place_of(self.items.len(), coin) {
+            None => Ok(()),
+            Some(place) => self.items[place].note(note),
+        }
+    }
+
+    /// Adds a guard to the coin's book, where there is one.
+    pub fn guard(&mut self, coin: u64, guard: Guard) -> Result<(), NoMemory>
+        ensures { OnOk result (IsChanged coin (with_guard guard) self.old self.new) }
+    {
+        match place_of(self.items.len(), coin) {
+            None => Ok(()),
+            Some(place) => self.items[place].guard(guard),
+        }
+    }
+
+    /// Lets a guard of the coin go.
+    pub fn release(&mut self, coin: u64, watcher: u64, tip: u64)
+        ensures { IsChanged coin (without_guard watcher tip) self.old self.new }
+    {
+        match place_of(self.items.len(), coin) {
+            None => {}
+            Some(place) => self.items[place].release(watcher, tip),
+        }
+    }
+
+    /// Notes that a tick met a deadline of the coin, where there is its book.
+    pub fn meet(
+        &mut self,
+        alloc: Global,
+        line: u64,
+        coin: u64,
+        nodes: &QuietNodes,
+    ) -> Result<(), NoMemory>
+        ensures { OnOk result (IsChanged coin (with_met line coin nodes.now) self.old self.new) }
+    {
+        match place_of(self.items.len(), coin) {
+            None => Ok(()),
+            Some(place) => self.items[place].meet(alloc, line, coin, nodes),
+        }
+    }
+
+    /// Notes that a tick met deadlines of these coins.
+    pub fn meet_all(
+        &mut self,
+        alloc: Global,
+        line: u64,
+        met: &[u64],
+        nodes: &QuietNodes,
+    ) -> Result<(), NoMemory>
+        ensures { OnOk result (AreMet line nodes.now met.now self.old self.new) }
+    {
+        for coin in met {
+            self.meet(alloc, line, *coin, nodes)?;
+        }
+        Ok(())
+    }
+}
+
+// The place of the coin's book among so many.
+fn place_of(count: usize, coin: u64) -> Option<usize>
+    ensures { result ≡ (if (coin == 0) || nat_lt count coin then None else Some (coin - 1)) }
+{
+    if coin == 0 || count < coin as usize {
+        None
+    } else {
+        Some(coin as usize - 1)
     }
 }
 

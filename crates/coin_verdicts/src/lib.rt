@@ -5,6 +5,7 @@ mod books;
 mod fact;
 mod note;
 mod quiet;
+mod reading;
 mod signers;
 
 pub use fact::{Fact, Numbers};

@@ -13,13 +13,25 @@ pub struct Note {
 #[derive(Debug, Drop)]
 pub enum Change {
     /// It was deposited in this block, to this owner.
-    Deposits { block: u64, owner: Owner },
+    Deposits {
+        block: u64,
+        owner: Owner,
+    },
     /// A wallet accepted it with this tip.
-    Accepts { wallet: u64, tip: u64 },
+    Accepts {
+        wallet: u64,
+        tip: u64,
+    },
     /// A leaf of a wallet, which isn't taken back, signs it away from this parent.
-    Sends { wallet: u64, parent: u64 },
+    Sends {
+        wallet: u64,
+        parent: u64,
+    },
     /// A wallet took back such a leaf.
-    Returns { wallet: u64, parent: u64 },
+    Returns {
+        wallet: u64,
+        parent: u64,
+    },
     /// Its exit at the block, which this account had started, ended.
     Ends {
         block: u64,
@@ -28,7 +40,10 @@ pub enum Change {
     },
     /// A tick met a deadline of it. These nodes had watched and offered no call of it, and no call was accepted since;
     /// watchers among them guard it at these tips.
-    Meets { nodes: Numbers, tips: Numbers },
+    Meets {
+        nodes: Numbers,
+        tips: Numbers,
+    },
 }
 
 /// A wallet whose coins are asked for: its number, the line that declared it, and the owner that it is.

@@ -52,11 +52,13 @@ impl Signer {
         ensures leaf { IfOk result (λ leaf. leaf
             ≡ (if has self.old.taken number then None else slice_get self.old.leaves number)) }
     {
-        if self.taken.contains(&number) {
-            return Ok(None);
-        }
+        let was_taken = self.taken.contains(&number);
         self.taken.insert(number)?;
-        Ok(self.leaves.get(number as usize).copied())
+        Ok(if was_taken {
+            None
+        } else {
+            leaf_at(&self.leaves, number)
+        })
     }
 }
 
@@ -105,6 +107,13 @@ impl Signers {
             None => unreachable!(),
         }
     }
+}
+
+// The leaf with this number.
+fn leaf_at(leaves: &[Leaf], number: u64) -> Option<Leaf>
+    ensures { result ≡ slice_get leaves.now number }
+{
+    leaves.get(number as usize).copied()
 }
 
 // Makes the wallet's entry, in which nothing is signed where there was none.
