@@ -25,7 +25,7 @@ use Rattle.coin_verdicts.proofs.Forms.{tick-form, watch-form}
 use Rattle.coin_verdicts.proofs.Lists.{eqb-comm}
 use Rattle.coin_verdicts.proofs.Views.{leaf_of, bound-same, taken-same}
 use Rattle.coin_verdicts.proofs.SentLeaves.{is_body, count_of, leaf-same}
-use Rattle.coin_verdicts.proofs.Standing.{after-each}
+use Rattle.coin_verdicts.proofs.OneLine.{after-each}
 use Rattle.coin_verdicts.proofs.Agreeing.{Agrees, after-deposits, after-accepts, after-binds, after-returns, after-ends, meets-at}
 
 -- the standing says of a coin at a block what the events say

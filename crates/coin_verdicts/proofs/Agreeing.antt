@@ -19,7 +19,7 @@ use Rattle.coin_verdicts.specs.Standings.{with_note, standing_in}
 use Rattle.coin_verdicts.proofs.Lists.{or-false, or-comm}
 use Rattle.coin_verdicts.proofs.Views.{leaf_of}
 use Rattle.coin_verdicts.proofs.SentLeaves.{is_body, one_if, count_of, gone_of, gone, taken-count}
-use Rattle.coin_verdicts.proofs.Standing.{in_line, after-where}
+use Rattle.coin_verdicts.proofs.OneLine.{in_line, after-where}
 
 -- the standing says these of the deposit, the accepted tips, the leaves and the payment
 pub record Agrees (deposited accepted : Bool) (sent : ℕ) (withdrawn : Bool) (s : Standing) : Type 0 where

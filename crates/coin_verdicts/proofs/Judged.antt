@@ -25,7 +25,7 @@ use Rattle.coin_verdicts.proofs.Forms.{tick-form, watch-form, as-many}
 use Rattle.coin_verdicts.proofs.Views.{leaf_of, bound-same}
 use Rattle.coin_verdicts.proofs.GuardedTips.{guarded-same}
 use Rattle.coin_verdicts.proofs.SentLeaves.{is_body, count_of, leaf-same, sent-counted}
-use Rattle.coin_verdicts.proofs.Standing.{in_line, after-where, after-each}
+use Rattle.coin_verdicts.proofs.OneLine.{in_line, after-where, after-each}
 use Rattle.coin_verdicts.proofs.Agreeing.{Agrees}
 use Rattle.coin_verdicts.proofs.Agreed.{AgreesAt, agreed}
 use Rattle.coin_verdicts.proofs.Holders.{owner_by, IsDeclaredSo}

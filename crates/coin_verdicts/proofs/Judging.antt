@@ -13,7 +13,7 @@ use Rattle.coin_verdicts.specs.declared.note.Standing.{Standing}
 use Rattle.coin_verdicts.specs.Facts.{has}
 use Rattle.coin_verdicts.specs.Standings.{has_coin, is_held_at, takes, missed, with_note}
 use Rattle.coin_verdicts.proofs.Lists.{or-false}
-use Rattle.coin_verdicts.proofs.Standing.{in_line}
+use Rattle.coin_verdicts.proofs.OneLine.{in_line}
 
 -- the standing before and after a line that pays the wallet's exit or not, takes the coin or not, and is a tick that
 -- nobody attended or not

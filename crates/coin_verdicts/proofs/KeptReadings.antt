@@ -1,10 +1,10 @@
 -- What is kept of the facts that were read, after one more.
 use Rattle.std.proofs.Common.{◌≡◌, ◌⊎◌, ℕ, ◌+◌, ◌-◌, ◌≤◌, ◌<◌, ◌==◌, ◌&&◌, ◌||◌, not, Bool, true, false, if◌then◌else◌, List, [], ◌∷◌, ◌++◌, length, filter, reverse, slice_get, replicate, zero, suc, Option, Some, None, inl, inr, refl, ap, sym, ◌∙◌, subst, arith}
-use Rattle.std.specs.Prelude.{option_map, nat_le}
+use Rattle.std.specs.Prelude.{option_map, nat_le, nat_lt}
 use Rattle.std.specs.List.{list_any}
 use Rattle.std.specs.Ordering.{nat_cmp}
 use Rattle.std.specs.BTreeSet.{insert_key}
-use Rattle.std.proofs.lemmas.Bool.{false≢true, cases_eq, eq-eqb, ne_eqb, eqb-true}
+use Rattle.std.proofs.lemmas.Bool.{false≢true, cases_eq, eq-eqb, ne_eqb, eqb-true, lt-ltb, le-ltb}
 use Rattle.std.proofs.lemmas.List.{reverse-append, length-reverse}
 use Rattle.plasma_tx.specs.declared.owner.Owner.{Owner}
 use Rattle.world_rules.proofs.WalletSends.{among-key}
@@ -172,7 +172,12 @@ module _ (count line : ℕ) (facts : List Fact) (old new : Reading) (is : line �
 
 -- ---- books
 
-same-book : (o : Option CoinBook) → o ≡ option_map (λ book. record { notes = book.notes; guards = book.guards }) o
+-- the book with these changes of one line
+abbrev pub with_changes : ℕ → List Change → CoinBook → CoinBook
+with_changes line changes book = record { notes = noted line changes ++ book.notes; guards = book.guards }
+
+-- no note and no guard of any coin
+pub same-book : (o : Option CoinBook) → o ≡ option_map (λ book. record { notes = book.notes; guards = book.guards }) o
 same-book None = refl
 same-book (Some book) = refl
 
@@ -193,13 +198,6 @@ noted-books line coin c change books after is = is c ∙ rw (eqb-comm c coin) (a
     at true (Some book) = refl
     at false None = refl
     at false (Some book) = refl
-
--- no note of any coin
-pub still-books : (o : Option CoinBook) → o ≡ option_map (λ book. record {
-  notes = book.notes;
-  guards = book.guards;
-}) o
-still-books o = same-book o
 
 -- a guard of a coin, and one that is let go
 pub guarded-books : (watcher coin tip c : ℕ) (books after : List CoinBook)
@@ -256,3 +254,106 @@ met-books count line c facts nodes met books after same was are =
         ≡ option_map (book_after facts line c (Fact.Ticks met)) o
     at true o is = rw is refl
     at false o is = rw is refl
+
+-- ---- leaves
+
+-- whether the next leaf is taken back already
+pub next-taken : (count : ℕ) (facts : List Fact) (reading : Reading) (w : ℕ) → Keeps count facts reading
+    → has (signed_in reading.signers w).taken (length (signed_in reading.signers w).leaves)
+    ≡ has (taken_in facts w) (length (bound_in facts w))
+next-taken count facts reading w keeps =
+    keeps.taken_are w (length (signed_in reading.signers w).leaves)
+    ∙ ap (λ (ls : List Leaf). has (taken_in facts w) (length ls)) (keeps.leaves_are w)
+    ∙ ap (λ n. has (taken_in facts w) n) (length-reverse (bound_in facts w))
+
+-- a leaf that is taken back already signs nothing away
+pub unsent-books : (line coin c : ℕ) (change : Change) (taken : Bool) (o : Option CoinBook) → false ≡ not taken
+    → o ≡ option_map (λ book. record {
+      notes = noted line (where_so ((coin == c) && not taken) change) ++ book.notes;
+      guards = book.guards;
+    }) o
+unsent-books line coin c change false o is = absurd (false≢true is)
+unsent-books line coin c change true o is = at (coin == c) o
+  where
+    at : (b : Bool) (o : Option CoinBook)
+        → o ≡ option_map (λ book. record {
+          notes = noted line (where_so (b && false) change) ++ book.notes;
+          guards = book.guards;
+        }) o
+    at true None = refl
+    at true (Some book) = refl
+    at false None = refl
+    at false (Some book) = refl
+
+pub sent-books : (line coin c : ℕ) (change : Change) (taken : Bool) (books after : List CoinBook) → true ≡ not taken
+    → IsChanged coin (with_more (record { line = line; change = change })) books after
+    → book_at after c
+    ≡ option_map (λ book. record {
+      notes = noted line (where_so ((coin == c) && not taken) change) ++ book.notes;
+      guards = book.guards;
+    }) (book_at books c)
+sent-books line coin c change taken books after is made =
+    noted-books line coin c change books after made
+    ∙ ap (λ (b : Bool). option_map (with_changes line (where_so b change)) (book_at books c)) (at (coin == c) taken is)
+  where
+    at : (b t : Bool) → true ≡ not t → b ≡ (b && not t)
+    at true t is = is
+    at false t is = refl
+
+-- what is returned of a leaf, by what was found
+pub returned-none : (c w : ℕ) (taken : Bool) (found : Option Leaf) → None ≡ (if taken then None else found)
+    → (if taken then [] else returned c w found) ≡ []
+returned-none c w true found is = refl
+returned-none c w false None is = refl
+returned-none c w false (Some leaf) is = absurd (cc is)
+
+pub returned-some : (c w : ℕ) (taken : Bool) (found : Option Leaf) (leaf : Leaf)
+    → Some leaf ≡ (if taken then None else found)
+    → (if taken then [] else returned c w found) ≡ where_so (leaf.coin == c) (Change.Returns w leaf.parent)
+returned-some c w true found leaf is = absurd (cc is)
+returned-some c w false None leaf is = absurd (cc is)
+returned-some c w false (Some other) leaf is =
+    let same : other ≡ leaf = cc is in ap (λ (l : Leaf). where_so (l.coin == c) (Change.Returns w l.parent)) same
+
+-- what is found of a leaf that is taken back
+pub found-same : (count : ℕ) (facts : List Fact) (reading : Reading) (w q : ℕ) → Keeps count facts reading
+    → (if has (signed_in reading.signers w).taken q then None else slice_get (signed_in reading.signers w).leaves q)
+    ≡ (if has (taken_in facts w) q then None else leaf_in q (bound_in facts w))
+found-same count facts reading w q keeps =
+    ap (λ (b : Bool). if b then None else slice_get (signed_in reading.signers w).leaves q) (keeps.taken_are w q)
+    ∙ ap (λ (ls : List Leaf). if has (taken_in facts w) q then None else slice_get ls q) (keeps.leaves_are w)
+
+pub unreturned-books : (facts : List Fact) (line c w q : ℕ) (o : Option CoinBook)
+    → None ≡ (if has (taken_in facts w) q then None else leaf_in q (bound_in facts w))
+    → o ≡ option_map (book_after facts line c (Fact.TakesBack w q)) o
+unreturned-books facts line c w q o is =
+    same-book o ∙ ap (λ (changes : List Change). option_map (with_changes line changes) o)
+    (sym (returned-none c w (has (taken_in facts w) q) (leaf_in q (bound_in facts w)) is))
+
+pub returned-books : (facts : List Fact) (line c w q : ℕ) (leaf : Leaf) (books after : List CoinBook)
+    → Some leaf ≡ (if has (taken_in facts w) q then None else leaf_in q (bound_in facts w))
+    → IsChanged leaf.coin (with_more (record { line = line; change = Change.Returns w leaf.parent })) books after
+    → book_at after c ≡ option_map (book_after facts line c (Fact.TakesBack w q)) (book_at books c)
+returned-books facts line c w q leaf books after is made =
+    noted-books line leaf.coin c (Change.Returns w leaf.parent) books after made
+    ∙ ap (λ (changes : List Change). option_map (with_changes line changes) (book_at books c))
+    (sym (returned-some c w (has (taken_in facts w) q) (leaf_in q (bound_in facts w)) leaf is))
+
+-- ---- at the start
+
+get-replicate : {X : Type 0} (n i : ℕ) (x : X)
+    → slice_get (replicate n x) i ≡ (if nat_lt i n then Some x else None)
+get-replicate zero i x = rw (le-ltb i 0 (omega arith)) refl
+get-replicate (suc n) zero x = rw (lt-ltb 0 (suc n) (omega arith)) refl
+get-replicate (suc n) (suc i) x =
+    let same : nat_lt (suc i) (suc n) ≡ nat_lt i n = grind arith in rw same (get-replicate n i x)
+
+-- coins without notes
+pub blank-books : (count c : ℕ) → book_at (replicate count blank) c ≡ (if is_coin count c then Some blank else None)
+blank-books count c = elim (cases_eq c 0) [
+  | inl none ↦
+      let first : is_coin count c ≡ false = rw none refl in rw (eq-eqb c 0 none, first) refl
+  | inr some ↦
+      let same : is_coin count c ≡ nat_lt (c - 1) count = grind arith in
+      rw (ne_eqb c 0 some, same) (get-replicate count (c - 1) blank)
+]

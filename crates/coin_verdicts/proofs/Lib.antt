@@ -4,7 +4,7 @@ pub mod Lists
 pub mod QuietNodes
 pub mod GuardedTips
 pub mod SentLeaves
-pub mod Standing
+pub mod OneLine
 pub mod Agreeing
 pub mod Agreed
 pub mod Holders

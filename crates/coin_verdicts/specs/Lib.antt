@@ -4,3 +4,4 @@ pub mod Standings
 pub mod Books
 pub mod Signings
 pub mod Readings
+pub mod Wallets

@@ -1,5 +1,5 @@
 -- What a coin's notes, the newest first, come to for one wallet.
-use Rattle.std.specs.Prelude.{ℕ, ◌+◌, ◌-◌, ◌==◌, ◌&&◌, ◌||◌, not, Bool, true, false, if◌then◌else◌, nat_lt, nat_le, max, List, [], ◌∷◌, ◌++◌, map, filter, Option, Some, None}
+use Rattle.std.specs.Prelude.{ℕ, ◌+◌, ◌-◌, ◌==◌, ◌&&◌, ◌||◌, not, Bool, true, false, if◌then◌else◌, nat_lt, nat_le, max, List, [], ◌∷◌, ◌++◌, map, filter, Option, Some, None, option_map}
 use Rattle.std.specs.Option.{option_or, option_map_or}
 use Rattle.plasma_tx.specs.declared.owner.Owner.{Owner}
 use Rattle.wallet_core.specs.State.{is_owner, greatest}
@@ -106,6 +106,12 @@ unfoldable pub tip_in : Holder → List Note → Option ℕ
 tip_in holder notes =
     greatest (filter (was_held holder notes) (deposited_in holder.owner notes ++ tips_in holder.wallet notes))
 
+-- a block at which the wallet held the coin, or not, beside the greatest one so far
+abbrev pub better : Bool → Option ℕ → ℕ → Option ℕ
+better false best tip = best
+better true None tip = Some tip
+better true (Some best) tip = Some (max best tip)
+
 -- what became of a coin that a wallet held at a block: the first of these that applies
 abbrev pub kind_of : Standing → VerdictKind
 kind_of s =
@@ -113,3 +119,7 @@ kind_of s =
     else if s.paid then VerdictKind.Paid
     else if s.taken then lost_or s.unattended
     else VerdictKind.Held
+
+-- what became of a coin to a wallet, where it ever held it
+abbrev pub kind_in : Holder → List Note → Option VerdictKind
+kind_in holder notes = option_map (λ e. kind_of (standing_in holder e notes)) (tip_in holder notes)

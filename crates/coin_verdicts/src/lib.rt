@@ -7,5 +7,8 @@ mod note;
 mod quiet;
 mod reading;
 mod signers;
+mod standing;
+mod wallet;
 
 pub use fact::{Fact, Numbers};
+pub use wallet::NamedWallet;

@@ -48,9 +48,15 @@ impl Reading {
                 self.nodes.clear();
                 Ok(())
             }
-            Fact::Watches { node, coins } => self.nodes.watch(*node, coins.copy(self.alloc)?),
+            Fact::Watches { node, coins } => {
+                self.nodes.watch(*node, coins.copy(self.alloc)?)?;
+                Ok(())
+            }
             Fact::Guards { watcher, coin, tip } => self.guard(*watcher, *coin, *tip),
-            Fact::Releases { watcher, coin, tip } => self.release(*watcher, *coin, *tip),
+            Fact::Releases { watcher, coin, tip } => {
+                self.release(*watcher, *coin, *tip);
+                Ok(())
+            }
             Fact::Deposits { coin, block, owner } => self.deposit(line, *coin, *block, *owner),
             Fact::Ticks { met } => self.tick(line, met),
             Fact::Ends {
@@ -71,7 +77,7 @@ impl Reading {
 
     // A watcher guards a coin.
     fn guard(&mut self, watcher: u64, coin: u64, tip: u64) -> Result<(), NoMemory>
-        ensures { OnOk result ((line : ℕ) → Reads line (Fact.Guards watcher coin tip) self.old self.new) }
+        ensures { (line : ℕ) → OnOk result (Reads line (Fact.Guards watcher coin tip) self.old self.new) }
     {
         self.nodes.remove(watcher);
         self.books.guard(coin, Guard { watcher, tip })?;
@@ -79,12 +85,11 @@ impl Reading {
     }
 
     // A watcher lets a coin go.
-    fn release(&mut self, watcher: u64, coin: u64, tip: u64) -> Result<(), NoMemory>
-        ensures { OnOk result ((line : ℕ) → Reads line (Fact.Releases watcher coin tip) self.old self.new) }
+    fn release(&mut self, watcher: u64, coin: u64, tip: u64)
+        ensures { (line : ℕ) → Reads line (Fact.Releases watcher coin tip) self.old self.new }
     {
         self.nodes.remove(watcher);
         self.books.release(coin, watcher, tip);
-        Ok(())
     }
 
     // A coin is deposited.

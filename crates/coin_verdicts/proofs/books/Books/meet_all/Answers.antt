@@ -10,4 +10,4 @@ loop-coin-preserved c =
     rw (take_more c.args.met.now c.loop-coin.coin-index 0 within)
     (met-more c.args.line c.args.nodes.now (take c.loop-coin.coin-index c.args.met.now)
     (get_or c.args.met.now c.loop-coin.coin-index 0) c.args.self.now c.loop-coin.self c.meet.new.self
-    c.loop-coin.invariant ?)
+    c.loop-coin.invariant c.in_ok-meet.ensures)
