@@ -14,3 +14,4 @@ pub mod Ending
 pub mod Tips
 pub mod BookLaws
 pub mod KeptReadings
+pub mod Loops

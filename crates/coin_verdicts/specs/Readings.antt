@@ -15,12 +15,17 @@ is_coin count c = nat_le 1 c && nat_le c count
 abbrev pub book_in : List Fact → ℕ → CoinBook
 book_in facts c = record { notes = notes_in facts c; guards = guards_in facts c }
 
--- so many coins, of which these facts were read, the newest first
+-- the books of so many coins, of which these facts were read, the newest first
+abbrev pub HasBooks : ℕ → List Fact → List CoinBook → Type 0
+HasBooks count facts books =
+    (c : ℕ) → book_at books c ≡ (if is_coin count c then Some (book_in facts c) else None)
+
+-- what is kept of the facts that were read, the newest first
 pub record Keeps (count : ℕ) (facts : List Fact) (reading : Reading) : Type 0 where
   pub nodes_are : reading.nodes ≡ quiet_in facts
   pub leaves_are : (w : ℕ) → (signed_in reading.signers w).leaves ≡ reverse (bound_in facts w)
   pub taken_are : (w q : ℕ) → has (signed_in reading.signers w).taken q ≡ has (taken_in facts w) q
-  pub books_are : (c : ℕ) → book_at reading.books c ≡ (if is_coin count c then Some (book_in facts c) else None)
+  pub books_are : HasBooks count facts reading.books
 
 -- whatever was read, this fact was read besides, in this line
 abbrev pub Reads : ℕ → Fact → Reading → Reading → Type 0

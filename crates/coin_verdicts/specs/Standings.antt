@@ -112,6 +112,11 @@ better false best tip = best
 better true None tip = Some tip
 better true (Some best) tip = Some (max best tip)
 
+-- the greatest one so far after a change, by whether the wallet ever held the coin at a block
+abbrev pub better_by : (ℕ → Bool) → ℕ → Option ℕ → Change → Option ℕ
+better_by held w best (Change.Accepts wallet tip) = if wallet == w then better (held tip) best tip else best
+better_by held w best change = best
+
 -- what became of a coin that a wallet held at a block: the first of these that applies
 abbrev pub kind_of : Standing → VerdictKind
 kind_of s =

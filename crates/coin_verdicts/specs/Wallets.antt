@@ -9,11 +9,15 @@ use Rattle.coin_verdicts.specs.declared.wallet.NamedWallet.{NamedWallet}
 use Rattle.coin_verdicts.specs.Notes.{holder_in, notes_in}
 use Rattle.coin_verdicts.specs.Standings.{kind_in}
 
+-- how many coins a fact makes
+abbrev pub made_by : Fact → ℕ
+made_by (Fact.Deposits coin block owner) = 1
+made_by fact = 0
+
 -- how many coins there are
 unfoldable pub coins_in : List Fact → ℕ
 coins_in [] = 0
-coins_in (Fact.Deposits coin block owner ∷ facts) = coins_in facts + 1
-coins_in (fact ∷ facts) = coins_in facts
+coins_in (fact ∷ facts) = coins_in facts + made_by fact
 
 -- a wallet, as the world names it
 abbrev pub named_of : NamedWallet → Named

@@ -8,6 +8,7 @@ mod quiet;
 mod reading;
 mod signers;
 mod standing;
+mod verdicts;
 mod wallet;
 
 pub use fact::{Fact, Numbers};

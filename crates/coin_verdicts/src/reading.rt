@@ -17,7 +17,7 @@ pub struct Reading {
 }
 
 impl Reading {
-    ghost use Rattle.std.specs.Prelude.{ℕ, [], IfOk, OnOk};
+    ghost use Rattle.std.specs.Prelude.{◌≡◌, ℕ, [], IfOk, OnOk};
     ghost use Rattle.coin_verdicts.specs.declared.fact.Fact.{Fact};
     ghost use Rattle.coin_verdicts.specs.Readings.{Keeps, Reads};
 
@@ -31,6 +31,14 @@ impl Reading {
             signers: Signers::new(alloc),
             books: Books::new(alloc, count)?,
         })
+    }
+
+    /// The books.
+    pub fn into_books(self) -> Books
+        ensures { result ≡ self.books }
+    {
+        let Reading { books, .. } = self;
+        books
     }
 
     /// Reads the fact of a line.

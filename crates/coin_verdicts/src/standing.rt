@@ -1,6 +1,6 @@
 ghost use Rattle.std.specs.Prelude.{◌≡◌, ◌≤◌, ◌<◌, ◌+◌, ◌^◌, reverse};
 ghost use Rattle.std.specs.Option.{option_to_list};
-ghost use Rattle.coin_verdicts.specs.Standings.{no_notes, has_coin, takes, missed, changed, with_note, standing_in, was_held, deposited_in, tip_in, better, kind_of, kind_in};
+ghost use Rattle.coin_verdicts.specs.Standings.{no_notes, has_coin, takes, missed, changed, with_note, standing_in, was_held, deposited_or, deposited_in, tip_in, better, better_by, kind_of, kind_in};
 
 use super::note::{Change, Holder, Note, Standing};
 use plasma_tx::Owner;
@@ -41,15 +41,23 @@ fn tip(notes: &[Note], holder: &Holder) -> Option<u64>
     let mut left = notes.len();
     while left > 0 {
         left -= 1;
-        if let Change::Accepts { wallet, tip } = &notes[left].change {
-            if *wallet == holder.wallet {
-                best = better(notes, holder, best, *tip);
-            }
-        }
+        best = better_by(notes, holder, best, &notes[left].change);
     }
     match deposit(notes, &holder.owner) {
         None => best,
         Some(block) => better(notes, holder, best, block),
+    }
+}
+
+// The greatest block so far after a change.
+fn better_by(notes: &[Note], holder: &Holder, best: Option<u64>, change: &Change) -> Option<u64>
+    ensures { result ≡ better_by (was_held holder.now (reverse notes.now)) holder.now.wallet best change.now }
+{
+    match change {
+        Change::Accepts { wallet, tip } if *wallet == holder.wallet => better(
+            notes, holder, best, *tip,
+        ),
+        _ => best,
     }
 }
 
@@ -70,19 +78,28 @@ fn deposit(notes: &[Note], owner: &Owner) -> Option<u64>
 {
     let mut found = None;
     for note in notes {
-        if let Change::Deposits {
+        found = deposit_after(found, &note.change, owner);
+    }
+    found
+}
+
+// What a change says of that block, or else what was said before.
+fn deposit_after(found: Option<u64>, change: &Change, owner: &Owner) -> Option<u64>
+    ensures { option_to_list result ≡ deposited_or owner.now (option_to_list found) change.now }
+{
+    match change {
+        Change::Deposits {
             block,
             owner: depositor,
-        } = &note.change
-        {
-            found = if *depositor == *owner {
+        } => {
+            if *depositor == *owner {
                 Some(*block)
             } else {
                 None
-            };
+            }
         }
+        _ => found,
     }
-    found
 }
 
 // Whether the wallet ever held the coin at the block.
