@@ -15,3 +15,4 @@ pub mod Tips
 pub mod BookLaws
 pub mod KeptReadings
 pub mod Loops
+pub mod FactLoops

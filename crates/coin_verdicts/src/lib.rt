@@ -6,10 +6,11 @@ mod fact;
 mod note;
 mod quiet;
 mod reading;
+mod run;
 mod signers;
 mod standing;
-mod verdicts;
 mod wallet;
 
 pub use fact::{Fact, Numbers};
+pub use run::verdicts;
 pub use wallet::NamedWallet;

@@ -1,6 +1,7 @@
 use Rattle.std.proofs.Common.{◌-◌, ℕ, Option, filter, take, reverse, ap, sym, ◌∙◌, arith}
 use Rattle.wallet_core.specs.State.{greatest}
-use Rattle.coin_verdicts.specs.Standings.{was_held, tips_in}
+use Rattle.coin_verdicts.specs.declared.note.Note.{Note}
+use Rattle.coin_verdicts.specs.Standings.{was_held, tips_in, better_by}
 use Rattle.coin_verdicts.proofs.Loops.{joined, tip-more, tip-end, tip-undeposited, tip-deposited}
 use Rattle.coin_verdicts.proofs.standing.tip.Goals as goal
 
@@ -11,6 +12,10 @@ loop-left-preserved c = record {
       tip-more (was_held c.args.holder.now (reverse c.args.notes.now)) c.args.holder.now.wallet c.args.notes.now
       c.loop-left.best _ c.loop-left.left c.index-notes-left.result c.loop-left-test.true
       c.loop-left.invariant.within c.index-notes-left.is c.loop-left.invariant.is
+      ∙ ap (λ (n : Note). joined (better_by (was_held c.args.holder.now (reverse c.args.notes.now))
+      c.args.holder.now.wallet c.loop-left.best n.change) (greatest (filter (was_held c.args.holder.now
+      (reverse c.args.notes.now)) (tips_in c.args.holder.now.wallet
+      (reverse (take (c.loop-left.left - 1) c.args.notes.now)))))) c.index-notes-left.is
       ∙ ap (λ (o : Option ℕ). joined o (greatest (filter (was_held c.args.holder.now (reverse c.args.notes.now))
       (tips_in c.args.holder.now.wallet (reverse (take (c.loop-left.left - 1) c.args.notes.now))))))
       (sym c.better_by-best.ensures);

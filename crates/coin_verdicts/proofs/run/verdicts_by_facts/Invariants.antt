@@ -1,7 +1,7 @@
 use Rattle.std.proofs.Common.{◌≡◌, map, take, reverse}
 use Rattle.std.specs.List.{flat_map}
 use Rattle.coin_verdicts.specs.Wallets.{named_of, verdicts_for}
-use Rattle.coin_verdicts.proofs.verdicts.verdicts_by_facts.Given as goal
+use Rattle.coin_verdicts.proofs.run.verdicts_by_facts.Given as goal
 
 abbrev pub invariant-loop-wallet : goal.invariant-loop-wallet
 invariant-loop-wallet l =

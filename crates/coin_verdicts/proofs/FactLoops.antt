@@ -1,0 +1,61 @@
+-- Steps of loops over facts and over coins.
+use Rattle.std.proofs.Common.{◌≡◌, ℕ, ◌+◌, ◌<◌, List, [], ◌∷◌, ◌++◌, length, take, get_or, map, reverse, zero, suc, Option, Some, None, refl, ap, sym, ◌∙◌, arith}
+use Rattle.std.specs.List.{filter_map, range_with_len}
+use Rattle.std.specs.Option.{option_to_list}
+use Rattle.std.proofs.lemmas.List.{length-reverse, length-take-le}
+use Rattle.std.proofs.lemmas.List.Elements.{filter_map-append}
+use Rattle.world_rules.specs.declared.verdict.Verdict.{Verdict}
+use Rattle.coin_verdicts.specs.declared.fact.Fact.{Fact}
+use Rattle.coin_verdicts.specs.declared.note.Holder.{Holder}
+use Rattle.coin_verdicts.specs.Notes.{declared, earlier, holder_in}
+use Rattle.coin_verdicts.specs.Wallets.{made_by, coins_in, verdict_in, verdicts_by}
+use Rattle.coin_verdicts.proofs.Loops.{reversed-more}
+
+-- so many facts are behind the next one
+pub so-many : {X : Type 0} (xs : List X) (i : ℕ) → i < length xs → length (reverse (take i xs)) ≡ i
+so-many xs i within = length-reverse (take i xs) ∙ length-take-le i xs (omega arith)
+
+pub holder-more : (facts : List Fact) (w i : ℕ) (fact : Fact) (found : Option Holder) → i < length facts
+    → found ≡ holder_in (reverse (take i facts)) w
+    → earlier found (declared w (i + 1) (get_or facts i fact)) ≡ holder_in (reverse (take (i + 1) facts)) w
+unfolding holder_in
+holder-more facts w i fact found within was =
+    ap (λ o. earlier o (declared w (i + 1) (get_or facts i fact))) was
+    ∙ ap (λ n. earlier (holder_in (reverse (take i facts)) w) (declared w (n + 1) (get_or facts i fact)))
+    (sym (so-many facts i within))
+    ∙ sym (ap (λ (fs : List Fact). holder_in fs w) (reversed-more facts i fact within))
+
+pub coins-more : (facts : List Fact) (i : ℕ) (fact : Fact) (count made : ℕ) → i < length facts
+    → count ≡ coins_in (reverse (take i facts)) → made ≡ made_by (get_or facts i fact)
+    → count + made ≡ coins_in (reverse (take (i + 1) facts))
+unfolding coins_in
+coins-more facts i fact count made within was is =
+    ap (λ n. n + made) was ∙ ap (λ n. coins_in (reverse (take i facts)) + n) is
+    ∙ sym (ap coins_in (reversed-more facts i fact within))
+
+range-more : (a n : ℕ) → range_with_len a (n + 1) ≡ range_with_len a n ++ (a + n) ∷ []
+range-more a zero = ap (λ k. k ∷ []) (omega arith)
+range-more a (suc n) =
+    let next : suc n + 1 ≡ suc (n + 1) = omega arith in
+    let last : (a + 1) + n ≡ a + suc n = omega arith in
+    ap (range_with_len a) next
+    ∙ ap (λ (ns : List ℕ). a ∷ ns)
+    (range-more (a + 1) n ∙ ap (λ k. range_with_len (a + 1) n ++ k ∷ []) last)
+
+filter_map-one : {X Y : Type 0} (f : X → Option Y) (x : X) → filter_map f (x ∷ []) ≡ option_to_list (f x)
+filter_map-one f x = at (f x) refl
+  where
+    at : (o : Option _) → f x ≡ o → filter_map f (x ∷ []) ≡ option_to_list o
+    at None is = rw is refl
+    at (Some y) is = rw is refl
+
+pub verdicts-more : (facts : List Fact) (holder : Holder) (name : List ℕ) (i : ℕ)
+    → verdicts_by facts holder name (i + 1)
+    ≡ verdicts_by facts holder name i ++ option_to_list (verdict_in facts holder name (i + 1))
+verdicts-more facts holder name i =
+    let last : 1 + i ≡ i + 1 = omega arith in
+    ap (filter_map (verdict_in facts holder name)) (range-more 1 i)
+    ∙ filter_map-append (verdict_in facts holder name) (range_with_len 1 i) ((1 + i) ∷ [])
+    ∙ ap (λ (vs : List Verdict). verdicts_by facts holder name i ++ vs)
+    (filter_map-one (verdict_in facts holder name) (1 + i)
+    ∙ ap (λ n. option_to_list (verdict_in facts holder name n)) last)
