@@ -16,3 +16,4 @@ pub mod BookLaws
 pub mod KeptReadings
 pub mod Loops
 pub mod FactLoops
+pub mod Whole
