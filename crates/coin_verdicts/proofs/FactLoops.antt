@@ -1,14 +1,17 @@
 -- Steps of loops over facts and over coins.
-use Rattle.std.proofs.Common.{◌≡◌, ℕ, ◌+◌, ◌<◌, List, [], ◌∷◌, ◌++◌, length, take, get_or, map, reverse, zero, suc, Option, Some, None, refl, ap, sym, ◌∙◌, arith}
+use Rattle.std.proofs.Common.{◌≡◌, ℕ, ◌+◌, ◌<◌, ◌≤◌, Bool, true, if◌then◌else◌, List, [], ◌∷◌, ◌++◌, length, take, get_or, map, reverse, zero, suc, Option, Some, None, refl, ap, sym, ◌∙◌, arith}
 use Rattle.std.specs.List.{filter_map, range_with_len}
 use Rattle.std.specs.Option.{option_to_list}
 use Rattle.std.proofs.lemmas.List.{length-reverse, length-take-le}
 use Rattle.std.proofs.lemmas.List.Elements.{filter_map-append}
 use Rattle.world_rules.specs.declared.verdict.Verdict.{Verdict}
+use Rattle.world_rules.specs.Verdicts.{Named}
 use Rattle.coin_verdicts.specs.declared.fact.Fact.{Fact}
 use Rattle.coin_verdicts.specs.declared.note.Holder.{Holder}
 use Rattle.coin_verdicts.specs.Notes.{declared, earlier, holder_in}
-use Rattle.coin_verdicts.specs.Wallets.{made_by, coins_in, verdict_in, verdicts_by}
+use Rattle.coin_verdicts.specs.Books.{CoinBook, book_at}
+use Rattle.coin_verdicts.specs.Readings.{is_coin, book_in, HasBooks}
+use Rattle.coin_verdicts.specs.Wallets.{made_by, coins_in, verdict_in, verdict_of_book, verdicts_of_books, verdicts_by, verdicts_where, verdicts_for}
 use Rattle.coin_verdicts.proofs.Loops.{reversed-more}
 
 -- so many facts are behind the next one
@@ -49,13 +52,44 @@ filter_map-one f x = at (f x) refl
     at None is = rw is refl
     at (Some y) is = rw is refl
 
-pub verdicts-more : (facts : List Fact) (holder : Holder) (name : List ℕ) (i : ℕ)
-    → verdicts_by facts holder name (i + 1)
-    ≡ verdicts_by facts holder name i ++ option_to_list (verdict_in facts holder name (i + 1))
-verdicts-more facts holder name i =
+pub verdicts-more : (books : List CoinBook) (holder : Holder) (name : List ℕ) (i : ℕ)
+    → verdicts_of_books books holder name (i + 1)
+    ≡ verdicts_of_books books holder name i
+    ++ option_to_list (verdict_of_book holder name (i + 1) (book_at books (i + 1)))
+verdicts-more books holder name i =
     let last : 1 + i ≡ i + 1 = omega arith in
-    ap (filter_map (verdict_in facts holder name)) (range-more 1 i)
-    ∙ filter_map-append (verdict_in facts holder name) (range_with_len 1 i) ((1 + i) ∷ [])
-    ∙ ap (λ (vs : List Verdict). verdicts_by facts holder name i ++ vs)
-    (filter_map-one (verdict_in facts holder name) (1 + i)
-    ∙ ap (λ n. option_to_list (verdict_in facts holder name n)) last)
+    ap (filter_map by) (range-more 1 i)
+    ∙ filter_map-append by (range_with_len 1 i) ((1 + i) ∷ [])
+    ∙ ap (λ (vs : List Verdict). verdicts_of_books books holder name i ++ vs)
+    (filter_map-one by (1 + i) ∙ ap (λ n. option_to_list (by n)) last)
+  where
+    by : ℕ → Option Verdict
+    by c = verdict_of_book holder name c (book_at books c)
+
+-- a coin that is there, and a range of such coins
+filter_map-range : {Y : Type 0} (f g : ℕ → Option Y) (a n count : ℕ) → 1 ≤ a → a + n ≤ count + 1
+    → ((c : ℕ) → is_coin count c ≡ true → f c ≡ g c)
+    → filter_map f (range_with_len a n) ≡ filter_map g (range_with_len a n)
+filter_map-range f g a zero count first last same = refl
+filter_map-range f g a (suc n) count first last same =
+    let here : is_coin count a ≡ true = grind arith in
+    rw (same a here, filter_map-range f g (a + 1) n count (omega arith) (omega arith) same) refl
+
+-- the verdicts by the books are those by the facts
+pub books-same : (books : List CoinBook) (facts : List Fact) (holder : Holder) (name : List ℕ) (count : ℕ)
+    → HasBooks count facts books
+    → verdicts_of_books books holder name count ≡ verdicts_by facts holder name count
+books-same books facts holder name count has_books =
+    filter_map-range (λ c. verdict_of_book holder name c (book_at books c)) (verdict_in facts holder name) 1 count count
+    (omega arith) (omega arith)
+    (λ c coin. ap (verdict_of_book holder name c) (has_books c)
+    ∙ ap (λ (b : Bool). verdict_of_book holder name c (if b then Some (book_in facts c) else None)) coin)
+
+
+-- those of a wallet that is declared
+pub some-found : (books : List CoinBook) (facts : List Fact) (wallet : Named) (holder : Holder) (count : ℕ)
+    → HasBooks count facts books → count ≡ coins_in facts → Some holder ≡ holder_in facts wallet.number
+    → verdicts_of_books books holder wallet.name count ≡ verdicts_for facts wallet
+some-found books facts wallet holder count has_books is some =
+    books-same books facts holder wallet.name count has_books
+    ∙ ap (verdicts_by facts holder wallet.name) is ∙ ap (verdicts_where facts wallet.name) some

@@ -8,6 +8,7 @@ use Rattle.coin_verdicts.specs.declared.note.Holder.{Holder}
 use Rattle.coin_verdicts.specs.declared.wallet.NamedWallet.{NamedWallet}
 use Rattle.coin_verdicts.specs.Notes.{holder_in, notes_in}
 use Rattle.coin_verdicts.specs.Standings.{kind_in}
+use Rattle.coin_verdicts.specs.Books.{CoinBook, book_at}
 
 -- how many coins a fact makes
 abbrev pub made_by : Fact → ℕ
@@ -27,6 +28,16 @@ named_of wallet = record { number = wallet.number; name = wallet.name }
 abbrev pub verdict_in : List Fact → Holder → List ℕ → ℕ → Option Verdict
 verdict_in facts holder name c =
     option_map (λ kind. record { wallet = name; coin = c; kind = kind }) (kind_in holder (notes_in facts c))
+
+-- the same by the book that is kept of the coin, where there is one
+abbrev pub verdict_of_book : Holder → List ℕ → ℕ → Option CoinBook → Option Verdict
+verdict_of_book holder name c None = None
+verdict_of_book holder name c (Some book) =
+    option_map (λ kind. record { wallet = name; coin = c; kind = kind }) (kind_in holder book.notes)
+
+abbrev pub verdicts_of_books : List CoinBook → Holder → List ℕ → ℕ → List Verdict
+verdicts_of_books books holder name count =
+    filter_map (λ c. verdict_of_book holder name c (book_at books c)) (range_with_len 1 count)
 
 -- the verdicts on a declared wallet's coins, by rising coin
 abbrev pub verdicts_by : List Fact → Holder → List ℕ → ℕ → List Verdict

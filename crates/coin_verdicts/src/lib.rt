@@ -9,6 +9,8 @@ mod reading;
 mod run;
 mod signers;
 mod standing;
+#[cfg(test)]
+mod tests;
 mod wallet;
 
 pub use fact::{Fact, Numbers};

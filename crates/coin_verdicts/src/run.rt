@@ -10,7 +10,7 @@ ghost use Rattle.coin_verdicts.specs.Facts.{Lines, AreFacts, OwnersStay};
 ghost use Rattle.coin_verdicts.specs.Notes.{holder_in, declared, earlier};
 ghost use Rattle.coin_verdicts.specs.Books.{book_at};
 ghost use Rattle.coin_verdicts.specs.Readings.{Keeps, HasBooks};
-ghost use Rattle.coin_verdicts.specs.Wallets.{made_by, coins_in, named_of, verdict_in, verdicts_by, verdicts_for};
+ghost use Rattle.coin_verdicts.specs.Wallets.{made_by, coins_in, named_of, verdict_of_book, verdicts_of_books, verdicts_for};
 
 use super::books::Books;
 use super::fact::Fact;
@@ -42,7 +42,7 @@ pub fn verdicts(
 }
 
 // The verdicts by facts alone.
-fn verdicts_by_facts(
+pub(crate) fn verdicts_by_facts(
     alloc: Global,
     facts: &[Fact],
     wallets: &[NamedWallet],
@@ -145,25 +145,23 @@ fn push_wallet(
 {
     match holder(facts, wallet.number) {
         None => Ok(()),
-        Some(holder) => push_verdicts(found, facts, books, count, &holder, &wallet.name),
+        Some(holder) => push_verdicts(found, books, count, &holder, &wallet.name),
     }
 }
 
 // Adds the verdicts on a declared wallet's coins.
 fn push_verdicts(
     found: &mut Vec<Verdict>,
-    facts: &[Fact],
     books: &Books,
     count: usize,
     holder: &Holder,
     name: &Bytes,
 ) -> Result<(), NoMemory>
-    requires { HasBooks count (reverse facts.now) books.now }
     ensures { OnOk result (found.new.items
-        ≡ found.old.items ++ verdicts_by (reverse facts.now) holder.now name.now count) }
+        ≡ found.old.items ++ verdicts_of_books books.now holder.now name.now count) }
 {
     for i in 0..count {
-        push_verdict(found, facts, books, count, holder, name, i as u64 + 1)?;
+        push_verdict(found, books, holder, name, i as u64 + 1)?;
     }
     Ok(())
 }
@@ -171,18 +169,13 @@ fn push_verdicts(
 // Adds the verdict on a coin, where the wallet ever held it.
 fn push_verdict(
     found: &mut Vec<Verdict>,
-    facts: &[Fact],
     books: &Books,
-    count: usize,
     holder: &Holder,
     name: &Bytes,
     coin: u64,
 ) -> Result<(), NoMemory>
-    requires books { HasBooks count (reverse facts.now) books.now }
-    requires first { 1 ≤ coin }
-    requires last { coin ≤ count }
     ensures { OnOk result (found.new.items ≡ found.old.items
-        ++ option_to_list (verdict_in (reverse facts.now) holder.now name.now coin)) }
+        ++ option_to_list (verdict_of_book holder.now name.now coin (book_at books.now coin))) }
 {
     let Some(book) = books.get(coin) else {
         return Ok(());
