@@ -1,10 +1,8 @@
 -- The standing that a coin's notes come to agrees with the events, at each of them.
-use Rattle.std.proofs.Common.{◌≡◌, ℕ, ◌+◌, ◌==◌, ◌&&◌, ◌||◌, not, Bool, true, false, if◌then◌else◌, List, [], ◌∷◌, ◌++◌, length, map, Option, Some, None, refl, ap, sym, ◌∙◌}
-use Rattle.std.specs.Prelude.{option_map}
+use Rattle.std.proofs.Common.{◌≡◌, ℕ, ◌+◌, ◌==◌, ◌&&◌, ◌||◌, Bool, true, false, List, [], ◌∷◌, ◌++◌, length, Option, Some, None, refl, ap, sym, ◌∙◌}
 use Rattle.std.specs.List.{list_any}
-use Rattle.std.proofs.lemmas.Bool.{false≢true, eqb-true}
+use Rattle.std.proofs.lemmas.Bool.{eqb-true}
 use Rattle.std.proofs.lemmas.List.{length-map}
-use Rattle.plasma_tx.specs.declared.body.Body.{Body}
 use Rattle.plasma_tx.specs.declared.call.RootCall.{RootCall}
 use Rattle.plasma_tx.specs.Views.{blocks, coins, coin_at, Exit, exit_at}
 use Rattle.root_rules.specs.Shown.{Tests, Rules}
@@ -14,12 +12,10 @@ use Rattle.world_rules.specs.Events.{Event, Joins, Accepts, Binds, TakesBack, Wa
 use Rattle.world_rules.specs.Safety.{was_deposited}
 use Rattle.world_rules.specs.Verdicts.{is_finish_paid}
 use Rattle.coin_verdicts.specs.declared.fact.Fact.{Fact}
-use Rattle.coin_verdicts.specs.declared.note.Note.{Note}
-use Rattle.coin_verdicts.specs.declared.note.Change.{Change}
 use Rattle.coin_verdicts.specs.declared.note.Holder.{Holder}
 use Rattle.coin_verdicts.specs.declared.note.Standing.{Standing}
 use Rattle.coin_verdicts.specs.Facts.{has, ended, IsFact, AreFacts}
-use Rattle.coin_verdicts.specs.Notes.{bound_in, taken_in, quiet_in, guards_in, nodes_at, tips_at, leaf_in, returned, changes_in, noted, notes_in}
+use Rattle.coin_verdicts.specs.Notes.{bound_in, taken_in, quiet_in, guards_in, nodes_at, tips_at, leaf_in, changes_in, noted, notes_in}
 use Rattle.coin_verdicts.specs.Standings.{standing_in}
 use Rattle.coin_verdicts.proofs.Forms.{tick-form, watch-form}
 use Rattle.coin_verdicts.proofs.Lists.{eqb-comm}

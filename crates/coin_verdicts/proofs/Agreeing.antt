@@ -1,8 +1,7 @@
 -- What a standing says of what the wallet has is what the events say.
-use Rattle.std.proofs.Common.{◌≡◌, inl, inr, ℕ, ◌+◌, ◌-◌, ◌==◌, ◌&&◌, ◌||◌, not, Bool, true, false, if◌then◌else◌, List, [], ◌∷◌, ◌++◌, length, map, Option, Some, None, refl, ap, sym, ◌∙◌, subst, arith}
+use Rattle.std.proofs.Common.{◌≡◌, ℕ, ◌+◌, ◌-◌, ◌==◌, ◌&&◌, ◌||◌, not, Bool, true, false, if◌then◌else◌, List, [], ◌∷◌, ◌++◌, length, Option, Some, None, refl, ap, sym, ◌∙◌, arith}
 use Rattle.std.specs.Prelude.{option_map}
 use Rattle.std.specs.List.{list_any}
-use Rattle.std.proofs.lemmas.Bool.{false≢true}
 use Rattle.plasma_tx.specs.declared.owner.Owner.{Owner}
 use Rattle.plasma_tx.specs.declared.body.Body.{Body}
 use Rattle.plasma_tx.specs.declared.views.CoinView.{CoinView}
@@ -12,13 +11,12 @@ use Rattle.world_rules.specs.Safety.{was_deposited}
 use Rattle.coin_verdicts.specs.declared.note.Note.{Note}
 use Rattle.coin_verdicts.specs.declared.note.Change.{Change}
 use Rattle.coin_verdicts.specs.declared.note.Holder.{Holder}
-use Rattle.coin_verdicts.specs.declared.note.Leaf.{Leaf}
 use Rattle.coin_verdicts.specs.declared.note.Standing.{Standing}
 use Rattle.coin_verdicts.specs.Notes.{where_so, returned, noted}
 use Rattle.coin_verdicts.specs.Standings.{with_note, standing_in}
 use Rattle.coin_verdicts.proofs.Lists.{or-false, or-comm}
 use Rattle.coin_verdicts.proofs.Views.{leaf_of}
-use Rattle.coin_verdicts.proofs.SentLeaves.{is_body, one_if, count_of, gone_of, gone, taken-count}
+use Rattle.coin_verdicts.proofs.SentLeaves.{is_body, one_if, count_of, gone, taken-count}
 use Rattle.coin_verdicts.proofs.OneLine.{in_line, after-where}
 
 -- the standing says these of the deposit, the accepted tips, the leaves and the payment

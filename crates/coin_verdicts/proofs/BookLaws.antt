@@ -1,10 +1,10 @@
 -- What notes of ticks leave of the books.
-use Rattle.std.proofs.Common.{◌≡◌, ◌⊎◌, ℕ, ◌+◌, ◌==◌, Bool, true, false, if◌then◌else◌, List, [], ◌∷◌, ◌++◌, Option, Some, None, inl, inr, refl, ap, sym, ◌∙◌}
+use Rattle.std.proofs.Common.{◌≡◌, ◌⊎◌, ℕ, ◌==◌, Bool, true, false, if◌then◌else◌, List, [], ◌∷◌, ◌++◌, Option, Some, None, inl, inr, refl, ap, sym, ◌∙◌}
 use Rattle.std.specs.Prelude.{option_map}
 use Rattle.std.proofs.lemmas.Bool.{cases_eq, eq-eqb, ne_eqb}
 use Rattle.coin_verdicts.specs.declared.note.Change.{Change}
 use Rattle.coin_verdicts.specs.declared.note.Quiet.{Quiet}
-use Rattle.coin_verdicts.specs.Notes.{meets, each_time, noted}
+use Rattle.coin_verdicts.specs.Notes.{meets, each_time}
 use Rattle.coin_verdicts.specs.Books.{CoinBook, with_met, with_each, book_at, IsChanged, AreMet}
 
 each-last : (c x : ℕ) (change : Change) (xs : List ℕ)

@@ -1,5 +1,5 @@
 -- What a standing says at the end is the verdict.
-use Rattle.std.proofs.Common.{◌≡◌, ◌⊎◌, inl, inr, ℕ, ◌+◌, ◌<◌, ◌≤◌, ◌==◌, ◌&&◌, ◌||◌, not, Bool, true, false, if◌then◌else◌, List, [], ◌∷◌, length, suc, Option, Some, None, refl, ap, sym, ◌∙◌, arith}
+use Rattle.std.proofs.Common.{◌≡◌, ◌⊎◌, inl, inr, ℕ, ◌+◌, ◌<◌, ◌≤◌, ◌==◌, ◌&&◌, ◌||◌, not, Bool, true, false, if◌then◌else◌, List, [], ◌∷◌, length, Option, Some, None, refl, ap, sym, ◌∙◌, arith}
 use Rattle.std.specs.Prelude.{nat_lt}
 use Rattle.std.specs.Option.{option_or}
 use Rattle.std.proofs.lemmas.Bool.{false≢true, ltb-true, lt-ltb}
@@ -20,7 +20,6 @@ use Rattle.coin_verdicts.proofs.Lists.{or-comm}
 use Rattle.coin_verdicts.proofs.SentLeaves.{sent-counted}
 use Rattle.coin_verdicts.proofs.Agreed.{agreed}
 use Rattle.coin_verdicts.proofs.Holders.{IsDeclaredSo}
-use Rattle.coin_verdicts.proofs.Judging.{Judges}
 use Rattle.coin_verdicts.proofs.Judged.{holds-same, event-judged}
 
 or-none : (o : Option ℕ) → option_or o None ≡ o

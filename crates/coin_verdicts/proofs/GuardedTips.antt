@@ -1,5 +1,5 @@
 -- Which tips of a coin are guarded by quiet watchers, by facts, is what events say.
-use Rattle.std.proofs.Common.{◌≡◌, inl, inr, ℕ, ◌==◌, ◌&&◌, ◌||◌, not, Bool, true, false, if◌then◌else◌, List, [], ◌∷◌, ◌++◌, map, filter, refl, ap, sym, ◌∙◌}
+use Rattle.std.proofs.Common.{◌≡◌, inl, inr, ℕ, ◌==◌, ◌&&◌, ◌||◌, not, Bool, true, false, if◌then◌else◌, List, [], ◌∷◌, ◌++◌, filter, refl, ap, sym, ◌∙◌}
 use Rattle.std.specs.List.{list_any}
 use Rattle.std.proofs.lemmas.Bool.{false≢true, and_parts, and_from, or_cases, or_left, or_right, eqb-true, eq-eqb}
 use Rattle.std.proofs.lemmas.List.Folds.{list_any-append}
@@ -10,7 +10,7 @@ use Rattle.world_rules.specs.Safety.{is_quiet, is_watched_by, is_guarded}
 use Rattle.coin_verdicts.specs.declared.fact.Fact.{Fact}
 use Rattle.coin_verdicts.specs.declared.note.Guard.{Guard}
 use Rattle.coin_verdicts.specs.Facts.{has, IsFact, AreFacts}
-use Rattle.coin_verdicts.specs.Notes.{is_guard, guards_after, guards_in, quiet_in, nodes_at, tips_at}
+use Rattle.coin_verdicts.specs.Notes.{is_guard, guards_in, quiet_in, nodes_at, tips_at}
 use Rattle.coin_verdicts.proofs.Forms.{is_of_call, call-form, watch-form}
 use Rattle.coin_verdicts.proofs.Lists.{same_truth, or-false, or-comm, any-dropped, any-made, any-at, eqb-comm}
 use Rattle.coin_verdicts.proofs.QuietNodes.{nodes-same}

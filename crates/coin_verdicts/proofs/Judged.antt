@@ -1,18 +1,15 @@
 -- What a standing says of payments, of taking and of ticks that nobody attended is what the events say.
-use Rattle.std.proofs.Common.{◌≡◌, ◌⊎◌, inl, inr, ℕ, ◌+◌, ◌==◌, ◌&&◌, ◌||◌, not, Bool, true, false, if◌then◌else◌, List, [], ◌∷◌, ◌++◌, length, Option, Some, None, refl, ap, sym, ◌∙◌, arith}
-use Rattle.std.specs.Prelude.{nat_lt, option_map}
-use Rattle.std.specs.List.{list_any}
+use Rattle.std.proofs.Common.{◌≡◌, ℕ, ◌+◌, ◌==◌, ◌&&◌, ◌||◌, not, Bool, true, false, if◌then◌else◌, List, [], ◌∷◌, ◌++◌, length, Option, Some, None, refl, ap, sym, ◌∙◌, arith}
+use Rattle.std.specs.Prelude.{nat_lt}
 use Rattle.std.specs.Option.{option_or}
-use Rattle.plasma_tx.specs.declared.owner.Owner.{Owner}
 use Rattle.plasma_tx.specs.declared.call.RootCall.{RootCall}
-use Rattle.plasma_tx.specs.Views.{blocks, coins, coin_at, Exit, exit_at, is_withdrawn}
+use Rattle.plasma_tx.specs.Views.{blocks, coins, Exit, exit_at}
 use Rattle.root_rules.specs.Shown.{Tests, Rules}
 use Rattle.root_rules.specs.Table.{IsLegal}
-use Rattle.root_rules.specs.Laws.{was_paid}
 use Rattle.root_rules.proofs.Ends.{withdrawn_is_paid}
-use Rattle.world_rules.specs.Events.{Event, Joins, Accepts, Binds, TakesBack, Watches, log_of, wallet_owner, accepted, bound_by, leaf_at, signed_away_by, is_sent_from, is_bundle}
-use Rattle.world_rules.specs.Safety.{was_deposited, holds_with, holds, meets_deadline, goes_unattended, is_guarded, is_own}
-use Rattle.world_rules.specs.Verdicts.{ever_held, is_others, is_finish_paid, pays_own, takes_from, before_taking, first_unattended, exit_was_paid}
+use Rattle.world_rules.specs.Events.{Event, Joins, Accepts, Binds, TakesBack, Watches, log_of, wallet_owner, accepted, signed_away_by}
+use Rattle.world_rules.specs.Safety.{holds_with, holds, meets_deadline, goes_unattended, is_guarded, is_own}
+use Rattle.world_rules.specs.Verdicts.{is_others, is_finish_paid, pays_own, takes_from}
 use Rattle.coin_verdicts.specs.declared.fact.Fact.{Fact}
 use Rattle.coin_verdicts.specs.declared.note.Change.{Change}
 use Rattle.coin_verdicts.specs.declared.note.Holder.{Holder}
@@ -20,13 +17,11 @@ use Rattle.coin_verdicts.specs.declared.note.Leaf.{Leaf}
 use Rattle.coin_verdicts.specs.declared.note.Standing.{Standing}
 use Rattle.coin_verdicts.specs.Facts.{has, ended, IsFact, AreFacts}
 use Rattle.coin_verdicts.specs.Notes.{bound_in, taken_in, quiet_in, guards_in, nodes_at, tips_at, leaf_in, where_so, returned, changes_in, noted, notes_in}
-use Rattle.coin_verdicts.specs.Standings.{has_coin, is_held_at, takes, missed, standing_in}
+use Rattle.coin_verdicts.specs.Standings.{has_coin, is_held_at, takes, standing_in}
 use Rattle.coin_verdicts.proofs.Forms.{tick-form, watch-form, as-many}
-use Rattle.coin_verdicts.proofs.Views.{leaf_of, bound-same}
 use Rattle.coin_verdicts.proofs.GuardedTips.{guarded-same}
-use Rattle.coin_verdicts.proofs.SentLeaves.{is_body, count_of, leaf-same, sent-counted}
-use Rattle.coin_verdicts.proofs.OneLine.{in_line, after-where, after-each}
-use Rattle.coin_verdicts.proofs.Agreeing.{Agrees}
+use Rattle.coin_verdicts.proofs.SentLeaves.{is_body, count_of, sent-counted}
+use Rattle.coin_verdicts.proofs.OneLine.{after-where, after-each}
 use Rattle.coin_verdicts.proofs.Agreed.{AgreesAt, agreed}
 use Rattle.coin_verdicts.proofs.Holders.{owner_by, IsDeclaredSo}
 use Rattle.coin_verdicts.proofs.Judging.{Judges, is_simple, judges-plain, judges-simple, judges-ends, judges-meets, pays-none, takes-none, ends-none, takes-some, unattended-same}

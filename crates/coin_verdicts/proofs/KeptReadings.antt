@@ -1,23 +1,18 @@
 -- What is kept of the facts that were read, after one more.
-use Rattle.std.proofs.Common.{◌≡◌, ◌⊎◌, ℕ, ◌+◌, ◌-◌, ◌≤◌, ◌<◌, ◌==◌, ◌&&◌, ◌||◌, not, Bool, true, false, if◌then◌else◌, List, [], ◌∷◌, ◌++◌, length, filter, reverse, slice_get, replicate, zero, suc, Option, Some, None, inl, inr, refl, ap, sym, ◌∙◌, subst, arith}
-use Rattle.std.specs.Prelude.{option_map, nat_le, nat_lt}
-use Rattle.std.specs.List.{list_any}
-use Rattle.std.specs.Ordering.{nat_cmp}
-use Rattle.std.specs.BTreeSet.{insert_key}
-use Rattle.std.proofs.lemmas.Bool.{false≢true, cases_eq, eq-eqb, ne_eqb, eqb-true, lt-ltb, le-ltb}
+use Rattle.std.proofs.Common.{◌≡◌, ℕ, ◌+◌, ◌-◌, ◌==◌, ◌&&◌, ◌||◌, not, Bool, true, false, if◌then◌else◌, List, [], ◌∷◌, ◌++◌, length, filter, reverse, slice_get, replicate, zero, suc, Option, Some, None, inl, inr, refl, ap, sym, ◌∙◌, arith}
+use Rattle.std.specs.Prelude.{option_map, nat_lt}
+use Rattle.std.proofs.lemmas.Bool.{false≢true, cases_eq, eq-eqb, ne_eqb, lt-ltb, le-ltb}
 use Rattle.std.proofs.lemmas.List.{reverse-append, length-reverse}
-use Rattle.plasma_tx.specs.declared.owner.Owner.{Owner}
 use Rattle.world_rules.proofs.WalletSends.{among-key}
 use Rattle.coin_verdicts.specs.declared.fact.Fact.{Fact}
 use Rattle.coin_verdicts.specs.declared.note.Change.{Change}
 use Rattle.coin_verdicts.specs.declared.note.Leaf.{Leaf}
 use Rattle.coin_verdicts.specs.declared.note.Quiet.{Quiet}
-use Rattle.coin_verdicts.specs.declared.note.Guard.{Guard}
 use Rattle.coin_verdicts.specs.declared.reading.Reading.{Reading}
 use Rattle.coin_verdicts.specs.declared.signers.Signers.{Signers}
 use Rattle.coin_verdicts.specs.Facts.{has}
-use Rattle.coin_verdicts.specs.Notes.{bound_in, taken_in, without_node, quiet_after, quiet_in, is_guard, guards_after, guards_in, meets, where_so, each_time, returned, leaf_in, changes_in, noted, notes_in}
-use Rattle.coin_verdicts.specs.Books.{CoinBook, blank, with_more, with_guard, without_guard, with_each, book_at, IsChanged, AreMet, Signing, nothing_signed, with_leaf, with_taken}
+use Rattle.coin_verdicts.specs.Notes.{bound_in, taken_in, without_node, quiet_after, quiet_in, is_guard, guards_after, guards_in, where_so, returned, leaf_in, changes_in, noted, notes_in}
+use Rattle.coin_verdicts.specs.Books.{CoinBook, blank, with_more, with_guard, without_guard, with_each, book_at, IsChanged, AreMet, Signing, with_leaf, with_taken}
 use Rattle.coin_verdicts.specs.Signings.{signed_in, IsSigned}
 use Rattle.coin_verdicts.specs.Readings.{is_coin, book_in, Keeps}
 use Rattle.coin_verdicts.proofs.Lists.{eqb-comm}

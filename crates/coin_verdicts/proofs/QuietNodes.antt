@@ -1,5 +1,5 @@
 -- Which nodes are quiet, by facts, is what events say.
-use Rattle.std.proofs.Common.{◌≡◌, ℕ, ◌==◌, ◌&&◌, ◌||◌, not, Bool, true, false, if◌then◌else◌, List, [], ◌∷◌, ◌++◌, map, filter, refl, ap, sym, ◌∙◌}
+use Rattle.std.proofs.Common.{◌≡◌, ℕ, ◌==◌, ◌&&◌, ◌||◌, not, Bool, true, false, if◌then◌else◌, List, [], ◌∷◌, ◌++◌, refl, ap, ◌∙◌}
 use Rattle.std.specs.List.{list_any}
 use Rattle.std.proofs.lemmas.Bool.{false≢true, and_parts, eqb-true}
 use Rattle.std.proofs.lemmas.List.Folds.{list_any-append}
@@ -9,7 +9,7 @@ use Rattle.world_rules.specs.Safety.{is_quiet}
 use Rattle.coin_verdicts.specs.declared.fact.Fact.{Fact}
 use Rattle.coin_verdicts.specs.declared.note.Quiet.{Quiet}
 use Rattle.coin_verdicts.specs.Facts.{has, IsFact, AreFacts}
-use Rattle.coin_verdicts.specs.Notes.{without_node, quiet_after, quiet_in, nodes_at}
+use Rattle.coin_verdicts.specs.Notes.{without_node, quiet_in, nodes_at}
 use Rattle.coin_verdicts.proofs.Forms.{is_of_call, call-form, watch-form}
 use Rattle.coin_verdicts.proofs.Lists.{any-dropped, any-made, or-false, eqb-comm}
 

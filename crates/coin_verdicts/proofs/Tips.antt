@@ -1,6 +1,5 @@
 -- The blocks at which a wallet may have held a coin, by its notes, are those that events say.
-use Rattle.std.proofs.Common.{◌≡◌, inl, inr, ℕ, ◌+◌, ◌==◌, ◌&&◌, not, Bool, true, false, if◌then◌else◌, List, [], ◌∷◌, ◌++◌, length, map, filter, Option, Some, None, refl, ap, sym, ◌∙◌, arith}
-use Rattle.std.specs.List.{list_any}
+use Rattle.std.proofs.Common.{◌≡◌, ℕ, ◌+◌, ◌==◌, ◌&&◌, not, Bool, true, false, if◌then◌else◌, List, [], ◌∷◌, ◌++◌, length, map, filter, Option, Some, None, refl, ap, sym, ◌∙◌}
 use Rattle.std.proofs.lemmas.Bool.{false≢true}
 use Rattle.plasma_tx.specs.declared.owner.Owner.{Owner}
 use Rattle.plasma_tx.specs.declared.call.RootCall.{RootCall}
@@ -18,7 +17,7 @@ use Rattle.coin_verdicts.specs.declared.note.Holder.{Holder}
 use Rattle.coin_verdicts.specs.declared.note.Leaf.{Leaf}
 use Rattle.coin_verdicts.specs.Facts.{has, ended, IsFact, AreFacts}
 use Rattle.coin_verdicts.specs.Notes.{bound_in, taken_in, quiet_in, guards_in, meets, leaf_in, where_so, each_time, returned, changes_in, noted, notes_in}
-use Rattle.coin_verdicts.specs.Standings.{deposited_or, deposited_in, tips_or, tips_in, was_held, tip_in}
+use Rattle.coin_verdicts.specs.Standings.{deposited_in, tips_in, was_held, tip_in}
 use Rattle.coin_verdicts.proofs.Forms.{tick-form, watch-form}
 use Rattle.coin_verdicts.proofs.Lists.{eqb-comm}
 

@@ -1,5 +1,5 @@
 -- What facts say of the leaves of wallets is what events say.
-use Rattle.std.proofs.Common.{◌≡◌, ℕ, ◌==◌, Bool, true, false, if◌then◌else◌, List, [], ◌∷◌, map, refl, ap}
+use Rattle.std.proofs.Common.{◌≡◌, ℕ, ◌==◌, true, false, if◌then◌else◌, List, [], ◌∷◌, map, refl, ap}
 use Rattle.std.proofs.lemmas.Bool.{false≢true}
 use Rattle.plasma_tx.specs.declared.body.Body.{Body}
 use Rattle.root_rules.specs.Shown.{Tests, Rules}

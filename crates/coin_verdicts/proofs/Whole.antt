@@ -1,9 +1,7 @@
 -- The verdicts by facts are those of the events.
-use Rattle.std.proofs.Common.{◌≡◌, inl, inr, ℕ, ◌+◌, ◌==◌, Bool, true, false, if◌then◌else◌, List, [], ◌∷◌, ◌++◌, map, Option, Some, None, refl, ap, sym, ◌∙◌, subst, arith}
+use Rattle.std.proofs.Common.{◌≡◌, ℕ, ◌+◌, Bool, false, List, [], ◌∷◌, ◌++◌, Option, Some, None, refl, ap, sym, ◌∙◌, arith}
 use Rattle.std.specs.Prelude.{option_map, option_and_then}
 use Rattle.std.specs.List.{filter_map, flat_map, range_with_len}
-use Rattle.std.proofs.lemmas.Bool.{false≢true}
-use Rattle.plasma_tx.specs.declared.owner.Owner.{Owner}
 use Rattle.plasma_tx.specs.declared.call.RootCall.{RootCall}
 use Rattle.plasma_tx.specs.Views.{coins, Exit, exit_at}
 use Rattle.root_rules.specs.Shown.{Tests, Rules}
@@ -15,11 +13,11 @@ use Rattle.world_rules.specs.Verdicts.{held_tip, is_finish_paid, verdict_at, Nam
 use Rattle.coin_verdicts.specs.declared.fact.Fact.{Fact}
 use Rattle.coin_verdicts.specs.declared.note.Holder.{Holder}
 use Rattle.coin_verdicts.specs.Facts.{ended, IsFact, AreFacts, OwnersStay}
-use Rattle.coin_verdicts.specs.Notes.{holder_in, notes_in}
-use Rattle.coin_verdicts.specs.Standings.{standing_in, tip_in, kind_of, kind_in}
+use Rattle.coin_verdicts.specs.Notes.{notes_in}
+use Rattle.coin_verdicts.specs.Standings.{standing_in, tip_in, kind_of}
 use Rattle.coin_verdicts.specs.Wallets.{made_by, coins_in, verdict_in, verdicts_by, verdicts_where, verdicts_for}
 use Rattle.coin_verdicts.proofs.Forms.{tick-form, watch-form}
-use Rattle.coin_verdicts.proofs.Holders.{Declared, Nobody, Somebody, holder-is}
+use Rattle.coin_verdicts.proofs.Holders.{Nobody, Somebody, holder-is}
 use Rattle.coin_verdicts.proofs.Ending.{ever-same, kind-same}
 use Rattle.coin_verdicts.proofs.Tips.{tip-same}
 

@@ -1,5 +1,5 @@
 -- What is kept while facts are read: the leaves of each wallet, and the notes and guards of each coin.
-use Rattle.std.specs.Prelude.{◌≡◌, ℕ, ◌-◌, ◌==◌, ◌&&◌, not, Bool, if◌then◌else◌, List, [], ◌∷◌, ◌++◌, filter, find, slice_get, slice_set, Option, Some, None, unwrap_or, option_map}
+use Rattle.std.specs.Prelude.{◌≡◌, ℕ, ◌-◌, ◌==◌, not, if◌then◌else◌, List, [], ◌∷◌, ◌++◌, filter, slice_get, Option, None, unwrap_or, option_map}
 use Rattle.std.specs.Ordering.{nat_cmp}
 use Rattle.std.specs.BTreeMap.{BTreeMap, get}
 use Rattle.std.specs.BTreeSet.{insert_key}
@@ -7,7 +7,6 @@ use Rattle.coin_verdicts.specs.declared.note.Note.{Note}
 use Rattle.coin_verdicts.specs.declared.note.Leaf.{Leaf}
 use Rattle.coin_verdicts.specs.declared.note.Guard.{Guard}
 use Rattle.coin_verdicts.specs.declared.note.Quiet.{Quiet}
-use Rattle.coin_verdicts.specs.Facts.{has}
 use Rattle.coin_verdicts.specs.Notes.{is_guard, meets, each_time, noted}
 
 -- the notes of a coin, the newest first, and its guards

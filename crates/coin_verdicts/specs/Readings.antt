@@ -1,5 +1,5 @@
 -- What is kept of the facts that were read.
-use Rattle.std.specs.Prelude.{◌≡◌, ℕ, ◌+◌, ◌&&◌, Bool, if◌then◌else◌, nat_le, List, ◌∷◌, length, reverse, Option, Some, None}
+use Rattle.std.specs.Prelude.{◌≡◌, ℕ, ◌+◌, ◌&&◌, Bool, if◌then◌else◌, nat_le, List, ◌∷◌, length, reverse, Some, None}
 use Rattle.coin_verdicts.specs.declared.fact.Fact.{Fact}
 use Rattle.coin_verdicts.specs.declared.reading.Reading.{Reading}
 use Rattle.coin_verdicts.specs.Facts.{has}

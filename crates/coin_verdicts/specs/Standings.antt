@@ -1,6 +1,6 @@
 -- What a coin's notes, the newest first, come to for one wallet.
-use Rattle.std.specs.Prelude.{ℕ, ◌+◌, ◌-◌, ◌==◌, ◌&&◌, ◌||◌, not, Bool, true, false, if◌then◌else◌, nat_lt, nat_le, max, List, [], ◌∷◌, ◌++◌, map, filter, Option, Some, None, option_map}
-use Rattle.std.specs.Option.{option_or, option_map_or}
+use Rattle.std.specs.Prelude.{ℕ, ◌+◌, ◌-◌, ◌==◌, ◌&&◌, ◌||◌, not, Bool, true, false, if◌then◌else◌, nat_lt, max, List, [], ◌∷◌, ◌++◌, filter, Option, Some, None, option_map}
+use Rattle.std.specs.Option.{option_or}
 use Rattle.plasma_tx.specs.declared.owner.Owner.{Owner}
 use Rattle.wallet_core.specs.State.{is_owner, greatest}
 use Rattle.world_rules.specs.declared.verdict.VerdictKind.{VerdictKind}

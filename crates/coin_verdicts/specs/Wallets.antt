@@ -1,6 +1,6 @@
 -- The verdicts on the coins of wallets, by facts, the newest first.
 use Rattle.std.specs.Prelude.{ℕ, ◌+◌, List, [], ◌∷◌, Option, Some, None, option_map}
-use Rattle.std.specs.List.{filter_map, flat_map, range_with_len}
+use Rattle.std.specs.List.{filter_map, range_with_len}
 use Rattle.world_rules.specs.declared.verdict.Verdict.{Verdict}
 use Rattle.world_rules.specs.Verdicts.{Named}
 use Rattle.coin_verdicts.specs.declared.fact.Fact.{Fact}

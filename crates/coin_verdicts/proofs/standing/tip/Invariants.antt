@@ -1,4 +1,4 @@
-use Rattle.std.proofs.Common.{◌≡◌, ◌≤◌, ℕ, filter, length, take, reverse}
+use Rattle.std.proofs.Common.{◌≡◌, ◌≤◌, filter, length, take, reverse}
 use Rattle.wallet_core.specs.State.{greatest}
 use Rattle.coin_verdicts.specs.Standings.{was_held, tips_in}
 use Rattle.coin_verdicts.proofs.Loops.{joined}

@@ -1,7 +1,6 @@
-use Rattle.std.proofs.Common.{length, ◌<◌, get_or, take, arith, subst, ℕ, List, ◌∷◌, ◌++◌, []}
+use Rattle.std.proofs.Common.{length, ◌<◌, get_or, take, arith}
 use Rattle.std.proofs.lemmas.List.{take_more}
-use Rattle.coin_verdicts.specs.Books.{AreMet}
-use Rattle.coin_verdicts.proofs.BookLaws.{met-none, met-more}
+use Rattle.coin_verdicts.proofs.BookLaws.{met-more}
 use Rattle.coin_verdicts.proofs.books.Books.meet_all.Goals as goal
 
 pub loop-coin-preserved : goal.loop-coin-preserved

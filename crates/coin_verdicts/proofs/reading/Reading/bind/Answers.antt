@@ -1,10 +1,9 @@
-use Rattle.std.proofs.Common.{ap, sym, refl, ◌∙◌, ◌==◌, not, ◌&&◌, length}
-use Rattle.coin_verdicts.specs.declared.fact.Fact.{Fact}
+use Rattle.std.proofs.Common.{ap, sym, ◌∙◌, not, length}
 use Rattle.coin_verdicts.specs.declared.note.Change.{Change}
 use Rattle.coin_verdicts.specs.Facts.{has}
-use Rattle.coin_verdicts.specs.Notes.{bound_in, taken_in, quiet_in, guards_in, notes_in}
-use Rattle.coin_verdicts.specs.Books.{book_at, Signing}
-use Rattle.coin_verdicts.proofs.KeptReadings.{keeps-next, keeps-binds, keeps-returns, noted-books, same-book, guarded-books, released-books, met-books, next-taken, unsent-books, sent-books, found-same, unreturned-books, returned-books, blank-books}
+use Rattle.coin_verdicts.specs.Notes.{bound_in, taken_in}
+use Rattle.coin_verdicts.specs.Books.{book_at}
+use Rattle.coin_verdicts.proofs.KeptReadings.{keeps-binds, next-taken, unsent-books, sent-books}
 use Rattle.coin_verdicts.proofs.reading.Reading.bind.Goals as goal
 
 pub returns-then-not-branch : goal.returns-then-not-branch

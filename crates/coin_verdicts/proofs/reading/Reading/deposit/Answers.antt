@@ -1,8 +1,7 @@
-use Rattle.std.proofs.Common.{ap, sym, refl, ◌∙◌, ◌==◌, not, ◌&&◌}
+use Rattle.std.proofs.Common.{refl}
 use Rattle.coin_verdicts.specs.declared.fact.Fact.{Fact}
 use Rattle.coin_verdicts.specs.declared.note.Change.{Change}
-use Rattle.coin_verdicts.specs.Books.{book_at}
-use Rattle.coin_verdicts.proofs.KeptReadings.{keeps-next, keeps-binds, keeps-returns, noted-books, same-book, guarded-books, released-books, met-books}
+use Rattle.coin_verdicts.proofs.KeptReadings.{keeps-next, noted-books}
 use Rattle.coin_verdicts.proofs.reading.Reading.deposit.Goals as goal
 
 pub returns : goal.returns

@@ -1,10 +1,8 @@
-use Rattle.std.proofs.Common.{ap, sym, refl, ◌∙◌, ◌==◌, not, ◌&&◌, length}
-use Rattle.coin_verdicts.specs.declared.fact.Fact.{Fact}
-use Rattle.coin_verdicts.specs.declared.note.Change.{Change}
+use Rattle.std.proofs.Common.{ap, ◌∙◌}
 use Rattle.coin_verdicts.specs.Facts.{has}
 use Rattle.coin_verdicts.specs.Notes.{bound_in, taken_in, quiet_in, guards_in, notes_in}
 use Rattle.coin_verdicts.specs.Books.{book_at, Signing}
-use Rattle.coin_verdicts.proofs.KeptReadings.{keeps-next, keeps-binds, keeps-returns, noted-books, same-book, guarded-books, released-books, met-books, next-taken, unsent-books, sent-books, found-same, unreturned-books, returned-books, blank-books}
+use Rattle.coin_verdicts.proofs.KeptReadings.{blank-books}
 use Rattle.coin_verdicts.proofs.reading.Reading.new.Goals as goal
 
 pub returns : goal.returns
