@@ -1,8 +1,8 @@
 -- Steps of loops over facts and over coins.
-use Rattle.std.proofs.Common.{◌≡◌, ℕ, ◌+◌, ◌<◌, ◌≤◌, Bool, true, if◌then◌else◌, List, [], ◌∷◌, ◌++◌, length, take, get_or, reverse, zero, suc, Option, Some, None, refl, ap, sym, ◌∙◌, arith}
+use Rattle.std.proofs.Common.{◌≡◌, ℕ, ◌+◌, ◌<◌, ◌≤◌, Bool, true, if◌then◌else◌, List, [], ◌∷◌, ◌++◌, length, take, drop, get_or, reverse, zero, suc, Option, Some, None, refl, ap, sym, ◌∙◌, arith}
 use Rattle.std.specs.List.{filter_map, range_with_len}
 use Rattle.std.specs.Option.{option_to_list}
-use Rattle.std.proofs.lemmas.List.{length-reverse, length-take-le}
+use Rattle.std.proofs.lemmas.List.{length-reverse, length-take-le, reverse-append, take-append-drop}
 use Rattle.std.proofs.lemmas.List.Elements.{filter_map-append}
 use Rattle.world_rules.specs.declared.verdict.Verdict.{Verdict}
 use Rattle.world_rules.specs.Verdicts.{Named}
@@ -19,14 +19,30 @@ pub so-many : {X : Type 0} (xs : List X) (i : ℕ) → i < length xs → length 
 so-many xs i within = length-reverse (take i xs) ∙ length-take-le i xs (omega arith)
 
 pub holder-more : (facts : List Fact) (w i : ℕ) (fact : Fact) (found : Option Holder) → i < length facts
-    → found ≡ holder_in (reverse (take i facts)) w
-    → earlier found (declared w (i + 1) (get_or facts i fact)) ≡ holder_in (reverse (take (i + 1) facts)) w
+    → None ≡ holder_in (reverse (take i facts)) w → found ≡ declared w (i + 1) (get_or facts i fact)
+    → found ≡ holder_in (reverse (take (i + 1) facts)) w
 unfolding holder_in
-holder-more facts w i fact found within was =
-    ap (λ o. earlier o (declared w (i + 1) (get_or facts i fact))) was
+holder-more facts w i fact found within none is =
+    is
+    ∙ ap (λ o. earlier o (declared w (i + 1) (get_or facts i fact))) none
     ∙ ap (λ n. earlier (holder_in (reverse (take i facts)) w) (declared w (n + 1) (get_or facts i fact)))
     (sym (so-many facts i within))
     ∙ sym (ap (λ (fs : List Fact). holder_in fs w) (reversed-more facts i fact within))
+
+holder-stays : (newer older : List Fact) (w : ℕ) (holder : Holder) → Some holder ≡ holder_in older w
+    → Some holder ≡ holder_in (newer ++ older) w
+unfolding holder_in
+holder-stays [] older w holder is = is
+holder-stays (fact ∷ newer) older w holder is =
+    ap (λ o. earlier o (declared w (length (newer ++ older) + 1) fact)) (holder-stays newer older w holder is)
+
+-- who is declared in one of the first lines is so in all of them
+pub holder-found : (facts : List Fact) (w n : ℕ) (holder : Holder) → Some holder ≡ holder_in (reverse (take n facts)) w
+    → Some holder ≡ holder_in (reverse facts) w
+holder-found facts w n holder is =
+    holder-stays (reverse (drop n facts)) (reverse (take n facts)) w holder is
+    ∙ ap (λ (fs : List Fact). holder_in fs w) (sym (reverse-append (take n facts) (drop n facts)))
+    ∙ ap (λ (fs : List Fact). holder_in (reverse fs) w) (take-append-drop n facts)
 
 pub coins-more : (facts : List Fact) (i : ℕ) (fact : Fact) (count made : ℕ) → i < length facts
     → count ≡ coins_in (reverse (take i facts)) → made ≡ made_by (get_or facts i fact)

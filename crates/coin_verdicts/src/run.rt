@@ -7,7 +7,7 @@ ghost use Rattle.root_rules.specs.Table.{IsLegal};
 ghost use Rattle.world_rules.specs.Events.{Event, log_of};
 ghost use Rattle.world_rules.specs.Verdicts.{verdicts_on};
 ghost use Rattle.coin_verdicts.specs.Facts.{Lines, AreFacts, OwnersStay};
-ghost use Rattle.coin_verdicts.specs.Notes.{holder_in, declared, earlier};
+ghost use Rattle.coin_verdicts.specs.Notes.{holder_in, declared};
 ghost use Rattle.coin_verdicts.specs.Books.{book_at};
 ghost use Rattle.coin_verdicts.specs.Readings.{Keeps, HasBooks};
 ghost use Rattle.coin_verdicts.specs.Wallets.{made_by, coins_in, named_of, verdict_of_book, verdicts_of_books, verdicts_for};
@@ -96,21 +96,12 @@ fn read_all(alloc: Global, facts: &[Fact], count: usize) -> Result<Books, NoMemo
 fn holder(facts: &[Fact], wallet: u64) -> Option<Holder>
     ensures { result ≡ holder_in (reverse facts.now) wallet }
 {
-    let mut found = None;
     for (i, fact) in facts.iter().enumerate() {
-        found = earlier(found, fact, wallet, i as u64 + 1);
+        if let Some(holder) = declared(fact, wallet, i as u64 + 1) {
+            return Some(holder);
+        }
     }
-    found
-}
-
-// The holder that was declared, or else the one that a fact in a line declares.
-fn earlier(found: Option<Holder>, fact: &Fact, wallet: u64, line: u64) -> Option<Holder>
-    ensures { result ≡ earlier found (declared wallet line fact.now) }
-{
-    match found {
-        None => declared(fact, wallet, line),
-        Some(first) => Some(first),
-    }
+    None
 }
 
 // The holder that a fact in a line declares.

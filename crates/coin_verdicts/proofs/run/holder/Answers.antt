@@ -1,7 +1,7 @@
-use Rattle.std.proofs.Common.{◌<◌, ◌+◌, ap, length, refl, ◌∙◌, arith}
+use Rattle.std.proofs.Common.{◌+◌, None, Some, refl, ap, ◌∙◌}
 use Rattle.coin_verdicts.specs.declared.fact.Fact.{Fact}
-use Rattle.coin_verdicts.specs.Notes.{declared, earlier, holder_in}
-use Rattle.coin_verdicts.proofs.FactLoops.{holder-more}
+use Rattle.coin_verdicts.specs.Notes.{declared, holder_in}
+use Rattle.coin_verdicts.proofs.FactLoops.{holder-more, holder-found}
 use Rattle.coin_verdicts.proofs.run.holder.Goals as goal
 
 pub loop-i-init : goal.loop-i-init
@@ -10,8 +10,15 @@ loop-i-init c = refl
 
 pub loop-i-preserved : goal.loop-i-preserved
 loop-i-preserved c =
-    let within : c.loop-i.i < length c.args.facts.now = omega arith in
-    c.earlier-found.ensures
-    ∙ ap (λ (fact : Fact). earlier c.loop-i.found (declared c.args.wallet (c.loop-i.i + 1) fact)) c.index-facts-i.is
-    ∙ holder-more c.args.facts.now c.args.wallet c.loop-i.i c.index-facts-i.result c.loop-i.found within
+    holder-more c.args.facts.now c.args.wallet c.loop-i.i c.index-facts-i.result None c.loop-i-test.true
     c.loop-i.invariant
+    (c.in_default.ensures
+    ∙ ap (λ (fact : Fact). declared c.args.wallet (c.loop-i.i + 1) fact) c.index-facts-i.is)
+
+pub returns-in-Some : goal.returns-in-Some
+returns-in-Some c =
+    holder-found c.args.facts.now c.args.wallet (c.loop-i.i + 1) c.in-Some.holder
+    (holder-more c.args.facts.now c.args.wallet c.loop-i.i c.index-facts-i.result (Some c.in-Some.holder)
+    c.loop-i-test.true c.loop-i.invariant
+    (c.in-Some.ensures
+    ∙ ap (λ (fact : Fact). declared c.args.wallet (c.loop-i.i + 1) fact) c.index-facts-i.is))
