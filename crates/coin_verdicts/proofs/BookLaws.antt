@@ -1,0 +1,57 @@
+-- What notes of ticks leave of the books.
+use Rattle.std.proofs.Common.{◌≡◌, ◌⊎◌, ℕ, ◌==◌, Bool, true, false, if◌then◌else◌, List, [], ◌∷◌, ◌++◌, Option, Some, None, inl, inr, refl, ap, sym, ◌∙◌}
+use Rattle.std.specs.Prelude.{option_map}
+use Rattle.std.proofs.lemmas.Bool.{cases_eq, eq-eqb, ne_eqb}
+use Rattle.coin_verdicts.specs.declared.note.Change.{Change}
+use Rattle.coin_verdicts.specs.declared.note.Quiet.{Quiet}
+use Rattle.coin_verdicts.specs.Notes.{meets, each_time}
+use Rattle.coin_verdicts.specs.Books.{CoinBook, with_met, with_each, book_at, IsChanged, AreMet}
+
+each-last : (c x : ℕ) (change : Change) (xs : List ℕ)
+    → each_time c change (xs ++ x ∷ [])
+    ≡ (if x == c then change ∷ each_time c change xs else each_time c change xs)
+each-last c x change [] = refl
+each-last c x change (m ∷ ms) = at (m == c) (x == c) (each-last c x change ms)
+  where
+    at : (b d : Bool)
+        → each_time c change (ms ++ x ∷ []) ≡ (if d then change ∷ each_time c change ms else each_time c change ms)
+        → (if b then change ∷ each_time c change (ms ++ x ∷ []) else each_time c change (ms ++ x ∷ []))
+        ≡ (if d then change ∷ (if b then change ∷ each_time c change ms else each_time c change ms)
+        else (if b then change ∷ each_time c change ms else each_time c change ms))
+    at true true rest = ap (λ changes. change ∷ changes) rest
+    at true false rest = ap (λ changes. change ∷ changes) rest
+    at false true rest = rest
+    at false false rest = rest
+
+pub met-none : (line : ℕ) (nodes : List Quiet) (books : List CoinBook) → AreMet line nodes [] books books
+met-none line nodes books c = at (book_at books c)
+  where
+    at : (o : Option CoinBook) → o ≡ option_map (with_each line c nodes []) o
+    at None = refl
+    at (Some book) = refl
+
+-- a tick meets a deadline of one more coin
+pub met-more : (line : ℕ) (nodes : List Quiet) (xs : List ℕ) (x : ℕ) (books mid after : List CoinBook)
+    → AreMet line nodes xs books mid → IsChanged x (with_met line x nodes) mid after
+    → AreMet line nodes (xs ++ x ∷ []) books after
+met-more line nodes xs x books mid after are is c = is c ∙ at (cases_eq c x) (book_at books c) (are c)
+  where
+    one : (o : Option CoinBook) → x ≡ c
+        → option_map (with_met line x nodes) (option_map (with_each line c nodes xs) o)
+        ≡ option_map (with_each line c nodes (xs ++ x ∷ [])) o
+    one None same = refl
+    one (Some book) same =
+        rw (each-last c x (meets c nodes book.guards) xs, eq-eqb x c same)
+        (ap (λ k. Some (with_met line k nodes (with_each line c nodes xs book))) same)
+
+    other : (o : Option CoinBook) → (x ≡ c → ⊥)
+        → option_map (with_each line c nodes xs) o ≡ option_map (with_each line c nodes (xs ++ x ∷ [])) o
+    other None apart = refl
+    other (Some book) apart = rw (each-last c x (meets c nodes book.guards) xs, ne_eqb x c apart) refl
+
+    at : (c ≡ x) ⊎ (c ≡ x → ⊥) → (o : Option CoinBook)
+        → book_at mid c ≡ option_map (with_each line c nodes xs) o
+        → (if c == x then option_map (with_met line x nodes) (book_at mid c) else book_at mid c)
+        ≡ option_map (with_each line c nodes (xs ++ x ∷ [])) o
+    at (inl same) o was = rw (eq-eqb c x same, was) (one o (sym same))
+    at (inr apart) o was = rw (ne_eqb c x apart, was) (other o (λ same. apart (sym same)))

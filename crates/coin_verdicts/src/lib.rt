@@ -1,0 +1,18 @@
+//! What became of each coin, from what verdicts need to know of each line of a run.
+#![tactic(auto)]
+
+mod books;
+mod fact;
+mod note;
+mod quiet;
+mod reading;
+mod run;
+mod signers;
+mod standing;
+#[cfg(test)]
+mod tests;
+mod wallet;
+
+pub use fact::{Fact, Numbers};
+pub use run::verdicts;
+pub use wallet::NamedWallet;
