@@ -1,0 +1,12 @@
+//! What a trace shows that excuses a loss: two byte strings with one digest, or a valid signature that its honest
+//! key never made.
+#![tactic(auto)]
+
+mod forging;
+mod places;
+mod shown;
+mod way;
+
+pub use forging::forges;
+pub use places::first_clash;
+pub use shown::{Clash, Shown};
