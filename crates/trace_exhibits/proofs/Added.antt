@@ -10,10 +10,10 @@ use Rattle.watch_duty.proofs.Members.{Has}
 use Rattle.trace_exhibits.proofs.Clashes.{known-strings}
 use Rattle.trace_exhibits.proofs.Strings.{strings-behind, strings-earlier, strings-later, strings_at-one, strings_before-more}
 use Rattle.world_rules.specs.Exhibits.{first_clash, strings_in}
-use Rattle.trace_exhibits.specs.Ways.{pair_of, strings_in_shown, strings_in_all, strings_before, strings_at, strings_below, AreMarked}
+use Rattle.trace_exhibits.specs.Ways.{pair_of, strings_in_shown, strings_in_all, strings_before, strings_at, strings_below}
 use Rattle.trace_exhibits.specs.Places.{KeepsPlaces}
 use Rattle.trace_exhibits.specs.declared.shown.Clash.{Clash}
-use Rattle.trace_exhibits.specs.declared.shown.Shown.{Shown}
+use Rattle.trace_exhibits.specs.Opened.{Opened, AreMarked}
 use Rattle.trace_exhibits.specs.declared.shown.Place.{Place}
 
 regroup : (front below behind rest strings : List (List ℕ)) (string : List ℕ) → strings ≡ below ++ string ∷ behind
@@ -23,7 +23,7 @@ regroup front below behind rest strings string is =
     ∙ ap (λ all. all ++ rest) (sym (append_assoc front below (string ∷ behind)))
     ∙ append_assoc (front ++ below) (string ∷ behind) rest
 
-pub here-is : (shown : List Shown) (number : ℕ) (one : Shown) → number < length shown
+pub here-is : (shown : List Opened) (number : ℕ) (one : Opened) → number < length shown
     → one ≡ slice_index_or shown number one → slice_get shown number ≡ Some one
 here-is shown number one less is = slice_get-get_or shown number one less ∙ ap Some (sym is)
 
@@ -41,7 +41,7 @@ module _ (dig : List ℕ → List ℕ) where
       (hashed_string dig coin leaf path level) (strings-behind dig coin leaf path level less))
       ∙ found (drop (level + 1) (hashed_strings dig coin leaf path) ++ rest)
 
-  pub found-same : {S E : Type 0} (shown : List Shown) (places : HashMap (List ℕ) Place S)
+  pub found-same : {S E : Type 0} (shown : List Opened) (places : HashMap (List ℕ) Place S)
       (before after : List (List ℕ)) (result : Result (Option Clash) E) → before ≡ after
       → IfOk result (λ found. MatchOption found (KeepsPlaces dig shown places before)
       (λ clash. (rest : List (List ℕ)) → first_clash dig [] (before ++ rest) ≡ Some (pair_of clash)))
@@ -51,7 +51,7 @@ module _ (dig : List ℕ → List ℕ) where
       subst (λ (all : List (List ℕ)). IfOk result (λ found. MatchOption found (KeepsPlaces dig shown places all)
       (λ clash. (rest : List (List ℕ)) → first_clash dig [] (all ++ rest) ≡ Some (pair_of clash)))) is told
 
-  pub one-before : (shown : List Shown) (number : ℕ) (one : Shown) (strings : List (List ℕ))
+  pub one-before : (shown : List Opened) (number : ℕ) (one : Opened) (strings : List (List ℕ))
       → slice_get shown number ≡ Some one → strings_in_shown dig one ≡ strings
       → strings_before dig shown number ++ strings ≡ strings_before dig shown (number + 1)
   one-before shown number one strings is same =
@@ -59,7 +59,7 @@ module _ (dig : List ℕ → List ℕ) where
       ∙ sym (strings_before-more dig shown number)
 
   -- an opening without a string
-  pub unread-added : {S : Type 0} (shown : List Shown) (places : HashMap (List ℕ) Place S) (number : ℕ) (one : Shown)
+  pub unread-added : {S : Type 0} (shown : List Opened) (places : HashMap (List ℕ) Place S) (number : ℕ) (one : Opened)
       → slice_get shown number ≡ Some one → strings_in_shown dig one ≡ []
       → KeepsPlaces dig shown places (strings_before dig shown number)
       → KeepsPlaces dig shown places (strings_before dig shown (number + 1))
@@ -67,13 +67,13 @@ module _ (dig : List ℕ → List ℕ) where
       subst (KeepsPlaces dig shown places)
       (sym (append-nil (strings_before dig shown number)) ∙ one-before shown number one [] is none) keeps
 
-  same-strings : (one other : Shown) → other.coin ≡ one.coin → other.opening.now ≡ one.opening.now
+  same-strings : (one other : Opened) → other.coin ≡ one.coin → other.opening ≡ one.opening
       → strings_in_shown dig other ≡ strings_in_shown dig one
   same-strings one other coin opening =
-      ap (λ c. strings_in dig c other.opening.now) coin ∙ ap (strings_in dig one.coin) opening
+      ap (λ c. strings_in dig c other.opening) coin ∙ ap (strings_in dig one.coin) opening
 
   -- an opening that was shown before adds no string
-  pub known-added : {S : Type 0} (shown : List Shown) (places : HashMap (List ℕ) Place S) (number : ℕ) (one : Shown)
+  pub known-added : {S : Type 0} (shown : List Opened) (places : HashMap (List ℕ) Place S) (number : ℕ) (one : Opened)
       → AreMarked shown → slice_get shown number ≡ Some one → one.is_new ≡ false
       → KeepsPlaces dig shown places (strings_before dig shown number)
       → KeepsPlaces dig shown places (strings_before dig shown (number + 1))
@@ -86,7 +86,7 @@ module _ (dig : List ℕ → List ℕ) where
       (λ string there. strings-earlier dig shown was.0 number string was.2
       (subst (λ (all : List (List ℕ)). Has all string) (sym same) there)))
 
-  pub none-added : {S : Type 0} (shown : List Shown) (places : HashMap (List ℕ) Place S) → places.entries ≡ []
+  pub none-added : {S : Type 0} (shown : List Opened) (places : HashMap (List ℕ) Place S) → places.entries ≡ []
       → KeepsPlaces dig shown places []
   unfolding first_clash
   none-added shown places empty = record {
@@ -96,7 +96,7 @@ module _ (dig : List ℕ → List ℕ) where
   }
 
   -- a clash among the strings up to a number is one of all
-  pub all-clash : (shown : List Shown) (number : ℕ) (clash : Clash)
+  pub all-clash : (shown : List Opened) (number : ℕ) (clash : Clash)
       → ((rest : List (List ℕ)) → first_clash dig [] (strings_before dig shown number ++ rest) ≡ Some (pair_of clash))
       → option_map pair_of (Some clash) ≡ first_clash dig [] (strings_in_all dig shown)
   all-clash shown number clash found =

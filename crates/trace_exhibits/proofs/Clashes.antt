@@ -13,7 +13,7 @@ use Rattle.world_rules.specs.Exhibits.{do_clash, clash_with, first_clash}
 use Rattle.trace_exhibits.specs.Ways.{string_at, pair_of}
 use Rattle.trace_exhibits.specs.Places.{KeepsPlaces}
 use Rattle.trace_exhibits.specs.declared.shown.Clash.{Clash}
-use Rattle.trace_exhibits.specs.declared.shown.Shown.{Shown}
+use Rattle.trace_exhibits.specs.Opened.{Opened}
 use Rattle.trace_exhibits.specs.declared.shown.Place.{Place}
 
 -- what is found where one item alone passes, and where none does
@@ -91,7 +91,7 @@ module _ (dig : List ℕ → List ℕ) where
         | inr apart ↦ rw apart ((bytes_eq-Decides (dig first) (dig string)).1 same)
       ]
 
-  module _ {S : Type 0} (shown : List Shown) (places : HashMap (List ℕ) Place S) (earlier : List (List ℕ)) where
+  module _ {S : Type 0} (shown : List Opened) (places : HashMap (List ℕ) Place S) (earlier : List (List ℕ)) where
     -- strings of these with one digest are one string
     one-string : KeepsPlaces dig shown places earlier → (one other : List ℕ) → Has earlier one → Has earlier other
         → dig one ≡ dig other → one ≡ other
@@ -204,7 +204,7 @@ module _ (dig : List ℕ → List ℕ) where
         (λ other is_there same. one-string keeps other (string_at dig shown place) is_there there (same ∙ sym was.1)))
 
   -- what becomes of a string whose digest was met before
-  pub met-string : {S E : Type 0} (shown : List Shown) (places : HashMap (List ℕ) Place S) (earlier : List (List ℕ))
+  pub met-string : {S E : Type 0} (shown : List Opened) (places : HashMap (List ℕ) Place S) (earlier : List (List ℕ))
       (string : List ℕ) (place : Place) (result : Result (Option Clash) E)
       → KeepsPlaces dig shown places earlier → get bytes_eq places (dig string) ≡ Some place
       → IfOk result (λ found. found ≡ (if bytes_eq (string_at dig shown place) string then None
@@ -226,7 +226,7 @@ module _ (dig : List ℕ → List ℕ) where
       ]
 
   -- strings that were met before
-  pub known-strings : {S : Type 0} (shown : List Shown) (places : HashMap (List ℕ) Place S)
+  pub known-strings : {S : Type 0} (shown : List Opened) (places : HashMap (List ℕ) Place S)
       (earlier strings : List (List ℕ)) → KeepsPlaces dig shown places earlier
       → ((string : List ℕ) → Has strings string → Has earlier string)
       → KeepsPlaces dig shown places (earlier ++ strings)

@@ -10,7 +10,7 @@ use Rattle.sparse_merkle.specs.Opening.{hashed_string, hashed_strings}
 use Rattle.watch_duty.proofs.Members.{Has, has-left, has-right}
 use Rattle.trace_exhibits.specs.Ways.{strings_in_shown, strings_in_all, strings_before, strings_at, string_at, strings_below}
 use Rattle.trace_exhibits.specs.declared.shown.Place.{Place}
-use Rattle.trace_exhibits.specs.declared.shown.Shown.{Shown}
+use Rattle.trace_exhibits.specs.Opened.{Opened}
 
 module _ (dig : List ℕ → List ℕ) (coin : ℕ) (leaf : List ℕ) (path : List (List ℕ)) where
   pub strings_below-zero : strings_below dig coin leaf path 0 ≡ []
@@ -55,21 +55,21 @@ module _ (dig : List ℕ → List ℕ) where
   strings_at-none zero = refl
   strings_at-none (suc n) = refl
 
-  pub strings_at-one : (shown : List Shown) (number : ℕ) (one : Shown) → slice_get shown number ≡ Some one
+  pub strings_at-one : (shown : List Opened) (number : ℕ) (one : Opened) → slice_get shown number ≡ Some one
       → strings_at dig shown number ≡ strings_in_shown dig one
   unfolding strings_at
   strings_at-one shown number one is = ap (λ found. option_map_or (strings_in_shown dig) found []) is
 
-  pub strings_at-missing : (shown : List Shown) (number : ℕ) → slice_get shown number ≡ None
+  pub strings_at-missing : (shown : List Opened) (number : ℕ) → slice_get shown number ≡ None
       → strings_at dig shown number ≡ []
   unfolding strings_at
   strings_at-missing shown number is = ap (λ found. option_map_or (strings_in_shown dig) found []) is
 
-  pub strings_before-zero : (shown : List Shown) → strings_before dig shown 0 ≡ []
+  pub strings_before-zero : (shown : List Opened) → strings_before dig shown 0 ≡ []
   unfolding strings_before
   strings_before-zero shown = refl
 
-  before-more : (shown : List Shown) (number : ℕ) → strings_before dig shown (suc number)
+  before-more : (shown : List Opened) (number : ℕ) → strings_before dig shown (suc number)
       ≡ strings_before dig shown number ++ strings_at dig shown number
   unfolding strings_before strings_at
   before-more [] zero = refl
@@ -79,18 +79,18 @@ module _ (dig : List ℕ → List ℕ) where
       ap (λ rest. strings_in_shown dig one ++ rest) (before-more shown number)
       ∙ sym (append_assoc (strings_in_shown dig one) (strings_before dig shown number) (strings_at dig shown number))
 
-  pub strings_before-more : (shown : List Shown) (number : ℕ) → strings_before dig shown (number + 1)
+  pub strings_before-more : (shown : List Opened) (number : ℕ) → strings_before dig shown (number + 1)
       ≡ strings_before dig shown number ++ strings_at dig shown number
   strings_before-more shown number =
       let e : number + 1 ≡ suc number = omega arith in rw e (before-more shown number)
 
-  pub strings_before-all : (shown : List Shown) (number : ℕ) → length shown ≤ number
+  pub strings_before-all : (shown : List Opened) (number : ℕ) → length shown ≤ number
       → strings_before dig shown number ≡ strings_in_all dig shown
   unfolding strings_before
   strings_before-all shown number le = ap (strings_in_all dig) (take_all number shown le)
 
   -- what comes behind the strings before a number
-  pub strings-later : (shown : List Shown) (number : ℕ) → strings_in_all dig shown
+  pub strings-later : (shown : List Opened) (number : ℕ) → strings_in_all dig shown
       ≡ strings_before dig shown number ++ strings_in_all dig (drop number shown)
   unfolding strings_before
   strings-later shown number =
@@ -98,7 +98,7 @@ module _ (dig : List ℕ → List ℕ) where
       ∙ flat_map-append (strings_in_shown dig) (take number shown) (drop number shown)
 
   -- the strings of an earlier opening stand before
-  pub strings-earlier : (shown : List Shown) (earlier number : ℕ) (string : List ℕ) → earlier < number
+  pub strings-earlier : (shown : List Opened) (earlier number : ℕ) (string : List ℕ) → earlier < number
       → Has (strings_at dig shown earlier) string → Has (strings_before dig shown number) string
   unfolding strings_before strings_at
   strings-earlier [] zero number string less h = absurd h
@@ -111,8 +111,8 @@ module _ (dig : List ℕ → List ℕ) where
       (strings-earlier shown earlier number string (omega arith) h)
 
 -- what stands at a number
-pub one-at : (shown : List Shown) (number : ℕ) (one : Shown) → number < length shown
-    → ((d : Shown) → one ≡ get_or shown number d) → slice_get shown number ≡ Some one
+pub one-at : (shown : List Opened) (number : ℕ) (one : Opened) → number < length shown
+    → ((d : Opened) → one ≡ get_or shown number d) → slice_get shown number ≡ Some one
 one-at shown number one less is = slice_get-get_or shown number one less ∙ ap Some (sym (is one))
 
 abbrev nothing : List (List ℕ)
@@ -125,14 +125,14 @@ empty-at : (level : ℕ) → slice_index_or nothing level empty ≡ empty
 empty-at zero = refl
 empty-at (suc level) = refl
 
-module _ (dig : List ℕ → List ℕ) (shown : List Shown) (place : Place) where
+module _ (dig : List ℕ → List ℕ) (shown : List Opened) (place : Place) where
   -- the string at a place where there is no opening, or one that isn't read, or one with this way up
   pub string_at-past : length shown ≤ place.number → [] ≡ string_at dig shown place
   string_at-past le =
       sym (ap (λ (strings : List (List ℕ)). slice_index_or strings place.level [])
       (strings_at-missing dig shown place.number (slice_get_past shown place.number le)) ∙ empty-at place.level)
 
-  pub string_at-unread : (one : Shown) → slice_get shown place.number ≡ Some one → strings_in_shown dig one ≡ []
+  pub string_at-unread : (one : Opened) → slice_get shown place.number ≡ Some one → strings_in_shown dig one ≡ []
       → [] ≡ string_at dig shown place
   string_at-unread one is none =
       sym (ap (λ (strings : List (List ℕ)). slice_index_or strings place.level [])

@@ -5,12 +5,12 @@ use Rattle.std.specs.HashMap.{HashMap, get}
 use Rattle.std.specs.Str.{bytes_eq}
 use Rattle.world_rules.specs.Exhibits.{first_clash}
 use Rattle.trace_exhibits.specs.Ways.{string_at}
-use Rattle.trace_exhibits.specs.declared.shown.Shown.{Shown}
+use Rattle.trace_exhibits.specs.Opened.{Opened}
 use Rattle.trace_exhibits.specs.declared.shown.Place.{Place}
 
 -- No two of these strings have one digest, the map gives for the digest of each the place of the string, and it gives
 -- no other place.
-pub record KeepsPlaces {S : Type 0} (dig : List ℕ → List ℕ) (shown : List Shown) (places : HashMap (List ℕ) Place S)
+pub record KeepsPlaces {S : Type 0} (dig : List ℕ → List ℕ) (shown : List Opened) (places : HashMap (List ℕ) Place S)
     (earlier : List (List ℕ)) : Type 0 where
   pub none : first_clash dig [] earlier ≡ None
   pub known : (string : List ℕ) → Contains earlier string

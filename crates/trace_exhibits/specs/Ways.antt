@@ -4,7 +4,7 @@ use Rattle.std.specs.List.{flat_map, slice_get, range_with_len}
 use Rattle.std.specs.Option.{option_map_or}
 use Rattle.sparse_merkle.specs.Opening.{hashed_string, digest_at_level}
 use Rattle.world_rules.specs.Exhibits.{strings_in, Pair}
-use Rattle.trace_exhibits.specs.declared.shown.Shown.{Shown}
+use Rattle.trace_exhibits.specs.Opened.{Opened}
 use Rattle.trace_exhibits.specs.declared.shown.Clash.{Clash}
 use Rattle.trace_exhibits.specs.declared.shown.Place.{Place}
 
@@ -13,28 +13,22 @@ abbrev pub pair_of : Clash → Pair
 pair_of clash = record { first = clash.first; second = clash.second }
 
 -- the strings of a shown opening
-abbrev pub strings_in_shown : (List ℕ → List ℕ) → Shown → List (List ℕ)
-strings_in_shown dig one = strings_in dig one.coin one.opening.now
+abbrev pub strings_in_shown : (List ℕ → List ℕ) → Opened → List (List ℕ)
+strings_in_shown dig one = strings_in dig one.coin one.opening
 
 -- the strings of all shown openings, and of those before a number
-abbrev pub strings_in_all : (List ℕ → List ℕ) → List Shown → List (List ℕ)
+abbrev pub strings_in_all : (List ℕ → List ℕ) → List Opened → List (List ℕ)
 strings_in_all dig shown = flat_map (strings_in_shown dig) shown
 
-unfoldable pub strings_before : (List ℕ → List ℕ) → List Shown → ℕ → List (List ℕ)
+unfoldable pub strings_before : (List ℕ → List ℕ) → List Opened → ℕ → List (List ℕ)
 strings_before dig shown number = strings_in_all dig (take number shown)
 
--- each opening that isn't marked as new was shown before, of the same coin
-abbrev pub AreMarked : List Shown → Type 0
-AreMarked shown = (number : ℕ) (one : Shown) → slice_get shown number ≡ Some one → one.is_new ≡ false
-    → (earlier : ℕ) × (other : Shown) × (earlier < number) × (slice_get shown earlier ≡ Some other)
-    × (other.coin ≡ one.coin) × (other.opening.now ≡ one.opening.now)
-
 -- the strings of the opening with a number; none where there is none
-unfoldable pub strings_at : (List ℕ → List ℕ) → List Shown → ℕ → List (List ℕ)
+unfoldable pub strings_at : (List ℕ → List ℕ) → List Opened → ℕ → List (List ℕ)
 strings_at dig shown number = option_map_or (strings_in_shown dig) (slice_get shown number) []
 
 -- the string at a place
-abbrev pub string_at : (List ℕ → List ℕ) → List Shown → Place → List ℕ
+abbrev pub string_at : (List ℕ → List ℕ) → List Opened → Place → List ℕ
 string_at dig shown place = slice_index_or (strings_at dig shown place.number) place.level []
 
 -- the strings below a level, on the way up from a leaf

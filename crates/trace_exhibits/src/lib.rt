@@ -9,4 +9,4 @@ mod way;
 
 pub use forging::forges;
 pub use places::first_clash;
-pub use shown::{Clash, Shown};
+pub use shown::{Clash, ShownOpening};

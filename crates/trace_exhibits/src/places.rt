@@ -4,10 +4,11 @@ ghost use Rattle.std.specs.Str.{bytes_eq};
 ghost use Rattle.sparse_merkle.specs.Opening.{hashed_string, hashed_strings};
 ghost use Rattle.sparse_merkle.specs.TreeDigest.{AreDefaults};
 ghost use Rattle.world_rules.specs.Exhibits.{first_clash};
-ghost use Rattle.trace_exhibits.specs.Ways.{pair_of, strings_before, strings_below, strings_at, strings_in_shown, string_at, strings_in_all, AreDigestsUp, AreMarked};
+ghost use Rattle.trace_exhibits.specs.Ways.{pair_of, strings_before, strings_below, strings_at, strings_in_shown, string_at, strings_in_all, AreDigestsUp};
+ghost use Rattle.trace_exhibits.specs.Opened.{AreMarked};
 ghost use Rattle.trace_exhibits.specs.Places.{KeepsPlaces};
 
-use super::shown::{Clash, Place, Shown};
+use super::shown::{Clash, Place, ShownOpening};
 use super::way::{Way, string_at, string_of, way_of};
 use plasma_base::{Bytes, Hash32, NoMemory};
 use sparse_merkle::defaults;
@@ -23,7 +24,7 @@ type Places = HashMap<[u8; 32], Place>;
 pub fn first_clash<H: Hash32>(
     alloc: Global,
     h: &H,
-    shown: &[Shown<'_>],
+    shown: &[ShownOpening<'_>],
 ) -> Result<Option<Clash>, NoMemory>
     requires { AreMarked shown.now }
     ensures { IfOk result (λ found. option_map pair_of found
@@ -44,7 +45,7 @@ fn add_opening<H: Hash32>(
     alloc: Global,
     h: &H,
     defaults: &[[u8; 32]; 64],
-    shown: &[Shown<'_>],
+    shown: &[ShownOpening<'_>],
     number: usize,
     places: &mut Places,
 ) -> Result<Option<Clash>, NoMemory>
@@ -59,7 +60,7 @@ fn add_opening<H: Hash32>(
         → first_clash (H.digest_of h.now) [] (after ++ rest) ≡ Some (pair_of clash))) }
 {
     let one = &shown[number];
-    if !one.is_new {
+    if !one.is_new() {
         return Ok(None);
     }
     match way_of(alloc, h, defaults, one)? {
@@ -73,7 +74,7 @@ fn add_way<H: Hash32>(
     alloc: Global,
     h: &H,
     defaults: &[[u8; 32]; 64],
-    shown: &[Shown<'_>],
+    shown: &[ShownOpening<'_>],
     number: usize,
     way: &Way,
     places: &mut Places,
@@ -104,7 +105,7 @@ fn add_string<H: Hash32>(
     alloc: Global,
     h: &H,
     defaults: &[[u8; 32]; 64],
-    shown: &[Shown<'_>],
+    shown: &[ShownOpening<'_>],
     place: Place,
     way: &Way,
     places: &mut Places,
@@ -140,7 +141,7 @@ fn clash_at<H: Hash32>(
     alloc: Global,
     h: &H,
     defaults: &[[u8; 32]; 64],
-    shown: &[Shown<'_>],
+    shown: &[ShownOpening<'_>],
     first: Place,
     way: &Way,
     level: usize,

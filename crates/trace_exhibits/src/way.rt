@@ -3,7 +3,7 @@ ghost use Rattle.sparse_merkle.specs.Opening.{hashed_string, hashed_strings};
 ghost use Rattle.sparse_merkle.specs.TreeDigest.{leaf_string, AreDefaults};
 ghost use Rattle.trace_exhibits.specs.Ways.{strings_in_shown, strings_at, string_at, AreDigestsUp};
 
-use super::shown::{Place, Shown};
+use super::shown::{Place, ShownOpening};
 use plasma_base::{Bytes, Hash32, NoMemory};
 use plasma_tx::OpeningRefusal;
 use sparse_merkle::{bit, leaf_digest, parent_bytes};
@@ -23,7 +23,7 @@ pub(crate) fn way_of<H: Hash32>(
     alloc: Global,
     h: &H,
     defaults: &[[u8; 32]; 64],
-    one: &Shown<'_>,
+    one: &ShownOpening<'_>,
 ) -> Result<Option<Way>, NoMemory>
     requires { AreDefaults (H.digest_of h.now) defaults.now }
     ensures { IfOk result (λ found. MatchOption found (strings_in_shown (H.digest_of h.now) one.now ≡ [])
@@ -31,12 +31,12 @@ pub(crate) fn way_of<H: Hash32>(
         ≡ hashed_strings (H.digest_of h.now) way.coin way.leaf way.path)
         × AreDigestsUp (H.digest_of h.now) way.coin way.leaf way.path way.digests)) }
 {
-    match one.opening.open_up_with_defaults(alloc, h, defaults) {
+    match one.opening().open_up_with_defaults(alloc, h, defaults) {
         Ok(opening) => {
             let path = opening.proof.path(h);
-            let digests = digests_up(h, one.coin, opening.leaf.as_slice(), &path);
+            let digests = digests_up(h, one.coin(), opening.leaf.as_slice(), &path);
             Ok(Some(Way {
-                coin: one.coin,
+                coin: one.coin(),
                 leaf: opening.leaf,
                 path,
                 digests,
@@ -100,7 +100,7 @@ pub(crate) fn string_at<H: Hash32>(
     alloc: Global,
     h: &H,
     defaults: &[[u8; 32]; 64],
-    shown: &[Shown<'_>],
+    shown: &[ShownOpening<'_>],
     place: Place,
 ) -> Result<Vec<u8>, NoMemory>
     requires defaults { AreDefaults (H.digest_of h.now) defaults.now }

@@ -1,16 +1,16 @@
-use Rattle.std.proofs.Common.{◌++◌, ◌∙◌}
+use Rattle.std.proofs.Common.{◌++◌, ◌∙◌, sym}
 use Rattle.sparse_merkle.specs.Opening.{hashed_strings}
 use Rattle.trace_exhibits.specs.Ways.{strings_before}
 use Rattle.trace_exhibits.proofs.Strings.{strings_at-one}
 use Rattle.trace_exhibits.proofs.Added.{here-is, found-same, one-before, unread-added, known-added}
 use Rattle.trace_exhibits.proofs.places.add_opening.Goals as goal
 
-pub returns-then-not-one : goal.returns-then-not-one
-returns-then-not-one g c =
+pub returns-then-not-is_new : goal.returns-then-not-is_new
+returns-then-not-is_new g c =
     let one = c.index-shown-number.result in
     known-added (g.H.Hash32.digest_of c.args.h.now) c.args.shown.now c.args.places.now c.args.number one
     c.requires.marked (here-is c.args.shown.now c.args.number one c.requires.within c.index-shown-number.is)
-    c.if-not-one.true c.requires.kept
+    (sym c.is_new.ensures ∙ c.if-not-is_new.true) c.requires.kept
 
 pub add_way-requires-clause-strings : goal.add_way-requires-clause-strings
 add_way-requires-clause-strings g c =
