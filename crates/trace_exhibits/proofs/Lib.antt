@@ -1,3 +1,4 @@
 pub mod Clashes
 pub mod Strings
 pub mod Added
+pub mod KeptWallets

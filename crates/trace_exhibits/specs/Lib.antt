@@ -1,3 +1,5 @@
 pub mod Opened
 pub mod Ways
 pub mod Places
+pub mod Lines
+pub mod Wallets

@@ -38,8 +38,8 @@ fn is_among(body: &Body, bodies: &[Body]) -> bool
     bodies.iter().any(|other| is_same(body, other))
 }
 
-// Whether the bodies have the same fields.
-fn is_same(one: &Body, other: &Body) -> bool
+/// Whether the bodies have the same fields.
+pub(crate) fn is_same(one: &Body, other: &Body) -> bool
     ensures { result ≡ is_same_body one.now other.now }
 {
     one.tag == other.tag
@@ -50,9 +50,9 @@ fn is_same(one: &Body, other: &Body) -> bool
         && one.last == other.last
 }
 
-// The leaf that so many bytes are, behind its length; the bytes may end before it.
+/// The leaf that so many bytes are, behind its length; the bytes may end before it.
 #[tactic(auto, unfolding(plasma_tx::specs::Openings::leaf_in))]
-fn leaf_in(bytes: &[u8]) -> &[u8]
+pub(crate) fn leaf_in(bytes: &[u8]) -> &[u8]
     ensures { result.now ≡ leaf_in bytes.now }
 {
     match get_u32(bytes, 0) {

@@ -3,10 +3,13 @@
 #![tactic(auto)]
 
 mod forging;
+mod lines;
 mod places;
 mod shown;
+mod wallets;
 mod way;
 
 pub use forging::forges;
+pub use lines::ExhibitLine;
 pub use places::first_clash;
 pub use shown::{Clash, ShownOpening};
