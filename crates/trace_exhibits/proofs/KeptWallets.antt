@@ -1,5 +1,5 @@
 -- What is kept of the wallets that events declared and of the bodies that they bound.
-use Rattle.std.proofs.Common.{◌≡◌, Bor, ℕ, ◌==◌, ◌&&◌, ◌||◌, not, Bool, true, false, cond, if◌then◌else◌, List, [], ◌∷◌, ◌++◌, map, find, Option, Some, None, option_map, inl, inr, refl, sym, ap, ◌∙◌}
+use Rattle.std.proofs.Common.{◌≡◌, Bor, ℕ, ◌==◌, ◌&&◌, ◌||◌, not, Bool, true, false, if◌then◌else◌, List, [], ◌∷◌, ◌++◌, map, Option, Some, None, inl, inr, refl, sym, ap, ◌∙◌}
 use Rattle.std.specs.List.{list_any, insert}
 use Rattle.std.specs.Option.{option_map_or}
 use Rattle.std.proofs.lemmas.Bool.{cases_Bool}
@@ -7,12 +7,11 @@ use Rattle.std.proofs.lemmas.List.Folds.{list_any-append}
 use Rattle.plasma_tx.specs.declared.owner.Owner.{Owner}
 use Rattle.plasma_tx.specs.declared.body.Body.{Body}
 use Rattle.plasma_tx.specs.declared.signed_tx.SignedTx.{SignedTx}
-use Rattle.plasma_tx.specs.declared.opening.RawOpening.{RawOpening}
 use Rattle.plasma_tx.specs.Openings.{leaf_in}
 use Rattle.plasma_tx.specs.Transfer.{transfer_in, is_signed_by}
 use Rattle.watch_duty.proofs.Members.{any-map}
 use Rattle.world_rules.specs.Events.{Event, Declares, Joins, Bounces, Accepts, Guards, Releases, Binds, TakesBack, Watches, Leaves, Seals, Other, Idle, wallet_owner, wallets, bound_by}
-use Rattle.world_rules.specs.Exhibits.{is_same_body, forges, forges_transfer, forges_one}
+use Rattle.world_rules.specs.Exhibits.{is_same_body, forges_transfer, forges_one}
 use Rattle.trace_exhibits.specs.Opened.{Opened}
 use Rattle.trace_exhibits.specs.Lines.{event_of}
 use Rattle.trace_exhibits.specs.Wallets.{declared_in, owner_in, is_bound_in, signs_unbound, KeepsWallets, is_forged_in}
@@ -32,7 +31,7 @@ pub any-false : {X : Type 0} (p : X → Bool) (xs : List X) → ((x : X) → p x
 any-false p [] none = refl
 any-false p (x ∷ xs) none = ap (λ b. b || list_any p xs) (none x) ∙ any-false p xs none
 
-or-false : (b : Bool) → (b || false) ≡ b
+pub or-false : (b : Bool) → (b || false) ≡ b
 or-false true = refl
 or-false false = refl
 
@@ -169,10 +168,10 @@ module _ (tag : List ℕ) (events : List Event) (one : Opened) where
       ∙ any-same (signs_unbound known.declared.items known.bodies.items tx)
       (λ w. forges_one tag (wallet_owner events w) (bound_by events w) one.coin (one.opening ∷ []))
       (wallets events) (λ w.
-          ap (λ (all : List Declared). signs_unbound all known.bodies.items tx w) keeps.declared
-          ∙ by w (owner_in (declared_in events) w)
-          ∙ ap (λ owner. forges_one tag owner (bound_by events w) one.coin (one.opening ∷ []))
-          (sym (owner-declared events w)))
+      ap (λ (all : List Declared). signs_unbound all known.bodies.items tx w) keeps.declared
+      ∙ by w (owner_in (declared_in events) w)
+      ∙ ap (λ owner. forges_one tag owner (bound_by events w) one.coin (one.opening ∷ []))
+      (sym (owner-declared events w)))
     where
       by : (w : ℕ) (owner : Option Owner)
           → option_map_or (λ me. is_signed_by tx me && not (is_bound_in known.bodies.items w tx.body)) owner false

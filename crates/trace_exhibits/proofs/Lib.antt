@@ -2,3 +2,5 @@ pub mod Clashes
 pub mod Strings
 pub mod Added
 pub mod KeptWallets
+pub mod Reading
+pub mod Lined

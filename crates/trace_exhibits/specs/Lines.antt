@@ -1,5 +1,5 @@
 -- What the lines of a trace are to its exhibit.
-use Rattle.std.specs.Prelude.{◌≡◌, ℕ, Bool, true, List, [], ◌∷◌, map, reverse}
+use Rattle.std.specs.Prelude.{◌≡◌, ℕ, Bool, true, List, [], map, reverse}
 use Rattle.std.specs.List.{flat_map}
 use Rattle.plasma_tx.specs.declared.call.RootCall.{RootCall}
 use Rattle.plasma_tx.specs.declared.opening.RawOpening.{RawOpening}

@@ -1,5 +1,5 @@
 -- The strings of shown openings, and the way up from one opening.
-use Rattle.std.specs.Prelude.{◌≡◌, ℕ, ◌<◌, false, List, [], map, take, slice_index_or, Some}
+use Rattle.std.specs.Prelude.{◌≡◌, ℕ, ◌<◌, List, [], map, take, slice_index_or}
 use Rattle.std.specs.List.{flat_map, slice_get, range_with_len}
 use Rattle.std.specs.Option.{option_map_or}
 use Rattle.sparse_merkle.specs.Opening.{hashed_string, digest_at_level}

@@ -2,6 +2,8 @@
 //! key never made.
 #![tactic(auto)]
 
+mod exhibit;
+mod forgeries;
 mod forging;
 mod lines;
 mod places;
@@ -9,6 +11,8 @@ mod shown;
 mod wallets;
 mod way;
 
+pub use exhibit::exhibit_of;
+pub use forgeries::first_forgery;
 pub use forging::forges;
 pub use lines::ExhibitLine;
 pub use places::first_clash;

@@ -13,11 +13,19 @@ use std::alloc::Global;
 #[derive(Drop)]
 pub enum ExhibitLine<'a> {
     /// A wallet was declared, which is this owner.
-    Declares { wallet: u64, owner: &'a Owner },
+    Declares {
+        wallet: u64,
+        owner: &'a Owner,
+    },
     /// The next leaf of a wallet's key binds a body.
-    Binds { wallet: u64, body: &'a Body },
+    Binds {
+        wallet: u64,
+        body: &'a Body,
+    },
     /// The contract accepted a call.
-    Joins { call: &'a RootCall },
+    Joins {
+        call: &'a RootCall,
+    },
     /// A node accepted openings of a coin. They may be marked as not new only where earlier lines show each of
     /// them of the same coin.
     Shows {
@@ -84,7 +92,10 @@ fn push_call<'a>(call: &'a RootCall, shown: &mut Vec<ShownOpening<'a>>) -> Resul
 {
     match call {
         RootCall::StartSpend {
-            coin, parent, exit, ..
+            coin,
+            parent,
+            exit,
+            ..
         } => {
             push_view(*coin, parent, shown)?;
             shown.push(ShownOpening::of(*coin, exit, true))?;
@@ -95,7 +106,9 @@ fn push_call<'a>(call: &'a RootCall, shown: &mut Vec<ShownOpening<'a>>) -> Resul
             shown.push(ShownOpening::of(*coin, spend, true))?;
         }
         RootCall::Before {
-            coin, shown: view, ..
+            coin,
+            shown: view,
+            ..
         } => push_view(*coin, view, shown)?,
         _ => {}
     }

@@ -1,0 +1,52 @@
+ghost use Rattle.std.specs.Prelude.{◌≡◌, List, IfOk};
+ghost use Rattle.world_rules.specs.Events.{Event};
+ghost use Rattle.world_rules.specs.Exhibits.{first_forgery, forges_some};
+ghost use Rattle.trace_exhibits.specs.Lines.{event_of, AreLines};
+ghost use Rattle.trace_exhibits.specs.Wallets.{KeepsWallets};
+
+use super::lines::{ExhibitLine, push_shown};
+use super::wallets::Known;
+use plasma_base::NoMemory;
+use std::alloc::Global;
+
+/// The number of the first of these lines, the oldest first, that shows a forgery: a leaf with this tag whose
+/// signature is valid under the key of a wallet that an earlier line declares, over a body that no earlier leaf of
+/// it bound. `None` where none does.
+pub fn first_forgery(
+    alloc: Global,
+    tag: &[u8; 32],
+    lines: &[ExhibitLine<'_>],
+) -> Result<Option<u64>, NoMemory>
+    ensures { IfOk result (λ found. (events : List Event) → AreLines lines.now events
+        → found ≡ first_forgery tag.now events) }
+{
+    let mut known = Known::new(alloc);
+    for number in 0..lines.len() {
+        let line = &lines[number];
+        if shows_forgery(alloc, tag, &known, line)? {
+            return Ok(Some(number as u64 + 1));
+        }
+        known.add(line)?;
+    }
+    Ok(None)
+}
+
+// Whether the line shows a forgery, behind the lines that said what is known.
+fn shows_forgery(
+    alloc: Global,
+    tag: &[u8; 32],
+    known: &Known,
+    line: &ExhibitLine<'_>,
+) -> Result<bool, NoMemory>
+    ensures { IfOk result (λ forged. (events : List Event) → KeepsWallets events known.now
+        → forged ≡ forges_some tag.now events (event_of line.now)) }
+{
+    let mut shown = Vec::new(alloc);
+    push_shown(line, &mut shown)?;
+    for one in &shown {
+        if known.is_forged(alloc, tag, one)? {
+            return Ok(true);
+        }
+    }
+    Ok(false)
+}
