@@ -11,10 +11,11 @@ use Rattle.trace_exhibits.proofs.Clashes.{known-strings}
 use Rattle.trace_exhibits.proofs.Strings.{strings-behind, strings-earlier, strings-later, strings_at-one, strings_before-more}
 use Rattle.world_rules.specs.Exhibits.{first_clash, strings_in}
 use Rattle.trace_exhibits.specs.Ways.{pair_of, strings_in_shown, strings_in_all, strings_before, strings_at, strings_below}
-use Rattle.trace_exhibits.specs.Places.{KeepsPlaces}
+use Rattle.trace_exhibits.specs.Places.{KeepsPlaces, KeepsSeen}
 use Rattle.trace_exhibits.specs.declared.shown.Clash.{Clash}
 use Rattle.trace_exhibits.specs.Opened.{Opened, AreMarked}
 use Rattle.trace_exhibits.specs.declared.shown.Place.{Place}
+use Rattle.trace_exhibits.specs.declared.places.Seen.{Seen}
 
 regroup : (front below behind rest strings : List (List ℕ)) (string : List ℕ) → strings ≡ below ++ string ∷ behind
     → (front ++ strings) ++ rest ≡ (front ++ below) ++ string ∷ (behind ++ rest)
@@ -41,14 +42,14 @@ module _ (dig : List ℕ → List ℕ) where
       (hashed_string dig coin leaf path level) (strings-behind dig coin leaf path level less))
       ∙ found (drop (level + 1) (hashed_strings dig coin leaf path) ++ rest)
 
-  pub found-same : {S E : Type 0} (shown : List Opened) (places : HashMap (List ℕ) Place S)
-      (before after : List (List ℕ)) (result : Result (Option Clash) E) → before ≡ after
-      → IfOk result (λ found. MatchOption found (KeepsPlaces dig shown places before)
+  pub found-same : {E : Type 0} (shown : List Opened) (seen : Seen) (before after : List (List ℕ))
+      (result : Result (Option Clash) E) → before ≡ after
+      → IfOk result (λ found. MatchOption found (KeepsSeen dig shown seen before)
       (λ clash. (rest : List (List ℕ)) → first_clash dig [] (before ++ rest) ≡ Some (pair_of clash)))
-      → IfOk result (λ found. MatchOption found (KeepsPlaces dig shown places after)
+      → IfOk result (λ found. MatchOption found (KeepsSeen dig shown seen after)
       (λ clash. (rest : List (List ℕ)) → first_clash dig [] (after ++ rest) ≡ Some (pair_of clash)))
-  found-same shown places before after result is told =
-      subst (λ (all : List (List ℕ)). IfOk result (λ found. MatchOption found (KeepsPlaces dig shown places all)
+  found-same shown seen before after result is told =
+      subst (λ (all : List (List ℕ)). IfOk result (λ found. MatchOption found (KeepsSeen dig shown seen all)
       (λ clash. (rest : List (List ℕ)) → first_clash dig [] (all ++ rest) ≡ Some (pair_of clash)))) is told
 
   pub one-before : (shown : List Opened) (number : ℕ) (one : Opened) (strings : List (List ℕ))

@@ -1,7 +1,7 @@
 -- The first clash of strings that come one after another.
 use Rattle.std.proofs.Common.{◌≡◌, ◌≢◌, ℕ, ◌<◌, not, Bool, true, false, if◌then◌else◌, List, [], ◌∷◌, ◌++◌, find, Option, Some, None, option_map, inl, inr, refl, sym, ap, ◌∙◌, subst, append_assoc}
 use Rattle.std.specs.List.{Contains}
-use Rattle.std.specs.Prelude.{Result, Ok, Err, IfOk, MatchOption}
+use Rattle.std.specs.Prelude.{Result, Ok, Err, IfOk, OnOk, MatchOption}
 use Rattle.std.specs.Option.{option_or}
 use Rattle.std.specs.HashMap.{HashMap, get, Updates}
 use Rattle.std.specs.Str.{bytes_eq}
@@ -10,11 +10,12 @@ use Rattle.std.proofs.lemmas.List.{append-nil}
 use Rattle.std.proofs.lemmas.Slice.Eq.{bytes_eq-Decides}
 use Rattle.watch_duty.proofs.Members.{Has, has-left, has-right, has-cases, has-contains, contains-has}
 use Rattle.world_rules.specs.Exhibits.{do_clash, clash_with, first_clash}
-use Rattle.trace_exhibits.specs.Ways.{string_at, pair_of}
-use Rattle.trace_exhibits.specs.Places.{KeepsPlaces}
+use Rattle.trace_exhibits.specs.Ways.{string_at, pair_of, IsLast}
+use Rattle.trace_exhibits.specs.Places.{KeepsPlaces, KeepsSeen}
 use Rattle.trace_exhibits.specs.declared.shown.Clash.{Clash}
 use Rattle.trace_exhibits.specs.Opened.{Opened}
 use Rattle.trace_exhibits.specs.declared.shown.Place.{Place}
+use Rattle.trace_exhibits.specs.declared.places.Seen.{Seen}
 
 -- what is found where one item alone passes, and where none does
 find-only : (p : List ℕ → Bool) (xs : List (List ℕ)) (x : List ℕ) → Has xs x → p x ≡ true
@@ -224,6 +225,27 @@ module _ (dig : List ℕ → List ℕ) where
             rw e (clashing-string shown places earlier string place keeps is
             (λ same. true≢false (sym ((bytes_eq-Decides (string_at dig shown place) string).1 same) ∙ apart)))
       ]
+
+  -- and of what is kept beside
+  pub met-seen : {E : Type 0} (shown : List Opened) (seen new : Seen) (earlier : List (List ℕ)) (string : List ℕ)
+      (place : Place) (result : Result (Option Clash) E)
+      → KeepsSeen dig shown seen earlier → get bytes_eq seen.places (dig string) ≡ Some place
+      → IfOk result (λ found. found ≡ (if bytes_eq (string_at dig shown place) string then None
+      else Some (record { first = string_at dig shown place; second = string })))
+      → new.places ≡ seen.places → OnOk result (IsLast dig shown new.last)
+      → IfOk result (λ found. MatchOption found (KeepsSeen dig shown new (earlier ++ string ∷ []))
+      (λ clash. (rest : List (List ℕ)) → first_clash dig [] (earlier ++ string ∷ rest) ≡ Some (pair_of clash)))
+  met-seen shown seen new earlier string place (Err why) keeps is told same last = tt
+  met-seen shown seen new earlier string place (Ok found) keeps is told same last =
+      by found (met-string {E = Unit {0}} shown seen.places earlier string place (Ok found) keeps.places is told)
+    where
+      by : (one : Option Clash)
+          → MatchOption one (KeepsPlaces dig shown seen.places (earlier ++ string ∷ []))
+          (λ clash. (rest : List (List ℕ)) → first_clash dig [] (earlier ++ string ∷ rest) ≡ Some (pair_of clash))
+          → MatchOption one (KeepsSeen dig shown new (earlier ++ string ∷ []))
+          (λ clash. (rest : List (List ℕ)) → first_clash dig [] (earlier ++ string ∷ rest) ≡ Some (pair_of clash))
+      by None kept = record { places = rw same kept; last = last }
+      by (Some clash) clashes = clashes
 
   -- strings that were met before
   pub known-strings : {S : Type 0} (shown : List Opened) (places : HashMap (List ℕ) Place S)

@@ -1,5 +1,5 @@
 -- The strings of shown openings, one opening and one level after another.
-use Rattle.std.proofs.Common.{◌≡◌, ℕ, zero, suc, ◌+◌, ◌<◌, ◌≤◌, List, [], ◌∷◌, ◌++◌, length, take, drop, slice_index_or, get_or, Some, None, refl, sym, ap, ◌∙◌, append_assoc, arith}
+use Rattle.std.proofs.Common.{Option, ◌≡◌, ℕ, zero, suc, ◌+◌, ◌<◌, ◌≤◌, List, [], ◌∷◌, ◌++◌, length, take, drop, slice_index_or, get_or, Some, None, refl, sym, ap, ◌∙◌, append_assoc, arith}
 use Rattle.std.specs.List.{slice_get}
 use Rattle.std.specs.Option.{option_map_or}
 use Rattle.std.proofs.lemmas.List.{append-nil, take-append-drop, take_all}
@@ -8,8 +8,9 @@ use Rattle.std.proofs.lemmas.List.Concat.{flat_map-append}
 use Rattle.std.proofs.lemmas.List.FromFn.{get_or-map-range_with_len, take-map-range_with_len, map-range_with_len_more}
 use Rattle.sparse_merkle.specs.Opening.{hashed_string, hashed_strings}
 use Rattle.watch_duty.proofs.Members.{Has, has-left, has-right}
-use Rattle.trace_exhibits.specs.Ways.{strings_in_shown, strings_in_all, strings_before, strings_at, string_at, strings_below}
+use Rattle.trace_exhibits.specs.Ways.{strings_in_shown, strings_in_all, strings_before, strings_at, string_at, strings_below, string_in, IsLastAt}
 use Rattle.trace_exhibits.specs.declared.shown.Place.{Place}
+use Rattle.trace_exhibits.specs.declared.way.Last.{Last}
 use Rattle.trace_exhibits.specs.Opened.{Opened}
 
 module _ (dig : List ℕ → List ℕ) (coin : ℕ) (leaf : List ℕ) (path : List (List ℕ)) where
@@ -126,21 +127,19 @@ empty-at zero = refl
 empty-at (suc level) = refl
 
 module _ (dig : List ℕ → List ℕ) (shown : List Opened) (place : Place) where
-  -- the string at a place where there is no opening, or one that isn't read, or one with this way up
-  pub string_at-past : length shown ≤ place.number → [] ≡ string_at dig shown place
-  string_at-past le =
-      sym (ap (λ (strings : List (List ℕ)). slice_index_or strings place.level [])
-      (strings_at-missing dig shown place.number (slice_get_past shown place.number le)) ∙ empty-at place.level)
-
-  pub string_at-unread : (one : Opened) → slice_get shown place.number ≡ Some one → strings_in_shown dig one ≡ []
-      → [] ≡ string_at dig shown place
-  string_at-unread one is none =
-      sym (ap (λ (strings : List (List ℕ)). slice_index_or strings place.level [])
-      (strings_at-one dig shown place.number one is ∙ none) ∙ empty-at place.level)
-
+  -- the string at a place of an opening with this way up
   pub string_at-way : (coin : ℕ) (leaf : List ℕ) (path : List (List ℕ))
       → strings_at dig shown place.number ≡ hashed_strings dig coin leaf path → place.level < 65
       → string_at dig shown place ≡ hashed_string dig coin leaf path place.level
   string_at-way coin leaf path is less =
       ap (λ (strings : List (List ℕ)). slice_index_or strings place.level []) is
       ∙ string-in-way dig coin leaf path place.level less
+
+  -- the string on the way that was found, if there is one
+  pub string_in-at : (found : Option Last) → IsLastAt dig shown place.number found → place.level < 65
+      → string_in dig found place.level ≡ string_at dig shown place
+  string_in-at None none less =
+      sym (ap (λ (strings : List (List ℕ)). slice_index_or strings place.level []) none ∙ empty-at place.level)
+  string_in-at (Some last) is less =
+      sym (string_at-way last.way.coin last.way.leaf last.way.path
+      (ap (strings_at dig shown) (sym is.0) ∙ is.1.strings) less)

@@ -1,7 +1,7 @@
-ghost use Rattle.std.specs.Prelude.{◌≡◌, ◌<◌, [], IfOk, MatchOption};
+ghost use Rattle.std.specs.Prelude.{◌≡◌, ◌<◌, [], IfOk, IfSome, OnOk, MatchOption};
 ghost use Rattle.sparse_merkle.specs.Opening.{hashed_string, hashed_strings};
 ghost use Rattle.sparse_merkle.specs.TreeDigest.{leaf_string, AreDefaults};
-ghost use Rattle.trace_exhibits.specs.Ways.{strings_in_shown, strings_at, string_at, AreDigestsUp};
+ghost use Rattle.trace_exhibits.specs.Ways.{strings_in_shown, strings_at, string_at, string_in, AreDigestsUp, IsLast, IsLastAt};
 
 use super::shown::{Place, ShownOpening};
 use plasma_base::{Bytes, Hash32, NoMemory};
@@ -95,23 +95,88 @@ fn leaf_bytes(alloc: Global, leaf: &[u8]) -> Result<Vec<u8>, NoMemory>
     Ok(string)
 }
 
-/// The string at a place; empty where there is none.
+/// The way up that was made last, of the opening with that number.
+#[derive(Drop)]
+pub(crate) struct Last {
+    pub(crate) number: usize,
+    pub(crate) way: Way,
+}
+
+/// The string at a place; empty where there is none. The way up that was made last isn't made again.
 pub(crate) fn string_at<H: Hash32>(
     alloc: Global,
     h: &H,
     defaults: &[[u8; 32]; 64],
     shown: &[ShownOpening<'_>],
     place: Place,
+    last: &mut Option<Last>,
 ) -> Result<Vec<u8>, NoMemory>
     requires defaults { AreDefaults (H.digest_of h.now) defaults.now }
     requires within { place.level < 65 }
-    ensures { IfOk result (λ string. string.items ≡ string_at (H.digest_of h.now) shown.now place) }
+    requires last { IsLast (H.digest_of h.now) shown.now last.old }
+    ensures string { IfOk result (λ string. string.items ≡ string_at (H.digest_of h.now) shown.now place) }
+    ensures last { OnOk result (IsLast (H.digest_of h.now) shown.now last.new) }
 {
-    let Some(one) = shown.get(place.number) else {
-        return Ok(Vec::new(alloc));
+    let made = last.take();
+    let found = way_at(alloc, h, defaults, shown, place.number, made)?;
+    let string = string_in(alloc, h, &found, place.level)?;
+    *last = found;
+    Ok(string)
+}
+
+// The way up from the opening with that number, which may be the last one; `None` where there is none.
+fn way_at<H: Hash32>(
+    alloc: Global,
+    h: &H,
+    defaults: &[[u8; 32]; 64],
+    shown: &[ShownOpening<'_>],
+    number: usize,
+    last: Option<Last>,
+) -> Result<Option<Last>, NoMemory>
+    requires defaults { AreDefaults (H.digest_of h.now) defaults.now }
+    requires last { IsLast (H.digest_of h.now) shown.now last }
+    ensures { IfOk result (IsLastAt (H.digest_of h.now) shown.now number) }
+{
+    match last {
+        Some(last) if last.number == number => Ok(Some(last)),
+        _ => made_at(alloc, h, defaults, shown, number),
+    }
+}
+
+// As `way_at`, where there is no last way.
+fn made_at<H: Hash32>(
+    alloc: Global,
+    h: &H,
+    defaults: &[[u8; 32]; 64],
+    shown: &[ShownOpening<'_>],
+    number: usize,
+) -> Result<Option<Last>, NoMemory>
+    requires { AreDefaults (H.digest_of h.now) defaults.now }
+    ensures { IfOk result (IsLastAt (H.digest_of h.now) shown.now number) }
+{
+    let Some(one) = shown.get(number) else {
+        return Ok(None);
     };
     match way_of(alloc, h, defaults, one)? {
+        None => Ok(None),
+        Some(way) => Ok(Some(Last { number, way })),
+    }
+}
+
+// The string at a level of a way up; empty where there is none.
+fn string_in<H: Hash32>(
+    alloc: Global,
+    h: &H,
+    found: &Option<Last>,
+    level: usize,
+) -> Result<Vec<u8>, NoMemory>
+    requires digests { IfSome found.now (λ last. AreDigestsUp (H.digest_of h.now) last.way.coin last.way.leaf
+        last.way.path last.way.digests) }
+    requires within { level < 65 }
+    ensures { IfOk result (λ string. string.items ≡ string_in (H.digest_of h.now) found.now level) }
+{
+    match found {
         None => Ok(Vec::new(alloc)),
-        Some(way) => string_of(alloc, h, &way, place.level),
+        Some(last) => string_of(alloc, h, &last.way, level),
     }
 }

@@ -8,9 +8,12 @@ use Rattle.trace_exhibits.proofs.places.add_opening.Goals as goal
 pub returns-then-not-is_new : goal.returns-then-not-is_new
 returns-then-not-is_new g c =
     let one = c.index-shown-number.result in
-    known-added (g.H.Hash32.digest_of c.args.h.now) c.args.shown.now c.args.places.now c.args.number one
+    record {
+      places = known-added (g.H.Hash32.digest_of c.args.h.now) c.args.shown.now c.args.seen.now.places c.args.number one
     c.requires.marked (here-is c.args.shown.now c.args.number one c.requires.within c.index-shown-number.is)
-    (sym c.is_new.ensures ∙ c.if-not-is_new.true) c.requires.kept
+    (sym c.is_new.ensures ∙ c.if-not-is_new.true) c.requires.kept.places;
+      last = c.requires.kept.last;
+    }
 
 pub add_way-requires-clause-strings : goal.add_way-requires-clause-strings
 add_way-requires-clause-strings g c =
@@ -22,9 +25,12 @@ add_way-requires-clause-strings g c =
 pub returns-in-None : goal.returns-in-None
 returns-in-None g c =
     let one = c.index-shown-number.result in
-    unread-added (g.H.Hash32.digest_of c.args.h.now) c.args.shown.now c.args.places.now c.args.number one
+    record {
+      places = unread-added (g.H.Hash32.digest_of c.args.h.now) c.args.shown.now c.args.seen.now.places c.args.number one
     (here-is c.args.shown.now c.args.number one c.requires.within c.index-shown-number.is)
-    (rw c.in-None.is at c.in_ok-way_of.ensures) c.requires.kept
+    (rw c.in-None.is at c.in_ok-way_of.ensures) c.requires.kept.places;
+      last = c.requires.kept.last;
+    }
 
 pub returns-in-Some : goal.returns-in-Some
 returns-in-Some g c =

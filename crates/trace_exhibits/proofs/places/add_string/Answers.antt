@@ -1,13 +1,13 @@
-use Rattle.std.proofs.Common.{◌++◌, ◌∙◌, sym}
+use Rattle.std.proofs.Common.{◌++◌, ◌∙◌, refl, sym}
 use Rattle.sparse_merkle.specs.Opening.{hashed_string}
 use Rattle.trace_exhibits.specs.Ways.{strings_before, strings_below}
 use Rattle.trace_exhibits.proofs.Strings.{string_at-way}
-use Rattle.trace_exhibits.proofs.Clashes.{new-string, met-string}
+use Rattle.trace_exhibits.proofs.Clashes.{new-string, met-seen}
 use Rattle.trace_exhibits.proofs.places.add_string.Goals as goal
 
 pub clash_at-requires-clause-first : goal.clash_at-requires-clause-first
 clash_at-requires-clause-first g c =
-    (c.requires.kept.only _ c.in-Some.first (sym (c.in-Some.ensures ∙ c.get.ensures.value))).2
+    (c.requires.kept.places.only _ c.in-Some.first (sym (c.in-Some.ensures ∙ c.get.ensures.value))).2
 
 pub returns-in_ok-insert-in-None : goal.returns-in_ok-insert-in-None
 returns-in_ok-insert-in-None g c =
@@ -18,10 +18,13 @@ returns-in_ok-insert-in-None g c =
     ++ strings_below dig way.coin way.leaf way.path place.level in
     let string = hashed_string dig way.coin way.leaf way.path place.level in
     let made = c.requires.digests place.level c.requires.within in
-    new-string dig c.args.shown.now c.args.places.now before c.insert.new.self string place c.requires.kept
+    record {
+      places = new-string dig c.args.shown.now c.args.seen.now.places before c.insert.new.self string place c.requires.kept.places
     (sym (rw made at (c.in-None.ensures ∙ c.get.ensures.value))) (rw made at c.in_ok-insert-in-None.ensures.updates)
     (string_at-way dig c.args.shown.now place way.coin way.leaf way.path c.requires.strings c.requires.within)
-    c.requires.within
+    c.requires.within;
+      last = c.requires.kept.last;
+    }
 
 pub returns-in-Some : goal.returns-in-Some
 returns-in-Some g c =
@@ -32,5 +35,5 @@ returns-in-Some g c =
     ++ strings_below dig way.coin way.leaf way.path place.level in
     let string = hashed_string dig way.coin way.leaf way.path place.level in
     let made = c.requires.digests place.level c.requires.within in
-    met-string dig c.args.shown.now _ before string c.in-Some.first c.clash_at.result c.requires.kept
-    (sym (rw made at (c.in-Some.ensures ∙ c.get.ensures.value))) c.clash_at.ensures
+    met-seen dig c.args.shown.now c.args.seen.now _ before string c.in-Some.first c.clash_at.result c.requires.kept
+    (sym (rw made at (c.in-Some.ensures ∙ c.get.ensures.value))) c.clash_at.ensures.found refl c.clash_at.ensures.last

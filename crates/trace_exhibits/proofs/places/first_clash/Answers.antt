@@ -7,7 +7,7 @@ pub loop-number-init : goal.loop-number-init
 loop-number-init g c =
     let dig = g.H.Hash32.digest_of c.args.h.now in
     rw (strings_before-zero dig c.args.shown.now)
-    (none-added dig c.args.shown.now c.new-places.result c.new-places.ensures.empty)
+    (record { places = none-added dig c.args.shown.now c.new.result c.new.ensures.empty; last = tt })
 
 pub add_opening-requires-clause-kept : goal.add_opening-requires-clause-kept
 add_opening-requires-clause-kept g c = c.loop-number.invariant
@@ -24,4 +24,4 @@ pub returns : goal.returns
 returns g c =
     let dig = g.H.Hash32.digest_of c.args.h.now in
     let le : length c.args.shown.now ≤ c.loop-number.number = omega arith in
-    sym (rw (strings_before-all dig c.args.shown.now c.loop-number.number le) at c.loop-number.invariant.none)
+    sym (rw (strings_before-all dig c.args.shown.now c.loop-number.number le) at c.loop-number.invariant.places.none)
