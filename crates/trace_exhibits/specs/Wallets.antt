@@ -1,6 +1,7 @@
 -- The wallets that were declared and the bodies that their leaves bound.
-use Rattle.std.specs.Prelude.{◌≡◌, ℕ, ◌==◌, ◌&&◌, not, Bool, false, List, [], ◌∷◌, find, Option, option_map}
+use Rattle.std.specs.Prelude.{◌≡◌, ℕ, ◌==◌, ◌&&◌, not, Bool, false, List, [], ◌∷◌, find, nat_eq, Option, option_map, Vec}
 use Rattle.std.specs.List.{list_any}
+use Rattle.std.specs.HashMap.{HashMap, get}
 use Rattle.std.specs.Option.{option_map_or}
 use Rattle.plasma_tx.specs.declared.owner.Owner.{Owner}
 use Rattle.plasma_tx.specs.declared.body.Body.{Body}
@@ -23,7 +24,11 @@ declared_in (event ∷ events) = declared_in events
 abbrev pub owner_in : List Declared → ℕ → Option Owner
 owner_in declared w = option_map (λ one. one.owner) (find (λ one. one.wallet == w) declared)
 
--- a leaf of the wallet bound the body
+-- the bodies of a coin that were bound
+abbrev pub bodies_of : {A S : Type 0} → HashMap ℕ (Vec Bound A) S → ℕ → List Bound
+bodies_of bodies coin = option_map_or (λ these. these.items) (get nat_eq bodies coin) []
+
+-- a leaf of the wallet bound the body, which is one of these
 abbrev pub is_bound_in : List Bound → ℕ → Body → Bool
 is_bound_in bodies w body = list_any (λ one. (one.wallet == w) && is_same_body body one.body) bodies
 
@@ -36,7 +41,7 @@ signs_unbound declared bodies tx w =
 pub record KeepsWallets (events : List Event) (known : Known) : Type 0 where
   pub declared : known.declared.items ≡ declared_in events
   pub bound : (w : ℕ) (body : Body)
-      → is_bound_in known.bodies.items w body ≡ list_any (is_same_body body) (bound_by events w)
+      → is_bound_in (bodies_of known.bodies body.coin) w body ≡ list_any (is_same_body body) (bound_by events w)
 
 -- behind events the opening shows a forgery of some wallet's signature
 abbrev pub is_forged_in : List ℕ → List Event → Opened → Bool

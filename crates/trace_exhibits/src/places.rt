@@ -140,7 +140,16 @@ fn add_string<H: Hash32>(
             seen.places.insert(digest, place)?;
             Ok(None)
         }
-        Some(first) => clash_at(alloc, h, defaults, shown, first, way, place.level, &mut seen.last),
+        Some(first) => clash_at(
+            alloc,
+            h,
+            defaults,
+            shown,
+            first,
+            way,
+            place.level,
+            &mut seen.last,
+        ),
     }
 }
 

@@ -10,8 +10,8 @@ returns-then-not-is_new g c =
     let one = c.index-shown-number.result in
     record {
       places = known-added (g.H.Hash32.digest_of c.args.h.now) c.args.shown.now c.args.seen.now.places c.args.number one
-    c.requires.marked (here-is c.args.shown.now c.args.number one c.requires.within c.index-shown-number.is)
-    (sym c.is_new.ensures ∙ c.if-not-is_new.true) c.requires.kept.places;
+          c.requires.marked (here-is c.args.shown.now c.args.number one c.requires.within c.index-shown-number.is)
+          (sym c.is_new.ensures ∙ c.if-not-is_new.true) c.requires.kept.places;
       last = c.requires.kept.last;
     }
 
@@ -27,8 +27,8 @@ returns-in-None g c =
     let one = c.index-shown-number.result in
     record {
       places = unread-added (g.H.Hash32.digest_of c.args.h.now) c.args.shown.now c.args.seen.now.places c.args.number one
-    (here-is c.args.shown.now c.args.number one c.requires.within c.index-shown-number.is)
-    (rw c.in-None.is at c.in_ok-way_of.ensures) c.requires.kept.places;
+          (here-is c.args.shown.now c.args.number one c.requires.within c.index-shown-number.is)
+          (rw c.in-None.is at c.in_ok-way_of.ensures) c.requires.kept.places;
       last = c.requires.kept.last;
     }
 

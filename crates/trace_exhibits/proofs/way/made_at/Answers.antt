@@ -21,8 +21,10 @@ returns-in-Some-2 g c =
     let dig = g.H.Hash32.digest_of c.args.h.now in
     let found = c.in-Some.ensures.lookup.3 in
     let is = one-at c.args.shown.now c.args.number c.in-Some.one.now found.0 found.1 in
-    let made = rw c.in-Some-2.is at c.in_ok-way_of.ensures in
-    (refl, record {
-      strings = strings_at-one dig c.args.shown.now c.args.number c.in-Some.one.now is ∙ made.0;
-      digests = made.1;
-    })
+    let made = rw c.in-Some-2.is at c.in_ok-way_of.ensures in (
+      refl,
+      record {
+        strings = strings_at-one dig c.args.shown.now c.args.number c.in-Some.one.now is ∙ made.0;
+        digests = made.1;
+      },
+    )
