@@ -8,6 +8,8 @@ mod forging;
 mod lines;
 mod places;
 mod shown;
+#[cfg(test)]
+mod tests;
 mod wallets;
 mod way;
 
