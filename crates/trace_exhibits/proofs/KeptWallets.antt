@@ -54,7 +54,7 @@ module _ (known : Known) where
     bound = λ w body. rw bodies refl;
   }
 
-and-false : (a b : Bool) → b ≡ false → (a && b) ≡ false
+pub and-false : (a b : Bool) → b ≡ false → (a && b) ≡ false
 and-false true b is = is
 and-false false b is = refl
 

@@ -4,3 +4,4 @@ pub mod Added
 pub mod KeptWallets
 pub mod Reading
 pub mod Lined
+pub mod TestedLaws

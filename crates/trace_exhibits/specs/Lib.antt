@@ -3,3 +3,4 @@ pub mod Ways
 pub mod Places
 pub mod Lines
 pub mod Wallets
+pub mod Tested

@@ -8,6 +8,7 @@ mod forging;
 mod lines;
 mod places;
 mod shown;
+mod tested;
 #[cfg(test)]
 mod tests;
 mod wallets;

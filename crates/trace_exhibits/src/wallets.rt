@@ -53,13 +53,11 @@ impl Known {
     {
         match line {
             ExhibitLine::Declares { wallet, owner } => {
-                self.declared.insert(
-                    0,
-                    Declared {
-                        wallet: *wallet,
-                        owner: **owner,
-                    },
-                )?;
+                let declared = Declared {
+                    wallet: *wallet,
+                    owner: **owner,
+                };
+                self.declared.insert(0, declared)?;
             }
             ExhibitLine::Binds { wallet, body } => {
                 let bound = Bound {
