@@ -1,0 +1,260 @@
+-- The first clash of strings that come one after another.
+use Rattle.std.proofs.Common.{◌≡◌, ◌≢◌, ℕ, ◌<◌, not, Bool, true, false, if◌then◌else◌, List, [], ◌∷◌, ◌++◌, find, Option, Some, None, option_map, inl, inr, refl, sym, ap, ◌∙◌, subst, append_assoc}
+use Rattle.std.specs.List.{Contains}
+use Rattle.std.specs.Prelude.{Result, Ok, Err, IfOk, OnOk, MatchOption}
+use Rattle.std.specs.Option.{option_or}
+use Rattle.std.specs.HashMap.{HashMap, get, Updates}
+use Rattle.std.specs.Str.{bytes_eq}
+use Rattle.std.proofs.lemmas.Bool.{cases_Bool, true≢false, and_parts}
+use Rattle.std.proofs.lemmas.List.{append-nil}
+use Rattle.std.proofs.lemmas.Slice.Eq.{bytes_eq-Decides}
+use Rattle.watch_duty.proofs.Members.{Has, has-left, has-right, has-cases, has-contains, contains-has}
+use Rattle.world_rules.specs.Exhibits.{do_clash, clash_with, first_clash}
+use Rattle.trace_exhibits.specs.Ways.{string_at, pair_of, IsLast}
+use Rattle.trace_exhibits.specs.Places.{KeepsPlaces, KeepsSeen}
+use Rattle.trace_exhibits.specs.declared.shown.Clash.{Clash}
+use Rattle.trace_exhibits.specs.Opened.{Opened}
+use Rattle.trace_exhibits.specs.declared.shown.Place.{Place}
+use Rattle.trace_exhibits.specs.declared.places.Seen.{Seen}
+
+-- what is found where one item alone passes, and where none does
+find-only : (p : List ℕ → Bool) (xs : List (List ℕ)) (x : List ℕ) → Has xs x → p x ≡ true
+    → ((y : List ℕ) → Has xs y → p y ≡ true → y ≡ x) → find p xs ≡ Some x
+find-only p [] x h is only = absurd h
+find-only p (y ∷ ys) x h is only = elim (cases_Bool (p y)) [
+  | inl passes ↦ rw passes (ap Some (only y (inl refl) passes))
+  | inr isnt ↦ elim h [
+    | inl same ↦ absurd (true≢false (sym is ∙ ap p (sym same) ∙ isnt))
+    | inr later ↦ rw isnt (find-only p ys x later is (λ z there passes. only z (inr there) passes))
+  ]
+]
+
+find-nothing : (p : List ℕ → Bool) (xs : List (List ℕ)) → ((y : List ℕ) → Has xs y → p y ≡ false) → find p xs ≡ None
+find-nothing p [] fails = refl
+find-nothing p (y ∷ ys) fails = rw (fails y (inl refl)) (find-nothing p ys (λ z there. fails z (inr there)))
+
+option_or-assoc : {X : Type 0} (a b c : Option X) → option_or a (option_or b c) ≡ option_or (option_or a b) c
+option_or-assoc None b c = refl
+option_or-assoc (Some x) b c = refl
+
+bytes-same : (x y : List ℕ) → bytes_eq x y ≡ true → x ≡ y
+bytes-same x y is = (bytes_eq-Decides x y).0 is
+
+module _ (dig : List ℕ → List ℕ) where
+  -- the clash of strings that come in two parts
+  pub first_clash-append : (earlier xs ys : List (List ℕ)) → first_clash dig earlier (xs ++ ys)
+      ≡ option_or (first_clash dig earlier xs) (first_clash dig (earlier ++ xs) ys)
+  unfolding first_clash
+  first_clash-append earlier [] ys = ap (λ all. first_clash dig all ys) (sym (append-nil earlier))
+  first_clash-append earlier (x ∷ xs) ys =
+      ap (option_or (clash_with dig earlier x)) (first_clash-append (earlier ++ x ∷ []) xs ys
+      ∙ ap (λ all. option_or (first_clash dig (earlier ++ x ∷ []) xs) (first_clash dig all ys))
+      (append_assoc earlier (x ∷ []) xs))
+      ∙ option_or-assoc (clash_with dig earlier x) (first_clash dig (earlier ++ x ∷ []) xs)
+      (first_clash dig (earlier ++ x ∷ xs) ys)
+
+  -- one more string
+  one-more : (earlier : List (List ℕ)) (string : List ℕ) (rest : List (List ℕ))
+      → first_clash dig [] earlier ≡ None
+      → first_clash dig [] (earlier ++ string ∷ rest)
+      ≡ option_or (clash_with dig earlier string) (first_clash dig (earlier ++ string ∷ []) rest)
+  unfolding first_clash
+  one-more earlier string rest none =
+      first_clash-append [] earlier (string ∷ rest)
+      ∙ ap (λ found. option_or found (first_clash dig earlier (string ∷ rest))) none
+
+  clash-none : (earlier : List (List ℕ)) (string : List ℕ)
+      → ((other : List ℕ) → Has earlier other → dig other ≡ dig string → other ≡ string)
+      → clash_with dig earlier string ≡ None
+  clash-none earlier string same =
+      ap (option_map (λ (first : List ℕ). record { first = first; second = string }))
+      (find-nothing (λ other. do_clash dig other string) earlier (λ other there. elim (cases_Bool (do_clash dig other
+      string)) [
+        | inr off ↦ off
+        | inl on ↦
+            let parts = and_parts (not (bytes_eq other string)) (bytes_eq (dig other) (dig string)) on in
+            let is = same other there (bytes-same (dig other) (dig string) parts.1) in
+            absurd (true≢false (sym parts.0 ∙ ap not ((bytes_eq-Decides other string).1 is)))
+      ]))
+
+  clash-some : (earlier : List (List ℕ)) (first string : List ℕ) → Has earlier first → dig first ≡ dig string
+      → first ≢ string → ((other : List ℕ) → Has earlier other → dig other ≡ dig string → other ≡ first)
+      → clash_with dig earlier string ≡ Some (record { first = first; second = string })
+  clash-some earlier first string there same differ only =
+      ap (option_map (λ (one : List ℕ). record { first = one; second = string }))
+      (find-only (λ other. do_clash dig other string) earlier first there passes
+      (λ other is_there on. only other is_there (bytes-same (dig other) (dig string)
+      (and_parts (not (bytes_eq other string)) (bytes_eq (dig other) (dig string)) on).1)))
+    where
+      passes : do_clash dig first string ≡ true
+      passes = elim (cases_Bool (bytes_eq first string)) [
+        | inl is ↦ absurd (differ (bytes-same first string is))
+        | inr apart ↦ rw apart ((bytes_eq-Decides (dig first) (dig string)).1 same)
+      ]
+
+  module _ {S : Type 0} (shown : List Opened) (places : HashMap (List ℕ) Place S) (earlier : List (List ℕ)) where
+    -- strings of these with one digest are one string
+    one-string : KeepsPlaces dig shown places earlier → (one other : List ℕ) → Has earlier one → Has earlier other
+        → dig one ≡ dig other → one ≡ other
+    one-string keeps one other is_one is_other same =
+        let first = keeps.known one (has-contains earlier one is_one) in
+        let second = keeps.known other (has-contains earlier other is_other) in
+        let place : Some first.0 ≡ Some second.0 =
+        sym first.1 ∙ ap (get bytes_eq places) same ∙ second.1 in
+        let e : first.0 ≡ second.0 = cc place in
+        sym first.2 ∙ ap (string_at dig shown) e ∙ second.2
+
+    more-none : (string : List ℕ) → KeepsPlaces dig shown places earlier → clash_with dig earlier string ≡ None
+        → first_clash dig [] (earlier ++ string ∷ []) ≡ None
+    unfolding first_clash
+    more-none string keeps apart =
+        one-more earlier string [] keeps.none
+        ∙ ap (λ found. option_or found (first_clash dig (earlier ++ string ∷ []) [])) apart
+
+    -- a string that was met before
+    pub known-string : (string : List ℕ) → KeepsPlaces dig shown places earlier → Has earlier string
+        → KeepsPlaces dig shown places (earlier ++ string ∷ [])
+    known-string string keeps there = record {
+      none = more-none string keeps (clash-none earlier string
+          (λ other is_there same. one-string keeps other string is_there there same));
+      known = λ one is_in. elim (has-cases earlier (string ∷ []) one (contains-has (earlier ++ string ∷ []) one is_in)) [
+        | inl before ↦ keeps.known one (has-contains earlier one before)
+        | inr behind ↦ elim behind [
+          | inl same ↦ keeps.known one (has-contains earlier one (subst (Has earlier) same there))
+          | inr wrong ↦ absurd wrong
+        ]
+      ];
+      only = λ digest place is.
+          let was = keeps.only digest place is in (
+            has-contains (earlier ++ string ∷ []) (string_at dig shown place)
+                (has-left earlier (string ∷ []) (string_at dig shown place)
+                (contains-has earlier (string_at dig shown place) was.0)),
+            was.1,
+            was.2,
+          );
+    }
+
+    -- a string whose digest wasn't met before, and whose place was added
+    pub new-string : (new : HashMap (List ℕ) Place S) (string : List ℕ) (place : Place)
+        → KeepsPlaces dig shown places earlier → get bytes_eq places (dig string) ≡ None
+        → Updates bytes_eq places new (dig string) (Some place) → string_at dig shown place ≡ string → place.level < 65
+        → KeepsPlaces dig shown new (earlier ++ string ∷ [])
+    new-string new string place keeps absent adds at within = record {
+      none = more-none string keeps (clash-none earlier string (λ other is_there same.
+          let was = keeps.known other (has-contains earlier other is_there) in
+          let wrong : None ≡ Some was.0 = sym absent ∙ ap (get bytes_eq places) (sym same) ∙ was.1 in
+          cc wrong));
+      known = λ one is_in. elim (has-cases earlier (string ∷ []) one (contains-has (earlier ++ string ∷ []) one is_in)) [
+        | inl before ↦ known-before one before
+        | inr behind ↦ elim behind [
+          | inl same ↦ (place, ap (λ s. get bytes_eq new (dig s)) (sym same) ∙ adds.1, at ∙ same)
+          | inr wrong ↦ absurd wrong
+        ]
+      ];
+      only = λ digest one is. elim (cases_Bool (bytes_eq (dig string) digest)) [
+        | inl same ↦ only-here digest one is same
+        | inr apart ↦
+            let was = keeps.only digest one (sym (adds.2 digest apart) ∙ is) in (
+              has-contains (earlier ++ string ∷ []) (string_at dig shown one)
+                  (has-left earlier (string ∷ []) (string_at dig shown one)
+                  (contains-has earlier (string_at dig shown one) was.0)),
+              was.1,
+              was.2,
+            )
+      ];
+    }
+      where
+        known-before : (one : List ℕ) → Has earlier one → (p : Place) × (get bytes_eq new (dig one) ≡ Some p)
+            × (string_at dig shown p ≡ one)
+        known-before one before =
+            let was = keeps.known one (has-contains earlier one before) in
+            elim (cases_Bool (bytes_eq (dig string) (dig one))) [
+              | inl same ↦
+                  let wrong : None ≡ Some was.0 =
+                  sym absent ∙ ap (get bytes_eq places) (bytes-same (dig string) (dig one) same) ∙ was.1 in
+                  absurd (cc wrong)
+              | inr apart ↦ (was.0, adds.2 (dig one) apart ∙ was.1, was.2)
+            ]
+
+        only-here : (digest : List ℕ) (one : Place) → get bytes_eq new digest ≡ Some one
+            → bytes_eq (dig string) digest ≡ true
+            → Contains (earlier ++ string ∷ []) (string_at dig shown one) × (dig (string_at dig shown one) ≡ digest)
+            × (one.level < 65)
+        only-here digest one is same =
+            let e : dig string ≡ digest = bytes-same (dig string) digest same in
+            let both : Some place ≡ Some one = sym adds.1 ∙ ap (get bytes_eq new) e ∙ is in
+            let here : place ≡ one = cc both in
+            let made : string ≡ string_at dig shown one = sym at ∙ ap (string_at dig shown) here in (
+              has-contains (earlier ++ string ∷ []) (string_at dig shown one)
+                  (has-right earlier (string ∷ []) (string_at dig shown one) (inl made)),
+              ap dig (sym made) ∙ e,
+              subst (λ (p : Place). p.level < 65) here within,
+            )
+
+    -- a string whose digest is that of another one
+    pub clashing-string : (string : List ℕ) (place : Place) → KeepsPlaces dig shown places earlier
+        → get bytes_eq places (dig string) ≡ Some place → string_at dig shown place ≢ string
+        → (rest : List (List ℕ)) → first_clash dig [] (earlier ++ string ∷ rest)
+        ≡ Some (record { first = string_at dig shown place; second = string })
+    clashing-string string place keeps is differ rest =
+        let was = keeps.only (dig string) place is in
+        let there = contains-has earlier (string_at dig shown place) was.0 in
+        one-more earlier string rest keeps.none
+        ∙ ap (λ found. option_or found (first_clash dig (earlier ++ string ∷ []) rest))
+        (clash-some earlier (string_at dig shown place) string there was.1 differ
+        (λ other is_there same. one-string keeps other (string_at dig shown place) is_there there (same ∙ sym was.1)))
+
+  -- what becomes of a string whose digest was met before
+  pub met-string : {S E : Type 0} (shown : List Opened) (places : HashMap (List ℕ) Place S) (earlier : List (List ℕ))
+      (string : List ℕ) (place : Place) (result : Result (Option Clash) E)
+      → KeepsPlaces dig shown places earlier → get bytes_eq places (dig string) ≡ Some place
+      → IfOk result (λ found. found ≡ (if bytes_eq (string_at dig shown place) string then None
+      else Some (record { first = string_at dig shown place; second = string })))
+      → IfOk result (λ found. MatchOption found (KeepsPlaces dig shown places (earlier ++ string ∷ []))
+      (λ clash. (rest : List (List ℕ)) → first_clash dig [] (earlier ++ string ∷ rest) ≡ Some (pair_of clash)))
+  met-string shown places earlier string place (Err why) keeps is told = tt
+  met-string shown places earlier string place (Ok found) keeps is told =
+      elim (cases_Bool (bytes_eq (string_at dig shown place) string)) [
+        | inl same ↦
+            let e : found ≡ None = rw same at told in
+            rw e (known-string shown places earlier string keeps (subst (Has earlier)
+            (bytes-same (string_at dig shown place) string same)
+            (contains-has earlier (string_at dig shown place) (keeps.only (dig string) place is).0)))
+        | inr apart ↦
+            let e : found ≡ Some (record { first = string_at dig shown place; second = string }) = rw apart at told in
+            rw e (clashing-string shown places earlier string place keeps is
+            (λ same. true≢false (sym ((bytes_eq-Decides (string_at dig shown place) string).1 same) ∙ apart)))
+      ]
+
+  -- and of what is kept beside
+  pub met-seen : {E : Type 0} (shown : List Opened) (seen new : Seen) (earlier : List (List ℕ)) (string : List ℕ)
+      (place : Place) (result : Result (Option Clash) E)
+      → KeepsSeen dig shown seen earlier → get bytes_eq seen.places (dig string) ≡ Some place
+      → IfOk result (λ found. found ≡ (if bytes_eq (string_at dig shown place) string then None
+      else Some (record { first = string_at dig shown place; second = string })))
+      → new.places ≡ seen.places → OnOk result (IsLast dig shown new.last)
+      → IfOk result (λ found. MatchOption found (KeepsSeen dig shown new (earlier ++ string ∷ []))
+      (λ clash. (rest : List (List ℕ)) → first_clash dig [] (earlier ++ string ∷ rest) ≡ Some (pair_of clash)))
+  met-seen shown seen new earlier string place (Err why) keeps is told same last = tt
+  met-seen shown seen new earlier string place (Ok found) keeps is told same last =
+      by found (met-string {E = Unit {0}} shown seen.places earlier string place (Ok found) keeps.places is told)
+    where
+      by : (one : Option Clash)
+          → MatchOption one (KeepsPlaces dig shown seen.places (earlier ++ string ∷ []))
+          (λ clash. (rest : List (List ℕ)) → first_clash dig [] (earlier ++ string ∷ rest) ≡ Some (pair_of clash))
+          → MatchOption one (KeepsSeen dig shown new (earlier ++ string ∷ []))
+          (λ clash. (rest : List (List ℕ)) → first_clash dig [] (earlier ++ string ∷ rest) ≡ Some (pair_of clash))
+      by None kept = record { places = rw same kept; last = last }
+      by (Some clash) clashes = clashes
+
+  -- strings that were met before
+  pub known-strings : {S : Type 0} (shown : List Opened) (places : HashMap (List ℕ) Place S)
+      (earlier strings : List (List ℕ)) → KeepsPlaces dig shown places earlier
+      → ((string : List ℕ) → Has strings string → Has earlier string)
+      → KeepsPlaces dig shown places (earlier ++ strings)
+  known-strings shown places earlier [] keeps there = rw (append-nil earlier) keeps
+  known-strings shown places earlier (string ∷ strings) keeps there =
+      subst (KeepsPlaces dig shown places) (append_assoc earlier (string ∷ []) strings)
+      (known-strings shown places (earlier ++ string ∷ []) strings
+      (known-string shown places earlier string keeps (there string (inl refl)))
+      (λ one is. has-left earlier (string ∷ []) one (there one (inr is))))

@@ -1,0 +1,7 @@
+pub mod Clashes
+pub mod Strings
+pub mod Added
+pub mod KeptWallets
+pub mod Reading
+pub mod Lined
+pub mod TestedLaws

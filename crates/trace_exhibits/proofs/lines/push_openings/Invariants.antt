@@ -1,0 +1,7 @@
+use Rattle.std.proofs.Common.{◌≡◌, ◌++◌, map, take}
+use Rattle.trace_exhibits.specs.Lines.{opened}
+use Rattle.trace_exhibits.proofs.lines.push_openings.Given as goal
+
+abbrev pub invariant-loop-opening : goal.invariant-loop-opening
+invariant-loop-opening l =
+    l.shown.items ≡ l.fn.shown.items ++ map (opened l.coin l.is_new) (take l.opening-index l.openings)

@@ -1,0 +1,6 @@
+pub mod Opened
+pub mod Ways
+pub mod Places
+pub mod Lines
+pub mod Wallets
+pub mod Tested

@@ -1,0 +1,58 @@
+-- What the lines of a trace are to its exhibit.
+use Rattle.std.specs.Prelude.{◌≡◌, ℕ, Bool, true, List, [], map, reverse}
+use Rattle.std.specs.List.{flat_map}
+use Rattle.plasma_tx.specs.declared.call.RootCall.{RootCall}
+use Rattle.plasma_tx.specs.declared.opening.RawOpening.{RawOpening}
+use Rattle.watch_duty.specs.Laws.{openings_of_call}
+use Rattle.world_rules.specs.Events.{Event, Declares, Binds, Joins, Accepts, Guards, TakesBack, Idle, coin_of_call}
+use Rattle.trace_exhibits.specs.Opened.{Opened}
+use Rattle.trace_exhibits.specs.declared.lines.ExhibitLine.{ExhibitLine}
+
+-- some node accepts openings of a coin
+abbrev pub accepts : ℕ → List RawOpening → Event
+accepts coin openings = Accepts 0 (record { coin = coin; tip = 0; openings = openings })
+
+-- what an exhibit reads of a call: the openings that it shows of its coin
+abbrev pub joins : RootCall → Event
+joins call = accepts (coin_of_call call) (openings_of_call (coin_of_call call) call)
+
+-- what an exhibit reads of an event: which wallet is declared, which body is bound, which openings of which coin are
+-- accepted
+abbrev pub read_of : Event → Event
+read_of (Declares w me) = Declares w me
+read_of (Binds w body) = Binds w body
+read_of (Joins call) = joins call
+read_of (Accepts w bundle) = accepts bundle.coin bundle.openings
+read_of (Guards g bundle) = accepts bundle.coin bundle.openings
+read_of (TakesBack w q bundle) = accepts bundle.coin bundle.openings
+read_of event = Idle
+
+-- the same of a line
+abbrev pub event_of : ExhibitLine → Event
+event_of (ExhibitLine.Declares w me) = Declares w me.now
+event_of (ExhibitLine.Binds w body) = Binds w body.now
+event_of (ExhibitLine.Joins call) = joins call.now
+event_of (ExhibitLine.Shows coin openings is_new) = accepts coin openings.now
+event_of ExhibitLine.Other = Idle
+
+-- the events that lines tell, the newest first
+unfoldable pub events_of : List ExhibitLine → List Event
+events_of lines = reverse (map event_of lines)
+
+-- the lines, the oldest first, tell what an exhibit reads of the events
+abbrev pub AreLines : List ExhibitLine → List Event → Type 0
+AreLines lines events = map read_of events ≡ events_of lines
+
+-- an opening of a coin with its mark
+abbrev pub opened : ℕ → Bool → RawOpening → Opened
+opened coin is_new opening = record { coin = coin; opening = opening; is_new = is_new }
+
+-- the openings that a line shows, and those of all lines
+abbrev pub shown_of : ExhibitLine → List Opened
+shown_of (ExhibitLine.Joins call) =
+    map (opened (coin_of_call call.now) true) (openings_of_call (coin_of_call call.now) call.now)
+shown_of (ExhibitLine.Shows coin openings is_new) = map (opened coin is_new) openings.now
+shown_of line = []
+
+unfoldable pub shown_in : List ExhibitLine → List Opened
+shown_in lines = flat_map shown_of lines

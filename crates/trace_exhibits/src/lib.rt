@@ -1,0 +1,22 @@
+//! What a trace shows that excuses a loss: two byte strings with one digest, or a valid signature that its honest
+//! key never made.
+#![tactic(auto)]
+
+mod exhibit;
+mod forgeries;
+mod forging;
+mod lines;
+mod places;
+mod shown;
+mod tested;
+#[cfg(test)]
+mod tests;
+mod wallets;
+mod way;
+
+pub use exhibit::exhibit_of;
+pub use forgeries::first_forgery;
+pub use forging::forges;
+pub use lines::ExhibitLine;
+pub use places::first_clash;
+pub use shown::{Clash, ShownOpening};

@@ -1,0 +1,182 @@
+ghost use Rattle.std.specs.Prelude.{◌≡◌, ◌<◌, [], IfOk, IfSome, OnOk, MatchOption};
+ghost use Rattle.sparse_merkle.specs.Opening.{hashed_string, hashed_strings};
+ghost use Rattle.sparse_merkle.specs.TreeDigest.{leaf_string, AreDefaults};
+ghost use Rattle.trace_exhibits.specs.Ways.{strings_in_shown, strings_at, string_at, string_in, AreDigestsUp, IsLast, IsLastAt};
+
+use super::shown::{Place, ShownOpening};
+use plasma_base::{Bytes, Hash32, NoMemory};
+use plasma_tx::OpeningRefusal;
+use sparse_merkle::{bit, leaf_digest, parent_bytes};
+use std::alloc::Global;
+
+/// The way up from an opening's leaf: the leaf, the 64 siblings, and the digests of the 65 strings.
+#[derive(Drop)]
+pub(crate) struct Way {
+    pub(crate) coin: u64,
+    pub(crate) leaf: Bytes,
+    pub(crate) path: [[u8; 32]; 64],
+    pub(crate) digests: [[u8; 32]; 65],
+}
+
+/// The way up from the leaf of a shown opening; `None` where its bytes aren't read.
+pub(crate) fn way_of<H: Hash32>(
+    alloc: Global,
+    h: &H,
+    defaults: &[[u8; 32]; 64],
+    one: &ShownOpening<'_>,
+) -> Result<Option<Way>, NoMemory>
+    requires { AreDefaults (H.digest_of h.now) defaults.now }
+    ensures { IfOk result (λ found. MatchOption found (strings_in_shown (H.digest_of h.now) one.now ≡ [])
+        (λ way. (strings_in_shown (H.digest_of h.now) one.now
+        ≡ hashed_strings (H.digest_of h.now) way.coin way.leaf way.path)
+        × AreDigestsUp (H.digest_of h.now) way.coin way.leaf way.path way.digests)) }
+{
+    match one.opening().open_up_with_defaults(alloc, h, defaults) {
+        Ok(opening) => {
+            let path = opening.proof.path(h);
+            let digests = digests_up(h, one.coin(), opening.leaf.as_slice(), &path);
+            Ok(Some(Way {
+                coin: one.coin(),
+                leaf: opening.leaf,
+                path,
+                digests,
+            }))
+        }
+        Err(OpeningRefusal::NoMemory) => Err(NoMemory),
+        Err(OpeningRefusal::Unreadable) => Ok(None),
+    }
+}
+
+// The digests of the 65 strings on the way up from a leaf.
+fn digests_up<H: Hash32>(h: &H, coin: u64, leaf: &[u8], path: &[[u8; 32]; 64]) -> [[u8; 32]; 65]
+    ensures { AreDigestsUp (H.digest_of h.now) coin leaf.now path.now result }
+{
+    let mut digests = [[0; 32]; 65];
+    digests[0] = leaf_digest(h, leaf);
+    for level in 0..64 {
+        digests[level + 1] = h.digest(&parent_bytes(
+            bit(coin, level),
+            &digests[level],
+            &path[level],
+        ));
+    }
+    digests
+}
+
+/// The string at a level of a way up, whose digests are those of `h`.
+pub(crate) fn string_of<H: Hash32>(
+    alloc: Global,
+    h: &H,
+    way: &Way,
+    level: usize,
+) -> Result<Vec<u8>, NoMemory>
+    requires digests { AreDigestsUp (H.digest_of h.now) way.now.coin way.now.leaf way.now.path way.now.digests }
+    requires within { level < 65 }
+    ensures { IfOk result (λ string. string.items
+        ≡ hashed_string (H.digest_of h.now) way.now.coin way.now.leaf way.now.path level) }
+{
+    if level == 0 {
+        return leaf_bytes(alloc, way.leaf.as_slice());
+    }
+    let below = level - 1;
+    let string = parent_bytes(bit(way.coin, below), &way.digests[below], &way.path[below]);
+    Ok(Vec::from_slice(alloc, &string)?)
+}
+
+// The string that is digested for a leaf.
+fn leaf_bytes(alloc: Global, leaf: &[u8]) -> Result<Vec<u8>, NoMemory>
+    ensures { IfOk result (λ string. string.items ≡ leaf_string leaf.now) }
+{
+    if leaf.is_empty() {
+        return Ok(Vec::from_slice(alloc, &[0])?);
+    }
+    let mut string = Vec::from_slice(alloc, &[1])?;
+    string.extend_from_slice(leaf)?;
+    Ok(string)
+}
+
+/// The way up that was made last, of the opening with that number.
+#[derive(Drop)]
+pub(crate) struct Last {
+    pub(crate) number: usize,
+    pub(crate) way: Way,
+}
+
+/// The string at a place; empty where there is none. The way up that was made last isn't made again.
+pub(crate) fn string_at<H: Hash32>(
+    alloc: Global,
+    h: &H,
+    defaults: &[[u8; 32]; 64],
+    shown: &[ShownOpening<'_>],
+    place: Place,
+    last: &mut Option<Last>,
+) -> Result<Vec<u8>, NoMemory>
+    requires defaults { AreDefaults (H.digest_of h.now) defaults.now }
+    requires within { place.level < 65 }
+    requires last { IsLast (H.digest_of h.now) shown.now last.old }
+    ensures string { IfOk result (λ string. string.items ≡ string_at (H.digest_of h.now) shown.now place) }
+    ensures last { OnOk result (IsLast (H.digest_of h.now) shown.now last.new) }
+{
+    let made = last.take();
+    let found = way_at(alloc, h, defaults, shown, place.number, made)?;
+    let string = string_in(alloc, h, &found, place.level)?;
+    *last = found;
+    Ok(string)
+}
+
+// The way up from the opening with that number, which may be the last one; `None` where there is none.
+fn way_at<H: Hash32>(
+    alloc: Global,
+    h: &H,
+    defaults: &[[u8; 32]; 64],
+    shown: &[ShownOpening<'_>],
+    number: usize,
+    last: Option<Last>,
+) -> Result<Option<Last>, NoMemory>
+    requires defaults { AreDefaults (H.digest_of h.now) defaults.now }
+    requires last { IsLast (H.digest_of h.now) shown.now last }
+    ensures { IfOk result (IsLastAt (H.digest_of h.now) shown.now number) }
+{
+    match last {
+        Some(last) if last.number == number => Ok(Some(last)),
+        _ => made_at(alloc, h, defaults, shown, number),
+    }
+}
+
+// As `way_at`, where there is no last way.
+fn made_at<H: Hash32>(
+    alloc: Global,
+    h: &H,
+    defaults: &[[u8; 32]; 64],
+    shown: &[ShownOpening<'_>],
+    number: usize,
+) -> Result<Option<Last>, NoMemory>
+    requires { AreDefaults (H.digest_of h.now) defaults.now }
+    ensures { IfOk result (IsLastAt (H.digest_of h.now) shown.now number) }
+{
+    let Some(one) = shown.get(number) else {
+        return Ok(None);
+    };
+    match way_of(alloc, h, defaults, one)? {
+        None => Ok(None),
+        Some(way) => Ok(Some(Last { number, way })),
+    }
+}
+
+// The string at a level of a way up; empty where there is none.
+fn string_in<H: Hash32>(
+    alloc: Global,
+    h: &H,
+    found: &Option<Last>,
+    level: usize,
+) -> Result<Vec<u8>, NoMemory>
+    requires digests { IfSome found.now (λ last. AreDigestsUp (H.digest_of h.now) last.way.coin last.way.leaf
+        last.way.path last.way.digests) }
+    requires within { level < 65 }
+    ensures { IfOk result (λ string. string.items ≡ string_in (H.digest_of h.now) found.now level) }
+{
+    match found {
+        None => Ok(Vec::new(alloc)),
+        Some(last) => string_of(alloc, h, &last.way, level),
+    }
+}
