@@ -186,7 +186,8 @@ fn changed(standing: &Standing, note: &Note, held: bool, holder: &Holder, at: u6
             paid,
         } => {
             after.withdrawn = standing.withdrawn || *paid;
-            after.paid = standing.paid || (*block == at && *account == holder.owner.account && *paid);
+            after.paid = standing.paid
+                || (*block == at && *account == holder.owner.account && *paid);
             after.taken = standing.taken || takes(holder, at, held, *block, *account, *paid);
         }
         Change::Meets { nodes, tips } => {

@@ -1,6 +1,5 @@
-use Rattle.std.proofs.Common.{List, ℕ, ◌++◌, ◌∷◌, [], ap, refl, ◌∙◌}
+use Rattle.std.proofs.Common.{refl}
 use Rattle.coin_verdicts.specs.declared.fact.Fact.{Fact}
-use Rattle.coin_verdicts.specs.Notes.{without_node}
 use Rattle.coin_verdicts.specs.Books.{book_at}
 use Rattle.coin_verdicts.proofs.KeptReadings.{keeps-next, same-book}
 use Rattle.coin_verdicts.proofs.reading.Reading.read.Goals as goal
