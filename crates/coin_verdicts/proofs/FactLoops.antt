@@ -101,7 +101,6 @@ books-same books facts holder name count has_books =
     (λ c coin. ap (verdict_of_book holder name c) (has_books c)
     ∙ ap (λ (b : Bool). verdict_of_book holder name c (if b then Some (book_in facts c) else None)) coin)
 
-
 -- those of a wallet that is declared
 pub some-found : (books : List CoinBook) (facts : List Fact) (wallet : Named) (holder : Holder) (count : ℕ)
     → HasBooks count facts books → count ≡ coins_in facts → Some holder ≡ holder_in facts wallet.number

@@ -5,3 +5,4 @@ pub mod Books
 pub mod Signings
 pub mod Readings
 pub mod Wallets
+pub mod Laws

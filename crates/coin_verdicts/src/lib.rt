@@ -3,6 +3,7 @@
 
 mod books;
 mod fact;
+mod laws;
 mod note;
 mod quiet;
 mod reading;
@@ -14,5 +15,6 @@ mod tests;
 mod wallet;
 
 pub use fact::{Fact, Numbers};
+pub use laws::owners_stay_in_runs;
 pub use run::verdicts;
 pub use wallet::NamedWallet;

@@ -71,7 +71,8 @@ pub struct Standing {
     pub paid: bool,
     /// It was taken: another account's exit was paid while the wallet held it, or the wallet's exit ended unpaid.
     pub taken: bool,
-    /// The first line, before it was taken, that met a deadline of it while the wallet held it, and that nobody attended.
+    /// The first line, before it was taken, that met a deadline of it while the wallet held it, and that nobody
+    /// attended.
     pub unattended: Option<u64>,
 }
 

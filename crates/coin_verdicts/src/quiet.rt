@@ -49,7 +49,8 @@ impl QuietNodes {
 
     /// A node watched, and offers calls of these coins.
     pub fn watch(&mut self, node: u64, coins: Numbers) -> Result<(), NoMemory>
-        ensures { OnOk result (self.new ≡ without_node node self.old ++ record { node = node; coins = coins } ∷ []) }
+        ensures { OnOk result (self.new
+            ≡ without_node node self.old ++ record { node = node; coins = coins } ∷ []) }
     {
         self.remove(node);
         self.items.push(Quiet { node, coins })?;

@@ -56,10 +56,7 @@ impl Reading {
                 self.nodes.clear();
                 Ok(())
             }
-            Fact::Watches { node, coins } => {
-                self.nodes.watch(*node, coins.copy(self.alloc)?)?;
-                Ok(())
-            }
+            Fact::Watches { node, coins } => self.watch(*node, coins),
             Fact::Guards { watcher, coin, tip } => self.guard(*watcher, *coin, *tip),
             Fact::Releases { watcher, coin, tip } => {
                 self.release(*watcher, *coin, *tip);
@@ -81,6 +78,14 @@ impl Reading {
             } => self.bind(line, *wallet, *coin, *parent),
             Fact::TakesBack { wallet, leaf } => self.take_back(line, *wallet, *leaf),
         }
+    }
+
+    // A node watches.
+    fn watch(&mut self, node: u64, coins: &Numbers) -> Result<(), NoMemory>
+        ensures { (line : ℕ) → OnOk result (Reads line (Fact.Watches node coins.now) self.old self.new) }
+    {
+        self.nodes.watch(node, coins.copy(self.alloc)?)?;
+        Ok(())
     }
 
     // A watcher guards a coin.

@@ -97,7 +97,8 @@ impl Signers {
 
     /// A wallet takes a leaf back. What it bound, where it did and wasn't taken back before.
     pub fn take_back(&mut self, wallet: u64, number: u64) -> Result<Option<Leaf>, NoMemory>
-        ensures signing { OnOk result (IsSigned self.old self.new wallet (with_taken number (signed_in self.old wallet))) }
+        ensures signing { OnOk result (IsSigned self.old self.new wallet
+            (with_taken number (signed_in self.old wallet))) }
         ensures leaf { IfOk result (λ leaf. leaf ≡ (if has (signed_in self.old wallet).taken number then None
             else slice_get (signed_in self.old wallet).leaves number)) }
     {

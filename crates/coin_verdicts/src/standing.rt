@@ -157,29 +157,26 @@ fn with_note(standing: &Standing, note: &Note, holder: &Holder, tip: u64) -> Sta
 }
 
 // The standing after a note's change, before which the wallet held the coin or not.
-fn changed(standing: &Standing, note: &Note, held: bool, holder: &Holder, tip: u64) -> Standing
+fn changed(standing: &Standing, note: &Note, held: bool, holder: &Holder, at: u64) -> Standing
     requires { standing.now.sent + 1 < 2 ^ 64 }
-    ensures value { result ≡ changed holder.now tip note.now.line held standing.now note.now.change }
+    ensures value { result ≡ changed holder.now at note.now.line held standing.now note.now.change }
     ensures sent { result.sent ≤ standing.now.sent + 1 }
 {
     let mut after = *standing;
     match &note.change {
         Change::Deposits { block, owner } => {
-            after.deposited = *block == tip && *owner == holder.owner;
+            after.deposited = *block == at && *owner == holder.owner;
         }
-        Change::Accepts {
-            wallet,
-            tip: accepted,
-        } => {
-            after.accepted = standing.accepted || (*wallet == holder.wallet && *accepted == tip);
+        Change::Accepts { wallet, tip } => {
+            after.accepted = standing.accepted || (*wallet == holder.wallet && *tip == at);
         }
         Change::Sends { wallet, parent } => {
-            if *wallet == holder.wallet && *parent == tip {
+            if *wallet == holder.wallet && *parent == at {
                 after.sent = standing.sent + 1;
             }
         }
         Change::Returns { wallet, parent } => {
-            if *wallet == holder.wallet && *parent == tip {
+            if *wallet == holder.wallet && *parent == at {
                 after.sent = standing.sent.saturating_sub(1);
             }
         }
@@ -188,13 +185,13 @@ fn changed(standing: &Standing, note: &Note, held: bool, holder: &Holder, tip: u
             account,
             paid,
         } => {
-            let is_own = *block == tip && *account == holder.owner.account;
             after.withdrawn = standing.withdrawn || *paid;
-            after.paid = standing.paid || (is_own && *paid);
-            after.taken = standing.taken || takes(holder, tip, held, *block, *account, *paid);
+            after.paid = standing.paid
+                || (*block == at && *account == holder.owner.account && *paid);
+            after.taken = standing.taken || takes(holder, at, held, *block, *account, *paid);
         }
         Change::Meets { nodes, tips } => {
-            let is_missed = held && !(nodes.has(holder.wallet) || tips.has(tip));
+            let is_missed = held && !(nodes.has(holder.wallet) || tips.has(at));
             after.unattended = missed(standing, note.line, is_missed);
         }
     }

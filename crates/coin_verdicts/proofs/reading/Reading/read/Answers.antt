@@ -1,6 +1,5 @@
-use Rattle.std.proofs.Common.{List, ℕ, ◌++◌, ◌∷◌, [], ap, refl, ◌∙◌}
+use Rattle.std.proofs.Common.{refl}
 use Rattle.coin_verdicts.specs.declared.fact.Fact.{Fact}
-use Rattle.coin_verdicts.specs.Notes.{without_node}
 use Rattle.coin_verdicts.specs.Books.{book_at}
 use Rattle.coin_verdicts.proofs.KeptReadings.{keeps-next, same-book}
 use Rattle.coin_verdicts.proofs.reading.Reading.read.Goals as goal
@@ -49,10 +48,5 @@ returns-in-Binds c = rw c.in-Binds.is c.bind.ensures
 pub returns-in-TakesBack : goal.returns-in-TakesBack
 returns-in-TakesBack c = rw c.in-TakesBack.is c.take_back.ensures
 
-pub returns-in_ok-watch-in-Watches : goal.returns-in_ok-watch-in-Watches
-returns-in_ok-watch-in-Watches c count facts is keeps =
-    rw c.in-Watches.is (keeps-next count c.args.line facts c.args.self.now _ is keeps (Fact.Watches _ _) refl
-    (c.in_ok-watch-in-Watches.ensures
-    ∙ ap (λ (coins : List ℕ). without_node c.in-Watches.node c.args.self.now.nodes
-    ++ record { node = c.in-Watches.node; coins = coins } ∷ []) c.in_ok-copy-in-Watches.ensures)
-    refl (λ coin. same-book (book_at c.args.self.now.books coin)))
+pub returns-in-Watches : goal.returns-in-Watches
+returns-in-Watches c = rw c.in-Watches.is (c.watch.ensures c.args.line)

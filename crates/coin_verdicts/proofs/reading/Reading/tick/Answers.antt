@@ -9,5 +9,6 @@ returns c count facts is keeps =
     keeps-next count c.args.line facts c.args.self.now _ is keeps
     (Fact.Ticks c.args.met.now) refl c.clear.ensures refl
     (λ coin. met-books count c.args.line coin facts c.args.self.now.nodes c.args.met.now c.args.self.now.books
-    c.meet_all.new.self keeps.nodes_are (keeps.books_are coin) (subst (λ (met : List ℕ). AreMet c.args.line c.args.self.now.nodes met c.args.self.now.books
-    c.meet_all.new.self) c.as_slice.ensures c.in_ok-meet_all.ensures))
+    c.meet_all.new.self keeps.nodes_are (keeps.books_are coin)
+    (subst (λ (met : List ℕ). AreMet c.args.line c.args.self.now.nodes met c.args.self.now.books c.meet_all.new.self)
+    c.as_slice.ensures c.in_ok-meet_all.ensures))
