@@ -150,7 +150,8 @@ by-line (ExhibitLine.Declares w me) coin is_new openings j o e is =
 by-line (ExhibitLine.Binds w body) coin is_new openings j o e is =
     absurd (none-accepted (event_of (ExhibitLine.Binds w body)) coin openings refl e)
 by-line (ExhibitLine.Joins call) coin is_new openings j o e is =
-    at-openings (coin_of_call call.now) coin true is_new (openings_of_call (coin_of_call call.now) call.now) openings j o
+    at-openings (coin_of_call call.now) coin true is_new (openings_of_call (coin_of_call call.now) call.now) openings j
+    o
     e is
 by-line (ExhibitLine.Shows c os mark) coin is_new openings j o e is =
     at-openings c coin mark is_new os.now openings j o e is
