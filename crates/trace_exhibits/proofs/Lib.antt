@@ -6,3 +6,4 @@ pub mod Reading
 pub mod Lined
 pub mod TestedLaws
 pub mod Marks
+pub mod Paths
