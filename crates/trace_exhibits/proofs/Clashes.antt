@@ -117,13 +117,14 @@ module _ (dig : List ℕ → List ℕ) where
     known-string string keeps there = record {
       none = more-none string keeps (clash-none earlier string
           (λ other is_there same. one-string keeps other string is_there there same));
-      known = λ one is_in. elim (has-cases earlier (string ∷ []) one (contains-has (earlier ++ string ∷ []) one is_in)) [
-        | inl before ↦ keeps.known one (has-contains earlier one before)
-        | inr behind ↦ elim behind [
-          | inl same ↦ keeps.known one (has-contains earlier one (subst (Has earlier) same there))
-          | inr wrong ↦ absurd wrong
-        ]
-      ];
+      known = λ one is_in. elim
+          (has-cases earlier (string ∷ []) one (contains-has (earlier ++ string ∷ []) one is_in)) [
+            | inl before ↦ keeps.known one (has-contains earlier one before)
+            | inr behind ↦ elim behind [
+              | inl same ↦ keeps.known one (has-contains earlier one (subst (Has earlier) same there))
+              | inr wrong ↦ absurd wrong
+            ]
+          ];
       only = λ digest place is.
           let was = keeps.only digest place is in (
             has-contains (earlier ++ string ∷ []) (string_at dig shown place)
@@ -144,13 +145,14 @@ module _ (dig : List ℕ → List ℕ) where
           let was = keeps.known other (has-contains earlier other is_there) in
           let wrong : None ≡ Some was.0 = sym absent ∙ ap (get bytes_eq places) (sym same) ∙ was.1 in
           cc wrong));
-      known = λ one is_in. elim (has-cases earlier (string ∷ []) one (contains-has (earlier ++ string ∷ []) one is_in)) [
-        | inl before ↦ known-before one before
-        | inr behind ↦ elim behind [
-          | inl same ↦ (place, ap (λ s. get bytes_eq new (dig s)) (sym same) ∙ adds.1, at ∙ same)
-          | inr wrong ↦ absurd wrong
-        ]
-      ];
+      known = λ one is_in. elim
+          (has-cases earlier (string ∷ []) one (contains-has (earlier ++ string ∷ []) one is_in)) [
+            | inl before ↦ known-before one before
+            | inr behind ↦ elim behind [
+              | inl same ↦ (place, ap (λ s. get bytes_eq new (dig s)) (sym same) ∙ adds.1, at ∙ same)
+              | inr wrong ↦ absurd wrong
+            ]
+          ];
       only = λ digest one is. elim (cases_Bool (bytes_eq (dig string) digest)) [
         | inl same ↦ only-here digest one is same
         | inr apart ↦

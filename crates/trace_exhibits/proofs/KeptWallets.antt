@@ -103,7 +103,8 @@ module _ (events : List Event) (old new : Known) (keeps : KeepsWallets events ol
           ap (λ (all : List Bound). is_bound_in all v other) (bodies other.coin
           ∙ ap (λ (b : Bool). if b then bodies_of old.bodies other.coin ++ record { wallet = w; body = body } ∷ []
           else bodies_of old.bodies other.coin) apart)
-          ∙ keeps.bound v other ∙ unlike v other (w == v) (other-coin other body (eqb-flip other.coin body.coin ∙ apart))
+          ∙ keeps.bound v other
+          ∙ unlike v other (w == v) (other-coin other body (eqb-flip other.coin body.coin ∙ apart))
     ];
   }
     where
@@ -196,7 +197,8 @@ module _ (tag : List ℕ) (events : List Event) (one : Opened) where
   -- and a transfer shows one where a wallet signed it that didn't bind its body
   pub forged-some : (known : Known) (tx : SignedTx) → KeepsWallets events known
       → Some tx ≡ transfer_in tag one.coin one.opening.block (leaf_in one.opening.bytes)
-      → list_any (λ declared. signs_unbound known.declared.items (bodies_of known.bodies tx.body.coin) tx declared.wallet)
+      → list_any
+      (λ declared. signs_unbound known.declared.items (bodies_of known.bodies tx.body.coin) tx declared.wallet)
       known.declared.items ≡ is_forged_in tag events one
   forged-some known tx keeps is =
       sym (any-map (λ (declared : Declared). declared.wallet)
@@ -212,7 +214,8 @@ module _ (tag : List ℕ) (events : List Event) (one : Opened) where
       (sym (owner-declared events w)))
     where
       by : (w : ℕ) (owner : Option Owner)
-          → option_map_or (λ me. is_signed_by tx me && not (is_bound_in (bodies_of known.bodies tx.body.coin) w tx.body)) owner false
+          → option_map_or
+          (λ me. is_signed_by tx me && not (is_bound_in (bodies_of known.bodies tx.body.coin) w tx.body)) owner false
           ≡ forges_one tag owner (bound_by events w) one.coin (one.opening ∷ [])
       by w None = refl
       by w (Some me) =

@@ -5,3 +5,5 @@ pub mod KeptWallets
 pub mod Reading
 pub mod Lined
 pub mod TestedLaws
+pub mod Marks
+pub mod Paths

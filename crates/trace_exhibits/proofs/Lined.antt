@@ -30,7 +30,7 @@ pub events_of-none : events_of [] ≡ []
 unfolding events_of
 events_of-none = refl
 
-events_of-one : (line : ExhibitLine) → events_of (line ∷ []) ≡ event_of line ∷ []
+pub events_of-one : (line : ExhibitLine) → events_of (line ∷ []) ≡ event_of line ∷ []
 unfolding events_of
 events_of-one line = refl
 

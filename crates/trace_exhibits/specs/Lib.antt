@@ -4,3 +4,4 @@ pub mod Places
 pub mod Lines
 pub mod Wallets
 pub mod Tested
+pub mod Laws

@@ -16,8 +16,7 @@ accepts coin openings = Accepts 0 (record { coin = coin; tip = 0; openings = ope
 abbrev pub joins : RootCall → Event
 joins call = accepts (coin_of_call call) (openings_of_call (coin_of_call call) call)
 
--- what an exhibit reads of an event: which wallet is declared, which body is bound, which openings of which coin are
--- accepted
+-- what an exhibit reads of an event: the wallet that it declares, the body that it binds, the openings that it accepts
 abbrev pub read_of : Event → Event
 read_of (Declares w me) = Declares w me
 read_of (Binds w body) = Binds w body

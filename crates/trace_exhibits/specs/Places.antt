@@ -9,8 +9,7 @@ use Rattle.trace_exhibits.specs.Opened.{Opened}
 use Rattle.trace_exhibits.specs.declared.shown.Place.{Place}
 use Rattle.trace_exhibits.specs.declared.places.Seen.{Seen}
 
--- No two of these strings have one digest, the map gives for the digest of each the place of the string, and it gives
--- no other place.
+-- no two of these strings have one digest; the map gives by each one's digest its place, and no other place
 pub record KeepsPlaces {S : Type 0} (dig : List ℕ → List ℕ) (shown : List Opened) (places : HashMap (List ℕ) Place S)
     (earlier : List (List ℕ)) : Type 0 where
   pub none : first_clash dig [] earlier ≡ None
@@ -20,6 +19,7 @@ pub record KeepsPlaces {S : Type 0} (dig : List ℕ → List ℕ) (shown : List 
       → Contains earlier (string_at dig shown place) × (dig (string_at dig shown place) ≡ digest) × (place.level < 65)
 
 -- the same of all that is kept on the way through the openings
-pub record KeepsSeen (dig : List ℕ → List ℕ) (shown : List Opened) (seen : Seen) (earlier : List (List ℕ)) : Type 0 where
+pub record KeepsSeen (dig : List ℕ → List ℕ) (shown : List Opened) (seen : Seen)
+    (earlier : List (List ℕ)) : Type 0 where
   pub places : KeepsPlaces dig shown seen.places earlier
   pub last : IsLast dig shown seen.last

@@ -5,6 +5,7 @@
 mod exhibit;
 mod forgeries;
 mod forging;
+mod laws;
 mod lines;
 mod places;
 mod shown;
@@ -17,6 +18,7 @@ mod way;
 pub use exhibit::exhibit_of;
 pub use forgeries::first_forgery;
 pub use forging::forges;
+pub use laws::{lines_grow, marks_grow};
 pub use lines::ExhibitLine;
 pub use places::first_clash;
 pub use shown::{Clash, ShownOpening};

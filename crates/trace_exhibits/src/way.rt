@@ -1,10 +1,12 @@
-ghost use Rattle.std.specs.Prelude.{◌≡◌, ◌<◌, [], IfOk, IfSome, OnOk, MatchOption};
+ghost use Rattle.std.specs.Prelude.{◌≡◌, ◌<◌, ◌≤◌, ◌+◌, ◌*◌, true, [], length, take, drop, IfOk, IfSome, OnOk, MatchOption};
+ghost use Rattle.sparse_merkle.specs.MaskedPath.{proof_path, has_proof_length, masked_path_in, mask_in};
+ghost use Rattle.plasma_tx.specs.Openings.{leaf_length};
 ghost use Rattle.sparse_merkle.specs.Opening.{hashed_string, hashed_strings};
 ghost use Rattle.sparse_merkle.specs.TreeDigest.{leaf_string, AreDefaults};
 ghost use Rattle.trace_exhibits.specs.Ways.{strings_in_shown, strings_at, string_at, string_in, AreDigestsUp, IsLast, IsLastAt};
 
 use super::shown::{Place, ShownOpening};
-use plasma_base::{Bytes, Hash32, NoMemory};
+use plasma_base::{Bytes, Hash32, NoMemory, get_u32};
 use plasma_tx::OpeningRefusal;
 use sparse_merkle::{bit, leaf_digest, parent_bytes};
 use std::alloc::Global;
@@ -33,7 +35,10 @@ pub(crate) fn way_of<H: Hash32>(
 {
     match one.opening().open_up_with_defaults(alloc, h, defaults) {
         Ok(opening) => {
-            let path = opening.proof.path(h);
+            let Some(text) = proof_text(one.opening().bytes.as_slice()) else {
+                unreachable!()
+            };
+            let path = path_in(h, defaults, text);
             let digests = digests_up(h, one.coin(), opening.leaf.as_slice(), &path);
             Ok(Some(Way {
                 coin: one.coin(),
@@ -45,6 +50,58 @@ pub(crate) fn way_of<H: Hash32>(
         Err(OpeningRefusal::NoMemory) => Err(NoMemory),
         Err(OpeningRefusal::Unreadable) => Ok(None),
     }
+}
+
+// The bytes behind the leaf of an opening's bytes; `None` where they end before.
+fn proof_text(bytes: &[u8]) -> Option<&[u8]>
+    ensures { MatchOption result (length bytes.now < 4 + leaf_length bytes.now)
+        (λ text. text.now ≡ drop (4 + leaf_length bytes.now) bytes.now) }
+{
+    let length = get_u32(bytes, 0)? as usize;
+    let behind = &bytes[4..];
+    if behind.len() < length {
+        return None;
+    }
+    Some(&behind[length..])
+}
+
+// The 64 siblings of a proof's bytes, by the defaults that the caller has. It makes no digest.
+fn path_in<H: Hash32>(h: &H, defaults: &[[u8; 32]; 64], text: &[u8]) -> [[u8; 32]; 64]
+    requires defaults { AreDefaults (H.digest_of h.now) defaults.now }
+    requires long { has_proof_length text.now ≡ true }
+    ensures { result ≡ proof_path (H.digest_of h.now) (masked_path_in text.now) }
+{
+    let mask = mask_in(text);
+    let siblings = &text[8..];
+    let mut path = *defaults;
+    let mut next = 0;
+    for level in 0..64 {
+        if bit(mask, level) {
+            path[level] = sibling_in(siblings, next);
+            next += 1;
+        }
+    }
+    path
+}
+
+// The mask that a proof's bytes begin with.
+fn mask_in(text: &[u8]) -> u64
+    requires { 8 ≤ length text.now }
+    ensures { result ≡ mask_in text.now }
+{
+    let mut bytes = [0; 8];
+    bytes.copy_from_slice(&text[..8]);
+    u64::from_be_bytes(bytes)
+}
+
+// The sibling with that number among those that stand one after another.
+fn sibling_in(siblings: &[u8], number: usize) -> [u8; 32]
+    requires { 32 * number + 32 ≤ length siblings.now }
+    ensures { result ≡ take 32 (drop (32 * number) siblings.now) }
+{
+    let mut sibling = [0; 32];
+    sibling.copy_from_slice(&siblings[32 * number..32 * number + 32]);
+    sibling
 }
 
 // The digests of the 65 strings on the way up from a leaf.

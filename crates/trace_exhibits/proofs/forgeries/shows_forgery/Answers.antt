@@ -17,7 +17,8 @@ returns-then-branch c = λ events keeps tested.
     ∙ ap (λ front. front ++ shown_of line) c.new-shown.ensures.items in
     let found = any-has test items c.one-item.result
     (contains-has items c.one-item.result (c.loop-one.one-index, c.loop-one-test.true, sym c.one-item.is))
-    (sym (c.in_ok-is_forged.ensures events keeps (c.loop-one.invariant events keeps tested).1).0 ∙ c.if-branch.true) in (
+    (sym (c.in_ok-is_forged.ensures events keeps (c.loop-one.invariant events keeps tested).1).0
+    ∙ c.if-branch.true) in (
       sym (line-forges c.args.tag.now events line ∙ ap (list_any test) (sym all) ∙ found),
       λ wrong. absurd (true≢false wrong),
     )

@@ -26,7 +26,8 @@ pub returns-in-None : goal.returns-in-None
 returns-in-None g c =
     let one = c.index-shown-number.result in
     record {
-      places = unread-added (g.H.Hash32.digest_of c.args.h.now) c.args.shown.now c.args.seen.now.places c.args.number one
+      places = unread-added (g.H.Hash32.digest_of c.args.h.now) c.args.shown.now c.args.seen.now.places c.args.number
+          one
           (here-is c.args.shown.now c.args.number one c.requires.within c.index-shown-number.is)
           (rw c.in-None.is at c.in_ok-way_of.ensures) c.requires.kept.places;
       last = c.requires.kept.last;

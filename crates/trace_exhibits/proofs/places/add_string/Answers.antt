@@ -19,8 +19,10 @@ returns-in_ok-insert-in-None g c =
     let string = hashed_string dig way.coin way.leaf way.path place.level in
     let made = c.requires.digests place.level c.requires.within in
     record {
-      places = new-string dig c.args.shown.now c.args.seen.now.places before c.insert.new.self string place c.requires.kept.places
-          (sym (rw made at (c.in-None.ensures ∙ c.get.ensures.value))) (rw made at c.in_ok-insert-in-None.ensures.updates)
+      places = new-string dig c.args.shown.now c.args.seen.now.places before c.insert.new.self string place
+          c.requires.kept.places
+          (sym (rw made at (c.in-None.ensures ∙ c.get.ensures.value)))
+          (rw made at c.in_ok-insert-in-None.ensures.updates)
           (string_at-way dig c.args.shown.now place way.coin way.leaf way.path c.requires.strings c.requires.within)
           c.requires.within;
       last = c.requires.kept.last;
