@@ -1,0 +1,389 @@
+-- What crashes and cuts leave of the halves of a node, and so of the node.
+use Rattle.std.proofs.Common.{◌≡◌, ◌⊎◌, ◌-◌, [], ℕ, min, Bool, true, false, cond, nat_lt, List, Option, Some, None, inl, inr, refl, sym, ◌∙◌, ap, subst}
+use Rattle.std.specs.Prelude.{◌&&◌, ◌||◌}
+use Rattle.std.specs.Option.{ForSome, option_map, option_map_or, is_some}
+use Rattle.crash_disk.specs.Disk.{content}
+use Rattle.crash_disk.specs.Memory.{MemState, with_fuse}
+use Rattle.crash_disk.specs.Outcomes.{HasPattern}
+use Rattle.crash_disk.specs.declared.outcome.Outcome.{Outcome}
+use Rattle.crash_disk.proofs.Left.{content_may_be_left}
+use Rattle.gate_journal.specs.Laws.{is_added}
+use Rattle.node_journal.specs.Notes.{NotesState, RefusesRole}
+use Rattle.node_journal.specs.Role.{role_in}
+use Rattle.node_journal.specs.declared.stop.Stop.{Stop}
+use Rattle.leaf_journal.specs.Records.{leaf_records_in_of}
+use Rattle.plasma_tx.specs.declared.call.RootCall.{RootCall}
+use Rattle.node_rules.specs.WalletRecords.{wallet_kinds, is_body}
+use Rattle.node_rules.specs.Watcher.{watcher_kinds}
+use Rattle.node_rules.specs.WalletOpening.{leaves_of as key_leaves}
+use Rattle.operator_rules.specs.Records.{operator_kinds}
+use Rattle.wallet_node.specs.State.{WalletState, notes_part, leaves_part}
+use Rattle.world_rules.specs.World.{Role}
+use Rattle.world_rules.specs.Deeds.{Deed, with_record, adds_record}
+use Rattle.world_rules.specs.Steps.{after_crash}
+use Rattle.world_trace.specs.declared.given.Given.{Given}
+use Rattle.wallet_deeds.specs.Orders.{DidEither}
+use Rattle.world_nodes.specs.declared.down.DownNode.{DownNode}
+use Rattle.world_nodes.specs.declared.down.DownNode.TheVariants.{Wallet as WalletDown, Watcher as WatcherDown, Operator as OperatorDown}
+use Rattle.world_nodes.specs.declared.up.UpNode.{UpNode}
+use Rattle.world_nodes.specs.declared.up.UpNode.TheVariants.{Wallet as WalletUp, Watcher as WatcherUp, Operator as OperatorUp}
+use Rattle.world_nodes.specs.declared.entry.Site.{Site}
+use Rattle.world_nodes.specs.declared.entry.Site.TheVariants.{Up, Down, Gone}
+use Rattle.world_nodes.specs.declared.entry.Member.{Member}
+use Rattle.world_nodes.specs.Nodes.{EachKeeps, Crashes, crashed_disk}
+use Rattle.world_nodes.specs.Inside.{IsBegun as IsLeft, mem_told, mem_plan, mem_faults, NoneListed, Half, Halves, kept_of, kept_half, crashed, NoneListedOf, leaves_of, down_kind, down_halves, with_disks, up_kind, up_halves, taken_down, Opens, UpDid, IsDownOf, stop_in, member_kind, halves_of, view_in, IsOf, IsWhole}
+use Rattle.world_nodes.proofs.Halves.{HalfOpened, half_opened, role_reads, leaf_reads, kept_left}
+use Rattle.world_nodes.proofs.Stops.{same_if, idle, went, met}
+use Rattle.world_nodes.proofs.Runs.{KeepsAll, AddsFew}
+
+-- ---- disks without the node's memory
+
+kept_same : (disk : MemState) (records : List (List ℕ)) → EachKeeps records disk.history
+    → kept_half disk ≡ record { disk = disk; records = records }
+kept_same disk records keeps =
+    let same : kept_of disk.history ≡ records =
+    ap (λ (k : Option (List (List ℕ))). Rattle.std.specs.Option.unwrap_or k [])
+    (keeps (content disk.history) (content_may_be_left disk.history)) in
+    (λ i. record { disk = disk; records = same i })
+
+taken_same : {H : Type 0} (node : UpNode H) → KeepsAll (up_halves node)
+    → down_halves (taken_down node) ≡ up_halves node
+taken_same (WalletUp node) keeps =
+    let leaves = kept_same node.leaves_disk node.records.leaves
+    (keeps.leaves (record { disk = node.leaves_disk; records = node.records.leaves }) refl) in
+    (λ i. record { notes = kept_same node.notes_disk node.records.notes keeps.notes i; leaves = Some (leaves i) })
+taken_same (WatcherUp node) keeps =
+    (λ i. record { notes = kept_same node.notes.disk node.notes.records keeps.notes i; leaves = None })
+taken_same (OperatorUp node) keeps =
+    (λ i. record { notes = kept_same node.notes.disk node.notes.records keeps.notes i; leaves = None })
+
+-- the disks that were taken from a node have its halves
+pub down_same : {H : Type 0} (member : Member) (site : Site H) (down : DownNode) → IsDownOf site down
+    → KeepsAll (halves_of member site) → down_halves down ≡ halves_of member site
+down_same member (Up node) down is keeps = ap down_halves is ∙ taken_same node keeps
+down_same member (Down old) down is keeps = ap down_halves is
+down_same member Gone down is keeps = absurd is
+
+pub taken_kind : {H : Type 0} (node : UpNode H) → down_kind (taken_down node) ≡ up_kind node
+taken_kind (WalletUp node) = refl
+taken_kind (WatcherUp node) = refl
+taken_kind (OperatorUp node) = refl
+
+-- their kind is the member's
+pub down_is : {H : Type 0} (hash : H) (member : Member) (site : Site H) (down : DownNode) → IsDownOf site down
+    → IsWhole hash member site → down_kind down ≡ member_kind member
+down_is hash member (Up node) down is whole = ap down_kind is ∙ (taken_kind node ∙ whole.is_site.0)
+down_is hash member (Down old) down is whole = ap down_kind is ∙ whole.is_site
+down_is hash member Gone down is whole = absurd is
+
+-- and what holds of the entry holds of them
+pub whole_down : {H : Type 0} (hash : H) (member : Member) (site : Site H) (down : DownNode) → IsDownOf site down
+    → KeepsAll (halves_of member site) → IsWhole hash member site → IsWhole hash member (Down down)
+whole_down hash member site down is keeps whole =
+    let same = down_same member site down is keeps in
+    record {
+      is_site = down_is hash member site down is whole;
+      none_listed = subst NoneListedOf (sym same) whole.none_listed;
+      identity = subst (λ (h : Halves). IsOf member h.notes.records) (sym same) whole.identity;
+    }
+
+-- ---- what is left
+
+abbrev pub LeavesLeft : List (List ℕ) → Option Half → Type 0
+LeavesLeft leaves None = leaves ≡ []
+LeavesLeft leaves (Some half) = IsLeft leaves half
+
+-- disks that crashed, which keep these notes and these leaves
+pub record AreLeft (notes leaves : List (List ℕ)) (halves : Halves) : Type 0 where
+  pub left_notes : IsLeft notes halves.notes
+  pub left_leaves : LeavesLeft leaves halves.leaves
+
+pub left_records : (leaves : List (List ℕ)) (half : Option Half) → LeavesLeft leaves half
+    → option_map_or (λ (h : Half). h.records) half [] ≡ leaves
+left_records leaves None left = sym left
+left_records leaves (Some half) left = left.records_are
+
+left_keep : (leaves : List (List ℕ)) (half : Option Half) → LeavesLeft leaves half
+    → ForSome half (λ h. EachKeeps h.records h.disk.history)
+left_keep leaves None left = λ h is. absurd (cc is)
+left_keep leaves (Some half) left = λ h is.
+    (let same : half ≡ h = cc is in
+    subst (λ (x : Half). EachKeeps x.records x.disk.history) same
+    (subst (λ (rs : List (List ℕ)). EachKeeps rs half.disk.history) (sym left.records_are) left.keeps))
+
+left_none : (leaves : List (List ℕ)) (half : Option Half) → LeavesLeft leaves half
+    → ForSome half (λ h. NoneListed h.disk)
+left_none leaves None left = λ h is. absurd (cc is)
+left_none leaves (Some half) left = λ h is.
+    (let same : half ≡ h = cc is in subst (λ (x : Half). NoneListed x.disk) same left.listed)
+
+pub left_keeps : (notes leaves : List (List ℕ)) (halves : Halves) → AreLeft notes leaves halves → KeepsAll halves
+left_keeps notes leaves halves left = record {
+  notes = subst (λ (rs : List (List ℕ)). EachKeeps rs halves.notes.disk.history) (sym left.left_notes.records_are)
+      left.left_notes.keeps;
+  leaves = left_keep leaves halves.leaves left.left_leaves;
+}
+
+-- the entry of such disks is whole
+pub whole_left : {H : Type 0} (hash : H) (member : Member) (down : DownNode) (notes leaves : List (List ℕ))
+    → down_kind down ≡ member_kind member
+    → AreLeft notes leaves (down_halves down) → IsOf member notes → IsWhole hash member (Down down)
+whole_left hash member down notes leaves kind left is = record {
+  is_site = kind;
+  none_listed = record {
+    notes = left.left_notes.listed;
+    leaves = left_none leaves (down_halves down).leaves left.left_leaves;
+  };
+  identity = subst (IsOf member) (sym left.left_notes.records_are) is;
+}
+
+-- ---- a crash
+
+pub crash_left : (outcome : Outcome) (down : DownNode) → KeepsAll (down_halves down)
+    → NoneListedOf (down_halves down)
+    → AreLeft (down_halves down).notes.records (leaves_of (down_halves down))
+    (down_halves (with_disks (crashed outcome) down))
+crash_left outcome (WalletDown notes leaves key) keeps none = record {
+  left_notes = kept_left (kept_of notes.history) outcome notes keeps.notes none.notes;
+  left_leaves = kept_left (kept_of leaves.history) outcome leaves (keeps.leaves (kept_half leaves) refl)
+      (none.leaves (kept_half leaves) refl);
+}
+crash_left outcome (WatcherDown notes) keeps none = record {
+  left_notes = kept_left (kept_of notes.history) outcome notes keeps.notes none.notes;
+  left_leaves = refl;
+}
+crash_left outcome (OperatorDown notes) keeps none = record {
+  left_notes = kept_left (kept_of notes.history) outcome notes keeps.notes none.notes;
+  left_leaves = refl;
+}
+
+pub with_kind : (change : MemState → MemState) (down : DownNode) → down_kind (with_disks change down) ≡ down_kind down
+with_kind change (WalletDown notes leaves key) = refl
+with_kind change (WatcherDown notes) = refl
+with_kind change (OperatorDown notes) = refl
+
+crash_told : (outcome : Outcome) (down : DownNode)
+    → option_map (λ (half : Half). half.disk.history) (down_halves (with_disks (crashed outcome) down)).leaves
+    ≡ option_map (crashed_disk outcome) (option_map (λ (half : Half). half.disk.history) (down_halves down).leaves)
+crash_told outcome (WalletDown notes leaves key) = refl
+crash_told outcome (WatcherDown notes) = refl
+crash_told outcome (OperatorDown notes) = refl
+
+crash_notes : (outcome : Outcome) (down : DownNode)
+    → (down_halves (with_disks (crashed outcome) down)).notes.disk.history
+    ≡ crashed_disk outcome (down_halves down).notes.disk.history
+crash_notes outcome (WalletDown notes leaves key) = refl
+crash_notes outcome (WatcherDown notes) = refl
+crash_notes outcome (OperatorDown notes) = refl
+
+-- over the parts of a node that stay
+module _ {H : Type 0} (hash : H) (name : List ℕ) (account : ℕ) (role : Role) where
+  -- the node over disks that are left
+  pub left_node : (is_up : Bool) (base halves : Halves) (offers : List RootCall) (notes leaves : List (List ℕ))
+      → AreLeft notes leaves halves
+      → (view_in hash name account role false halves []).node
+      ≡ after_crash (record (view_in hash name account role is_up base offers).node {
+        notes = notes;
+        leaves =
+            leaves;
+      })
+  left_node is_up base halves offers notes leaves left = λ i. record {
+    name = name;
+    account = account;
+    role = role;
+    is_up = false;
+    notes = left.left_notes.records_are i;
+    leaves = left_records leaves halves.leaves left.left_leaves i;
+    offers = [];
+  }
+
+  pub crash_done : (is_up : Bool) (offers : List RootCall) (outcome : Outcome) (down : DownNode)
+      → KeepsAll (down_halves down) → NoneListedOf (down_halves down)
+      → Crashes outcome (view_in hash name account role is_up (down_halves down) offers)
+      (view_in hash name account role false (down_halves (with_disks (crashed outcome) down)) [])
+  crash_done is_up offers outcome down keeps none = record {
+    node = left_node is_up (down_halves down) (down_halves (with_disks (crashed outcome) down)) offers
+        (down_halves down).notes.records (leaves_of (down_halves down)) (crash_left outcome down keeps none);
+    notes_disk = crash_notes outcome down;
+    leaves_disk = crash_told outcome down;
+    hash = refl;
+  }
+
+-- the disks of a node that is up, after a crash
+pub up_left : {H : Type 0} (outcome : Outcome) (node : UpNode H) → KeepsAll (up_halves node)
+    → NoneListedOf (up_halves node)
+    → AreLeft (up_halves node).notes.records (leaves_of (up_halves node))
+    (down_halves (with_disks (crashed outcome) (taken_down node)))
+up_left outcome node keeps none =
+    let same = taken_same node keeps in
+    subst (λ (h : Halves). AreLeft h.notes.records (leaves_of h)
+    (down_halves (with_disks (crashed outcome) (taken_down node)))) same
+    (crash_left outcome (taken_down node) (subst KeepsAll (sym same) keeps) (subst NoneListedOf (sym same) none))
+
+-- ---- a command that was cut
+
+-- the kind stays
+pub cut_kind : {H : Type 0} (deed : Deed) (opened ran : UpNode H) (stop : Option Stop) → UpDid deed opened stop ran
+    → down_kind (taken_down ran) ≡ up_kind opened
+cut_kind deed (WalletUp opened) (WalletUp ran) stop did = refl
+cut_kind deed (WatcherUp opened) (WatcherUp ran) stop did = refl
+cut_kind deed (OperatorUp opened) (OperatorUp ran) stop did = refl
+cut_kind deed (WalletUp opened) (WatcherUp ran) stop did = absurd did
+cut_kind deed (WalletUp opened) (OperatorUp ran) stop did = absurd did
+cut_kind deed (WatcherUp opened) (WalletUp ran) stop did = absurd did
+cut_kind deed (WatcherUp opened) (OperatorUp ran) stop did = absurd did
+cut_kind deed (OperatorUp opened) (WalletUp ran) stop did = absurd did
+cut_kind deed (OperatorUp opened) (WatcherUp ran) stop did = absurd did
+
+-- what a deed leaves of the records that there were, by what it gave, or that it was stopped
+abbrev pub CutLeaves : ℕ → Outcome → Deed → Option Given → List (List ℕ) → List (List ℕ) → Halves → Type 0
+CutLeaves calls outcome deed (Some given) notes leaves halves =
+    ((adds_record deed && nat_lt calls 4) ≡ false)
+    × AreLeft (with_record notes deed.note) (with_record leaves deed.leaf) halves
+CutLeaves calls outcome deed None notes leaves halves =
+    ((adds_record deed && nat_lt calls 4) ≡ true)
+    × AreLeft (cond (is_added calls outcome) (with_record notes deed.note) notes)
+    (cond (is_added calls outcome) (with_record leaves deed.leaf) leaves) halves
+
+or_false : (b : Bool) → (b || false) ≡ b
+or_false true = refl
+or_false false = refl
+
+-- the leaves of a node without any
+no_leaves : (added : Option (List ℕ)) → added ≡ None → with_record [] added ≡ []
+no_leaves added none = ap (with_record []) none
+
+module _ (calls fuse : ℕ) (fused : min 4 (fuse - 3) ≡ min 4 calls) (outcome : Outcome) (pattern : HasPattern outcome)
+  where
+    -- one disk alone
+    one_cut : (deed : Deed) (disk : MemState) → NoneListed disk → (state new : NotesState MemState)
+        → HalfOpened (kept_of disk.history) (with_fuse fuse disk) state → deed.leaf ≡ None → (given : Option Given)
+        → Rattle.node_journal.specs.Notes.Did mem_told mem_plan mem_faults deed.note state (stop_in given) new
+        → CutLeaves calls outcome deed given (kept_of disk.history) []
+        (record { notes = kept_half (crashed outcome new.disk); leaves = None })
+    one_cut deed disk none state new opened leaf (Some given) did =
+        let by = went calls fuse fused outcome pattern (kept_of disk.history) disk none state opened deed.note
+        new did in
+        let adds : adds_record deed ≡ is_some deed.note =
+        ap (λ (o : Option (List ℕ)). is_some deed.note || is_some o) leaf ∙ or_false (is_some deed.note) in (
+          ap (λ (b : Bool). b && nat_lt calls 4) adds ∙ by.0,
+          record {
+            left_notes = by.1;
+            left_leaves =
+                no_leaves deed.leaf leaf;
+          },
+        )
+    one_cut deed disk none state new opened leaf None did =
+        let by = met calls fuse fused outcome pattern (kept_of disk.history) disk none state opened deed.note
+        new did in
+        let adds : adds_record deed ≡ is_some deed.note =
+        ap (λ (o : Option (List ℕ)). is_some deed.note || is_some o) leaf ∙ or_false (is_some deed.note) in (
+          ap (λ (b : Bool). b && nat_lt calls 4) adds ∙ by.0,
+          record {
+            left_notes = by.1;
+            left_leaves = ap (λ (rs : List (List ℕ)). cond (is_added calls outcome) rs []) (no_leaves deed.leaf leaf)
+                ∙ same_if (is_added calls outcome) [];
+          },
+        )
+
+    -- both disks of a wallet
+    both_cut : {H : Type 0} (note leaf : Option (List ℕ)) (gives : _) (notes leaves : MemState) → NoneListed notes
+        → NoneListed leaves → (state new : WalletState MemState H)
+        → HalfOpened (kept_of notes.history) (with_fuse fuse notes) (notes_part state)
+        → HalfOpened (kept_of leaves.history) (with_fuse fuse leaves) (leaves_part state)
+        → (note ≡ None) ⊎ (leaf ≡ None) → (given : Option Given)
+        → DidEither mem_told mem_plan mem_faults leaf note state (stop_in given) new
+        → CutLeaves calls outcome (record { gives = gives; note = note; leaf = leaf }) given (kept_of notes.history)
+        (kept_of leaves.history)
+        (record {
+          notes = kept_half (crashed outcome new.notes_disk);
+          leaves = Some (kept_half (crashed outcome new.leaves_disk));
+        })
+    both_cut added None gives notes leaves none none' state new first second one (Some given) did =
+        let by = went calls fuse fused outcome pattern (kept_of notes.history) notes none (notes_part state)
+        first added
+        (notes_part new) did.did in
+        let stays = idle calls fuse fused outcome pattern (kept_of leaves.history) leaves none' (leaves_part
+        state) second
+        new.leaves_disk did.disk in (
+          ap (λ (b : Bool). b && nat_lt calls 4) (or_false (is_some added)) ∙ by.0,
+          record { left_notes = by.1; left_leaves = stays },
+        )
+    both_cut added None gives notes leaves none none' state new first second one None did =
+        let by = met calls fuse fused outcome pattern (kept_of notes.history) notes none (notes_part state)
+        first added
+        (notes_part new) did.did in
+        let stays = idle calls fuse fused outcome pattern (kept_of leaves.history) leaves none' (leaves_part
+        state) second
+        new.leaves_disk did.disk in (
+          ap (λ (b : Bool). b && nat_lt calls 4) (or_false (is_some added)) ∙ by.0,
+          record {
+            left_notes = by.1;
+            left_leaves = subst (λ (rs : List (List ℕ)). IsLeft rs (kept_half (crashed outcome new.leaves_disk)))
+                (sym (same_if (is_added calls outcome) (kept_of leaves.history))) stays;
+          },
+        )
+    both_cut (Some note) (Some leaf) gives notes leaves none none' state new first second one given did =
+        absurd (elim one [ inl bad ↦ cc bad | inr bad ↦ cc bad ])
+    both_cut None (Some leaf) gives notes leaves none none' state new first second one (Some given) did =
+        let by = went calls fuse fused outcome pattern (kept_of leaves.history) leaves none' (leaves_part
+        state) second
+        (Some leaf) (leaves_part new) did.did in
+        let stays = idle calls fuse fused outcome pattern (kept_of notes.history) notes none (notes_part state) first
+        new.notes_disk did.disk in
+        (by.0, record { left_notes = stays; left_leaves = by.1 })
+    both_cut None (Some leaf) gives notes leaves none none' state new first second one None did =
+        let by = met calls fuse fused outcome pattern (kept_of leaves.history) leaves none' (leaves_part state) second
+        (Some leaf) (leaves_part new) did.did in
+        let stays = idle calls fuse fused outcome pattern (kept_of notes.history) notes none (notes_part state) first
+        new.notes_disk did.disk in (
+          by.0,
+          record {
+            left_notes = subst (λ (rs : List (List ℕ)). IsLeft rs (kept_half (crashed outcome new.notes_disk)))
+                (sym (same_if (is_added calls outcome) (kept_of notes.history))) stays;
+            left_leaves = by.1;
+          },
+        )
+
+    -- a node of either kind
+    pub node_cut : {H : Type 0} (dig : List ℕ → List ℕ) (deed : Deed) (down : DownNode) (opened ran : UpNode H)
+        (given : Option Given) → KeepsAll (down_halves down) → NoneListedOf (down_halves down) → AddsFew deed opened
+        → Opens dig (with_disks (with_fuse fuse) down) opened → UpDid deed opened (stop_in given) ran
+        → CutLeaves calls outcome deed given (down_halves down).notes.records (leaves_of (down_halves down))
+        (down_halves (with_disks (crashed outcome) (taken_down ran)))
+    node_cut dig deed (WalletDown notes leaves key) (WalletUp state) (WalletUp new) given keeps none few opens did =
+        let first = half_opened (role_in (wallet_kinds dig)) (role_reads (wallet_kinds dig)) (kept_of notes.history)
+        (with_fuse fuse notes) (notes_part state) opens.opens_notes keeps.notes in
+        let second = half_opened (leaf_records_in_of is_body (key_leaves state.records.notes))
+        (leaf_reads is_body (key_leaves state.records.notes)) (kept_of leaves.history) (with_fuse fuse leaves)
+        (leaves_part state) opens.opens_leaves (keeps.leaves (kept_half leaves) refl) in
+        both_cut deed.note deed.leaf deed.gives notes leaves none.notes (none.leaves (kept_half leaves) refl)
+        state new first
+        second few given did
+    node_cut dig deed (WatcherDown notes) (WatcherUp state) (WatcherUp new) given keeps none few opens did =
+        let first = half_opened (role_in (watcher_kinds dig)) (role_reads (watcher_kinds dig)) (kept_of notes.history)
+        (with_fuse fuse notes) state.notes opens keeps.notes in
+        one_cut deed notes none.notes state.notes new.notes first few given did.0
+    node_cut dig deed (OperatorDown notes) (OperatorUp state) (OperatorUp new) given keeps none few opens did =
+        let first = half_opened (role_in operator_kinds) (role_reads operator_kinds) (kept_of notes.history)
+        (with_fuse fuse notes) state.notes opens keeps.notes in
+        one_cut deed notes none.notes state.notes new.notes first few given did.0
+    node_cut dig deed (WalletDown notes leaves key) (WatcherUp state) ran given keeps none few opens did =
+        absurd opens
+    node_cut dig deed (WalletDown notes leaves key) (OperatorUp state) ran given keeps none few opens did =
+        absurd opens
+    node_cut dig deed (WatcherDown notes) (WalletUp state) ran given keeps none few opens did = absurd opens
+    node_cut dig deed (WatcherDown notes) (OperatorUp state) ran given keeps none few opens did = absurd opens
+    node_cut dig deed (OperatorDown notes) (WalletUp state) ran given keeps none few opens did = absurd opens
+    node_cut dig deed (OperatorDown notes) (WatcherUp state) ran given keeps none few opens did = absurd opens
+    node_cut dig deed (WalletDown notes leaves key) (WalletUp state) (WatcherUp new) given keeps none few opens did =
+        absurd did
+    node_cut dig deed (WalletDown notes leaves key) (WalletUp state) (OperatorUp new) given keeps none few opens did =
+        absurd did
+    node_cut dig deed (WatcherDown notes) (WatcherUp state) (WalletUp new) given keeps none few opens did = absurd did
+    node_cut dig deed (WatcherDown notes) (WatcherUp state) (OperatorUp new) given keeps none few opens did =
+        absurd did
+    node_cut dig deed (OperatorDown notes) (OperatorUp state) (WalletUp new) given keeps none few opens did =
+        absurd did
+    node_cut dig deed (OperatorDown notes) (OperatorUp state) (WatcherUp new) given keeps none few opens did =
+        absurd did

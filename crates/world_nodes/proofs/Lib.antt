@@ -1,0 +1,9 @@
+pub mod Halves
+pub mod Members
+pub mod Stops
+pub mod Runs
+pub mod Cuts
+pub mod Entries
+pub mod Declared
+pub mod Places
+pub mod CutOpenings

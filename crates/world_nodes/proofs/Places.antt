@@ -1,0 +1,141 @@
+-- What the calls of an entry do to its node, by the places of the code: the site that was taken, and where one was put.
+use Rattle.std.proofs.Common.{◌≡◌, ◌-◌, [], ℕ, min, true, false, List, Option, None, sym, ◌∙◌, ap, subst}
+use Rattle.crash_disk.specs.Memory.{with_fuse}
+use Rattle.crash_disk.specs.Outcomes.{HasPattern}
+use Rattle.crash_disk.specs.declared.outcome.Outcome.{Outcome}
+use Rattle.plasma_tx.specs.declared.call.RootCall.{RootCall}
+use Rattle.world_trace.specs.declared.given.Given.{Given}
+use Rattle.world_trace.specs.Given.{IsGiven}
+use Rattle.world_nodes.specs.declared.order.NodeOrder.{NodeOrder}
+use Rattle.world_nodes.specs.declared.order.NodeOrder.TheVariants.{Open}
+use Rattle.world_nodes.specs.declared.order.CutEnd.{CutEnd}
+use Rattle.world_nodes.specs.declared.kept.Counts.{Counts}
+use Rattle.world_nodes.specs.declared.down.DownNode.{DownNode}
+use Rattle.world_nodes.specs.declared.up.UpNode.{UpNode}
+use Rattle.world_nodes.specs.declared.entry.Site.{Site}
+use Rattle.world_nodes.specs.declared.entry.Site.TheVariants.{Up, Down, Gone}
+use Rattle.world_nodes.specs.declared.entry.Member.{Member}
+use Rattle.world_nodes.specs.Orders.{fits, is_opening_order, order_deed}
+use Rattle.world_nodes.specs.Nodes.{NodeView, role_of, Spells, IsDone, Crashes}
+use Rattle.world_nodes.specs.Cuts.{Cuts}
+use Rattle.world_nodes.specs.Inside.{crashed, bare_node, down_kind, down_halves, with_disks, up_halves, up_hash, Opens, UpDid, IsDownOf, IsCutShort, IsCutOpening, opening_gives, counts_of, end_in, member_kind, view_of, IsWhole}
+use Rattle.world_nodes.proofs.Members.{lost}
+use Rattle.world_nodes.proofs.Cuts.{down_is, with_kind}
+use Rattle.world_nodes.proofs.Entries.{command_done, opening_comes, crash_comes, cut_comes, cut_opening_comes}
+
+-- what holds of the node after a call holds of the site where it was put
+moved : {H : Type 0} (hash : H) (name : List ℕ) (account : ℕ) (member : Member) (more : List RootCall)
+    (after put : Site H) (P : NodeView H → Type 0) → after ≡ put
+    → P (view_of hash name account member put more) × Spells (view_of hash name account member put more)
+    × IsWhole hash member put
+    → P (view_of hash name account member after more) × Spells (view_of hash name account member after more)
+    × IsWhole hash member after
+moved {H} hash name account member more after put P is all =
+    subst (λ (s : Site H). P (view_of hash name account member s more)
+    × Spells (view_of hash name account member s more) × IsWhole hash member s) (sym is) all
+
+-- a site that was taken, and is then lost
+pub lost_at : {H : Type 0} (hash : H) (member : Member) (site after : Site H) → IsWhole hash member site
+    → after ≡ Gone → IsWhole hash member after
+lost_at {H} hash member site after whole is = subst (IsWhole hash member) (sym is) (lost hash member site whole)
+
+pub command_at : {H : Type 0} (digest : H → List ℕ → List ℕ) (hash : H) (name : List ℕ) (account : ℕ)
+    (member : Member) (offers more : List RootCall) (old : NodeView H) (site taken after : Site H) (node new :
+    UpNode H)
+    (log : List RootCall) (n : ℕ) (order : NodeOrder) (given : Given)
+    → view_of hash name account member site offers ≡ old → IsWhole hash member site → Spells old → taken ≡ site
+    → taken ≡ Up node → fits old.node.role order ≡ true → is_opening_order order ≡ false
+    → UpDid (order_deed (digest (up_hash node)) log n (bare_node (up_halves node)) order) node None new
+    → IsGiven (order_deed (digest (up_hash node)) log n (bare_node (up_halves node)) order).gives given
+    → more ≡ given.offers.items → after ≡ Up new
+    → IsDone order (order_deed (digest old.hash) log n old.node order) old given
+    (view_of hash name account member after more)
+    × Spells (view_of hash name account member after more) × IsWhole hash member after
+command_at digest hash name account member offers more old site taken after node new log n order given is whole spells
+    same at fit command did gives copied put =
+    moved hash name account member more after (Up new)
+    (IsDone order (order_deed (digest old.hash) log n old.node order) old given) put
+    (command_done digest hash name account member offers more old site node new log n order given is whole spells
+    (sym same ∙ at) fit command did gives copied)
+
+pub opening_at : {H : Type 0} (digest : H → List ℕ → List ℕ) (hash : H) (name : List ℕ) (account : ℕ)
+    (member : Member) (offers more : List RootCall) (old : NodeView H) (site taken after : Site H) (down : DownNode)
+    (up : UpNode H) (log : List RootCall) (n : ℕ) (given : Given)
+    → view_of hash name account member site offers ≡ old → IsWhole hash member site → Spells old → taken ≡ site
+    → taken ≡ Down down → Opens (digest hash) down up → up_hash up ≡ hash
+    → IsGiven (opening_gives (up_halves up)) given → more ≡ [] → after ≡ Up up
+    → IsDone Open (order_deed (digest old.hash) log n old.node Open) old given
+    (view_of hash name account member after more)
+    × Spells (view_of hash name account member after more) × IsWhole hash member after
+opening_at digest hash name account member offers more old site taken after down up log n given is whole spells
+    same at
+    opens same_hash gives none put =
+    moved hash name account member more after (Up up)
+    (IsDone Open (order_deed (digest old.hash) log n old.node Open) old given) put
+    (opening_comes digest hash name account member offers more old site down up log n given is whole spells
+    (sym same ∙ at) opens same_hash gives none)
+
+pub crash_at : {H : Type 0} (hash : H) (name : List ℕ) (account : ℕ) (member : Member) (offers more : List RootCall)
+    (old : NodeView H) (site taken after : Site H) (down new : DownNode) (outcome : Outcome)
+    → view_of hash name account member site offers ≡ old → IsWhole hash member site → Spells old → taken ≡ site
+    → IsDownOf taken down → new ≡ with_disks (crashed outcome) down → more ≡ [] → after ≡ Down new
+    → Crashes outcome old (view_of hash name account member after more)
+    × Spells (view_of hash name account member after more) × IsWhole hash member after
+crash_at {H} hash name account member offers more old site taken after down new outcome is whole spells same at
+    crashes
+    none put =
+    moved hash name account member more after (Down new) (Crashes outcome old) put
+    (crash_comes hash name account member offers more old site down new outcome is whole spells
+    (subst (λ (s : Site H). IsDownOf s down) same at) crashes none)
+
+pub cut_at : {H : Type 0} (digest : H → List ℕ → List ℕ) (hash : H) (name : List ℕ) (account : ℕ)
+    (member : Member) (offers more : List RootCall) (old : NodeView H) (site taken after : Site H)
+    (down fused ran new : DownNode) (log : List RootCall) (n calls fuse : ℕ) (outcome : Outcome) (order : NodeOrder)
+    (given : Option Given) (before : Counts) (end : CutEnd)
+    → view_of hash name account member site offers ≡ old → IsWhole hash member site → Spells old
+    → old.node.is_up ≡ true → fits old.node.role order ≡ true → is_opening_order order ≡ false → HasPattern outcome
+    → taken ≡ site → IsDownOf taken down → before ≡ counts_of (down_halves down) → min 4 (fuse - 3) ≡ min 4 calls
+    → fused ≡ with_disks (with_fuse fuse) down → IsCutShort H (digest hash) log n order fused given ran
+    → new ≡ with_disks (crashed outcome) ran → end ≡ end_in before (down_halves new) given → more ≡ []
+    → after ≡ Down new
+    → Cuts (digest old.hash) log n calls outcome order old end (view_of hash name account member after more)
+    × Spells (view_of hash name account member after more) × IsWhole hash member after
+cut_at {H} digest hash name account member offers more old site taken after down fused ran new log n calls fuse
+    outcome order
+    given before end is whole spells up fit command pattern same at counted fuses fusing cut crashes ending none put =
+    moved hash name account member more after (Down new)
+    (Cuts (digest old.hash) log n calls outcome order old end) put
+    (cut_comes digest hash name account member offers more old site down fused ran new log n calls fuse outcome
+    order given
+    before end is whole spells up fit command pattern (subst (λ (s : Site H). IsDownOf s down) same at) counted fuses
+    fusing cut crashes ending none)
+
+pub cut_opening_at : {H : Type 0} (digest : H → List ℕ → List ℕ) (hash : H) (name : List ℕ) (account : ℕ)
+    (member : Member) (offers more : List RootCall) (old : NodeView H) (site taken after : Site H)
+    (down fused left new : DownNode) (log : List RootCall) (n calls : ℕ) (outcome : Outcome) (end : CutEnd)
+    → view_of hash name account member site offers ≡ old → IsWhole hash member site → Spells old → taken ≡ site
+    → taken ≡ Down down → fused ≡ with_disks (with_fuse calls) down
+    → IsCutOpening H (digest hash) calls fused end left → new ≡ with_disks (crashed outcome) left → more ≡ []
+    → after ≡ Down new
+    → Cuts (digest old.hash) log n calls outcome Open old end (view_of hash name account member after more)
+    × Spells (view_of hash name account member after more) × IsWhole hash member after
+cut_opening_at digest hash name account member offers more old site taken after down fused left new log n calls
+    outcome end
+    is whole spells same at fusing cut crashes none put =
+    moved hash name account member more after (Down new)
+    (Cuts (digest old.hash) log n calls outcome Open old end) put
+    (cut_opening_comes digest hash name account member offers more old site down fused left new log n calls
+    outcome end is
+    whole spells (sym same ∙ at) fusing cut crashes none)
+
+-- the order fits the disks with a fuse
+pub cut_fits : {H : Type 0} (hash : H) (name : List ℕ) (account : ℕ) (member : Member) (offers : List RootCall)
+    (old : NodeView H) (site taken : Site H) (down fused : DownNode) (fuse : ℕ) (order : NodeOrder)
+    → view_of hash name account member site offers ≡ old → IsWhole hash member site
+    → fits old.node.role order ≡ true → taken ≡ site → IsDownOf taken down → fused ≡ with_disks (with_fuse fuse) down
+    → fits (role_of (down_kind fused)) order ≡ true
+cut_fits {H} hash name account member offers old site taken down fused fuse order is whole fit same at fusing =
+    let kind : down_kind fused ≡ member_kind member =
+    ap down_kind fusing ∙ (with_kind (with_fuse fuse) down
+    ∙ down_is hash member site down (subst (λ (s : Site H). IsDownOf s down) same at) whole) in
+    ap (λ k. fits (role_of k) order) kind ∙ (ap (λ (v : NodeView H). fits v.node.role order) is ∙ fit)

@@ -1,0 +1,40 @@
+use Rattle.std.proofs.Common.{Some, None, subst}
+use Rattle.node_journal.specs.declared.stop.Stop.{Stop}
+use Rattle.world_rules.specs.Deeds.{Deed}
+use Rattle.world_trace.specs.Given.{IsGiven}
+use Rattle.world_nodes.specs.Orders.{order_deed}
+use Rattle.world_nodes.specs.Inside.{bare_node, up_halves, UpDid}
+use Rattle.world_nodes.proofs.cutting.run_cut.Goals as goal
+
+pub returns-in-Ok : goal.returns-in-Ok
+returns-in-Ok g c =
+    let node = c.in_ok-node.node in
+    let new = c.run_up-ran.new.node in
+    let deed : g.row.H.Denot → Deed = λ h. order_deed (g.H.Hash32.digest_of h) c.args.log.now.log g.n
+    (bare_node (up_halves node)) c.args.order.now in
+    record {
+      opened = node;
+      ran = new;
+      opens = c.in_ok-node.ensures.opens;
+      did = subst (λ (h : g.row.H.Denot). UpDid (deed h) node None new) c.in_ok-node.ensures.hash c.in-Ok.ensures.did;
+      gives = subst (λ (h : g.row.H.Denot). IsGiven (deed h).gives c.in-Ok.given) c.in_ok-node.ensures.hash
+          c.in-Ok.ensures.gives;
+      down = c.take_down-down.ensures;
+    }
+
+pub returns-in-DeviceFault : goal.returns-in-DeviceFault
+returns-in-DeviceFault g c =
+    let node = c.in_ok-node.node in
+    let new = c.run_up-ran.new.node in
+    let deed : g.row.H.Denot → Deed = λ h. order_deed (g.H.Hash32.digest_of h) c.args.log.now.log g.n
+    (bare_node (up_halves node)) c.args.order.now in
+    let did = subst (λ (s : Stop). UpDid (deed (Rattle.world_nodes.specs.Inside.up_hash node)) node (Some s) new)
+    c.in-DeviceFault.is c.in-Err.ensures.did in
+    record {
+      opened = node;
+      ran = new;
+      opens = c.in_ok-node.ensures.opens;
+      did = subst (λ (h : g.row.H.Denot). UpDid (deed h) node (Some _) new) c.in_ok-node.ensures.hash did;
+      gives = tt;
+      down = c.take_down-down.ensures;
+    }

@@ -1,0 +1,29 @@
+use Rattle.std.proofs.Common.{◌≡◌, List, subst, sym}
+use Rattle.plasma_tx.specs.declared.call.RootCall.{RootCall}
+use Rattle.world_rules.specs.Steps.{new_node}
+use Rattle.world_nodes.specs.declared.entry.Site.TheVariants.{Up}
+use Rattle.world_nodes.specs.Nodes.{role_of, Spells}
+use Rattle.world_nodes.specs.Inside.{first_note, member_kind, view_of}
+use Rattle.world_nodes.proofs.Declared.{declared_comes}
+use Rattle.world_nodes.proofs.declaring.over.Goals as goal
+
+pub invariant_of-result : goal.invariant_of-result
+invariant_of-result g c = (declared_comes g.H.Hash32.digest_of c.args.hash c.args.name c.args.account c.args.member
+    c.args.down c.in_ok-node.node c.requires c.in_ok-node.ensures.opens c.in_ok-node.ensures.hash).2
+
+pub returns-clause-node : goal.returns-clause-node
+returns-clause-node g c =
+    let all = declared_comes g.H.Hash32.digest_of c.args.hash c.args.name c.args.account c.args.member
+    c.args.down c.in_ok-node.node c.requires c.in_ok-node.ensures.opens c.in_ok-node.ensures.hash in
+    subst (λ (os : List RootCall). (view_of c.args.hash c.args.name c.args.account c.args.member (Up
+    c.in_ok-node.node) os).node
+    ≡ new_node (role_of (member_kind c.args.member)) c.args.name c.args.account (first_note c.args.down))
+    (sym c.new.ensures.items) all.0
+
+pub returns-clause-spells : goal.returns-clause-spells
+returns-clause-spells g c =
+    let all = declared_comes g.H.Hash32.digest_of c.args.hash c.args.name c.args.account c.args.member
+    c.args.down c.in_ok-node.node c.requires c.in_ok-node.ensures.opens c.in_ok-node.ensures.hash in
+    subst (λ (os : List RootCall). Spells (view_of c.args.hash c.args.name c.args.account c.args.member (Up
+    c.in_ok-node.node) os))
+    (sym c.new.ensures.items) all.1

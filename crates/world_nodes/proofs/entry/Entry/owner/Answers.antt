@@ -1,0 +1,14 @@
+use Rattle.std.proofs.Common.{◌≡◌, Some, None, cond, subst}
+use Rattle.world_rules.specs.World.{is_wallet_role, owner_of_node}
+use Rattle.world_nodes.specs.Nodes.{NodeView}
+use Rattle.world_nodes.proofs.Members.{wallet_owner}
+use Rattle.world_nodes.proofs.entry.Entry.owner.Goals as goal
+
+pub returns-in-Wallet : goal.returns-in-Wallet
+returns-in-Wallet g c =
+    let e = c.self.inside in
+    subst (λ (v : NodeView _). Some c.in-Wallet.owner ≡ cond (is_wallet_role v.node.role) (Some (owner_of_node
+    v.node)) None)
+    c.self.view_is
+    (wallet_owner e.hash e.name e.account e.member e.site e.offers.items c.in-Wallet.who c.in-Wallet.owner
+    c.in-Wallet.is c.self.invariant)

@@ -1,0 +1,4 @@
+pub mod Nodes
+pub mod Orders
+pub mod Cuts
+pub mod Inside

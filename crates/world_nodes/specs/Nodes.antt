@@ -1,0 +1,123 @@
+-- A node of a world over disks in memory, and what may be said of it: what its disks leave, and what an order, a crash
+-- and a declaration do.
+use Rattle.std.specs.Prelude.{◌≡◌, ℕ, Bool, true, false, ◌&&◌, not, List, length, codes, Option, Some, None, option_map, MatchBool}
+use Rattle.std.specs.Option.{ForSome}
+use Rattle.crash_disk.specs.Disk.{History, fresh_history, content, MayLeave}
+use Rattle.crash_disk.specs.Calls.{with_made}
+use Rattle.crash_disk.specs.Outcomes.{image_after}
+use Rattle.crash_disk.specs.declared.outcome.Outcome.{Outcome}
+use Rattle.gate_journal.specs.Image.{spelled}
+use Rattle.gate_journal.specs.Steps.{append_steps, open_steps}
+use Rattle.gate_journal.specs.Journal.{Keeps}
+use Rattle.plasma_tx.specs.declared.call.RootCall.{RootCall}
+use Rattle.node_rules.specs.declared.identity.WalletIdentity.{WalletIdentity}
+use Rattle.node_rules.specs.WalletRecords.{identity_text as wallet_text}
+use Rattle.node_rules.specs.Watcher.{identity_text as watcher_text}
+use Rattle.operator_rules.specs.Records.{identity_text as operator_text}
+use Rattle.world_rules.specs.declared.reply.Reply.{Reply}
+use Rattle.world_rules.specs.Events.{Idle}
+use Rattle.world_rules.specs.World.{Role, Wallet, Watcher, Operator, Node}
+use Rattle.world_rules.specs.Deeds.{Deed, says}
+use Rattle.world_rules.specs.Steps.{new_node, after_command, after_crash}
+use Rattle.world_trace.specs.declared.given.Given.{Given}
+use Rattle.world_trace.specs.Given.{IsGiven}
+use Rattle.world_nodes.specs.declared.order.NodeKind.{NodeKind}
+use Rattle.world_nodes.specs.declared.order.NodeKind.TheVariants.{Wallet as WalletKind, Watcher as WatcherKind, Operator as OperatorKind}
+use Rattle.world_nodes.specs.declared.order.NodeOrder.{NodeOrder}
+use Rattle.world_nodes.specs.Orders.{is_opening_order, order_deed}
+
+-- a node, what the disk of its notes and that of its leaves tell, and the digest that it is opened with; wallets alone
+-- have a disk of leaves
+pub record NodeView (H : Type 0) : Type 0 where
+  pub node : Node
+  pub notes_disk : History
+  pub leaves_disk : Option History
+  pub hash : H
+
+-- the role that a kind of node plays
+abbrev pub role_of : NodeKind → Role
+role_of WalletKind = Wallet
+role_of WatcherKind = Watcher
+role_of OperatorKind = Operator
+
+-- each image that a crash now may leave of a disk keeps these records
+abbrev pub EachKeeps : List (List ℕ) → History → Type 0
+EachKeeps records disk = (image : List ℕ) → MayLeave disk image → Keeps records image
+
+-- each image that a crash now may leave of the notes' disk keeps the node's notes, and of the leaves' disk its leaves
+pub record Spells {H : Type 0} (view : NodeView H) : Type 0 where
+  pub notes : EachKeeps view.node.notes view.notes_disk
+  pub leaves : ForSome view.leaves_disk (EachKeeps view.node.leaves)
+
+-- ---- declarations
+
+-- the nodes that are declared, by who they are
+abbrev pub new_wallet : List ℕ → WalletIdentity → Node
+new_wallet name who = new_node Wallet name who.account (wallet_text who)
+
+abbrev pub new_watcher : List ℕ → List ℕ → ℕ → Node
+new_watcher name tag account =
+    new_node Watcher name account (watcher_text (record { tag = tag; account = account }))
+
+abbrev pub new_operator : List ℕ → ℕ → Node
+new_operator tag account =
+    new_node Operator (codes "op") account (operator_text (record { tag = tag; account = account; key_seed = None }))
+
+-- ---- orders
+
+-- the order opens a node that is down
+abbrev pub brings_up : NodeOrder → Node → Bool
+brings_up order node = not node.is_up && is_opening_order order
+
+-- the node answers the order as one that is down
+abbrev pub answers_down : NodeOrder → Node → Bool
+answers_down order node = not node.is_up && not (is_opening_order order)
+
+-- what a disk tells after an append behind these records, if there was one
+abbrev pub with_append : List (List ℕ) → Option (List ℕ) → History → History
+with_append records None disk = disk
+with_append records (Some body) disk = with_made 4 (append_steps (length (spelled records)) body) disk
+
+-- what a disk tells after an opening
+abbrev pub with_opening : History → History
+with_opening disk = with_made 3 (open_steps (content disk)) disk
+
+-- what a disk tells after an order: the calls of an opening, or those of an append, if there was one
+abbrev pub disk_after : Bool → List (List ℕ) → Option (List ℕ) → History → History
+disk_after true records added disk = with_opening disk
+disk_after false records added disk = with_append records added disk
+
+-- an order of a node that is down, other than an opening: it is answered so, and nothing changes
+pub record IsDown {H : Type 0} (old : NodeView H) (given : Given) (new : NodeView H) : Type 0 where
+  pub gives : IsGiven (says Reply.Down Idle) given
+  pub stays : new ≡ old
+
+-- an order was done, and this is what it did
+pub record IsDone {H : Type 0} (order : NodeOrder) (deed : Deed) (old : NodeView H) (given : Given) (new : NodeView H)
+    : Type 0 where
+  pub gives : IsGiven deed.gives given
+  pub node : new.node ≡ after_command old.node deed
+  pub notes_disk : new.notes_disk ≡ disk_after (brings_up order old.node) old.node.notes deed.note old.notes_disk
+  pub leaves_disk : new.leaves_disk
+      ≡ option_map (disk_after (brings_up order old.node) old.node.leaves deed.leaf) old.leaves_disk
+  pub hash : new.hash ≡ old.hash
+
+-- what an order of a node did, of which the node has number n
+abbrev pub Runs : {H : Type 0} → (List ℕ → List ℕ) → List RootCall → ℕ → NodeOrder → NodeView H → Given → NodeView H
+    → Type 0
+Runs dig log n order old given new =
+    MatchBool (answers_down order old.node) (IsDown old given new)
+    (IsDone order (order_deed dig log n old.node order) old given new)
+
+-- ---- crashes
+
+-- what a disk tells after a crash
+abbrev pub crashed_disk : Outcome → History → History
+crashed_disk outcome disk = fresh_history (image_after outcome disk)
+
+-- a node crashed, and each of its disks with this outcome
+pub record Crashes {H : Type 0} (outcome : Outcome) (old new : NodeView H) : Type 0 where
+  pub node : new.node ≡ after_crash old.node
+  pub notes_disk : new.notes_disk ≡ crashed_disk outcome old.notes_disk
+  pub leaves_disk : new.leaves_disk ≡ option_map (crashed_disk outcome) old.leaves_disk
+  pub hash : new.hash ≡ old.hash

@@ -1,0 +1,25 @@
+ghost use Rattle.std.specs.Prelude.{◌≡◌, OnOk};
+ghost use Rattle.crash_disk.specs.Outcomes.{HasPattern};
+ghost use Rattle.world_nodes.specs.Nodes.{Spells, Crashes};
+
+use super::entry::{Entry, Site, down_of, put, take};
+use crash_disk::Outcome;
+use plasma_base::{Hash32, NoMemory};
+
+impl<H: Hash32 + Copy> Entry<H> {
+    /// Brings the node down: each of its disks crashes with this outcome. Its records stay, and it offers
+    /// nothing. The bytes of a mix aren't empty. `NoMemory` may lose the node.
+    pub fn crash(&mut self, outcome: &Outcome) -> Result<(), NoMemory>
+        requires pattern { HasPattern outcome.now }
+        requires spells { Spells self.old }
+        ensures crashes { OnOk result (Crashes outcome.now self.old self.new) }
+        ensures spells { OnOk result (Spells self.new) }
+    {
+        let site = take(&mut self.site);
+        let down = down_of(site)?;
+        let down = down.crash(outcome)?;
+        put(&mut self.site, Site::Down(down));
+        self.offers.clear();
+        Ok(())
+    }
+}

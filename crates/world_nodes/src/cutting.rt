@@ -1,0 +1,237 @@
+ghost use Rattle.std.specs.Prelude.{◌≡◌, ◌-◌, min, ℕ, [], true, false, IfOk, OnOk};
+ghost use Rattle.crash_disk.specs.Outcomes.{HasPattern};
+ghost use Rattle.crash_disk.specs.Memory.{with_fuse};
+ghost use Rattle.world_nodes.specs.declared.order.NodeOrder.{NodeOrder};
+ghost use Rattle.world_nodes.specs.Orders.{fits, is_opening_order, order_deed};
+ghost use Rattle.world_nodes.specs.Nodes.{role_of, Spells};
+ghost use Rattle.world_nodes.specs.Cuts.{Cuts};
+ghost use Rattle.world_nodes.specs.Inside.{down_halves, down_kind, end_in, IsCutShort, IsCutOpening};
+
+use super::down::DownNode;
+use super::entry::{Entry, Site, closed_of, down_of, put, take};
+use super::kept::{Counts, count_records, kept_record};
+use super::order::{CutEnd, NodeOrder};
+use super::up::{counts, open_up, run_up, stop_up, take_down};
+use crash_disk::Outcome;
+use node_journal::Stop;
+use plasma_base::{Hash32, NoMemory};
+use plasma_tx::RootLog;
+use std::alloc::Global;
+use world_rules::Reply;
+use world_trace::{Given, says};
+
+// What is left of an order that was cut: the disks, and what it gave, where no device fault stopped it.
+#[derive(Drop)]
+struct CutShort {
+    down: DownNode,
+    given: Option<Given>,
+}
+
+// What is left of an opening that was cut: the disks, and how it ended.
+#[derive(Drop)]
+struct CutOpening {
+    down: DownNode,
+    end: CutEnd,
+}
+
+// A fuse that lets an opening and so many further calls of four pass.
+fn fuse_of(calls: u64) -> u64
+    ensures { min 4 (result - 3) ≡ min 4 calls }
+{
+    calls.saturating_add(3)
+}
+
+// Opens disks and runs an order on their node, as far as they let it.
+fn run_cut<H: Hash32 + Copy>(
+    alloc: Global,
+    hash: H,
+    down: DownNode,
+    log: &RootLog,
+    order: &NodeOrder,
+) -> Result<CutShort, NoMemory>
+    ghost n: { ℕ }
+    requires fits { fits (role_of (down_kind down)) order.now ≡ true }
+    requires is_command { is_opening_order order.now ≡ false }
+    ensures { IfOk result (λ cut.
+        IsCutShort H (H.digest_of hash) log.now.log n order.now down cut.given cut.down) }
+{
+    let mut node = open_up(alloc, hash, down)?;
+    let ran = run_up(alloc, &mut node, log, order);
+    let down = take_down(node);
+    match ran {
+        Ok(given) => Ok(CutShort {
+            down,
+            given: Some(given),
+        }),
+        Err(stop) => match stop {
+            Stop::DeviceFault => Ok(CutShort { down, given: None }),
+            _ => Err(NoMemory),
+        },
+    }
+}
+
+// Opens disks that let so many device calls pass.
+fn open_cut<H: Hash32 + Copy>(
+    alloc: Global,
+    hash: H,
+    down: DownNode,
+    calls: u64,
+) -> Result<CutOpening, NoMemory>
+    ensures { IfOk result (λ cut. IsCutOpening H (H.digest_of hash) calls down cut.end cut.down) }
+{
+    if calls < 3 {
+        let down = stop_up(alloc, hash, down)?;
+        return Ok(CutOpening {
+            down,
+            end: CutEnd::Stopped { kept: None },
+        });
+    }
+    let node = open_up(alloc, hash, down)?;
+    let (notes, leaves) = counts(&node);
+    Ok(CutOpening {
+        down: take_down(node),
+        end: CutEnd::Done {
+            given: says(alloc, Reply::Opened { notes, leaves }),
+        },
+    })
+}
+
+// How an order ended whose disks crashed, and held so many records before it.
+fn end_of(
+    alloc: Global,
+    down: &DownNode,
+    before: &Counts,
+    given: Option<Given>,
+) -> Result<CutEnd, NoMemory>
+    ensures { IfOk result (λ end. end ≡ end_in before.now (down_halves down.now) given) }
+{
+    match given {
+        Some(given) => Ok(CutEnd::Done { given }),
+        None => {
+            let kept = kept_record(alloc, down, before)?;
+            Ok(CutEnd::Stopped { kept })
+        }
+    }
+}
+
+impl<H: Hash32 + Copy> Entry<H> {
+    /// Runs an order of the node of which so many device calls may pass: those of an append of a node that is
+    /// up, or on each disk those of an opening of one that is down. Then the node goes down, and each of its
+    /// disks crashes with this outcome. The bytes of a mix aren't empty.
+    ///
+    /// The order is `Stopped` where it needs more calls, and then the record that the crash left of it is told;
+    /// else it is `Done`, but offers nothing. A node that is down does no order but the one that opens it: it
+    /// is `Down`, and nothing changes. `NoMemory` may lose the node.
+    pub fn cut(
+        &mut self,
+        log: &RootLog,
+        order: &NodeOrder,
+        calls: u64,
+        outcome: &Outcome,
+    ) -> Result<CutEnd, NoMemory>
+        ghost n: { ℕ }
+        requires fits { fits self.old.node.role order.now ≡ true }
+        requires pattern { HasPattern outcome.now }
+        requires spells { Spells self.old }
+        ensures cuts { IfOk result (λ end.
+            Cuts (H.digest_of self.old.hash) log.now.log n calls outcome.now order.now self.old end self.new) }
+        ensures spells { OnOk result (Spells self.new) }
+    {
+        match order {
+            NodeOrder::Open => self.cut_open(calls, outcome),
+            NodeOrder::Wallet(_) => self.cut_command(log, order, calls, outcome),
+            NodeOrder::Watcher(_) => self.cut_command(log, order, calls, outcome),
+            NodeOrder::Operator(_) => self.cut_command(log, order, calls, outcome),
+        }
+    }
+
+    // Cuts the order that opens the node.
+    fn cut_open(&mut self, calls: u64, outcome: &Outcome) -> Result<CutEnd, NoMemory>
+        ghost n: { ℕ }
+        requires pattern { HasPattern outcome.now }
+        requires spells { Spells self.old }
+        ensures cuts { IfOk result (λ end.
+            Cuts (H.digest_of self.old.hash) [] n calls outcome.now NodeOrder.Open self.old end self.new) }
+        ensures spells { OnOk result (Spells self.new) }
+    {
+        if self.is_up() {
+            self.crash(outcome)?;
+            return Ok(CutEnd::Done {
+                given: says(self.alloc, Reply::Up),
+            });
+        }
+        self.cut_opening(calls, outcome)
+    }
+
+    // Cuts the opening of a node that is down.
+    fn cut_opening(&mut self, calls: u64, outcome: &Outcome) -> Result<CutEnd, NoMemory>
+        ghost n: { ℕ }
+        requires pattern { HasPattern outcome.now }
+        requires spells { Spells self.old }
+        ensures cuts { IfOk result (λ end.
+            Cuts (H.digest_of self.old.hash) [] n calls outcome.now NodeOrder.Open self.old end self.new) }
+        ensures spells { OnOk result (Spells self.new) }
+    {
+        let site = take(&mut self.site);
+        let down = closed_of(site)?;
+        let opened = open_cut(self.alloc, self.hash, down.fuse(calls), calls)?;
+        let CutOpening { down, end } = opened;
+        let down = down.crash(outcome)?;
+        put(&mut self.site, Site::Down(down));
+        self.offers.clear();
+        Ok(end)
+    }
+
+    // Cuts an order that doesn't open the node.
+    fn cut_command(
+        &mut self,
+        log: &RootLog,
+        order: &NodeOrder,
+        calls: u64,
+        outcome: &Outcome,
+    ) -> Result<CutEnd, NoMemory>
+        ghost n: { ℕ }
+        requires fits { fits self.old.node.role order.now ≡ true }
+        requires is_command { is_opening_order order.now ≡ false }
+        requires pattern { HasPattern outcome.now }
+        requires spells { Spells self.old }
+        ensures cuts { IfOk result (λ end.
+            Cuts (H.digest_of self.old.hash) log.now.log n calls outcome.now order.now self.old end self.new) }
+        ensures spells { OnOk result (Spells self.new) }
+    {
+        if !self.is_up() {
+            return Ok(CutEnd::Down);
+        }
+        self.cut_up(log, order, calls, outcome)
+    }
+
+    // Cuts an order of a node that is up.
+    fn cut_up(
+        &mut self,
+        log: &RootLog,
+        order: &NodeOrder,
+        calls: u64,
+        outcome: &Outcome,
+    ) -> Result<CutEnd, NoMemory>
+        ghost n: { ℕ }
+        requires fits { fits self.old.node.role order.now ≡ true }
+        requires is_command { is_opening_order order.now ≡ false }
+        requires pattern { HasPattern outcome.now }
+        requires is_up { self.old.node.is_up ≡ true }
+        requires spells { Spells self.old }
+        ensures cuts { IfOk result (λ end.
+            Cuts (H.digest_of self.old.hash) log.now.log n calls outcome.now order.now self.old end self.new) }
+        ensures spells { OnOk result (Spells self.new) }
+    {
+        let site = take(&mut self.site);
+        let down = down_of(site)?;
+        let before = count_records(self.alloc, &down)?;
+        let cut = run_cut(self.alloc, self.hash, down.fuse(fuse_of(calls)), log, order)?;
+        let CutShort { down, given } = cut;
+        let down = down.crash(outcome)?;
+        let end = end_of(self.alloc, &down, &before, given)?;
+        put(&mut self.site, Site::Down(down));
+        self.offers.clear();
+        Ok(end)
+    }
+}

@@ -1,0 +1,177 @@
+ghost use Rattle.std.specs.Prelude.{◌≡◌, ◌∷◌, [], true, false, Some, None, IfOk, OnOk, option_map, if◌then◌else◌, codes, is_some};
+ghost use Rattle.crash_disk.specs.Outcomes.{HasPattern};
+ghost use Rattle.lms_sign.specs.Types.{is_supported};
+ghost use Rattle.node_rules.specs.WalletRecords.{who_is};
+ghost use Rattle.world_rules.specs.World.{is_wallet_role, owner_of_node};
+ghost use Rattle.world_nodes.specs.declared.entry.Site.{Site};
+ghost use Rattle.world_nodes.specs.Nodes.{new_wallet, new_watcher, new_operator, role_of, Spells};
+ghost use Rattle.world_nodes.specs.Inside.{member_kind, IsDownOf};
+
+use super::down::DownNode;
+use super::order::NodeKind;
+use super::up::{UpNode, take_down};
+use node_rules::WalletIdentity;
+use plasma_base::{Bytes, Hash32, NoMemory};
+use plasma_tx::{Owner, RootCall};
+use std::alloc::Global;
+use std::marker::Model;
+use std::mem;
+
+/// Where a node is: up, down with its disks alone, or lost, once memory ran out.
+#[derive(Drop)]
+pub enum Site<H: Hash32 + Copy> {
+    Up(UpNode<H>),
+    Down(DownNode),
+    Gone,
+}
+
+/// Who a node is. A wallet is this owner.
+#[derive(Debug, Clone, Copy)]
+pub enum Member {
+    Wallet { who: WalletIdentity, owner: Owner },
+    Watcher,
+    Operator,
+}
+
+/// A node of a world, over disks in memory. It is up or down; a call that answers `NoMemory` may lose it, and
+/// then each later call answers `NoMemory` too.
+#[derive(Drop)]
+pub struct Entry<H: Hash32 + Copy> {
+    pub(crate) alloc: Global,
+    pub(crate) hash: H,
+    pub(crate) name: Bytes,
+    pub(crate) account: u64,
+    pub(crate) member: Member,
+    pub(crate) site: Site<H>,
+    pub(crate) offers: Vec<RootCall>,
+}
+
+impl<H: Hash32 + Copy> Model for Entry<H> {
+    ghost use Rattle.world_nodes.specs.Nodes.{NodeView};
+
+    ghost Value = { NodeView H };
+
+    ghost use Rattle.world_nodes.specs.Inside.{view_of, IsWhole};
+
+    ghost view = { λ e. view_of e.hash e.name e.account e.member e.site e.offers.items };
+
+    ghost invariant = { λ e. IsWhole e.hash e.member e.site };
+}
+
+// Takes the node out, and leaves it lost.
+pub fn take<H: Hash32 + Copy>(site: &mut Site<H>) -> Site<H>
+    ensures taken { result ≡ site.old }
+    ensures gone { site.new ≡ Site.Gone }
+{
+    mem::replace(site, Site::Gone)
+}
+
+// Puts a node there.
+pub fn put<H: Hash32 + Copy>(site: &mut Site<H>, new: Site<H>)
+    ensures { site.new ≡ new }
+{
+    *site = new;
+}
+
+// Offers these calls.
+pub fn put_offers(offers: &mut Vec<RootCall>, new: Vec<RootCall>)
+    ensures { offers.new.items ≡ new.items }
+{
+    *offers = new;
+}
+
+// A node that is up.
+pub fn up_of<H: Hash32 + Copy>(site: Site<H>) -> Result<UpNode<H>, NoMemory>
+    ensures { IfOk result (λ node. site ≡ Site.Up node) }
+{
+    match site {
+        Site::Up(node) => Ok(node),
+        _ => Err(NoMemory),
+    }
+}
+
+// A node that is down.
+pub fn closed_of<H: Hash32 + Copy>(site: Site<H>) -> Result<DownNode, NoMemory>
+    ensures { IfOk result (λ down. site ≡ Site.Down down) }
+{
+    match site {
+        Site::Down(down) => Ok(down),
+        _ => Err(NoMemory),
+    }
+}
+
+// The disks of a node that isn't lost, and a wallet's key.
+pub fn down_of<H: Hash32 + Copy>(site: Site<H>) -> Result<DownNode, NoMemory>
+    ensures { IfOk result (IsDownOf site) }
+{
+    match site {
+        Site::Up(node) => Ok(take_down(node)),
+        Site::Down(down) => Ok(down),
+        Site::Gone => Err(NoMemory),
+    }
+}
+
+impl<H: Hash32 + Copy> Entry<H> {
+    /// The node's name.
+    pub fn name(&self) -> &[u8]
+        ensures { result.now ≡ self.now.node.name }
+    {
+        self.name.as_slice()
+    }
+
+    /// The node's account.
+    pub fn account(&self) -> u64
+        ensures { result ≡ self.now.node.account }
+    {
+        self.account
+    }
+
+    /// What the node is.
+    pub fn kind(&self) -> NodeKind
+        ensures { role_of result ≡ self.now.node.role }
+    {
+        match &self.member {
+            Member::Wallet { .. } => NodeKind::Wallet,
+            Member::Watcher => NodeKind::Watcher,
+            Member::Operator => NodeKind::Operator,
+        }
+    }
+
+    /// Whether the node is up.
+    pub fn is_up(&self) -> bool
+        ensures { result ≡ self.now.node.is_up }
+    {
+        match &self.site {
+            Site::Up(_) => true,
+            _ => false,
+        }
+    }
+
+    /// The calls that it offers, in order, lent.
+    pub fn offers(&self) -> &[RootCall]
+        ensures { result.now ≡ self.now.node.offers }
+    {
+        &self.offers
+    }
+
+    /// The owner that a wallet is; `None` for another node.
+    pub fn owner(&self) -> Option<Owner>
+        ensures { result ≡ (if is_wallet_role self.now.node.role then Some (owner_of_node self.now.node) else None) }
+    {
+        match &self.member {
+            Member::Wallet { owner, .. } => Some(*owner),
+            _ => None,
+        }
+    }
+
+    /// The seed of a wallet's key; `None` for another node.
+    pub fn seed(&self) -> Option<[u8; 32]>
+        ensures { result
+            ≡ (if is_wallet_role self.now.node.role then Some (who_is self.now.node.notes).seed else None) }
+    {
+        match &self.member {
+            Member::Wallet { who, .. } => Some(who.seed),
+            _ => None,
+        }
+    }
+}

@@ -1,0 +1,44 @@
+ghost use Rattle.std.specs.Prelude.{◌≡◌, ℕ, [], true, false, IfOk, OnOk};
+ghost use Rattle.world_nodes.specs.declared.order.NodeOrder.{NodeOrder};
+ghost use Rattle.world_nodes.specs.Orders.{order_deed};
+ghost use Rattle.world_nodes.specs.Nodes.{Spells, IsDone, Runs};
+
+use super::entry::{Entry, Site, closed_of, put, take};
+use super::up::{counts, open_up};
+use plasma_base::{Hash32, NoMemory};
+use world_rules::Reply;
+use world_trace::{Given, says};
+
+impl<H: Hash32 + Copy> Entry<H> {
+    // Opens the node, where it is down. No log is asked for.
+    pub(crate) fn open(&mut self) -> Result<Given, NoMemory>
+        ghost n: { ℕ }
+        requires { Spells self.old }
+        ensures runs { IfOk result (λ given.
+            Runs (H.digest_of self.old.hash) [] n NodeOrder.Open self.old given self.new) }
+        ensures spells { OnOk result (Spells self.new) }
+    {
+        if self.is_up() {
+            self.offers.clear();
+            return Ok(says(self.alloc, Reply::Up));
+        }
+        self.bring_up()
+    }
+
+    // Opens a node that is down.
+    fn bring_up(&mut self) -> Result<Given, NoMemory>
+        ghost n: { ℕ }
+        requires { Spells self.old }
+        ensures done { IfOk result (λ given. IsDone NodeOrder.Open
+            (order_deed (H.digest_of self.old.hash) [] n self.old.node NodeOrder.Open) self.old given self.new) }
+        ensures spells { OnOk result (Spells self.new) }
+    {
+        let site = take(&mut self.site);
+        let down = closed_of(site)?;
+        let node = open_up(self.alloc, self.hash, down)?;
+        let (notes, leaves) = counts(&node);
+        put(&mut self.site, Site::Up(node));
+        self.offers.clear();
+        Ok(says(self.alloc, Reply::Opened { notes, leaves }))
+    }
+}

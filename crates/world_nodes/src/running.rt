@@ -1,0 +1,127 @@
+ghost use Rattle.std.specs.Prelude.{◌≡◌, ℕ, [], true, false, None, IfOk, OnOk};
+ghost use Rattle.world_trace.specs.Given.{IsGiven};
+ghost use Rattle.world_nodes.specs.Orders.{fits, is_opening_order, order_deed};
+ghost use Rattle.world_nodes.specs.Nodes.{role_of, Spells, IsDone, Runs};
+ghost use Rattle.world_nodes.specs.Inside.{bare_node, up_closed, up_halves, up_hash, up_kind, UpDid};
+
+use super::entry::{Entry, Site, put, put_offers, take, up_of};
+use super::order::NodeOrder;
+use super::up::{UpNode, run_up};
+use plasma_base::{Hash32, NoMemory};
+use plasma_tx::{RootCall, RootLog};
+use std::alloc::Global;
+use world_rules::Reply;
+use world_trace::{Given, says};
+
+// A node that ran an order, what it gave, and a copy of what it offers.
+#[derive(Drop)]
+struct Ran<H: Hash32 + Copy> {
+    node: UpNode<H>,
+    given: Given,
+    offers: Vec<RootCall>,
+}
+
+// Equal calls.
+fn copy_calls(alloc: Global, calls: &[RootCall]) -> Result<Vec<RootCall>, NoMemory>
+    ensures { IfOk result (λ copied. copied.items ≡ calls.now) }
+{
+    let mut copied = Vec::with_capacity(alloc, calls.len())?;
+    for call in calls {
+        copied.push(call.copy()?)?;
+    }
+    Ok(copied)
+}
+
+// Runs an order on a node that is up.
+fn run_node<H: Hash32 + Copy>(
+    alloc: Global,
+    node: UpNode<H>,
+    log: &RootLog,
+    order: &NodeOrder,
+) -> Result<Ran<H>, NoMemory>
+    ghost n: { ℕ }
+    requires fits { fits (role_of (up_kind node)) order.now ≡ true }
+    requires is_command { is_opening_order order.now ≡ false }
+    requires is_open { up_closed node ≡ false }
+    ensures did { IfOk result (λ ran. UpDid
+        (order_deed (H.digest_of (up_hash node)) log.now.log n (bare_node (up_halves node)) order.now)
+        node None ran.node) }
+    ensures gives { IfOk result (λ ran. IsGiven
+        (order_deed (H.digest_of (up_hash node)) log.now.log n (bare_node (up_halves node)) order.now).gives
+        ran.given) }
+    ensures offers { IfOk result (λ ran. ran.offers.items ≡ ran.given.offers.items) }
+{
+    let mut node = node;
+    match run_up(alloc, &mut node, log, order) {
+        Ok(given) => {
+            let offers = copy_calls(alloc, &given.offers)?;
+            Ok(Ran {
+                node,
+                given,
+                offers,
+            })
+        }
+        Err(_) => Err(NoMemory),
+    }
+}
+
+impl<H: Hash32 + Copy> Entry<H> {
+    /// Runs an order of the node with the log of the root chain, and gives out its answer, the bytes that it
+    /// makes and the calls that it offers. A node that is down does no order but the one that opens it: it
+    /// answers `Down`, and nothing changes. `NoMemory` may lose the node.
+    pub fn run(&mut self, log: &RootLog, order: &NodeOrder) -> Result<Given, NoMemory>
+        ghost n: { ℕ }
+        requires fits { fits self.old.node.role order.now ≡ true }
+        requires spells { Spells self.old }
+        ensures runs { IfOk result (λ given.
+            Runs (H.digest_of self.old.hash) log.now.log n order.now self.old given self.new) }
+        ensures spells { OnOk result (Spells self.new) }
+    {
+        match order {
+            NodeOrder::Open => self.open(),
+            NodeOrder::Wallet(_) => self.obey(log, order),
+            NodeOrder::Watcher(_) => self.obey(log, order),
+            NodeOrder::Operator(_) => self.obey(log, order),
+        }
+    }
+
+    // Runs an order that doesn't open the node.
+    fn obey(&mut self, log: &RootLog, order: &NodeOrder) -> Result<Given, NoMemory>
+        ghost n: { ℕ }
+        requires fits { fits self.old.node.role order.now ≡ true }
+        requires is_command { is_opening_order order.now ≡ false }
+        requires spells { Spells self.old }
+        ensures runs { IfOk result (λ given.
+            Runs (H.digest_of self.old.hash) log.now.log n order.now self.old given self.new) }
+        ensures spells { OnOk result (Spells self.new) }
+    {
+        if !self.is_up() {
+            return Ok(says(self.alloc, Reply::Down));
+        }
+        self.command(log, order)
+    }
+
+    // Runs an order of a node that is up.
+    fn command(&mut self, log: &RootLog, order: &NodeOrder) -> Result<Given, NoMemory>
+        ghost n: { ℕ }
+        requires fits { fits self.old.node.role order.now ≡ true }
+        requires is_command { is_opening_order order.now ≡ false }
+        requires spells { Spells self.old }
+        ensures done { IfOk result (λ given. IsDone order.now
+            (order_deed (H.digest_of self.old.hash) log.now.log n self.old.node order.now)
+            self.old given self.new) }
+        ensures spells { OnOk result (Spells self.new) }
+    {
+        let site = take(&mut self.site);
+        let node = up_of(site)?;
+        let ran = run_node(self.alloc, node, log, order)?;
+        let Ran {
+            node,
+            given,
+            offers,
+        } = ran;
+        put(&mut self.site, Site::Up(node));
+        put_offers(&mut self.offers, offers);
+        Ok(given)
+    }
+}
