@@ -106,7 +106,7 @@ declared_comes {H} digest hash name account member down up is opens same =
     )
 
 -- a wallet's identity is read from its record
-first_reads : (who : WalletIdentity) → identity_in (identity_text who) ≡ Some who
+pub first_reads : (who : WalletIdentity) → identity_in (identity_text who) ≡ Some who
     → who_is (identity_text who ∷ []) ≡ who
 unfolding who_is
 first_reads who read = ap (λ o. option_map_or (λ w. w) o Rattle.node_rules.specs.WalletRecords.no_one) read

@@ -7,3 +7,4 @@ pub mod Entries
 pub mod Declared
 pub mod Places
 pub mod CutOpenings
+pub mod SameDeeds

@@ -14,6 +14,7 @@ impl<H: Hash32 + Copy> Entry<H> {
         requires spells { Spells self.old }
         ensures crashes { OnOk result (Crashes outcome.now self.old self.new) }
         ensures spells { OnOk result (Spells self.new) }
+        ensures hash { self.new.hash ≡ self.old.hash }
     {
         let site = take(&mut self.site);
         let down = down_of(site)?;

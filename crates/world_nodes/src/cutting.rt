@@ -129,6 +129,25 @@ impl<H: Hash32 + Copy> Entry<H> {
         calls: u64,
         outcome: &Outcome,
     ) -> Result<CutEnd, NoMemory>
+        requires fits { fits self.old.node.role order.now ≡ true }
+        requires pattern { HasPattern outcome.now }
+        requires spells { Spells self.old }
+        ensures cuts { IfOk result (λ end. (n : ℕ)
+            → Cuts (H.digest_of self.old.hash) log.now.log n calls outcome.now order.now self.old end self.new) }
+        ensures spells { OnOk result (Spells self.new) }
+        ensures hash { self.new.hash ≡ self.old.hash }
+    {
+        self.cut_as(log, order, calls, outcome)
+    }
+
+    // Cuts an order of a node that has this number.
+    fn cut_as(
+        &mut self,
+        log: &RootLog,
+        order: &NodeOrder,
+        calls: u64,
+        outcome: &Outcome,
+    ) -> Result<CutEnd, NoMemory>
         ghost n: { ℕ }
         requires fits { fits self.old.node.role order.now ≡ true }
         requires pattern { HasPattern outcome.now }
@@ -136,6 +155,7 @@ impl<H: Hash32 + Copy> Entry<H> {
         ensures cuts { IfOk result (λ end.
             Cuts (H.digest_of self.old.hash) log.now.log n calls outcome.now order.now self.old end self.new) }
         ensures spells { OnOk result (Spells self.new) }
+        ensures hash { self.new.hash ≡ self.old.hash }
     {
         match order {
             NodeOrder::Open => self.cut_open(calls, outcome),
@@ -153,6 +173,7 @@ impl<H: Hash32 + Copy> Entry<H> {
         ensures cuts { IfOk result (λ end.
             Cuts (H.digest_of self.old.hash) [] n calls outcome.now NodeOrder.Open self.old end self.new) }
         ensures spells { OnOk result (Spells self.new) }
+        ensures hash { self.new.hash ≡ self.old.hash }
     {
         if self.is_up() {
             self.crash(outcome)?;
@@ -171,6 +192,7 @@ impl<H: Hash32 + Copy> Entry<H> {
         ensures cuts { IfOk result (λ end.
             Cuts (H.digest_of self.old.hash) [] n calls outcome.now NodeOrder.Open self.old end self.new) }
         ensures spells { OnOk result (Spells self.new) }
+        ensures hash { self.new.hash ≡ self.old.hash }
     {
         let site = take(&mut self.site);
         let down = closed_of(site)?;
@@ -198,6 +220,7 @@ impl<H: Hash32 + Copy> Entry<H> {
         ensures cuts { IfOk result (λ end.
             Cuts (H.digest_of self.old.hash) log.now.log n calls outcome.now order.now self.old end self.new) }
         ensures spells { OnOk result (Spells self.new) }
+        ensures hash { self.new.hash ≡ self.old.hash }
     {
         if !self.is_up() {
             return Ok(CutEnd::Down);
@@ -222,6 +245,7 @@ impl<H: Hash32 + Copy> Entry<H> {
         ensures cuts { IfOk result (λ end.
             Cuts (H.digest_of self.old.hash) log.now.log n calls outcome.now order.now self.old end self.new) }
         ensures spells { OnOk result (Spells self.new) }
+        ensures hash { self.new.hash ≡ self.old.hash }
     {
         let site = take(&mut self.site);
         let down = down_of(site)?;

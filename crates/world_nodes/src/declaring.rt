@@ -1,6 +1,6 @@
 ghost use Rattle.std.specs.Prelude.{◌≡◌, ◌<◌, ◌^◌, ◌∷◌, [], length, true, None, codes, IfOk};
 ghost use Rattle.lms_sign.specs.Types.{is_supported};
-ghost use Rattle.node_rules.specs.WalletRecords.{identity_text, secret_of};
+ghost use Rattle.node_rules.specs.WalletRecords.{identity_text, secret_of, who_is};
 ghost use Rattle.node_rules.specs.Watcher.{identity_text as watcher_text};
 ghost use Rattle.operator_rules.specs.Records.{identity_text as operator_text};
 ghost use Rattle.world_rules.specs.Steps.{new_node};
@@ -80,6 +80,7 @@ fn wallet_member(key: &WalletKey, who: WalletIdentity) -> Member
     requires key { key.now ≡ secret_of who }
     ensures member { member_kind result ≡ NodeKind.Wallet }
     ensures is { IsOf result (identity_text who ∷ []) }
+    ensures reads { who_is (identity_text who ∷ []) ≡ who }
 {
     are_sized(who.tag, who.account, who.seed);
     let owner = Owner {
@@ -130,6 +131,7 @@ impl<H: Hash32 + Copy> Entry<H> {
     ) -> Result<Entry<H>, NoMemory>
         requires { is_supported who.now.types ≡ true }
         ensures node { IfOk result (λ entry. entry.node ≡ new_wallet name who.now) }
+        ensures who { IfOk result (λ entry. who_is entry.node.notes ≡ who.now) }
         ensures spells { IfOk result Spells }
         ensures hash { IfOk result (λ entry. entry.hash ≡ hash) }
     {

@@ -17,6 +17,7 @@ impl<H: Hash32 + Copy> Entry<H> {
         ensures runs { IfOk result (λ given.
             Runs (H.digest_of self.old.hash) [] n NodeOrder.Open self.old given self.new) }
         ensures spells { OnOk result (Spells self.new) }
+        ensures hash { self.new.hash ≡ self.old.hash }
     {
         if self.is_up() {
             self.offers.clear();
@@ -32,6 +33,7 @@ impl<H: Hash32 + Copy> Entry<H> {
         ensures done { IfOk result (λ given. IsDone NodeOrder.Open
             (order_deed (H.digest_of self.old.hash) [] n self.old.node NodeOrder.Open) self.old given self.new) }
         ensures spells { OnOk result (Spells self.new) }
+        ensures hash { self.new.hash ≡ self.old.hash }
     {
         let site = take(&mut self.site);
         let down = closed_of(site)?;

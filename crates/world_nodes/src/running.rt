@@ -70,12 +70,25 @@ impl<H: Hash32 + Copy> Entry<H> {
     /// makes and the calls that it offers. A node that is down does no order but the one that opens it: it
     /// answers `Down`, and nothing changes. `NoMemory` may lose the node.
     pub fn run(&mut self, log: &RootLog, order: &NodeOrder) -> Result<Given, NoMemory>
+        requires fits { fits self.old.node.role order.now ≡ true }
+        requires spells { Spells self.old }
+        ensures runs { IfOk result (λ given. (n : ℕ)
+            → Runs (H.digest_of self.old.hash) log.now.log n order.now self.old given self.new) }
+        ensures spells { OnOk result (Spells self.new) }
+        ensures hash { self.new.hash ≡ self.old.hash }
+    {
+        self.run_as(log, order)
+    }
+
+    // Runs an order of a node that has this number.
+    fn run_as(&mut self, log: &RootLog, order: &NodeOrder) -> Result<Given, NoMemory>
         ghost n: { ℕ }
         requires fits { fits self.old.node.role order.now ≡ true }
         requires spells { Spells self.old }
         ensures runs { IfOk result (λ given.
             Runs (H.digest_of self.old.hash) log.now.log n order.now self.old given self.new) }
         ensures spells { OnOk result (Spells self.new) }
+        ensures hash { self.new.hash ≡ self.old.hash }
     {
         match order {
             NodeOrder::Open => self.open(),
@@ -94,6 +107,7 @@ impl<H: Hash32 + Copy> Entry<H> {
         ensures runs { IfOk result (λ given.
             Runs (H.digest_of self.old.hash) log.now.log n order.now self.old given self.new) }
         ensures spells { OnOk result (Spells self.new) }
+        ensures hash { self.new.hash ≡ self.old.hash }
     {
         if !self.is_up() {
             return Ok(says(self.alloc, Reply::Down));
@@ -111,6 +125,7 @@ impl<H: Hash32 + Copy> Entry<H> {
             (order_deed (H.digest_of self.old.hash) log.now.log n self.old.node order.now)
             self.old given self.new) }
         ensures spells { OnOk result (Spells self.new) }
+        ensures hash { self.new.hash ≡ self.old.hash }
     {
         let site = take(&mut self.site);
         let node = up_of(site)?;

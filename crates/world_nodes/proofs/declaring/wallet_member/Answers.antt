@@ -2,7 +2,7 @@ use Rattle.std.proofs.Common.{◌≡◌}
 use Rattle.lms_sign.specs.Tree.{public_key_of}
 use Rattle.node_rules.specs.WalletRecords.{secret_of}
 use Rattle.node_rules.proofs.WalletTexts.{identity_in-text}
-use Rattle.world_nodes.proofs.Declared.{wallet_is, owner_is}
+use Rattle.world_nodes.proofs.Declared.{first_reads, wallet_is, owner_is}
 use Rattle.world_nodes.proofs.declaring.wallet_member.Goals as goal
 
 pub returns-clause-is : goal.returns-clause-is
@@ -20,3 +20,13 @@ returns-clause-is c =
       seed = c.are_sized.ensures.seed;
       types = c.requires.types;
     })) (owner_is who c.public.result key)
+
+pub returns-clause-reads : goal.returns-clause-reads
+returns-clause-reads c =
+    first_reads c.args.who
+    (identity_in-text c.args.who (record {
+      tag = c.are_sized.ensures.tag;
+      account = c.are_sized.ensures.account;
+      seed = c.are_sized.ensures.seed;
+      types = c.requires.types;
+    }))
