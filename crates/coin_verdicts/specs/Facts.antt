@@ -10,12 +10,6 @@ use Rattle.world_rules.specs.Safety.{meets_deadline}
 use Rattle.world_rules.specs.Verdicts.{is_finish_paid}
 use Rattle.coin_verdicts.specs.declared.fact.Fact.{Fact}
 
--- the events of a run's lines, the newest first, under the tests and the rules of its contract
-pub record Lines : Type 0 where
-  pub tests : Tests
-  pub rules : Rules
-  pub events : List Event
-
 -- the number is among these
 abbrev pub has : List ℕ → ℕ → Bool
 has numbers n = list_any (λ number. number == n) numbers

@@ -6,7 +6,7 @@ ghost use Rattle.root_rules.specs.Shown.{Tests, Rules};
 ghost use Rattle.root_rules.specs.Table.{IsLegal};
 ghost use Rattle.world_rules.specs.Events.{Event, log_of};
 ghost use Rattle.world_rules.specs.Verdicts.{verdicts_on};
-ghost use Rattle.coin_verdicts.specs.Facts.{Lines, AreFacts, OwnersStay};
+ghost use Rattle.coin_verdicts.specs.Facts.{AreFacts, OwnersStay};
 ghost use Rattle.coin_verdicts.specs.Notes.{holder_in, declared};
 ghost use Rattle.coin_verdicts.specs.Books.{book_at};
 ghost use Rattle.coin_verdicts.specs.Readings.{Keeps, HasBooks};
@@ -24,25 +24,22 @@ use world_rules::Verdict;
 
 /// The verdicts on the wallets' coins, by the facts of a run's lines, one for each line, the oldest first: for each
 /// wallet in turn, by rising coin, one on each coin that it ever held. It goes once over the facts, once more for
-/// each wallet, and over a coin's own facts for each wallet. The calls that were accepted are those of a contract, and
-/// a declared wallet keeps its owner. `NoMemory` is its one refusal.
+/// each wallet, and over a coin's own facts for each wallet. It is so of every run in which the calls that were accepted
+/// are those of a contract and a declared wallet keeps its owner. `NoMemory` is its one refusal.
 pub fn verdicts(
     alloc: Global,
     facts: &[Fact],
     wallets: &[NamedWallet],
 ) -> Result<Vec<Verdict>, NoMemory>
-    ghost run: { Lines }
-    requires facts { AreFacts run.tests run.rules run.events (reverse facts.now) }
-    requires legal { IsLegal run.rules (log_of run.events) }
-    requires owners { OwnersStay run.events }
-    ensures { IfOk result (λ found. found.items
-        ≡ flat_map (verdicts_on run.tests run.rules run.events) (map named_of wallets.now)) }
+    ensures { (tests : Tests) (rules : Rules) (events : List Event) → AreFacts tests rules events (reverse facts.now)
+        → IsLegal rules (log_of events) → OwnersStay events
+        → IfOk result (λ found. found.items ≡ flat_map (verdicts_on tests rules events) (map named_of wallets.now)) }
 {
     verdicts_by_facts(alloc, facts, wallets)
 }
 
 // The verdicts by facts alone.
-pub(crate) fn verdicts_by_facts(
+fn verdicts_by_facts(
     alloc: Global,
     facts: &[Fact],
     wallets: &[NamedWallet],

@@ -1,5 +1,4 @@
-use super::run::verdicts_by_facts;
-use super::{Fact, NamedWallet, Numbers};
+use super::{Fact, NamedWallet, Numbers, verdicts};
 use plasma_base::Bytes;
 use plasma_tx::Owner;
 use std::alloc::Global;
@@ -44,7 +43,7 @@ fn kinds(alloc: Global, facts: &[Fact]) -> Result<Vec<VerdictKind>, Fail> {
         wallets.push(NamedWallet { number, name })?;
     }
     let mut kinds = Vec::new(alloc);
-    for verdict in &verdicts_by_facts(alloc, facts, &wallets)? {
+    for verdict in &verdicts(alloc, facts, &wallets)? {
         kinds.push(verdict.kind)?;
     }
     Ok(kinds)

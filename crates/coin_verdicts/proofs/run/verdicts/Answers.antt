@@ -6,8 +6,7 @@ use Rattle.coin_verdicts.proofs.Whole.{all-same}
 use Rattle.coin_verdicts.proofs.run.verdicts.Goals as goal
 
 pub returns : goal.returns
-returns g c =
+returns c tests rules events are legal stay =
     subst (λ (all : List Verdict). IfOk c.verdicts_by_facts.result (λ found. found.items ≡ all))
-    (all-same g.run.tests g.run.rules g.run.events (reverse c.args.facts.now) c.requires.0 c.requires.1.0
-    c.requires.1.1 (map named_of c.args.wallets.now))
+    (all-same tests rules events (reverse c.args.facts.now) are legal stay (map named_of c.args.wallets.now))
     c.verdicts_by_facts.ensures

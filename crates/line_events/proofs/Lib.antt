@@ -1,0 +1,4 @@
+pub mod CoinLists
+pub mod BodyLaws
+pub mod AnswerLaws
+pub mod StopLaws

@@ -1,0 +1,5 @@
+-- Lemmas of this crate.
+pub mod Exhibited
+pub mod Marking
+pub mod Meeting
+pub mod Telling

@@ -1,0 +1,4 @@
+pub mod Keeping
+pub mod Marks
+pub mod Meetings
+pub mod Traces

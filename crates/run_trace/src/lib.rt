@@ -1,0 +1,12 @@
+//! What is kept of the lines of a run: of each line what its verdicts and its exhibit need, and no mail item twice.
+#![tactic(auto)]
+
+mod exhibiting;
+mod mark;
+mod shown;
+#[cfg(test)]
+mod tests;
+mod trace;
+
+pub use mark::Mark;
+pub use trace::Trace;
