@@ -1,0 +1,12 @@
+use Rattle.std.proofs.Common.{sym, ap, ◌∙◌}
+use Rattle.world_rules.specs.Declarations.{is_used}
+use Rattle.world_scene.specs.Scenes.{world_of}
+use Rattle.world_scene.proofs.Growth.{other_begun}
+use Rattle.world_scene.proofs.scene.Scene.begin_rogue.Goals as goal
+
+pub returns-clause-keeps : goal.returns-clause-keeps
+returns-clause-keeps g c =
+    let world = world_of c.args.self.now in
+    other_begun world c.args.name.now c.args.who.now.account
+    (ap (is_used world) (sym c.as_slice.ensures) ∙ sym c.is_used.ensures ∙ c.if-is_used.false)
+    (sym c.is_wallet_account.ensures ∙ c.if-is_wallet_account.false)

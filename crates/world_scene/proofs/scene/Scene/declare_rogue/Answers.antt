@@ -1,0 +1,6 @@
+use Rattle.world_scene.proofs.Growth.{stays_spell}
+use Rattle.world_scene.proofs.scene.Scene.declare_rogue.Goals as goal
+
+pub returns-clause-spells : goal.returns-clause-spells
+returns-clause-spells g c all =
+    stays_spell c.args.self.now c.begin_rogue.new.self c.in_ok-answer.ensures.nodes all

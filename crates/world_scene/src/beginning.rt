@@ -1,0 +1,49 @@
+ghost use Rattle.std.specs.Prelude.{◌≡◌, ◌∷◌, [], IfOk};
+ghost use Rattle.world_rules.specs.Steps.{new_chain, new_world};
+ghost use Rattle.world_scene.specs.Scenes.{world_of};
+ghost use Rattle.world_scene.specs.Steps.{AllSpell};
+
+use super::scene::Scene;
+use plasma_base::{Hash32, NoMemory};
+use root_contract::Contract;
+use std::alloc::Global;
+use world_nodes::Entry;
+use world_tokens::padded;
+
+// The nodes of a chain that begins: the operator alone.
+fn only<H: Hash32 + Copy>(alloc: Global, operator: Entry<H>) -> Result<Vec<Entry<H>>, NoMemory>
+    ensures { IfOk result (λ nodes. nodes.items ≡ operator ∷ []) }
+{
+    let mut entries = Vec::new(alloc);
+    entries.reserve(1)?;
+    entries.push(operator).unwrap();
+    Ok(entries)
+}
+
+impl<H: Hash32 + Copy> Scene<H> {
+    // The world that a first line begins.
+    pub fn begin(
+        alloc: Global,
+        hash: H,
+        tag: u64,
+        operator: u64,
+        most: u64,
+    ) -> Result<Scene<H>, NoMemory>
+        ensures world { IfOk result (λ scene. world_of scene ≡ new_world (new_chain tag operator most)) }
+        ensures hash { IfOk result (λ scene. scene.hash ≡ hash) }
+        ensures spells { IfOk result AllSpell }
+    {
+        let tag = padded(tag);
+        let node = Entry::operator(alloc, hash, &tag, operator)?;
+        let entries = only(alloc, node)?;
+        Ok(Scene {
+            alloc,
+            hash,
+            contract: Contract::make(alloc, tag, operator, most),
+            entries,
+            rogues: Vec::new(alloc),
+            raw_callers: Vec::new(alloc),
+            mail: Vec::new(alloc),
+        })
+    }
+}

@@ -1,0 +1,111 @@
+ghost use Rattle.std.specs.Prelude.{◌≡◌, ◌<◌, true, false, length, IfOk, OnOk, IsErrOf, Some};
+ghost use Rattle.std.specs.List.{All};
+ghost use Rattle.line_events.specs.declared.event.LineEvent.{LineEvent};
+ghost use Rattle.world_nodes.specs.Nodes.{NodeView, Spells};
+ghost use Rattle.schedule_text.specs.declared.line.Line.{Line};
+ghost use Rattle.world_rules.specs.Declarations.{may_command};
+ghost use Rattle.world_scene.specs.Orders.{NamesOwner, IsChosen};
+ghost use Rattle.world_scene.specs.Events.{Tells};
+ghost use Rattle.world_scene.specs.Moves.{Commands};
+ghost use Rattle.world_scene.specs.Scenes.{world_of, shows};
+ghost use Rattle.world_scene.specs.Steps.{answered, shown_by, AllHash, AllSpell, RunsAt, FitsAt, with_nodes};
+
+use super::answer::LineAnswer;
+use super::orders::Chosen;
+use super::refusal::StepRefusal;
+use super::scene::Scene;
+use line_events::{LineEvent, event_of_given};
+use plasma_base::{Hash32, NoMemory};
+use plasma_tx::RootLog;
+use schedule_text::Command;
+use world_nodes::{Entry, NodeOrder};
+use world_trace::Given;
+
+// Runs an order of the node with this number.
+fn run_at<H: Hash32 + Copy>(
+    entries: &mut Vec<Entry<H>>,
+    n: usize,
+    log: &RootLog,
+    order: &NodeOrder,
+) -> Result<Given, NoMemory>
+    requires inside { n < length entries.old.items }
+    requires fits { FitsAt entries.old.items n order.now }
+    requires spells { All Spells entries.old.items }
+    ensures runs { IfOk result (λ given.
+        RunsAt H.digest_of log.now.log n order.now entries.old.items given entries.new.items) }
+    ensures spells { OnOk result (All Spells entries.new.items) }
+    ensures hash { (hash : H) → AllHash hash entries.old.items → AllHash hash entries.new.items }
+{
+    let entry = &mut entries[n];
+    entry.run(log, order)
+}
+
+impl<H: Hash32 + Copy> Scene<H> {
+    // Runs an order of the node with this number.
+    pub(crate) fn run_order(&mut self, n: usize, order: &NodeOrder) -> Result<Given, NoMemory>
+        requires inside { n < length self.old.nodes }
+        requires fits { FitsAt self.old.nodes n order.now }
+        requires spells { AllSpell self.old }
+        ensures runs { IfOk result (λ given.
+            RunsAt H.digest_of self.old.chain.log n order.now self.old.nodes given self.new.nodes) }
+        ensures rest { OnOk result (self.new ≡ with_nodes self.old self.new.nodes) }
+        ensures hashes { AllHash self.old.hash self.old.nodes }
+        ensures spells { OnOk result (AllSpell self.new) }
+    {
+        let log = self.contract.log();
+        run_at(&mut self.entries, n, log, order)
+    }
+}
+
+// What a command gives out, as the answer of its line.
+fn plain(given: Given, event: LineEvent) -> LineAnswer
+    ensures { result ≡ record { done = false; reply = given.reply; made = given.made; event = event } }
+{
+    let Given { reply, made, .. } = given;
+    LineAnswer {
+        done: false,
+        reply,
+        made,
+        event,
+    }
+}
+
+impl<H: Hash32 + Copy> Scene<H> {
+    // Runs the order that a command stands for.
+    fn run_chosen(&mut self, command: &Command, chosen: &Chosen) -> Result<LineAnswer, NoMemory>
+        requires chosen { IsChosen self.old command.now chosen.now.n chosen.now.order }
+        requires spells { AllSpell self.old }
+        ensures shows { IfOk result (λ answer.
+            shows (H.digest_of self.old.hash) (world_of self.old) (Line.Command command.now)
+            ≡ Some (answered answer (world_of self.new))) }
+        ensures tells { IfOk result (λ answer.
+            Tells (H.digest_of self.old.hash) (world_of self.old) (Line.Command command.now) answer.event) }
+        ensures spells { OnOk result (AllSpell self.new) }
+        ensures moves { OnOk result (Commands H.digest_of self.old command.now self.new) }
+    {
+        let _ = command;
+        let given = self.run_order(chosen.n, &chosen.order)?;
+        let event = event_of_given(self.alloc, chosen.n as u64, &chosen.order, &given)?;
+        Ok(plain(given, event))
+    }
+
+    // A command of a node. `BadLine` comes exactly where it breaks a rule, and changes nothing.
+    pub(crate) fn command(&mut self, command: &Command) -> Result<LineAnswer, StepRefusal>
+        requires names { NamesOwner command.now }
+        requires spells { AllSpell self.old }
+        ensures keeps { OnOk result (may_command (world_of self.old) command.now ≡ true) }
+        ensures shows { IfOk result (λ answer.
+            shows (H.digest_of self.old.hash) (world_of self.old) (Line.Command command.now)
+            ≡ Some (answered answer (world_of self.new))) }
+        ensures tells { IfOk result (λ answer.
+            Tells (H.digest_of self.old.hash) (world_of self.old) (Line.Command command.now) answer.event) }
+        ensures spells { OnOk result (AllSpell self.new) }
+        ensures moves { OnOk result (Commands H.digest_of self.old command.now self.new) }
+        ensures bad { IsErrOf result StepRefusal.BadLine → may_command (world_of self.old) command.now ≡ false }
+        ensures same { IsErrOf result StepRefusal.BadLine → self.new ≡ self.old }
+    {
+        let chosen = self.choose(command)?;
+        let answer = self.run_chosen(command, &chosen)?;
+        Ok(answer)
+    }
+}

@@ -1,0 +1,87 @@
+ghost use Rattle.std.specs.Prelude.{◌≡◌, ◌<◌, true, false, length, IfOk, OnOk, IsErrOf, Some};
+ghost use Rattle.std.specs.List.{All};
+ghost use Rattle.crash_disk.specs.Outcomes.{HasPattern};
+ghost use Rattle.schedule_text.specs.declared.line.Line.{Line};
+ghost use Rattle.world_rules.specs.World.{any_role};
+ghost use Rattle.world_rules.specs.Steps.{outcome_of};
+ghost use Rattle.world_rules.specs.Declarations.{is_declared};
+ghost use Rattle.world_nodes.specs.Nodes.{NodeView, Spells};
+ghost use Rattle.world_scene.specs.Events.{Tells};
+ghost use Rattle.world_scene.specs.Moves.{Crashes};
+ghost use Rattle.world_scene.specs.Scenes.{world_of, shows};
+ghost use Rattle.world_scene.specs.Steps.{answered, AllHash, AllSpell, CrashesAt, with_nodes};
+
+use super::answer::LineAnswer;
+use super::calling::says;
+use super::names::Roles;
+use super::refusal::StepRefusal;
+use super::scene::Scene;
+use crash_disk::Outcome;
+use line_events::LineEvent;
+use line_forms::OutcomeToken;
+use plasma_base::{Hash32, NoMemory};
+use world_nodes::Entry;
+use world_rules::Reply;
+use world_tokens::outcome_of;
+
+// The node with this number goes down, and its disks crash.
+fn crash_at<H: Hash32 + Copy>(
+    entries: &mut Vec<Entry<H>>,
+    n: usize,
+    outcome: &Outcome,
+) -> Result<(), NoMemory>
+    requires inside { n < length entries.old.items }
+    requires pattern { HasPattern outcome.now }
+    requires spells { All Spells entries.old.items }
+    ensures crashes { OnOk result (CrashesAt n outcome.now entries.old.items entries.new.items) }
+    ensures spells { OnOk result (All Spells entries.new.items) }
+    ensures hash { (hash : H) → AllHash hash entries.old.items → AllHash hash entries.new.items }
+{
+    let entry = &mut entries[n];
+    entry.crash(outcome)
+}
+
+impl<H: Hash32 + Copy> Scene<H> {
+    // The node with this number goes down, and its disks crash.
+    fn crash_node(&mut self, n: usize, outcome: &Outcome) -> Result<(), NoMemory>
+        requires inside { n < length self.old.nodes }
+        requires pattern { HasPattern outcome.now }
+        requires spells { AllSpell self.old }
+        ensures crashes { OnOk result (CrashesAt n outcome.now self.old.nodes self.new.nodes) }
+        ensures rest { OnOk result (self.new ≡ with_nodes self.old self.new.nodes) }
+        ensures spells { OnOk result (AllSpell self.new) }
+    {
+        crash_at(&mut self.entries, n, outcome)
+    }
+
+    // A node goes down, and its disks crash.
+    pub(crate) fn crash(
+        &mut self,
+        node: &[u8],
+        outcome: &OutcomeToken,
+    ) -> Result<LineAnswer, StepRefusal>
+        requires pattern { HasPattern (outcome_of outcome.now) }
+        requires spells { AllSpell self.old }
+        ensures keeps { OnOk result (is_declared any_role (world_of self.old) node.now ≡ true) }
+        ensures shows { IfOk result (λ answer.
+            shows (H.digest_of self.old.hash) (world_of self.old) (Line.Crash node.now outcome.now)
+            ≡ Some (answered answer (world_of self.new))) }
+        ensures tells { IfOk result (λ answer.
+            Tells (H.digest_of self.old.hash) (world_of self.old) (Line.Crash node.now outcome.now) answer.event) }
+        ensures spells { OnOk result (AllSpell self.new) }
+        ensures moves { OnOk result (Crashes self.old node.now outcome.now self.new) }
+        ensures bad { IsErrOf result StepRefusal.BadLine → is_declared any_role (world_of self.old) node.now ≡ false }
+        ensures same { IsErrOf result StepRefusal.BadLine → self.new ≡ self.old }
+    {
+        let Some(n) = self.number_of(Roles::Any, node) else {
+            return Err(StepRefusal::BadLine);
+        };
+        let image = outcome_of(self.alloc, outcome)?;
+        self.crash_node(n, &image)?;
+        Ok(says(
+            self.alloc,
+            Reply::Crashed,
+            LineEvent::Other { node: n as u64 },
+        ))
+    }
+}

@@ -1,0 +1,151 @@
+ghost use Rattle.std.specs.Prelude.{◌≡◌, ◌&&◌, find, Some, IfSome, is_some};
+ghost use Rattle.std.specs.Option.{option_map, option_copied};
+ghost use Rattle.line_forms.specs.Tokens.{IsHexOrName};
+ghost use Rattle.world_rules.specs.World.{owner_of_rogue, number_of, rogue_named, owner_named, new_owner_of, key_of, is_wallet_role};
+ghost use Rattle.world_rules.specs.Declarations.{is_declared, is_used};
+ghost use Rattle.world_scene.specs.Scenes.{world_of};
+ghost use Rattle.world_scene.specs.Names.{passes, has_kind, is_named_view, is_named_rogue, owner_in_view};
+
+use super::scene::Scene;
+use super::seeking::{Sought, place_of};
+use line_forms::HexOrName;
+use plasma_base::Hash32;
+use plasma_tx::Owner;
+use world_nodes::{Entry, NodeKind};
+use world_tokens::{Rogue, key_of_hex, owner_of_hex};
+
+/// Which nodes a line may name.
+#[derive(Debug, Clone, Copy, PartialEq, Eq)]
+pub enum Roles {
+    /// Any node.
+    Any,
+    /// A wallet.
+    Wallets,
+    /// A watcher.
+    Watchers,
+    /// The operator.
+    Operators,
+    /// A wallet or a watcher.
+    Watching,
+}
+
+// Whether this kind of node passes.
+fn has_kind(may: Roles, kind: NodeKind) -> bool
+    ensures { result ≡ has_kind may kind }
+{
+    match may {
+        Roles::Any => true,
+        Roles::Wallets => kind == NodeKind::Wallet,
+        Roles::Watchers => kind == NodeKind::Watcher,
+        Roles::Operators => kind == NodeKind::Operator,
+        Roles::Watching => kind != NodeKind::Operator,
+    }
+}
+
+// Whether the node has the name, and a role that passes.
+pub(crate) fn is_named<H: Hash32 + Copy>(entry: &Entry<H>, may: Roles, name: &[u8]) -> bool
+    ensures { result ≡ is_named_view may name.now entry.now }
+{
+    entry.name() == name && has_kind(may, entry.kind())
+}
+
+// The rogue with the name, lent.
+fn find_rogue<'a>(rogues: &'a [Rogue], name: &[u8]) -> Option<&'a Rogue>
+    ensures { option_copied result ≡ find (is_named_rogue name.now) rogues.now }
+{
+    rogues.iter().find(|rogue| rogue.name() == name)
+}
+
+// Who the wallet with the name is.
+fn wallet_owner<H: Hash32 + Copy>(entries: &[Entry<H>], name: &[u8]) -> Option<Owner>
+    ensures { result ≡ option_map owner_in_view (find (is_named_view Roles.Wallets name.now) entries.now) }
+{
+    let may = Roles::Wallets;
+    match place_of(entries, &Sought::Named { may, name }) {
+        Some(n) => entries[n].owner(),
+        None => None,
+    }
+}
+
+// The owner that the rogue with the name is.
+fn rogue_owner(rogues: &[Rogue], name: &[u8]) -> Option<Owner>
+    ensures { result ≡ option_map owner_of_rogue (find (is_named_rogue name.now) rogues.now) }
+{
+    match find_rogue(rogues, name) {
+        Some(rogue) => Some(rogue.owner()),
+        None => None,
+    }
+}
+
+impl<H: Hash32 + Copy> Scene<H> {
+    // The number of the node with the name, where its role passes.
+    pub(crate) fn number_of(&self, may: Roles, name: &[u8]) -> Option<usize>
+        ensures { result ≡ number_of (passes may) (world_of self.now) name.now }
+    {
+        place_of(&self.entries, &Sought::Named { may, name })
+    }
+
+    // Whether a node with the name is declared, with a role that passes.
+    pub(crate) fn is_declared(&self, may: Roles, name: &[u8]) -> bool
+        ensures { result ≡ is_declared (passes may) (world_of self.now) name.now }
+    {
+        self.number_of(may, name).is_some()
+    }
+
+    // The rogue with the name, lent.
+    pub(crate) fn rogue_named(&self, name: &[u8]) -> Option<&Rogue>
+        ensures { option_copied result ≡ rogue_named (world_of self.now) name.now }
+    {
+        find_rogue(&self.rogues, name)
+    }
+
+    // Whether the name is a node's or a rogue's.
+    pub(crate) fn is_used(&self, name: &[u8]) -> bool
+        ensures { result ≡ is_used (world_of self.now) name.now }
+    {
+        self.is_declared(Roles::Any, name) || self.rogue_named(name).is_some()
+    }
+
+    // Who the wallet with the name is, where one has it.
+    pub(crate) fn wallet_named(&self, name: &[u8]) -> Option<Owner>
+        ensures declared { is_some result ≡ is_declared is_wallet_role (world_of self.now) name.now }
+        ensures owner { IfSome result (λ owner. owner_named (world_of self.now) name.now ≡ Some owner) }
+    {
+        wallet_owner(&self.entries, name)
+    }
+
+    // The owner that a name stands for: a wallet's, or a rogue's.
+    pub(crate) fn owner_named(&self, name: &[u8]) -> Option<Owner>
+        ensures { result ≡ owner_named (world_of self.now) name.now }
+    {
+        match wallet_owner(&self.entries, name) {
+            Some(owner) => Some(owner),
+            None => rogue_owner(&self.rogues, name),
+        }
+    }
+
+    // The owner of a token.
+    pub(crate) fn new_owner_of(&self, token: &HexOrName) -> Option<Owner>
+        requires { IsHexOrName 64 token.now }
+        ensures { result ≡ new_owner_of (world_of self.now) token.now }
+    {
+        match token {
+            HexOrName::Hex(bytes) => Some(owner_of_hex(bytes.as_slice())),
+            HexOrName::Name(name) => self.owner_named(name.as_slice()),
+        }
+    }
+
+    // The key of a token, where its name is a wallet's or a rogue's.
+    pub(crate) fn key_of(&self, token: &HexOrName) -> Option<[u8; 56]>
+        requires { IsHexOrName 56 token.now }
+        ensures { result ≡ key_of (world_of self.now) token.now }
+    {
+        match token {
+            HexOrName::Hex(bytes) => Some(key_of_hex(bytes.as_slice())),
+            HexOrName::Name(name) => match self.owner_named(name.as_slice()) {
+                Some(owner) => Some(owner.key),
+                None => None,
+            },
+        }
+    }
+}
