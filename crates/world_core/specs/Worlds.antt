@@ -1,0 +1,59 @@
+-- The world in memory, and when it is what lines leave.
+use Rattle.std.specs.Prelude.{◌≡◌, ◌≤◌, ℕ, List, [], Option, Some, None, option_map}
+use Rattle.std.specs.List.{All}
+use Rattle.std.specs.Option.{ForSome, option_map_or}
+use Rattle.plasma_tx.specs.Spelling.{AreBytes}
+use Rattle.root_rules.specs.Shown.{tests_by, rules_of}
+use Rattle.schedule_text.specs.declared.line.Line.{Line}
+use Rattle.schedule_text.specs.Grammar.{IsLine}
+use Rattle.world_rules.specs.declared.TheConstants.{MOST_MAIL}
+use Rattle.world_rules.specs.World.{World}
+use Rattle.world_rules.specs.Events.{Event}
+use Rattle.world_rules.specs.Steps.{mail_size, TraceEntry, Run, run_of, events_of}
+use Rattle.run_trace.specs.Traces.{TraceState, no_trace, Tells}
+use Rattle.world_scene.specs.Scenes.{SceneState, world_of}
+use Rattle.world_scene.specs.Steps.{AllSpell}
+
+-- the digest, the world once the chain has begun, the bytes of all mail items, and what is kept of the lines
+pub record WorldState (H : Type 0) : Type 0 where
+  pub hash : H
+  pub scene : Option (SceneState H)
+  pub mail_size : ℕ
+  pub trace : TraceState
+
+-- the world before its first line
+abbrev pub before_all : {H : Type 0} → H → WorldState H
+before_all hash = record { hash = hash; scene = None; mail_size = 0; trace = no_trace }
+
+-- the world that it holds
+abbrev pub world_in : {H : Type 0} → WorldState H → Option World
+world_in state = option_map world_of state.scene
+
+-- each image of a crash now of each node's disks keeps the node's records
+abbrev pub NodesSpell : {H : Type 0} → WorldState H → Type 0
+NodesSpell state = ForSome state.scene AllSpell
+
+-- the world judges openings by its digest
+abbrev pub HasHash : {H : Type 0} → WorldState H → Type 0
+HasHash {H} state = ForSome state.scene (λ (scene : SceneState H). scene.hash ≡ state.hash)
+
+-- what is kept of the lines is that of these events, in the world that they left
+abbrev pub TellsIn : (List ℕ → List ℕ) → Option World → List Event → TraceState → Type 0
+TellsIn dig None events trace = (events ≡ []) × (trace ≡ no_trace)
+TellsIn dig (Some world) events trace = Tells (tests_by dig) (rules_of world.chain) events trace
+
+-- the line of a trace made bytes
+abbrev pub MadeBytes : TraceEntry → Type 0
+MadeBytes entry = AreBytes entry.made
+
+-- The world and what it keeps are what these lines leave, the newest first. Each is in the grammar, and made bytes.
+pub record IsAfter {H : Type 0} (dig : List ℕ → List ℕ) (lines : List Line) (state : WorldState H) : Type 0 where
+  pub run : Run
+  pub ran : run_of dig lines ≡ Some run
+  pub world : run.world ≡ world_in state
+  pub grammar : All IsLine lines
+  pub made : All MadeBytes run.entries
+  pub hash : HasHash state
+  pub mail : state.mail_size ≡ option_map_or mail_size run.world 0
+  pub fits : state.mail_size ≤ MOST_MAIL
+  pub trace : TellsIn dig run.world (events_of run.entries) state.trace

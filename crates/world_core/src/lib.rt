@@ -1,0 +1,12 @@
+//! The world of a schedule: it steps line by line, keeps the mail and what the lines leave for verdicts and the
+//! exhibit.
+#![tactic(auto)]
+
+mod mail;
+mod stepping;
+#[cfg(test)]
+mod tests;
+mod world;
+
+pub use world::World;
+pub use world_scene::StepRefusal;

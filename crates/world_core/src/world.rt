@@ -1,0 +1,90 @@
+ghost use Rattle.std.specs.Prelude.{◌≡◌, [], List, Some, IfOk};
+ghost use Rattle.sha2.specs.Sha256.{sha256};
+ghost use Rattle.schedule_text.specs.declared.line.Line.{Line};
+ghost use Rattle.world_rules.specs.Steps.{Run, run_of};
+ghost use Rattle.world_rules.specs.Verdicts.{verdicts_of, exhibit_of_run};
+ghost use Rattle.world_core.specs.Worlds.{before_all, NodesSpell, IsAfter};
+
+use plasma_base::{Hash32, NoMemory, Sha};
+use run_trace::Trace;
+use std::alloc::Global;
+use std::marker::Model;
+use world_rules::{Exhibit, Verdict};
+use world_scene::Scene;
+
+/// The world that a schedule's lines step through, with what it keeps of them.
+#[derive(Drop)]
+pub struct World<H: Hash32 + Copy> {
+    pub(crate) alloc: Global,
+    pub(crate) hash: H,
+    // None until a first line begins the chain.
+    pub(crate) scene: Option<Scene<H>>,
+    // The bytes of all mail items.
+    pub(crate) mail_size: u64,
+    pub(crate) trace: Trace,
+}
+
+impl<H: Hash32 + Copy> Model for World<H> {
+    ghost use Rattle.std.specs.Prelude.{◌≤◌};
+    ghost use Rattle.world_rules.specs.declared.TheConstants.{MOST_MAIL};
+    ghost use Rattle.world_core.specs.Worlds.{WorldState};
+
+    ghost Value = { WorldState H };
+
+    ghost view = { λ w. record { hash = w.hash; scene = w.scene; mail_size = w.mail_size; trace = w.trace } };
+
+    // What is left for mail is a number.
+    ghost invariant = { λ w. w.mail_size ≤ MOST_MAIL };
+}
+
+impl World<Sha> {
+    /// The world before its first line. Openings are judged by SHA-256 (FIPS 180-4).
+    pub fn new(alloc: Global) -> World<Sha>
+        ensures after { IsAfter sha256 [] result }
+        ensures nodes { NodesSpell result }
+    {
+        World::new_with(alloc, Sha)
+    }
+}
+
+impl<H: Hash32 + Copy> World<H> {
+    /// The world before its first line, with openings judged by this digest.
+    pub fn new_with(alloc: Global, hash: H) -> World<H>
+        ensures state { result ≡ before_all hash }
+        ensures after { IsAfter (H.digest_of hash) [] result }
+        ensures nodes { NodesSpell result }
+    {
+        World {
+            alloc,
+            hash,
+            scene: None,
+            mail_size: 0,
+            trace: Trace::new(alloc),
+        }
+    }
+
+    /// The verdicts on all wallets' coins, in the order of their declarations and by rising coin; none before the
+    /// first line. `NoMemory` is its one refusal.
+    pub fn verdicts(&self) -> Result<Vec<Verdict>, NoMemory>
+        ensures { (lines : List Line) (run : Run) → IsAfter (H.digest_of self.now.hash) lines self.now
+            → run_of (H.digest_of self.now.hash) lines ≡ Some run
+            → IfOk result (λ verdicts. verdicts.items ≡ verdicts_of (H.digest_of self.now.hash) run) }
+    {
+        match &self.scene {
+            None => Ok(Vec::new(self.alloc)),
+            Some(scene) => self.trace.verdicts(&scene.wallets()?),
+        }
+    }
+
+    /// What the lines show that excuses a loss: nothing before the first line. `NoMemory` is its one refusal.
+    pub fn exhibit(&self) -> Result<Exhibit, NoMemory>
+        ensures { (lines : List Line) (run : Run) → IsAfter (H.digest_of self.now.hash) lines self.now
+            → run_of (H.digest_of self.now.hash) lines ≡ Some run
+            → IfOk result (λ exhibit. exhibit ≡ exhibit_of_run (H.digest_of self.now.hash) run) }
+    {
+        match &self.scene {
+            None => Ok(Exhibit::Nothing),
+            Some(scene) => self.trace.exhibit(&self.hash, scene.log()),
+        }
+    }
+}
