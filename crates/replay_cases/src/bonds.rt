@@ -30,6 +30,7 @@ money 31                                           => money 40
 money 32                                           => money 0
 money 33                                           => money 100
 money 34                                           => money 40
+no exhibit
 ";
 
 /// Both challenges are open when the exit is cancelled.
@@ -51,6 +52,7 @@ call 31 between 1 5 4 {then v pays v}              => cancelled
 money 22                                           => money 0
 money 31                                           => money 140
 money 32                                           => money 45
+no exhibit
 ";
 
 const CANCELLED_BY_AN_AFTER: &str = "\
@@ -68,6 +70,7 @@ call 33 after 1 3 4 {then v pays v}                => cancelled
 money 22                                           => money 1
 money 31                                           => money 40
 money 33                                           => money 100
+no exhibit
 ";
 
 #[test]
@@ -77,7 +80,7 @@ fn a_cancelled_exit_pays_its_challenger(rt: HostRuntime) -> Result<(), Fail> {
         CANCELLED_WITH_TWO_CHALLENGES,
         CANCELLED_BY_AN_AFTER,
     ] {
-        let (status, text, answers) = played(rt.alloc(), story)?;
+        let (status, text, answers) = played(rt.alloc(), &[story])?;
         assert_eq!(rt; text.as_str(), answers.as_str());
         assert_eq!(rt; status, Status::Done);
     }
@@ -107,6 +110,7 @@ money 30                                           => money 0
 money 31                                           => money 40
 money 32                                           => money 140
 call 22 exit 1 3 {then u pays v} 4 {then v pays v} => refused no-funds 0 100
+no exhibit
 ";
 
 /// The first challenge was answered, so the exit's bond goes to the second challenger.
@@ -130,12 +134,13 @@ money 22                                           => money 0
 money 31                                           => money 0
 money 32                                           => money 140
 money 34                                           => money 40
+no exhibit
 ";
 
 #[test]
 fn a_dropped_exit_pays_its_first_open_challenger(rt: HostRuntime) -> Result<(), Fail> {
     for story in [DROPPED_WITH_TWO_CHALLENGES, DROPPED_AFTER_AN_ANSWER] {
-        let (status, text, answers) = played(rt.alloc(), story)?;
+        let (status, text, answers) = played(rt.alloc(), &[story])?;
         assert_eq!(rt; text.as_str(), answers.as_str());
         assert_eq!(rt; status, Status::Done);
     }
@@ -163,6 +168,7 @@ money 12                                           => money 400
 money 21                                           => money 0
 money 30                                           => money 0
 money 31                                           => money 40
+no exhibit
 ";
 
 /// Once the coin is withdrawn, its other exits are dropped. An exit without an open challenge gives its bond
@@ -190,12 +196,13 @@ call 30 finish 1 5                                 => dropped
 money 22                                           => money 400
 money 31                                           => money 140
 call 30 finish 1 1                                 => refused no-exit
+no exhibit
 ";
 
 #[test]
 fn a_paid_exit_pays_its_owner(rt: HostRuntime) -> Result<(), Fail> {
     for story in [PAID_AFTER_AN_ANSWER, OTHER_EXITS_OF_A_PAID_COIN] {
-        let (status, text, answers) = played(rt.alloc(), story)?;
+        let (status, text, answers) = played(rt.alloc(), &[story])?;
         assert_eq!(rt; text.as_str(), answers.as_str());
         assert_eq!(rt; status, Status::Done);
     }

@@ -33,7 +33,9 @@ fn faults_end_the_run(rt: HostRuntime) -> Result<(), Fail> {
         (&[1], none, Status::ReadFault, "read fault\n"),
         (none, &[1], Status::WriteFault, ""),
         (&[3], &[1], Status::WriteFault, ""),
-        (&[20], &[2], Status::Done, DEPOSIT_AND_EXIT_ANSWERS),
+        (none, &[2], Status::WriteFault, "1 chain\n"),
+        (&[3], &[3], Status::WriteFault, "1 chain\n2 funded\n"),
+        (&[20], &[20], Status::Done, DEPOSIT_AND_EXIT_ANSWERS),
     ];
     for (source_fails, sink_fails, want, text) in cases {
         let (status, sink) = run_with_faults(rt.alloc(), source_fails, sink_fails)?;

@@ -29,11 +29,12 @@ money 1                              => money 4611686018427387899
 tick 1099511627776                   => ticked
 tick 1099511627777                   => refused clock-too-large
 tick 1099511627775                   => refused clock-back 1099511627776
+no exhibit
 ";
 
 #[test]
 fn money_the_clock_and_blocks_are_refused(rt: HostRuntime) -> Result<(), Fail> {
-    let (status, text, answers) = played(rt.alloc(), MONEY_AND_BLOCKS)?;
+    let (status, text, answers) = played(rt.alloc(), &[MONEY_AND_BLOCKS])?;
     assert_eq!(rt; text.as_str(), answers.as_str());
     assert_eq!(rt; status, Status::Done);
     Ok(())
@@ -64,11 +65,12 @@ call 30 finish 1 1                   => paid
 call 22 start 1 9                    => refused withdrawn
 call 21 start 1 1                    => refused withdrawn
 call 21 start 2 2                    => started 1814400
+no exhibit
 ";
 
 #[test]
 fn exits_of_deposits_are_refused(rt: HostRuntime) -> Result<(), Fail> {
-    let (status, text, answers) = played(rt.alloc(), STARTS)?;
+    let (status, text, answers) = played(rt.alloc(), &[STARTS])?;
     assert_eq!(rt; text.as_str(), answers.as_str());
     assert_eq!(rt; status, Status::Done);
     Ok(())
@@ -119,11 +121,12 @@ tick 907200                                                           => ticked
 call 30 finish 1 4                                                    => paid
 call 22 exit 1 9 0x 9 0x                                              => refused withdrawn
 call 22 exit 1 3 {then u pays v} 6 {then v pays v}                    => refused withdrawn
+no exhibit
 ";
 
 #[test]
 fn exits_of_transfers_are_refused(rt: HostRuntime) -> Result<(), Fail> {
-    let (status, text, answers) = played(rt.alloc(), SPENDS)?;
+    let (status, text, answers) = played(rt.alloc(), &[SPENDS])?;
     assert_eq!(rt; text.as_str(), answers.as_str());
     assert_eq!(rt; status, Status::Done);
     Ok(())
@@ -149,6 +152,11 @@ call 12 exit 1 1 - 4 {altered}                                        => refused
 call 12 exit 1 1 - 5 {swapped}                                        => refused bad-signature
 call 12 exit 1 1 - 6 {u pays b}                                       => refused bad-opening
 call 12 exit 1 1 - 6 {beside a leaf}                                  => started 907200
+call 9 commit {root of u pays v}                                      => committed 8
+fund 22 1000                                                          => funded
+call 22 exit 1 1 - 8 {bad mask}                                       => refused bad-opening
+call 22 exit 1 1 - 8 {u pays v}                                       => started 907200
+no exhibit
 ";
 
 /// The depositor's key isn't that by which the transfer is signed.
@@ -158,6 +166,7 @@ fund 21 400                                                           => funded
 call 21 deposit 300 {key 0}                                           => deposited 1 1
 call 9 commit {root of u pays b}                                      => committed 2
 call 12 exit 1 1 - 2 {u pays b}                                       => refused bad-signature
+no exhibit
 ";
 
 /// The transfers are of the chain with the tag 1.
@@ -167,12 +176,13 @@ fund 21 400                                                           => funded
 call 21 deposit 300 {key of u}                                        => deposited 1 1
 call 9 commit {root of u pays b}                                      => committed 2
 call 12 exit 1 1 - 2 {u pays b}                                       => refused bad-opening
+no exhibit
 ";
 
 #[test]
 fn leaves_and_signatures_are_refused(rt: HostRuntime) -> Result<(), Fail> {
     for story in [LEAVES, OTHER_DEPOSITOR, OTHER_CHAIN] {
-        let (status, text, answers) = played(rt.alloc(), story)?;
+        let (status, text, answers) = played(rt.alloc(), &[story])?;
         assert_eq!(rt; text.as_str(), answers.as_str());
         assert_eq!(rt; status, Status::Done);
     }
@@ -197,11 +207,12 @@ call 30 finish 1 1                   => paid
 call 30 finish 1 1                   => refused no-exit
 money 21                             => money 500
 money 30                             => money 0
+no exhibit
 ";
 
 #[test]
 fn finishes_are_refused(rt: HostRuntime) -> Result<(), Fail> {
-    let (status, text, answers) = played(rt.alloc(), FINISHES)?;
+    let (status, text, answers) = played(rt.alloc(), &[FINISHES])?;
     assert_eq!(rt; text.as_str(), answers.as_str());
     assert_eq!(rt; status, Status::Done);
     Ok(())

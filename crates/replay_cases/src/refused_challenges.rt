@@ -35,11 +35,12 @@ call 30 after 1 1 5 {u pays b}                     => refused no-exit
 tick 604800                                        => ticked
 call 30 after 1 2 9 0x                             => refused late
 money 30                                           => money 100
+no exhibit
 ";
 
 #[test]
 fn afters_are_refused(rt: HostRuntime) -> Result<(), Fail> {
-    let (status, text, answers) = played(rt.alloc(), AFTERS)?;
+    let (status, text, answers) = played(rt.alloc(), &[AFTERS])?;
     assert_eq!(rt; text.as_str(), answers.as_str());
     assert_eq!(rt; status, Status::Done);
     Ok(())
@@ -83,6 +84,7 @@ tick 605800                                        => ticked
 call 30 between 1 8 2 {u pays b}                   => refused late
 call 30 between 1 1 2 {u pays b}                   => refused late
 money 30                                           => money 100
+no exhibit
 ";
 
 /// The exit's parent is itself a transfer, whose owner signed another one before the exit's block.
@@ -98,12 +100,13 @@ call 22 exit 1 2 {u pays u} 4 {then u pays v}      => started 907200
 call 30 between 1 4 2 {u pays u}                   => refused bad-block
 call 30 between 1 4 3 {then u pays v}              => refused bad-opening
 call 30 between 1 4 3 {then u pays b}              => cancelled
+no exhibit
 ";
 
 #[test]
 fn betweens_are_refused(rt: HostRuntime) -> Result<(), Fail> {
     for story in [BETWEENS, BETWEEN_CHILDREN_OF_A_TRANSFER] {
-        let (status, text, answers) = played(rt.alloc(), story)?;
+        let (status, text, answers) = played(rt.alloc(), &[story])?;
         assert_eq!(rt; text.as_str(), answers.as_str());
         assert_eq!(rt; status, Status::Done);
     }
@@ -155,6 +158,7 @@ call 31 before 1 5 2 {u pays b}                    => refused late
 call 31 before 1 5 1 -                             => refused late
 call 31 before 1 5 9 0x                            => refused late
 money 31                                           => money 40
+no exhibit
 ";
 
 /// Between the coin's deposit and the exit's parent stands another coin's deposit.
@@ -173,12 +177,13 @@ call 31 before 1 4 2 {u pays b}                    => refused bad-block
 call 31 before 1 4 1 -                             => challenged 302400
 call 33 respond 1 4 1 2 {u pays b}                 => refused bad-block
 call 33 respond 1 4 1 3 {then u pays v}            => refused not-child
+no exhibit
 ";
 
 #[test]
 fn befores_are_refused(rt: HostRuntime) -> Result<(), Fail> {
     for story in [BEFORES, ANOTHER_DEPOSIT_BETWEEN] {
-        let (status, text, answers) = played(rt.alloc(), story)?;
+        let (status, text, answers) = played(rt.alloc(), &[story])?;
         assert_eq!(rt; text.as_str(), answers.as_str());
         assert_eq!(rt; status, Status::Done);
     }
@@ -225,11 +230,12 @@ call 33 respond 1 5 1 9 0x                         => refused late
 call 33 respond 1 4 1 2 {u pays b}                 => refused answered
 money 31                                           => money 0
 money 33                                           => money 40
+no exhibit
 ";
 
 #[test]
 fn responses_are_refused(rt: HostRuntime) -> Result<(), Fail> {
-    let (status, text, answers) = played(rt.alloc(), RESPONDS)?;
+    let (status, text, answers) = played(rt.alloc(), &[RESPONDS])?;
     assert_eq!(rt; text.as_str(), answers.as_str());
     assert_eq!(rt; status, Status::Done);
     Ok(())

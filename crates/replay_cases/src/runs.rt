@@ -1,12 +1,14 @@
+use plasma_base::Hash32;
 use plasma_outside::{MemSink, MemSource};
-use replay_run::{Status, run};
+use replay_run::{Status, run, run_with};
 use std::alloc::Global;
 use std::test::Fail;
 
 /// The deposit and its exit, whose last lines depend on when the exit is finished.
 pub const DEPOSIT_AND_EXIT: &str = "chain 1 9 100
 fund 1 1000
-call 1 deposit 300 0x0000000500000004000000000000000000000000000000000000000000000000000000000000000000000000000000000000000000000000
+call 1 deposit 300 0x0000000500000004\
+    000000000000000000000000000000000000000000000000000000000000000000000000000000000000000000000000
 money 1
 call 1 start 1 1
 money 1
@@ -35,6 +37,19 @@ pub fn words(alloc: Global, texts: &[&str]) -> Result<Vec<String>, Fail> {
         words.push(String::from_str(alloc, text)?)?;
     }
     Ok(words)
+}
+
+/// Replays what a source gives, under a digest: the status, and the sink after the run.
+pub fn replay_from<H: Hash32>(
+    h: &H,
+    alloc: Global,
+    source: MemSource,
+) -> Result<(Status, MemSink), Fail> {
+    let words = words(alloc, &["replay"])?;
+    let mut source = source;
+    let mut sink = MemSink::make(alloc, Vec::new(alloc));
+    let status = run_with(h, alloc, &words, &mut source, &mut sink);
+    Ok((status, sink))
 }
 
 /// Replays a schedule from memory: the status, and the sink after the run.

@@ -1,6 +1,6 @@
-use super::signatures::{CHILD, KEPT, LATER, PASSED, PAY, PLANTED, SECOND};
+use super::signatures::{CHILD, FROM_A, FROM_B, KEPT, LATER, PASSED, PAY, PLANTED, SECOND};
 
-// The people of the stories: `u` has the account 21, `v` has 22 and `b` has 12.
+// The keys of the stories: that of `u` is at the account 21, that of `v` at 22, of `b` at 12 and of `c` at 13.
 const U: &str =
     "000000050000000448428bdb7ddd829410d6bbb924fdeb3a0bbfc2a67764888a322497ba51fbc375e4f597720bbf569cb38defcebb18bf32";
 
@@ -9,6 +9,9 @@ const V: &str =
 
 const B: &str =
     "00000005000000049267d3dbed802941483f1afa2a6bc68df8329f8c9f6bd1fef5e59b257300b8c5aa8e4f7bc3cbc9dd3566192d0e840c84";
+
+const C: &str =
+    "0000000500000004d9147961436944f43cd99d28b2bbddbf31cd65f5e0b11e90d512dfa0d33c88ac4f6ef59d52e281b7cc228a71fc748d6f";
 
 const ZEROS_48: &str =
     "000000000000000000000000000000000000000000000000000000000000000000000000000000000000000000000000";
@@ -21,15 +24,21 @@ const TO_B: &str = "000000000000000c";
 
 const TO_13: &str = "000000000000000d";
 
-// How an opening of the coin 1 begins: its leaf's length, the mark, the tag 1, the coin, and the parent's block.
-const UNDER_1: &str = "0x0000058050435431\
+// The length of a transfer's leaf.
+const LENGTH: &str = "00000580";
+
+// How a leaf of the coin 1 begins: the mark, the tag 1, the coin, and the parent's block.
+const UNDER_1: &str = "50435431\
     000000000000000000000000000000000000000000000000000000000000000100000000000000010000000000000001";
 
-const UNDER_2: &str = "0x0000058050435431\
+const UNDER_2: &str = "50435431\
     000000000000000000000000000000000000000000000000000000000000000100000000000000010000000000000002";
 
-const UNDER_3: &str = "0x0000058050435431\
+const UNDER_3: &str = "50435431\
     000000000000000000000000000000000000000000000000000000000000000100000000000000010000000000000003";
+
+const UNDER_4: &str = "50435431\
+    000000000000000000000000000000000000000000000000000000000000000100000000000000010000000000000004";
 
 // How an opening ends: its mask and its siblings. The tree may hold the leaf alone, or also the leaf `ff` of
 // the coin 2; a sibling that is the digest of the empty leaf isn't spelled.
@@ -41,29 +50,59 @@ const BESIDE: &str =
 const BAD_MASK: &str =
     "00000000000000016e340b9cffb37a989ca544e6bb780a2c78901d3fb33738768511a30617afa01d";
 
+// A bundle of the coin 1, whose tip is in block 6, with three items, each a block and an opening behind its length: the
+// coin isn't in block 2, `a` pays `b` in block 4, and `b` pays `c` in block 6.
+const BUNDLE: &[&str] = &[
+    "0x000000000000000100000000000000060000000300000000000000020000000c00000000",
+    ALONE,
+    "00000000000000040000058c",
+    LENGTH,
+    UNDER_1,
+    TO_B,
+    B,
+    FROM_A,
+    ALONE,
+    "00000000000000060000058c",
+    LENGTH,
+    UNDER_4,
+    TO_13,
+    C,
+    FROM_B,
+    ALONE,
+];
+
 /// What a name in a story stands for, in pieces. A transfer's name stands for its opening.
 pub fn pieces_of(name: &str) -> &'static [&'static str] {
     match name {
         "key of u" => &["0x", U],
         "key 0" => &["0x00000005", "00000004", ZEROS_48],
         "unread key" => &["0x00000005", "00000002", ZEROS_48],
-        "u pays b" => &[UNDER_1, TO_B, B, PAY, ALONE],
-        "u pays v" => &[UNDER_1, TO_V, V, PASSED, ALONE],
-        "u pays v too" => &[UNDER_1, TO_V, V, SECOND, ALONE],
-        "u pays u" => &[UNDER_1, TO_U, U, KEPT, ALONE],
-        "then u pays b" => &[UNDER_2, TO_B, B, LATER, ALONE],
-        "then u pays v" => &[UNDER_2, TO_V, V, PLANTED, ALONE],
-        "then v pays v" => &[UNDER_3, TO_V, V, CHILD, ALONE],
-        "altered" => &[UNDER_1, TO_13, B, PAY, ALONE],
-        "swapped" => &[UNDER_1, TO_B, B, SECOND, ALONE],
-        "beside a leaf" => &[UNDER_1, TO_B, B, PAY, BESIDE],
-        "bad mask" => &[UNDER_1, TO_V, V, PASSED, BAD_MASK],
+        "u pays b" => &["0x", LENGTH, UNDER_1, TO_B, B, PAY, ALONE],
+        "u pays v" => &["0x", LENGTH, UNDER_1, TO_V, V, PASSED, ALONE],
+        "u pays v too" => &["0x", LENGTH, UNDER_1, TO_V, V, SECOND, ALONE],
+        "u pays u" => &["0x", LENGTH, UNDER_1, TO_U, U, KEPT, ALONE],
+        "then u pays b" => &["0x", LENGTH, UNDER_2, TO_B, B, LATER, ALONE],
+        "then u pays v" => &["0x", LENGTH, UNDER_2, TO_V, V, PLANTED, ALONE],
+        "then v pays v" => &["0x", LENGTH, UNDER_3, TO_V, V, CHILD, ALONE],
+        "altered" => &["0x", LENGTH, UNDER_1, TO_13, B, PAY, ALONE],
+        "swapped" => &["0x", LENGTH, UNDER_1, TO_B, B, SECOND, ALONE],
+        "beside a leaf" => &["0x", LENGTH, UNDER_1, TO_B, B, PAY, BESIDE],
+        "bad mask" => &["0x", LENGTH, UNDER_1, TO_V, V, PASSED, BAD_MASK],
+        "leaf of u pays b" => &[UNDER_1, TO_B, B, PAY],
+        "owner u" => &["0x", TO_U, U],
+        "bundle without block 5" => BUNDLE,
+        "toy root of u pays b at 60" => &[
+            "0000000000000000000000000000000000000000000000000f40afe7f1b3a40f",
+        ],
+        "toy root of nothing at 60" => &[
+            "0000000000000000000000000000000000000000000000001ffffffffffffffe",
+        ],
         "nothing" => &["0x00000000", ALONE],
         _ => root_of(name),
     }
 }
 
-// The root of a tree that holds the coin 1 with this transfer alone, or what the name says.
+// The root of a tree that holds the coin 1 with this transfer alone.
 fn root_of(name: &str) -> &'static [&'static str] {
     match name {
         "root of u pays b" => &[
@@ -87,6 +126,13 @@ fn root_of(name: &str) -> &'static [&'static str] {
         "root of then v pays v" => &[
             "0xba3d8863538430d3bf552e275aa0b0deaf5bb5340018d6b35ac45f4760d597a6",
         ],
+        _ => other_root_of(name),
+    }
+}
+
+// The root of another tree, which the name tells.
+fn other_root_of(name: &str) -> &'static [&'static str] {
+    match name {
         "root of altered" => &[
             "0x9b5170fdbd77205eb685a9e20089654d20a0d8a8996359bbf5a95f69e17370f1",
         ],

@@ -1,18 +1,28 @@
 use super::runs::{DEPOSIT_AND_EXIT, DEPOSIT_AND_EXIT_ANSWERS, replay_output, words};
+use super::stories::played;
 use plasma_outside::{MemSink, MemSource};
 use replay_run::{Status, run};
 use std::test::Fail;
 
+/// The exit is finished a second too early.
+const TOO_EARLY: &str = "\
+chain 1 9 100              => chain
+fund 1 1000                => funded
+call 1 deposit 300 {key 0} => deposited 1 1
+money 1                    => money 700
+call 1 start 1 1           => started 907200
+money 1                    => money 600
+tick 907199                => ticked
+call 1 finish 1 1          => refused early 907200
+money 1                    => money 600
+no exhibit
+";
+
 #[test]
 fn schedules_are_replayed(rt: HostRuntime) -> Result<(), Fail> {
-    let early =
-        "chain 1 9 100\nfund 1 1000\ncall 1 deposit 300 0x0000000500000004000000000000000000000000000000000000000000000000000000000000000000000000000000000000000000000000\nmoney 1\ncall 1 start 1 1\nmoney 1\ntick 907199\ncall 1 finish 1 1\nmoney 1\n";
-    let early_answers =
-        "1 chain\n2 funded\n3 deposited 1 1\n4 money 700\n5 started 907200\n6 money 600\n7 ticked\n8 refused early 907200\n9 money 600\nno exhibit\n";
     let cases = [
         ("", "no exhibit\n"),
         (DEPOSIT_AND_EXIT, DEPOSIT_AND_EXIT_ANSWERS),
-        (early, early_answers),
         ("chain 1 9 100\nmoney 7", "1 chain\n2 money 0\nno exhibit\n"),
     ];
     for (schedule, text) in cases {
@@ -20,6 +30,9 @@ fn schedules_are_replayed(rt: HostRuntime) -> Result<(), Fail> {
         assert_eq!(rt; status, Status::Done, "{schedule}");
         assert_eq!(rt; sink.bytes(), text.as_bytes(), "{schedule}");
     }
+    let (status, text, answers) = played(rt.alloc(), &[TOO_EARLY])?;
+    assert_eq!(rt; text.as_str(), answers.as_str());
+    assert_eq!(rt; status, Status::Done);
     Ok(())
 }
 

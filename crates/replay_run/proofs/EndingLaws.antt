@@ -1,151 +1,147 @@
--- A replay ends for the first cause that its lines have.
-use Rattle.std.proofs.Common.{◌≡◌, ℕ, zero, suc, ◌+◌, ◌≤◌, ◌==◌, ◌&&◌, ◌||◌, nat_lt, not, Bool, true, false, if◌then◌else◌, List, [], ◌∷◌, length, Option, Some, None, Result, Ok, Err, inl, inr, refl, sym, ap, ◌∙◌, subst, arith}
-use Rattle.std.specs.Prelude.{is_none, option_and_then}
-use Rattle.std.proofs.lemmas.Bool.{ne_eqb, and_parts, not-true}
-use Rattle.plasma_tx.specs.Chain.{Chain}
-use Rattle.root_rules.specs.Shown.{Tests}
+-- A replay ends for the first cause that its lines have, and the lines before that one are a run.
+use Rattle.std.proofs.Common.{◌≡◌, ℕ, suc, ◌+◌, ◌&&◌, ◌||◌, not, Bool, true, false, if◌then◌else◌, List, [], ◌∷◌, ◌++◌, length, take, reverse, Option, Some, None, Result, Ok, Err, inl, inr, refl, sym, ap, ◌∙◌, subst, arith, append_assoc}
+use Rattle.std.specs.Prelude.{option_and_then}
+use Rattle.std.specs.List.{filter_map, cons_option}
+use Rattle.std.proofs.lemmas.Bool.{and_parts, not-true, true≢false}
+use Rattle.std.proofs.lemmas.List.{append-nil, reverse-append}
+use Rattle.schedule_text.specs.declared.line.Line.{Line}
+use Rattle.schedule_text.specs.Grammar.{line_in}
+use Rattle.world_rules.specs.Steps.{Run, no_lines, step_run, run_of, step as world_step}
+use Rattle.world_core.specs.Lines.{is_full}
 use Rattle.replay_run.specs.declared.reply.Ending.{Ending}
-use Rattle.replay_run.specs.declared.reply.Ending.TheVariants.{Complete, BadLine, ReadFault, TooLong}
-use Rattle.std.proofs.lemmas.Bool.{true≢false, ltb-false}
-use Rattle.replay_run.specs.declared.TheConstants.{MOST_LINES, MOST_LINE_BYTES, MOST_INPUT_BYTES}
+use Rattle.replay_run.specs.declared.reply.Ending.TheVariants.{ReadFault, TooLong}
 use Rattle.replay_run.specs.Lines.{lines_in, is_whole, text_of, is_too_long}
-use Rattle.replay_run.proofs.LineLaws.{AreCut, lines-are_cut, size_of, size_of-lines_in}
-use Rattle.replay_run.specs.Trace.{Request, Begins, Enters, Asks, request_in, AnsweredLine, Trace, step, step_or, line_step, trace_at, trace_from, trace_of}
-use Rattle.replay_run.specs.Endings.{is_chain_line, IsAnswered, EndsAt, EndsBy, EndingsHaveTheirCause}
+use Rattle.replay_run.specs.Replays.{Replay, next_number, run_or, text_run, line_run, goes_on, replay_from, replay_of}
+use Rattle.replay_run.specs.Laws.{lines_spelled, AnsweredLinesAreARun}
+use Rattle.replay_run.specs.Endings.{MayBeAnswered, IsAnswered, EndsAt, EndsBy, EndingsHaveTheirCause}
+use Rattle.replay_run.proofs.ReplayLaws.{one-entry}
 
--- a step is made of a `chain` line where there is no chain yet, and of another line where there is one
-steps-where : (tests : Tests) (state : Option Chain) (line : Request) (answered : AnsweredLine)
-    → step tests state line ≡ Some answered
-    → is_chain_line line ≡ is_none state
-unfolding step
-steps-where tests None (Begins tag operator most) answered is = refl
-steps-where tests None (Asks account) answered is = absurd (cc)
-steps-where tests None (Enters call) answered is = absurd (cc)
-steps-where tests (Some chain) (Begins tag operator most) answered is = absurd (cc)
-steps-where tests (Some chain) line answered is = refl
+-- a line that is answered, and the run with it
+record AnsweredAs (dig : List ℕ → List ℕ) (earlier : List Line) (ended : Bool) (start : ℕ) (run : Run)
+    (line : List ℕ) (next : Run) : Type 0 where
+  may : MayBeAnswered ended (next_number run) start line
+  spelled : Line
+  answered : IsAnswered dig earlier line spelled
+  ran : run_of dig (spelled ∷ earlier) ≡ Some next
+  count : length next.entries ≡ length run.entries + 1
 
-stops-where : (tests : Tests) (state : Option Chain) (line : Request) → step tests state line ≡ None
-    → is_chain_line line ≡ not (is_none state)
-unfolding step
-stops-where tests None (Begins tag operator most) is = absurd (cc)
-stops-where tests None line is = refl
-stops-where tests (Some chain) (Begins tag operator most) is = refl
-stops-where tests (Some chain) (Asks account) is = absurd (cc)
-stops-where tests (Some chain) (Enters call) is = absurd (cc)
+-- what one line does: it ends the replay for its cause, or it is answered
+abbrev LineDoes : (List ℕ → List ℕ) → List Line → Bool → ℕ → Run → List ℕ → Result Run Ending → Type 0
+LineDoes dig earlier ended start run line (Ok next) = AnsweredAs dig earlier ended start run line next
+LineDoes dig earlier ended start run line (Err ending) = EndsAt dig earlier ended (next_number run) start line ending
 
--- what one line does: it ends the run for its cause, or it is answered
-LineDoes : Bool → ℕ → ℕ → List ℕ → Result AnsweredLine Ending → Type 0
-LineDoes ended n start line (Ok answered) = IsAnswered n start line
-LineDoes ended n start line (Err ending) = EndsAt ended n start line ending
+by-step : (dig : List ℕ → List ℕ) (earlier : List Line) (ended : Bool) (start : ℕ) (run : Run) (line : List ℕ)
+    → MayBeAnswered ended (next_number run) start line → (spelled : Line) → line_in (text_of line) ≡ Some spelled
+    → (o : Option Run) → step_run dig spelled run ≡ o → run_of dig (spelled ∷ earlier) ≡ o
+    → LineDoes dig earlier ended start run line (run_or (next_number run) o)
+by-step dig earlier ended start run line may spelled spells None is ran = (refl, may, inr (spelled, spells, ran))
+by-step dig earlier ended start run line may spelled spells (Some next) is ran =
+    (elim (is_full next) as (λ t. is_full next ≡ t → LineDoes dig earlier ended start run line
+    (if t then Err (TooLong (next_number run)) else Ok next)) [
+      | true ↦ λ full. (refl, inr (may, (spelled, spells, (next, ran, full))))
+      | false ↦ λ fits. record {
+        may = may;
+        spelled = spelled;
+        answered = record { spells = spells; run = next; ran = ran; fits = fits };
+        ran = ran;
+        count = ap length (one-entry run next spelled (world_step dig run.world spelled) is).1 ∙ omega arith;
+      }
+    ]) refl
 
-by-step : (tests : Tests) (ended : Bool) (n start : ℕ) (state : Option Chain) (line : List ℕ) → is_none state ≡ (n == 1)
-    → is_too_long n start line ≡ false → (spelled : Request) → request_in (text_of line) ≡ Some spelled
-    → (o : Option AnsweredLine) → step tests state spelled ≡ o → LineDoes ended n start line (step_or (BadLine n) o)
-unfolding LineDoes
-by-step tests ended n start state line first fits spelled spells None is =
-    (refl, fits, inr (spelled, spells, stops-where tests state spelled is ∙ ap not first))
-by-step tests ended n start state line first fits spelled spells (Some answered) is =
-    let placed = steps-where tests state spelled answered is ∙ first in
-    record { fits = fits; spelled = spelled; spells = spells; placed = placed }
+by-text : (dig : List ℕ → List ℕ) (earlier : List Line) (ended : Bool) (start : ℕ) (run : Run) (line : List ℕ)
+    → run_of dig earlier ≡ Some run → MayBeAnswered ended (next_number run) start line
+    → (o : Option Line) → line_in (text_of line) ≡ o
+    → LineDoes dig earlier ended start run line
+    (run_or (next_number run) (option_and_then (λ l. step_run dig l run) o))
+unfolding run_of
+by-text dig earlier ended start run line ran may None is = (refl, may, inl is)
+by-text dig earlier ended start run line ran may (Some spelled) is =
+    by-step dig earlier ended start run line may spelled is (step_run dig spelled run) refl
+    (ap (option_and_then (step_run dig spelled)) ran)
 
-by-text : (tests : Tests) (ended : Bool) (n start : ℕ) (state : Option Chain) (line : List ℕ) → is_none state ≡ (n == 1)
-    → is_too_long n start line ≡ false → (o : Option Request) → request_in (text_of line) ≡ o
-    → LineDoes ended n start line (step_or (BadLine n) (option_and_then (step tests state) o))
-unfolding LineDoes
-by-text tests ended n start state line first fits None is = (refl, fits, inl is)
-by-text tests ended n start state line first fits (Some spelled) is =
-    by-step tests ended n start state line first fits spelled is (step tests state spelled) refl
+may-of : (ended whole : Bool) → (not ended && not whole) ≡ false → (ended || whole) ≡ true
+may-of true whole is = refl
+may-of false true is = refl
+may-of false false wrong = absurd (true≢false wrong)
 
-line-does : (tests : Tests) (ended : Bool) (n start : ℕ) (state : Option Chain) (line : List ℕ)
-    → is_none state ≡ (n == 1)
-    → LineDoes ended n start line (line_step tests ended n start state line)
-unfolding line_step LineDoes
-line-does tests ended n start state line first =
-    (elim (is_too_long n start line) as (λ t. is_too_long n start line ≡ t → LineDoes ended n start line
-    (if t then Err (TooLong n) else (if not ended && not (is_whole line) then Err ReadFault else step_or (BadLine n)
-    (option_and_then (step tests state) (request_in (text_of line)))))) [
-      | true ↦ λ long. (refl, long)
+line-does : (dig : List ℕ → List ℕ) (earlier : List Line) (ended : Bool) (start : ℕ) (run : Run) (line : List ℕ)
+    → run_of dig earlier ≡ Some run
+    → LineDoes dig earlier ended start run line (line_run dig ended start run line)
+unfolding line_run
+line-does dig earlier ended start run line ran =
+    let n = next_number run in
+    (elim (is_too_long n start line) as (λ t. is_too_long n start line ≡ t → LineDoes dig earlier ended start run line
+    (if t then Err (TooLong n) else (if not ended && not (is_whole line) then Err ReadFault
+    else run_or n (text_run dig run (text_of line))))) [
+      | true ↦ λ long. (refl, inl long)
       | false ↦ λ fits. (elim (not ended && not (is_whole line)) as
-          (λ t. (not ended && not (is_whole line)) ≡ t → LineDoes ended n start line
-          (if t then Err ReadFault else step_or (BadLine n)
-          (option_and_then (step tests state) (request_in (text_of line))))) [
-            | true ↦ λ dropped. let parts =
-                and_parts (not ended) (not (is_whole line)) dropped
+          (λ t. (not ended && not (is_whole line)) ≡ t → LineDoes dig earlier ended start run line
+          (if t then Err ReadFault else run_or n (text_run dig run (text_of line)))) [
+            | true ↦ λ dropped. let parts = and_parts (not ended) (not (is_whole line)) dropped
                 in (fits, not-true ended parts.0, not-true (is_whole line) parts.1)
-            | false ↦ λ kept. by-text tests ended n start state line first fits (request_in (text_of line)) refl
+            | false ↦ λ kept.
+                by-text dig earlier ended start run line ran
+                (record { fits = fits; seen = may-of ended (is_whole line) kept }) (line_in (text_of line)) refl
           ]) refl
     ]) refl
 
-trace-ends : (tests : Tests) (ended : Bool) (n start : ℕ) (state : Option Chain) (lines : List (List ℕ)) → 1 ≤ n
-    → is_none state ≡ (n == 1)
-    → let trace = trace_from tests ended n start state lines in
-    EndsBy ended n start lines (length trace.lines) trace.ending
-unfolding trace_from EndsBy LineDoes
-trace-ends tests ended n start state [] low first = refl
-trace-ends tests ended n start state (line ∷ lines) low first =
-    let more : Chain → Trace = λ chain. trace_from tests ended (n + 1) (start + length line) (Some chain) lines in
-    (elim (line_step tests ended n start state line) as
-    (λ r. LineDoes ended n start line r
-    → EndsBy ended n start (line ∷ lines) (length (trace_at n r more).lines) (trace_at n r more).ending) [
-      | Ok answered ↦ λ does. (
-        does,
-        trace-ends tests ended (n + 1) (start + length line) (Some answered.chain) lines
-            (omega arith) (sym (ne_eqb (n + 1) 1 (omega arith))),
-      )
-      | Err ending ↦ λ does. does
-    ]) (line-does tests ended n start state line first)
+-- a replay that goes on behind a run: it answers so many lines more, which are a run with the earlier ones
+record EndsSo (dig : List ℕ → List ℕ) (earlier : List Line) (ended : Bool) (start : ℕ) (run : Run)
+    (lines : List (List ℕ)) (replay : Replay) : Type 0 where
+  more : ℕ
+  count : length replay.run.entries ≡ length run.entries + more
+  ends : EndsBy dig ended earlier (next_number run) start lines more replay.ending
+  ran : run_of dig (reverse (filter_map (λ line. line_in (text_of line)) (take more lines)) ++ earlier)
+      ≡ Some replay.run
 
-pub endings_have_causes : EndingsHaveTheirCause
-unfolding trace_of
-endings_have_causes tests bytes ended = trace-ends tests ended 1 0 None _ (omega arith) refl
+replay-ends : (dig : List ℕ → List ℕ) (earlier : List Line) (ended : Bool) (start : ℕ) (run : Run)
+    (lines : List (List ℕ)) → run_of dig earlier ≡ Some run
+    → EndsSo dig earlier ended start run lines (replay_from dig ended start run lines)
+unfolding replay_from EndsBy
+replay-ends dig earlier ended start run [] ran = record { more = 0; count = omega arith; ends = refl; ran = ran }
+replay-ends dig earlier ended start run (line ∷ lines) ran =
+    (elim (line_run dig ended start run line) as (λ o. LineDoes dig earlier ended start run line o
+    → EndsSo dig earlier ended start run (line ∷ lines)
+    (goes_on dig run o (λ next. replay_from dig ended (start + length line) next lines))) [
+      | Err ending ↦ λ does. record { more = 0; count = omega arith; ends = does; ran = ran }
+      | Ok next ↦ λ does.
+          let rest = replay-ends dig (does.spelled ∷ earlier) ended (start + length line) next lines does.ran in
+          let number : next_number next ≡ next_number run + 1 = omega (arith, does.count) in
+          let spelled = filter_map (λ l. line_in (text_of l)) (take rest.more lines) in
+          record {
+            more = suc rest.more;
+            count = omega (arith, rest.count, does.count);
+            ends = (
+              does.may,
+              (
+                does.spelled,
+                does.answered,
+                subst (λ m. EndsBy dig ended (does.spelled ∷ earlier) m (start + length line) lines rest.more
+                    (replay_from dig ended (start + length line) next lines).ending) number rest.ends,
+              ),
+            );
+            ran =
+                ap (λ o. run_of dig (reverse (cons_option o spelled) ++ earlier)) does.answered.spells
+                ∙ ap (λ ls. run_of dig (ls ++ earlier)) (reverse-append (does.spelled ∷ []) spelled)
+                ∙ ap (run_of dig) (append_assoc (reverse spelled) (does.spelled ∷ []) earlier) ∙ rest.ran;
+          }
+    ]) (line-does dig earlier ended start run line ran)
 
-fits_of : (a b c : Bool) → (a || b || c) ≡ false → c ≡ false
-fits_of true b c wrong = absurd (true≢false wrong)
-fits_of false true c wrong = absurd (true≢false wrong)
-fits_of false false c is = is
+whole : (dig : List ℕ → List ℕ) (bytes : List ℕ) (ended : Bool)
+    → EndsSo dig [] ended 0 no_lines (lines_in bytes) (replay_of dig bytes ended)
+unfolding replay_of run_of
+whole dig bytes ended = replay-ends dig [] ended 0 no_lines (lines_in bytes) refl
 
--- a line that passes no limit ends within the bytes of an input
-within : (n start : ℕ) (line : List ℕ) → is_too_long n start line ≡ false → start + length line ≤ MOST_INPUT_BYTES
-within n start line fits =
-    ltb-false MOST_INPUT_BYTES (start + length line)
-    (fits_of (nat_lt MOST_LINES n) (nat_lt MOST_LINE_BYTES (length (text_of line))) _ fits)
+pub endings-have_causes : EndingsHaveTheirCause
+endings-have_causes dig bytes ended =
+    let all = whole dig bytes ended in
+    let count : all.more ≡ length (replay_of dig bytes ended).run.entries = omega (arith, all.count) in
+    subst (λ n. EndsBy dig ended [] 1 0 (lines_in bytes) n (replay_of dig bytes ended).ending) count all.ends
 
--- a run that ends as a read fault wasn't at its input's end, and the input isn't too long
-fault-within : (ended : Bool) (n start : ℕ) (lines : List (List ℕ)) (answered : ℕ) → AreCut lines
-    → start ≤ MOST_INPUT_BYTES → EndsBy ended n start lines answered ReadFault
-    → (ended ≡ false) × (start + size_of lines ≤ MOST_INPUT_BYTES)
-unfolding EndsBy size_of
-fault-within true n start [] zero cut low wrong = absurd (cc)
-fault-within false n start [] zero cut low is = (refl, omega arith)
-fault-within ended n start [] (suc more) cut low never = absurd never
-fault-within ended n start (line ∷ lines) zero cut low at =
-    let none : size_of lines ≡ 0 = ap size_of (cut.1 at.2) in
-    (at.1, omega (arith, none, within n start line at.0))
-fault-within ended n start (line ∷ lines) (suc more) cut low on =
-    let next : start + length line ≤ MOST_INPUT_BYTES = within n start line on.0.fits in
-    let rest = fault-within ended (n + 1) (start + length line) lines more cut.2 next on.1 in
-    (rest.0, omega (arith, rest.1))
-
-pub fault-is : (tests : Tests) (bytes : List ℕ) (ended : Bool) → (trace_of tests bytes ended).ending ≡ ReadFault
-    → (ended ≡ false) × (length bytes ≤ MOST_INPUT_BYTES)
-fault-is tests bytes ended is =
-    let h = fault-within ended 1 0 (lines_in bytes) _ (lines-are_cut bytes) (omega arith)
-    (subst (EndsBy ended 1 0 (lines_in bytes) _) is (endings_have_causes tests bytes ended)) in
-    (h.0, omega (arith, h.1, size_of-lines_in bytes))
-
-complete-at : (ended : Bool) (n start : ℕ) (lines : List (List ℕ)) (answered : ℕ)
-    → EndsBy ended n start lines answered Complete → ended ≡ true
-unfolding EndsBy
-complete-at true n start [] zero is = refl
-complete-at false n start [] zero wrong = absurd (cc)
-complete-at ended n start [] (suc more) never = absurd never
-complete-at ended n start (line ∷ lines) zero never = absurd never
-complete-at ended n start (line ∷ lines) (suc more) on =
-    complete-at ended (n + 1) (start + length line) lines more on.1
-
--- a run that is complete was at its input's end
-pub complete-is : (tests : Tests) (bytes : List ℕ) (ended : Bool) → (trace_of tests bytes ended).ending ≡ Complete
-    → ended ≡ true
-complete-is tests bytes ended is =
-    complete-at ended 1 0 (lines_in bytes) _
-    (subst (EndsBy ended 1 0 (lines_in bytes) _) is (endings_have_causes tests bytes ended))
+pub answered-are_a_run : AnsweredLinesAreARun
+answered-are_a_run dig bytes ended =
+    let all = whole dig bytes ended in
+    let run = (replay_of dig bytes ended).run in
+    let count : all.more ≡ length run.entries = omega (arith, all.count) in
+    subst (λ n. run_of dig (lines_spelled bytes n) ≡ Some run) count
+    (ap (run_of dig) (sym (append-nil (lines_spelled bytes all.more))) ∙ all.ran)

@@ -1,5 +1,10 @@
 mod LineLaws
-mod EndingLaws
+mod ReplayLaws
+mod StopLaws
+mod ReadLaws
+mod OutsideLaws
+mod GoingLaws
 mod RunLaws
 mod CutLaws
-mod ReplyLaws
+mod EndingLaws
+mod Promises

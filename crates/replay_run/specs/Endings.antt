@@ -1,48 +1,61 @@
--- Why a replay ends, by its lines alone: the limits, the grammar, what is run, and the rule of declarations.
-use Rattle.std.specs.Prelude.{◌≡◌, ℕ, zero, suc, ◌+◌, ◌==◌, ◌⊎◌, not, Bool, true, false, if◌then◌else◌, List, [], ◌∷◌, length, Some, None}
-use Rattle.root_rules.specs.Shown.{Tests}
+-- Why a replay ends, by its lines: the limits, the grammar, and whether the lines so far have a run with one more.
+use Rattle.std.specs.Prelude.{◌≡◌, ℕ, zero, suc, ◌+◌, ◌||◌, ◌⊎◌, Bool, true, false, if◌then◌else◌, List, [], ◌∷◌, length, Some, None}
+use Rattle.schedule_text.specs.declared.line.Line.{Line}
+use Rattle.schedule_text.specs.Grammar.{line_in}
+use Rattle.world_rules.specs.Steps.{Run, run_of}
+use Rattle.world_core.specs.Lines.{is_full, WouldFill}
 use Rattle.replay_run.specs.declared.reply.Ending.{Ending}
 use Rattle.replay_run.specs.declared.reply.Ending.TheVariants.{Complete, BadLine, ReadFault, TooLong}
 use Rattle.replay_run.specs.Lines.{lines_in, is_whole, text_of, is_too_long}
-use Rattle.replay_run.specs.Trace.{Request, Begins, Enters, Asks, request_in, trace_of}
+use Rattle.replay_run.specs.Replays.{replay_of}
 
--- whether a line is a `chain` line
-abbrev pub is_chain_line : Request → Bool
-is_chain_line (Begins tag operator most) = true
-is_chain_line (Enters call) = false
-is_chain_line (Asks account) = false
-
--- line n is answered: it passes no limit, and it spells a line that is run, a `chain` line exactly where n is 1
-pub record IsAnswered (n start : ℕ) (line : List ℕ) : Type 0 where
+-- line n, which begins after so many bytes, may be answered: it passes no limit, and its line feed was seen, or the
+-- end of the input
+pub record MayBeAnswered (ended : Bool) (n start : ℕ) (line : List ℕ) : Type 0 where
   pub fits : is_too_long n start line ≡ false
-  pub spelled : Request
-  pub spells : request_in (text_of line) ≡ Some spelled
-  pub placed : is_chain_line spelled ≡ (n == 1)
+  pub seen : (ended || is_whole line) ≡ true
 
--- line n is bad: it spells no line that is run, or a `chain` line that isn't the first, or another line that is
-abbrev pub IsBad : ℕ → List ℕ → Type 0
-IsBad n line =
-    (request_in (text_of line) ≡ None)
-    ⊎ ((spelled : Request) × (request_in (text_of line) ≡ Some spelled) × (is_chain_line spelled ≡ not (n == 1)))
+-- under a digest, behind earlier lines, the newest first
+module _ (dig : List ℕ → List ℕ) (earlier : List Line) where
+  -- a line spells this one, with which the lines have a run, whose mail isn't full
+  pub record IsAnswered (line : List ℕ) (spelled : Line) : Type 0 where
+    pub spells : line_in (text_of line) ≡ Some spelled
+    pub run : Run
+    pub ran : run_of dig (spelled ∷ earlier) ≡ Some run
+    pub fits : is_full run ≡ false
 
--- line n, which begins after so many bytes, ends the run so
-abbrev pub EndsAt : Bool → ℕ → ℕ → List ℕ → Ending → Type 0
-EndsAt ended n start line Complete = ⊥
-EndsAt ended n start line (TooLong m) = (m ≡ n) × (is_too_long n start line ≡ true)
-EndsAt ended n start line ReadFault = (is_too_long n start line ≡ false) × (ended ≡ false) × (is_whole line ≡ false)
-EndsAt ended n start line (BadLine m) = (m ≡ n) × (is_too_long n start line ≡ false) × IsBad n line
+  -- a line is bad: it spells none, or one that breaks a rule of declarations
+  abbrev pub IsBad : List ℕ → Type 0
+  IsBad line =
+      (line_in (text_of line) ≡ None)
+      ⊎ ((spelled : Line) × (line_in (text_of line) ≡ Some spelled) × (run_of dig (spelled ∷ earlier) ≡ None))
 
--- The lines from line n on end so after so many answered ones: each of these is answered, and the next one says how, or
--- where there is none the end of the input does.
-unfoldable pub EndsBy : Bool → ℕ → ℕ → List (List ℕ) → ℕ → Ending → Type 0
-EndsBy ended n start [] zero ending = ending ≡ (if ended then Complete else ReadFault)
-EndsBy ended n start [] (suc more) ending = ⊥
-EndsBy ended n start (line ∷ lines) zero ending = EndsAt ended n start line ending
-EndsBy ended n start (line ∷ lines) (suc more) ending =
-    IsAnswered n start line × EndsBy ended (n + 1) (start + length line) lines more ending
+  -- a line would fill the mail
+  abbrev pub Fills : List ℕ → Type 0
+  Fills line = (spelled : Line) × (line_in (text_of line) ≡ Some spelled) × WouldFill dig earlier spelled
 
--- A replay ends for the first cause that its lines have, whatever the contract answers, and it has a reply to each line
--- before.
+  -- line n, which begins after so many bytes, ends the replay so
+  abbrev pub EndsAt : Bool → ℕ → ℕ → List ℕ → Ending → Type 0
+  EndsAt ended n start line Complete = ⊥
+  EndsAt ended n start line (TooLong m) =
+      (m ≡ n) × ((is_too_long n start line ≡ true) ⊎ (MayBeAnswered ended n start line × Fills line))
+  EndsAt ended n start line ReadFault =
+      (is_too_long n start line ≡ false) × (ended ≡ false) × (is_whole line ≡ false)
+  EndsAt ended n start line (BadLine m) = (m ≡ n) × MayBeAnswered ended n start line × IsBad line
+
+-- The lines from line n on end so after so many answered ones: each of these is answered, and the next one says how,
+-- or where there is none the end of the input does.
+unfoldable pub EndsBy : (List ℕ → List ℕ) → Bool → List Line → ℕ → ℕ → List (List ℕ) → ℕ → Ending → Type 0
+EndsBy dig ended earlier n start [] zero ending = ending ≡ (if ended then Complete else ReadFault)
+EndsBy dig ended earlier n start [] (suc more) ending = ⊥
+EndsBy dig ended earlier n start (line ∷ lines) zero ending = EndsAt dig earlier ended n start line ending
+EndsBy dig ended earlier n start (line ∷ lines) (suc more) ending =
+    MayBeAnswered ended n start line
+    × ((spelled : Line) × IsAnswered dig earlier line spelled
+    × EndsBy dig ended (spelled ∷ earlier) (n + 1) (start + length line) lines more ending)
+
+-- A replay ends for the first cause that its lines have, and it has an answer to each line before.
 abbrev pub EndingsHaveTheirCause : Type 0
-EndingsHaveTheirCause = (tests : Tests) (bytes : List ℕ) (ended : Bool)
-    → EndsBy ended 1 0 (lines_in bytes) (length (trace_of tests bytes ended).lines) (trace_of tests bytes ended).ending
+EndingsHaveTheirCause = (dig : List ℕ → List ℕ) (bytes : List ℕ) (ended : Bool)
+    → let replay = replay_of dig bytes ended in
+    EndsBy dig ended [] 1 0 (lines_in bytes) (length replay.run.entries) replay.ending

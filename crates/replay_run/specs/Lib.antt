@@ -1,10 +1,12 @@
 pub mod Forms
 pub mod Lines
-pub mod Trace
-pub mod Endings
+pub mod Replays
 pub mod Text
+pub mod Bounds
 pub mod Output
 pub mod Runs
+pub mod Reading
 pub mod Codes
-pub mod Steps
 pub mod Laws
+pub mod Endings
+pub mod Headline

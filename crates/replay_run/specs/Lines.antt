@@ -1,5 +1,6 @@
 -- The lines of an input, and its limits.
-use Rattle.std.specs.Prelude.{◌≡◌, ℕ, ◌+◌, ◌-◌, ◌<◌, ◌==◌, ◌||◌, Bool, if◌then◌else◌, nat_lt, List, [], ◌∷◌, length, take, slice_index}
+use Rattle.std.specs.Prelude.{◌≡◌, ◌≢◌, ℕ, ◌+◌, ◌-◌, ◌==◌, ◌||◌, Bool, if◌then◌else◌, nat_lt, min, List, [], ◌∷◌, ◌++◌, length, take, slice_index}
+use Rattle.std.specs.List.{All}
 use Rattle.replay_run.specs.declared.TheConstants.{MOST_LINES, MOST_LINE_BYTES, MOST_INPUT_BYTES}
 
 -- the byte before the first of these lines
@@ -32,8 +33,15 @@ is_too_long n start line =
     || nat_lt MOST_LINE_BYTES (length (text_of line))
     || nat_lt MOST_INPUT_BYTES (start + length line)
 
--- the first of these lines and what stands after it
-pub record CutsLine (bytes line rest : List ℕ) : Type 0 where
-  pub lines : lines_in bytes ≡ line ∷ lines_in rest
-  pub sizes : length bytes ≡ length line + length rest
-  pub some : 0 < length line
+-- how many bytes there may be up to the end of line n, which begins after so many: none of it where there may be no
+-- such line
+abbrev pub limit_of : ℕ → ℕ → ℕ
+limit_of n start = if nat_lt MOST_LINES n then start else min (start + MOST_LINE_BYTES) MOST_INPUT_BYTES
+
+-- bytes without a line feed
+abbrev pub HasNoFeed : List ℕ → Type 0
+HasNoFeed bytes = All (λ byte. byte ≢ 10) bytes
+
+-- a line that ends with its only line feed
+abbrev pub EndsWithItsFeed : List ℕ → Type 0
+EndsWithItsFeed line = (text : List ℕ) × (line ≡ text ++ 10 ∷ []) × HasNoFeed text

@@ -1,6 +1,5 @@
 -- What a run writes and how it ends, as a function of the words and of the bytes that were read.
-use Rattle.std.specs.Prelude.{ℕ, Bool, if◌then◌else◌, List, [], ◌∷◌, ◌++◌, codes, Option, Some, None}
-use Rattle.root_rules.specs.Shown.{tests_by}
+use Rattle.std.specs.Prelude.{ℕ, Bool, if◌then◌else◌, List, [], ◌∷◌, ◌++◌, codes, Option, Some, None, Result, Ok, Err}
 use Rattle.replay_run.specs.declared.status.Status.{Status}
 use Rattle.replay_run.specs.declared.status.Status.TheVariants.{Done, Usage, BadLine as BadLineStatus, ReadFault as ReadFaultStatus, WriteFault as WriteFaultStatus, NoMemory as NoMemoryStatus, TooLong as TooLongStatus}
 use Rattle.plasma_outside.specs.declared.sink.SinkRefusal.{SinkRefusal}
@@ -10,10 +9,10 @@ use Rattle.replay_run.specs.declared.reply.Ending.TheVariants.{Complete, BadLine
 use Rattle.replay_run.specs.declared.form.Form.{Form}
 use Rattle.replay_run.specs.declared.form.Form.TheVariants.{Replay, Verify}
 use Rattle.replay_run.specs.Forms.{form_of, is_verified}
-use Rattle.replay_run.specs.Trace.{trace_of}
-use Rattle.replay_run.specs.Text.{answers_text, ending_text}
+use Rattle.replay_run.specs.Replays.{replay_of}
+use Rattle.replay_run.specs.Text.{answers_text, last_text}
 
--- the status of a run, the answers that it writes, and its last line
+-- the status of a run, the answers that it writes, and what stands behind them
 pub record Output : Type 0 where
   pub status : Status
   pub answers : List ℕ
@@ -34,13 +33,14 @@ status_of (BadLine n) = BadLineStatus
 status_of ReadFault = ReadFaultStatus
 status_of (TooLong n) = TooLongStatus
 
--- `replay` under a digest: the answers of the trace of the input, and the status and the line of what ended it
+-- `replay` under a digest: the answers of the lines of the input that are run, and the status and the lines of what
+-- ended it
 abbrev pub replay_output : (List ℕ → List ℕ) → List ℕ → Bool → Output
 replay_output dig bytes ended =
-    let trace = trace_of (tests_by dig) bytes ended in record {
-      status = status_of trace.ending;
-      answers = answers_text trace;
-      last = ending_text trace.ending;
+    let replay = replay_of dig bytes ended in record {
+      status = status_of replay.ending;
+      answers = answers_text replay;
+      last = last_text dig replay.run replay.ending;
     }
 
 -- `verify`: one word
@@ -55,6 +55,11 @@ verify_output verified = record {
 abbrev pub status_of_refusal : SinkRefusal → Status
 status_of_refusal Failed = WriteFaultStatus
 status_of_refusal NoMemory = NoMemoryStatus
+
+-- the status of a replay
+abbrev pub status_of_replay : Result Ending SinkRefusal → Status
+status_of_replay (Ok ending) = status_of ending
+status_of_replay (Err refusal) = status_of_refusal refusal
 
 -- the output of a form over these bytes; `ended` says that the input was read to its end. `verify` reads nothing
 abbrev pub form_output : (List ℕ → List ℕ) → Option Form → List ℕ → Bool → Output

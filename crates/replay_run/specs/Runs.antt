@@ -1,13 +1,8 @@
 -- What a run does to its source and its sink.
-use Rattle.std.specs.Prelude.{◌≡◌, ℕ, ◌<◌, Bool, true, false, List, [], ◌++◌, ◌⊎◌, Option, option_map, IfSome, Result, Ok, Err}
+use Rattle.std.specs.Prelude.{◌≡◌, ℕ, Bool, true, false, List, [], ◌∷◌, ◌++◌, ◌⊎◌, Option, option_map, IfSome}
 use Rattle.plasma_base.specs.Causes.{faults_after}
-use Rattle.plasma_base.specs.declared.memory.NoMemory.{NoMemory as WantsMemory}
-use Rattle.replay_run.specs.declared.TheConstants.{MOST_INPUT_BYTES}
 use Rattle.replay_run.specs.declared.status.Status.{Status}
 use Rattle.replay_run.specs.declared.status.Status.TheVariants.{Done, Usage, BadLine, ReadFault, WriteFault, NoMemory, TooLong}
-use Rattle.replay_run.specs.declared.reply.Ending.{Ending}
-use Rattle.replay_run.specs.Trace.{Trace}
-use Rattle.replay_run.specs.Text.{answers_text, ending_text}
 use Rattle.replay_run.specs.Output.{Output}
 
 -- where it tells, the source gave these bytes, and these are left; an input that was read to its end has none left
@@ -15,22 +10,16 @@ pub record Gave (before after : Option (List ℕ)) (bytes : List ℕ) (ended : B
   pub given : before ≡ option_map (λ left. bytes ++ left) after
   pub end : ended ≡ true → IfSome after (λ left. left ≡ [])
 
--- where it tells, the source gave some bytes
-abbrev pub GavePart : Option (List ℕ) → Option (List ℕ) → Type 0
-GavePart before after = (bytes : List ℕ) × Gave before after bytes false
+-- where it tells, the source gave these bytes in one take: none only at its end
+abbrev pub GaveAll : Option (List ℕ) → Option (List ℕ) → List ℕ → Type 0
+GaveAll before after [] = Gave before after [] true
+GaveAll before after (byte ∷ bytes) = Gave before after (byte ∷ bytes) false
 
 -- A source is read up to its first fault: in a reading that failed it counted that one, and its last take is the one
 -- that failed; in another it counted none.
 pub record ReadsToFault (before after : ℕ) (failed_last failed : Bool) : Type 0 where
   pub count : after ≡ faults_after before failed
   pub last : failed ≡ true → failed_last ≡ true
-
--- How the reading of an input of so many bytes went, where `Reads failed` says that it failed or didn't: an input that
--- isn't read to its end failed, or it has more bytes than an input may have.
-abbrev pub ReadsInput : Result Bool WantsMemory → ℕ → (Bool → Type 0) → Type 0
-ReadsInput (Ok true) size Reads = Reads false
-ReadsInput (Ok false) size Reads = Reads true ⊎ (Reads false × (MOST_INPUT_BYTES < size))
-ReadsInput (Err why) size Reads = Reads false
 
 -- What a status says of the reading: it failed, or it didn't where all was done. Where a line of the bytes before a
 -- fault ended the run, or its text wasn't written to the end, it may have failed or not.
@@ -84,9 +73,11 @@ EndsAs output BadLine before after failed = EndsWhole output BadLine before afte
 EndsAs output ReadFault before after failed = EndsWhole output ReadFault before after × failed
 EndsAs output TooLong before after failed = EndsWhole output TooLong before after
 
--- A run took some bytes of the source, and what it wrote and its status are the output over these bytes.
+-- A run took some bytes of the source, and not more than it needed; what it wrote and its status are the output over
+-- these bytes.
 pub record RanOver
     (output : List ℕ → Bool → Output)
+    (Few : Status → List ℕ → Bool → Type 0)
     (left_before left_after taken_before taken_after : Option (List ℕ))
     (failed : Type 0)
     (status : Status)
@@ -95,17 +86,4 @@ pub record RanOver
   pub ended : Bool
   pub gave : Gave left_before left_after bytes ended
   pub ends : EndsAs (output bytes ended) status taken_before taken_after failed
-
--- all answers of a trace were given, and what ended it: the sink has taken a beginning of their text, and the rest of
--- it is gathered
-pub record GathersAnswers
-    (before after : Option (List ℕ)) (gathered : List ℕ) (trace : Trace) (ending : Ending)
-    : Type 0 where
-  pub ends : ending ≡ trace.ending
-  pub put : List ℕ
-  pub wrote : Wrote before after put
-  pub whole : put ++ gathered ≡ answers_text trace
-
--- the text of a replay: the answers, and the line of what ended it
-abbrev pub whole_text : Trace → List ℕ
-whole_text trace = answers_text trace ++ ending_text trace.ending
+  pub few : Few status bytes ended

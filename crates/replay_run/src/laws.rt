@@ -1,6 +1,7 @@
 ghost use Rattle.std.specs.Prelude.{◌≡◌};
 ghost use Rattle.replay_run.specs.Endings.{EndingsHaveTheirCause};
-ghost use Rattle.replay_run.specs.Laws.{LinesAreTheBytes, LinesAreOneCut, RepliesFollowTheCalls};
+ghost use Rattle.replay_run.specs.Headline.{ReplaysKeepThePromise};
+ghost use Rattle.replay_run.specs.Laws.{LinesAreTheBytes, LinesAreOneCut, AnsweredLinesAreARun};
 
 use super::{MOST_INPUT_BYTES, MOST_LINE_BYTES, MOST_LINES};
 
@@ -11,20 +12,27 @@ pub fn lines_are_the_bytes()
     ensures one_cut { LinesAreOneCut }
 {}
 
-/// A replay answers line by line: reply i is the contract's answer to the call of line i, or the
-/// balance that it asks for, after the calls of the lines before it that were accepted. So it is for
-/// all tests of openings and signatures, and hence under every digest.
-pub fn replies_follow_the_calls()
-    ensures { RepliesFollowTheCalls }
+/// The answers of a replay are the trace of a run of the schedule's rules: that of the first lines of its input, as
+/// many as there are answers. So it is under every digest.
+pub fn answered_lines_are_a_run()
+    ensures { AnsweredLinesAreARun }
 {}
 
-/// A replay ends for the first cause that its lines have: a line that passes a limit, else one that
-/// isn't in the grammar, is of nodes, names a wallet or a mail item, or breaks the rule of declarations;
-/// a read fault comes only where the input wasn't read to its end, and a replay is complete only where all its lines
-/// were answered. Each line before that one has a reply, and no other. So it is for all tests of
-/// openings and signatures.
+/// A replay ends for the first cause that its lines have: a line that passes a limit, else one that isn't in the
+/// grammar or breaks a rule of declarations behind the lines before it, else one that fills the mail. A read fault
+/// comes only where the input wasn't read to its end, and a replay is complete only where all its lines were answered.
+/// Each line before that one has an answer, and no other. So it is under every digest.
 pub fn endings_have_their_cause()
     ensures { EndingsHaveTheirCause }
+{}
+
+/// The headline, a law of whatever input: in the run that a replay answers no leaf of a wallet's key signs two messages;
+/// at each line, unless the trace up to it shows two byte strings with one digest at the coin, or a valid signature
+/// that the wallet's key never made, no other account's exit of an attended coin that the wallet holds is paid, and the
+/// wallet's own exit is never cancelled or dropped, and pays when it is finished at its end; and a verdict `lost`
+/// stands only above an exhibit. So it is under every digest of 32 bytes.
+pub fn replays_keep_the_promise()
+    ensures { ReplaysKeepThePromise }
 {}
 
 /// The limits of an input: 200,000 lines, 8,388,608 bytes of a line and 67,108,864 in all.

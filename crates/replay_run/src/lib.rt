@@ -1,19 +1,20 @@
 //! What the program does: a run reads its words and its input, and writes its output.
 #![tactic(auto)]
 
+mod answering;
 mod form;
-mod input;
 mod laws;
+mod lines;
+mod reading;
 mod replay;
 mod reply;
 mod status;
-mod steps;
 mod text;
 mod top;
 
 pub use laws::{
-    endings_have_their_cause, lines_are_the_bytes, replies_follow_the_calls,
-    the_limits_are_these_numbers,
+    answered_lines_are_a_run, endings_have_their_cause, lines_are_the_bytes,
+    replays_keep_the_promise, the_limits_are_these_numbers,
 };
 pub use status::Status;
 pub use top::{run, run_with};

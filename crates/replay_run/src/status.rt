@@ -14,7 +14,7 @@ pub enum Status {
     Done,
     /// The words are no form.
     Usage,
-    /// A line isn't in the grammar, isn't run yet, or breaks a rule of declarations.
+    /// A line isn't in the grammar, or breaks a rule of declarations.
     BadLine,
     /// The source failed.
     ReadFault,

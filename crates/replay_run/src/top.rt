@@ -1,12 +1,15 @@
-ghost use Rattle.std.specs.Prelude.{◌≡◌, ◌≢◌, [], true, false, map, string_bytes};
+ghost use Rattle.std.specs.Prelude.{◌≡◌, ◌≢◌, [], Some, true, false, map, string_bytes, ℕ, Bool, List};
 ghost use Rattle.sha2.specs.Sha256.{sha256};
 ghost use Rattle.plasma_base.specs.Causes.{faults_after};
 ghost use Rattle.replay_run.specs.Forms.{form_of, is_verified, reads_input};
 ghost use Rattle.replay_run.specs.Output.{output_of, replay_output, verify_output};
+ghost use Rattle.replay_run.specs.declared.form.Form.{Form};
+ghost use Rattle.replay_run.specs.Bounds.{FewOf};
+ghost use Rattle.replay_run.specs.Replays.{replay_of};
+ghost use Rattle.replay_run.specs.Headline.{KeepsThePromise};
 ghost use Rattle.replay_run.specs.Runs.{RanOver, EndsAs, ReadsToFault, ReadsBy, is_write_fault};
 
 use super::form::{Form, form_of, is_verified};
-use super::input::take_all;
 use super::replay::replay;
 use super::status::Status;
 use plasma_base::{Bytes, Hash32, Sha};
@@ -29,10 +32,16 @@ pub fn run<S: Source, K: Sink>(
     source: &mut S,
     sink: &mut K,
 ) -> Status
-    // The status and what was written are a function of the words and of the bytes that the source gave.
+    // The status and what was written are a function of the words and of the bytes that the source gave. A `replay`
+    // that a bad line ended, or one past a limit, was answered before more than a room was taken behind it.
     ensures output { RanOver (output_of sha256 (map string_bytes words.now))
+        (FewOf sha256 (form_of (map string_bytes words.now)))
         (S.left source.old) (S.left source.new) (K.taken sink.old) (K.taken sink.new)
         (ReadsToFault (S.faults source.old) (S.faults source.new) (S.failed_last source.new) true) result }
+
+    // The headline: whatever the bytes are, the run that a `replay` answers keeps the promise.
+    ensures headline { (bytes : List ℕ) (ended : Bool)
+        → KeepsThePromise sha256 (replay_of sha256 bytes ended).run }
 
     // Only `replay` touches the source.
     ensures unread { reads_input (form_of (map string_bytes words.now)) ≡ false → source.new ≡ source.old }
@@ -56,6 +65,7 @@ pub fn run_with<H: Hash32, S: Source, K: Sink>(
     sink: &mut K,
 ) -> Status
     ensures output { RanOver (output_of (H.digest_of h.now) (map string_bytes words.now))
+        (FewOf (H.digest_of h.now) (form_of (map string_bytes words.now)))
         (S.left source.old) (S.left source.new) (K.taken sink.old) (K.taken sink.new)
         (ReadsToFault (S.faults source.old) (S.faults source.new) (S.failed_last source.new) true) result }
     ensures unread { reads_input (form_of (map string_bytes words.now)) ≡ false → source.new ≡ source.old }
@@ -99,18 +109,14 @@ fn run_replay<H: Hash32, S: Source, K: Sink>(
     source: &mut S,
     sink: &mut K,
 ) -> Status
-    ensures output { RanOver (replay_output (H.digest_of h.now))
+    ensures output { RanOver (replay_output (H.digest_of h.now)) (FewOf (H.digest_of h.now) (Some Form.Replay))
         (S.left source.old) (S.left source.new) (K.taken sink.old) (K.taken sink.new)
         (ReadsToFault (S.faults source.old) (S.faults source.new) (S.failed_last source.new) true) result }
     ensures source_faults { ReadsBy result
         (ReadsToFault (S.faults source.old) (S.faults source.new) (S.failed_last source.new)) }
     ensures sink_faults { K.faults sink.new ≡ faults_after (K.faults sink.old) (is_write_fault result) }
 {
-    let mut input = Vec::new(alloc);
-    let Ok(ended) = take_all(source, &mut input) else {
-        return Status::NoMemory;
-    };
-    match replay(h, alloc, &input, ended, sink) {
+    match replay(h, alloc, source, sink) {
         Ok(ending) => Status::of_ending(ending),
         Err(refusal) => Status::of_refusal(refusal),
     }

@@ -1,4 +1,4 @@
-use Rattle.replay_run.proofs.RunLaws.{front-put, part-err}
+use Rattle.replay_run.proofs.OutsideLaws.{front-put, part-err}
 use Rattle.replay_run.proofs.replay.put_text.Goals as goal
 
 pub returns-in_err-put_all-clause-err : goal.returns-in_err-put_all-clause-err

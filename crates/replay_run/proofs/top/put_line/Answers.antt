@@ -1,5 +1,6 @@
 use Rattle.std.proofs.Common.{[]}
-use Rattle.replay_run.proofs.RunLaws.{ends-whole, ends-stopped, stops-line, wrote-put, front-put}
+use Rattle.replay_run.proofs.OutsideLaws.{wrote-put, front-put}
+use Rattle.replay_run.proofs.RunLaws.{ends-whole, ends-stopped, stops-line}
 use Rattle.replay_run.proofs.top.put_line.Goals as goal
 
 pub returns-in-Ok-clause-output : goal.returns-in-Ok-clause-output

@@ -7,7 +7,7 @@ returns-in-Err-clause-output g c = ran-nothing _ _ _ _ _
 
 pub returns-in-Ok-None-clause-output : goal.returns-in-Ok-None-clause-output
 returns-in-Ok-None-clause-output g c =
-    ran-unread _ _ _ _ _ _ None _ (sym c.in-Ok-None.field-0-is ∙ c.in-Ok-None.ensures) c.put_line.ensures.output
+    ran-unread _ _ _ _ _ _ None _ (sym c.in-Ok-None.field-0-is ∙ c.in-Ok-None.ensures) c.put_line.ensures.output tt
 
 pub returns-in-Ok-None-clause-source_faults : goal.returns-in-Ok-None-clause-source_faults
 returns-in-Ok-None-clause-source_faults g c = reads-unfailed _ _ c.put_line.ensures.no_read_fault (reads-none _ _)
@@ -22,7 +22,7 @@ pub returns-in-Ok-Some-Verify-clause-output : goal.returns-in-Ok-Some-Verify-cla
 returns-in-Ok-Some-Verify-clause-output g c =
     ran-unread _ _ _ _ _ _ _ _
     (sym (c.in-Ok-Some-Verify.field-0-is ∙ ap Some c.in-Ok-Some-Verify.field-0-0-is) ∙ c.in-Ok-Some-Verify.ensures)
-    c.run_verify.ensures.output
+    c.run_verify.ensures.output tt
 
 pub returns-in-Ok-Some-Verify-clause-source_faults : goal.returns-in-Ok-Some-Verify-clause-source_faults
 returns-in-Ok-Some-Verify-clause-source_faults g c =

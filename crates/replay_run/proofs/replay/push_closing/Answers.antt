@@ -1,0 +1,24 @@
+use Rattle.std.proofs.Common.{◌≡◌, ◌∙◌, ◌++◌, ap, append_assoc, List, ℕ}
+use Rattle.std.specs.List.{flat_map}
+use Rattle.world_rules.specs.Texts.{verdict_text, exhibit_text}
+use Rattle.replay_run.specs.Text.{closing_text}
+use Rattle.replay_run.proofs.ReadLaws.{on-ok}
+use Rattle.replay_run.proofs.replay.push_closing.Goals as goal
+
+-- two texts behind another one
+joined : (text front old first second other : List ℕ) → text ≡ front ++ second → front ≡ old ++ first → second ≡ other
+    → text ≡ old ++ (first ++ other)
+joined text front old first second other whole begins same =
+    whole ∙ ap (λ t. t ++ second) begins ∙ append_assoc old first second ∙ ap (λ t. old ++ (first ++ t)) same
+
+pub returns : goal.returns
+returns g c =
+    λ run ran.
+    let dig : List ℕ → List ℕ = g.H.Hash32.digest_of c.args.world.now.hash in
+    let old : List ℕ = c.args.text.now.items in
+    let verdicts = c.as_slice.ensures.value ∙ c.in_ok-verdicts.ensures ran.lines run ran.after ran.is in
+    let shown = c.in_ok-exhibit.ensures ran.lines run ran.after ran.is in
+    let front =
+    ◌∙◌ {A = List ℕ} c.in_ok-push_verdicts.ensures (ap (λ vs. old ++ flat_map verdict_text vs) verdicts) in
+    on-ok _ (c.print_exhibit.new.out.items ≡ old ++ closing_text dig run) _
+    (λ is. joined _ _ _ _ _ _ is front (ap exhibit_text shown)) c.print_exhibit.ensures.ok

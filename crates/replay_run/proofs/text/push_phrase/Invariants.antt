@@ -1,6 +1,0 @@
-use Rattle.std.proofs.Common.{◌≡◌, ◌++◌, take}
-use Rattle.replay_run.specs.Text.{numbers_text}
-use Rattle.replay_run.proofs.text.push_phrase.Given as goal
-
-abbrev pub invariant-loop-number : goal.invariant-loop-number
-invariant-loop-number l = l.out.items ≡ l.fn.out.items ++ (l.words ++ numbers_text (take l.number-index l.numbers))
