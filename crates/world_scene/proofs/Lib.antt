@@ -1,3 +1,4 @@
+mod Always
 pub mod Commands
 pub mod Cuts
 pub mod Growth

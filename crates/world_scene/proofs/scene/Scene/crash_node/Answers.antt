@@ -1,6 +1,6 @@
 use Rattle.std.proofs.Common.{sym, ap, subst}
 use Rattle.world_scene.specs.Steps.{AllSpell, with_nodes}
-use Rattle.core.proofs.result.Match.{if_ok_any}
+use Rattle.world_scene.proofs.Always.{on_ok_always}
 use Rattle.world_scene.proofs.scene.Scene.crash_node.Goals as goal
 
 pub crash_at-requires-clause-spells : goal.crash_at-requires-clause-spells
@@ -11,5 +11,5 @@ invariant_of-self g c = c.crash_at.ensures.hash c.self.inside.hash c.self.invari
 
 pub returns-clause-rest : goal.returns-clause-rest
 returns-clause-rest g c =
-    if_ok_any c.crash_at.result _
-    (λ _. ap (λ scene. with_nodes scene c.crash_at.new.entries.items) c.self.view_is)
+    on_ok_always c.crash_at.result _
+    (ap (λ scene. with_nodes scene c.crash_at.new.entries.items) c.self.view_is)

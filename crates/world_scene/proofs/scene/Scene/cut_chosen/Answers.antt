@@ -2,7 +2,7 @@ use Rattle.std.proofs.Common.{Some, sym, ap, ◌∙◌, subst}
 use Rattle.std.proofs.lemmas.Result.{IfOk-weaker}
 use Rattle.world_scene.specs.Scenes.{world_of}
 use Rattle.world_scene.specs.Steps.{answered, with_nodes, CutsAt}
-use Rattle.core.proofs.result.Match.{if_ok_any}
+use Rattle.world_scene.proofs.Always.{on_ok_always}
 use Rattle.world_scene.proofs.Commands.{order_fits_at}
 use Rattle.world_scene.proofs.Cuts.{cut_shows, cut_tells}
 use Rattle.world_scene.proofs.scene.Scene.cut_chosen.Goals as goal
@@ -44,8 +44,8 @@ returns-clause-tells g c =
 
 pub returns-clause-moves : goal.returns-clause-moves
 returns-clause-moves g c =
-    if_ok_any c.at_end.result _
-    (λ _. record {
+    on_ok_always c.at_end.result _
+    (record {
       n = c.args.chosen.now.n;
       order = c.args.chosen.now.order;
       end = c.in_ok-end.end;

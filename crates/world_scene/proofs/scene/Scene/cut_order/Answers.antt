@@ -1,6 +1,6 @@
 use Rattle.std.proofs.Common.{sym, ap, subst, IfOk}
 use Rattle.world_scene.specs.Steps.{AllHash, AllSpell, CutsAt, FitsAt, with_nodes}
-use Rattle.core.proofs.result.Match.{if_ok_any}
+use Rattle.world_scene.proofs.Always.{on_ok_always}
 use Rattle.world_scene.proofs.scene.Scene.cut_order.Goals as goal
 
 pub cut_at-requires-clause-spells : goal.cut_at-requires-clause-spells
@@ -30,5 +30,5 @@ returns-clause-cuts g c =
 
 pub returns-clause-rest : goal.returns-clause-rest
 returns-clause-rest g c =
-    if_ok_any c.cut_at.result _
-    (λ _. ap (λ scene. with_nodes scene c.cut_at.new.entries.items) c.self.view_is)
+    on_ok_always c.cut_at.result _
+    (ap (λ scene. with_nodes scene c.cut_at.new.entries.items) c.self.view_is)

@@ -1,6 +1,6 @@
 use Rattle.std.proofs.Common.{sym, ap, subst, IfOk}
 use Rattle.world_scene.specs.Steps.{AllHash, AllSpell, RunsAt, FitsAt, with_nodes}
-use Rattle.core.proofs.result.Match.{if_ok_any}
+use Rattle.world_scene.proofs.Always.{on_ok_always}
 use Rattle.world_scene.proofs.scene.Scene.run_order.Goals as goal
 
 pub run_at-requires-clause-spells : goal.run_at-requires-clause-spells
@@ -28,5 +28,5 @@ returns-clause-runs g c =
 
 pub returns-clause-rest : goal.returns-clause-rest
 returns-clause-rest g c =
-    if_ok_any c.run_at.result _
-    (λ _. ap (λ scene. with_nodes scene c.run_at.new.entries.items) c.self.view_is)
+    on_ok_always c.run_at.result _
+    (ap (λ scene. with_nodes scene c.run_at.new.entries.items) c.self.view_is)
