@@ -5,3 +5,4 @@ pub mod Outcomes
 pub mod Laws
 pub mod Log
 pub mod Inside
+pub mod Files
