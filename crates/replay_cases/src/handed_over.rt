@@ -13,7 +13,7 @@ use std::alloc::Global;
 use std::test::Fail;
 
 // The first coin goes to `b` and on to `c`. Blocks without it stand between them and behind.
-const TWO_TRANSFERS: &str = "\
+pub const TWO_TRANSFERS: &str = "\
 send a 1 b   => sent 0
 offer #10    => pooled 1
 seal         => sealed 1
@@ -31,7 +31,7 @@ enter op 1   => committed 7
 bundle 1 6   => bundled 6
 ";
 
-const ALL_IS_SHOWN: &str = "\
+pub const ALL_IS_SHOWN: &str = "\
 accept c #24 => accepted 1 6
 a 1 away
 a 2 held

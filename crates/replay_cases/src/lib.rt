@@ -10,6 +10,8 @@ mod beginnings;
 #[cfg(test)]
 mod bonds;
 #[cfg(test)]
+mod briefs;
+#[cfg(test)]
 mod contract;
 #[cfg(test)]
 mod crashes;

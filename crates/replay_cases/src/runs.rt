@@ -52,11 +52,16 @@ pub fn replay_from<H: Hash32>(
     Ok((status, sink))
 }
 
-/// Replays a schedule from memory: the status, and the sink after the run.
-pub fn replay_output(alloc: Global, schedule: &[u8]) -> Result<(Status, MemSink), Fail> {
-    let words = words(alloc, &["replay"])?;
-    let mut source = MemSource::make(schedule.to_vec(alloc)?, Vec::new(alloc), Vec::new(alloc));
+/// Runs the program with these words over an input from memory: the status, and the sink after the run.
+pub fn run_output(alloc: Global, texts: &[&str], input: &[u8]) -> Result<(Status, MemSink), Fail> {
+    let words = words(alloc, texts)?;
+    let mut source = MemSource::make(input.to_vec(alloc)?, Vec::new(alloc), Vec::new(alloc));
     let mut sink = MemSink::make(alloc, Vec::new(alloc));
     let status = run(alloc, &words, &mut source, &mut sink);
     Ok((status, sink))
+}
+
+/// Replays a schedule from memory: the status, and the sink after the run.
+pub fn replay_output(alloc: Global, schedule: &[u8]) -> Result<(Status, MemSink), Fail> {
+    run_output(alloc, &["replay"], schedule)
 }

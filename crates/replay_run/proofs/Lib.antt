@@ -8,3 +8,5 @@ mod RunLaws
 mod CutLaws
 mod EndingLaws
 mod Promises
+mod BriefLaws
+mod RuleLaws

@@ -74,3 +74,9 @@ part-err (Err e) P p = p
 
 pub front-none : (before : Option (List ℕ)) (text : List ℕ) → WroteFront before before text
 front-none before text = record { front = []; back = text; whole = refl; wrote = wrote-none before }
+
+-- two texts behind another one
+pub joined : (text front old first second other : List ℕ) → text ≡ front ++ second → front ≡ old ++ first → second ≡ other
+    → text ≡ old ++ (first ++ other)
+joined text front old first second other whole begins same =
+    whole ∙ ap (λ t. t ++ second) begins ∙ append_assoc old first second ∙ ap (λ t. old ++ (first ++ t)) same

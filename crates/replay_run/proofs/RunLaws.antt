@@ -12,10 +12,10 @@ use Rattle.replay_run.specs.declared.reply.Ending.TheVariants.{Complete, BadLine
 use Rattle.replay_run.specs.declared.status.Status.{Status}
 use Rattle.replay_run.specs.declared.status.Status.TheVariants.{Done, Usage, BadLine as BadLineStatus, ReadFault as ReadFaultStatus, WriteFault, NoMemory, TooLong as TooLongStatus}
 use Rattle.replay_run.specs.declared.form.Form.{Form}
-use Rattle.replay_run.specs.declared.form.Form.TheVariants.{Replay, Verify}
+use Rattle.replay_run.specs.declared.form.Form.TheVariants.{Replay, Brief, Make, Verify}
 use Rattle.replay_run.specs.Forms.{form_of}
 use Rattle.replay_run.specs.Replays.{Replay as ReplayOf, replay_of}
-use Rattle.replay_run.specs.Text.{answers_text, last_text}
+use Rattle.replay_run.specs.Text.{answers_text, closing_text, last_text}
 use Rattle.replay_run.specs.Output.{Output, status_of, status_of_refusal, status_of_replay, replay_output, form_output, output_of}
 use Rattle.replay_run.specs.Bounds.{TakesFew, TakesFewBy, FewBy, FewOf}
 use Rattle.replay_run.specs.Runs.{Wrote, WroteFront, Stops, EndsAs, RanOver, ReadsToFault, ReadsBy}
@@ -79,13 +79,13 @@ reads-unfailed WriteFault Reads no_fault reads = (false, reads)
 reads-unfailed NoMemory Reads no_fault reads = (false, reads)
 reads-unfailed TooLongStatus Reads no_fault reads = (false, reads)
 
-few-by : (ending : Ending) (bytes : List ℕ) → TakesFew bytes ending → TakesFewBy (status_of ending) bytes ending
+pub few-by : (ending : Ending) (bytes : List ℕ) → TakesFew bytes ending → TakesFewBy (status_of ending) bytes ending
 few-by Complete bytes few = tt
 few-by (BadLine n) bytes few = few
 few-by ReadFault bytes few = tt
 few-by (TooLong n) bytes few = few
 
-few-stopped : (refusal : SinkRefusal) (bytes : List ℕ) (ending : Ending)
+pub few-stopped : (refusal : SinkRefusal) (bytes : List ℕ) (ending : Ending)
     → TakesFewBy (status_of_refusal refusal) bytes ending
 few-stopped Failed bytes ending = tt
 few-stopped WantsMemory bytes ending = tt
@@ -114,29 +114,29 @@ module _ {H : Type 0} (left later taken after : Option (List ℕ)) (dig : List �
   output-is : replay_output dig answers.bytes answers.ended ≡ record {
     status = status_of ending;
     answers = answers.put ++ text;
-    last = last_text dig run_left ending;
+    last = last_text (closing_text dig run_left) ending;
   }
   output-is =
       let ends = answers.finishes.ends in
       ap (λ (r : ReplayOf). record {
         status = status_of r.ending;
         answers = answers_text r;
-        last = last_text dig r.run r.ending;
+        last = last_text (closing_text dig r.run) r.ending;
       }) ends.replays
       ∙ ap (λ t. record {
         status = status_of ending;
         answers = t;
-        last = last_text dig run_left ending;
+        last = last_text (closing_text dig run_left) ending;
       }) (sym ends.told)
 
   -- the text that was gathered, with the lines behind the answers
   pub told-last : (d : List ℕ → List ℕ) (all : List ℕ) → (ending ≡ Complete → d ≡ dig)
       → ((e : List ℕ → List ℕ) (run : Run) → (ending ≡ Complete → (e ≡ d) × Ran e run world)
-      → all ≡ text ++ last_text e run ending)
-      → all ≡ text ++ last_text dig run_left ending
+      → all ≡ text ++ last_text (closing_text e run) ending)
+      → all ≡ text ++ last_text (closing_text dig run_left) ending
   told-last d all same told = told dig run_left (λ is. (sym (same is), answers.finishes.ran is))
 
-  pub ran-whole : (last : Option (List ℕ)) → Wrote after last (text ++ last_text dig run_left ending)
+  pub ran-whole : (last : Option (List ℕ)) → Wrote after last (text ++ last_text (closing_text dig run_left) ending)
       → RanOver (replay_output dig) (FewBy dig) left later taken last (Failed_ true) (status_of ending)
   ran-whole last wrote = record {
     bytes = answers.bytes;
@@ -145,17 +145,17 @@ module _ {H : Type 0} (left later taken after : Option (List ℕ)) (dig : List �
     ends =
         subst (λ o. EndsAs o (status_of ending) taken last (Failed_ true)) (sym output-is)
         (ends-whole
-        (record { status = status_of ending; answers = answers.put ++ text; last = last_text dig run_left ending })
+        (record { status = status_of ending; answers = answers.put ++ text; last = last_text (closing_text dig run_left) ending })
         taken last (Failed_ true) (failed-of Failed_ ending reads)
-        (subst (Wrote taken last) (sym (append_assoc answers.put text (last_text dig run_left ending)))
-        (wrote-more taken after last answers.put (text ++ last_text dig run_left ending) answers.wrote wrote)));
+        (subst (Wrote taken last) (sym (append_assoc answers.put text (last_text (closing_text dig run_left) ending)))
+        (wrote-more taken after last answers.put (text ++ last_text (closing_text dig run_left) ending) answers.wrote wrote)));
     few =
         subst (λ (r : ReplayOf). TakesFewBy (status_of ending) answers.bytes r.ending)
         (sym answers.finishes.ends.replays) (few-by ending answers.bytes answers.finishes.ends.few);
   }
 
   pub ran-part : (last : Option (List ℕ)) (refusal : SinkRefusal)
-      → WroteFront after last (text ++ last_text dig run_left ending)
+      → WroteFront after last (text ++ last_text (closing_text dig run_left) ending)
       → RanOver (replay_output dig) (FewBy dig) left later taken last (Failed_ true) (status_of_refusal refusal)
   ran-part last refusal front = record {
     bytes = answers.bytes;
@@ -164,14 +164,14 @@ module _ {H : Type 0} (left later taken after : Option (List ℕ)) (dig : List �
     ends =
         subst (λ o. EndsAs o (status_of_refusal refusal) taken last (Failed_ true)) (sym output-is)
         (ends-stopped refusal
-        (record { status = status_of ending; answers = answers.put ++ text; last = last_text dig run_left ending })
+        (record { status = status_of ending; answers = answers.put ++ text; last = last_text (closing_text dig run_left) ending })
         taken last (Failed_ true)
         (record {
           front =
               subst (WroteFront taken last)
-              (ap (λ t. answers.put ++ t) (append-nil (text ++ last_text dig run_left ending))
-              ∙ sym (append_assoc answers.put text (last_text dig run_left ending)))
-              (front-more taken after last answers.put (text ++ last_text dig run_left ending) [] answers.wrote front);
+              (ap (λ t. answers.put ++ t) (append-nil (text ++ last_text (closing_text dig run_left) ending))
+              ∙ sym (append_assoc answers.put text (last_text (closing_text dig run_left) ending)))
+              (front-more taken after last answers.put (text ++ last_text (closing_text dig run_left) ending) [] answers.wrote front);
           fault = λ is. inl (failed-of Failed_ ending reads is);
         }));
     few = few-stopped refusal answers.bytes (replay_of dig answers.bytes answers.ended).ending;
@@ -267,12 +267,13 @@ ran-unread dig words left before after failed form status is ends few = record {
 
 pub ran-form :
     (dig : List ℕ → List ℕ) (words : List (List ℕ)) (left later before after : Option (List ℕ)) (failed : Type 0)
+    (form : Form)
     (status : Status)
-    → Some Replay ≡ form_of words
-    → RanOver (replay_output dig) (FewOf dig (Some Replay)) left later before after failed status
+    → Some form ≡ form_of words
+    → RanOver (form_output dig (Some form)) (FewOf dig (Some form)) left later before after failed status
     → RanOver (output_of dig words) (FewOf dig (form_of words)) left later before after failed status
 unfolding output_of
-ran-form dig words left later before after failed status is ran = record {
+ran-form dig words left later before after failed form status is ran = record {
   bytes = ran.bytes;
   ended = ran.ended;
   gave = ran.gave;
@@ -283,6 +284,8 @@ ran-form dig words left later before after failed status is ran = record {
 few-nothing : (dig : List ℕ → List ℕ) (form : Option Form) → FewOf dig form NoMemory [] false
 few-nothing dig None = tt
 few-nothing dig (Some Replay) = tt
+few-nothing dig (Some Brief) = tt
+few-nothing dig (Some (Make seed count)) = tt
 few-nothing dig (Some (Verify key message signature)) = tt
 
 pub ran-nothing :

@@ -5,7 +5,7 @@ use Rattle.replay_run.specs.declared.reply.Ending.TheVariants.{Complete, BadLine
 use Rattle.replay_run.specs.declared.status.Status.{Status}
 use Rattle.replay_run.specs.declared.status.Status.TheVariants.{BadLine as BadLineStatus, TooLong as TooLongStatus}
 use Rattle.replay_run.specs.declared.form.Form.{Form}
-use Rattle.replay_run.specs.declared.form.Form.TheVariants.{Replay}
+use Rattle.replay_run.specs.declared.form.Form.TheVariants.{Replay, Brief}
 use Rattle.replay_run.specs.Lines.{lines_in, is_whole, limit_of}
 use Rattle.replay_run.specs.Replays.{replay_of}
 
@@ -44,4 +44,5 @@ FewBy dig status bytes ended = TakesFewBy status bytes (replay_of dig bytes ende
 -- so was a run of this form
 abbrev pub FewOf : (List ℕ → List ℕ) → Option Form → Status → List ℕ → Bool → Type 0
 FewOf dig (Some Replay) status bytes ended = FewBy dig status bytes ended
+FewOf dig (Some Brief) status bytes ended = FewBy dig status bytes ended
 FewOf dig form status bytes ended = Unit {0}

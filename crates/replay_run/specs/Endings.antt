@@ -59,3 +59,17 @@ abbrev pub EndingsHaveTheirCause : Type 0
 EndingsHaveTheirCause = (dig : List ℕ → List ℕ) (bytes : List ℕ) (ended : Bool)
     → let replay = replay_of dig bytes ended in
     EndsBy dig ended [] 1 0 (lines_in bytes) (length replay.run.entries) replay.ending
+
+-- Lines from line n on keep the rules behind earlier ones and so many bytes: each passes no limit, and spells a line
+-- with which those before it have a run whose mail isn't full.
+unfoldable pub KeepTheRules : (List ℕ → List ℕ) → List Line → ℕ → ℕ → List (List ℕ) → Type 0
+KeepTheRules dig earlier n start [] = Unit {0}
+KeepTheRules dig earlier n start (line ∷ lines) =
+    (is_too_long n start line ≡ false)
+    × ((spelled : Line) × IsAnswered dig earlier line spelled
+    × KeepTheRules dig (spelled ∷ earlier) (n + 1) (start + length line) lines)
+
+-- A replay of a whole input whose lines keep the rules is complete.
+abbrev pub LinesThatKeepTheRulesAreAnswered : Type 0
+LinesThatKeepTheRulesAreAnswered = (dig : List ℕ → List ℕ) (bytes : List ℕ)
+    → KeepTheRules dig [] 1 0 (lines_in bytes) → (replay_of dig bytes true).ending ≡ Complete

@@ -3,8 +3,8 @@ use Rattle.std.specs.Prelude.{ℕ, List, [], ◌∷◌, ◌++◌, codes}
 use Rattle.std.specs.List.{flat_map}
 use Rattle.world_rules.specs.Causes.{phrase}
 use Rattle.world_rules.specs.Steps.{Run}
-use Rattle.world_rules.specs.Verdicts.{verdicts_of, exhibit_of_run}
-use Rattle.world_rules.specs.Texts.{trace_line_text, entries_text, verdict_text, exhibit_text}
+use Rattle.world_rules.specs.Verdicts.{verdicts_of, counts_of, exhibit_of_run}
+use Rattle.world_rules.specs.Texts.{trace_line_text, entries_text, verdict_text, exhibit_text, counts_text}
 use Rattle.world_rules.specs.declared.reply.TraceLine.{TraceLine}
 use Rattle.replay_run.specs.declared.reply.Ending.{Ending}
 use Rattle.replay_run.specs.declared.reply.Ending.TheVariants.{Complete, BadLine, ReadFault, TooLong}
@@ -22,9 +22,13 @@ answers_text replay = entries_text replay.run.entries
 abbrev pub closing_text : (List ℕ → List ℕ) → Run → List ℕ
 closing_text dig run = flat_map verdict_text (verdicts_of dig run) ++ exhibit_text (exhibit_of_run dig run)
 
--- what stands behind the answers; 10 is the line feed
-unfoldable pub last_text : (List ℕ → List ℕ) → Run → Ending → List ℕ
-last_text dig run Complete = closing_text dig run
-last_text dig run (BadLine n) = phrase (codes "bad line") (n ∷ []) ++ 10 ∷ []
-last_text dig run ReadFault = codes "read fault" ++ 10 ∷ []
-last_text dig run (TooLong n) = phrase (codes "too long") (n ∷ []) ++ 10 ∷ []
+-- what is written of a run that is complete and isn't answered: the counts, and the exhibit
+abbrev pub brief_text : (List ℕ → List ℕ) → Run → List ℕ
+brief_text dig run = counts_text (counts_of dig run) ++ exhibit_text (exhibit_of_run dig run)
+
+-- what stands behind the answers: this text, or what ended the run; 10 is the line feed
+unfoldable pub last_text : List ℕ → Ending → List ℕ
+last_text complete Complete = complete
+last_text complete (BadLine n) = phrase (codes "bad line") (n ∷ []) ++ 10 ∷ []
+last_text complete ReadFault = codes "read fault" ++ 10 ∷ []
+last_text complete (TooLong n) = phrase (codes "too long") (n ∷ []) ++ 10 ∷ []

@@ -1,5 +1,5 @@
 ghost use Rattle.std.specs.Prelude.{◌≡◌};
-ghost use Rattle.replay_run.specs.Endings.{EndingsHaveTheirCause};
+ghost use Rattle.replay_run.specs.Endings.{EndingsHaveTheirCause, LinesThatKeepTheRulesAreAnswered};
 ghost use Rattle.replay_run.specs.Headline.{ReplaysKeepThePromise};
 ghost use Rattle.replay_run.specs.Laws.{LinesAreTheBytes, LinesAreOneCut, AnsweredLinesAreARun};
 
@@ -24,6 +24,13 @@ pub fn answered_lines_are_a_run()
 /// Each line before that one has an answer, and no other. So it is under every digest.
 pub fn endings_have_their_cause()
     ensures { EndingsHaveTheirCause }
+{}
+
+/// A replay of a whole input is complete where each of its lines passes no limit and spells a line with which those before
+/// it have a run whose mail isn't full. So on such lines `replay` and `brief` end as `Done`, unless the source or the sink
+/// fails or memory runs out. So it is under every digest.
+pub fn lines_that_keep_the_rules_are_answered()
+    ensures { LinesThatKeepTheRulesAreAnswered }
 {}
 
 /// The headline, a law of whatever input: in the run that a replay answers no leaf of a wallet's key signs two messages;

@@ -2,6 +2,7 @@
 #![tactic(auto)]
 
 mod answering;
+mod brief;
 mod form;
 mod laws;
 mod lines;
@@ -14,7 +15,7 @@ mod top;
 
 pub use laws::{
     answered_lines_are_a_run, endings_have_their_cause, lines_are_the_bytes,
-    replays_keep_the_promise, the_limits_are_these_numbers,
+    lines_that_keep_the_rules_are_answered, replays_keep_the_promise, the_limits_are_these_numbers,
 };
 pub use status::Status;
 pub use top::{run, run_with};

@@ -25,8 +25,8 @@ use world_core::World;
 use world_rules::Verdict;
 use world_trace::{print_exhibit, print_verdict};
 
-// Puts the gathered text, and leaves none.
-fn put_text<K: Sink>(sink: &mut K, text: &mut Vec<u8>) -> Result<(), SinkRefusal>
+/// Puts the gathered text, and leaves none.
+pub fn put_text<K: Sink>(sink: &mut K, text: &mut Vec<u8>) -> Result<(), SinkRefusal>
     ensures ok { OnOk result (Wrote (K.taken sink.old) (K.taken sink.new) text.old.items) }
     ensures none_left { OnOk result (text.new.items ≡ []) }
     ensures err { OnErr result (WroteFront (K.taken sink.old) (K.taken sink.new) text.old.items) }
@@ -115,8 +115,8 @@ fn answer_last<H: Hash32 + Copy>(
     }
 }
 
-// Answers the lines of an input, each before more is taken, and says what ended it.
-fn answer_lines<H: Hash32 + Copy, S: Source, K: Sink>(
+/// Answers the lines of an input, each before more is taken, and says what ended it.
+pub fn answer_lines<H: Hash32 + Copy, S: Source, K: Sink>(
     alloc: Global,
     world: &mut World<H>,
     source: &mut S,
@@ -182,7 +182,7 @@ fn push_last<H: Hash32 + Copy>(
 ) -> Result<(), NoMemory>
     ensures { (dig : List ℕ → List ℕ) (run : Run)
         → (ending ≡ Ending.Complete → (dig ≡ H.digest_of world.now.hash) × Ran dig run world.now)
-        → OnOk result (text.new.items ≡ text.old.items ++ last_text dig run ending) }
+        → OnOk result (text.new.items ≡ text.old.items ++ last_text (closing_text dig run) ending) }
 {
     match ending {
         Ending::Complete => push_closing(world, text),

@@ -1,6 +1,5 @@
 ghost use Rattle.std.specs.Prelude.{◌≡◌, ◌≢◌, ◌++◌, ◌∷◌, [], ℕ, List, OnOk};
 ghost use Rattle.world_rules.specs.Causes.{phrase};
-ghost use Rattle.world_rules.specs.Steps.{Run};
 ghost use Rattle.replay_run.specs.declared.reply.Ending.{Ending};
 ghost use Rattle.replay_run.specs.Text.{last_text};
 
@@ -28,8 +27,8 @@ fn push_words(out: &mut Vec<u8>, words: &[u8]) -> Result<(), NoMemory>
 /// Puts the last line at the end: what ended a run that isn't complete.
 #[tactic(auto, unfolding(crate::specs::Text::last_text))]
 pub fn push_ending(out: &mut Vec<u8>, ending: Ending) -> Result<(), NoMemory>
-    ensures { (dig : List ℕ → List ℕ) (run : Run) → ending ≢ Ending.Complete
-        → OnOk result (out.new.items ≡ out.old.items ++ last_text dig run ending) }
+    ensures { (complete : List ℕ) → ending ≢ Ending.Complete
+        → OnOk result (out.new.items ≡ out.old.items ++ last_text complete ending) }
 {
     match ending {
         Ending::Complete => {}

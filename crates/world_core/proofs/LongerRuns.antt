@@ -1,7 +1,7 @@
 -- A world that took a line is what the lines with it leave.
-use Rattle.std.proofs.Common.{◌≡◌, ℕ, ◌+◌, ◌<◌, ◌≤◌, Bool, true, false, nat_lt, if◌then◌else◌, List, [], ◌∷◌, length, Option, Some, None, refl, sym, ap, ◌∙◌, subst, arith}
+use Rattle.std.proofs.Common.{◌≡◌, ℕ, ◌+◌, ◌^◌, ◌<◌, ◌≤◌, Bool, true, false, nat_lt, if◌then◌else◌, List, [], ◌∷◌, length, Option, Some, None, refl, sym, ap, ◌∙◌, subst, arith}
 use Rattle.std.specs.Prelude.{option_map, option_and_then}
-use Rattle.std.specs.List.{All}
+use Rattle.std.specs.List.{All, count_by}
 use Rattle.std.proofs.lemmas.Bool.{lt-ltb, le-ltb}
 use Rattle.std.proofs.lemmas.List.Elements.{All-nil, All-cons}
 use Rattle.line_forms.proofs.FormLaws.{option_map_some}
@@ -16,6 +16,7 @@ use Rattle.world_rules.specs.World.{World}
 use Rattle.world_rules.specs.Declarations.{keeps_rules}
 use Rattle.world_rules.specs.Events.{Event, log_of}
 use Rattle.world_rules.specs.Steps.{LineEffect, effect_in, effect_of, with_mail, step, mail_size, is_mail_full, TraceEntry, entry_of, Run, no_lines, with_line, step_run, run_of, events_of}
+use Rattle.world_rules.specs.Verdicts.{is_refused}
 use Rattle.world_rules.proofs.RunLaws.{logs_are_of_events}
 use Rattle.line_events.specs.declared.event.LineEvent.{LineEvent}
 use Rattle.line_events.specs.Events.{IsEvent}
@@ -27,7 +28,9 @@ use Rattle.world_scene.specs.Events.{TellsEffect}
 use Rattle.world_core.specs.Worlds.{WorldState, before_all, world_in, TellsIn, MadeBytes, IsAfter}
 use Rattle.world_core.specs.Lines.{IsStep, WouldFill}
 use Rattle.world_core.specs.Taking.{TellsLine, Takes, scene_with, with_item}
+use Rattle.world_core.specs.Counting.{with_answer}
 use Rattle.world_core.proofs.WalletLines.{has_wallets}
+use Rattle.world_core.proofs.Counts.{refused_more}
 use Rattle.world_core.proofs.RunFacts.{rules_stay, made_in, size_of_run, size_more, facts_count, tells_none}
 
 -- ---- no lines
@@ -45,6 +48,7 @@ after_none dig hash = record {
   mail = refl;
   fits = omega arith;
   trace = (refl, refl);
+  refused = refl;
 }
 
 -- ---- refused lines
@@ -196,9 +200,18 @@ module _ {H : Type 0} (dig : List ℕ → List ℕ) (lines : List Line) (line : 
   would-fill full =
       (longer, ran, ap (nat_lt MOST_MAIL) size ∙ lt-ltb MOST_MAIL (old.mail_size + length answer.made) full)
 
+  -- how many lines are kept with it
+  lines-kept : (trace : TraceState)
+      → Tells (tests_by dig) (rules_of left.chain) (effect-is.0 ∷ events_of after.run.entries) trace
+      → length trace.facts ≡ length after.run.entries + 1
+  unfolding events_of
+  lines-kept trace tells =
+      facts_count (tests_by dig) (rules_of left.chain) longer.entries trace tells ∙ omega arith
+
   module _ (fits_line : IsLine line) (made : AreBytes answer.made)
       (fits : old.mail_size + length answer.made ≤ MOST_MAIL) (trace : TraceState)
-      (tells : Tells (tests_by dig) (rules_of left.chain) (effect-is.0 ∷ events_of after.run.entries) trace) where
+      (tells : Tells (tests_by dig) (rules_of left.chain) (effect-is.0 ∷ events_of after.run.entries) trace)
+      (refused : ℕ) (refused_is : refused ≡ count_by is_refused longer.entries) where
     -- the world with its mail item, and what is kept of it
     abbrev pub new : WorldState H
     new = record {
@@ -206,6 +219,7 @@ module _ {H : Type 0} (dig : List ℕ → List ℕ) (lines : List Line) (line : 
       scene = Some (scene_with answer.made takes.scene);
       mail_size = old.mail_size + length answer.made;
       trace = trace;
+      refused = refused;
     }
 
     is-after : IsAfter dig (line ∷ lines) new
@@ -222,6 +236,7 @@ module _ {H : Type 0} (dig : List ℕ → List ℕ) (lines : List Line) (line : 
       mail = sym size;
       fits = fits;
       trace = tells;
+      refused = refused_is;
     }
 
     -- the answer of its line
@@ -232,10 +247,7 @@ module _ {H : Type 0} (dig : List ℕ → List ℕ) (lines : List Line) (line : 
       entry = entry_of line effect;
       earlier = after.run.entries;
       entries = refl;
-      is =
-          let count : length trace.facts ≡ length after.run.entries + 1 =
-          facts_count (tests_by dig) (rules_of left.chain) longer.entries trace tells ∙ omega arith in
-          ap (λ (n : ℕ). told_as n answer) count;
+      is = ap (λ (n : ℕ). told_as n answer) (lines-kept trace tells);
       fits = ap (nat_lt MOST_MAIL) size ∙ le-ltb MOST_MAIL (old.mail_size + length answer.made) fits;
     }
 
@@ -244,13 +256,16 @@ module _ {H : Type 0} (dig : List ℕ → List ℕ) (lines : List Line) (line : 
       (put : WorldState H) (put_is : put ≡ with_item taken item) (fits : taken.mail_size + length item ≤ MOST_MAIL)
       (trace : TraceState)
       (more : (tests : Tests) (rules : Rules) (events : List Event) (event : Event) → Tells tests rules events put.trace
-      → IsEvent tests rules (log_of events) event answer.event → Tells tests rules (event ∷ events) trace) where
+      → IsEvent tests rules (log_of events) event answer.event → Tells tests rules (event ∷ events) trace)
+      (few_lines : length trace.facts < 2 ^ 64) (refused : ℕ)
+      (refused_as : refused ≡ with_answer put.refused answer.done answer.reply) where
     same-put : put ≡ with_item (record old { scene = Some takes.scene }) answer.made
     same-put =
         put_is ∙ ap (λ (t : WorldState H). with_item t item) takes.is
         ∙ ap (with_item (record old { scene = Some takes.scene })) item_is
 
-    pub put_steps : IsStep dig lines line (told_as (length trace.facts) answer) (record put { trace = trace })
+    pub put_steps
+        : IsStep dig lines line (told_as (length trace.facts) answer) (record put { trace = trace; refused = refused })
     put_steps =
         let few : old.mail_size + length answer.made ≤ MOST_MAIL =
         subst (λ (n : ℕ). n ≤ MOST_MAIL)
@@ -260,9 +275,14 @@ module _ {H : Type 0} (dig : List ℕ → List ℕ) (lines : List Line) (line : 
         more (tests_by dig) (rules_of left.chain) (events_of after.run.entries) effect-is.0
         (subst (λ (t : TraceState). Tells (tests_by dig) (rules_of left.chain) (events_of after.run.entries) t)
         (ap (λ (p : WorldState H). p.trace) (sym same-put)) told.tells) told.is in
+        let count : refused ≡ count_by is_refused longer.entries =
+        refused_as
+        ∙ ap (λ (p : WorldState H). with_answer p.refused answer.done answer.reply) same-put
+        ∙ refused_more after.run.entries (entry_of line effect) old.refused after.refused
+        (subst (λ (n : ℕ). n < 2 ^ 64) (lines-kept trace tells) few_lines) in
         subst (IsStep dig lines line (told_as (length trace.facts) answer))
-        (ap (λ (p : WorldState H). record p { trace = trace }) (sym same-put))
-        (is-step fits_line made few trace tells)
+        (ap (λ (p : WorldState H). record p { trace = trace; refused = refused }) (sym same-put))
+        (is-step fits_line made few trace tells refused count)
 
   -- there was no room for it
   pub put_fills : (item : List ℕ) → item ≡ answer.made → MOST_MAIL < taken.mail_size + length item

@@ -1,5 +1,5 @@
 -- What verdicts and the exhibit are read of is what a run left.
-use Rattle.std.proofs.Common.{◌≡◌, ℕ, List, [], ◌∷◌, Option, Some, None, sym, ap, ◌∙◌, subst}
+use Rattle.std.proofs.Common.{◌≡◌, ℕ, List, [], ◌∷◌, Option, Some, None, refl, sym, ap, ◌∙◌, subst}
 use Rattle.std.specs.Prelude.{option_map}
 use Rattle.std.specs.List.{flat_map}
 use Rattle.std.specs.Option.{option_map_or}
@@ -10,14 +10,14 @@ use Rattle.schedule_text.specs.declared.line.Line.{Line}
 use Rattle.world_rules.specs.declared.verdict.Exhibit.{Exhibit}
 use Rattle.world_rules.specs.World.{World}
 use Rattle.world_rules.specs.Events.{Event, log_of}
-use Rattle.world_rules.specs.Steps.{Run, run_of, events_of}
+use Rattle.world_rules.specs.Steps.{TraceEntry, Run, run_of, events_of}
 use Rattle.world_rules.specs.Exhibits.{exhibit_of}
 use Rattle.world_rules.specs.Verdicts.{Named, verdicts_on, wallets_from, verdicts_in, verdicts_of, exhibit_of_run}
 use Rattle.world_rules.proofs.HeldTips.{OwnersStay as Stay}
 use Rattle.world_rules.proofs.NamedSteps.{run-kept}
 use Rattle.world_rules.proofs.RunLaws.{logs_are_of_events}
 use Rattle.coin_verdicts.specs.Facts.{OwnersStay}
-use Rattle.run_trace.specs.Traces.{Tells}
+use Rattle.run_trace.specs.Traces.{no_trace, Tells}
 use Rattle.world_scene.specs.Scenes.{SceneState, world_of}
 use Rattle.world_core.specs.Worlds.{WorldState, world_in, TellsIn, IsAfter}
 use Rattle.world_core.proofs.RunFacts.{legal_events}
@@ -28,7 +28,7 @@ owners-stay (event ∷ events) are = (are.0, owners-stay events are.1)
 
 module _ {H : Type 0} (dig : List ℕ → List ℕ) (lines : List Line) (state : WorldState H)
     (after : IsAfter dig lines state) (run : Run) (ran : run_of dig lines ≡ Some run) where
-  same-run : after.run ≡ run
+  pub same-run : after.run ≡ run
   same-run = some_same after.run run (sym after.ran ∙ ran)
 
   world-is : run.world ≡ world_in state
@@ -39,6 +39,18 @@ module _ {H : Type 0} (dig : List ℕ → List ℕ) (lines : List Line) (state :
   module _ (none : state.scene ≡ None) where
     no-world : run.world ≡ None
     no-world = world-is ∙ ap (option_map world_of) none
+
+    -- no line was answered, and nothing is kept
+    pub no_entries : (run.entries ≡ []) × (state.trace ≡ no_trace)
+    unfolding events_of
+    no_entries =
+        let both = subst (λ (w : Option World). TellsIn dig w (events_of run.entries) state.trace) no-world
+        (subst (λ (r : Run). TellsIn dig r.world (events_of r.entries) state.trace) same-run after.trace) in
+        (none-of run.entries both.0, both.1)
+      where
+        none-of : (entries : List TraceEntry) → events_of entries ≡ [] → entries ≡ []
+        none-of [] is = refl
+        none-of (entry ∷ entries) is = absurd (cc is)
 
     pub no_verdicts : [] ≡ verdicts_of dig run
     unfolding verdicts_of

@@ -1,3 +1,4 @@
 pub mod Worlds
 pub mod Lines
 pub mod Taking
+pub mod Counting

@@ -1,6 +1,6 @@
 -- The world in memory, and when it is what lines leave.
 use Rattle.std.specs.Prelude.{◌≡◌, ◌≤◌, ℕ, List, [], Option, Some, None, option_map}
-use Rattle.std.specs.List.{All}
+use Rattle.std.specs.List.{All, count_by}
 use Rattle.std.specs.Option.{ForSome, option_map_or}
 use Rattle.plasma_tx.specs.Spelling.{AreBytes}
 use Rattle.root_rules.specs.Shown.{tests_by, rules_of}
@@ -10,20 +10,23 @@ use Rattle.world_rules.specs.declared.TheConstants.{MOST_MAIL}
 use Rattle.world_rules.specs.World.{World}
 use Rattle.world_rules.specs.Events.{Event}
 use Rattle.world_rules.specs.Steps.{mail_size, TraceEntry, Run, run_of, events_of}
+use Rattle.world_rules.specs.Verdicts.{is_refused}
 use Rattle.run_trace.specs.Traces.{TraceState, no_trace, Tells}
 use Rattle.world_scene.specs.Scenes.{SceneState, world_of}
 use Rattle.world_scene.specs.Steps.{AllSpell}
 
--- the digest, the world once the chain has begun, the bytes of all mail items, and what is kept of the lines
+-- the digest, the world once the chain has begun, the bytes of all mail items, what is kept of the lines, and how many
+-- of their answers begin with `refused`
 pub record WorldState (H : Type 0) : Type 0 where
   pub hash : H
   pub scene : Option (SceneState H)
   pub mail_size : ℕ
   pub trace : TraceState
+  pub refused : ℕ
 
 -- the world before its first line
 abbrev pub before_all : {H : Type 0} → H → WorldState H
-before_all hash = record { hash = hash; scene = None; mail_size = 0; trace = no_trace }
+before_all hash = record { hash = hash; scene = None; mail_size = 0; trace = no_trace; refused = 0 }
 
 -- the world that it holds
 abbrev pub world_in : {H : Type 0} → WorldState H → Option World
@@ -57,3 +60,4 @@ pub record IsAfter {H : Type 0} (dig : List ℕ → List ℕ) (lines : List Line
   pub mail : state.mail_size ≡ option_map_or mail_size run.world 0
   pub fits : state.mail_size ≤ MOST_MAIL
   pub trace : TellsIn dig run.world (events_of run.entries) state.trace
+  pub refused : state.refused ≡ count_by is_refused run.entries

@@ -2,10 +2,9 @@
 //! exhibit.
 #![tactic(auto)]
 
+mod counting;
 mod mail;
 mod stepping;
-#[cfg(test)]
-mod tests;
 mod world;
 
 pub use world::World;

@@ -8,6 +8,7 @@ ghost use Rattle.world_core.specs.Worlds.{world_in, HasHash, NodesSpell, IsAfter
 ghost use Rattle.world_core.specs.Lines.{IsStep, WouldFill, MovesIn};
 ghost use Rattle.world_core.specs.Taking.{Takes};
 
+use super::counting::with_answer;
 use super::world::World;
 use line_events::LineEvent;
 use plasma_base::{Bytes, Hash32};
@@ -111,6 +112,7 @@ impl<H: Hash32 + Copy> World<H> {
         let item = made.copy()?;
         self.put_mail(item)?;
         self.trace.push(event)?;
+        self.refused = with_answer(self.refused, done, &reply);
         Ok(TraceLine {
             line: self.trace.len() as u64,
             done,

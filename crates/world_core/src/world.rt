@@ -2,14 +2,15 @@ ghost use Rattle.std.specs.Prelude.{◌≡◌, [], List, Some, IfOk};
 ghost use Rattle.sha2.specs.Sha256.{sha256};
 ghost use Rattle.schedule_text.specs.declared.line.Line.{Line};
 ghost use Rattle.world_rules.specs.Steps.{Run, run_of};
-ghost use Rattle.world_rules.specs.Verdicts.{verdicts_of, exhibit_of_run};
+ghost use Rattle.world_rules.specs.Verdicts.{verdicts_of, exhibit_of_run, counts_of};
 ghost use Rattle.world_core.specs.Worlds.{before_all, NodesSpell, IsAfter};
 
+use super::counting::{verdict_counts, with_log};
 use plasma_base::{Hash32, NoMemory, Sha};
 use run_trace::Trace;
 use std::alloc::Global;
 use std::marker::Model;
-use world_rules::{Exhibit, Verdict};
+use world_rules::{Counts, Exhibit, Verdict};
 use world_scene::Scene;
 
 /// The world that a schedule's lines step through, with what it keeps of them.
@@ -22,6 +23,8 @@ pub struct World<H: Hash32 + Copy> {
     // The bytes of all mail items.
     pub(crate) mail_size: u64,
     pub(crate) trace: Trace,
+    // How many answers begin with a refusal.
+    pub(crate) refused: u64,
 }
 
 impl<H: Hash32 + Copy> Model for World<H> {
@@ -31,7 +34,13 @@ impl<H: Hash32 + Copy> Model for World<H> {
 
     ghost Value = { WorldState H };
 
-    ghost view = { λ w. record { hash = w.hash; scene = w.scene; mail_size = w.mail_size; trace = w.trace } };
+    ghost view = { λ w. record {
+      hash = w.hash;
+      scene = w.scene;
+      mail_size = w.mail_size;
+      trace = w.trace;
+      refused = w.refused;
+    } };
 
     // What is left for mail is a number.
     ghost invariant = { λ w. w.mail_size ≤ MOST_MAIL };
@@ -60,6 +69,7 @@ impl<H: Hash32 + Copy> World<H> {
             scene: None,
             mail_size: 0,
             trace: Trace::new(alloc),
+            refused: 0,
         }
     }
 
@@ -85,6 +95,21 @@ impl<H: Hash32 + Copy> World<H> {
         match &self.scene {
             None => Ok(Exhibit::Nothing),
             Some(scene) => self.trace.exhibit(&self.hash, scene.log()),
+        }
+    }
+
+    /// How much there is of the lines: how many they are, were accepted by the contract or answered with a refusal, the
+    /// blocks and coins of the chain, and the verdicts of each kind. `NoMemory` is its one refusal.
+    pub fn counts(&self) -> Result<Counts, NoMemory>
+        ensures { (lines : List Line) (run : Run) → IsAfter (H.digest_of self.now.hash) lines self.now
+            → run_of (H.digest_of self.now.hash) lines ≡ Some run
+            → IfOk result (λ counts. counts ≡ counts_of (H.digest_of self.now.hash) run) }
+    {
+        let verdicts = self.verdicts()?;
+        let counts = verdict_counts(self.trace.len() as u64, self.refused, &verdicts);
+        match &self.scene {
+            None => Ok(counts),
+            Some(scene) => Ok(with_log(counts, scene.log())),
         }
     }
 }

@@ -10,7 +10,7 @@ use Rattle.world_rules.specs.declared.verdict.VerdictKind.{VerdictKind}
 use Rattle.world_rules.specs.declared.verdict.Exhibit.{Exhibit}
 use Rattle.world_rules.specs.Causes.{phrase}
 use Rattle.world_rules.specs.Steps.{TraceEntry}
-use Rattle.world_rules.specs.Verdicts.{Counts}
+use Rattle.world_rules.specs.declared.verdict.Counts.{Counts}
 
 -- the kind of an offered call
 abbrev pub kind_text : OfferKind → List ℕ
@@ -106,17 +106,23 @@ exhibit_text exhibit = exhibit_words exhibit ++ 10 ∷ []
 abbrev pub count_text : List ℕ → ℕ → List ℕ
 count_text name number = phrase name (number ∷ []) ++ 10 ∷ []
 
-unfoldable pub counts_text : Counts → List ℕ
-counts_text counts =
-    (
+-- how many lines, and what they made
+abbrev pub line_counts_text : Counts → List ℕ
+line_counts_text counts =
     count_text (codes "lines") counts.lines
     ++ count_text (codes "accepted") counts.accepted
     ++ count_text (codes "refused") counts.refused
     ++ count_text (codes "blocks") counts.blocks
     ++ count_text (codes "coins") counts.coins
-    ++ count_text (codes "held") counts.held
+
+-- how many verdicts of each kind
+abbrev pub verdict_counts_text : Counts → List ℕ
+verdict_counts_text counts =
+    count_text (codes "held") counts.held
     ++ count_text (codes "paid") counts.paid
     ++ count_text (codes "away") counts.away
     ++ count_text (codes "lost") counts.lost
     ++ count_text (codes "unattended") counts.unattended
-    )
+
+unfoldable pub counts_text : Counts → List ℕ
+counts_text counts = line_counts_text counts ++ verdict_counts_text counts

@@ -17,6 +17,7 @@ use Rattle.world_rules.specs.declared.reply.Reply.{Reply}
 use Rattle.world_rules.specs.declared.verdict.Verdict.{Verdict}
 use Rattle.world_rules.specs.declared.verdict.VerdictKind.{VerdictKind}
 use Rattle.world_rules.specs.declared.verdict.Exhibit.{Exhibit}
+use Rattle.world_rules.specs.declared.verdict.Counts.{Counts}
 use Rattle.world_rules.specs.Events.{Event, Joins, log_of, wallet_owner, accepted, signed_away_by, is_sent_from}
 use Rattle.world_rules.specs.World.{Node, World, owner_named, is_wallet_role}
 use Rattle.world_rules.specs.Steps.{TraceEntry, Run, events_of}
@@ -209,19 +210,6 @@ SignsOneMessage run = (world : World) (one other : GivenOut) → run.world ≡ S
 
 -- ---- counts
 
--- what `brief` counts, in the order in which it writes them
-pub record Counts : Type 0 where
-  pub lines : ℕ
-  pub accepted : ℕ
-  pub refused : ℕ
-  pub blocks : ℕ
-  pub coins : ℕ
-  pub held : ℕ
-  pub paid : ℕ
-  pub away : ℕ
-  pub lost : ℕ
-  pub unattended : ℕ
-
 -- the answer is a refusal
 abbrev pub is_refused_reply : Reply → Bool
 is_refused_reply (Reply.Refused cause) = true
@@ -256,7 +244,7 @@ is_unattended_kind kind = false
 abbrev pub count_verdicts : (VerdictKind → Bool) → List Verdict → ℕ
 count_verdicts is_asked verdicts = count_by (λ verdict. is_asked verdict.kind) verdicts
 
--- the counts of a trace, by its verdicts
+-- what `brief` counts of a trace, by its verdicts
 abbrev pub counts_with : List TraceEntry → List RootCall → List Verdict → Counts
 counts_with entries log verdicts = record {
   lines = length entries;

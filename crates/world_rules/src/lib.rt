@@ -14,7 +14,7 @@ pub use laws::{
     offers_are_of_events, records_grow, steps_keep_the_log,
 };
 pub use reply::{OfferKind, OfferKinds, Reply, TraceLine};
-pub use verdict::{Exhibit, Verdict, VerdictKind};
+pub use verdict::{Counts, Exhibit, Verdict, VerdictKind};
 pub use verdict_laws::verdicts_are_given_once;
 
 /// The most wallets of a schedule.

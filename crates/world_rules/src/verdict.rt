@@ -35,3 +35,21 @@ pub enum Exhibit {
     /// This line shows a valid signature that its honest key never made.
     Forgery { line: u64 },
 }
+
+/// How much there is of a run, in the order in which it is printed.
+#[derive(Debug, Clone, Copy, PartialEq, Eq)]
+pub struct Counts {
+    pub lines: u64,
+    /// The contract lines that were accepted.
+    pub accepted: u64,
+    /// The lines whose answer begins with `refused`.
+    pub refused: u64,
+    pub blocks: u64,
+    pub coins: u64,
+    /// The verdicts of each kind.
+    pub held: u64,
+    pub paid: u64,
+    pub away: u64,
+    pub lost: u64,
+    pub unattended: u64,
+}

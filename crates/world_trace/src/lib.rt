@@ -3,17 +3,17 @@
 #![tactic(auto)]
 
 mod causes;
+mod counts;
 mod given;
 mod offering;
 mod printing;
 mod replies;
-#[cfg(test)]
-mod tests;
 mod words;
 
 pub use causes::{
     contract_cause, history_cause, lay_cause, offer_cause, prove_cause, wallet_cause, watcher_cause,
 };
+pub use counts::print_counts;
 pub use given::{Given, makes, offers, refused, says};
 pub use offering::offer_kinds;
-pub use printing::{print_exhibit, print_line, print_verdict};
+pub use printing::{print_exhibit, print_line, print_reply, print_verdict};

@@ -1,12 +1,12 @@
 ghost use Rattle.std.specs.Prelude.{◌≡◌, ◌++◌, ◌∷◌, codes, OnOk, OnErr};
 ghost use Rattle.plasma_base.specs.HexText.{hex_text};
-ghost use Rattle.world_rules.specs.Texts.{trace_line_text, verdict_kind_text, verdict_text, exhibit_words, exhibit_text};
+ghost use Rattle.world_rules.specs.Texts.{reply_text, trace_line_text, verdict_kind_text, verdict_text, exhibit_words, exhibit_text};
 
 use super::replies::push_reply;
 use super::words::{push_phrase, push_words};
 use line_forms::push_number;
 use plasma_base::{NoMemory, push_hex};
-use world_rules::{Exhibit, TraceLine, Verdict, VerdictKind};
+use world_rules::{Exhibit, Reply, TraceLine, Verdict, VerdictKind};
 
 #[tactic(auto, unfolding(world_rules::specs::Texts::trace_line_text))]
 fn push_line(out: &mut Vec<u8>, line: &TraceLine) -> Result<(), NoMemory>
@@ -88,6 +88,18 @@ pub fn print_line(line: &TraceLine, out: &mut Vec<u8>) -> Result<(), NoMemory>
 {
     let mut text = Vec::new(*out.allocator());
     push_line(&mut text, line)?;
+    out.extend_from_slice(text.as_slice())?;
+    Ok(())
+}
+
+/// Puts an answer at the end, as a trace line has it behind its number, without a line feed. Where memory runs out
+/// nothing changes.
+pub fn print_reply(reply: &Reply, out: &mut Vec<u8>) -> Result<(), NoMemory>
+    ensures ok { OnOk result (out.new.items ≡ out.old.items ++ reply_text reply.now) }
+    ensures err { OnErr result (out.new.items ≡ out.old.items) }
+{
+    let mut text = Vec::new(*out.allocator());
+    push_reply(&mut text, reply)?;
     out.extend_from_slice(text.as_slice())?;
     Ok(())
 }

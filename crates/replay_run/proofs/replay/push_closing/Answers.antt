@@ -1,15 +1,10 @@
-use Rattle.std.proofs.Common.{◌≡◌, ◌∙◌, ◌++◌, ap, append_assoc, List, ℕ}
+use Rattle.std.proofs.Common.{◌≡◌, ◌∙◌, ◌++◌, ap, List, ℕ}
 use Rattle.std.specs.List.{flat_map}
 use Rattle.world_rules.specs.Texts.{verdict_text, exhibit_text}
 use Rattle.replay_run.specs.Text.{closing_text}
+use Rattle.replay_run.proofs.OutsideLaws.{joined}
 use Rattle.replay_run.proofs.ReadLaws.{on-ok}
 use Rattle.replay_run.proofs.replay.push_closing.Goals as goal
-
--- two texts behind another one
-joined : (text front old first second other : List ℕ) → text ≡ front ++ second → front ≡ old ++ first → second ≡ other
-    → text ≡ old ++ (first ++ other)
-joined text front old first second other whole begins same =
-    whole ∙ ap (λ t. t ++ second) begins ∙ append_assoc old first second ∙ ap (λ t. old ++ (first ++ t)) same
 
 pub returns : goal.returns
 returns g c =

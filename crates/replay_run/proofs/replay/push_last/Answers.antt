@@ -11,7 +11,7 @@ returns-in-Complete g c =
     let both = ran c.in-Complete.is in
     let kept = subst (λ (d : List ℕ → List ℕ). Ran d run c.args.world.now) both.0 both.1 in
     subst (λ e. OnOk c.push_closing.result
-    (c.push_closing.new.text.items ≡ c.args.text.now.items ++ last_text dig run e)) (sym c.in-Complete.is)
+    (c.push_closing.new.text.items ≡ c.args.text.now.items ++ last_text (closing_text dig run) e)) (sym c.in-Complete.is)
     (subst (λ (d : List ℕ → List ℕ). OnOk c.push_closing.result
     (c.push_closing.new.text.items ≡ c.args.text.now.items ++ closing_text d run))
     (sym both.0) (c.push_closing.ensures run kept))

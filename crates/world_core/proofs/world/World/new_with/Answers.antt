@@ -7,5 +7,6 @@ use Rattle.world_core.proofs.world.World.new_with.Goals as goal
 pub returns-clause-after : goal.returns-clause-after
 returns-clause-after g c =
     let dig = g.H.Hash32.digest_of c.args.hash in
-    subst (λ (t : TraceState). IsAfter dig [] (record { hash = c.args.hash; scene = None; mail_size = 0; trace = t }))
+    subst (λ (t : TraceState).
+    IsAfter dig [] (record { hash = c.args.hash; scene = None; mail_size = 0; trace = t; refused = 0 }))
     (sym c.new.ensures) (after_none dig c.args.hash)

@@ -1,10 +1,11 @@
-use Rattle.std.proofs.Common.{◌≡◌, ℕ, ◌∙◌, sym, ap, subst, Err}
+use Rattle.std.proofs.Common.{◌≡◌, ◌<◌, ◌^◌, ℕ, ◌∙◌, sym, ap, subst, Err}
 use Rattle.std.proofs.lemmas.Result.{err_from_is_err_and}
 use Rattle.plasma_tx.specs.Spelling.{AreBytes}
 use Rattle.world_rules.specs.Declarations.{keeps_rules}
 use Rattle.run_trace.specs.Traces.{Tells}
 use Rattle.world_scene.specs.declared.refusal.StepRefusal.{StepRefusal}
 use Rattle.world_core.specs.Worlds.{WorldState}
+use Rattle.world_core.specs.Counting.{with_answer}
 use Rattle.world_core.specs.Lines.{IsStep, MovesIn}
 use Rattle.world_core.proofs.LongerRuns.{no_run, put_steps, put_fills, told_as}
 use Rattle.world_core.proofs.Takings.{nodes_put, moves_put}
@@ -38,11 +39,13 @@ returns-clause-ok g c lines after =
     (c.in_ok-done.ensures.takes after.hash) c.requires.grammar (subst AreBytes c.as_slice.ensures c.are_bytes.ensures)
     c.in_ok-item.item c.in_ok-item.ensures put c.in_ok-put_mail.ensures.put c.in_ok-put_mail.ensures.fits trace
     (λ tests rules events event tells is.
-    c.in_ok-push.ensures.told tests rules events event (subst (Tells tests rules events) (sym same) tells) is) in
+    c.in_ok-push.ensures.told tests rules events event (subst (Tells tests rules events) (sym same) tells) is)
+    (subst (λ (n : ℕ). n < 2 ^ 64) c.len.ensures c.len.type_inv) c.with_answer-self-inside.result
+    (c.with_answer-self-inside.ensures ∙ ap (λ (s : WorldState _). with_answer s.refused answer.done answer.reply) c.self.view_is) in
     subst (IsStep dig lines line (told_as c.len.result answer))
-    (sym (ap (λ (s : WorldState _). record s { trace = trace }) c.self.view_is))
-    (subst (λ (n : ℕ). IsStep dig lines line (told_as n answer) (record put { trace = trace })) (sym c.len.ensures)
-    stepped)
+    (sym (ap (λ (s : WorldState _). record s { trace = trace; refused = c.with_answer-self-inside.result }) c.self.view_is))
+    (subst (λ (n : ℕ). IsStep dig lines line (told_as n answer)
+    (record put { trace = trace; refused = c.with_answer-self-inside.result })) (sym c.len.ensures) stepped)
 
 pub returns-clause-nodes : goal.returns-clause-nodes
 returns-clause-nodes g c scene is =

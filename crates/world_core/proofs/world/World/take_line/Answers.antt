@@ -24,6 +24,7 @@ returns-after-take_line-clause-takes g c has =
       scene = Some scene;
       mail_size = c.self.inside.mail_size;
       trace = c.self.inside.trace;
+      refused = c.self.inside.refused;
     } in
     let some = ap (λ (s : WorldState _). s.scene) (sym c.self.view_is) ∙ c.in-Some.is in
     let hash = has before some in
