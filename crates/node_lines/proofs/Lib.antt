@@ -1,0 +1,2 @@
+mod Owners
+pub mod GrammarLaws

@@ -1,0 +1,11 @@
+use Rattle.std.proofs.Common.{◌≡◌, Some, rules}
+use Rattle.line_forms.specs.Forms.{value_in}
+use Rattle.node_lines.specs.Grammar.{watcher_line_in}
+use Rattle.node_lines.proofs.GrammarLaws.{watcher_line_text-in}
+use Rattle.node_lines.proofs.watcher_line.read_watcher_line.Goals as goal
+
+pub returns-clause-grammar : goal.returns-clause-grammar
+unfolding watcher_line_in value_in
+returns-clause-grammar c =
+    let found : watcher_line_in c.args.line.now ≡ Some c.in_ok-command.command = search rules in
+    (watcher_line_text-in c.args.line.now c.in_ok-command.command found).1

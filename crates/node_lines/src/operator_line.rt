@@ -1,0 +1,96 @@
+ghost use Rattle.std.specs.Prelude.{◌≡◌, Some, None, Err, IfOk};
+ghost use Rattle.line_forms.specs.Forms.{takes};
+ghost use Rattle.node_lines.specs.Grammar.{operator_form, operator_line_in, IsOperatorLine};
+
+use line_forms::{LineRefusal, Words, named};
+use plasma_base::Bytes;
+use std::alloc::Global;
+
+/// A command of the operator's run.
+#[derive(Debug, Drop)]
+pub enum OperatorLine {
+    /// `offer <hex>`: takes a signed transfer into the pool.
+    Offer { transfer: Bytes },
+    /// `lay <coin> <hex>`: puts any bytes at the coin.
+    Lay { coin: u64, leaf: Bytes },
+    /// `seal`: makes a tree of the pool, and offers its commit.
+    Seal,
+    /// `bundle <coin> <tip>`: the coin's history up to this tip.
+    Bundle { coin: u64, tip: u64 },
+    /// `prove <coin> <block>`: the opening of the block at the coin.
+    Prove { coin: u64, block: u64 },
+    /// `absences <coin> <after> <last>`: the openings at the coin of the blocks after `after` up to
+    /// `last`.
+    Absences { coin: u64, after: u64, last: u64 },
+}
+
+/// The first word of an operator's command.
+#[derive(Debug, Clone, Copy, PartialEq, Eq)]
+pub enum OperatorLineName {
+    Offer,
+    Lay,
+    Seal,
+    Bundle,
+    Prove,
+    Absences,
+}
+
+/// The first words of an operator's commands.
+pub const OPERATOR_LINE_NAMES: [(&[u8], OperatorLineName); 6] = [
+    (b"offer", OperatorLineName::Offer),
+    (b"lay", OperatorLineName::Lay),
+    (b"seal", OperatorLineName::Seal),
+    (b"bundle", OperatorLineName::Bundle),
+    (b"prove", OperatorLineName::Prove),
+    (b"absences", OperatorLineName::Absences),
+];
+
+// The command with this first word.
+fn operator_line_of(
+    alloc: Global,
+    name: OperatorLineName,
+    words: &mut Words<'_>,
+) -> Result<OperatorLine, LineRefusal>
+    ensures found { IfOk result (λ line. takes (operator_form name) words.old ≡ Some (line, words.new)) }
+    ensures bad { result ≡ Err LineRefusal.BadLine → takes (operator_form name) words.old ≡ None }
+{
+    match name {
+        OperatorLineName::Offer => Ok(OperatorLine::Offer {
+            transfer: words.hex(alloc)?,
+        }),
+        OperatorLineName::Lay => Ok(OperatorLine::Lay {
+            coin: words.number()?,
+            leaf: words.hex(alloc)?,
+        }),
+        OperatorLineName::Seal => Ok(OperatorLine::Seal),
+        OperatorLineName::Bundle => Ok(OperatorLine::Bundle {
+            coin: words.number()?,
+            tip: words.number()?,
+        }),
+        OperatorLineName::Prove => Ok(OperatorLine::Prove {
+            coin: words.number()?,
+            block: words.number()?,
+        }),
+        OperatorLineName::Absences => Ok(OperatorLine::Absences {
+            coin: words.number()?,
+            after: words.number()?,
+            last: words.number()?,
+        }),
+    }
+}
+
+/// The operator's command that a line spells, without a line feed. It refuses `BadLine` exactly where
+/// it spells none.
+#[tactic(auto, unfolding(crate::specs::Grammar::operator_line_in, line_forms::specs::Forms::value_in))]
+pub fn read_operator_line(alloc: Global, line: &[u8]) -> Result<OperatorLine, LineRefusal>
+    ensures found { IfOk result (λ it. operator_line_in line.now ≡ Some it) }
+    ensures bad { result ≡ Err LineRefusal.BadLine → operator_line_in line.now ≡ None }
+    ensures grammar { IfOk result IsOperatorLine }
+{
+    let mut words = Words::of(line);
+    let word = words.next().ok_or(LineRefusal::BadLine)?;
+    let name = named(&OPERATOR_LINE_NAMES, word).ok_or(LineRefusal::BadLine)?;
+    let command = operator_line_of(alloc, name, &mut words)?;
+    words.end()?;
+    Ok(command)
+}

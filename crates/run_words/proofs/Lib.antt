@@ -1,0 +1,4 @@
+pub mod HexLaws
+pub mod FormLaws
+pub mod Matching
+pub mod Found

@@ -1,0 +1,99 @@
+-- The forms of a run: what the words after the program's name ask for.
+use Rattle.std.specs.Prelude.{ℕ, List, [], ◌∷◌, codes, Option, Some, None, if◌then◌else◌, option_map}
+use Rattle.std.specs.Str.{bytes_eq}
+use Rattle.plasma_base.specs.HexText.{hex_in, ◌>>=◌}
+use Rattle.line_forms.specs.Tokens.{number_in, number_within_in, hex_of_in, only_if}
+use Rattle.lms_sign.specs.declared.types.LmsTypes.{LmsTypes}
+use Rattle.lms_sign.specs.Types.{is_supported}
+use Rattle.run_words.specs.declared.form.Form.{Form}
+use Rattle.run_words.specs.declared.form.Form.TheVariants.{Replay, Brief, Wallet, Operator, Watcher, InitWallet, InitOperator, InitWatcher, Make, Verify}
+
+-- a form that its name alone spells
+unfoldable pub alone : Form → List (List ℕ) → Option Form
+alone form [] = Some form
+alone form (word ∷ words) = None
+
+-- ---- `init`
+
+-- `<lms> <ots>`: the types of a key, which are a pair that is supported
+unfoldable pub types_in : List ℕ → List ℕ → Option LmsTypes
+types_in lms ots = do
+  l ← number_in lms
+  o ← number_in ots
+  only_if is_supported (Some (record { lms = l; ots = o }))
+
+-- `<tag> <account> <seed>`, with these types: the tag and the seed are hexes of 32 bytes
+unfoldable pub wallet_of : List ℕ → List ℕ → List ℕ → LmsTypes → Option Form
+wallet_of tag account seed types = do
+  t ← hex_of_in 32 tag
+  a ← number_in account
+  s ← hex_of_in 32 seed
+  Some (InitWallet t a s types)
+
+-- `<tag> <account> <seed>` with the types 5 and 4, or `<tag> <account> <seed> <lms> <ots>`
+unfoldable pub init_wallet : List (List ℕ) → Option Form
+init_wallet (tag ∷ account ∷ seed ∷ []) = wallet_of tag account seed (record { lms = 5; ots = 4 })
+init_wallet (tag ∷ account ∷ seed ∷ lms ∷ ots ∷ []) = types_in lms ots >>= wallet_of tag account seed
+init_wallet _ = None
+
+-- `<tag> <account>`: the tag is a hex of 32 bytes
+unfoldable pub identity_in : List (List ℕ) → Option (List ℕ × ℕ)
+identity_in (tag ∷ account ∷ []) = do
+  t ← hex_of_in 32 tag
+  a ← number_in account
+  Some (t, a)
+identity_in _ = None
+
+abbrev pub init_operator : List (List ℕ) → Option Form
+init_operator words = option_map (λ who. InitOperator who.0 who.1) (identity_in words)
+
+abbrev pub init_watcher : List (List ℕ) → Option Form
+init_watcher words = option_map (λ who. InitWatcher who.0 who.1) (identity_in words)
+
+-- the role, and its words
+unfoldable pub init_form : List (List ℕ) → Option Form
+init_form [] = None
+init_form (role ∷ words) =
+    if bytes_eq role (codes "wallet") then init_wallet words
+    else if bytes_eq role (codes "operator") then init_operator words
+    else if bytes_eq role (codes "watcher") then init_watcher words
+    else None
+
+-- ---- the other forms with words
+
+-- `<seed> <count>`: the count is at most 10,000
+unfoldable pub make_form : List (List ℕ) → Option Form
+make_form (seed ∷ count ∷ []) = do
+  s ← number_in seed
+  c ← number_within_in 0 10000 count
+  Some (Make s c)
+make_form _ = None
+
+-- `<key> <message> <signature>`, each a hex of any length
+unfoldable pub verify_form : List (List ℕ) → Option Form
+verify_form (key ∷ message ∷ signature ∷ []) = do
+  k ← hex_in key
+  m ← hex_in message
+  s ← hex_in signature
+  Some (Verify k m s)
+verify_form _ = None
+
+-- ---- all forms
+
+-- what the words after a name spell
+unfoldable pub form_named : List ℕ → List (List ℕ) → Option Form
+form_named name words =
+    if bytes_eq name (codes "replay") then alone Replay words
+    else if bytes_eq name (codes "brief") then alone Brief words
+    else if bytes_eq name (codes "wallet") then alone Wallet words
+    else if bytes_eq name (codes "operator") then alone Operator words
+    else if bytes_eq name (codes "watcher") then alone Watcher words
+    else if bytes_eq name (codes "init") then init_form words
+    else if bytes_eq name (codes "make") then make_form words
+    else if bytes_eq name (codes "verify") then verify_form words
+    else None
+
+-- the form that the words spell, if they spell one
+unfoldable pub form_of : List (List ℕ) → Option Form
+form_of [] = None
+form_of (name ∷ words) = form_named name words

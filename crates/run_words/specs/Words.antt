@@ -1,0 +1,7 @@
+-- Words as code holds them by reference.
+use Rattle.std.specs.Prelude.{ℕ, List, map}
+use Rattle.std.specs.Borrow.{Bor}
+
+-- the texts of words
+abbrev pub texts : List (Bor (List ℕ)) → List (List ℕ)
+texts words = map (λ word. word.now) words
