@@ -3,8 +3,6 @@
 
 mod asked;
 mod deadlines;
-#[cfg(test)]
-mod tests;
 mod told;
 
 pub use asked::fact_asked;

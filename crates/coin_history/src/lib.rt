@@ -6,14 +6,10 @@ mod absence;
 mod bundle;
 mod checking;
 mod coverage;
-#[cfg(test)]
-mod history_tests;
 mod laws;
 mod reading;
 mod refusal;
 mod spelling;
-#[cfg(test)]
-mod tests;
 
 pub use absence::absent;
 pub use bundle::{Bundle, Openings};

@@ -10,8 +10,6 @@ mod reading;
 mod run;
 mod signers;
 mod standing;
-#[cfg(test)]
-mod tests;
 mod wallet;
 
 pub use fact::{Fact, Numbers};

@@ -9,8 +9,6 @@ mod make;
 mod opening;
 mod refusal;
 mod steps;
-#[cfg(test)]
-mod tests;
 
 pub use journal::Journal;
 pub use laws::{

@@ -10,8 +10,6 @@ mod reading;
 mod records;
 mod refusal;
 mod short;
-#[cfg(test)]
-mod tests;
 
 pub use adaptors::{
     bind_answers, binds_in_node_words, migration_answers, migrations_in_node_words,

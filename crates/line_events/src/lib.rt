@@ -7,8 +7,6 @@ mod given;
 mod kept;
 mod offered;
 mod reading;
-#[cfg(test)]
-mod tests;
 
 pub use event::LineEvent;
 pub use fact::{event_of_call, fact_of};

@@ -10,8 +10,6 @@ mod numbers;
 mod pieces;
 mod reading;
 mod refusal;
-#[cfg(test)]
-mod tests;
 mod tokens;
 mod words;
 

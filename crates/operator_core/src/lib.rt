@@ -11,8 +11,6 @@ mod records;
 mod role;
 mod showing;
 mod signatures;
-#[cfg(test)]
-mod tests;
 mod trees;
 mod walk;
 

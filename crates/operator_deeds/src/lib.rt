@@ -6,8 +6,6 @@ mod laws;
 mod order;
 mod running;
 mod showing;
-#[cfg(test)]
-mod tests;
 
 pub use laws::{commands_are_orders, orders_add_no_leaf, orders_keep_the_role};
 pub use order::OperatorOrder;

@@ -16,8 +16,6 @@ mod owner;
 mod root_log;
 mod signed_tx;
 mod standing;
-#[cfg(test)]
-mod tests;
 mod views;
 
 pub use answer::{Answer, Refusal};

@@ -4,8 +4,6 @@
 mod exhibiting;
 mod mark;
 mod shown;
-#[cfg(test)]
-mod tests;
 mod trace;
 
 pub use mark::Mark;

@@ -14,8 +14,6 @@ mod line;
 mod names;
 mod printing;
 mod reading;
-#[cfg(test)]
-mod tests;
 mod text;
 
 pub use call_form::{CallForm, ROOT_BYTES};

@@ -10,8 +10,6 @@ mod lines;
 mod places;
 mod shown;
 mod tested;
-#[cfg(test)]
-mod tests;
 mod wallets;
 mod way;
 

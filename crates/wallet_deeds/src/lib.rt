@@ -7,8 +7,6 @@ mod leaf_orders;
 mod note_orders;
 mod order;
 mod running;
-#[cfg(test)]
-mod tests;
 
 pub use laws::{commands_are_orders, orders_add_one_record, orders_keep_the_role};
 pub use order::WalletOrder;

@@ -4,8 +4,6 @@
 mod due;
 mod guard;
 mod laws;
-#[cfg(test)]
-mod tests;
 mod watch;
 
 pub use due::{duty, push_due};

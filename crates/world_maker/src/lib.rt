@@ -6,8 +6,6 @@ mod generator;
 mod laws;
 mod lines;
 mod round;
-#[cfg(test)]
-mod tests;
 
 pub use generator::{MOST_ROUNDS, make};
 pub use laws::{lines_are_in_the_grammar, lines_keep_the_rules};

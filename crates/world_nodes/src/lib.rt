@@ -11,8 +11,6 @@ mod kept;
 mod opening;
 mod order;
 mod running;
-#[cfg(test)]
-mod tests;
 mod up;
 
 pub use entry::Entry;

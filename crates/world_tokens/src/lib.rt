@@ -8,8 +8,6 @@ mod items;
 mod outcomes;
 mod replies;
 mod rogue;
-#[cfg(test)]
-mod tests;
 
 pub use calls::call_of;
 pub use identities::{declared_wallet, key_of_hex, owner_of_hex, padded, types_or_first};
