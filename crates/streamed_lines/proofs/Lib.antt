@@ -1,0 +1,6 @@
+mod LineLaws
+mod OutsideLaws
+mod StreamLaws
+mod StopLaws
+mod ReadLaws
+mod GoingLaws

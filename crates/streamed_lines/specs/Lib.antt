@@ -1,0 +1,5 @@
+pub mod Lines
+pub mod Streams
+pub mod Bounds
+pub mod Outside
+pub mod Reading
