@@ -1,0 +1,130 @@
+-- What a node's command is answered in a run of its own, as text, and what it adds to the node's records.
+use Rattle.std.specs.Prelude.{◌≡◌, ◌⊎◌, ℕ, List, [], ◌∷◌, ◌++◌, codes, Option, Some, None, Result, Ok, Err}
+use Rattle.std.specs.List.{flat_map}
+use Rattle.plasma_base.specs.HexText.{hex_text}
+use Rattle.plasma_tx.specs.declared.call.RootCall.{RootCall}
+use Rattle.plasma_tx.specs.Spelling.{owner_text}
+use Rattle.root_log.specs.Grammar.{call_text}
+use Rattle.wallet_core.specs.declared.coin_state.CoinState.{CoinState}
+use Rattle.wallet_core.specs.declared.coin_state.CoinState.TheVariants.{Nothing, Sending, Leaving, Held}
+use Rattle.node_rules.specs.Wallet.{WalletRecords, who, coin_state}
+use Rattle.node_rules.specs.WalletRecords.{owner_of}
+use Rattle.world_rules.specs.declared.reply.Reply.{Reply}
+use Rattle.world_rules.specs.Causes.{phrase}
+use Rattle.world_rules.specs.Deeds.{Gives, Deed}
+use Rattle.world_rules.specs.Texts.{reply_text}
+use Rattle.wallet_deeds.specs.declared.order.WalletOrder.{WalletOrder}
+use Rattle.wallet_deeds.specs.Orders.{order_deed as wallet_deed}
+use Rattle.watcher_deeds.specs.declared.order.WatcherOrder.{WatcherOrder}
+use Rattle.watcher_deeds.specs.Orders.{order_deed as watcher_deed}
+use Rattle.operator_deeds.specs.declared.order.OperatorOrder.{OperatorOrder}
+use Rattle.operator_deeds.specs.Orders.{order_deed as operator_deed}
+use Rattle.node_lines.specs.declared.wallet_line.WalletLine.{WalletLine}
+use Rattle.node_lines.specs.declared.watcher_line.WatcherLine.{WatcherLine}
+use Rattle.node_lines.specs.declared.operator_line.OperatorLine.{OperatorLine}
+use Rattle.node_journal.specs.declared.stop.Stop.{Stop}
+use Rattle.node_journal.specs.declared.stop.Stop.TheVariants.{NoMemory}
+use Rattle.node_answers.specs.declared.wallet.WalletAsk.{WalletAsk}
+use Rattle.node_answers.specs.declared.said.Said.{Said}
+use Rattle.node_answers.specs.declared.said.Said.TheVariants.{Answered, Refused}
+
+-- ---- what is given out, as text; 10 is the line feed
+
+-- the bytes that a command makes, as a hex on a line of its own
+abbrev pub made_text : List ℕ → List ℕ
+made_text [] = []
+made_text (byte ∷ bytes) = hex_text (byte ∷ bytes) ++ 10 ∷ []
+
+-- an offered call, as a line of a log
+abbrev pub offer_text : RootCall → List ℕ
+offer_text call = call_text call ++ 10 ∷ []
+
+-- the answer, what is made, and what is offered
+unfoldable pub given_text : Gives → List ℕ
+given_text gives = (reply_text gives.reply ++ 10 ∷ []) ++ made_text gives.made ++ flat_map offer_text gives.offers
+
+-- what a coin is to a wallet
+abbrev pub state_words : CoinState → List ℕ
+state_words Nothing = codes "nothing"
+state_words (Held tip) = phrase (codes "held") (tip ∷ [])
+state_words (Sending tip q) = phrase (codes "sending") (tip ∷ q ∷ [])
+state_words (Leaving tip) = phrase (codes "leaving") (tip ∷ [])
+
+-- ---- what a command comes to
+
+-- the text of its answer, or the cause for which it is refused
+abbrev pub said_by : Reply → List ℕ → Result (List ℕ) (List ℕ)
+said_by (Reply.Refused cause) text = Err cause
+said_by reply text = Ok text
+
+abbrev pub said : Deed → Result (List ℕ) (List ℕ)
+said deed = said_by deed.gives.reply (given_text deed.gives)
+
+-- its answer, and the record that it adds to the node's notes, or to its leaves
+pub record Outcome : Type 0 where
+  pub says : Result (List ℕ) (List ℕ)
+  pub note : Option (List ℕ)
+  pub leaf : Option (List ℕ)
+
+abbrev pub outcome_of : Deed → Outcome
+outcome_of deed = record { says = said deed; note = deed.note; leaf = deed.leaf }
+
+-- a text that tells of the node, and adds nothing
+abbrev pub tells : List ℕ → Outcome
+tells words = record { says = Ok (words ++ 10 ∷ []); note = None; leaf = None }
+
+-- the order that a command is
+abbrev pub watcher_order : WatcherLine → WatcherOrder
+watcher_order (WatcherLine.Guard bundle) = WatcherOrder.Guard bundle
+watcher_order (WatcherLine.Release coin tip) = WatcherOrder.Release coin tip
+watcher_order WatcherLine.Watch = WatcherOrder.Watch
+
+abbrev pub operator_order : OperatorLine → OperatorOrder
+operator_order (OperatorLine.Offer transfer) = OperatorOrder.Offer transfer
+operator_order (OperatorLine.Lay coin leaf) = OperatorOrder.Lay coin leaf
+operator_order OperatorLine.Seal = OperatorOrder.Seal
+operator_order (OperatorLine.Bundle coin tip) = OperatorOrder.Bundle coin tip
+operator_order (OperatorLine.Prove coin block) = OperatorOrder.Prove coin block
+operator_order (OperatorLine.Absences coin after last) = OperatorOrder.Absences coin after last
+
+-- what a command of a wallet asks for
+abbrev pub wallet_ask : WalletLine → WalletAsk
+wallet_ask (WalletLine.Accept bundle) = WalletAsk.Order (WalletOrder.Accept bundle)
+wallet_ask (WalletLine.Send coin to last) = WalletAsk.Order (WalletOrder.Send coin to last)
+wallet_ask (WalletLine.Again coin) = WalletAsk.Order (WalletOrder.Again coin)
+wallet_ask (WalletLine.Leave coin) = WalletAsk.Order (WalletOrder.Leave coin)
+wallet_ask (WalletLine.Reclaim bundle) = WalletAsk.Order (WalletOrder.Reclaim bundle)
+wallet_ask WalletLine.Migrate = WalletAsk.Order WalletOrder.Migrate
+wallet_ask WalletLine.Watch = WalletAsk.Order WalletOrder.Watch
+wallet_ask (WalletLine.State coin) = WalletAsk.State coin
+wallet_ask WalletLine.Who = WalletAsk.Who
+
+-- what it comes to by the records of the wallet, behind this log
+abbrev pub asked : (List ℕ → List ℕ) → List RootCall → WalletRecords → WalletAsk → Outcome
+asked dig log wallet (WalletAsk.Order order) = outcome_of (wallet_deed dig log 0 wallet order)
+asked dig log wallet (WalletAsk.State coin) = tells (state_words (coin_state dig wallet log coin))
+asked dig log wallet WalletAsk.Who = tells (hex_text (owner_text (owner_of (who wallet))))
+
+unfoldable pub wallet_outcome : (List ℕ → List ℕ) → List RootCall → WalletRecords → WalletLine → Outcome
+wallet_outcome dig log wallet line = asked dig log wallet (wallet_ask line)
+
+-- what a watcher's command comes to, and an operator's
+unfoldable pub watcher_outcome : (List ℕ → List ℕ) → List RootCall → List (List ℕ) → WatcherLine → Outcome
+watcher_outcome dig log notes line = outcome_of (watcher_deed dig log 0 notes (watcher_order line))
+
+unfoldable pub operator_outcome : (List ℕ → List ℕ) → List RootCall → List (List ℕ) → OperatorLine → Outcome
+operator_outcome dig log notes line = outcome_of (operator_deed dig log 0 notes (operator_order line))
+
+-- ---- answering
+
+-- a command that comes to this was answered so, behind the text
+abbrev pub IsSaid : Result (List ℕ) (List ℕ) → Said → List ℕ → List ℕ → Type 0
+IsSaid says Answered before after = (text : List ℕ) × (says ≡ Ok text) × (after ≡ before ++ text)
+IsSaid says (Refused cause) before after = (says ≡ Err cause) × (after ≡ before)
+
+-- what stopped the node in a command that was answered so: nothing where there is an answer; where memory ran out the
+-- command may have been done before
+abbrev pub StopsIn : Result Said Stop → Option Stop → Type 0
+StopsIn (Ok told) stop = stop ≡ None
+StopsIn (Err NoMemory) stop = (stop ≡ None) ⊎ (stop ≡ Some NoMemory)
+StopsIn (Err why) stop = stop ≡ Some why

@@ -1,0 +1,21 @@
+-- What a command did to a node and its disks, by how it was answered.
+use Rattle.std.specs.Prelude.{ℕ, List, Option, Result}
+use Rattle.crash_disk.specs.Disk.{History, FaultPlan}
+use Rattle.node_journal.specs.Notes.{NotesState, Did}
+use Rattle.node_journal.specs.declared.stop.Stop.{Stop}
+use Rattle.wallet_node.specs.State.{WalletState}
+use Rattle.wallet_deeds.specs.Orders.{DidEither}
+use Rattle.node_answers.specs.declared.said.Said.{Said}
+use Rattle.node_answers.specs.Answers.{StopsIn}
+
+-- over disks that tell their history, foretell their faults and count them
+module _ {D : Type 0} (told : D → Option History) (plan : D → Option FaultPlan) (faults : D → ℕ) where
+  -- what a command did to a node's notes that adds this one, or none, and was answered so
+  abbrev pub DidNotes : Option (List ℕ) → NotesState D → Result Said Stop → NotesState D → Type 0
+  DidNotes added old result new = (stop : Option Stop) × Did told plan faults added old stop new × StopsIn result stop
+
+  -- what one did to a wallet that adds this leaf's record, or else this note, or neither
+  abbrev pub DidWallet : {H : Type 0} → Option (List ℕ) → Option (List ℕ) → WalletState D H → Result Said Stop
+      → WalletState D H → Type 0
+  DidWallet leaf note old result new =
+      (stop : Option Stop) × DidEither told plan faults leaf note old stop new × StopsIn result stop

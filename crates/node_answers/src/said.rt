@@ -1,0 +1,111 @@
+ghost use Rattle.std.specs.Prelude.{◌≡◌, ◌++◌, ◌∷◌, [], Ok, IfOk, OnOk, OnErr};
+ghost use Rattle.std.specs.List.{flat_map};
+ghost use Rattle.world_rules.specs.Deeds.{Gives};
+ghost use Rattle.world_trace.specs.Given.{IsGiven};
+ghost use Rattle.node_answers.specs.Answers.{made_text, offer_text, given_text, said_by, IsSaid};
+
+use plasma_base::{Bytes, NoMemory, push_hex};
+use plasma_tx::RootCall;
+use root_log::print_call;
+use std::alloc::Global;
+use world_rules::Reply;
+use world_trace::{Given, print_reply};
+
+/// What a node's command came to.
+#[derive(Debug, Drop)]
+pub enum Said {
+    /// It was answered, and its answer was put.
+    Answered,
+    /// It was refused for this cause, and added nothing.
+    Refused { cause: Bytes },
+}
+
+// Puts the bytes that a command makes at the end, as a hex on a line of its own.
+fn push_made(out: &mut Vec<u8>, made: &[u8]) -> Result<(), NoMemory>
+    ensures { OnOk result (out.new.items ≡ out.old.items ++ made_text made.now) }
+{
+    if made.is_empty() {
+        return Ok(());
+    }
+    push_hex(out, made)?;
+    out.push(b'\n')?;
+    Ok(())
+}
+
+// Puts offered calls at the end, each as a line of a log.
+fn push_offers(out: &mut Vec<u8>, offers: &[RootCall]) -> Result<(), NoMemory>
+    ensures { OnOk result (out.new.items ≡ out.old.items ++ flat_map offer_text offers.now) }
+{
+    for call in offers.iter() {
+        print_call(call, out)?;
+        out.push(b'\n')?;
+    }
+    Ok(())
+}
+
+// Puts an answer, which is no refusal, at the end.
+#[tactic(auto, unfolding(crate::specs::Answers::given_text))]
+fn push_given(
+    out: &mut Vec<u8>,
+    reply: &Reply,
+    made: &[u8],
+    offers: &[RootCall],
+) -> Result<(), NoMemory>
+    ensures { (gives : Gives) → reply.now ≡ gives.reply → made.now ≡ gives.made → offers.now ≡ gives.offers
+        → OnOk result (out.new.items ≡ out.old.items ++ given_text gives) }
+{
+    print_reply(reply, out)?;
+    out.push(b'\n')?;
+    push_made(out, made)?;
+    push_offers(out, offers)
+}
+
+// Puts an answer, which is no refusal, at the end. Where memory runs out the text stays.
+fn put_answer(
+    alloc: Global,
+    reply: &Reply,
+    made: &[u8],
+    offers: &[RootCall],
+    text: &mut Vec<u8>,
+) -> Result<(), NoMemory>
+    ensures ok { (gives : Gives) → reply.now ≡ gives.reply → made.now ≡ gives.made → offers.now ≡ gives.offers
+        → OnOk result (text.new.items ≡ text.old.items ++ given_text gives) }
+    ensures untold { OnErr result (text.new.items ≡ text.old.items) }
+{
+    let mut out = Vec::new(alloc);
+    push_given(&mut out, reply, made, offers)?;
+    text.extend_from_slice(&out)?;
+    Ok(())
+}
+
+/// Puts what a command gave out at the end, unless it was refused. Where memory runs out the text stays.
+pub fn put_given(alloc: Global, given: Given, text: &mut Vec<u8>) -> Result<Said, NoMemory>
+    ensures said { (gives : Gives) → IsGiven gives given
+        → IfOk result (λ said. IsSaid (said_by gives.reply (given_text gives)) said text.old.items text.new.items) }
+    ensures untold { OnErr result (text.new.items ≡ text.old.items) }
+{
+    let Given {
+        reply,
+        made,
+        offers,
+    } = given;
+    match reply {
+        Reply::Refused { cause } => Ok(Said::Refused { cause }),
+        reply => {
+            put_answer(alloc, &reply, made.as_slice(), &offers, text)?;
+            Ok(Said::Answered)
+        }
+    }
+}
+
+/// Puts words that tell of a node at the end, as a line.
+pub fn put_words(words: Vec<u8>, text: &mut Vec<u8>) -> Result<Said, NoMemory>
+    ensures said { IfOk result
+        (λ said. IsSaid (Ok (words.items ++ 10 ∷ [])) said text.old.items text.new.items) }
+    ensures untold { OnErr result (text.new.items ≡ text.old.items) }
+{
+    let mut words = words;
+    words.push(b'\n')?;
+    text.extend_from_slice(&words)?;
+    Ok(Said::Answered)
+}

@@ -1,0 +1,137 @@
+ghost use Rattle.std.specs.Prelude.{◌≡◌, ◌++◌, false, IfOk, OnOk, OnErr};
+ghost use Rattle.plasma_base.specs.HexText.{hex_text};
+ghost use Rattle.plasma_tx.specs.Spelling.{owner_text};
+ghost use Rattle.node_rules.specs.Wallet.{who};
+ghost use Rattle.node_rules.specs.WalletRecords.{owner_of};
+ghost use Rattle.world_rules.specs.Causes.{phrase};
+ghost use Rattle.wallet_deeds.specs.Orders.{order_deed};
+ghost use Rattle.node_answers.specs.Answers.{state_words, wallet_ask, outcome_of, wallet_outcome, IsSaid};
+ghost use Rattle.node_answers.specs.Doing.{DidWallet};
+
+use super::said::{Said, put_given, put_words};
+use crash_disk::Disk;
+use line_forms::push_number;
+use node_journal::Stop;
+use node_lines::WalletLine;
+use plasma_base::{Hash32, NoMemory, push_hex};
+use plasma_tx::RootLog;
+use std::alloc::Global;
+use wallet_core::CoinState;
+use wallet_deeds::{WalletOrder, run};
+use wallet_node::WalletNode;
+
+/// What a command of a wallet asks for: an order, what a coin is to it, or who it is.
+#[derive(Debug, Drop)]
+pub enum WalletAsk {
+    Order { order: WalletOrder },
+    State { coin: u64 },
+    Who,
+}
+
+// What a line asks for.
+fn ask_of(line: WalletLine) -> WalletAsk
+    ensures { result ≡ wallet_ask line }
+{
+    let order = match line {
+        WalletLine::Accept { bundle } => WalletOrder::Accept { bundle },
+        WalletLine::Send { coin, to, last } => WalletOrder::Send { coin, to, last },
+        WalletLine::Again { coin } => WalletOrder::Again { coin },
+        WalletLine::Leave { coin } => WalletOrder::Leave { coin },
+        WalletLine::Reclaim { bundle } => WalletOrder::Reclaim { bundle },
+        WalletLine::Migrate => WalletOrder::Migrate,
+        WalletLine::Watch => WalletOrder::Watch,
+        WalletLine::State { coin } => return WalletAsk::State { coin },
+        WalletLine::Who => return WalletAsk::Who,
+    };
+    WalletAsk::Order { order }
+}
+
+// Puts words, and numbers after them, at the end.
+fn push_state(out: &mut Vec<u8>, words: &[u8], numbers: &[u64]) -> Result<(), NoMemory>
+    ensures { OnOk result (out.new.items ≡ out.old.items ++ phrase words.now numbers.now) }
+{
+    out.extend_from_slice(words)?;
+    for number in numbers.iter() {
+        out.push(b' ')?;
+        push_number(out, *number)?;
+    }
+    Ok(())
+}
+
+// The words of what a coin is.
+fn words_of(alloc: Global, state: CoinState) -> Result<Vec<u8>, NoMemory>
+    ensures { IfOk result (λ words. words.items ≡ state_words state) }
+{
+    let mut words = Vec::new(alloc);
+    match state {
+        CoinState::Nothing => words.extend_from_slice(b"nothing")?,
+        CoinState::Held { tip } => push_state(&mut words, b"held", &[tip])?,
+        CoinState::Sending { tip, q } => push_state(&mut words, b"sending", &[tip, u64::from(q)])?,
+        CoinState::Leaving { tip } => push_state(&mut words, b"leaving", &[tip])?,
+    }
+    Ok(words)
+}
+
+// Runs an order, and puts its answer.
+fn answer_order<D: Disk, H: Hash32 + Copy>(
+    alloc: Global,
+    node: &mut WalletNode<D, H>,
+    log: &RootLog,
+    order: &WalletOrder,
+    text: &mut Vec<u8>,
+) -> Result<Said, Stop>
+    requires { node.old.closed ≡ false }
+    ensures said { IfOk result (λ said. IsSaid (outcome_of (order_deed (H.digest_of node.old.hash) log.now.log 0
+        node.old.records order.now)).says said text.old.items text.new.items) }
+    ensures did { DidWallet D.told D.plan D.faults (order_deed (H.digest_of node.old.hash) log.now.log 0
+        node.old.records order.now).leaf (order_deed (H.digest_of node.old.hash) log.now.log 0
+        node.old.records order.now).note node.old result node.new }
+    ensures untold { OnErr result (text.new.items ≡ text.old.items) }
+{
+    let given = run(alloc, node, log, order)?;
+    Ok(put_given(alloc, given, text)?)
+}
+
+// The words of who a wallet is.
+fn words_of_owner<D: Disk, H: Hash32 + Copy>(
+    alloc: Global,
+    node: &WalletNode<D, H>,
+) -> Result<Vec<u8>, NoMemory>
+    ensures { IfOk result (λ words. words.items ≡ hex_text (owner_text (owner_of (who node.now.records)))) }
+{
+    let mut words = Vec::new(alloc);
+    push_hex(&mut words, &node.owner().write())?;
+    Ok(words)
+}
+
+/// Answers a command of a wallet that no fault closed, behind this log, into the text. A refusal is no answer: its cause
+/// is given out. Where the command is stopped, by want of memory or a device fault, the text stays; where memory ran out
+/// the command may have been done before.
+#[tactic(auto, unfolding(crate::specs::Answers::wallet_outcome))]
+pub fn answer_wallet<D: Disk, H: Hash32 + Copy>(
+    alloc: Global,
+    node: &mut WalletNode<D, H>,
+    log: &RootLog,
+    line: WalletLine,
+    text: &mut Vec<u8>,
+) -> Result<Said, Stop>
+    requires { node.old.closed ≡ false }
+    ensures said { IfOk result (λ said. IsSaid (wallet_outcome (H.digest_of node.old.hash) log.now.log
+        node.old.records line).says said text.old.items text.new.items) }
+    ensures did { DidWallet D.told D.plan D.faults (wallet_outcome (H.digest_of node.old.hash) log.now.log
+        node.old.records line).leaf (wallet_outcome (H.digest_of node.old.hash) log.now.log
+        node.old.records line).note node.old result node.new }
+    ensures untold { OnErr result (text.new.items ≡ text.old.items) }
+{
+    match ask_of(line) {
+        WalletAsk::Order { order } => answer_order(alloc, node, log, &order, text),
+        WalletAsk::State { coin } => {
+            let words = words_of(alloc, node.state(log, coin))?;
+            Ok(put_words(words, text)?)
+        }
+        WalletAsk::Who => {
+            let words = words_of_owner(alloc, node)?;
+            Ok(put_words(words, text)?)
+        }
+    }
+}

@@ -1,0 +1,6 @@
+mod NotesLaws
+mod Refusals
+mod WatcherRefusals
+mod OperatorRefusals
+mod WalletLaws
+mod WalletRefusals

@@ -1,0 +1,66 @@
+-- An operator's refused command adds nothing.
+use Rattle.std.proofs.Common.{◌≡◌, ℕ, nat_lt, true, List, [], ◌∷◌, ◌++◌, length, Option, Some, None, Result, Ok, Err, refl}
+use Rattle.node_journal.specs.Effect.{first_cause}
+use Rattle.node_journal.specs.Role.{are_of}
+use Rattle.plasma_tx.specs.declared.call.RootCall.{RootCall}
+use Rattle.plasma_tx.specs.declared.signed_tx.SignedTx.{SignedTx}
+use Rattle.plasma_tx.specs.declared.signed_tx.TxRefusal.{TxRefusal}
+use Rattle.plasma_tx.specs.declared.views.CoinView.{CoinView}
+use Rattle.plasma_tx.specs.Spelling.{signed_in}
+use Rattle.plasma_tx.specs.Views.{blocks, coin_at}
+use Rattle.operator_rules.specs.declared.TheConstants.{MOST_LAID}
+use Rattle.operator_rules.specs.declared.refusal.OfferRefusal.{OfferRefusal}
+use Rattle.operator_rules.specs.Trees.{Forest, is_waiting}
+use Rattle.operator_rules.specs.Walk.{present}
+use Rattle.operator_rules.specs.Records.{Offered, Laid, note_text, operator_kinds, who_is}
+use Rattle.operator_rules.specs.Commands.{forest_in, offer_causes, offer_at, offer_of, offer_effect, lay_effect, seal_effect}
+use Rattle.world_rules.specs.Causes.{offer_cause, lay_cause, seal_cause}
+use Rattle.world_rules.specs.Deeds.{on_pooled, on_laid, on_sealed}
+use Rattle.operator_deeds.specs.Orders.{order_deed}
+use Rattle.node_lines.specs.declared.operator_line.OperatorLine.{OperatorLine}
+use Rattle.node_answers.specs.Answers.{operator_outcome}
+use Rattle.node_roles.proofs.Refusals.{AddsNothingRefused, refused-by, unless-quiet, second-quiet}
+
+at-quiet : (dig : List ℕ → List ℕ) (tag : List ℕ) (log : List RootCall) (forest : Forest) (bytes : List ℕ)
+    (tx : SignedTx) (made : Option CoinView) (why : OfferRefusal)
+    → (offer_at dig tag log forest bytes tx made).answer ≡ Err why
+    → (offer_at dig tag log forest bytes tx made).note ≡ None
+at-quiet dig tag log forest bytes tx None why is = refl
+at-quiet dig tag log forest bytes tx (Some made) why is =
+    unless-quiet
+    (first_cause
+    (offer_causes (blocks log) tx (present dig tag log forest.sealed tx.body.coin made)
+    (is_waiting dig log forest tx.body.coin)))
+    (record { answer = Ok tx.body.coin; note = Some (note_text (Offered bytes)) }) tx.body.coin why refl is
+
+offer-quiet : (dig : List ℕ → List ℕ) (tag : List ℕ) (log : List RootCall) (forest : Forest) (bytes : List ℕ)
+    (read : Result SignedTx TxRefusal) (why : OfferRefusal)
+    → (offer_of dig tag log forest bytes read).answer ≡ Err why → (offer_of dig tag log forest bytes read).note ≡ None
+offer-quiet dig tag log forest bytes (Err refusal) why is = refl
+offer-quiet dig tag log forest bytes (Ok tx) why is =
+    at-quiet dig tag log forest bytes tx (coin_at log tx.body.coin) why is
+
+pub operator-quiet : (dig : List ℕ → List ℕ) (log : List RootCall) (notes : List (List ℕ)) (line : OperatorLine)
+    → AddsNothingRefused (operator_outcome dig log notes line)
+unfolding operator_outcome order_deed offer_effect lay_effect seal_effect
+operator-quiet dig log notes (OperatorLine.Offer bytes) cause is =
+    refused-by 0 offer_cause (on_pooled 0) (offer_effect dig notes log bytes).answer
+    ((offer_effect dig notes log bytes).note ≡ None) cause (λ a why wrong. cc)
+    (offer-quiet dig (who_is notes).tag log (forest_in notes) bytes (signed_in (who_is notes).tag bytes)) is
+operator-quiet dig log notes (OperatorLine.Lay coin bytes) cause is =
+    refused-by 0 lay_cause (on_laid 0 coin) (lay_effect coin bytes).answer ((lay_effect coin bytes).note ≡ None) cause
+    (λ a why wrong. cc)
+    (λ why. second-quiet (nat_lt MOST_LAID (length bytes)) tt (Some (note_text (Laid coin bytes))) _ why) is
+operator-quiet dig log notes OperatorLine.Seal cause is =
+    refused-by 0 seal_cause on_sealed (seal_effect dig notes).answer ((seal_effect dig notes).note ≡ None) cause
+    (λ a why wrong. cc) (λ why wrong. cc) is
+operator-quiet dig log notes (OperatorLine.Bundle coin tip) cause is = refl
+operator-quiet dig log notes (OperatorLine.Prove coin block) cause is = refl
+operator-quiet dig log notes (OperatorLine.Absences coin after last) cause is = refl
+
+-- the tag is that of the first record
+pub operator-tag : (records : List (List ℕ)) → are_of operator_kinds records ≡ true → (body : List ℕ)
+    → (who_is (records ++ body ∷ [])).tag ≡ (who_is records).tag
+unfolding who_is
+operator-tag [] role body = cc
+operator-tag (first ∷ records) role body = refl

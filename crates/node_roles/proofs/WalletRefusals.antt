@@ -1,0 +1,111 @@
+-- A wallet's refused command adds nothing.
+use Rattle.std.proofs.Common.{◌≡◌, ℕ, Bool, true, false, List, [], ◌∷◌, ◌++◌, Option, None, Result, Ok, Err, refl, sym, subst, inl}
+use Rattle.node_journal.specs.Role.{are_of}
+use Rattle.plasma_tx.specs.declared.owner.Owner.{Owner}
+use Rattle.plasma_tx.specs.declared.call.RootCall.{RootCall}
+use Rattle.leaf_journal.specs.Records.{is_marked}
+use Rattle.wallet_core.specs.declared.coin_state.CoinState.{CoinState}
+use Rattle.wallet_core.specs.declared.coin_state.CoinState.TheVariants.{Nothing, Sending, Leaving, Held}
+use Rattle.node_rules.specs.declared.refusal.WalletRefusal.{WalletRefusal}
+use Rattle.node_rules.specs.WalletRecords.{who_is, wallet_kinds}
+use Rattle.node_rules.specs.Wallet.{WalletRecords, WalletEffect, answers, coin_state, accept_effect, send_effect, leave_from, leave_effect, reclaim_effect, migrate_effect}
+use Rattle.node_rules.proofs.WalletRole.{leaves_are_answered}
+use Rattle.world_rules.specs.Causes.{wallet_cause}
+use Rattle.world_rules.specs.Deeds.{on_accepted, on_sent, on_leaving, on_reclaimed, on_migrated}
+use Rattle.world_rules.proofs.WalletEnds.{AcceptEnds, accept_ends, SendEnds, send_ends, ReclaimEnds, reclaim_ends}
+use Rattle.wallet_deeds.specs.Orders.{order_deed}
+use Rattle.node_lines.specs.declared.wallet_line.WalletLine.{WalletLine}
+use Rattle.node_answers.specs.Answers.{wallet_outcome}
+use Rattle.node_roles.proofs.Refusals.{WalletAddsNothing, refused-by}
+
+-- an effect that is refused adds nothing
+abbrev Quiet : {A : Type 0} → WalletEffect (Result A WalletRefusal) → Type 0
+Quiet effect = (why : WalletRefusal) → effect.answer ≡ Err why → (effect.leaf ≡ None) × (effect.note ≡ None)
+
+only-quiet : {A : Type 0} (answer : Result A WalletRefusal) → Quiet (answers answer)
+only-quiet answer why is = (refl, refl)
+
+done-quiet : {A : Type 0} (effect : WalletEffect (Result A WalletRefusal)) (answer : A) → effect.answer ≡ Ok answer
+    → Quiet effect
+done-quiet effect answer done why is = cc
+
+-- ---- by how each ends
+
+accept-by : (dig : List ℕ → List ℕ) (wallet : WalletRecords) (log : List RootCall) (bytes : List ℕ)
+    (effect : WalletEffect (Result _ WalletRefusal)) → AcceptEnds dig wallet log bytes effect → Quiet effect
+accept-by dig wallet log bytes effect (AcceptEnds.Refused why same) =
+    subst (λ effect. Quiet effect) (sym same) (only-quiet (Err why))
+accept-by dig wallet log bytes effect (AcceptEnds.Known links handed mine known same) =
+    subst (λ effect. Quiet effect) (sym same) (only-quiet (Ok _))
+accept-by dig wallet log bytes effect (AcceptEnds.New links handed same) =
+    subst (λ effect. Quiet effect) (sym same) (done-quiet _ _ refl)
+
+send-by : (dig : List ℕ → List ℕ) (wallet : WalletRecords) (log : List RootCall) (coin : ℕ) (to : Owner)
+    (last : Option ℕ) (effect : WalletEffect (Result _ WalletRefusal)) → SendEnds dig wallet log coin to last effect
+    → Quiet effect
+send-by dig wallet log coin to last effect (SendEnds.Refused why same) =
+    subst (λ effect. Quiet effect) (sym same) (only-quiet (Err why))
+send-by dig wallet log coin to last effect (SendEnds.Sends tip held same) =
+    subst (λ effect. Quiet effect) (sym same) (done-quiet _ _ refl)
+
+reclaim-by : (effect : WalletEffect (Result _ WalletRefusal)) → ReclaimEnds effect → Quiet effect
+reclaim-by effect (ReclaimEnds.Refused why same) =
+    subst (λ effect. Quiet effect) (sym same) (only-quiet (Err why))
+reclaim-by effect (ReclaimEnds.Takes taken same) =
+    subst (λ effect. Quiet effect) (sym same) (done-quiet _ taken refl)
+
+-- the start of an exit is there for each coin that is held
+leave-quiet : (dig : List ℕ → List ℕ) (wallet : WalletRecords) (log : List RootCall) (coin : ℕ)
+    → Quiet (leave_effect dig wallet log coin)
+unfolding leave_effect
+leave-quiet dig wallet log coin why is = by (coin_state dig wallet log coin) refl
+  where
+    by : (state : CoinState) → coin_state dig wallet log coin ≡ state
+        → ((leave_from dig wallet log coin state).leaf ≡ None) × ((leave_from dig wallet log coin state).note ≡ None)
+    by Nothing state = (refl, refl)
+    by (Sending tip q) state = (refl, refl)
+    by (Leaving tip) state = (refl, refl)
+    by (Held tip) state = let found = leaves_are_answered dig wallet log coin tip (inl state) in cc (found.2, is)
+
+migrate-quiet : (wallet : WalletRecords) → Quiet (migrate_effect wallet)
+unfolding migrate_effect
+migrate-quiet wallet why is = by (is_marked wallet.leaves) refl
+  where
+    by : (marked : Bool) → is_marked wallet.leaves ≡ marked
+        → ((migrate_effect wallet).leaf ≡ None) × ((migrate_effect wallet).note ≡ None)
+    by true marked = (rw marked refl, rw marked refl)
+    by false marked = (let wrong = rw marked at is in cc)
+
+pub wallet-quiet : (dig : List ℕ → List ℕ) (log : List RootCall) (wallet : WalletRecords) (line : WalletLine)
+    → WalletAddsNothing (wallet_outcome dig log wallet line)
+unfolding wallet_outcome order_deed
+wallet-quiet dig log wallet (WalletLine.Accept bundle) cause is =
+    refused-by 0 wallet_cause (on_accepted 0 bundle) (accept_effect dig wallet log bundle).answer _ cause
+    (λ a why wrong. cc)
+    (accept-by dig wallet log bundle (accept_effect dig wallet log bundle) (accept_ends dig wallet log bundle)) is
+wallet-quiet dig log wallet (WalletLine.Send coin to last) cause is =
+    refused-by 0 wallet_cause (on_sent 0) (send_effect dig wallet log coin to last).answer _ cause
+    (λ a why wrong. cc)
+    (send-by dig wallet log coin to last (send_effect dig wallet log coin to last)
+    (send_ends dig wallet log coin to last)) is
+wallet-quiet dig log wallet (WalletLine.Again coin) cause is = (refl, refl)
+wallet-quiet dig log wallet (WalletLine.Leave coin) cause is =
+    refused-by 0 wallet_cause (on_leaving 0) (leave_effect dig wallet log coin).answer _ cause (λ a why wrong. cc)
+    (leave-quiet dig wallet log coin) is
+wallet-quiet dig log wallet (WalletLine.Reclaim bundle) cause is =
+    refused-by 0 wallet_cause (on_reclaimed 0 bundle) (reclaim_effect dig wallet log bundle).answer _ cause
+    (λ a why wrong. cc)
+    (reclaim-by (reclaim_effect dig wallet log bundle) (reclaim_ends dig wallet log bundle)) is
+wallet-quiet dig log wallet WalletLine.Migrate cause is =
+    refused-by 0 wallet_cause (on_migrated 0) (migrate_effect wallet).answer _ cause (λ a why wrong. cc)
+    (migrate-quiet wallet) is
+wallet-quiet dig log wallet WalletLine.Watch cause is = (refl, refl)
+wallet-quiet dig log wallet (WalletLine.State coin) cause is = (refl, refl)
+wallet-quiet dig log wallet WalletLine.Who cause is = (refl, refl)
+
+-- the tag is that of the first note
+pub wallet-tag : (dig : List ℕ → List ℕ) (notes : List (List ℕ)) → are_of (wallet_kinds dig) notes ≡ true
+    → (body : List ℕ) → (who_is (notes ++ body ∷ [])).tag ≡ (who_is notes).tag
+unfolding who_is
+wallet-tag dig [] role body = cc
+wallet-tag dig (first ∷ notes) role body = refl

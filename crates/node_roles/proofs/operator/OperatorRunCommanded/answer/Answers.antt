@@ -1,0 +1,34 @@
+use Rattle.operator_rules.specs.Records.{who_is}
+use Rattle.node_answers.specs.Answers.{operator_outcome}
+use Rattle.node_roles.proofs.NotesLaws.{done-at, stopped-at, stays}
+use Rattle.node_roles.proofs.OperatorRefusals.{operator-quiet, operator-tag}
+use Rattle.node_roles.proofs.operator.OperatorRunCommanded.answer.Goals as goal
+
+pub returns-clause-said : goal.returns-clause-said
+returns-clause-said g c =
+    λ at is.
+    done-at g.D.Disk.told g.D.Disk.plan g.D.Disk.faults _
+    (λ records.
+    operator_outcome (g.H.Hash32.digest_of c.args.self.now.node.hash) c.args.log.now.log records c.args.command)
+    at c.args.self.now.node.notes c.answer_operator.new.node.notes _ _ _ c.answer_operator.result (λ left there. there)
+    (λ records.
+    operator-quiet (g.H.Hash32.digest_of c.args.self.now.node.hash) c.args.log.now.log records c.args.command)
+    is c.answer_operator.ensures.did c.answer_operator.ensures.said
+
+pub returns-clause-stopped : goal.returns-clause-stopped
+returns-clause-stopped g c =
+    λ at is.
+    rw c.answer_operator.ensures.hash
+    (stopped-at g.D.Disk.told g.D.Disk.plan g.D.Disk.faults
+    (λ records.
+    operator_outcome (g.H.Hash32.digest_of c.args.self.now.node.hash) c.args.log.now.log records c.args.command)
+    at c.args.self.now.node.notes c.answer_operator.new.node.notes c.answer_operator.result is
+    c.answer_operator.ensures.did)
+
+pub returns-clause-same_tag : goal.returns-clause-same_tag
+returns-clause-same_tag g c =
+    stays g.D.Disk.told g.D.Disk.plan g.D.Disk.faults (λ records. (who_is records).tag) _ c.args.self.now.node.notes
+    c.answer_operator.new.node.notes c.answer_operator.ensures.did.0
+    (operator-tag c.args.self.now.node.notes.records
+    c.is_whole.ensures.role)
+    c.answer_operator.ensures.did.1

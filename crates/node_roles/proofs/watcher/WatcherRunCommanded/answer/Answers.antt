@@ -1,0 +1,34 @@
+use Rattle.node_rules.specs.Watcher.{who_is}
+use Rattle.node_answers.specs.Answers.{watcher_outcome}
+use Rattle.node_roles.proofs.NotesLaws.{done-at, stopped-at, stays}
+use Rattle.node_roles.proofs.WatcherRefusals.{watcher-quiet, watcher-tag}
+use Rattle.node_roles.proofs.watcher.WatcherRunCommanded.answer.Goals as goal
+
+pub returns-clause-said : goal.returns-clause-said
+returns-clause-said g c =
+    λ at is.
+    done-at g.D.Disk.told g.D.Disk.plan g.D.Disk.faults _
+    (λ records.
+    watcher_outcome (g.H.Hash32.digest_of c.args.self.now.node.hash) c.args.log.now.log records c.args.command)
+    at c.args.self.now.node.notes c.answer_watcher.new.node.notes _ _ _ c.answer_watcher.result (λ left there. there)
+    (λ records.
+    watcher-quiet (g.H.Hash32.digest_of c.args.self.now.node.hash) c.args.log.now.log records c.args.command)
+    is c.answer_watcher.ensures.did c.answer_watcher.ensures.said
+
+pub returns-clause-stopped : goal.returns-clause-stopped
+returns-clause-stopped g c =
+    λ at is.
+    rw c.answer_watcher.ensures.hash
+    (stopped-at g.D.Disk.told g.D.Disk.plan g.D.Disk.faults
+    (λ records.
+    watcher_outcome (g.H.Hash32.digest_of c.args.self.now.node.hash) c.args.log.now.log records c.args.command)
+    at c.args.self.now.node.notes c.answer_watcher.new.node.notes c.answer_watcher.result is
+    c.answer_watcher.ensures.did)
+
+pub returns-clause-same_tag : goal.returns-clause-same_tag
+returns-clause-same_tag g c =
+    stays g.D.Disk.told g.D.Disk.plan g.D.Disk.faults (λ records. (who_is records).tag) _ c.args.self.now.node.notes
+    c.answer_watcher.new.node.notes c.answer_watcher.ensures.did.0
+    (watcher-tag (g.H.Hash32.digest_of c.args.self.now.node.hash) c.args.self.now.node.notes.records
+    c.is_whole.ensures.role)
+    c.answer_watcher.ensures.did.1

@@ -1,0 +1,10 @@
+//! The nodes that a session commands: a watcher, the operator and a wallet, each over its disks.
+#![tactic(auto)]
+
+mod operator;
+mod wallet;
+mod watcher;
+
+pub use operator::OperatorRun;
+pub use wallet::WalletRun;
+pub use watcher::WatcherRun;

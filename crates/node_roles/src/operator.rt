@@ -1,0 +1,62 @@
+ghost use Rattle.std.specs.Prelude.{◌≡◌};
+
+use crash_disk::Disk;
+use node_answers::{Said, answer_operator};
+use node_journal::Stop;
+use node_lines::{LineRefusal, OperatorLine, read_operator_line};
+use node_sessions::Commanded;
+use operator_core::Operator;
+use plasma_base::Hash32;
+use plasma_tx::RootLog;
+use std::alloc::Global;
+
+/// An operator whose run is commanded.
+#[derive(Drop)]
+pub struct OperatorRun<D: Disk, H: Hash32 + Copy> {
+    pub node: Operator<D, H>,
+}
+
+impl<D: Disk, H: Hash32 + Copy> Commanded for OperatorRun<D, H> {
+    ghost use Rattle.std.specs.Prelude.{◌≡◌, false};
+    ghost use Rattle.operator_rules.specs.Records.{who_is};
+    ghost use Rattle.node_lines.specs.Grammar.{operator_line_in};
+    ghost use Rattle.node_answers.specs.Answers.{operator_outcome};
+    ghost use Rattle.node_roles.specs.Notes.{NotesAt, IsNotesAt, StoppedAt};
+    ghost use Rattle.node_roles.specs.Deeds.{operator_does};
+
+    type Command = OperatorLine;
+
+    ghost At = { NotesAt };
+
+    ghost tag = { λ run. (who_is run.node.notes.records).tag };
+
+    ghost command_in = { λ _. operator_line_in };
+
+    ghost does = { λ run. operator_does (H.digest_of run.node.hash) };
+
+    ghost is_at = { λ run. IsNotesAt D.told D.faults run.node.notes };
+
+    ghost is_stopped = { λ run log at line stop. StoppedAt D.told D.faults
+        (operator_outcome (H.digest_of run.node.hash) log at.records line).note at stop run.node.notes };
+
+    ghost is_open = { λ run. run.node.notes.closed ≡ false };
+
+    fn tag(&self) -> [u8; 32] {
+        self.node.tag()
+    }
+
+    fn read(&self, alloc: Global, line: &[u8]) -> Result<OperatorLine, LineRefusal> {
+        read_operator_line(alloc, line)
+    }
+
+    fn answer(
+        &mut self,
+        alloc: Global,
+        log: &RootLog,
+        command: OperatorLine,
+        text: &mut Vec<u8>,
+    ) -> Result<Said, Stop> {
+        self.node.is_whole();
+        answer_operator(alloc, &mut self.node, log, command, text)
+    }
+}

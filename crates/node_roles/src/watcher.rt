@@ -1,0 +1,62 @@
+ghost use Rattle.std.specs.Prelude.{◌≡◌};
+
+use crash_disk::Disk;
+use node_answers::{Said, answer_watcher};
+use node_journal::Stop;
+use node_lines::{LineRefusal, WatcherLine, read_watcher_line};
+use node_sessions::Commanded;
+use plasma_base::Hash32;
+use plasma_tx::RootLog;
+use std::alloc::Global;
+use watcher_node::WatcherNode;
+
+/// A watcher whose run is commanded.
+#[derive(Drop)]
+pub struct WatcherRun<D: Disk, H: Hash32 + Copy> {
+    pub node: WatcherNode<D, H>,
+}
+
+impl<D: Disk, H: Hash32 + Copy> Commanded for WatcherRun<D, H> {
+    ghost use Rattle.std.specs.Prelude.{◌≡◌, false};
+    ghost use Rattle.node_rules.specs.Watcher.{who_is};
+    ghost use Rattle.node_lines.specs.Grammar.{watcher_line_in};
+    ghost use Rattle.node_answers.specs.Answers.{watcher_outcome};
+    ghost use Rattle.node_roles.specs.Notes.{NotesAt, IsNotesAt, StoppedAt};
+    ghost use Rattle.node_roles.specs.Deeds.{watcher_does};
+
+    type Command = WatcherLine;
+
+    ghost At = { NotesAt };
+
+    ghost tag = { λ run. (who_is run.node.notes.records).tag };
+
+    ghost command_in = { λ _. watcher_line_in };
+
+    ghost does = { λ run. watcher_does (H.digest_of run.node.hash) };
+
+    ghost is_at = { λ run. IsNotesAt D.told D.faults run.node.notes };
+
+    ghost is_stopped = { λ run log at line stop. StoppedAt D.told D.faults
+        (watcher_outcome (H.digest_of run.node.hash) log at.records line).note at stop run.node.notes };
+
+    ghost is_open = { λ run. run.node.notes.closed ≡ false };
+
+    fn tag(&self) -> [u8; 32] {
+        self.node.tag()
+    }
+
+    fn read(&self, alloc: Global, line: &[u8]) -> Result<WatcherLine, LineRefusal> {
+        read_watcher_line(alloc, line)
+    }
+
+    fn answer(
+        &mut self,
+        alloc: Global,
+        log: &RootLog,
+        command: WatcherLine,
+        text: &mut Vec<u8>,
+    ) -> Result<Said, Stop> {
+        self.node.is_whole();
+        answer_watcher(alloc, &mut self.node, log, command, text)
+    }
+}

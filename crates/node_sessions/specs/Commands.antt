@@ -1,0 +1,64 @@
+-- What an answer of a commanded node says, where it leaves the node, and where that leaves the node's session.
+use Rattle.std.specs.Prelude.{◌≡◌, ◌⊎◌, ℕ, List, ◌++◌, Result, Ok, Err}
+use Rattle.node_journal.specs.declared.stop.Stop.{Stop as NodeStop}
+use Rattle.node_journal.specs.declared.stop.Stop.TheVariants.{NoMemory as NodeMemory, DeviceFault}
+use Rattle.node_answers.specs.declared.said.Said.{Said}
+use Rattle.node_answers.specs.declared.said.Said.TheVariants.{Answered, Refused}
+use Rattle.streamed_lines.specs.declared.ending.Halt.{Halt}
+use Rattle.streamed_lines.specs.declared.ending.Halt.TheVariants.{Stops, Failed, NoMemory}
+use Rattle.plasma_tx.specs.declared.call.RootCall.{RootCall}
+use Rattle.node_sessions.specs.Sessions.{SessionState, OrStop, calls_of}
+
+-- A command that does this was answered so behind a text: it was done, and its answer stands behind the text; or it was
+-- refused, and the node is where it was.
+abbrev pub IsDone : {N A : Type 0} → (N → A → Type 0) → Result (A × List ℕ) (List ℕ) → A → Said → List ℕ → List ℕ
+    → N → Type 0
+IsDone {A = A} IsAt outcome at Answered before after new =
+    (left : A) × (text : List ℕ) × (outcome ≡ Ok (left, text)) × IsAt new left × (after ≡ before ++ text)
+IsDone IsAt outcome at (Refused cause) before after new = (outcome ≡ Err cause) × IsAt new at × (after ≡ before)
+
+-- a refusal puts no text
+abbrev pub IsUntold : Said → List ℕ → List ℕ → Type 0
+IsUntold Answered before after = Unit {0}
+IsUntold (Refused cause) before after = after ≡ before
+
+-- why a line of a log isn't read: it ends the session, or memory ran out; no device is asked
+abbrev pub HaltsLog : {T : Type 0} → OrStop T → Halt (List ℕ) → Type 0
+HaltsLog next (Stops stop) = next ≡ Err stop
+HaltsLog next Failed = ⊥
+HaltsLog next NoMemory = Unit {0}
+
+-- why a command isn't answered
+abbrev pub HaltsCommand : {T : Type 0} → OrStop T → Halt (List ℕ) → Type 0
+HaltsCommand next (Stops stop) = next ≡ Err stop
+HaltsCommand next Failed = Unit {0}
+HaltsCommand next NoMemory = Unit {0}
+
+-- over a node that is where its commands left it, or was stopped in a command behind a log
+module _ {N A L : Type 0} (IsAt : N → A → Type 0) (IsStopped : N → List RootCall → A → L → NodeStop → Type 0) where
+  -- a command's line was answered: it leaves the node so, and its answer stands behind the text
+  pub record Leaves (next : OrStop (A × List ℕ)) (before after : List ℕ) (new : N) : Type 0 where
+    pub left : A
+    pub answer : List ℕ
+    pub is : next ≡ Ok (left, answer)
+    pub at : IsAt new left
+    pub told : after ≡ before ++ answer
+
+  -- where the node is when a line halts the session: a refusal, a bad line and want of memory in the log leave it; a
+  -- command that was stopped behind this log leaves it as its stop says
+  abbrev pub IsHaltedNode : N → List RootCall → A → Halt (List ℕ) → Type 0
+  IsHaltedNode node log at (Stops stop) = IsAt node at
+  IsHaltedNode node log at Failed = (command : L) × IsStopped node log at command DeviceFault
+  IsHaltedNode node log at NoMemory = IsAt node at ⊎ ((command : L) × IsStopped node log at command NodeMemory)
+
+  -- a session in memory is what lines came to
+  pub record IsSession (session : SessionState N) (run : SessionState A) : Type 0 where
+    pub log_is : session.log ≡ run.log
+    pub over_is : session.is_over ≡ run.is_over
+    pub node_is : IsAt session.node run.node
+
+  -- it was what lines came to, and the next one halted it so: its log stays
+  pub record IsHaltedSession (session : SessionState N) (run : SessionState A) (halt : Halt (List ℕ)) : Type 0 where
+    pub log_is : session.log ≡ run.log
+    pub over_is : session.is_over ≡ run.is_over
+    pub node_is : IsHaltedNode session.node (calls_of run.log) run.node halt
