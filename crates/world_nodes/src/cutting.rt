@@ -8,7 +8,7 @@ ghost use Rattle.world_nodes.specs.Cuts.{Cuts};
 ghost use Rattle.world_nodes.specs.Inside.{down_halves, down_kind, end_in, IsCutShort, IsCutOpening};
 
 use super::down::DownNode;
-use super::entry::{Entry, Site, closed_of, down_of, put, take};
+use super::entry::{Entry, Site, closed_of, down_of, offer_nothing, put, take};
 use super::kept::{Counts, count_records, kept_record};
 use super::order::{CutEnd, NodeOrder};
 use super::up::{counts, open_up, run_up, stop_up, take_down};
@@ -200,7 +200,7 @@ impl<H: Hash32 + Copy> Entry<H> {
         let CutOpening { down, end } = opened;
         let down = down.crash(outcome)?;
         put(&mut self.site, Site::Down(down));
-        self.offers.clear();
+        offer_nothing(&mut self.offers);
         Ok(end)
     }
 
@@ -255,7 +255,7 @@ impl<H: Hash32 + Copy> Entry<H> {
         let down = down.crash(outcome)?;
         let end = end_of(self.alloc, &down, &before, given)?;
         put(&mut self.site, Site::Down(down));
-        self.offers.clear();
+        offer_nothing(&mut self.offers);
         Ok(end)
     }
 }

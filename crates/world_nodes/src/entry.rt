@@ -80,6 +80,13 @@ pub fn put_offers(offers: &mut Vec<RootCall>, new: Vec<RootCall>)
     *offers = new;
 }
 
+// Offers nothing.
+pub fn offer_nothing(offers: &mut Vec<RootCall>)
+    ensures { offers.new.items ≡ [] }
+{
+    offers.clear();
+}
+
 // A node that is up.
 pub fn up_of<H: Hash32 + Copy>(site: Site<H>) -> Result<UpNode<H>, NoMemory>
     ensures { IfOk result (λ node. site ≡ Site.Up node) }

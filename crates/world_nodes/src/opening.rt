@@ -3,7 +3,7 @@ ghost use Rattle.world_nodes.specs.declared.order.NodeOrder.{NodeOrder};
 ghost use Rattle.world_nodes.specs.Orders.{order_deed};
 ghost use Rattle.world_nodes.specs.Nodes.{Spells, IsDone, Runs};
 
-use super::entry::{Entry, Site, closed_of, put, take};
+use super::entry::{Entry, Site, closed_of, offer_nothing, put, take};
 use super::up::{counts, open_up};
 use plasma_base::{Hash32, NoMemory};
 use world_rules::Reply;
@@ -20,7 +20,7 @@ impl<H: Hash32 + Copy> Entry<H> {
         ensures hash { self.new.hash ≡ self.old.hash }
     {
         if self.is_up() {
-            self.offers.clear();
+            offer_nothing(&mut self.offers);
             return Ok(says(self.alloc, Reply::Up));
         }
         self.bring_up()
@@ -40,7 +40,7 @@ impl<H: Hash32 + Copy> Entry<H> {
         let node = open_up(self.alloc, self.hash, down)?;
         let (notes, leaves) = counts(&node);
         put(&mut self.site, Site::Up(node));
-        self.offers.clear();
+        offer_nothing(&mut self.offers);
         Ok(says(self.alloc, Reply::Opened { notes, leaves }))
     }
 }

@@ -13,7 +13,7 @@ invariant_of-self-in_err-node g c = let e = c.self.inside in
 
 pub invariant_of-self-2 : goal.invariant_of-self-2
 invariant_of-self-2 g c = let e = c.self.inside in
-    (opening_at g.H.Hash32.digest_of e.hash e.name e.account e.member e.offers.items c.clear.new.self.items
+    (opening_at g.H.Hash32.digest_of e.hash e.name e.account e.member e.offers.items c.offer_nothing.new.offers.items
     c.args.self.now e.site c.take-site.result c.put.new.site c.in_ok-down.down c.in_ok-node.node [] g.n c.says.result
     c.self.view_is c.self.invariant c.requires.1 c.take-site.ensures.taken c.in_ok-down.ensures
     c.in_ok-node.ensures.opens
@@ -22,11 +22,11 @@ invariant_of-self-2 g c = let e = c.self.inside in
           ∙ (λ i. Reply.Opened (c.counts-notes.ensures.notes i) (c.counts-notes.ensures.leaves i));
       made = c.says.ensures.made;
       offers = c.says.ensures.offers;
-    }) c.clear.ensures.items c.put.ensures).2
+    }) c.offer_nothing.ensures c.put.ensures).2
 
 pub returns-clause-done : goal.returns-clause-done
 returns-clause-done g c = let e = c.self.inside in
-    (opening_at g.H.Hash32.digest_of e.hash e.name e.account e.member e.offers.items c.clear.new.self.items
+    (opening_at g.H.Hash32.digest_of e.hash e.name e.account e.member e.offers.items c.offer_nothing.new.offers.items
     c.args.self.now e.site c.take-site.result c.put.new.site c.in_ok-down.down c.in_ok-node.node [] g.n c.says.result
     c.self.view_is c.self.invariant c.requires.1 c.take-site.ensures.taken c.in_ok-down.ensures
     c.in_ok-node.ensures.opens
@@ -35,11 +35,11 @@ returns-clause-done g c = let e = c.self.inside in
           ∙ (λ i. Reply.Opened (c.counts-notes.ensures.notes i) (c.counts-notes.ensures.leaves i));
       made = c.says.ensures.made;
       offers = c.says.ensures.offers;
-    }) c.clear.ensures.items c.put.ensures).0
+    }) c.offer_nothing.ensures c.put.ensures).0
 
 pub returns-clause-spells : goal.returns-clause-spells
 returns-clause-spells g c = let e = c.self.inside in
-    (opening_at g.H.Hash32.digest_of e.hash e.name e.account e.member e.offers.items c.clear.new.self.items
+    (opening_at g.H.Hash32.digest_of e.hash e.name e.account e.member e.offers.items c.offer_nothing.new.offers.items
     c.args.self.now e.site c.take-site.result c.put.new.site c.in_ok-down.down c.in_ok-node.node [] g.n c.says.result
     c.self.view_is c.self.invariant c.requires.1 c.take-site.ensures.taken c.in_ok-down.ensures
     c.in_ok-node.ensures.opens
@@ -48,4 +48,4 @@ returns-clause-spells g c = let e = c.self.inside in
           ∙ (λ i. Reply.Opened (c.counts-notes.ensures.notes i) (c.counts-notes.ensures.leaves i));
       made = c.says.ensures.made;
       offers = c.says.ensures.offers;
-    }) c.clear.ensures.items c.put.ensures).1
+    }) c.offer_nothing.ensures c.put.ensures).1

@@ -11,21 +11,21 @@ invariant_of-self-in_err-down-2 g c = let e = c.self.inside in lost_at e.hash e.
 
 pub invariant_of-self-2 : goal.invariant_of-self-2
 invariant_of-self-2 g c = let e = c.self.inside in
-    (crash_at e.hash e.name e.account e.member e.offers.items c.clear.new.self.items c.args.self.now e.site
+    (crash_at e.hash e.name e.account e.member e.offers.items c.offer_nothing.new.offers.items c.args.self.now e.site
     c.take-site.result c.put.new.site c.in_ok-down.down c.in_ok-down-2.down c.args.outcome.now c.self.view_is
     c.self.invariant c.requires.spells c.take-site.ensures.taken c.in_ok-down.ensures c.in_ok-down-2.ensures
-    c.clear.ensures.items c.put.ensures).2
+    c.offer_nothing.ensures c.put.ensures).2
 
 pub returns-clause-crashes : goal.returns-clause-crashes
 returns-clause-crashes g c = let e = c.self.inside in
-    (crash_at e.hash e.name e.account e.member e.offers.items c.clear.new.self.items c.args.self.now e.site
+    (crash_at e.hash e.name e.account e.member e.offers.items c.offer_nothing.new.offers.items c.args.self.now e.site
     c.take-site.result c.put.new.site c.in_ok-down.down c.in_ok-down-2.down c.args.outcome.now c.self.view_is
     c.self.invariant c.requires.spells c.take-site.ensures.taken c.in_ok-down.ensures c.in_ok-down-2.ensures
-    c.clear.ensures.items c.put.ensures).0
+    c.offer_nothing.ensures c.put.ensures).0
 
 pub returns-clause-spells : goal.returns-clause-spells
 returns-clause-spells g c = let e = c.self.inside in
-    (crash_at e.hash e.name e.account e.member e.offers.items c.clear.new.self.items c.args.self.now e.site
+    (crash_at e.hash e.name e.account e.member e.offers.items c.offer_nothing.new.offers.items c.args.self.now e.site
     c.take-site.result c.put.new.site c.in_ok-down.down c.in_ok-down-2.down c.args.outcome.now c.self.view_is
     c.self.invariant c.requires.spells c.take-site.ensures.taken c.in_ok-down.ensures c.in_ok-down-2.ensures
-    c.clear.ensures.items c.put.ensures).1
+    c.offer_nothing.ensures c.put.ensures).1
