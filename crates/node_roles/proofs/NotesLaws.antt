@@ -15,7 +15,7 @@ use Rattle.node_answers.specs.declared.said.Said.TheVariants.{Answered, Refused}
 use Rattle.node_answers.specs.Answers.{Outcome, IsSaid}
 use Rattle.node_answers.specs.Doing.{DidNotes}
 use Rattle.node_sessions.specs.Commands.{IsDone}
-use Rattle.node_roles.specs.Notes.{NotesAt, with_note, IsNotesAt, FailsAt, StoppedAt}
+use Rattle.node_roles.specs.Notes.{NodeAt, keeping, NotesAt, with_note, IsNotesAt, FailsAt, StoppedAt}
 use Rattle.node_roles.specs.Deeds.{left_with, notes_do}
 use Rattle.node_roles.proofs.Refusals.{AddsNothingRefused}
 
@@ -27,14 +27,17 @@ module _ {D : Type 0} (told : D → Option History) (plan : D → Option FaultPl
   adds-at None at old new is adds = subst (λ notes. IsNotesAt told faults notes at) (sym adds.1) is
   adds-at (Some body) at old new is adds = record {
     is_open = adds.is_open;
-    records_are = adds.records ∙ ap (λ records. records ++ body ∷ []) is.records_are;
-    told_is =
-        adds.made.calls
-        ∙ ap
-        (λ records. option_map (after_course passed (append_steps (length (spelled records)) body)) (told old.disk))
-        is.records_are
-        ∙ ap (option_map (after_course passed (append_steps (length (spelled at.records)) body))) is.told_is;
-    faults_are = adds.count ∙ is.faults_are;
+    there = record {
+      records_are = adds.records ∙ ap (λ records. records ++ body ∷ []) is.there.records_are;
+      told_is =
+          adds.made.calls
+          ∙ ap
+          (λ records. option_map (after_course passed (append_steps (length (spelled records)) body)) (told old.disk))
+          is.there.records_are
+          ∙ ap (option_map (after_course passed (append_steps (length (spelled at.records)) body))) is.there.told_is;
+      faults_are = adds.count ∙ is.there.faults_are;
+      settled = adds.settled;
+    };
   }
 
   -- one that a device fault stopped
@@ -43,7 +46,7 @@ module _ {D : Type 0} (told : D → Option History) (plan : D → Option FaultPl
   fails-at None at old new is fails = absurd fails
   fails-at (Some body) at old new is fails = record {
     is_closed = fails.is_closed;
-    records_are = fails.records ∙ is.records_are;
+    records_are = fails.records ∙ is.there.records_are;
     passed = fails.passed;
     few = fails.made.planned.0;
     told_is =
@@ -51,13 +54,13 @@ module _ {D : Type 0} (told : D → Option History) (plan : D → Option FaultPl
         ∙ ap
         (λ records. option_map (after_course (failed_after fails.passed) (append_steps (length (spelled records)) body))
         (told old.disk))
-        is.records_are
+        is.there.records_are
         ∙ ap (option_map (after_course (failed_after fails.passed) (append_steps (length (spelled at.records)) body)))
-        is.told_is;
+        is.there.told_is;
     any_moment =
-        subst (λ records. KeepsAtAnyMoment records body at.told (told new.disk)) is.records_are
-        (subst (λ before. KeepsAtAnyMoment old.records body before (told new.disk)) is.told_is fails.any_moment);
-    faults_are = fails.count ∙ ap (λ count. faults_after count true) is.faults_are;
+        subst (λ records. KeepsAtAnyMoment records body at.told (told new.disk)) is.there.records_are
+        (subst (λ before. KeepsAtAnyMoment old.records body before (told new.disk)) is.there.told_is fails.any_moment);
+    faults_are = fails.count ∙ ap (λ count. faults_after count true) is.there.faults_are;
   }
 
   -- a command of open notes that was stopped
@@ -76,13 +79,14 @@ module _ {D : Type 0} (told : D → Option History) (plan : D → Option FaultPl
   stops added at old new (Err DeviceFault) is (stop, did, known) =
       fails-at added at old new is (subst (λ stop. Did told plan faults added old stop new) known did)
 
-  pub stopped-at : (outcome : List (List ℕ) → Outcome) (at : NotesAt) (old new : NotesState D)
-      (result : Result Said Stop) → IsNotesAt told faults old at
-      → DidNotes told plan faults (outcome old.records).note old result new
-      → IfErr result (λ stop. StoppedAt told faults (outcome at.records).note at stop new)
-  stopped-at outcome at old new result is did =
-      stops (outcome at.records).note at old new result is
-      (subst (λ records. DidNotes told plan faults (outcome records).note old result new) is.records_are did)
+  pub stopped-at : (outcome : (List ℕ → List ℕ) → List (List ℕ) → Outcome) (dig : List ℕ → List ℕ)
+      (at : NodeAt NotesAt) (old new : NotesState D) (result : Result Said Stop) → dig ≡ at.dig
+      → IsNotesAt told faults old at.kept → DidNotes told plan faults (outcome dig old.records).note old result new
+      → IfErr result (λ stop. StoppedAt told faults (outcome at.dig at.kept.records).note at.kept stop new)
+  stopped-at outcome dig at old new result same is did =
+      stops (outcome at.dig at.kept.records).note at.kept old new result is
+      (subst (λ dig. DidNotes told plan faults (outcome dig at.kept.records).note old result new) same
+      (subst (λ records. DidNotes told plan faults (outcome dig records).note old result new) is.there.records_are did))
 
   -- what the first records say stays
   pub stays : {A : Type 0} (part : List (List ℕ) → A) (added : Option (List ℕ)) (old new : NotesState D)
@@ -96,30 +100,31 @@ module _ {D : Type 0} (told : D → Option History) (plan : D → Option FaultPl
   stays part (Some body) old new (Some DeviceFault) same did = ap part did.records
 
   -- a command that was answered, of a node that is there where its notes are
-  answered : {N : Type 0} (IsAt : N → NotesAt → Type 0) (outcome : Outcome) (at : NotesAt) (old notes : NotesState D)
-      (new : N) (before after : List ℕ) (said : Said)
-      → ((left : NotesAt) → IsNotesAt told faults notes left → IsAt new left) → AddsNothingRefused outcome
-      → IsNotesAt told faults old at → Adds told plan faults outcome.note old notes
+  answered : {N : Type 0} (IsAt : N → NodeAt NotesAt → Type 0) (outcome : Outcome) (at : NodeAt NotesAt)
+      (old notes : NotesState D) (new : N) (before after : List ℕ) (said : Said)
+      → ((left : NotesAt) → IsNotesAt told faults notes left → IsAt new (keeping at left))
+      → AddsNothingRefused outcome → IsNotesAt told faults old at.kept → Adds told plan faults outcome.note old notes
       → IsSaid outcome.says said before after → IsDone IsAt (notes_do at outcome) at said before after new
   answered IsAt outcome at old notes new before after Answered there quiet is adds says = (
-    with_note at outcome.note,
+    keeping at (with_note at.kept outcome.note),
     says.0,
-    ap (left_with (with_note at outcome.note)) says.1,
-    there (with_note at outcome.note) (adds-at outcome.note at old notes is adds),
+    ap (left_with (keeping at (with_note at.kept outcome.note))) says.1,
+    there (with_note at.kept outcome.note) (adds-at outcome.note at.kept old notes is adds),
     says.2,
   )
   answered IsAt outcome at old notes new before after (Refused cause) there quiet is adds says = (
-    ap (left_with (with_note at outcome.note)) says.0,
-    there at
-        (subst (λ added. IsNotesAt told faults notes (with_note at added)) (quiet cause says.0)
-        (adds-at outcome.note at old notes is adds)),
+    ap (left_with (keeping at (with_note at.kept outcome.note))) says.0,
+    there at.kept
+        (subst (λ added. IsNotesAt told faults notes (with_note at.kept added)) (quiet cause says.0)
+        (adds-at outcome.note at.kept old notes is adds)),
     says.1,
   )
 
-  done : {N : Type 0} (IsAt : N → NotesAt → Type 0) (outcome : Outcome) (at : NotesAt) (old notes : NotesState D)
-      (new : N) (before after : List ℕ) (result : Result Said Stop)
-      → ((left : NotesAt) → IsNotesAt told faults notes left → IsAt new left) → AddsNothingRefused outcome
-      → IsNotesAt told faults old at → DidNotes told plan faults outcome.note old result notes
+  done : {N : Type 0} (IsAt : N → NodeAt NotesAt → Type 0) (outcome : Outcome) (at : NodeAt NotesAt)
+      (old notes : NotesState D) (new : N) (before after : List ℕ) (result : Result Said Stop)
+      → ((left : NotesAt) → IsNotesAt told faults notes left → IsAt new (keeping at left))
+      → AddsNothingRefused outcome → IsNotesAt told faults old at.kept
+      → DidNotes told plan faults outcome.note old result notes
       → IfOk result (λ said. IsSaid outcome.says said before after)
       → IfOk result (λ said. IsDone IsAt (notes_do at outcome) at said before after new)
   done IsAt outcome at old notes new before after (Err stop) there quiet is did says = tt
@@ -127,14 +132,21 @@ module _ {D : Type 0} (told : D → Option History) (plan : D → Option FaultPl
       answered IsAt outcome at old notes new before after said there quiet is
       (subst (λ stop. Did told plan faults outcome.note old stop notes) known did) says
 
-  pub done-at : {N : Type 0} (IsAt : N → NotesAt → Type 0) (outcome : List (List ℕ) → Outcome) (at : NotesAt)
-      (old notes : NotesState D) (new : N) (before after : List ℕ) (result : Result Said Stop)
-      → ((left : NotesAt) → IsNotesAt told faults notes left → IsAt new left)
-      → ((records : List (List ℕ)) → AddsNothingRefused (outcome records)) → IsNotesAt told faults old at
-      → DidNotes told plan faults (outcome old.records).note old result notes
-      → IfOk result (λ said. IsSaid (outcome old.records).says said before after)
-      → IfOk result (λ said. IsDone IsAt (notes_do at (outcome at.records)) at said before after new)
-  done-at IsAt outcome at old notes new before after result there quiet is did says =
-      done IsAt (outcome at.records) at old notes new before after result there (quiet at.records) is
-      (subst (λ records. DidNotes told plan faults (outcome records).note old result notes) is.records_are did)
-      (subst (λ records. IfOk result (λ said. IsSaid (outcome records).says said before after)) is.records_are says)
+  pub done-at : {N : Type 0} (IsAt : N → NodeAt NotesAt → Type 0)
+      (outcome : (List ℕ → List ℕ) → List (List ℕ) → Outcome) (dig : List ℕ → List ℕ) (at : NodeAt NotesAt)
+      (old notes : NotesState D) (new : N) (before after : List ℕ) (result : Result Said Stop) → dig ≡ at.dig
+      → ((left : NotesAt) → IsNotesAt told faults notes left → IsAt new (keeping at left))
+      → ((dig : List ℕ → List ℕ) (records : List (List ℕ)) → AddsNothingRefused (outcome dig records))
+      → IsNotesAt told faults old at.kept
+      → DidNotes told plan faults (outcome dig old.records).note old result notes
+      → IfOk result (λ said. IsSaid (outcome dig old.records).says said before after)
+      → IfOk result (λ said. IsDone IsAt (notes_do at (outcome at.dig at.kept.records)) at said before after new)
+  done-at IsAt outcome dig at old notes new before after result same there quiet is did says =
+      done IsAt (outcome at.dig at.kept.records) at old notes new before after result there
+      (quiet at.dig at.kept.records) is
+      (subst (λ dig. DidNotes told plan faults (outcome dig at.kept.records).note old result notes) same
+      (subst (λ records. DidNotes told plan faults (outcome dig records).note old result notes) is.there.records_are
+      did))
+      (subst (λ dig. IfOk result (λ said. IsSaid (outcome dig at.kept.records).says said before after)) same
+      (subst (λ records. IfOk result (λ said. IsSaid (outcome dig records).says said before after))
+      is.there.records_are says))

@@ -3,6 +3,8 @@ use Rattle.std.proofs.Common.{◌≡◌, ℕ, true, false, List, ◌++◌, ◌�
 use Rattle.std.specs.Prelude.{IfOk, IfErr}
 use Rattle.std.proofs.lemmas.Bool.{true≢false}
 use Rattle.crash_disk.specs.Disk.{History, FaultPlan}
+use Rattle.crash_disk.specs.Calls.{WhereTold}
+use Rattle.gate_journal.specs.Journal.{IsSettled}
 use Rattle.node_journal.specs.Notes.{NotesState}
 use Rattle.node_journal.specs.declared.stop.Stop.{Stop}
 use Rattle.node_journal.specs.declared.stop.Stop.TheVariants.{Closed, NoMemory, DeviceFault}
@@ -15,7 +17,7 @@ use Rattle.node_answers.specs.declared.said.Said.TheVariants.{Answered, Refused}
 use Rattle.node_answers.specs.Answers.{Outcome, IsSaid}
 use Rattle.node_answers.specs.Doing.{DidWallet}
 use Rattle.node_sessions.specs.Commands.{IsDone}
-use Rattle.node_roles.specs.Notes.{NotesAt, IsNotesAt, StaysAt}
+use Rattle.node_roles.specs.Notes.{NodeAt, keeping, NotesAt, IsNotesAt, StaysAt}
 use Rattle.node_roles.specs.Deeds.{left_with}
 use Rattle.node_roles.specs.Wallets.{WalletAt, records_of, with_either, wallet_do, IsWalletAt, EitherFailsAt, WalletStoppedAt}
 use Rattle.node_roles.proofs.Refusals.{WalletAddsNothing}
@@ -30,19 +32,17 @@ module _ {D : Type 0} (told : D → Option History) (plan : D → Option FaultPl
   beside : (at : NotesAt) (old new : NotesState D) → new.disk ≡ old.disk → new.records ≡ old.records
       → IsNotesAt told faults old at → StaysAt told faults new at
   beside at old new disk records is = record {
-    records_are = records ∙ is.records_are;
-    told_is = ap told disk ∙ is.told_is;
-    faults_are = ap faults disk ∙ is.faults_are;
+    records_are = records ∙ is.there.records_are;
+    told_is = ap told disk ∙ is.there.told_is;
+    faults_are = ap faults disk ∙ is.there.faults_are;
+    settled =
+        subst (λ disk. WhereTold (told disk) (λ now. IsSettled now new.records)) (sym disk)
+        (subst (λ records. WhereTold (told old.disk) (λ now. IsSettled now records)) (sym records) is.there.settled);
   }
 
   open-at : (at : NotesAt) (notes : NotesState D) → notes.closed ≡ false → StaysAt told faults notes at
       → IsNotesAt told faults notes at
-  open-at at notes is_open there = record {
-    is_open = is_open;
-    records_are = there.records_are;
-    told_is = there.told_is;
-    faults_are = there.faults_are;
-  }
+  open-at at notes is_open there = record { is_open = is_open; there = there }
 
 -- and a digest
 module _ {D H : Type 0} (told : D → Option History) (plan : D → Option FaultPlan) (faults : D → ℕ) where
@@ -150,56 +150,63 @@ module _ {D H : Type 0} (told : D → Option History) (plan : D → Option Fault
   records-at : (wallet : WalletState D H) (at : WalletAt) → IsWalletAt told faults wallet at
       → wallet.records ≡ records_of at
   records-at wallet at is =
-      ap (λ notes. both notes wallet.records.leaves) is.notes_are.records_are
-      ∙ ap (both at.notes.records) is.leaves_are.records_are
+      ap (λ notes. both notes wallet.records.leaves) is.notes_are.there.records_are
+      ∙ ap (both at.notes.records) is.leaves_are.there.records_are
 
-  pub wallet-stopped-at : (outcome : H → WalletRecords → Outcome) (at : WalletAt) (old new : WalletState D H)
-      (result : Result Said Stop) → IsWalletAt told faults old at
-      → DidWallet told plan faults (outcome old.hash old.records).leaf (outcome old.hash old.records).note old result
-      new
-      → IfErr result
-      (λ stop. WalletStoppedAt told faults (outcome new.hash (records_of at)).leaf
-      (outcome new.hash (records_of at)).note at stop new)
-  wallet-stopped-at outcome at old new result is did =
-      let same =
-      either-hash (outcome old.hash old.records).leaf (outcome old.hash old.records).note old new did.0 did.1 in
+  -- what a command did, by what it comes to there
+  did-there : (outcome : (List ℕ → List ℕ) → WalletRecords → Outcome) (dig : List ℕ → List ℕ) (at : NodeAt WalletAt)
+      (old new : WalletState D H) (result : Result Said Stop) → dig ≡ at.dig → IsWalletAt told faults old at.kept
+      → DidWallet told plan faults (outcome dig old.records).leaf (outcome dig old.records).note old result new
+      → DidWallet told plan faults (outcome at.dig (records_of at.kept)).leaf
+      (outcome at.dig (records_of at.kept)).note old result new
+  did-there outcome dig at old new result same is did =
       subst
-      (λ hash. IfErr result
-      (λ stop. WalletStoppedAt told faults (outcome hash (records_of at)).leaf (outcome hash (records_of at)).note at
-      stop new))
-      (sym same)
-      (stops (outcome old.hash (records_of at)).leaf (outcome old.hash (records_of at)).note at old new result is
-      (subst
-      (λ records. DidWallet told plan faults (outcome old.hash records).leaf (outcome old.hash records).note old result
-      new)
-      (records-at old at is) did))
+      (λ dig. DidWallet told plan faults (outcome dig (records_of at.kept)).leaf
+      (outcome dig (records_of at.kept)).note old result new)
+      same
+      (subst (λ records. DidWallet told plan faults (outcome dig records).leaf (outcome dig records).note old result new)
+      (records-at old at.kept is) did)
+
+  pub wallet-stopped-at : (outcome : (List ℕ → List ℕ) → WalletRecords → Outcome) (dig : List ℕ → List ℕ)
+      (at : NodeAt WalletAt) (old new : WalletState D H) (result : Result Said Stop) → dig ≡ at.dig
+      → IsWalletAt told faults old at.kept
+      → DidWallet told plan faults (outcome dig old.records).leaf (outcome dig old.records).note old result new
+      → IfErr result
+      (λ stop. WalletStoppedAt told faults (outcome at.dig (records_of at.kept)).leaf
+      (outcome at.dig (records_of at.kept)).note at.kept stop new)
+  wallet-stopped-at outcome dig at old new result same is did =
+      stops (outcome at.dig (records_of at.kept)).leaf (outcome at.dig (records_of at.kept)).note at.kept old new result
+      is (did-there outcome dig at old new result same is did)
 
   -- a command that was answered, of a node that is there where its wallet is
-  answered : {N : Type 0} (IsAt : N → WalletAt → Type 0) (outcome : Outcome) (at : WalletAt)
+  answered : {N : Type 0} (IsAt : N → NodeAt WalletAt → Type 0) (outcome : Outcome) (at : NodeAt WalletAt)
       (old wallet : WalletState D H) (new : N) (before after : List ℕ) (said : Said)
-      → ((left : WalletAt) → IsWalletAt told faults wallet left → IsAt new left) → WalletAddsNothing outcome
-      → IsWalletAt told faults old at → DidEither told plan faults outcome.leaf outcome.note old None wallet
+      → ((left : WalletAt) → IsWalletAt told faults wallet left → IsAt new (keeping at left))
+      → WalletAddsNothing outcome
+      → IsWalletAt told faults old at.kept → DidEither told plan faults outcome.leaf outcome.note old None wallet
       → IsSaid outcome.says said before after → IsDone IsAt (wallet_do at outcome) at said before after new
   answered IsAt outcome at old wallet new before after Answered there quiet is did says = (
-    with_either at outcome.leaf outcome.note,
+    keeping at (with_either at.kept outcome.leaf outcome.note),
     says.0,
-    ap (left_with (with_either at outcome.leaf outcome.note)) says.1,
-    there (with_either at outcome.leaf outcome.note) (either-adds outcome.leaf outcome.note at old wallet is did),
+    ap (left_with (keeping at (with_either at.kept outcome.leaf outcome.note))) says.1,
+    there (with_either at.kept outcome.leaf outcome.note)
+        (either-adds outcome.leaf outcome.note at.kept old wallet is did),
     says.2,
   )
   answered IsAt outcome at old wallet new before after (Refused cause) there quiet is did says = (
-    ap (left_with (with_either at outcome.leaf outcome.note)) says.0,
-    there at
-        (subst (λ added. IsWalletAt told faults wallet (with_either at None added)) (quiet cause says.0).1
-        (subst (λ leaf. IsWalletAt told faults wallet (with_either at leaf outcome.note)) (quiet cause says.0).0
-        (either-adds outcome.leaf outcome.note at old wallet is did))),
+    ap (left_with (keeping at (with_either at.kept outcome.leaf outcome.note))) says.0,
+    there at.kept
+        (subst (λ added. IsWalletAt told faults wallet (with_either at.kept None added)) (quiet cause says.0).1
+        (subst (λ leaf. IsWalletAt told faults wallet (with_either at.kept leaf outcome.note)) (quiet cause says.0).0
+        (either-adds outcome.leaf outcome.note at.kept old wallet is did))),
     says.1,
   )
 
-  done : {N : Type 0} (IsAt : N → WalletAt → Type 0) (outcome : Outcome) (at : WalletAt)
+  done : {N : Type 0} (IsAt : N → NodeAt WalletAt → Type 0) (outcome : Outcome) (at : NodeAt WalletAt)
       (old wallet : WalletState D H) (new : N) (before after : List ℕ) (result : Result Said Stop)
-      → ((left : WalletAt) → IsWalletAt told faults wallet left → IsAt new left) → WalletAddsNothing outcome
-      → IsWalletAt told faults old at → DidWallet told plan faults outcome.leaf outcome.note old result wallet
+      → ((left : WalletAt) → IsWalletAt told faults wallet left → IsAt new (keeping at left))
+      → WalletAddsNothing outcome
+      → IsWalletAt told faults old at.kept → DidWallet told plan faults outcome.leaf outcome.note old result wallet
       → IfOk result (λ said. IsSaid outcome.says said before after)
       → IfOk result (λ said. IsDone IsAt (wallet_do at outcome) at said before after new)
   done IsAt outcome at old wallet new before after (Err stop) there quiet is did says = tt
@@ -207,16 +214,18 @@ module _ {D H : Type 0} (told : D → Option History) (plan : D → Option Fault
       answered IsAt outcome at old wallet new before after said there quiet is
       (subst (λ stop. DidEither told plan faults outcome.leaf outcome.note old stop wallet) known did) says
 
-  pub wallet-done-at : {N : Type 0} (IsAt : N → WalletAt → Type 0) (outcome : WalletRecords → Outcome) (at : WalletAt)
-      (old wallet : WalletState D H) (new : N) (before after : List ℕ) (result : Result Said Stop)
-      → ((left : WalletAt) → IsWalletAt told faults wallet left → IsAt new left)
-      → ((records : WalletRecords) → WalletAddsNothing (outcome records)) → IsWalletAt told faults old at
-      → DidWallet told plan faults (outcome old.records).leaf (outcome old.records).note old result wallet
-      → IfOk result (λ said. IsSaid (outcome old.records).says said before after)
-      → IfOk result (λ said. IsDone IsAt (wallet_do at (outcome (records_of at))) at said before after new)
-  wallet-done-at IsAt outcome at old wallet new before after result there quiet is did says =
-      done IsAt (outcome (records_of at)) at old wallet new before after result there (quiet (records_of at)) is
-      (subst (λ records. DidWallet told plan faults (outcome records).leaf (outcome records).note old result wallet)
-      (records-at old at is) did)
-      (subst (λ records. IfOk result (λ said. IsSaid (outcome records).says said before after)) (records-at old at is)
-      says)
+  pub wallet-done-at : {N : Type 0} (IsAt : N → NodeAt WalletAt → Type 0)
+      (outcome : (List ℕ → List ℕ) → WalletRecords → Outcome) (dig : List ℕ → List ℕ) (at : NodeAt WalletAt)
+      (old wallet : WalletState D H) (new : N) (before after : List ℕ) (result : Result Said Stop) → dig ≡ at.dig
+      → ((left : WalletAt) → IsWalletAt told faults wallet left → IsAt new (keeping at left))
+      → ((dig : List ℕ → List ℕ) (records : WalletRecords) → WalletAddsNothing (outcome dig records))
+      → IsWalletAt told faults old at.kept
+      → DidWallet told plan faults (outcome dig old.records).leaf (outcome dig old.records).note old result wallet
+      → IfOk result (λ said. IsSaid (outcome dig old.records).says said before after)
+      → IfOk result (λ said. IsDone IsAt (wallet_do at (outcome at.dig (records_of at.kept))) at said before after new)
+  wallet-done-at IsAt outcome dig at old wallet new before after result same there quiet is did says =
+      done IsAt (outcome at.dig (records_of at.kept)) at old wallet new before after result there
+      (quiet at.dig (records_of at.kept)) is (did-there outcome dig at old wallet result same is did)
+      (subst (λ dig. IfOk result (λ said. IsSaid (outcome dig (records_of at.kept)).says said before after)) same
+      (subst (λ records. IfOk result (λ said. IsSaid (outcome dig records).says said before after))
+      (records-at old at.kept is) says))

@@ -2,12 +2,22 @@
 use Rattle.std.specs.Prelude.{◌≡◌, ◌⊎◌, ℕ, ◌<◌, true, false, List, [], ◌∷◌, ◌++◌, length, Option, Some, None, option_map}
 use Rattle.plasma_base.specs.Causes.{faults_after}
 use Rattle.crash_disk.specs.Disk.{History}
-use Rattle.crash_disk.specs.Calls.{Course, passed, failed_after, after_course}
+use Rattle.crash_disk.specs.Calls.{Course, passed, failed_after, after_course, WhereTold}
 use Rattle.gate_journal.specs.Image.{spelled}
+use Rattle.gate_journal.specs.Journal.{IsSettled}
 use Rattle.gate_journal.specs.Steps.{append_steps}
 use Rattle.node_journal.specs.Notes.{NotesState, KeepsAtAnyMoment}
 use Rattle.node_journal.specs.declared.stop.Stop.{Stop}
 use Rattle.node_journal.specs.declared.stop.Stop.TheVariants.{Closed, NoMemory, DeviceFault}
+
+-- Where a node is that commands came to: what it keeps, and the digest by which it judges openings, which stays.
+pub record NodeAt (K : Type 0) : Type 0 where
+  pub kept : K
+  pub dig : List ℕ → List ℕ
+
+-- it keeps this instead
+abbrev pub keeping : {K : Type 0} → NodeAt K → K → NodeAt K
+keeping at kept = record { kept = kept; dig = at.dig }
 
 -- the records of notes, what their disk tells, and its count of faults
 pub record NotesAt : Type 0 where
@@ -27,18 +37,17 @@ with_note at (Some body) =
 
 -- over a disk that tells its history and counts its faults
 module _ {D : Type 0} (told : D → Option History) (faults : D → ℕ) where
-  -- open notes are there
-  pub record IsNotesAt (notes : NotesState D) (at : NotesAt) : Type 0 where
-    pub is_open : notes.closed ≡ false
-    pub records_are : notes.records ≡ at.records
-    pub told_is : told notes.disk ≡ at.told
-    pub faults_are : faults notes.disk ≡ at.faults
-
-  -- notes that were there and weren't asked, whether they are open or not
+  -- notes that were there and weren't asked, whether they are open or not: each image of a crash now keeps the records
   pub record StaysAt (notes : NotesState D) (at : NotesAt) : Type 0 where
     pub records_are : notes.records ≡ at.records
     pub told_is : told notes.disk ≡ at.told
     pub faults_are : faults notes.disk ≡ at.faults
+    pub settled : WhereTold (told notes.disk) (λ now. IsSettled now notes.records)
+
+  -- open notes are there
+  pub record IsNotesAt (notes : NotesState D) (at : NotesAt) : Type 0 where
+    pub is_open : notes.closed ≡ false
+    pub there : StaysAt notes at
 
   -- Notes that were there met a device fault in one of the four calls of the append of this record, which closed them.
   -- The records in memory stay, and each image of a crash at a moment of it keeps them, or them and the new one.

@@ -8,7 +8,7 @@ use Rattle.node_rules.specs.Wallet.{WalletRecords}
 use Rattle.wallet_node.specs.State.{WalletState, notes_part, leaves_part}
 use Rattle.node_lines.specs.declared.wallet_line.WalletLine.{WalletLine}
 use Rattle.node_answers.specs.Answers.{Outcome, wallet_outcome}
-use Rattle.node_roles.specs.Notes.{NotesAt, with_note, IsNotesAt, StaysAt, FailedAt, FailsAt}
+use Rattle.node_roles.specs.Notes.{NodeAt, keeping, NotesAt, with_note, IsNotesAt, StaysAt, FailedAt, FailsAt}
 use Rattle.node_roles.specs.Deeds.{left_with}
 
 -- its notes and its leaves, each with their disk
@@ -25,12 +25,12 @@ with_either at None added = record at { notes = with_note at.notes added }
 with_either at (Some leaf) added = record at { leaves = with_note at.leaves (Some leaf) }
 
 -- a wallet with what a command of this outcome adds
-abbrev pub wallet_do : WalletAt → Outcome → Result (WalletAt × List ℕ) (List ℕ)
-wallet_do at outcome = left_with (with_either at outcome.leaf outcome.note) outcome.says
+abbrev pub wallet_do : NodeAt WalletAt → Outcome → Result (NodeAt WalletAt × List ℕ) (List ℕ)
+wallet_do at outcome = left_with (keeping at (with_either at.kept outcome.leaf outcome.note)) outcome.says
 
 -- its command, behind a log
-abbrev pub wallet_does : (List ℕ → List ℕ) → List RootCall → WalletAt → WalletLine → Result (WalletAt × List ℕ) (List ℕ)
-wallet_does dig log at line = wallet_do at (wallet_outcome dig log (records_of at) line)
+abbrev pub wallet_does : List RootCall → NodeAt WalletAt → WalletLine → Result (NodeAt WalletAt × List ℕ) (List ℕ)
+wallet_does log at line = wallet_do at (wallet_outcome at.dig log (records_of at.kept) line)
 
 -- over disks that tell their history and count their faults
 module _ {D H : Type 0} (told : D → Option History) (faults : D → ℕ) where

@@ -21,23 +21,24 @@ impl<D: Disk, H: Hash32 + Copy> Commanded for OperatorRun<D, H> {
     ghost use Rattle.operator_rules.specs.Records.{who_is};
     ghost use Rattle.node_lines.specs.Grammar.{operator_line_in};
     ghost use Rattle.node_answers.specs.Answers.{operator_outcome};
-    ghost use Rattle.node_roles.specs.Notes.{NotesAt, IsNotesAt, StoppedAt};
+    ghost use Rattle.node_roles.specs.Notes.{NodeAt, NotesAt, IsNotesAt, StoppedAt};
     ghost use Rattle.node_roles.specs.Deeds.{operator_does};
 
     type Command = OperatorLine;
 
-    ghost At = { NotesAt };
+    ghost At = { NodeAt NotesAt };
 
     ghost tag = { λ run. (who_is run.node.notes.records).tag };
 
     ghost command_in = { λ _. operator_line_in };
 
-    ghost does = { λ run. operator_does (H.digest_of run.node.hash) };
+    ghost does = { λ _. operator_does };
 
-    ghost is_at = { λ run. IsNotesAt D.told D.faults run.node.notes };
+    ghost is_at = { λ run at. (H.digest_of run.node.hash ≡ at.dig)
+        × IsNotesAt D.told D.faults run.node.notes at.kept };
 
     ghost is_stopped = { λ run log at line stop. StoppedAt D.told D.faults
-        (operator_outcome (H.digest_of run.node.hash) log at.records line).note at stop run.node.notes };
+        (operator_outcome at.dig log at.kept.records line).note at.kept stop run.node.notes };
 
     ghost is_open = { λ run. run.node.notes.closed ≡ false };
 

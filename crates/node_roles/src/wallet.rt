@@ -21,23 +21,25 @@ impl<D: Disk, H: Hash32 + Copy> Commanded for WalletRun<D, H> {
     ghost use Rattle.node_rules.specs.Wallet.{who};
     ghost use Rattle.node_lines.specs.Grammar.{wallet_line_in};
     ghost use Rattle.node_answers.specs.Answers.{wallet_outcome};
+    ghost use Rattle.node_roles.specs.Notes.{NodeAt};
     ghost use Rattle.node_roles.specs.Wallets.{WalletAt, records_of, wallet_does, IsWalletAt, WalletStoppedAt};
 
     type Command = WalletLine;
 
-    ghost At = { WalletAt };
+    ghost At = { NodeAt WalletAt };
 
     ghost tag = { λ run. (who run.node.records).tag };
 
     ghost command_in = { λ _. wallet_line_in };
 
-    ghost does = { λ run. wallet_does (H.digest_of run.node.hash) };
+    ghost does = { λ _. wallet_does };
 
-    ghost is_at = { λ run. IsWalletAt D.told D.faults run.node };
+    ghost is_at = { λ run at. (H.digest_of run.node.hash ≡ at.dig)
+        × IsWalletAt D.told D.faults run.node at.kept };
 
     ghost is_stopped = { λ run log at line stop. WalletStoppedAt D.told D.faults
-        (wallet_outcome (H.digest_of run.node.hash) log (records_of at) line).leaf
-        (wallet_outcome (H.digest_of run.node.hash) log (records_of at) line).note at stop run.node };
+        (wallet_outcome at.dig log (records_of at.kept) line).leaf
+        (wallet_outcome at.dig log (records_of at.kept) line).note at.kept stop run.node };
 
     ghost is_open = { λ run. run.node.closed ≡ false };
 

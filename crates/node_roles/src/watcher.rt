@@ -21,23 +21,24 @@ impl<D: Disk, H: Hash32 + Copy> Commanded for WatcherRun<D, H> {
     ghost use Rattle.node_rules.specs.Watcher.{who_is};
     ghost use Rattle.node_lines.specs.Grammar.{watcher_line_in};
     ghost use Rattle.node_answers.specs.Answers.{watcher_outcome};
-    ghost use Rattle.node_roles.specs.Notes.{NotesAt, IsNotesAt, StoppedAt};
+    ghost use Rattle.node_roles.specs.Notes.{NodeAt, NotesAt, IsNotesAt, StoppedAt};
     ghost use Rattle.node_roles.specs.Deeds.{watcher_does};
 
     type Command = WatcherLine;
 
-    ghost At = { NotesAt };
+    ghost At = { NodeAt NotesAt };
 
     ghost tag = { λ run. (who_is run.node.notes.records).tag };
 
     ghost command_in = { λ _. watcher_line_in };
 
-    ghost does = { λ run. watcher_does (H.digest_of run.node.hash) };
+    ghost does = { λ _. watcher_does };
 
-    ghost is_at = { λ run. IsNotesAt D.told D.faults run.node.notes };
+    ghost is_at = { λ run at. (H.digest_of run.node.hash ≡ at.dig)
+        × IsNotesAt D.told D.faults run.node.notes at.kept };
 
     ghost is_stopped = { λ run log at line stop. StoppedAt D.told D.faults
-        (watcher_outcome (H.digest_of run.node.hash) log at.records line).note at stop run.node.notes };
+        (watcher_outcome at.dig log at.kept.records line).note at.kept stop run.node.notes };
 
     ghost is_open = { λ run. run.node.notes.closed ≡ false };
 

@@ -1,7 +1,8 @@
-//! The program: it runs `replay_run::run` on the words of the command line, standard input and
-//! standard output, and ends with the run's status.
+//! The program: it runs `replay_run::run` on the words of the command line, standard input, standard output and the files
+//! `notes.journal` and `leaves.journal` of the current folder, and ends with the run's status.
 #![tactic(auto)]
 
+use crash_disk::FileDisk;
 use plasma_outside::{StdSink, StdSource};
 use replay_run::{Status, run};
 use std::alloc::AllocError;
@@ -9,11 +10,20 @@ use std::env;
 use std::io::{ErrorKind, writer};
 use std::process::ExitCode;
 
+/// The file of a node's notes, and that of a wallet's leaves.
+const NOTES: &str = "notes.journal";
+
+const LEAVES: &str = "leaves.journal";
+
 fn main(rt: HostRuntime) -> ExitCode {
     let mut source = StdSource::make(rt.reader());
     let mut sink = StdSink::make(writer(&rt));
     let status = match words(&rt) {
-        Ok(words) => run(rt.alloc(), &words, &mut source, &mut sink),
+        Ok(words) => {
+            let notes = FileDisk::make(&rt, NOTES);
+            let leaves = FileDisk::make(&rt, LEAVES);
+            run(rt.alloc(), &words, &mut source, &mut sink, notes, leaves).status
+        }
         Err(AllocError) => Status::NoMemory,
     };
     ExitCode::from(status.code())

@@ -1,6 +1,6 @@
-use super::runs::{DEPOSIT_AND_EXIT, DEPOSIT_AND_EXIT_ANSWERS, words};
+use super::runs::{DEPOSIT_AND_EXIT, DEPOSIT_AND_EXIT_ANSWERS, run_words, words};
 use plasma_outside::{MemSink, MemSource, Source};
-use replay_run::{Status, run};
+use replay_run::Status;
 use std::alloc::Global;
 use std::test::Fail;
 
@@ -15,7 +15,7 @@ fn run_with_faults(
     let bytes = DEPOSIT_AND_EXIT.as_bytes().to_vec(alloc)?;
     let mut source = MemSource::make(bytes, pieces, source_fails.to_vec(alloc)?);
     let mut sink = MemSink::make(alloc, sink_fails.to_vec(alloc)?);
-    let status = run(alloc, &words, &mut source, &mut sink);
+    let status = run_words(alloc, &words, &mut source, &mut sink);
     Ok((status, sink))
 }
 
@@ -69,7 +69,7 @@ fn lines_after_a_fault_are_not_read(rt: HostRuntime) -> Result<(), Fail> {
         pieces.truncate(lines);
         let mut source = MemSource::make(bytes, pieces, vec![in alloc; fails]?);
         let mut sink = MemSink::make(alloc, Vec::new(alloc));
-        let status = run(alloc, &words, &mut source, &mut sink);
+        let status = run_words(alloc, &words, &mut source, &mut sink);
         assert_eq!(rt; status, Status::ReadFault, "{fails}");
         assert_eq!(rt; sink.bytes(), text.as_bytes(), "{fails}");
         let mut room = [0; 64];
@@ -87,7 +87,7 @@ fn an_unfinished_line_is_dropped_at_a_fault(rt: HostRuntime) -> Result<(), Fail>
     let mut source = MemSource::make(bytes, vec![in alloc; 14, 12, 7]?, vec![in alloc; 4]?);
     let mut sink = MemSink::make(alloc, Vec::new(alloc));
     assert_eq!(rt;
-        run(alloc, &words, &mut source, &mut sink),
+        run_words(alloc, &words, &mut source, &mut sink),
         Status::ReadFault
     );
     assert_eq!(rt; sink.bytes(), b"1 chain\n2 funded\nread fault\n".as_slice());

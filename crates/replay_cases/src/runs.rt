@@ -1,6 +1,7 @@
+use crash_disk::MemDisk;
 use plasma_base::Hash32;
 use plasma_outside::{MemSink, MemSource};
-use replay_run::{Status, run, run_with};
+use replay_run::{Ended, Status, run, run_with};
 use std::alloc::Global;
 use std::test::Fail;
 
@@ -39,6 +40,23 @@ pub fn words(alloc: Global, texts: &[&str]) -> Result<Vec<String>, Fail> {
     Ok(words)
 }
 
+/// An empty disk.
+pub fn no_disk(alloc: Global) -> MemDisk {
+    MemDisk::make(alloc, Vec::new(alloc), Vec::new(alloc))
+}
+
+/// Runs the program with these words, over empty disks: its status.
+pub fn run_words(
+    alloc: Global,
+    words: &[String],
+    source: &mut MemSource,
+    sink: &mut MemSink,
+) -> Status {
+    let (notes, leaves) = (no_disk(alloc), no_disk(alloc));
+    let Ended { status, .. } = run(alloc, words, source, sink, notes, leaves);
+    status
+}
+
 /// Replays what a source gives, under a digest: the status, and the sink after the run.
 pub fn replay_from<H: Hash32>(
     h: &H,
@@ -48,7 +66,16 @@ pub fn replay_from<H: Hash32>(
     let words = words(alloc, &["replay"])?;
     let mut source = source;
     let mut sink = MemSink::make(alloc, Vec::new(alloc));
-    let status = run_with(h, alloc, &words, &mut source, &mut sink);
+    let (notes, leaves) = (no_disk(alloc), no_disk(alloc));
+    let Ended { status, .. } = run_with(
+        h,
+        alloc,
+        &words,
+        &mut source,
+        &mut sink,
+        notes,
+        leaves,
+    );
     Ok((status, sink))
 }
 
@@ -57,7 +84,7 @@ pub fn run_output(alloc: Global, texts: &[&str], input: &[u8]) -> Result<(Status
     let words = words(alloc, texts)?;
     let mut source = MemSource::make(input.to_vec(alloc)?, Vec::new(alloc), Vec::new(alloc));
     let mut sink = MemSink::make(alloc, Vec::new(alloc));
-    let status = run(alloc, &words, &mut source, &mut sink);
+    let status = run_words(alloc, &words, &mut source, &mut sink);
     Ok((status, sink))
 }
 

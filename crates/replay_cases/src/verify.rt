@@ -1,7 +1,7 @@
-use super::runs::words;
+use super::runs::{run_words, words};
 use plasma_base::{put_hex, take_hex};
 use plasma_outside::{MemSink, MemSource};
-use replay_run::{Status, run};
+use replay_run::Status;
 use std::alloc::Global;
 use std::test::Fail;
 
@@ -54,7 +54,7 @@ fn verify_output(
     }
     let mut source = MemSource::make(Vec::new(alloc), Vec::new(alloc), vec![in alloc; 1]?);
     let mut sink = MemSink::make(alloc, Vec::new(alloc));
-    let status = run(alloc, &words, &mut source, &mut sink);
+    let status = run_words(alloc, &words, &mut source, &mut sink);
     Ok((status, sink))
 }
 

@@ -1,7 +1,7 @@
-use super::runs::{DEPOSIT_AND_EXIT, DEPOSIT_AND_EXIT_ANSWERS, replay_output, words};
+use super::runs::{DEPOSIT_AND_EXIT, DEPOSIT_AND_EXIT_ANSWERS, replay_output, run_words, words};
 use super::stories::played;
 use plasma_outside::{MemSink, MemSource};
-use replay_run::{Status, run};
+use replay_run::Status;
 use std::test::Fail;
 
 /// The exit is finished a second too early.
@@ -63,7 +63,7 @@ fn other_words_are_usage(rt: HostRuntime) -> Result<(), Fail> {
             Vec::new(alloc),
         );
         let mut sink = MemSink::make(alloc, Vec::new(alloc));
-        assert_eq!(rt; run(alloc, &words, &mut source, &mut sink), Status::Usage);
+        assert_eq!(rt; run_words(alloc, &words, &mut source, &mut sink), Status::Usage);
         assert_eq!(rt; sink.bytes(), usage.as_bytes());
     }
     Ok(())
@@ -73,12 +73,16 @@ fn other_words_are_usage(rt: HostRuntime) -> Result<(), Fail> {
 fn statuses_have_their_codes(rt: HostRuntime) {
     let codes = [
         (Status::Done, 0),
+        (Status::Refused, 1),
         (Status::Usage, 2),
         (Status::BadLine, 3),
         (Status::ReadFault, 4),
         (Status::WriteFault, 5),
+        (Status::DeviceFault, 6),
         (Status::NoMemory, 7),
         (Status::TooLong, 8),
+        (Status::NotJournal, 9),
+        (Status::AlreadyMade, 10),
     ];
     for (status, code) in codes {
         assert_eq!(rt; status.code(), code);

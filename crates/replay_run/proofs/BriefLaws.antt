@@ -7,11 +7,15 @@ use Rattle.replay_run.specs.declared.reply.Ending.{Ending}
 use Rattle.replay_run.specs.declared.reply.Ending.TheVariants.{Complete}
 use Rattle.replay_run.specs.Replays.{Replay as ReplayOf, replay_of}
 use Rattle.replay_run.specs.Text.{brief_text, last_text}
-use Rattle.replay_run.specs.Output.{status_of, status_of_refusal, brief_output}
+use Rattle.run_endings.specs.Statuses.{status_of_refusal}
+use Rattle.replay_run.specs.Output.{status_of, brief_output}
 use Rattle.replay_run.specs.Bounds.{TakesFewBy, FewBy}
-use Rattle.replay_run.specs.Runs.{Wrote, WroteFront, EndsAs, RanOver}
+use Rattle.streamed_lines.specs.Outside.{Wrote, WroteFront}
+use Rattle.run_endings.specs.Outputs.{EndsAs}
+use Rattle.replay_run.specs.Runs.{RanOver}
 use Rattle.replay_run.specs.Reading.{is_read_fault, Ran, Answers, StopsEarly}
-use Rattle.replay_run.proofs.RunLaws.{ends-whole, ends-stopped, stops-unwritten, failed-of, few-by, few-stopped}
+use Rattle.run_endings.proofs.EndingLaws.{ends-whole, ends-stopped}
+use Rattle.replay_run.proofs.RunLaws.{stops-unwritten, failed-of, few-by, few-stopped}
 
 -- a run whose lines were all answered, into nothing, up to what ended it
 module _ {H : Type 0} (left later : Option (List ℕ)) (dig : List ℕ → List ℕ) (text : List ℕ)

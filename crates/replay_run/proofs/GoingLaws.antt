@@ -11,11 +11,12 @@ use Rattle.replay_run.specs.declared.reply.Stop.{Stop}
 use Rattle.replay_run.specs.declared.reply.Stop.TheVariants.{BadLine as BadLineStop, TooLong as TooLongStop, NoMemory as NoMemoryStop}
 use Rattle.replay_run.specs.Replays.{replay_of}
 use Rattle.replay_run.specs.Text.{answers_text}
-use Rattle.replay_run.specs.Runs.{Gave, Wrote, WroteFront}
+use Rattle.streamed_lines.specs.Outside.{Gave, Wrote, WroteFront}
 use Rattle.replay_run.specs.Reading.{ended_by, Ran, IsKept, Reads, StopsWith, Finishes, Answers, StopsEarly}
 use Rattle.replay_run.proofs.StopLaws.{reads-grow, fault-ends}
 use Rattle.replay_run.proofs.ReadLaws.{nothing-read, kept-none, reads-put}
-use Rattle.replay_run.proofs.OutsideLaws.{gave-none, gave-more, wrote-none, wrote-more, front-more}
+use Rattle.streamed_lines.proofs.OutsideLaws.{gave-none, gave-more, wrote-none, wrote-more}
+use Rattle.replay_run.proofs.OutsideLaws.{front-more}
 
 -- What the source gave was answered, and its answers were put.
 pub record Going {H : Type 0} (left later taken after : Option (List ℕ)) (dig : List ℕ → List ℕ)

@@ -9,51 +9,22 @@ use Rattle.world_rules.specs.Steps.{Run}
 use Rattle.world_core.specs.Worlds.{WorldState}
 use Rattle.replay_run.specs.declared.reply.Ending.{Ending}
 use Rattle.replay_run.specs.declared.reply.Ending.TheVariants.{Complete, BadLine, ReadFault, TooLong}
-use Rattle.replay_run.specs.declared.status.Status.{Status}
-use Rattle.replay_run.specs.declared.status.Status.TheVariants.{Done, Usage, BadLine as BadLineStatus, ReadFault as ReadFaultStatus, WriteFault, NoMemory, TooLong as TooLongStatus}
-use Rattle.replay_run.specs.declared.form.Form.{Form}
-use Rattle.replay_run.specs.declared.form.Form.TheVariants.{Replay, Brief, Make, Verify}
-use Rattle.replay_run.specs.Forms.{form_of}
+use Rattle.run_endings.specs.declared.status.Status.{Status}
+use Rattle.run_endings.specs.declared.status.Status.TheVariants.{ReadFault as ReadFaultStatus}
 use Rattle.replay_run.specs.Replays.{Replay as ReplayOf, replay_of}
 use Rattle.replay_run.specs.Text.{answers_text, closing_text, last_text}
-use Rattle.replay_run.specs.Output.{Output, status_of, status_of_refusal, status_of_replay, replay_output, form_output, output_of}
-use Rattle.replay_run.specs.Bounds.{TakesFew, TakesFewBy, FewBy, FewOf}
-use Rattle.replay_run.specs.Runs.{Wrote, WroteFront, Stops, EndsAs, RanOver, ReadsToFault, ReadsBy}
+use Rattle.run_endings.specs.Statuses.{status_of_refusal}
+use Rattle.run_endings.specs.Outputs.{Output}
+use Rattle.replay_run.specs.Output.{status_of, status_of_replay, replay_output}
+use Rattle.replay_run.specs.Bounds.{TakesFew, TakesFewBy, FewBy}
+use Rattle.streamed_lines.specs.Outside.{Wrote, WroteFront, ReadsToFault}
+use Rattle.run_endings.specs.Statuses.{ReadsBy}
+use Rattle.run_endings.specs.Outputs.{Stops, EndsAs}
+use Rattle.replay_run.specs.Runs.{RanOver}
 use Rattle.replay_run.specs.Reading.{is_read_fault, Ran, Reads, Answers, StopsEarly}
-use Rattle.replay_run.proofs.OutsideLaws.{gave-none, wrote-more, front-more, front-none}
-
--- a text that was written whole ends a run with any status but one that stopped it
-pub ends-whole :
-    (output : Output) (before after : Option (List ℕ)) (failed : Type 0)
-    → (output.status ≡ ReadFaultStatus → failed) → Wrote before after (output.answers ++ output.last)
-    → EndsAs output output.status before after failed
-ends-whole output before after failed why wrote = by-status output.answers output.last output.status why wrote
-  where
-    stops : (answers last : List ℕ) (status : Status) → status ≢ ReadFaultStatus
-        → Wrote before after (answers ++ last)
-        → Stops (record { status = status; answers = answers; last = last }) before after failed
-    stops answers last status no_fault wrote = record {
-      front = record { front = answers ++ last; back = []; whole = append-nil (answers ++ last); wrote = wrote };
-      fault = λ is. absurd (no_fault is);
-    }
-
-    by-status : (answers last : List ℕ) (status : Status) → (status ≡ ReadFaultStatus → failed)
-        → Wrote before after (answers ++ last)
-        → EndsAs (record { status = status; answers = answers; last = last }) status before after failed
-    by-status answers last Done why wrote = (refl, wrote)
-    by-status answers last Usage why wrote = (refl, wrote)
-    by-status answers last BadLineStatus why wrote = (refl, wrote)
-    by-status answers last ReadFaultStatus why wrote = ((refl, wrote), why refl)
-    by-status answers last TooLongStatus why wrote = (refl, wrote)
-    by-status answers last WriteFault why wrote = stops answers last WriteFault (λ wrong. absurd (cc)) wrote
-    by-status answers last NoMemory why wrote = stops answers last NoMemory (λ wrong. absurd (cc)) wrote
-
--- a run that was stopped
-pub ends-stopped :
-    (refusal : SinkRefusal) (output : Output) (before after : Option (List ℕ)) (failed : Type 0)
-    → Stops output before after failed → EndsAs output (status_of_refusal refusal) before after failed
-ends-stopped Failed output before after failed stops = stops
-ends-stopped WantsMemory output before after failed stops = stops
+use Rattle.streamed_lines.proofs.OutsideLaws.{wrote-more}
+use Rattle.run_endings.proofs.EndingLaws.{ends-whole, ends-stopped}
+use Rattle.replay_run.proofs.OutsideLaws.{front-more, front-none}
 
 -- a reading's faults, in the words of a run's status
 module _ (Reads : Bool → Type 0) where
@@ -63,21 +34,6 @@ module _ (Reads : Bool → Type 0) where
   failed-of (BadLine n) reads wrong = absurd (cc)
   failed-of ReadFault reads is = reads
   failed-of (TooLong n) reads wrong = absurd (cc)
-
--- a source that wasn't touched
-pub reads-none : (faults : ℕ) (failed_last : Bool) → ReadsToFault faults faults failed_last false
-reads-none faults failed_last = record { count = refl; last = λ wrong. absurd (false≢true wrong) }
-
--- a run that met no read fault, whose source had no fault
-pub reads-unfailed : (status : Status) (Reads : Bool → Type 0) → status ≢ ReadFaultStatus → Reads false
-    → ReadsBy status Reads
-reads-unfailed Done Reads no_fault reads = reads
-reads-unfailed Usage Reads no_fault reads = reads
-reads-unfailed BadLineStatus Reads no_fault reads = (false, reads)
-reads-unfailed ReadFaultStatus Reads no_fault reads = absurd (no_fault refl)
-reads-unfailed WriteFault Reads no_fault reads = (false, reads)
-reads-unfailed NoMemory Reads no_fault reads = (false, reads)
-reads-unfailed TooLongStatus Reads no_fault reads = (false, reads)
 
 pub few-by : (ending : Ending) (bytes : List ℕ) → TakesFew bytes ending → TakesFewBy (status_of ending) bytes ending
 few-by Complete bytes few = tt
@@ -217,84 +173,4 @@ pub stops-unwritten : (output : Output) (before : Option (List ℕ)) (failed : T
 stops-unwritten output before failed = record {
   front = front-none before (output.answers ++ output.last);
   fault = λ is. inr (front-none before output.answers);
-}
-
-stops-wide :
-    (output : Output) (before after : Option (List ℕ)) (failed : Type 0)
-    → Stops output before after ⊥ → Stops output before after failed
-stops-wide output before after failed stops = record {
-  front = stops.front;
-  fault = λ is. elim (stops.fault is) [ inl never ↦ absurd never | inr answers ↦ inr answers ];
-}
-
--- the one line of a run that answers nothing, or a beginning of it
-pub stops-line :
-    (status : Status) (line : List ℕ) (before after : Option (List ℕ))
-    → status ≢ ReadFaultStatus → WroteFront before after line
-    → Stops (record { status = status; answers = []; last = line }) before after ⊥
-stops-line status line before after no_fault front = record { front = front; fault = λ is. absurd (no_fault is) }
-
--- a run whose source didn't fail, in the words of one that may have
-ends-wide :
-    (output : Output) (status : Status) (before after : Option (List ℕ)) (failed : Type 0)
-    → EndsAs output status before after ⊥ → EndsAs output status before after failed
-ends-wide output Done before after failed ends = ends
-ends-wide output Usage before after failed ends = ends
-ends-wide output BadLineStatus before after failed ends = ends
-ends-wide output TooLongStatus before after failed ends = ends
-ends-wide output ReadFaultStatus before after failed ends = absurd ends.1
-ends-wide output WriteFault before after failed ends = stops-wide output before after failed ends
-ends-wide output NoMemory before after failed ends = stops-wide output before after failed ends
-
--- a run that took nothing from its source
-pub ran-unread :
-    (dig : List ℕ → List ℕ) (words : List (List ℕ)) (left before after : Option (List ℕ)) (failed : Type 0)
-    (form : Option Form)
-    (status : Status)
-    → form ≡ form_of words → EndsAs (form_output dig form [] false) status before after ⊥
-    → FewOf dig form status [] false
-    → RanOver (output_of dig words) (FewOf dig (form_of words)) left left before after failed status
-unfolding output_of
-ran-unread dig words left before after failed form status is ends few = record {
-  bytes = [];
-  ended = false;
-  gave = gave-none left;
-  ends =
-      subst (λ f. EndsAs (form_output dig f [] false) status before after failed) is
-      (ends-wide (form_output dig form [] false) status before after failed ends);
-  few = subst (λ f. FewOf dig f status [] false) is few;
-}
-
-pub ran-form :
-    (dig : List ℕ → List ℕ) (words : List (List ℕ)) (left later before after : Option (List ℕ)) (failed : Type 0)
-    (form : Form)
-    (status : Status)
-    → Some form ≡ form_of words
-    → RanOver (form_output dig (Some form)) (FewOf dig (Some form)) left later before after failed status
-    → RanOver (output_of dig words) (FewOf dig (form_of words)) left later before after failed status
-unfolding output_of
-ran-form dig words left later before after failed form status is ran = record {
-  bytes = ran.bytes;
-  ended = ran.ended;
-  gave = ran.gave;
-  ends = subst (λ f. EndsAs (form_output dig f ran.bytes ran.ended) status before after failed) is ran.ends;
-  few = subst (λ f. FewOf dig f status ran.bytes ran.ended) is ran.few;
-}
-
-few-nothing : (dig : List ℕ → List ℕ) (form : Option Form) → FewOf dig form NoMemory [] false
-few-nothing dig None = tt
-few-nothing dig (Some Replay) = tt
-few-nothing dig (Some Brief) = tt
-few-nothing dig (Some (Make seed count)) = tt
-few-nothing dig (Some (Verify key message signature)) = tt
-
-pub ran-nothing :
-    (dig : List ℕ → List ℕ) (words : List (List ℕ)) (left before : Option (List ℕ)) (failed : Type 0)
-    → RanOver (output_of dig words) (FewOf dig (form_of words)) left left before before failed NoMemory
-ran-nothing dig words left before failed = record {
-  bytes = [];
-  ended = false;
-  gave = gave-none left;
-  ends = stops-unwritten (output_of dig words [] false) before failed;
-  few = few-nothing dig (form_of words);
 }

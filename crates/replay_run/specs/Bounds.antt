@@ -1,11 +1,9 @@
 -- How much of a source is taken at most before a line that ends a replay is answered.
-use Rattle.std.specs.Prelude.{ℕ, ◌+◌, ◌-◌, ◌<◌, Bool, if◌then◌else◌, sum_by, List, [], length, take, slice_index_or, Option, Some}
+use Rattle.std.specs.Prelude.{ℕ, ◌+◌, ◌-◌, ◌<◌, Bool, if◌then◌else◌, sum_by, List, [], length, take, slice_index_or}
 use Rattle.replay_run.specs.declared.reply.Ending.{Ending}
 use Rattle.replay_run.specs.declared.reply.Ending.TheVariants.{Complete, BadLine, ReadFault, TooLong}
-use Rattle.replay_run.specs.declared.status.Status.{Status}
-use Rattle.replay_run.specs.declared.status.Status.TheVariants.{BadLine as BadLineStatus, TooLong as TooLongStatus}
-use Rattle.replay_run.specs.declared.form.Form.{Form}
-use Rattle.replay_run.specs.declared.form.Form.TheVariants.{Replay, Brief}
+use Rattle.run_endings.specs.declared.status.Status.{Status}
+use Rattle.run_endings.specs.declared.status.Status.TheVariants.{BadLine as BadLineStatus, TooLong as TooLongStatus}
 use Rattle.replay_run.specs.Lines.{lines_in, is_whole, limit_of}
 use Rattle.replay_run.specs.Replays.{replay_of}
 
@@ -40,9 +38,3 @@ TakesFewBy status bytes ending = Unit {0}
 
 abbrev pub FewBy : (List ℕ → List ℕ) → Status → List ℕ → Bool → Type 0
 FewBy dig status bytes ended = TakesFewBy status bytes (replay_of dig bytes ended).ending
-
--- so was a run of this form
-abbrev pub FewOf : (List ℕ → List ℕ) → Option Form → Status → List ℕ → Bool → Type 0
-FewOf dig (Some Replay) status bytes ended = FewBy dig status bytes ended
-FewOf dig (Some Brief) status bytes ended = FewBy dig status bytes ended
-FewOf dig form status bytes ended = Unit {0}

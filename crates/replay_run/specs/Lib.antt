@@ -5,8 +5,8 @@ pub mod Text
 pub mod Bounds
 pub mod Output
 pub mod Runs
+pub mod Does
 pub mod Reading
-pub mod Codes
 pub mod Laws
 pub mod Endings
 pub mod Headline

@@ -17,7 +17,7 @@ use Rattle.replay_run.specs.Lines.{lines_in, is_whole, is_too_long, limit_of, Ha
 use Rattle.replay_run.specs.Replays.{next_number, line_run, replay_from, replay_of}
 use Rattle.replay_run.specs.Text.{answers_text}
 use Rattle.replay_run.specs.Bounds.{TakesFew}
-use Rattle.replay_run.specs.Runs.{Gave, Wrote, WroteFront}
+use Rattle.streamed_lines.specs.Outside.{Gave, Wrote, WroteFront}
 
 -- ---- one line
 

@@ -7,15 +7,18 @@ ghost use Rattle.replay_run.specs.declared.reply.Ending.{Ending};
 ghost use Rattle.replay_run.specs.Text.{brief_text, last_text};
 ghost use Rattle.replay_run.specs.Output.{brief_output, status_of_replay};
 ghost use Rattle.replay_run.specs.Bounds.{FewBy};
-ghost use Rattle.replay_run.specs.Runs.{RanOver, ReadsToFault, ReadsBy};
+ghost use Rattle.streamed_lines.specs.Outside.{ReadsToFault};
+ghost use Rattle.run_endings.specs.Statuses.{ReadsBy};
+ghost use Rattle.replay_run.specs.Runs.{RanOver};
 ghost use Rattle.replay_run.specs.Reading.{Ran};
 
-use super::replay::{answer_lines, put_text};
+use super::replay::answer_lines;
 use super::reply::Ending;
 use super::text::push_ending;
 use plasma_base::{Hash32, NoMemory};
 use plasma_outside::{Sink, SinkRefusal, Source};
 use std::alloc::Global;
+use streamed_lines::put_text;
 use world_core::World;
 use world_trace::{print_counts, print_exhibit};
 

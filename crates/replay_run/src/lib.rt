@@ -3,22 +3,21 @@
 
 mod answering;
 mod brief;
-mod form;
 mod laws;
 mod lines;
 mod reading;
 mod replay;
 mod reply;
-mod status;
 mod text;
 mod top;
+mod verifying;
 
 pub use laws::{
     answered_lines_are_a_run, endings_have_their_cause, lines_are_the_bytes,
     lines_that_keep_the_rules_are_answered, replays_keep_the_promise, the_limits_are_these_numbers,
 };
-pub use status::Status;
-pub use top::{run, run_with};
+pub use run_endings::Status;
+pub use top::{Ended, run, run_with};
 
 /// The most lines of an input.
 pub const MOST_LINES: u64 = 200_000;

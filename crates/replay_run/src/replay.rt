@@ -10,7 +10,9 @@ ghost use Rattle.replay_run.specs.Lines.{limit_of};
 ghost use Rattle.replay_run.specs.Text.{closing_text, last_text};
 ghost use Rattle.replay_run.specs.Output.{replay_output, status_of_replay};
 ghost use Rattle.replay_run.specs.Bounds.{room, FewBy};
-ghost use Rattle.replay_run.specs.Runs.{Gave, GaveAll, Wrote, WroteFront, RanOver, ReadsToFault, ReadsBy};
+ghost use Rattle.streamed_lines.specs.Outside.{Gave, GaveAll, Wrote, WroteFront, ReadsToFault};
+ghost use Rattle.run_endings.specs.Statuses.{ReadsBy};
+ghost use Rattle.replay_run.specs.Runs.{RanOver};
 ghost use Rattle.replay_run.specs.Reading.{IsKept, Ran, Reads, Finishes, StopsWith, Answers, StopsEarly, is_read_fault};
 
 use super::answering::answer_kept;
@@ -21,24 +23,10 @@ use super::text::push_ending;
 use plasma_base::{Hash32, NoMemory};
 use plasma_outside::{Sink, SinkRefusal, Source, SourceFailed};
 use std::alloc::Global;
+use streamed_lines::put_text;
 use world_core::World;
 use world_rules::Verdict;
 use world_trace::{print_exhibit, print_verdict};
-
-/// Puts the gathered text, and leaves none.
-pub fn put_text<K: Sink>(sink: &mut K, text: &mut Vec<u8>) -> Result<(), SinkRefusal>
-    ensures ok { OnOk result (Wrote (K.taken sink.old) (K.taken sink.new) text.old.items) }
-    ensures none_left { OnOk result (text.new.items ≡ []) }
-    ensures err { OnErr result (WroteFront (K.taken sink.old) (K.taken sink.new) text.old.items) }
-    ensures cause { K.faults sink.new ≡ faults_after (K.faults sink.old) (is_failed result) }
-{
-    if text.is_empty() {
-        return Ok(());
-    }
-    sink.put_all(text)?;
-    text.clear();
-    Ok(())
-}
 
 // Takes at most so many bytes to the beginning of the room, and says how many: none only at the end of the input.
 fn take_some<S: Source>(source: &mut S, room: &mut [u8], size: usize) -> Result<usize, SourceFailed>

@@ -1,8 +1,11 @@
-ghost use Rattle.std.specs.Prelude.{◌≡◌};
+ghost use Rattle.std.specs.Prelude.{◌≡◌, false};
+ghost use Rattle.run_endings.specs.Statuses.{is_write_fault};
+ghost use Rattle.replay_run.specs.Output.{status_of};
 ghost use Rattle.replay_run.specs.Reading.{ended_by};
 
 use plasma_base::NoMemory;
 use plasma_outside::SinkRefusal;
+use run_endings::Status;
 use std::alloc::AllocError;
 
 /// What ends a replay.
@@ -16,6 +19,21 @@ pub enum Ending {
     ReadFault,
     /// This line is the first that passes a limit.
     TooLong { line: u64 },
+}
+
+impl Ending {
+    /// The status of a run that ended so.
+    pub fn status(self) -> Status
+        ensures status { result ≡ status_of self }
+        ensures no_write_fault { is_write_fault result ≡ false }
+    {
+        match self {
+            Ending::Complete => Status::Done,
+            Ending::BadLine { .. } => Status::BadLine,
+            Ending::ReadFault => Status::ReadFault,
+            Ending::TooLong { .. } => Status::TooLong,
+        }
+    }
 }
 
 /// Why a line isn't answered.

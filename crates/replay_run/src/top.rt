@@ -1,20 +1,30 @@
-ghost use Rattle.std.specs.Prelude.{◌≡◌, ◌≢◌, ◌≤◌, [], Some, true, false, map, string_bytes, ℕ, Bool, List};
+ghost use Rattle.std.specs.Prelude.{◌≡◌, ◌≢◌, ◌≤◌, true, false, map, string_bytes, ℕ, Bool, List, Option};
 ghost use Rattle.sha2.specs.Sha256.{sha256};
 ghost use Rattle.plasma_base.specs.Causes.{faults_after};
-ghost use Rattle.replay_run.specs.Forms.{form_of, is_verified, reads_input};
-ghost use Rattle.replay_run.specs.Output.{output_of, replay_output, brief_output, make_output, verify_output};
-ghost use Rattle.replay_run.specs.declared.form.Form.{Form};
-ghost use Rattle.replay_run.specs.Bounds.{FewOf};
+ghost use Rattle.streamed_lines.specs.Outside.{ReadsToFault};
+ghost use Rattle.run_words.specs.Forms.{form_of, IsSound};
+ghost use Rattle.run_endings.specs.Statuses.{is_write_fault, ReadsBy};
+ghost use Rattle.run_endings.specs.Outputs.{EndsAs};
+ghost use Rattle.replay_run.specs.Forms.{is_verified, reads_input, uses_notes, uses_leaves};
+ghost use Rattle.replay_run.specs.Output.{make_output, verify_output, replay_output, brief_output};
+ghost use Rattle.replay_run.specs.Bounds.{FewBy};
 ghost use Rattle.replay_run.specs.Replays.{replay_of};
 ghost use Rattle.replay_run.specs.Headline.{KeepsThePromise};
-ghost use Rattle.replay_run.specs.Runs.{RanOver, EndsAs, ReadsToFault, ReadsBy, is_write_fault};
+ghost use Rattle.replay_run.specs.Runs.{RanOver};
+ghost use Rattle.replay_run.specs.Does.{Does, DoesForm};
 
 use super::brief::brief;
-use super::form::{Form, form_of, is_verified};
 use super::replay::replay;
-use super::status::Status;
+use super::verifying::is_verified;
+use crash_disk::Disk;
+use node_rules::WalletIdentity;
+use node_runs::{
+    init_operator, init_wallet, init_watcher, run_operator, run_wallet, run_watcher,
+};
 use plasma_base::{Bytes, Hash32, NoMemory, Sha};
 use plasma_outside::{Sink, Source};
+use run_endings::{Status, put_line};
+use run_words::{Form, form_of};
 use std::alloc::Global;
 use world_maker::{MOST_ROUNDS, make};
 
@@ -22,75 +32,189 @@ use world_maker::{MOST_ROUNDS, make};
 const USAGE: &[u8] =
     b"usage: plasma replay | brief | wallet | operator | watcher | init | make | verify\n";
 
-/// Runs the program: reads the words that stand after its name and the source, and writes to the sink.
-/// Openings are judged by SHA-256 (FIPS 180-4).
+/// How a run ended, and the disks of the notes and of the leaves, handed back.
+#[derive(Drop)]
+pub struct Ended<D> {
+    pub status: Status,
+    pub notes: D,
+    pub leaves: D,
+}
+
+impl<D> Ended<D> {
+    // A run that ended so, beside the disks that it had.
+    fn of(status: Status, notes: D, leaves: D) -> Ended<D>
+        ensures { result ≡ record { status = status; notes = notes; leaves = leaves } }
+    {
+        Ended {
+            status,
+            notes,
+            leaves,
+        }
+    }
+
+    // A run that used the notes.
+    fn of_notes(ended: (D, Status), leaves: D) -> Ended<D>
+        ensures { result ≡ record { status = ended.1; notes = ended.0; leaves = leaves } }
+    {
+        let (notes, status) = ended;
+        Ended::of(status, notes, leaves)
+    }
+
+    // A run that used both disks.
+    fn of_both(ended: (D, D, Status)) -> Ended<D>
+        ensures { result ≡ record { status = ended.2; notes = ended.0; leaves = ended.1 } }
+    {
+        let (notes, leaves, status) = ended;
+        Ended::of(status, notes, leaves)
+    }
+}
+
+/// Runs the program: reads the words that stand after its name and the source, uses a node's two disks, and writes to the
+/// sink. Openings are judged by SHA-256 (FIPS 180-4).
 ///
 /// `replay` reads a schedule and writes the text of its trace; `brief` reads one and writes what is counted of it.
-/// `make <seed> <count>` reads nothing and writes a schedule of so many rounds. `verify <key> <message> <signature>`
-/// reads nothing and writes `valid` or `invalid`. Other words are no form: the run ends as `Usage`, reads nothing and
-/// writes the line that names the forms.
-pub fn run<S: Source, K: Sink>(
+/// `wallet`, `operator` and `watcher` open a node from the disks, read a log of the root contract, a line `--` and
+/// commands, and write their answers. `init` with a role, a tag, an account and for a wallet a seed, and maybe the types
+/// of its key, begins the disks of a node and writes `made`. `make <seed> <count>` writes a schedule of so many rounds.
+/// `verify <key> <message> <signature>` writes `valid` or `invalid`. Other words are no form: the run ends as `Usage`,
+/// and writes the line that names the forms.
+pub fn run<S: Source, K: Sink, D: Disk>(
     alloc: Global,
     words: &[String],
     source: &mut S,
     sink: &mut K,
-) -> Status
-    // The status and what was written are a function of the words and of the bytes that the source gave. A `replay` or
-    // `brief` that a bad line ended, or one past a limit, was answered before more than a room was taken behind it.
-    ensures output { RanOver (output_of sha256 (map string_bytes words.now))
-        (FewOf sha256 (form_of (map string_bytes words.now)))
-        (S.left source.old) (S.left source.new) (K.taken sink.old) (K.taken sink.new)
-        (ReadsToFault (S.faults source.old) (S.faults source.new) (S.failed_last source.new) true) result }
+    notes: D,
+    leaves: D,
+) -> Ended<D>
+    // What each form does: its status, what was written, and where the disks are left, over the words, the bytes that the
+    // source gave and what the disks held.
+    ensures output { Does D.told D.plan D.faults sha256 notes leaves result.notes result.leaves
+        (record { left = S.left source.old; later = S.left source.new; taken = K.taken sink.old; after = K.taken sink.new })
+        (ReadsToFault (S.faults source.old) (S.faults source.new) (S.failed_last source.new) true) result.status
+        (form_of (map string_bytes words.now)) }
 
     // The headline: whatever the bytes are, the run that a `replay` answers keeps the promise.
     ensures headline { (bytes : List ℕ) (ended : Bool)
         → KeepsThePromise sha256 (replay_of sha256 bytes ended).run }
 
-    // Only `replay` and `brief` touch the source.
+    // Schedules and the logs and commands of nodes are read; no other form touches the source.
     ensures unread { reads_input (form_of (map string_bytes words.now)) ≡ false → source.new ≡ source.old }
 
+    // The disks of a node are used by its own forms alone.
+    ensures notes_stay { uses_notes (form_of (map string_bytes words.now)) ≡ false → result.notes ≡ notes }
+    ensures leaves_stay { uses_leaves (form_of (map string_bytes words.now)) ≡ false → result.leaves ≡ leaves }
+
     // The source is read up to its first fault, which is answered unless the run ended for another cause.
-    ensures source_faults { ReadsBy result
+    ensures source_faults { ReadsBy result.status
         (ReadsToFault (S.faults source.old) (S.faults source.new) (S.failed_last source.new)) }
 
     // A fault of the sink is answered, and no other answer comes where it had one.
-    ensures sink_faults { K.faults sink.new ≡ faults_after (K.faults sink.old) (is_write_fault result) }
+    ensures sink_faults { K.faults sink.new ≡ faults_after (K.faults sink.old) (is_write_fault result.status) }
 {
-    run_with(&Sha, alloc, words, source, sink)
+    run_with(&Sha, alloc, words, source, sink, notes, leaves)
 }
 
 /// Runs the program as `run` does, with openings judged by this digest.
-pub fn run_with<H: Hash32, S: Source, K: Sink>(
+pub fn run_with<H: Hash32, S: Source, K: Sink, D: Disk>(
     h: &H,
     alloc: Global,
     words: &[String],
     source: &mut S,
     sink: &mut K,
-) -> Status
-    ensures output { RanOver (output_of (H.digest_of h.now) (map string_bytes words.now))
-        (FewOf (H.digest_of h.now) (form_of (map string_bytes words.now)))
-        (S.left source.old) (S.left source.new) (K.taken sink.old) (K.taken sink.new)
-        (ReadsToFault (S.faults source.old) (S.faults source.new) (S.failed_last source.new) true) result }
+    notes: D,
+    leaves: D,
+) -> Ended<D>
+    ensures output { Does D.told D.plan D.faults (H.digest_of h.now) notes leaves result.notes result.leaves
+        (record { left = S.left source.old; later = S.left source.new; taken = K.taken sink.old; after = K.taken sink.new })
+        (ReadsToFault (S.faults source.old) (S.faults source.new) (S.failed_last source.new) true) result.status
+        (form_of (map string_bytes words.now)) }
     ensures unread { reads_input (form_of (map string_bytes words.now)) ≡ false → source.new ≡ source.old }
-    ensures source_faults { ReadsBy result
+    ensures notes_stay { uses_notes (form_of (map string_bytes words.now)) ≡ false → result.notes ≡ notes }
+    ensures leaves_stay { uses_leaves (form_of (map string_bytes words.now)) ≡ false → result.leaves ≡ leaves }
+    ensures source_faults { ReadsBy result.status
         (ReadsToFault (S.faults source.old) (S.faults source.new) (S.failed_last source.new)) }
-    ensures sink_faults { K.faults sink.new ≡ faults_after (K.faults sink.old) (is_write_fault result) }
+    ensures sink_faults { K.faults sink.new ≡ faults_after (K.faults sink.old) (is_write_fault result.status) }
 {
     match form_of(alloc, words) {
-        Err(_) => Status::NoMemory,
-        Ok(None) => put_line(sink, USAGE, Status::Usage),
-        Ok(Some(Form::Replay)) => run_replay(h, alloc, source, sink),
-        Ok(Some(Form::Brief)) => run_brief(h, alloc, source, sink),
-        Ok(Some(Form::Make { seed, count })) => run_make(alloc, seed, count, sink),
-        Ok(
-            Some(
-                Form::Verify {
-                    key,
-                    message,
-                    signature,
-                },
-            ),
-        ) => run_verify(&key, &message, &signature, sink),
+        Ok(form) => run_form(h, alloc, form, source, sink, notes, leaves),
+        Err(NoMemory) => Ended {
+            status: Status::NoMemory,
+            notes,
+            leaves,
+        },
+    }
+}
+
+/// Runs the form that the words are, or says that they are none.
+fn run_form<H: Hash32, S: Source, K: Sink, D: Disk>(
+    h: &H,
+    alloc: Global,
+    form: Option<Form>,
+    source: &mut S,
+    sink: &mut K,
+    notes: D,
+    leaves: D,
+) -> Ended<D>
+    requires { IsSound form }
+    ensures output { DoesForm D.told D.plan D.faults (H.digest_of h.now) notes leaves result.notes result.leaves
+        (record { left = S.left source.old; later = S.left source.new; taken = K.taken sink.old; after = K.taken sink.new })
+        (ReadsToFault (S.faults source.old) (S.faults source.new) (S.failed_last source.new) true) result.status form }
+    ensures unread { reads_input form ≡ false → source.new ≡ source.old }
+    ensures notes_stay { uses_notes form ≡ false → result.notes ≡ notes }
+    ensures leaves_stay { uses_leaves form ≡ false → result.leaves ≡ leaves }
+    ensures source_faults { ReadsBy result.status
+        (ReadsToFault (S.faults source.old) (S.faults source.new) (S.failed_last source.new)) }
+    ensures sink_faults { K.faults sink.new ≡ faults_after (K.faults sink.old) (is_write_fault result.status) }
+{
+    match form {
+        None => Ended::of(put_line(sink, USAGE, Status::Usage), notes, leaves),
+        Some(Form::Replay) => Ended::of(run_replay(h, alloc, source, sink), notes, leaves),
+        Some(Form::Brief) => Ended::of(run_brief(h, alloc, source, sink), notes, leaves),
+        Some(Form::Make { seed, count }) => {
+            Ended::of(run_make(alloc, seed, count, sink), notes, leaves)
+        }
+        Some(
+            Form::Verify {
+                key,
+                message,
+                signature,
+            },
+        ) => Ended::of(
+            run_verify(&key, &message, &signature, sink),
+            notes,
+            leaves,
+        ),
+        Some(Form::Wallet) => {
+            Ended::of_both(run_wallet(alloc, h, source, sink, notes, leaves))
+        }
+        Some(Form::Operator) => {
+            Ended::of_notes(run_operator(alloc, h, source, sink, notes), leaves)
+        }
+        Some(Form::Watcher) => {
+            Ended::of_notes(run_watcher(alloc, h, source, sink, notes), leaves)
+        }
+        Some(
+            Form::InitWallet {
+                tag,
+                account,
+                seed,
+                types,
+            },
+        ) => {
+            let who = WalletIdentity {
+                tag,
+                account,
+                seed,
+                types,
+            };
+            Ended::of_both(init_wallet(alloc, sink, notes, leaves, &who))
+        }
+        Some(Form::InitOperator { tag, account }) => {
+            Ended::of_notes(init_operator(alloc, sink, notes, tag, account), leaves)
+        }
+        Some(Form::InitWatcher { tag, account }) => {
+            Ended::of_notes(init_watcher(alloc, sink, notes, tag, account), leaves)
+        }
     }
 }
 
@@ -114,7 +238,7 @@ fn run_replay<H: Hash32, S: Source, K: Sink>(
     source: &mut S,
     sink: &mut K,
 ) -> Status
-    ensures output { RanOver (replay_output (H.digest_of h.now)) (FewOf (H.digest_of h.now) (Some Form.Replay))
+    ensures output { RanOver (replay_output (H.digest_of h.now)) (FewBy (H.digest_of h.now))
         (S.left source.old) (S.left source.new) (K.taken sink.old) (K.taken sink.new)
         (ReadsToFault (S.faults source.old) (S.faults source.new) (S.failed_last source.new) true) result }
     ensures source_faults { ReadsBy result
@@ -122,7 +246,7 @@ fn run_replay<H: Hash32, S: Source, K: Sink>(
     ensures sink_faults { K.faults sink.new ≡ faults_after (K.faults sink.old) (is_write_fault result) }
 {
     match replay(h, alloc, source, sink) {
-        Ok(ending) => Status::of_ending(ending),
+        Ok(ending) => ending.status(),
         Err(refusal) => Status::of_refusal(refusal),
     }
 }
@@ -134,7 +258,7 @@ fn run_brief<H: Hash32, S: Source, K: Sink>(
     source: &mut S,
     sink: &mut K,
 ) -> Status
-    ensures output { RanOver (brief_output (H.digest_of h.now)) (FewOf (H.digest_of h.now) (Some Form.Brief))
+    ensures output { RanOver (brief_output (H.digest_of h.now)) (FewBy (H.digest_of h.now))
         (S.left source.old) (S.left source.new) (K.taken sink.old) (K.taken sink.new)
         (ReadsToFault (S.faults source.old) (S.faults source.new) (S.failed_last source.new) true) result }
     ensures source_faults { ReadsBy result
@@ -142,7 +266,7 @@ fn run_brief<H: Hash32, S: Source, K: Sink>(
     ensures sink_faults { K.faults sink.new ≡ faults_after (K.faults sink.old) (is_write_fault result) }
 {
     match brief(h, alloc, source, sink) {
-        Ok(ending) => Status::of_ending(ending),
+        Ok(ending) => ending.status(),
         Err(refusal) => Status::of_refusal(refusal),
     }
 }
@@ -158,20 +282,5 @@ fn run_make<K: Sink>(alloc: Global, seed: u64, count: u64, sink: &mut K) -> Stat
     match make(alloc, seed, count, &mut text) {
         Ok(()) => put_line(sink, &text, Status::Done),
         Err(NoMemory) => Status::NoMemory,
-    }
-}
-
-/// Puts the one text of a run, which then ends with this status.
-fn put_line<K: Sink>(sink: &mut K, line: &[u8], status: Status) -> Status
-    requires no_read_fault { status ≢ Status.ReadFault }
-    requires no_write_fault { is_write_fault status ≡ false }
-    ensures output { EndsAs (record { status = status; answers = []; last = line.now }) result
-        (K.taken sink.old) (K.taken sink.new) ⊥ }
-    ensures no_read_fault { result ≢ Status.ReadFault }
-    ensures sink_faults { K.faults sink.new ≡ faults_after (K.faults sink.old) (is_write_fault result) }
-{
-    match sink.put_all(line) {
-        Ok(()) => status,
-        Err(refusal) => Status::of_refusal(refusal),
     }
 }

@@ -2,3 +2,4 @@ pub mod HexLaws
 pub mod FormLaws
 pub mod Matching
 pub mod Found
+pub mod SoundLaws

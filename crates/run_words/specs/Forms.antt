@@ -1,5 +1,5 @@
 -- The forms of a run: what the words after the program's name ask for.
-use Rattle.std.specs.Prelude.{ℕ, List, [], ◌∷◌, codes, Option, Some, None, if◌then◌else◌, option_map}
+use Rattle.std.specs.Prelude.{◌≡◌, ◌≤◌, ℕ, true, List, [], ◌∷◌, codes, Option, Some, None, if◌then◌else◌, option_map}
 use Rattle.std.specs.Str.{bytes_eq}
 use Rattle.plasma_base.specs.HexText.{hex_in, ◌>>=◌}
 use Rattle.line_forms.specs.Tokens.{number_in, number_within_in, hex_of_in, only_if}
@@ -97,3 +97,9 @@ form_named name words =
 unfoldable pub form_of : List (List ℕ) → Option Form
 form_of [] = None
 form_of (name ∷ words) = form_named name words
+
+-- what each form has: the types of a wallet's key are supported, and no more rounds are made than a schedule may have
+abbrev pub IsSound : Option Form → Type 0
+IsSound (Some (InitWallet tag account seed types)) = is_supported types ≡ true
+IsSound (Some (Make seed count)) = count ≤ 10000
+IsSound form = Unit {0}

@@ -1,6 +1,6 @@
 ghost use Rattle.std.specs.Prelude.{◌≡◌, IfOk, map, string_bytes};
 ghost use Rattle.clap.specs.Words.{subcommand_rows_of};
-ghost use Rattle.run_words.specs.Forms.{form_of};
+ghost use Rattle.run_words.specs.Forms.{form_of, IsSound};
 ghost use Rattle.run_words.specs.Parsing.{matched_words};
 
 use super::naming::form_named;
@@ -69,7 +69,8 @@ fn matched_form(alloc: Global, found: &ArgMatches<'_>) -> Result<Option<Form>, N
 
 /// The form that the words are; `None` where they are none.
 pub fn form_of(alloc: Global, words: &[String]) -> Result<Option<Form>, NoMemory>
-    ensures { IfOk result (λ form. form ≡ form_of (map string_bytes words.now)) }
+    ensures form { IfOk result (λ form. form ≡ form_of (map string_bytes words.now)) }
+    ensures sound { IfOk result IsSound }
 {
     if !is_form(words) {
         return Ok(None);

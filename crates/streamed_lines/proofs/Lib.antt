@@ -1,5 +1,5 @@
 mod LineLaws
-mod OutsideLaws
+pub mod OutsideLaws
 mod StreamLaws
 mod StopLaws
 mod ReadLaws

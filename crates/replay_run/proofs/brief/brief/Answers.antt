@@ -1,7 +1,7 @@
 use Rattle.std.proofs.Common.{◌∙◌, ap, sym, subst, List, ℕ, Ok, true}
 use Rattle.world_rules.specs.Steps.{no_lines}
 use Rattle.world_core.specs.Worlds.{WorldState}
-use Rattle.replay_run.specs.Runs.{Wrote, WroteFront, ReadsToFault}
+use Rattle.streamed_lines.specs.Outside.{Wrote, WroteFront, ReadsToFault}
 use Rattle.replay_run.specs.Reading.{Ran}
 use Rattle.replay_run.proofs.OutsideLaws.{front-none}
 use Rattle.replay_run.proofs.GoingLaws.{ran-none}

@@ -1,5 +1,5 @@
 use Rattle.std.proofs.Common.{◌∙◌, ap, refl}
-use Rattle.replay_run.proofs.OutsideLaws.{gave-part, part-err}
+use Rattle.streamed_lines.proofs.OutsideLaws.{gave-part, part-err}
 use Rattle.replay_run.proofs.GoingLaws.{going-none, going-faults, going-last, going-stopped, going-halts, going-reads, going-on, going-fails}
 use Rattle.replay_run.proofs.replay.answer_lines.Goals as goal
 

@@ -1,3 +1,4 @@
+use Rattle.std.proofs.Common.{ap, ◌∙◌}
 use Rattle.operator_rules.specs.Records.{who_is}
 use Rattle.node_answers.specs.Answers.{operator_outcome}
 use Rattle.node_roles.proofs.NotesLaws.{done-at, stopped-at, stays}
@@ -8,22 +9,20 @@ pub returns-clause-said : goal.returns-clause-said
 returns-clause-said g c =
     λ at is.
     done-at g.D.Disk.told g.D.Disk.plan g.D.Disk.faults _
-    (λ records.
-    operator_outcome (g.H.Hash32.digest_of c.args.self.now.node.hash) c.args.log.now.log records c.args.command)
-    at c.args.self.now.node.notes c.answer_operator.new.node.notes _ _ _ c.answer_operator.result (λ left there. there)
-    (λ records.
-    operator-quiet (g.H.Hash32.digest_of c.args.self.now.node.hash) c.args.log.now.log records c.args.command)
-    is c.answer_operator.ensures.did c.answer_operator.ensures.said
+    (λ dig records. operator_outcome dig c.args.log.now.log records c.args.command)
+    (g.H.Hash32.digest_of c.args.self.now.node.hash) at c.args.self.now.node.notes c.answer_operator.new.node.notes _ _ _
+    c.answer_operator.result is.0
+    (λ left there. (ap g.H.Hash32.digest_of c.answer_operator.ensures.hash ∙ is.0, there))
+    (λ dig records. operator-quiet dig c.args.log.now.log records c.args.command)
+    is.1 c.answer_operator.ensures.did c.answer_operator.ensures.said
 
 pub returns-clause-stopped : goal.returns-clause-stopped
 returns-clause-stopped g c =
     λ at is.
-    rw c.answer_operator.ensures.hash
-    (stopped-at g.D.Disk.told g.D.Disk.plan g.D.Disk.faults
-    (λ records.
-    operator_outcome (g.H.Hash32.digest_of c.args.self.now.node.hash) c.args.log.now.log records c.args.command)
-    at c.args.self.now.node.notes c.answer_operator.new.node.notes c.answer_operator.result is
-    c.answer_operator.ensures.did)
+    stopped-at g.D.Disk.told g.D.Disk.plan g.D.Disk.faults
+    (λ dig records. operator_outcome dig c.args.log.now.log records c.args.command)
+    (g.H.Hash32.digest_of c.args.self.now.node.hash) at c.args.self.now.node.notes c.answer_operator.new.node.notes
+    c.answer_operator.result is.0 is.1 c.answer_operator.ensures.did
 
 pub returns-clause-same_tag : goal.returns-clause-same_tag
 returns-clause-same_tag g c =

@@ -1,3 +1,4 @@
+use Rattle.std.proofs.Common.{ap, ◌∙◌}
 use Rattle.node_rules.specs.Watcher.{who_is}
 use Rattle.node_answers.specs.Answers.{watcher_outcome}
 use Rattle.node_roles.proofs.NotesLaws.{done-at, stopped-at, stays}
@@ -8,22 +9,20 @@ pub returns-clause-said : goal.returns-clause-said
 returns-clause-said g c =
     λ at is.
     done-at g.D.Disk.told g.D.Disk.plan g.D.Disk.faults _
-    (λ records.
-    watcher_outcome (g.H.Hash32.digest_of c.args.self.now.node.hash) c.args.log.now.log records c.args.command)
-    at c.args.self.now.node.notes c.answer_watcher.new.node.notes _ _ _ c.answer_watcher.result (λ left there. there)
-    (λ records.
-    watcher-quiet (g.H.Hash32.digest_of c.args.self.now.node.hash) c.args.log.now.log records c.args.command)
-    is c.answer_watcher.ensures.did c.answer_watcher.ensures.said
+    (λ dig records. watcher_outcome dig c.args.log.now.log records c.args.command)
+    (g.H.Hash32.digest_of c.args.self.now.node.hash) at c.args.self.now.node.notes c.answer_watcher.new.node.notes _ _ _
+    c.answer_watcher.result is.0
+    (λ left there. (ap g.H.Hash32.digest_of c.answer_watcher.ensures.hash ∙ is.0, there))
+    (λ dig records. watcher-quiet dig c.args.log.now.log records c.args.command)
+    is.1 c.answer_watcher.ensures.did c.answer_watcher.ensures.said
 
 pub returns-clause-stopped : goal.returns-clause-stopped
 returns-clause-stopped g c =
     λ at is.
-    rw c.answer_watcher.ensures.hash
-    (stopped-at g.D.Disk.told g.D.Disk.plan g.D.Disk.faults
-    (λ records.
-    watcher_outcome (g.H.Hash32.digest_of c.args.self.now.node.hash) c.args.log.now.log records c.args.command)
-    at c.args.self.now.node.notes c.answer_watcher.new.node.notes c.answer_watcher.result is
-    c.answer_watcher.ensures.did)
+    stopped-at g.D.Disk.told g.D.Disk.plan g.D.Disk.faults
+    (λ dig records. watcher_outcome dig c.args.log.now.log records c.args.command)
+    (g.H.Hash32.digest_of c.args.self.now.node.hash) at c.args.self.now.node.notes c.answer_watcher.new.node.notes
+    c.answer_watcher.result is.0 is.1 c.answer_watcher.ensures.did
 
 pub returns-clause-same_tag : goal.returns-clause-same_tag
 returns-clause-same_tag g c =

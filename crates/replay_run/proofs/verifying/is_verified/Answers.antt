@@ -2,7 +2,7 @@ use Rattle.std.proofs.Common.{◌≡◌, ℕ, ◌==◌, ◌&&◌, true, false, L
 use Rattle.lms_sign.specs.Types.{is_supported}
 use Rattle.lms_sign.specs.Valid.{is_valid, types_of}
 use Rattle.replay_run.specs.Forms.{is_verified}
-use Rattle.replay_run.proofs.form.is_verified.Goals as goal
+use Rattle.replay_run.proofs.verifying.is_verified.Goals as goal
 
 -- no signature is valid under a key that doesn't read
 unread : (key message signature : List ℕ) → is_supported (types_of key) ≡ false

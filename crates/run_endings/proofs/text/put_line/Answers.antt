@@ -1,7 +1,7 @@
 use Rattle.std.proofs.Common.{[]}
-use Rattle.replay_run.proofs.OutsideLaws.{wrote-put, front-put}
-use Rattle.replay_run.proofs.RunLaws.{ends-whole, ends-stopped, stops-line}
-use Rattle.replay_run.proofs.top.put_line.Goals as goal
+use Rattle.streamed_lines.proofs.OutsideLaws.{wrote-put, front-put}
+use Rattle.run_endings.proofs.EndingLaws.{ends-whole, ends-stopped, stops-line}
+use Rattle.run_endings.proofs.text.put_line.Goals as goal
 
 pub returns-in-Ok-clause-output : goal.returns-in-Ok-clause-output
 returns-in-Ok-clause-output g c =

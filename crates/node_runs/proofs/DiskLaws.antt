@@ -1,0 +1,94 @@
+-- The disks of a node that is somewhere, as they are handed back.
+use Rattle.std.proofs.Common.{◌≡◌, ◌⊎◌, ℕ, List, Option, Some, None, Result, refl, subst, inl, inr}
+use Rattle.crash_disk.specs.Disk.{History, FaultPlan}
+use Rattle.crash_disk.specs.Calls.{WhereTold}
+use Rattle.gate_journal.specs.Journal.{IsSettled}
+use Rattle.node_journal.specs.Notes.{NotesState, Opened}
+use Rattle.wallet_node.specs.Opening.{OpensWallet}
+use Rattle.wallet_node.specs.State.{WalletState, notes_part, leaves_part}
+use Rattle.node_journal.specs.declared.stop.Stop.TheVariants.{NoMemory}
+use Rattle.node_roles.specs.Notes.{NotesAt, with_note, StaysAt, IsNotesAt, FailedAt, FailsAt, StoppedAt}
+use Rattle.node_roles.specs.Wallets.{WalletAt, with_either, IsWalletAt, EitherFailsAt, WalletStoppedAt}
+use Rattle.node_runs.specs.Disks.{Keeps, MayKeep, Failed, opened_at, both_opened, KeepsBoth, EitherFailed}
+
+-- over a disk that tells its history and counts its faults
+module _ {D : Type 0} (told : D → Option History) (faults : D → ℕ) where
+  pub stays-keeps : (at : NotesAt) (notes : NotesState D) → StaysAt told faults notes at
+      → Keeps told faults at notes.disk
+  stays-keeps at notes is = record {
+    told_is = is.told_is;
+    faults_are = is.faults_are;
+    settled =
+        subst (λ records. WhereTold (told notes.disk) (λ now. IsSettled now records)) is.records_are is.settled;
+  }
+
+  failed-may : (body : List ℕ) (at : NotesAt) (notes : NotesState D) → FailedAt told faults body at notes
+      → MayKeep told faults body at notes.disk
+  failed-may body at notes is = record {
+    passed = is.passed;
+    few = is.few;
+    told_is = is.told_is;
+    any_moment = is.any_moment;
+    faults_are = is.faults_are;
+  }
+
+  pub fails-failed : (added : Option (List ℕ)) (at : NotesAt) (notes : NotesState D)
+      → FailsAt told faults added at notes → Failed told faults added at notes.disk
+  fails-failed None at notes is = absurd is
+  fails-failed (Some body) at notes is = failed-may body at notes is
+
+-- behind a command that was stopped for want of memory
+module _ {D : Type 0} (told : D → Option History) (faults : D → ℕ) where
+  pub starved-keeps : {L : Type 0} (line : L) (added : L → Option (List ℕ)) (at : NotesAt) (notes : NotesState D)
+      → StoppedAt told faults (added line) at NoMemory notes
+      → Keeps told faults at notes.disk ⊎ ((line : L) × Keeps told faults (with_note at (added line)) notes.disk)
+  starved-keeps line added at notes (inl is) = inl (stays-keeps told faults at notes is.there)
+  starved-keeps line added at notes (inr is) =
+      inr (line, stays-keeps told faults (with_note at (added line)) notes is.there)
+
+-- notes that were just opened
+module _ {D : Type 0} (told : D → Option History) (plan : D → Option FaultPlan) (faults : D → ℕ) where
+  pub opened-there : (read : List ℕ → Result (List (List ℕ)) ℕ) (old : D) (notes : NotesState D)
+      → Opened told plan faults read old notes → IsNotesAt told faults notes (opened_at told faults notes)
+  opened-there read old notes is = record {
+    is_open = is.is_open;
+    there = record { records_are = refl; told_is = refl; faults_are = refl; settled = is.settled };
+  }
+
+  pub opened-both : {H : Type 0} (dig : List ℕ → List ℕ) (notes leaves : D) (wallet : WalletState D H)
+      → OpensWallet told plan faults dig notes leaves wallet
+      → IsWalletAt told faults wallet (both_opened told faults wallet)
+  opened-both dig notes leaves wallet is = record {
+    notes_are = opened-there _ notes (notes_part wallet) is.opens_notes;
+    leaves_are = opened-there _ leaves (leaves_part wallet) is.opens_leaves;
+  }
+
+-- the two disks of a wallet
+module _ {D H : Type 0} (told : D → Option History) (faults : D → ℕ) where
+  pub wallet-keeps : (at : WalletAt) (wallet : WalletState D H) → IsWalletAt told faults wallet at
+      → KeepsBoth told faults at wallet.notes_disk wallet.leaves_disk
+  wallet-keeps at wallet is = record {
+    of_notes = stays-keeps told faults at.notes (notes_part wallet) is.notes_are.there;
+    of_leaves = stays-keeps told faults at.leaves (leaves_part wallet) is.leaves_are.there;
+  }
+
+  pub either-failed : (leaf added : Option (List ℕ)) (at : WalletAt) (wallet : WalletState D H)
+      → EitherFailsAt told faults leaf added at wallet
+      → EitherFailed told faults leaf added at wallet.notes_disk wallet.leaves_disk
+  either-failed None added at wallet is = (
+    fails-failed told faults added at.notes (notes_part wallet) is.0,
+    stays-keeps told faults at.leaves (leaves_part wallet) is.1,
+  )
+  either-failed (Some leaf) added at wallet is = (
+    failed-may told faults leaf at.leaves (leaves_part wallet) is.0,
+    stays-keeps told faults at.notes (notes_part wallet) is.1,
+  )
+
+  pub starved-both : {L : Type 0} (line : L) (leaf added : L → Option (List ℕ)) (at : WalletAt)
+      (wallet : WalletState D H) → WalletStoppedAt told faults (leaf line) (added line) at NoMemory wallet
+      → KeepsBoth told faults at wallet.notes_disk wallet.leaves_disk
+      ⊎ ((line : L)
+      × KeepsBoth told faults (with_either at (leaf line) (added line)) wallet.notes_disk wallet.leaves_disk)
+  starved-both line leaf added at wallet (inl is) = inl (wallet-keeps at wallet is)
+  starved-both line leaf added at wallet (inr is) =
+      inr (line, wallet-keeps (with_either at (leaf line) (added line)) wallet is)

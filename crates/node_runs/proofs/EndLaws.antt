@@ -1,0 +1,125 @@
+-- How a run ends whose text was put behind one that stands there, and what that says of its reading.
+use Rattle.std.proofs.Common.{◌≡◌, ℕ, inl, Bool, true, false, List, [], ◌++◌, Option, Ok, refl, sym, ap, ◌∙◌, subst, append_assoc}
+use Rattle.std.specs.Prelude.{◌≢◌}
+use Rattle.std.proofs.lemmas.List.{append-nil}
+use Rattle.streamed_lines.specs.declared.ending.Ending.{Ending}
+use Rattle.streamed_lines.specs.declared.ending.Ending.TheVariants.{Complete, BadLine, ReadFault, TooLong, Ended}
+use Rattle.streamed_lines.specs.Outside.{Wrote, WroteFront}
+use Rattle.streamed_lines.specs.Reading.{is_read_fault}
+use Rattle.streamed_lines.proofs.OutsideLaws.{wrote-none, wrote-more}
+use Rattle.run_endings.specs.declared.status.Status.{Status}
+use Rattle.run_endings.specs.declared.status.Status.TheVariants.{Done, Refused, Usage, BadLine as BadLineStatus, ReadFault as ReadFaultStatus, WriteFault, DeviceFault, NoMemory, TooLong as TooLongStatus, NotJournal, AlreadyMade}
+use Rattle.run_endings.specs.Statuses.{ReadsBy}
+use Rattle.run_endings.specs.Outputs.{Output, Stops, EndsAs}
+use Rattle.node_runs.specs.Endings.{status_of}
+
+-- nothing was written of a text
+pub front-none : (before : Option (List ℕ)) (text : List ℕ) → WroteFront before before text
+front-none before text = record { front = []; back = text; whole = refl; wrote = wrote-none before }
+
+pub stops-none : (output : Output) (before : Option (List ℕ)) → Stops output before before (Unit {0})
+stops-none output before = record { front = front-none before (output.answers ++ output.last); fault = λ is. inl tt }
+
+-- a beginning that was written behind a text
+front-more : (a b c : Option (List ℕ)) (put text : List ℕ) → Wrote a b put → WroteFront b c text
+    → WroteFront a c (put ++ text)
+front-more a b c put text first second = record {
+  front = put ++ second.front;
+  back = second.back;
+  whole = append_assoc put second.front second.back ∙ ap (λ rest. put ++ rest) second.whole;
+  wrote = wrote-more a b c put second.front first second.wrote;
+}
+
+-- a run whose answers were partly put before
+module _ (a b c : Option (List ℕ)) (put text last : List ℕ) (failed : Type 0) (first : Wrote a b put) where
+  stops-more : (status : Status) → (status ≡ ReadFaultStatus → failed)
+      → Stops (record { status = status; answers = text; last = last }) b c (Unit {0})
+      → Stops (record { status = status; answers = put ++ text; last = last }) a c failed
+  stops-more status why stops = record {
+    front =
+        subst (WroteFront a c) (sym (append_assoc put text last))
+        (front-more a b c put (text ++ last) first stops.front);
+    fault = λ is. inl (why is);
+  }
+
+  whole-more : Wrote b c (text ++ last) → Wrote a c ((put ++ text) ++ last)
+  whole-more wrote =
+      subst (Wrote a c) (sym (append_assoc put text last)) (wrote-more a b c put (text ++ last) first wrote)
+
+  pub ends-more : (output status : Status) → (output ≡ ReadFaultStatus → failed)
+      → EndsAs (record { status = output; answers = text; last = last }) status b c (Unit {0})
+      → EndsAs (record { status = output; answers = put ++ text; last = last }) status a c failed
+  ends-more output WriteFault why ends = stops-more output why ends
+  ends-more output NoMemory why ends = stops-more output why ends
+  ends-more output ReadFaultStatus why ends = ((ends.0.0, whole-more ends.0.1), why ends.0.0)
+  ends-more output Done why ends = (ends.0, whole-more ends.1)
+  ends-more output Refused why ends = (ends.0, whole-more ends.1)
+  ends-more output Usage why ends = (ends.0, whole-more ends.1)
+  ends-more output BadLineStatus why ends = (ends.0, whole-more ends.1)
+  ends-more output DeviceFault why ends = (ends.0, whole-more ends.1)
+  ends-more output TooLongStatus why ends = (ends.0, whole-more ends.1)
+  ends-more output NotJournal why ends = (ends.0, whole-more ends.1)
+  ends-more output AlreadyMade why ends = (ends.0, whole-more ends.1)
+
+-- the reading of a session, by what ended it
+module _ (Reads : Bool → Type 0) where
+  pub failed-of : (ending : Ending (List ℕ)) → Reads (is_read_fault (Ok ending)) → status_of ending ≡ ReadFaultStatus
+      → Reads true
+  failed-of Complete reads wrong = absurd (cc)
+  failed-of (BadLine n) reads wrong = absurd (cc)
+  failed-of ReadFault reads is = reads
+  failed-of (TooLong n) reads wrong = absurd (cc)
+  failed-of (Ended n cause) reads wrong = absurd (cc)
+
+  unfailed-of : (ending : Ending (List ℕ)) → Reads (is_read_fault (Ok ending)) → status_of ending ≢ ReadFaultStatus
+      → Reads false
+  unfailed-of Complete reads no_fault = reads
+  unfailed-of (BadLine n) reads no_fault = reads
+  unfailed-of ReadFault reads no_fault = absurd (no_fault refl)
+  unfailed-of (TooLong n) reads no_fault = reads
+  unfailed-of (Ended n cause) reads no_fault = reads
+
+  differs : (ending : Ending (List ℕ)) (status : Status) → status_of ending ≡ status → status ≢ ReadFaultStatus
+      → status_of ending ≢ ReadFaultStatus
+  differs ending status is no_fault same = no_fault (sym is ∙ same)
+
+  -- of a session that ended so, in a run with this status
+  pub reads-by : (ending : Ending (List ℕ)) (status : Status) (text last : List ℕ) (b c : Option (List ℕ))
+      → Reads (is_read_fault (Ok ending))
+      → EndsAs (record { status = status_of ending; answers = text; last = last }) status b c (Unit {0})
+      → ReadsBy status Reads
+  reads-by ending WriteFault text last b c reads ends = (is_read_fault (Ok ending), reads)
+  reads-by ending NoMemory text last b c reads ends = (is_read_fault (Ok ending), reads)
+  reads-by ending ReadFaultStatus text last b c reads ends = failed-of ending reads ends.0.0
+  reads-by ending Done text last b c reads ends =
+      unfailed-of ending reads (differs ending Done ends.0 (λ wrong. absurd (cc)))
+  reads-by ending Refused text last b c reads ends =
+      unfailed-of ending reads (differs ending Refused ends.0 (λ wrong. absurd (cc)))
+  reads-by ending Usage text last b c reads ends =
+      unfailed-of ending reads (differs ending Usage ends.0 (λ wrong. absurd (cc)))
+  reads-by ending BadLineStatus text last b c reads ends =
+      unfailed-of ending reads (differs ending BadLineStatus ends.0 (λ wrong. absurd (cc)))
+  reads-by ending DeviceFault text last b c reads ends =
+      unfailed-of ending reads (differs ending DeviceFault ends.0 (λ wrong. absurd (cc)))
+  reads-by ending TooLongStatus text last b c reads ends =
+      unfailed-of ending reads (differs ending TooLongStatus ends.0 (λ wrong. absurd (cc)))
+  reads-by ending NotJournal text last b c reads ends =
+      unfailed-of ending reads (differs ending NotJournal ends.0 (λ wrong. absurd (cc)))
+  reads-by ending AlreadyMade text last b c reads ends =
+      unfailed-of ending reads (differs ending AlreadyMade ends.0 (λ wrong. absurd (cc)))
+
+  -- of a run that met a device fault, whose reading had none
+  pub reads-unfaulted : (status : Status) (text last : List ℕ) (b c : Option (List ℕ)) → Reads false
+      → EndsAs (record { status = DeviceFault; answers = text; last = last }) status b c (Unit {0})
+      → ReadsBy status Reads
+  reads-unfaulted WriteFault text last b c reads ends = (false, reads)
+  reads-unfaulted NoMemory text last b c reads ends = (false, reads)
+  reads-unfaulted ReadFaultStatus text last b c reads ends = absurd (cc (ends.0.0))
+  reads-unfaulted Done text last b c reads ends = reads
+  reads-unfaulted Refused text last b c reads ends = reads
+  reads-unfaulted Usage text last b c reads ends = reads
+  reads-unfaulted BadLineStatus text last b c reads ends = reads
+  reads-unfaulted DeviceFault text last b c reads ends = reads
+  reads-unfaulted TooLongStatus text last b c reads ends = reads
+  reads-unfaulted NotJournal text last b c reads ends = reads
+  reads-unfaulted AlreadyMade text last b c reads ends = reads

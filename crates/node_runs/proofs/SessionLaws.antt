@@ -1,0 +1,206 @@
+-- A session of a node that was answered, or broken off, as a run of the node.
+use Rattle.std.proofs.Common.{◌≡◌, ◌⊎◌, ℕ, inl, inr, Bool, true, false, List, [], ◌++◌, Option, Result, Ok, Err, refl, sym, ap, ◌∙◌, subst}
+use Rattle.plasma_tx.specs.declared.call.RootCall.{RootCall}
+use Rattle.node_journal.specs.declared.stop.Stop.{Stop as NodeStop}
+use Rattle.node_journal.specs.declared.stop.Stop.TheVariants.{NoMemory as NodeMemory, DeviceFault as NodeFault}
+use Rattle.streamed_lines.specs.declared.ending.Ending.{Ending}
+use Rattle.streamed_lines.specs.declared.ending.Ending.TheVariants.{Complete, BadLine, ReadFault, TooLong, Ended}
+use Rattle.streamed_lines.specs.declared.ending.Stop.TheVariants.{BadLine as BadLineStop, TooLong as TooLongStop, Ends}
+use Rattle.streamed_lines.specs.declared.ending.Halt.{Halt}
+use Rattle.streamed_lines.specs.declared.ending.Halt.TheVariants.{Stops, Failed, NoMemory as NoMemoryHalt}
+use Rattle.streamed_lines.specs.declared.ending.Break.{Break}
+use Rattle.streamed_lines.specs.declared.ending.Break.TheVariants.{WriteFault as WriteBreak, Failed as FailedBreak, NoMemory as NoMemoryBreak}
+use Rattle.streamed_lines.specs.Streams.{Rules, Streamed, stream_of}
+use Rattle.streamed_lines.specs.Bounds.{TakesFew}
+use Rattle.streamed_lines.specs.Reading.{is_read_fault, IsLeft, Answers, BrokeOff}
+use Rattle.node_sessions.specs.Sessions.{SessionState, begun, calls_of}
+use Rattle.node_sessions.specs.Commands.{IsHaltedNode}
+use Rattle.run_endings.specs.declared.status.Status.{Status}
+use Rattle.run_endings.specs.declared.status.Status.TheVariants.{Done, Refused, Usage, BadLine as BadLineStatus, ReadFault as ReadFaultStatus, WriteFault, DeviceFault, NoMemory, TooLong as TooLongStatus, NotJournal, AlreadyMade}
+use Rattle.run_endings.specs.Outputs.{EndsAs}
+use Rattle.node_runs.specs.Endings.{status_of, last_text, session_output, fault_output}
+use Rattle.node_runs.specs.Sessions.{Outside, BrokenAt, RunsSession}
+use Rattle.node_runs.proofs.EndLaws.{ends-more, failed-of}
+
+-- over a session's answerer, which leaves the node where its lines left it
+module _ {N A L W : Type 0} (rules : Rules (SessionState A) (List ℕ)) (found : A) (Ran : W → SessionState A → Type 0)
+    (Halted : W → SessionState A → Halt (List ℕ) → Type 0) (IsAt : N → A → Type 0)
+    (IsStopped : N → List RootCall → A → L → NodeStop → Type 0) (session : W) (node : N)
+    (ran : (run : SessionState A) → Ran session run → IsAt node run.node)
+    (halted : (run : SessionState A) (halt : Halt (List ℕ)) → Halted session run halt
+    → IsHaltedNode IsAt IsStopped node (calls_of run.log) run.node halt) where
+  -- what a run of it did
+  abbrev Runs : Outside → Type 0 → Status → Type 0
+  Runs outside failed status =
+      RunsSession rules found (λ at. IsAt node at)
+      (λ log at. (command : L) × IsStopped node log at command NodeFault)
+      (λ log at. (command : L) × IsStopped node log at command NodeMemory)
+      outside failed status
+
+  -- the node is where the answered lines left it
+  left-at : (run : SessionState A) (ending : Ending (List ℕ)) → IsLeft Ran Halted session run ending
+      → IsAt node run.node
+  left-at run Complete is = ran run is
+  left-at run ReadFault is = ran run is
+  left-at run (BadLine n) (inl is) = ran run is
+  left-at run (BadLine n) (inr is) = halted run (Stops BadLineStop) is
+  left-at run (TooLong n) (inl is) = ran run is
+  left-at run (TooLong n) (inr is) = halted run (Stops TooLongStop) is
+  left-at run (Ended n cause) is = halted run (Stops (Ends cause)) is
+
+  -- a session that was answered to its end, whose last text was put
+  pub answered-runs : (left later taken put_then after : Option (List ℕ)) (text : List ℕ) (ending : Ending (List ℕ))
+      (Reads : Bool → Type 0) (status : Status)
+      → Answers rules (begun found) Ran Halted left later taken put_then text ending session
+      → Reads (is_read_fault (Ok ending))
+      → EndsAs (record { status = status_of ending; answers = text; last = last_text ending }) status put_then after
+      (Unit {0})
+      → Runs (record { left = left; later = later; taken = taken; after = after }) (Reads true) status
+  answered-runs left later taken put_then after text ending Reads status answers reads ends =
+      let is = answers.ends in
+      inl
+      (record {
+        bytes = answers.bytes;
+        ended = answers.ended;
+        gave = answers.gave;
+        ends =
+            subst (λ output. EndsAs output status taken after (Reads true))
+            (ap (λ told. record { status = status_of ending; answers = told; last = last_text ending }) is.told
+            ∙ ap session_output (sym is.streams))
+            (ends-more taken put_then after answers.put text (last_text ending) (Reads true) answers.wrote
+            (status_of ending) status (failed-of Reads ending reads) ends);
+        few =
+            subst (λ (streamed : Streamed (SessionState A) (List ℕ)). TakesFew answers.bytes streamed.ending)
+            (sym is.streams) is.few;
+        left =
+            subst (λ (streamed : Streamed (SessionState A) (List ℕ)). IsAt node streamed.stream.run.node)
+            (sym is.streams) (left-at is.stream.run ending is.left);
+      })
+
+  -- one whose next command met a device fault
+  pub faulted-runs : (left later taken put_then after : Option (List ℕ)) (text : List ℕ) (failed : Type 0)
+      (status : Status) (why : Break) → why ≡ FailedBreak
+      → BrokeOff rules (begun found) Ran Halted left later taken put_then text why session
+      → EndsAs (fault_output text) status put_then after (Unit {0})
+      → Runs (record { left = left; later = later; taken = taken; after = after }) failed status
+  faulted-runs left later taken put_then after text failed status why same broken ends =
+      let broke =
+      subst (λ why. BrokeOff rules (begun found) Ran Halted left later taken put_then text why session) same broken in
+      let is = broke.breaks in
+      inr
+      (inl
+      (record {
+        bytes = broke.bytes;
+        ended = broke.ended;
+        stream = is.stream;
+        gave = broke.gave;
+        begins = record { front = is.front; rest = is.rest; whole = is.whole; runs = is.runs };
+        ends =
+            subst (λ told. EndsAs (fault_output told) status taken after ⊥) is.put_is
+            (ends-more taken put_then after broke.put text (fault_output text).last ⊥ broke.wrote DeviceFault status
+            (λ wrong. absurd (cc)) ends);
+        left = halted is.stream.run Failed is.broken;
+      }))
+
+  -- one whose sink refused
+  pub refused-runs : (left later taken after : Option (List ℕ)) (text : List ℕ) (failed : Type 0)
+      (why : Break) → why ≡ WriteBreak
+      → BrokeOff rules (begun found) Ran Halted left later taken after text why session
+      → Runs (record { left = left; later = later; taken = taken; after = after }) failed WriteFault
+  refused-runs left later taken after text failed why same broken =
+      let broke =
+      subst (λ why. BrokeOff rules (begun found) Ran Halted left later taken after text why session) same broken in
+      let is = broke.breaks in
+      inr
+      (inr
+      (record {
+        bytes = broke.bytes;
+        ended = broke.ended;
+        stream = is.stream;
+        gave = broke.gave;
+        begins = record { front = is.front; rest = is.rest; whole = is.whole; runs = is.runs };
+        front = record { front = broke.put; back = is.put_is.0; whole = is.put_is.1; wrote = broke.wrote };
+        left = ran is.stream.run is.broken;
+      }))
+
+  starved-at : (run : SessionState A)
+      → Ran session run ⊎ Halted session run NoMemoryHalt
+      → IsAt node run.node ⊎ ((command : L) × IsStopped node (calls_of run.log) run.node command NodeMemory)
+  starved-at run (inl is) = inl (ran run is)
+  starved-at run (inr is) = halted run NoMemoryHalt is
+
+  -- one for which memory ran out
+  pub starved-runs : (left later taken after : Option (List ℕ)) (text : List ℕ) (failed : Type 0)
+      (why : Break) → why ≡ NoMemoryBreak
+      → BrokeOff rules (begun found) Ran Halted left later taken after text why session
+      → Runs (record { left = left; later = later; taken = taken; after = after }) failed NoMemory
+  starved-runs left later taken after text failed why same broken =
+      let broke =
+      subst (λ why. BrokeOff rules (begun found) Ran Halted left later taken after text why session) same broken in
+      let is = broke.breaks in
+      inr
+      (inr
+      (record {
+        bytes = broke.bytes;
+        ended = broke.ended;
+        stream = is.stream;
+        gave = broke.gave;
+        begins = record { front = is.front; rest = is.rest; whole = is.whole; runs = is.runs };
+        front = record { front = broke.put; back = is.put_is.0; whole = is.put_is.1; wrote = broke.wrote };
+        left = starved-at is.stream.run is.broken;
+      }))
+
+-- what a run did, in other words of where it leaves the node
+module _ {A : Type 0} (rules : Rules (SessionState A) (List ℕ)) (found : A) (Left Left_ : A → Type 0)
+    (Faulted Faulted_ Unanswered Unanswered_ : List RootCall → A → Type 0)
+    (left : (at : A) → Left at → Left_ at)
+    (faulted : (log : List RootCall) (at : A) → Faulted log at → Faulted_ log at)
+    (unanswered : (log : List RootCall) (at : A) → Unanswered log at → Left_ at ⊎ Unanswered_ log at) where
+  broken-or : (session : SessionState A) → Left session.node ⊎ Unanswered (calls_of session.log) session.node
+      → Left_ session.node ⊎ Unanswered_ (calls_of session.log) session.node
+  broken-or session (inl is) = inl (left session.node is)
+  broken-or session (inr is) = unanswered (calls_of session.log) session.node is
+
+  broken-in : (status : Status) (session : SessionState A) → BrokenAt Left Unanswered status session
+      → BrokenAt Left_ Unanswered_ status session
+  broken-in WriteFault session is = left session.node is
+  broken-in NoMemory session is = broken-or session is
+  broken-in Done session is = absurd is
+  broken-in Refused session is = absurd is
+  broken-in Usage session is = absurd is
+  broken-in BadLineStatus session is = absurd is
+  broken-in ReadFaultStatus session is = absurd is
+  broken-in DeviceFault session is = absurd is
+  broken-in TooLongStatus session is = absurd is
+  broken-in NotJournal session is = absurd is
+  broken-in AlreadyMade session is = absurd is
+
+  pub in-words : (outside : Outside) (failed : Type 0) (status : Status)
+      → RunsSession rules found Left Faulted Unanswered outside failed status
+      → RunsSession rules found Left_ Faulted_ Unanswered_ outside failed status
+  in-words outside failed status (inl is) = inl (record {
+    bytes = is.bytes;
+    ended = is.ended;
+    gave = is.gave;
+    ends = is.ends;
+    few = is.few;
+    left = left (stream_of rules (begun found) is.bytes is.ended).stream.run.node is.left;
+  })
+  in-words outside failed status (inr (inl is)) = inr (inl (record {
+    bytes = is.bytes;
+    ended = is.ended;
+    stream = is.stream;
+    gave = is.gave;
+    begins = is.begins;
+    ends = is.ends;
+    left = faulted (calls_of is.stream.run.log) is.stream.run.node is.left;
+  }))
+  in-words outside failed status (inr (inr is)) = inr (inr (record {
+    bytes = is.bytes;
+    ended = is.ended;
+    stream = is.stream;
+    gave = is.gave;
+    begins = is.begins;
+    front = is.front;
+    left = broken-in status is.stream.run is.left;
+  }))

@@ -1,0 +1,5 @@
+pub mod Endings
+pub mod Disks
+pub mod Sessions
+pub mod Runs
+pub mod Inits

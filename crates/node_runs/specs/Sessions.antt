@@ -1,0 +1,79 @@
+-- What a session of a node does, from its first line to its last.
+use Rattle.std.specs.Prelude.{◌≡◌, ◌⊎◌, ℕ, Bool, List, ◌++◌, Option}
+use Rattle.plasma_tx.specs.declared.call.RootCall.{RootCall}
+use Rattle.streamed_lines.specs.Streams.{Rules, Stream, Streamed, stream_of}
+use Rattle.streamed_lines.specs.Bounds.{TakesFew}
+use Rattle.streamed_lines.specs.Outside.{Gave, WroteFront}
+use Rattle.streamed_lines.specs.Reading.{RunsTo}
+use Rattle.node_sessions.specs.Sessions.{SessionState, begun, calls_of}
+use Rattle.run_endings.specs.declared.status.Status.{Status}
+use Rattle.run_endings.specs.declared.status.Status.TheVariants.{WriteFault, NoMemory}
+use Rattle.run_endings.specs.Outputs.{EndsAs}
+use Rattle.node_runs.specs.Endings.{session_output, fault_output}
+
+-- what the source of a run had left and its sink had taken, before and after, where they tell it
+pub record Outside : Type 0 where
+  pub left : Option (List ℕ)
+  pub later : Option (List ℕ)
+  pub taken : Option (List ℕ)
+  pub after : Option (List ℕ)
+
+-- lines with which these bytes begin were answered, and this is their stream
+pub record Begins {R C : Type 0} (rules : Rules R C) (first : R) (bytes : List ℕ) (stream : Stream R) : Type 0 where
+  pub front : List ℕ
+  pub rest : List ℕ
+  pub whole : bytes ≡ front ++ rest
+  pub runs : RunsTo rules first front stream
+
+-- where the disks of a node are behind a session that was broken off with this status: as what commands came to; or
+-- behind a command that was done, and whose answer was lost for want of memory
+module _ {A : Type 0} (Left : A → Type 0) (Unanswered : List RootCall → A → Type 0) where
+  abbrev pub BrokenAt : Status → SessionState A → Type 0
+  BrokenAt WriteFault session = Left session.node
+  BrokenAt NoMemory session = Left session.node ⊎ Unanswered (calls_of session.log) session.node
+  BrokenAt status session = ⊥
+
+-- By these rules, over a node that the run found here. Its disks are handed back as what commands came to; or behind a
+-- command that met a device fault; or behind one that was done, and whose answer was lost for want of memory.
+module _ {A : Type 0} (rules : Rules (SessionState A) (List ℕ)) (found : A) (Left : A → Type 0)
+    (Faulted Unanswered : List RootCall → A → Type 0) where
+  -- the session of an input
+  abbrev pub session_of : List ℕ → Bool → Streamed (SessionState A) (List ℕ)
+  session_of bytes ended = stream_of rules (begun found) bytes ended
+
+  -- `failed` says that the reading failed
+  module _ (outside : Outside) (failed : Type 0) (status : Status) where
+    -- The session of the bytes that the source gave was answered, up to what ended it: the run has the status and the
+    -- text of this, or of a text that was stopped wrote a beginning. Few bytes were taken behind a line that ended it.
+    -- The disks are left as the answered lines left them.
+    pub record Answered : Type 0 where
+      pub bytes : List ℕ
+      pub ended : Bool
+      pub gave : Gave outside.left outside.later bytes ended
+      pub ends : EndsAs (session_output (session_of bytes ended)) status outside.taken outside.after failed
+      pub few : TakesFew bytes (session_of bytes ended).ending
+      pub left : Left (session_of bytes ended).stream.run.node
+
+    -- Lines were answered, and a command behind them met a device fault.
+    pub record Faults : Type 0 where
+      pub bytes : List ℕ
+      pub ended : Bool
+      pub stream : Stream (SessionState A)
+      pub gave : Gave outside.left outside.later bytes ended
+      pub begins : Begins rules (begun found) bytes stream
+      pub ends : EndsAs (fault_output stream.text) status outside.taken outside.after ⊥
+      pub left : Faulted (calls_of stream.run.log) stream.run.node
+
+    -- Lines were answered, a beginning of whose answers was written, and then the sink refused or memory ran out.
+    pub record BreaksOff : Type 0 where
+      pub bytes : List ℕ
+      pub ended : Bool
+      pub stream : Stream (SessionState A)
+      pub gave : Gave outside.left outside.later bytes ended
+      pub begins : Begins rules (begun found) bytes stream
+      pub front : WroteFront outside.taken outside.after stream.text
+      pub left : BrokenAt Left Unanswered status stream.run
+
+    -- what a session with this status did
+    abbrev pub RunsSession : Type 0
+    RunsSession = Answered ⊎ Faults ⊎ BreaksOff

@@ -1,0 +1,83 @@
+ghost use Rattle.std.specs.Prelude.{◌≡◌, ◌++◌, ℕ, List, false, OnOk};
+ghost use Rattle.plasma_base.specs.Causes.{faults_after};
+ghost use Rattle.run_endings.specs.Statuses.{is_write_fault};
+ghost use Rattle.run_endings.specs.Outputs.{EndsAs};
+ghost use Rattle.node_runs.specs.Endings.{status_of, last_text, fault_output};
+
+use plasma_base::{Bytes, NoMemory};
+use plasma_outside::Sink;
+use run_endings::{Status, push_bad_line, push_refused, push_too_long};
+use streamed_lines::{Ending, put_text};
+
+// The status of a session that ended so.
+fn status_of(ending: &Ending<Bytes>) -> Status
+    ensures { result ≡ status_of ending.now }
+{
+    match ending {
+        Ending::Complete => Status::Done,
+        Ending::BadLine { .. } => Status::BadLine,
+        Ending::ReadFault => Status::ReadFault,
+        Ending::TooLong { .. } => Status::TooLong,
+        Ending::Ended { .. } => Status::Refused,
+    }
+}
+
+// Puts words at the end.
+fn push_words(out: &mut Vec<u8>, words: &[u8]) -> Result<(), NoMemory>
+    ensures { OnOk result (out.new.items ≡ out.old.items ++ words.now) }
+{
+    out.extend_from_slice(words)?;
+    Ok(())
+}
+
+// Puts the last line of a session that ended so at the end.
+#[tactic(auto, unfolding(crate::specs::Endings::last_text))]
+fn push_last(out: &mut Vec<u8>, ending: &Ending<Bytes>) -> Result<(), NoMemory>
+    ensures { OnOk result (out.new.items ≡ out.old.items ++ last_text ending.now) }
+{
+    match ending {
+        Ending::Complete => Ok(()),
+        Ending::BadLine { line } => push_bad_line(out, *line),
+        Ending::ReadFault => push_words(out, b"read fault\n"),
+        Ending::TooLong { line } => push_too_long(out, *line),
+        Ending::Ended { cause, .. } => push_refused(out, cause.as_slice()),
+    }
+}
+
+// Puts the gathered text, with which a run ends that has this status.
+fn put_whole<K: Sink>(sink: &mut K, text: &mut Vec<u8>, status: Status) -> Status
+    requires no_write_fault { is_write_fault status ≡ false }
+    ensures ends { (answers last : List ℕ) → text.old.items ≡ answers ++ last → EndsAs
+        (record { status = status; answers = answers; last = last }) result (K.taken sink.old) (K.taken sink.new)
+        (Unit {0}) }
+    ensures sink_faults { K.faults sink.new ≡ faults_after (K.faults sink.old) (is_write_fault result) }
+{
+    match put_text(sink, text) {
+        Ok(()) => status,
+        Err(refusal) => Status::of_refusal(refusal),
+    }
+}
+
+/// Ends a session that ended so: puts the text that is gathered, and the last line behind it.
+pub fn put_ending<K: Sink>(sink: &mut K, text: &mut Vec<u8>, ending: &Ending<Bytes>) -> Status
+    ensures ends { EndsAs
+        (record { status = status_of ending.now; answers = text.old.items; last = last_text ending.now })
+        result (K.taken sink.old) (K.taken sink.new) (Unit {0}) }
+    ensures sink_faults { K.faults sink.new ≡ faults_after (K.faults sink.old) (is_write_fault result) }
+{
+    match push_last(text, ending) {
+        Ok(()) => put_whole(sink, text, status_of(ending)),
+        Err(NoMemory) => Status::NoMemory,
+    }
+}
+
+/// Ends a run that met a device fault: puts the text that is gathered, and the last line behind it.
+pub fn put_fault<K: Sink>(sink: &mut K, text: &mut Vec<u8>) -> Status
+    ensures ends { EndsAs (fault_output text.old.items) result (K.taken sink.old) (K.taken sink.new) (Unit {0}) }
+    ensures sink_faults { K.faults sink.new ≡ faults_after (K.faults sink.old) (is_write_fault result) }
+{
+    match push_words(text, b"device fault\n") {
+        Ok(()) => put_whole(sink, text, Status::DeviceFault),
+        Err(NoMemory) => Status::NoMemory,
+    }
+}

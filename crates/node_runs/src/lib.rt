@@ -1,0 +1,16 @@
+//! Runs of single nodes: the disks of a watcher, an operator or a wallet are opened, or begun, and a session's lines
+//! are answered.
+#![tactic(auto)]
+
+mod ending;
+mod init;
+mod operator;
+mod opening;
+mod session;
+mod wallet;
+mod watcher;
+
+pub use init::{init_operator, init_wallet, init_watcher};
+pub use operator::run_operator;
+pub use wallet::run_wallet;
+pub use watcher::run_watcher;

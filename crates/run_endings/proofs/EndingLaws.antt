@@ -1,0 +1,75 @@
+-- How a run ends whose text was written whole, or was stopped.
+use Rattle.std.proofs.Common.{◌≡◌, ℕ, inl, inr, Bool, true, false, List, [], ◌++◌, Option, refl, sym, subst}
+use Rattle.std.specs.Prelude.{◌≢◌}
+use Rattle.std.proofs.lemmas.Bool.{false≢true}
+use Rattle.std.proofs.lemmas.List.{append-nil}
+use Rattle.plasma_outside.specs.declared.sink.SinkRefusal.{SinkRefusal}
+use Rattle.plasma_outside.specs.declared.sink.SinkRefusal.TheVariants.{Failed, NoMemory as WantsMemory}
+use Rattle.streamed_lines.specs.Outside.{Wrote, WroteFront, ReadsToFault}
+use Rattle.run_endings.specs.declared.status.Status.{Status}
+use Rattle.run_endings.specs.declared.status.Status.TheVariants.{Done, Refused, Usage, BadLine, ReadFault, WriteFault, DeviceFault, NoMemory, TooLong, NotJournal, AlreadyMade}
+use Rattle.run_endings.specs.Statuses.{status_of_refusal, ReadsBy}
+use Rattle.run_endings.specs.Outputs.{Output, Stops, EndsAs}
+
+-- a text that was written whole ends a run with any status but one that stopped it
+pub ends-whole :
+    (output : Output) (before after : Option (List ℕ)) (failed : Type 0)
+    → (output.status ≡ ReadFault → failed) → Wrote before after (output.answers ++ output.last)
+    → EndsAs output output.status before after failed
+ends-whole output before after failed why wrote = by-status output.answers output.last output.status why wrote
+  where
+    stops : (answers last : List ℕ) (status : Status) → status ≢ ReadFault
+        → Wrote before after (answers ++ last)
+        → Stops (record { status = status; answers = answers; last = last }) before after failed
+    stops answers last status no_fault wrote = record {
+      front = record { front = answers ++ last; back = []; whole = append-nil (answers ++ last); wrote = wrote };
+      fault = λ is. absurd (no_fault is);
+    }
+
+    by-status : (answers last : List ℕ) (status : Status) → (status ≡ ReadFault → failed)
+        → Wrote before after (answers ++ last)
+        → EndsAs (record { status = status; answers = answers; last = last }) status before after failed
+    by-status answers last Done why wrote = (refl, wrote)
+    by-status answers last Refused why wrote = (refl, wrote)
+    by-status answers last Usage why wrote = (refl, wrote)
+    by-status answers last BadLine why wrote = (refl, wrote)
+    by-status answers last ReadFault why wrote = ((refl, wrote), why refl)
+    by-status answers last DeviceFault why wrote = (refl, wrote)
+    by-status answers last TooLong why wrote = (refl, wrote)
+    by-status answers last NotJournal why wrote = (refl, wrote)
+    by-status answers last AlreadyMade why wrote = (refl, wrote)
+    by-status answers last WriteFault why wrote = stops answers last WriteFault (λ wrong. absurd (cc)) wrote
+    by-status answers last NoMemory why wrote = stops answers last NoMemory (λ wrong. absurd (cc)) wrote
+
+-- a run that was stopped
+pub ends-stopped :
+    (refusal : SinkRefusal) (output : Output) (before after : Option (List ℕ)) (failed : Type 0)
+    → Stops output before after failed → EndsAs output (status_of_refusal refusal) before after failed
+ends-stopped Failed output before after failed stops = stops
+ends-stopped WantsMemory output before after failed stops = stops
+
+-- a run that was stopped in its only line
+pub stops-line :
+    (status : Status) (line : List ℕ) (before after : Option (List ℕ))
+    → status ≢ ReadFault → WroteFront before after line
+    → Stops (record { status = status; answers = []; last = line }) before after ⊥
+stops-line status line before after no_fault front = record { front = front; fault = λ is. absurd (no_fault is) }
+
+-- a run that met no read fault, whose source had no fault
+pub reads-unfailed : (status : Status) (Reads : Bool → Type 0) → status ≢ ReadFault → Reads false
+    → ReadsBy status Reads
+reads-unfailed Done Reads no_fault reads = reads
+reads-unfailed Refused Reads no_fault reads = reads
+reads-unfailed Usage Reads no_fault reads = reads
+reads-unfailed BadLine Reads no_fault reads = reads
+reads-unfailed ReadFault Reads no_fault reads = absurd (no_fault refl)
+reads-unfailed WriteFault Reads no_fault reads = (false, reads)
+reads-unfailed DeviceFault Reads no_fault reads = reads
+reads-unfailed NoMemory Reads no_fault reads = (false, reads)
+reads-unfailed TooLong Reads no_fault reads = reads
+reads-unfailed NotJournal Reads no_fault reads = reads
+reads-unfailed AlreadyMade Reads no_fault reads = reads
+
+-- a source that wasn't touched
+pub reads-none : (faults : ℕ) (failed_last : Bool) → ReadsToFault faults faults failed_last false
+reads-none faults failed_last = record { count = refl; last = λ wrong. absurd (false≢true wrong) }
