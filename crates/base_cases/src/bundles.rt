@@ -31,17 +31,26 @@ fn with_byte(alloc: Global, place: usize, byte: u8) -> Result<Vec<u8>, Fail> {
     Ok(bytes)
 }
 
+// The coin, the tip and the number of openings of a bundle.
+fn parts(alloc: Global, bytes: &[u8]) -> Result<(u64, u64, usize), Fail> {
+    let bundle = Bundle::read(alloc, bytes)?;
+    Ok((bundle.coin, bundle.tip, bundle.openings.as_slice().len()))
+}
+
+// A copy of a bundle, written behind a byte.
+fn written(alloc: Global, bytes: &[u8]) -> Result<Vec<u8>, Fail> {
+    let bundle = Bundle::read(alloc, bytes)?.copy()?;
+    let mut written = Vec::from_slice(alloc, &[8])?;
+    bundle.write(&mut written)?;
+    Ok(written)
+}
+
 #[test]
 fn bundles_are_written_as_read(rt: HostRuntime) -> Result<(), Fail> {
-    let alloc = rt.alloc();
     let rows: [(&[u8], u64, u64, usize); 2] = [(&DEPOSIT, 1, 1, 0), (&TWO_ITEMS, 5, 3, 2)];
     for (bytes, coin, tip, count) in rows {
-        let bundle = Bundle::read(alloc, bytes)?.copy()?;
-        assert_eq!(rt; (bundle.coin, bundle.tip), (coin, tip));
-        assert_eq!(rt; bundle.openings.as_slice().len(), count);
-        let mut written = Vec::from_slice(alloc, &[8])?;
-        bundle.write(&mut written)?;
-        assert_eq!(rt; written.get(1..), Some(bytes));
+        assert_eq!(rt; parts(rt.alloc(), bytes)?, (coin, tip, count));
+        assert_eq!(rt; written(rt.alloc(), bytes)?.get(1..), Some(bytes));
     }
     Ok(())
 }

@@ -5,6 +5,7 @@ ghost use Rattle.crash_disk.specs.Outcomes.{HasPattern};
 use crash_disk::*;
 use plasma_base::Bytes;
 use std::alloc::Global;
+use std::process::Abort;
 use std::test::Fail;
 
 // A disk of four synced bytes, with two written over the third and fourth, and two past the end.
@@ -46,13 +47,18 @@ fn crashes(rt: HostRuntime) -> Result<(), Fail> {
     Ok(())
 }
 
-#[test]
-fn calls_fail(rt: HostRuntime) -> Result<(), Fail> {
-    let alloc = rt.alloc();
+// Such a disk, whose first sync failed, after a crash.
+fn failed(rt: &impl Abort, alloc: Global) -> Result<MemDisk, Fail> {
     let mut disk = two_writes(alloc, [2, 9].as_slice().to_vec(alloc)?)?;
     assert_eq!(rt; disk.sync(), Err(DiskFailed));
     assert_eq!(rt; disk.len(), Ok(6));
     disk.crash(&Outcome::Old)?;
+    Ok(disk)
+}
+
+#[test]
+fn calls_fail(rt: HostRuntime) -> Result<(), Fail> {
+    let mut disk = failed(&rt, rt.alloc())?;
     assert_eq!(rt; disk.bytes(), b"abcd".as_slice());
     disk.make_room(3, 1)?;
     disk.fuse(1);

@@ -65,28 +65,32 @@ fn opening(alloc: Global, bytes: &[u8], block: u64) -> Result<RawOpening, Fail> 
     Ok(RawOpening { block, bytes })
 }
 
+// A transfer of a coin, whose block is the one byte of its opening.
+fn link(alloc: Global, coin: u64, parent: u64, byte: u8) -> Result<Link, Fail> {
+    let block = u64::from(byte);
+    let opening = opening(alloc, &[byte], block)?;
+    let body = Body {
+        tag: [0; 32],
+        coin,
+        parent,
+        to: OWNER,
+        last: None,
+    };
+    let signature = Bytes::from_vec(Vec::new(alloc));
+    Ok(Link {
+        block,
+        tx: SignedTx { body, signature },
+        opening,
+    })
+}
+
 // A coin that was deposited at block 1, with links at these blocks.
 fn guard(alloc: Global, coin: u64, blocks: &[u8]) -> Result<Guard, Fail> {
     let mut parent = 1;
     let mut links = Vec::new(alloc);
     for &byte in blocks {
-        let block = u64::from(byte);
-        let body = Body {
-            tag: [0; 32],
-            coin,
-            parent,
-            to: OWNER,
-            last: None,
-        };
-        links.push(Link {
-            block,
-            tx: SignedTx {
-                body,
-                signature: Bytes::from_vec(Vec::new(alloc)),
-            },
-            opening: opening(alloc, &[byte], block)?,
-        })?;
-        parent = block;
+        links.push(link(alloc, coin, parent, byte)?)?;
+        parent = u64::from(byte);
     }
     let links = Links {
         coin,
@@ -106,6 +110,16 @@ fn start(alloc: Global, coin: u64, exit: u64, parent: u64) -> Result<RootCall, F
     })
 }
 
+fn respond(alloc: Global, exit: u64, challenged: u64) -> Result<RootCall, Fail> {
+    Ok(RootCall::Respond {
+        account: 3,
+        coin: 1,
+        exit,
+        challenged,
+        spend: opening(alloc, &[], 9)?,
+    })
+}
+
 // The log with the exit of coin 1, its challenges and their answers.
 fn log_of(alloc: Global, row: &Row) -> Result<RootLog, Fail> {
     let mut log = RootLog::make(alloc, [0; 32], 9, 100);
@@ -120,13 +134,7 @@ fn log_of(alloc: Global, row: &Row) -> Result<RootLog, Fail> {
         })?;
     }
     for &challenged in row.answered {
-        log.push(RootCall::Respond {
-            account: 3,
-            coin: 1,
-            exit: row.exit,
-            challenged,
-            spend: opening(alloc, &[], 9)?,
-        })?;
+        log.push(respond(alloc, row.exit, challenged)?)?;
     }
     log.push(RootCall::Tick {
         now: START.saturating_add(row.ago),
@@ -245,35 +253,43 @@ fn exits_of_a_deposit(rt: HostRuntime) -> Result<(), Fail> {
 }
 
 // Two exits of coin 2 and one of coin 1, under a clock near its end.
-#[test]
-fn guards_in_order(rt: HostRuntime) -> Result<(), Fail> {
-    let alloc = rt.alloc();
+fn three_exits(alloc: Global) -> Result<RootLog, Fail> {
     let mut log = RootLog::make(alloc, [0; 32], 9, 100);
-    let guards = [
-        guard(alloc, 2, &[2, 4])?,
-        guard(alloc, 3, &[2])?,
-        guard(alloc, 1, &[3])?,
-    ];
-    assert_eq!(rt; dues(alloc, &log, &guards)?.len(), 0);
     log.push(RootCall::Tick { now: u64::MAX - 1 })?;
     log.push(start(alloc, 1, 1, 0)?)?;
     log.push(start(alloc, 2, 6, 5)?)?;
     log.push(start(alloc, 2, 2, 1)?)?;
     log.push(RootCall::Tick { now: u64::MAX })?;
+    Ok(log)
+}
+
+// Whether the calls are of account 5, and of the coins of those exits.
+fn are_own(calls: &[RootCall]) -> bool {
+    calls.iter().all(|call| match call {
+        RootCall::Before { account, coin, .. } => (*account, *coin) == (5, 2),
+        RootCall::After {
+            account,
+            coin,
+            exit,
+            ..
+        } => (*account, *coin) == (5, *exit),
+        _ => false,
+    })
+}
+
+#[test]
+fn guards_in_order(rt: HostRuntime) -> Result<(), Fail> {
+    let alloc = rt.alloc();
+    let guards = [
+        guard(alloc, 2, &[2, 4])?,
+        guard(alloc, 3, &[2])?,
+        guard(alloc, 1, &[3])?,
+    ];
+    let empty = RootLog::make(alloc, [0; 32], 9, 100);
+    assert_eq!(rt; dues(alloc, &empty, &guards)?.len(), 0);
+    let log = three_exits(alloc)?;
     let due = [Due::Before(6, 4), Due::After(2, 4), Due::After(1, 3)];
     assert_eq!(rt; dues(alloc, &log, &guards)?.as_slice(), due.as_slice());
-    for call in &duty(alloc, &log, 5, &guards)? {
-        let is_own = match call {
-            RootCall::Before { account, coin, .. } => (*account, *coin) == (5, 2),
-            RootCall::After {
-                account,
-                coin,
-                exit,
-                ..
-            } => (*account, *coin) == (5, *exit),
-            _ => false,
-        };
-        assert!(rt; is_own);
-    }
+    assert!(rt; are_own(&duty(alloc, &log, 5, &guards)?));
     Ok(())
 }

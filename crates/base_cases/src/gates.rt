@@ -20,20 +20,32 @@ fn opened(alloc: Global, disk: MemDisk) -> Result<(Journal<MemDisk>, Vec<Bytes>)
     }
 }
 
+fn journal_of(alloc: Global, disk: MemDisk) -> Result<Journal<MemDisk>, Fail> {
+    Ok(opened(alloc, disk)?.0)
+}
+
+fn record_count(alloc: Global, disk: MemDisk) -> Result<usize, Fail> {
+    Ok(opened(alloc, disk)?.1.len())
+}
+
+// The disk of an empty journal behind which the body 03 was appended, stopped after so many device calls.
+fn appended(alloc: Global, calls: u64) -> Result<MemDisk, Fail> {
+    let mut disk = disk_of(alloc, &[])?;
+    Journal::make(&mut disk)?;
+    disk.fuse(calls.saturating_add(3));
+    let mut journal = journal_of(alloc, disk)?;
+    let _ = journal.append(&[3]);
+    Ok(journal.take_disk())
+}
+
 // The number of records after an append of the body 03 to an empty journal was stopped after so many
 // device calls and the disk crashed.
 fn records_left(alloc: Global, calls: u64, outcome: &Outcome) -> Result<usize, Fail>
     requires { HasPattern outcome.now }
 {
-    let mut disk = disk_of(alloc, &[])?;
-    Journal::make(&mut disk)?;
-    disk.fuse(calls.saturating_add(3));
-    let (mut journal, _) = opened(alloc, disk)?;
-    let _ = journal.append(&[3]);
-    let mut disk = journal.take_disk();
+    let mut disk = appended(alloc, calls)?;
     disk.crash(outcome)?;
-    let (_, records) = opened(alloc, disk)?;
-    Ok(records.len())
+    record_count(alloc, disk)
 }
 
 // A mix of this byte.

@@ -102,35 +102,41 @@ fn opening(alloc: Global, leaf: &[u8]) -> Result<Vec<u8>, NoMemory> {
     Ok(bytes)
 }
 
-// The log of a life. The transfer in block 4 may be bent, and the one in block 7 spends that block.
-fn make_life(alloc: Global, key: &SecretKey, is_bent: bool, parent: u64) -> Result<Life, NoMemory> {
-    let first = transfer(alloc, key, 0, 1, is_bent)?;
-    let second = transfer(alloc, key, 1, 4, false)?;
-    let third = transfer(alloc, key, 2, parent, false)?;
+fn deposit(log: &mut RootLog, key: [u8; 56]) -> Result<(), NoMemory> {
+    log.push(RootCall::Deposit {
+        account: 11,
+        amount: 1,
+        key,
+    })
+}
+
+// Commits a block that has this leaf of coin 1.
+fn commit(alloc: Global, log: &mut RootLog, leaf: &[u8]) -> Result<(), NoMemory> {
+    let root = tree(alloc, leaf)?.root(&Toy);
+    log.push(RootCall::Commit { account: 9, root })
+}
+
+// The log with these leaves in blocks 4, 6 and 7.
+fn log_of(alloc: Global, key: [u8; 56], leaves: &[Vec<u8>; 3]) -> Result<RootLog, NoMemory> {
     let mut log = RootLog::make(alloc, TAG, 9, 100);
-    let account = 11;
-    let amount = 1;
-    let deposited = key.public();
-    log.push(RootCall::Deposit {
-        account,
-        amount,
-        key: deposited,
-    })?;
-    let empty = tree(alloc, &[])?.root(&Toy);
-    log.push(RootCall::Commit {
-        account: 9,
-        root: empty,
-    })?;
-    log.push(RootCall::Deposit {
-        account,
-        amount,
-        key: deposited,
-    })?;
-    for leaf in [first.as_slice(), &[], second.as_slice(), third.as_slice()] {
-        let root = tree(alloc, leaf)?.root(&Toy);
-        log.push(RootCall::Commit { account: 9, root })?;
-    }
-    let leaves = [first, second, third];
+    deposit(&mut log, key)?;
+    commit(alloc, &mut log, &[])?;
+    deposit(&mut log, key)?;
+    commit(alloc, &mut log, leaves[0].as_slice())?;
+    commit(alloc, &mut log, &[])?;
+    commit(alloc, &mut log, leaves[1].as_slice())?;
+    commit(alloc, &mut log, leaves[2].as_slice())?;
+    Ok(log)
+}
+
+// A life. The transfer in block 4 may be bent, and the one in block 7 spends that block.
+fn make_life(alloc: Global, key: &SecretKey, is_bent: bool, parent: u64) -> Result<Life, NoMemory> {
+    let leaves = [
+        transfer(alloc, key, 0, 1, is_bent)?,
+        transfer(alloc, key, 1, 4, false)?,
+        transfer(alloc, key, 2, parent, false)?,
+    ];
+    let log = log_of(alloc, key.public(), &leaves)?;
     Ok(Life { leaves, log })
 }
 
@@ -151,6 +157,21 @@ fn missing(n: u64) -> Result<usize, HistoryRefusal> {
 
 fn not_link(n: u64) -> Result<usize, HistoryRefusal> {
     Err(HistoryRefusal::NotLink { n })
+}
+
+// The same of a bundle with the openings of these blocks.
+fn checked_alike(
+    alloc: Global,
+    life: &Life,
+    tip: u64,
+    blocks: &[u64],
+) -> Result<Result<usize, HistoryRefusal>, NoMemory> {
+    let mut shown = Vec::new(alloc);
+    for block in blocks {
+        shown.push((*block, *block))?;
+    }
+    let bytes = life.bundle(alloc, tip, &shown)?;
+    Ok(checked(alloc, life, &bytes))
 }
 
 #[test]
@@ -185,12 +206,7 @@ fn histories_and_refusals(rt: HostRuntime) -> Result<(), Fail> {
         (2, &[2], not_link(2)),
     ];
     for (tip, blocks, expected) in rows {
-        let mut shown = Vec::new(alloc);
-        for block in blocks {
-            shown.push((*block, *block))?;
-        }
-        let bytes = life.bundle(alloc, tip, &shown)?;
-        assert_eq!(rt; checked(alloc, &life, &bytes), expected);
+        assert_eq!(rt; checked_alike(alloc, &life, tip, blocks)?, expected);
     }
     Ok(())
 }
@@ -234,6 +250,18 @@ fn what_a_bundle_says_of_itself(rt: HostRuntime) -> Result<(), Fail> {
     Ok(())
 }
 
+// The same of a life, up to its last block.
+fn checked_life(
+    alloc: Global,
+    key: &SecretKey,
+    life: (bool, u64),
+    shown: &[(u64, u64)],
+) -> Result<Result<usize, HistoryRefusal>, NoMemory> {
+    let life = make_life(alloc, key, life.0, life.1)?;
+    let bytes = life.bundle(alloc, 7, shown)?;
+    Ok(checked(alloc, &life, &bytes))
+}
+
 #[test]
 fn leaves_that_are_no_links(rt: HostRuntime) -> Result<(), Fail> {
     let alloc = rt.alloc();
@@ -250,11 +278,27 @@ fn leaves_that_are_no_links(rt: HostRuntime) -> Result<(), Fail> {
     ];
     let key = make_key(alloc)?;
     for (is_bent, parent, shown, expected) in rows {
-        let life = make_life(alloc, &key, is_bent, parent)?;
-        let bytes = life.bundle(alloc, 7, shown)?;
-        assert_eq!(rt; checked(alloc, &life, &bytes), expected);
+        assert_eq!(rt;
+            checked_life(alloc, &key, (is_bent, parent), shown)?,
+            expected
+        );
     }
     Ok(())
+}
+
+// Why a bundle doesn't show coin 1 absent behind a block and up to another one, which is there.
+fn absence(
+    alloc: Global,
+    life: &Life,
+    blocks: (u64, u64),
+    tip: u64,
+    shown: &[(u64, u64)],
+) -> Result<Result<(), HistoryRefusal>, Fail> {
+    let bundle = Bundle::read(alloc, &life.bundle(alloc, tip, shown)?)?;
+    if life.log.blocks() < blocks.1 {
+        return Err(Fail::new("the last block"));
+    }
+    Ok(absent(alloc, &Toy, &life.log, blocks.0, blocks.1, &bundle))
 }
 
 #[test]
@@ -277,15 +321,7 @@ fn absences_and_refusals(rt: HostRuntime) -> Result<(), Fail> {
         (1, 2, 2, &[(2, 4)], bad),
     ];
     for (after, last, tip, shown, expected) in rows {
-        let bundle = Bundle::read(alloc, &life.bundle(alloc, tip, shown)?)?;
-        let is_made = last <= life.log.blocks();
-        assert_eq!(rt; is_made, true);
-        if is_made {
-            assert_eq!(rt;
-                absent(alloc, &Toy, &life.log, after, last, &bundle),
-                expected
-            );
-        }
+        assert_eq!(rt; absence(alloc, &life, (after, last), tip, shown)?, expected);
     }
     Ok(())
 }

@@ -102,16 +102,20 @@ fn assert_bound(
     Ok(())
 }
 
+// The leaf that a bind took.
+fn leaf_of(bound: Result<Bound, BindRefusal>) -> Result<u32, BindRefusal> {
+    Ok(bound?.leaf())
+}
+
 // The number of leaves that were bound; where none was, the next bind takes leaf 0.
 fn bound_count(rt: &impl Abort, mut leaves: Leaves<MemDisk>, key: &SecretKey) -> Result<u32, Fail> {
     let used = leaves.used();
+    let byte = if used == 0 { 4 } else { 3 };
     if used == 0 {
         assert!(rt; leaves.again(0).is_none());
-        assert_eq!(rt; leaves.bind(&[4; 116])?.leaf(), 0);
-        assert_bound(rt, &leaves, key, &[4; 116])?;
-    } else {
-        assert_bound(rt, &leaves, key, &[3; 116])?;
+        assert_eq!(rt; leaf_of(leaves.bind(&[4; 116])), Ok(0));
     }
+    assert_bound(rt, &leaves, key, &[byte; 116])?;
     Ok(used)
 }
 
@@ -124,27 +128,38 @@ const ROWS: [[u32; 4]; 5] = [
     [1, 1, 1, 1],
 ];
 
+// The outcomes of a crash by their places in a row.
+fn outcome(alloc: Global, place: usize) -> Result<Outcome, Fail>
+    ensures { IfOk result HasPattern }
+{
+    match place {
+        0 => Ok(Outcome::Old),
+        1 => Ok(Outcome::New),
+        2 => mix(alloc, 0xa5),
+        _ => mix(alloc, 0x37),
+    }
+}
+
+fn bound_after(
+    rt: &impl Abort,
+    alloc: Global,
+    key: &SecretKey,
+    calls: u64,
+    place: usize,
+) -> Result<u32, Fail> {
+    let outcome = outcome(alloc, place)?;
+    let leaves = after_bind(alloc, key, calls, &outcome)?;
+    bound_count(rt, leaves, key)
+}
+
 #[test]
 fn a_stopped_bind(rt: HostRuntime) -> Result<(), Fail> {
-    let alloc = rt.alloc();
-    let key = new_key(alloc)?;
-    for (calls, want) in ROWS.iter().enumerate() {
-        let calls = calls as u64;
-        let left = [
-            bound_count(&rt, after_bind(alloc, &key, calls, &Outcome::Old)?, &key)?,
-            bound_count(&rt, after_bind(alloc, &key, calls, &Outcome::New)?, &key)?,
-            bound_count(
-                &rt,
-                after_bind(alloc, &key, calls, &mix(alloc, 0xa5)?)?,
-                &key,
-            )?,
-            bound_count(
-                &rt,
-                after_bind(alloc, &key, calls, &mix(alloc, 0x37)?)?,
-                &key,
-            )?,
-        ];
-        assert_eq!(rt; left.as_slice(), want.as_slice());
+    let key = new_key(rt.alloc())?;
+    for (calls, row) in ROWS.iter().enumerate() {
+        for (place, want) in row.iter().enumerate() {
+            let left = bound_after(&rt, rt.alloc(), &key, calls as u64, place)?;
+            assert_eq!(rt; left, *want, "calls {calls} outcome {place}");
+        }
     }
     Ok(())
 }
@@ -166,6 +181,16 @@ fn after_migration(
     after_crash(alloc, leaves, key, outcome)
 }
 
+// A migration puts the marker there, or finds it.
+fn migrate(rt: &impl Abort, leaves: &mut Leaves<MemDisk>) {
+    if leaves.marked() {
+        assert_eq!(rt; leaves.migrate(), Err(MigrateRefusal::AlreadyNew));
+    } else {
+        assert_eq!(rt; leaves.migrate(), Ok(()));
+        assert!(rt; leaves.marked());
+    }
+}
+
 // Whether the marker is there. Leaf 0 has its message, and a migration answers by the marker.
 fn marker_count(
     rt: &impl Abort,
@@ -175,60 +200,60 @@ fn marker_count(
     let marked = leaves.marked();
     assert_eq!(rt; leaves.used(), 1);
     assert_bound(rt, &leaves, key, &[3; 116])?;
-    if marked {
-        assert_eq!(rt; leaves.migrate(), Err(MigrateRefusal::AlreadyNew));
-    } else {
-        leaves.migrate()?;
-        assert!(rt; leaves.marked());
-    }
+    migrate(rt, &mut leaves);
     assert_eq!(rt; leaves.used(), 1);
     assert_bound(rt, &leaves, key, &[3; 116])?;
     Ok(u32::from(marked))
 }
 
+fn marked_after(
+    rt: &impl Abort,
+    alloc: Global,
+    key: &SecretKey,
+    calls: u64,
+    place: usize,
+) -> Result<u32, Fail> {
+    let outcome = outcome(alloc, place)?;
+    let leaves = after_migration(alloc, key, calls, &outcome)?;
+    marker_count(rt, leaves, key)
+}
+
 #[test]
 fn a_stopped_migration(rt: HostRuntime) -> Result<(), Fail> {
-    let alloc = rt.alloc();
-    let key = new_key(alloc)?;
-    for (calls, want) in ROWS.iter().enumerate() {
-        let calls = calls as u64;
-        let left = [
-            marker_count(
-                &rt,
-                after_migration(alloc, &key, calls, &Outcome::Old)?,
-                &key,
-            )?,
-            marker_count(
-                &rt,
-                after_migration(alloc, &key, calls, &Outcome::New)?,
-                &key,
-            )?,
-            marker_count(
-                &rt,
-                after_migration(alloc, &key, calls, &mix(alloc, 0xa5)?)?,
-                &key,
-            )?,
-            marker_count(
-                &rt,
-                after_migration(alloc, &key, calls, &mix(alloc, 0x37)?)?,
-                &key,
-            )?,
-        ];
-        assert_eq!(rt; left.as_slice(), want.as_slice());
+    let key = new_key(rt.alloc())?;
+    for (calls, row) in ROWS.iter().enumerate() {
+        for (place, want) in row.iter().enumerate() {
+            let left = marked_after(&rt, rt.alloc(), &key, calls as u64, place)?;
+            assert_eq!(rt; left, *want, "calls {calls} outcome {place}");
+        }
     }
     Ok(())
+}
+
+// What a bind of a message of this byte is refused for.
+fn bind_refusal(leaves: &mut Leaves<MemDisk>, byte: u8) -> Option<BindRefusal> {
+    leaves.bind(&[byte; 116]).err()
+}
+
+// The leaves of a disk whose fourth call of a bind fails, behind the three of the opening. The bind is refused, and
+// whatever follows it.
+fn refused(rt: &impl Abort, alloc: Global, key: &SecretKey) -> Result<Leaves<MemDisk>, Fail> {
+    let mut leaves = open_leaves(alloc, disk_of(alloc, &EMPTY, &[7])?, key)?;
+    assert_eq!(rt;
+        bind_refusal(&mut leaves, 3),
+        Some(BindRefusal::DeviceFault)
+    );
+    assert_eq!(rt; bind_refusal(&mut leaves, 4), Some(BindRefusal::Closed));
+    assert_eq!(rt; leaves.migrate(), Err(MigrateRefusal::Closed));
+    assert!(rt; leaves.is_closed());
+    Ok(leaves)
 }
 
 #[test]
 fn a_failed_bind(rt: HostRuntime) -> Result<(), Fail> {
     let alloc = rt.alloc();
     let key = new_key(alloc)?;
-    // Three calls of the opening, and the fourth of the bind.
-    let mut leaves = open_leaves(alloc, disk_of(alloc, &EMPTY, &[7])?, &key)?;
-    assert!(rt; matches!(leaves.bind(&[3; 116]), Err(BindRefusal::DeviceFault)));
-    assert!(rt; matches!(leaves.bind(&[4; 116]), Err(BindRefusal::Closed)));
-    assert_eq!(rt; leaves.migrate(), Err(MigrateRefusal::Closed));
-    assert!(rt; leaves.is_closed());
+    let leaves = refused(&rt, alloc, &key)?;
     let leaves = open_leaves(alloc, leaves.take_disk(), &key)?;
     assert_eq!(rt; leaves.used(), 1);
     let mut leaves = after_crash(alloc, leaves, &key, &Outcome::Old)?;
@@ -237,31 +262,45 @@ fn a_failed_bind(rt: HostRuntime) -> Result<(), Fail> {
     Ok(())
 }
 
-#[test]
-fn both_forms(rt: HostRuntime) -> Result<(), Fail> {
-    let alloc = rt.alloc();
-    let key = new_key(alloc)?;
-    let mut leaves = open_leaves(alloc, disk_of(alloc, &EMPTY, &[])?, &key)?;
+// Binds all leaves but the first, behind the marker.
+fn bind_others(rt: &impl Abort, leaves: &mut Leaves<MemDisk>) {
+    for number in 1..32 {
+        if leaves.marked() {
+            assert_eq!(rt; leaf_of(leaves.bind(&[number; 128])), Ok(u32::from(number)));
+        }
+    }
+}
+
+// The leaves that are all bound, the first by the first form and the others by the second.
+fn all_bound(rt: &impl Abort, alloc: Global, key: &SecretKey) -> Result<Leaves<MemDisk>, Fail> {
+    let mut leaves = open_leaves(alloc, disk_of(alloc, &EMPTY, &[])?, key)?;
     assert!(rt; !leaves.marked());
     leaves.bind(&[3; 116])?;
     leaves.migrate()?;
-    for number in 1..32 {
-        if leaves.marked() {
-            assert_eq!(rt; leaves.bind(&[number; 128])?.leaf(), u32::from(number));
-        }
-    }
-    assert!(rt;
-        matches!(
-            leaves.bind(&[32; 116]),
-            Err(BindRefusal::KeySpent { used: 32 })
-        )
-    );
-    let leaves = open_leaves(alloc, leaves.take_disk(), &key)?;
+    bind_others(rt, &mut leaves);
+    Ok(leaves)
+}
+
+// Both ends of the leaves that are all bound, and that there is nothing behind them.
+fn assert_full(rt: &impl Abort, leaves: &Leaves<MemDisk>) {
     assert!(rt; leaves.marked());
     assert_eq!(rt; leaves.used(), 32);
     assert!(rt; leaves.record(0) == Some([3; 116].as_slice()));
     assert!(rt; leaves.record(31) == Some([31; 128].as_slice()));
     assert!(rt; leaves.again(32).is_none() && leaves.record(32).is_none());
+}
+
+#[test]
+fn both_forms(rt: HostRuntime) -> Result<(), Fail> {
+    let alloc = rt.alloc();
+    let key = new_key(alloc)?;
+    let mut leaves = all_bound(&rt, alloc, &key)?;
+    assert_eq!(rt;
+        bind_refusal(&mut leaves, 32),
+        Some(BindRefusal::KeySpent { used: 32 })
+    );
+    let leaves = open_leaves(alloc, leaves.take_disk(), &key)?;
+    assert_full(&rt, &leaves);
     Ok(())
 }
 
@@ -312,13 +351,25 @@ fn behind_marker(alloc: Global, body: Vec<u8>) -> Result<Vec<Vec<u8>>, Fail> {
     Ok(bodies)
 }
 
+fn not_journal(place: u64) -> Result<u32, JournalRefusal> {
+    Err(JournalRefusal::NotJournal { place })
+}
+
+// The same of such records whose last one is of the second form.
+fn read_second(
+    alloc: Global,
+    key: &SecretKey,
+    q: u8,
+    count: usize,
+) -> Result<Result<u32, JournalRefusal>, Fail> {
+    let bodies = behind_marker(alloc, second(alloc, q, count)?)?;
+    read(alloc, key, &bodies)
+}
+
 #[test]
-fn broken_forms(rt: HostRuntime) -> Result<(), Fail> {
+fn broken_records_of_the_second_form(rt: HostRuntime) -> Result<(), Fail> {
     let alloc = rt.alloc();
     let key = new_key(alloc)?;
-    let not_journal = |place: u64| -> Result<u32, JournalRefusal> {
-        Err(JournalRefusal::NotJournal { place })
-    };
     for (q, count, want) in [
         (1, 1, Ok(2)),
         (1, 128, Ok(2)),
@@ -327,39 +378,47 @@ fn broken_forms(rt: HostRuntime) -> Result<(), Fail> {
         (0, 1, not_journal(134)),
         (2, 1, not_journal(134)),
     ] {
-        assert_eq!(rt;
-            read(
-                alloc,
-                &key,
-                &behind_marker(alloc, second(alloc, q, count)?)?
-            )?,
-            want
-        );
+        assert_eq!(rt; read_second(alloc, &key, q, count)?, want);
     }
     let twice = behind_marker(alloc, b"PGL2".as_slice().to_vec(alloc)?)?;
     assert_eq!(rt; read(alloc, &key, &twice)?, not_journal(134));
-    for (count, want) in [
-        (115, not_journal(4)),
-        (116, Ok(1)),
-        (117, not_journal(4)),
-        (4, not_journal(4)),
-    ] {
-        let mut bodies = Vec::new(alloc);
-        bodies.push(vec![in alloc; 3u8; count]?)?;
-        assert_eq!(rt; read(alloc, &key, &bodies)?, want);
-    }
-    // A message past the number of leaves, of the first form and of the second.
+    Ok(())
+}
+
+// So many records of the first form, each of so many bytes.
+fn firsts(alloc: Global, number: usize, count: usize) -> Result<Vec<Vec<u8>>, Fail> {
     let mut bodies = Vec::new(alloc);
-    for _ in 0..33 {
-        bodies.push(vec![in alloc; 3u8; 116]?)?;
+    for _ in 0..number {
+        bodies.push(vec![in alloc; 3u8; count]?)?;
     }
-    assert_eq!(rt; read(alloc, &key, &bodies)?, not_journal(3876));
+    Ok(bodies)
+}
+
+// The marker, and 33 records of the second form behind it.
+fn seconds(alloc: Global) -> Result<Vec<Vec<u8>>, Fail> {
     let mut bodies = Vec::new(alloc);
     bodies.push(b"PGL2".as_slice().to_vec(alloc)?)?;
     for q in 0..33 {
         bodies.push(second(alloc, q, 1)?)?;
     }
-    assert_eq!(rt; read(alloc, &key, &bodies)?, not_journal(333));
+    Ok(bodies)
+}
+
+// Also a message past the number of leaves, of the first form and of the second.
+#[test]
+fn broken_records_of_one_form(rt: HostRuntime) -> Result<(), Fail> {
+    let alloc = rt.alloc();
+    let key = new_key(alloc)?;
+    for (number, count, want) in [
+        (1, 115, not_journal(4)),
+        (1, 116, Ok(1)),
+        (1, 117, not_journal(4)),
+        (1, 4, not_journal(4)),
+        (33, 116, not_journal(3876)),
+    ] {
+        assert_eq!(rt; read(alloc, &key, &firsts(alloc, number, count)?)?, want);
+    }
+    assert_eq!(rt; read(alloc, &key, &seconds(alloc)?)?, not_journal(333));
     Ok(())
 }
 
@@ -374,33 +433,39 @@ impl MessageKind for Sevens {
     }
 }
 
-#[test]
-fn another_kind(rt: HostRuntime) -> Result<(), Fail> {
-    let alloc = rt.alloc();
-    let key = new_key(alloc)?;
-    // One of another kind between good ones, and behind them one that breaks the form.
+// How many leaves are bound in a disk of such messages, or why it isn't opened.
+fn sevens_of(alloc: Global, key: &SecretKey, disk: MemDisk) -> Result<u32, JournalRefusal> {
+    used_of(Leaves::open_of::<Sevens>(alloc, disk, key))
+}
+
+// One of another kind between good ones, and behind them one that breaks the form.
+fn mixed(alloc: Global) -> Result<Vec<Vec<u8>>, Fail> {
     let mut bodies = Vec::new(alloc);
     for (byte, count) in [(7u8, 116), (3, 116), (7, 116), (7, 115)] {
         bodies.push(vec![in alloc; byte; count]?)?;
     }
-    let not_journal = |place: u64| -> Result<u32, JournalRefusal> {
-        Err(JournalRefusal::NotJournal { place })
-    };
-    let disk = disk_of(alloc, &image_of(alloc, &bodies)?, &[])?;
-    assert_eq!(rt;
-        used_of(Leaves::open_of::<Sevens>(alloc, disk, &key)),
-        not_journal(125)
-    );
-    assert_eq!(rt; read(alloc, &key, &bodies)?, not_journal(367));
-    // Behind the marker the number isn't of the message.
-    let mut leaves = open_leaves(alloc, disk_of(alloc, &EMPTY, &[])?, &key)?;
+    Ok(bodies)
+}
+
+// A disk with a message of such a kind on each side of the marker.
+fn both_sides(alloc: Global, key: &SecretKey) -> Result<MemDisk, Fail> {
+    let mut leaves = open_leaves(alloc, disk_of(alloc, &EMPTY, &[])?, key)?;
     leaves.bind(&[7; 116])?;
     leaves.migrate()?;
     leaves.bind(&[7; 20])?;
-    let disk = leaves.take_disk();
-    assert_eq!(rt;
-        used_of(Leaves::open_of::<Sevens>(alloc, disk, &key)),
-        Ok(2)
-    );
+    Ok(leaves.take_disk())
+}
+
+#[test]
+fn another_kind(rt: HostRuntime) -> Result<(), Fail> {
+    let alloc = rt.alloc();
+    let key = new_key(alloc)?;
+    let bodies = mixed(alloc)?;
+    let disk = disk_of(alloc, &image_of(alloc, &bodies)?, &[])?;
+    assert_eq!(rt; sevens_of(alloc, &key, disk), not_journal(125));
+    assert_eq!(rt; read(alloc, &key, &bodies)?, not_journal(367));
+    // Behind the marker the number isn't of the message.
+    let disk = both_sides(alloc, &key)?;
+    assert_eq!(rt; sevens_of(alloc, &key, disk), Ok(2));
     Ok(())
 }
