@@ -58,13 +58,15 @@ module _ {D : Type 0} (told : D → Option History) (plan : D → Option FaultPl
         ⊎ ((why : JournalRefusal) × RefusesRole told plan faults read old why new × RefusedRun why outside status)
 
   -- a run of a watcher, and of an operator
-  abbrev pub RunsWatcher : D → D → Outside → Type 0 → Status → Type 0
-  RunsWatcher =
+  unfoldable pub RunsWatcher : D → D → Outside → Type 0 → Status → Type 0
+  RunsWatcher old new outside failed status =
       RunsNotes (role_in (watcher_kinds dig)) (λ records. (watcher_is records).tag) watcher_line_in watcher_outcome
+      old new outside failed status
 
-  abbrev pub RunsOperator : D → D → Outside → Type 0 → Status → Type 0
-  RunsOperator =
+  unfoldable pub RunsOperator : D → D → Outside → Type 0 → Status → Type 0
+  RunsOperator old new outside failed status =
       RunsNotes (role_in operator_kinds) (λ records. (operator_is records).tag) operator_line_in operator_outcome
+      old new outside failed status
 
   -- the session of a wallet that was opened, whose disks are handed back
   abbrev pub WalletSession : {H : Type 0} → WalletState D H → D → D → Outside → Type 0 → Status → Type 0
@@ -83,7 +85,7 @@ module _ {D : Type 0} (told : D → Option History) (plan : D → Option FaultPl
 
   -- A run of a wallet: its disks were opened, the notes before the leaves, and the session run; or they weren't. Of the
   -- wallet in memory the digest's value is left out.
-  abbrev pub RunsWallet : D → D → D → D → Outside → Type 0 → Status → Type 0
+  unfoldable pub RunsWallet : D → D → D → D → Outside → Type 0 → Status → Type 0
   RunsWallet notes leaves new_notes new_leaves outside failed status =
       ((opened : WalletState D (Unit {0})) × OpensWallet told plan faults dig notes leaves opened
       × WalletSession opened new_notes new_leaves outside failed status)

@@ -22,6 +22,7 @@ use std::alloc::Global;
 /// over that log and the operator's records, before more is taken. A refused command ends the run, as does a log of
 /// another chain than the operator's; so do a line that may not stand there, one past a limit, a missing `--`, and each
 /// fault.
+#[tactic(auto, unfolding(crate::specs::Runs::RunsOperator))]
 pub fn run_operator<D: Disk, H: Hash32 + Copy, S: Source, K: Sink>(
     alloc: Global,
     h: H,

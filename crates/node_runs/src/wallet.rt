@@ -20,6 +20,7 @@ use wallet_node::{ReturnedBoth, WalletNode};
 /// The lines are a log of the root contract, a line `--`, and behind it commands. Each command is answered by its rules
 /// over that log and the wallet's records, before more is taken. A refused command ends the run, as does a log of another
 /// chain than the wallet's; so do a line that may not stand there, one past a limit, a missing `--`, and each fault.
+#[tactic(auto, unfolding(crate::specs::Runs::RunsWallet))]
 pub fn run_wallet<D: Disk, H: Hash32 + Copy, S: Source, K: Sink>(
     alloc: Global,
     h: H,

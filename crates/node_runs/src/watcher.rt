@@ -22,6 +22,7 @@ use watcher_node::WatcherNode;
 /// over that log and the watcher's records, before more is taken. A refused command ends the run, as does a log of
 /// another chain than the watcher's; so do a line that may not stand there, one past a limit, a missing `--`, and each
 /// fault.
+#[tactic(auto, unfolding(crate::specs::Runs::RunsWatcher))]
 pub fn run_watcher<D: Disk, H: Hash32 + Copy, S: Source, K: Sink>(
     alloc: Global,
     h: H,

@@ -32,6 +32,8 @@ mod limits;
 #[cfg(test)]
 mod many_sends;
 #[cfg(test)]
+mod nodes;
+#[cfg(test)]
 mod refused_calls;
 #[cfg(test)]
 mod refused_challenges;

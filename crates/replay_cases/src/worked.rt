@@ -54,6 +54,9 @@ fn other_words_are_usage(rt: HostRuntime) -> Result<(), Fail> {
         &["verify", "0x", "0x", "0"],
         &["verify", "0x", "0x0", "0x"],
         &["verify", "0xA0", "0x", "0x"],
+        &["wallet", "wallet"],
+        &["init", "watcher"],
+        &["init", "watcher", "0x", "14"],
     ];
     for case in cases {
         let words = words(alloc, case)?;

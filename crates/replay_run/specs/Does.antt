@@ -1,5 +1,5 @@
 -- What a run does, by what its words ask for.
-use Rattle.std.specs.Prelude.{◌≡◌, ◌⊎◌, ℕ, List, Option, Some, None}
+use Rattle.std.specs.Prelude.{◌≡◌, ◌⊎◌, ℕ, Bool, List, Option, Some, None}
 use Rattle.crash_disk.specs.Disk.{History, FaultPlan}
 use Rattle.node_rules.specs.Watcher.{identity_text as watcher_text}
 use Rattle.node_rules.specs.WalletRecords.{identity_text as wallet_text}

@@ -3,6 +3,7 @@ use contract.BorrowLft.{⊑_meet, ⊑_static}
 use Rattle.node_lines.specs.declared.operator_line.OperatorLine.{OperatorLine}
 use Rattle.node_answers.specs.Answers.{operator_outcome}
 use Rattle.node_roles.specs.Notes.{with_note}
+use Rattle.node_runs.specs.Runs.{RunsOperator}
 use Rattle.node_runs.specs.Disks.{Keeps, Failed}
 use Rattle.node_runs.proofs.DiskLaws.{opened-there, stays-keeps, fails-failed, starved-keeps}
 use Rattle.node_runs.proofs.SessionLaws.{in-words}
@@ -19,6 +20,7 @@ run_session-run-requires g c κs within =
     )
 
 pub returns-in-Ok-clause-runs : goal.returns-in-Ok-clause-runs
+unfolding RunsOperator
 returns-in-Ok-clause-runs g c =
     let told = g.D.Disk.told in
     let faults = g.D.Disk.faults in

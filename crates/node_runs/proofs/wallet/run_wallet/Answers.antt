@@ -3,6 +3,7 @@ use contract.BorrowLft.{⊑_meet, ⊑_static}
 use Rattle.node_lines.specs.declared.wallet_line.WalletLine.{WalletLine}
 use Rattle.node_answers.specs.Answers.{wallet_outcome}
 use Rattle.node_roles.specs.Wallets.{records_of, with_either}
+use Rattle.node_runs.specs.Runs.{RunsWallet}
 use Rattle.node_runs.specs.Disks.{KeepsBoth, EitherFailed}
 use Rattle.node_runs.proofs.DiskLaws.{opened-both, wallet-keeps, either-failed, starved-both}
 use Rattle.node_runs.proofs.SessionLaws.{in-words}
@@ -19,6 +20,7 @@ run_session-run-requires g c κs within =
     )
 
 pub returns-in-Ok-clause-runs : goal.returns-in-Ok-clause-runs
+unfolding RunsWallet
 returns-in-Ok-clause-runs g c =
     let told = g.D.Disk.told in
     let faults = g.D.Disk.faults in
