@@ -4,8 +4,8 @@
 
 mod ending;
 mod init;
-mod operator;
 mod opening;
+mod operator;
 mod session;
 mod wallet;
 mod watcher;

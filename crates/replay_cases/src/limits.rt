@@ -107,7 +107,10 @@ fn bad_lines_are_answered_before_much_is_taken(rt: HostRuntime) -> Result<(), Fa
     let bytes = schedule.as_bytes().to_vec(alloc)?;
     let mut source = MemSource::make(bytes, Vec::new(alloc), Vec::new(alloc));
     let mut sink = MemSink::make(alloc, Vec::new(alloc));
-    assert_eq!(rt; run_words(alloc, &words, &mut source, &mut sink), Status::BadLine);
+    assert_eq!(rt;
+        run_words(alloc, &words, &mut source, &mut sink),
+        Status::BadLine
+    );
     assert_eq!(rt; sink.bytes(), b"bad line 1\n".as_slice());
     let mut room = vec![in alloc; 0; 1_000_000]?;
     let left = source.take(&mut room).unwrap_or(0);

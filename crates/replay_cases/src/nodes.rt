@@ -14,7 +14,7 @@ const OTHER: &str = "0x000000000000000000000000000000000000000000000000000000000
 
 /// Runs the program with the words of a line, over these two disks and an input from memory: how it ended, and the sink
 /// after the run. The calls of the source and of the sink on the lists fail.
-fn run_line<D: Disk>(
+fn run_line<D: Disk + Drop>(
     alloc: Global,
     disks: (D, D),
     line: &str,
@@ -82,7 +82,12 @@ send 1 0x00000000000000000000000000000000000000000000000000000000000000000000000
 /// A wallet is begun once, and then answers its lines: each run, its status and its text.
 const WALLET_RUNS: [(&str, &str, Status, &str); 3] = [
     ("init wallet Z 11 Z", "", Status::Done, "made\n"),
-    ("init wallet Z 11 Z", "", Status::AlreadyMade, "already made 83\n"),
+    (
+        "init wallet Z 11 Z",
+        "",
+        Status::AlreadyMade,
+        "already made 83\n",
+    ),
     (
         "wallet",
         NOTHING,
@@ -165,7 +170,13 @@ const ENDINGS: [(&str, &str, &str, Status, &str); 10] = [
         Status::Refused,
         "refused no-guard\n",
     ),
-    ("init watcher Z 14", "watcher", "", Status::BadLine, "bad line 1\n"),
+    (
+        "init watcher Z 14",
+        "watcher",
+        "",
+        Status::BadLine,
+        "bad line 1\n",
+    ),
     (
         "init watcher Z 14",
         "watcher",
@@ -267,7 +278,11 @@ fn faults_end_node_runs(rt: HostRuntime) -> Result<(), Fail> {
         let fails = (source, sink, device);
         let (ended, written) = outcome(alloc, (&notes, &leaves), "wallet", input, fails)?;
         assert_eq!(rt; ended, status, "{source:?} {sink:?} {device:?}");
-        assert_eq!(rt; written.as_slice(), text.as_bytes(), "{source:?} {sink:?} {device:?}");
+        assert_eq!(rt;
+            written.as_slice(),
+            text.as_bytes(),
+            "{source:?} {sink:?} {device:?}"
+        );
     }
     let fails = (&[][..], &[][..], &[2][..]);
     let (ended, written) = outcome(alloc, (&[], &[]), "init watcher Z 14", "", fails)?;

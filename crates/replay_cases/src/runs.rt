@@ -67,15 +67,7 @@ pub fn replay_from<H: Hash32>(
     let mut source = source;
     let mut sink = MemSink::make(alloc, Vec::new(alloc));
     let (notes, leaves) = (no_disk(alloc), no_disk(alloc));
-    let Ended { status, .. } = run_with(
-        h,
-        alloc,
-        &words,
-        &mut source,
-        &mut sink,
-        notes,
-        leaves,
-    );
+    let Ended { status, .. } = run_with(h, alloc, &words, &mut source, &mut sink, notes, leaves);
     Ok((status, sink))
 }
 

@@ -66,7 +66,10 @@ fn other_words_are_usage(rt: HostRuntime) -> Result<(), Fail> {
             Vec::new(alloc),
         );
         let mut sink = MemSink::make(alloc, Vec::new(alloc));
-        assert_eq!(rt; run_words(alloc, &words, &mut source, &mut sink), Status::Usage);
+        assert_eq!(rt;
+            run_words(alloc, &words, &mut source, &mut sink),
+            Status::Usage
+        );
         assert_eq!(rt; sink.bytes(), usage.as_bytes());
     }
     Ok(())

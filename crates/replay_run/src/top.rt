@@ -18,9 +18,7 @@ use super::replay::replay;
 use super::verifying::is_verified;
 use crash_disk::Disk;
 use node_rules::WalletIdentity;
-use node_runs::{
-    init_operator, init_wallet, init_watcher, run_operator, run_wallet, run_watcher,
-};
+use node_runs::{init_operator, init_wallet, init_watcher, run_operator, run_wallet, run_watcher};
 use plasma_base::{Bytes, Hash32, NoMemory, Sha};
 use plasma_outside::{Sink, Source};
 use run_endings::{Status, put_line};
@@ -179,14 +177,8 @@ fn run_form<H: Hash32, S: Source, K: Sink, D: Disk>(
                 message,
                 signature,
             },
-        ) => Ended::of(
-            run_verify(&key, &message, &signature, sink),
-            notes,
-            leaves,
-        ),
-        Some(Form::Wallet) => {
-            Ended::of_both(run_wallet(alloc, h, source, sink, notes, leaves))
-        }
+        ) => Ended::of(run_verify(&key, &message, &signature, sink), notes, leaves),
+        Some(Form::Wallet) => { Ended::of_both(run_wallet(alloc, h, source, sink, notes, leaves)) }
         Some(Form::Operator) => {
             Ended::of_notes(run_operator(alloc, h, source, sink, notes), leaves)
         }

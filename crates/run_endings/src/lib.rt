@@ -7,5 +7,5 @@ mod text;
 
 pub use status::Status;
 pub use text::{
-    put_line, push_already_made, push_bad_line, push_not_journal, push_refused, push_too_long,
+    push_already_made, push_bad_line, push_not_journal, push_refused, push_too_long, put_line,
 };

@@ -12,11 +12,21 @@ use Rattle.node_runs.proofs.operator.run_operator.Goals as goal
 pub run_session-run-requires : goal.run_session-run-requires
 run_session-run-requires g c κs within =
     let d = within.0 in
-    let h = within.1.0 in
-    (
+    let h = within.1.0 in (
       search (⊑_meet, ⊑_static, d, h) depth 40 fits 20000,
-      (within.1.1.0, (within.1.1.1, (⊑_static _, (c.in-Ok.ensures.opened.is_open,
-        (refl, opened-there g.D.Disk.told g.D.Disk.plan g.D.Disk.faults _ _ c.in-Ok.node.notes c.in-Ok.ensures.opened))))),
+      (
+        within.1.1.0,
+        (
+          within.1.1.1,
+          (
+            ⊑_static _,
+            (
+              c.in-Ok.ensures.opened.is_open,
+              (refl, opened-there g.D.Disk.told g.D.Disk.plan g.D.Disk.faults _ _ c.in-Ok.node.notes c.in-Ok.ensures.opened),
+            ),
+          ),
+        ),
+      ),
     )
 
 pub returns-in-Ok-clause-runs : goal.returns-in-Ok-clause-runs
@@ -26,15 +36,18 @@ returns-in-Ok-clause-runs g c =
     let faults = g.D.Disk.faults in
     let notes = c.run_session-run.result.0.node.notes in
     let runs = rw c.in-Ok.ensures.hash at c.run_session-run.ensures.runs in
-    inl (c.in-Ok.node.notes, c.in-Ok.ensures.opened,
+    inl (
+      c.in-Ok.node.notes,
+      c.in-Ok.ensures.opened,
       rw c.take_disk.ensures
-      (in-words _ _ _ (λ at. Keeps told faults at.kept notes.disk)
-      _ (λ log at. (line : OperatorLine)
-      × Failed told faults (operator_outcome at.dig log at.kept.records line).note at.kept notes.disk)
-      _ (λ log at. (line : OperatorLine)
-      × Keeps told faults (with_note at.kept (operator_outcome at.dig log at.kept.records line).note) notes.disk)
-      (λ at is. stays-keeps told faults at.kept notes is.1.there)
-      (λ log at is. (is.0, fails-failed told faults _ at.kept notes is.1))
-      (λ log at is.
-      starved-keeps told faults is.0 (λ line. (operator_outcome at.dig log at.kept.records line).note) at.kept notes is.1)
-      _ _ _ runs))
+          (in-words _ _ _ (λ at. Keeps told faults at.kept notes.disk)
+          _ (λ log at. (line : OperatorLine)
+          × Failed told faults (operator_outcome at.dig log at.kept.records line).note at.kept notes.disk)
+          _ (λ log at. (line : OperatorLine)
+          × Keeps told faults (with_note at.kept (operator_outcome at.dig log at.kept.records line).note) notes.disk)
+          (λ at is. stays-keeps told faults at.kept notes is.1.there)
+          (λ log at is. (is.0, fails-failed told faults _ at.kept notes is.1))
+          (λ log at is.
+          starved-keeps told faults is.0 (λ line. (operator_outcome at.dig log at.kept.records line).note) at.kept notes is.1)
+          _ _ _ runs),
+    )

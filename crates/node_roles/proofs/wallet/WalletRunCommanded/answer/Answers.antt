@@ -12,11 +12,13 @@ returns-clause-said g c =
     (λ dig records. wallet_outcome dig c.args.log.now.log records c.args.command)
     (g.H.Hash32.digest_of c.args.self.now.node.hash) at c.args.self.now.node c.answer_wallet.new.node _ _ _
     c.answer_wallet.result is.0
-    (λ left there.
-    (ap g.H.Hash32.digest_of
-    (either-hash g.D.Disk.told g.D.Disk.plan g.D.Disk.faults _ _ c.args.self.now.node c.answer_wallet.new.node
-    c.answer_wallet.ensures.did.0 c.answer_wallet.ensures.did.1)
-    ∙ is.0, there))
+    (λ left there. (
+      ap g.H.Hash32.digest_of
+          (either-hash g.D.Disk.told g.D.Disk.plan g.D.Disk.faults _ _ c.args.self.now.node c.answer_wallet.new.node
+          c.answer_wallet.ensures.did.0 c.answer_wallet.ensures.did.1)
+          ∙ is.0,
+      there,
+    ))
     (λ dig records. wallet-quiet dig c.args.log.now.log records c.args.command)
     is.1 c.answer_wallet.ensures.did c.answer_wallet.ensures.said
 
