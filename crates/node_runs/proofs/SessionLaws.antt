@@ -102,14 +102,14 @@ module _ {N A L W : Type 0} (rules : Rules (SessionState A) (List ℕ)) (found :
         left = halted is.stream.run Failed is.broken;
       }))
 
-  -- one whose sink refused
-  pub refused-runs : (left later taken after : Option (List ℕ)) (text : List ℕ) (failed : Type 0)
-      (why : Break) → why ≡ WriteBreak
-      → BrokeOff rules (begun found) Ran Halted left later taken after text why session
-      → Runs (record { left = left; later = later; taken = taken; after = after }) failed WriteFault
-  refused-runs left later taken after text failed why same broken =
-      let broke =
-      subst (λ why. BrokeOff rules (begun found) Ran Halted left later taken after text why session) same broken in
+  -- one that was broken off for this, behind which the node is there
+  broken-runs : (left later taken after : Option (List ℕ)) (text : List ℕ) (failed : Type 0) (why : Break)
+      (status : Status) (broke : BrokeOff rules (begun found) Ran Halted left later taken after text why session)
+      → (rest : List ℕ) × (broke.put ++ rest ≡ broke.breaks.stream.text)
+      → BrokenAt (λ at. IsAt node at) (λ log at. (command : L) × IsStopped node log at command NodeMemory) status
+      broke.breaks.stream.run
+      → Runs (record { left = left; later = later; taken = taken; after = after }) failed status
+  broken-runs left later taken after text failed why status broke rest there =
       let is = broke.breaks in
       inr
       (inr
@@ -119,9 +119,20 @@ module _ {N A L W : Type 0} (rules : Rules (SessionState A) (List ℕ)) (found :
         stream = is.stream;
         gave = broke.gave;
         begins = record { front = is.front; rest = is.rest; whole = is.whole; runs = is.runs };
-        front = record { front = broke.put; back = is.put_is.0; whole = is.put_is.1; wrote = broke.wrote };
-        left = ran is.stream.run is.broken;
+        front = record { front = broke.put; back = rest.0; whole = rest.1; wrote = broke.wrote };
+        left = there;
       }))
+
+  -- one whose sink refused
+  pub refused-runs : (left later taken after : Option (List ℕ)) (text : List ℕ) (failed : Type 0)
+      (why : Break) → why ≡ WriteBreak
+      → BrokeOff rules (begun found) Ran Halted left later taken after text why session
+      → Runs (record { left = left; later = later; taken = taken; after = after }) failed WriteFault
+  refused-runs left later taken after text failed why same broken =
+      let broke =
+      subst (λ why. BrokeOff rules (begun found) Ran Halted left later taken after text why session) same broken in
+      broken-runs left later taken after text failed WriteBreak WriteFault broke broke.breaks.put_is
+      (ran broke.breaks.stream.run broke.breaks.broken)
 
   starved-at : (run : SessionState A)
       → Ran session run ⊎ Halted session run NoMemoryHalt
@@ -137,18 +148,8 @@ module _ {N A L W : Type 0} (rules : Rules (SessionState A) (List ℕ)) (found :
   starved-runs left later taken after text failed why same broken =
       let broke =
       subst (λ why. BrokeOff rules (begun found) Ran Halted left later taken after text why session) same broken in
-      let is = broke.breaks in
-      inr
-      (inr
-      (record {
-        bytes = broke.bytes;
-        ended = broke.ended;
-        stream = is.stream;
-        gave = broke.gave;
-        begins = record { front = is.front; rest = is.rest; whole = is.whole; runs = is.runs };
-        front = record { front = broke.put; back = is.put_is.0; whole = is.put_is.1; wrote = broke.wrote };
-        left = starved-at is.stream.run is.broken;
-      }))
+      broken-runs left later taken after text failed NoMemoryBreak NoMemory broke broke.breaks.put_is
+      (starved-at broke.breaks.stream.run broke.breaks.broken)
 
 -- what a run did, in other words of where it leaves the node
 module _ {A : Type 0} (rules : Rules (SessionState A) (List ℕ)) (found : A) (Left Left_ : A → Type 0)
