@@ -81,7 +81,7 @@ module _ {R C W : Type 0} (rules : Rules R C) (first : R) (Ran : W → R → Typ
 
   -- ---- what ends it, or breaks it off
 
-  module _ (Halted : W → R → Halt C → Type 0) where
+  module _ (Halted : W → R → List ℕ → Halt C → Type 0) where
     answers : (last : Option (List ℕ)) (bytes text' : List ℕ) (ended : Bool) (answerer' : W) (ending : Ending C)
         → Gave left last bytes ended → EndsAs rules first Ran Halted ended bytes going.put text' ending answerer'
         → Answers rules first Ran Halted left last taken after text' ending answerer'

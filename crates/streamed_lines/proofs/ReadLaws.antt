@@ -4,7 +4,7 @@ use Rattle.std.specs.Prelude.{OnOk}
 use Rattle.std.proofs.lemmas.List.{append-nil, length-append, length-take, length-drop, take-append-drop}
 use Rattle.streamed_lines.specs.declared.TheConstants.{MOST_LINES, MOST_LINE_BYTES, MOST_INPUT_BYTES}
 use Rattle.streamed_lines.specs.declared.ending.Halt.{Halt}
-use Rattle.streamed_lines.specs.Lines.{is_feed, limit_of, HasNoFeed, EndsWithItsFeed}
+use Rattle.streamed_lines.specs.Lines.{is_feed, text_of, limit_of, HasNoFeed, EndsWithItsFeed}
 use Rattle.streamed_lines.specs.Streams.{Rules, Stream, no_lines, next_number, with_answer}
 use Rattle.streamed_lines.specs.Bounds.{room}
 use Rattle.streamed_lines.specs.Reading.{DoesLine, Gathers, StopsAt, IsKept, StopsKept, Reads, IsHalted, HaltsWith}
@@ -161,14 +161,15 @@ module _ {R C W : Type 0} (rules : Rules R C) (Ran : W → R → Type 0) (taken 
 
   -- ---- what stops the lines in what was taken
 
-  module _ (Halted : W → R → Halt C → Type 0) (first : R) (bytes put : List ℕ)
+  module _ (Halted : W → R → List ℕ → Halt C → Type 0) (first : R) (bytes put : List ℕ)
       (begun : Reads rules first Ran bytes put text₀ line₀ n₀ start₀ answerer₀) where
     pub way-stops : (i : ℕ) → position is_feed rest ≡ Some i → i < length rest → length taken ≤ room
         → (text' : List ℕ) (n' : ℕ) (answerer' : W) (halt : Halt C) (rules' : Rules R C) → rules' ≡ rules
         → text' ≡ text → n' ≡ n
         → ((stream : Stream R) → Ran answerer stream.run → n ≡ next_number stream
         → StopsAt rules' start stream (line ++ take (i + 1) rest) halt)
-        → ((stream : Stream R) → Ran answerer stream.run → IsHalted Ran Halted answerer' stream.run halt)
+        → ((stream : Stream R) → Ran answerer stream.run
+        → IsHalted Ran Halted answerer' stream.run (text_of (line ++ take (i + 1) rest)) halt)
         → HaltsWith rules first Ran Halted false (bytes ++ taken) put text' n' answerer' halt
     way-stops i found low bound text' n' answerer' halt rules' same untold number at halted =
         let here = way.reads first bytes put begun in

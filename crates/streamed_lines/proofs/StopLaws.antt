@@ -12,10 +12,10 @@ use Rattle.streamed_lines.specs.declared.ending.Stop.TheVariants.{BadLine as Bad
 use Rattle.streamed_lines.specs.declared.ending.Halt.{Halt}
 use Rattle.streamed_lines.specs.declared.ending.Halt.TheVariants.{Stops, Failed, NoMemory}
 use Rattle.streamed_lines.specs.declared.ending.Break.{Break}
-use Rattle.streamed_lines.specs.Lines.{lines_in, is_whole, is_too_long, limit_of, HasNoFeed, EndsWithItsFeed}
+use Rattle.streamed_lines.specs.Lines.{lines_in, is_whole, text_of, is_too_long, limit_of, HasNoFeed, EndsWithItsFeed}
 use Rattle.streamed_lines.specs.Streams.{Rules, Stream, next_number, ending_at, with_answer, end_of_input, line_stream, stream_of}
 use Rattle.streamed_lines.specs.Bounds.{room, line_at, start_of, end_of, TakesFew}
-use Rattle.streamed_lines.specs.Reading.{halted_at, DoesLine, Gathers, StopsAt, IsKept, StopsKept, RunsTo, Reads, IsHalted, IsLeft, EndsAs, BreaksOff, HaltsWith}
+use Rattle.streamed_lines.specs.Reading.{halted_at, next_text, DoesLine, Gathers, StopsAt, IsKept, StopsKept, RunsTo, Reads, IsHalted, IsLeft, EndsAs, BreaksOff, HaltsWith}
 use Rattle.streamed_lines.proofs.LineLaws.{plain-open, feed-append, whole-feed, lines_in-feed, lines_in-unfinished, kept-fits}
 use Rattle.streamed_lines.proofs.StreamLaws.{stream-stops, stream-ends, stream-answers, stream-over, waits, too-long}
 
@@ -66,6 +66,20 @@ module _ {R C : Type 0} (rules : Rules R C) (first : R) (front line : List ℕ) 
       let place : n - 1 ≡ length runs.cut = omega (arith, number, runs.count) in
       ap (λ ls. slice_index_or ls (n - 1) []) lines
       ∙ ap (λ m. slice_index_or (runs.cut ++ line ∷ more) m []) place ∙ nth-is runs.cut line more
+
+  -- a line that ends with its line feed is the next one
+  next-whole : (rest : List ℕ) → EndsWithItsFeed line → next_text (front ++ (line ++ rest)) stream ≡ text_of line
+  next-whole rest ends =
+      ap (λ k. text_of (line_at (front ++ (line ++ rest)) k)) (sym number)
+      ∙ ap text_of (line-is (front ++ (line ++ rest)) (lines_in rest)
+      (runs.cuts (line ++ rest) ∙ ap (λ ls. runs.cut ++ ls) (lines_in-feed line rest ends)))
+
+  -- so is a last line
+  next-last : HasNoFeed line → line ≢ [] → next_text (front ++ line) stream ≡ text_of line
+  next-last plain some =
+      ap (λ k. text_of (line_at (front ++ line) k)) (sym number)
+      ∙ ap text_of (line-is (front ++ line) []
+      (runs.cuts line ∙ ap (λ ls. runs.cut ++ ls) (lines_in-unfinished line some plain)))
 
   -- few bytes were taken behind a line that ends with its line feed
   few-whole : (rest : List ℕ) → EndsWithItsFeed line → length rest < room
@@ -139,32 +153,32 @@ few-end {C = C} rules bytes stream lines is count size =
 -- ---- where an answerer is left
 
 -- where it is left by a line that stops the stream
-left-by : {R C W : Type 0} (Ran : W → R → Type 0) (Halted : W → R → Halt C → Type 0) (answerer : W) (run : R) (n : ℕ)
-    (stop : Stop C) → IsHalted Ran Halted answerer run (Stops stop)
-    → IsLeft Ran Halted answerer run (ending_at n stop)
-left-by Ran Halted answerer run n BadLineStop halted = inr halted
-left-by Ran Halted answerer run n TooLongStop halted = halted
-left-by Ran Halted answerer run n (Ends cause) halted = halted
+left-by : {R C W : Type 0} (Ran : W → R → Type 0) (Halted : W → R → List ℕ → Halt C → Type 0) (answerer : W) (run : R)
+    (next : List ℕ) (n : ℕ) (stop : Stop C) → IsHalted Ran Halted answerer run next (Stops stop)
+    → IsLeft Ran Halted answerer run next (ending_at n stop)
+left-by Ran Halted answerer run next n BadLineStop halted = inr halted
+left-by Ran Halted answerer run next n TooLongStop halted = halted
+left-by Ran Halted answerer run next n (Ends cause) halted = halted
 
 -- where it is left at the end of an input
-left-over : {R C W : Type 0} (rules : Rules R C) (Ran : W → R → Type 0) (Halted : W → R → Halt C → Type 0)
-    (answerer : W) (stream : Stream R) → Ran answerer stream.run
-    → IsLeft Ran Halted answerer stream.run (end_of_input rules true stream)
-left-over rules Ran Halted answerer stream ran =
+left-over : {R C W : Type 0} (rules : Rules R C) (Ran : W → R → Type 0) (Halted : W → R → List ℕ → Halt C → Type 0)
+    (answerer : W) (stream : Stream R) (next : List ℕ) → Ran answerer stream.run
+    → IsLeft Ran Halted answerer stream.run next (end_of_input rules true stream)
+left-over rules Ran Halted answerer stream next ran =
     elim (rules.may_end stream.run) as
-    (λ t. IsLeft Ran Halted answerer stream.run (if t then Complete else BadLine (next_number stream))) [
+    (λ t. IsLeft Ran Halted answerer stream.run next (if t then Complete else BadLine (next_number stream))) [
       | true ↦ ran
       | false ↦ inl ran
     ]
 
 -- ---- what ends a stream whose bytes up to a line were read
 
-module _ {R C W : Type 0} (rules : Rules R C) (first : R) (Ran : W → R → Type 0) (Halted : W → R → Halt C → Type 0)
+module _ {R C W : Type 0} (rules : Rules R C) (first : R) (Ran : W → R → Type 0) (Halted : W → R → List ℕ → Halt C → Type 0)
     (bytes put text line : List ℕ) (n start : ℕ) (answerer : W)
     (reads : Reads rules first Ran bytes put text line n start answerer) where
   -- the line isn't answered, since the answerer failed or memory ran out
   breaks-failed : (all : List ℕ) (answerer' : W) (rest : List ℕ) → all ≡ reads.front ++ rest
-      → IsHalted Ran Halted answerer' reads.stream.run Failed
+      → IsHalted Ran Halted answerer' reads.stream.run (next_text all reads.stream) Failed
       → HaltsWith rules first Ran Halted true all put text n answerer' Failed
   breaks-failed all answerer' rest whole halted = record {
     front = reads.front;
@@ -177,7 +191,7 @@ module _ {R C W : Type 0} (rules : Rules R C) (first : R) (Ran : W → R → Typ
   }
 
   breaks-memory : (all : List ℕ) (answerer' : W) (rest : List ℕ) → all ≡ reads.front ++ rest
-      → IsHalted Ran Halted answerer' reads.stream.run NoMemory
+      → IsHalted Ran Halted answerer' reads.stream.run (next_text all reads.stream) NoMemory
       → HaltsWith rules first Ran Halted true all put text n answerer' NoMemory
   breaks-memory all answerer' rest whole halted = record {
     front = reads.front;
@@ -194,10 +208,22 @@ module _ {R C W : Type 0} (rules : Rules R C) (first : R) (Ran : W → R → Typ
       ap (λ b. b ++ (own ++ rest)) reads.whole ∙ append_assoc reads.front line (own ++ rest)
       ∙ ap (λ b. reads.front ++ b) (sym (append_assoc line own rest))
 
+  -- it halted at the line that ends there, which is the next one
+  halted-next : (answerer' : W) (own rest : List ℕ) (halt : Halt C) → HasNoFeed line → EndsWithItsFeed own
+      → IsHalted Ran Halted answerer' reads.stream.run (text_of (line ++ own)) halt
+      → IsHalted Ran Halted answerer' reads.stream.run (next_text (bytes ++ (own ++ rest)) reads.stream) halt
+  halted-next answerer' own rest halt plain ends halted =
+      subst (λ b. IsHalted Ran Halted answerer' reads.stream.run (next_text b reads.stream) halt)
+      (sym (same-bytes own rest))
+      (subst (λ next. IsHalted Ran Halted answerer' reads.stream.run next halt)
+      (sym (next-whole rules first reads.front (line ++ own) reads.stream n reads.runs reads.number rest
+      (feed-append line own plain ends)))
+      halted)
+
   whole-stop : (answerer' : W) (own rest : List ℕ) (ending : Ending C) → HasNoFeed line → EndsWithItsFeed own
       → DoesLine rules start reads.stream (line ++ own) (Err ending)
       → TakesFew (reads.front ++ ((line ++ own) ++ rest)) ending
-      → IsLeft Ran Halted answerer' reads.stream.run ending
+      → IsLeft Ran Halted answerer' reads.stream.run (text_of (line ++ own)) ending
       → EndsAs rules first Ran Halted false (bytes ++ (own ++ rest)) put text ending answerer'
   whole-stop answerer' own rest ending plain ends does few left =
       subst (λ b. EndsAs rules first Ran Halted false b put text ending answerer') (sym (same-bytes own rest))
@@ -209,24 +235,30 @@ module _ {R C W : Type 0} (rules : Rules R C) (first : R) (Ran : W → R → Typ
             (subst (λ m. DoesLine rules m reads.stream (line ++ own) (Err ending)) reads.size does);
         told = reads.told;
         few = few;
-        left = left;
+        left =
+            subst (λ next. IsLeft Ran Halted answerer' reads.stream.run next ending)
+            (sym (next-whole rules first reads.front (line ++ own) reads.stream n reads.runs reads.number rest
+            (feed-append line own plain ends)))
+            left;
       })
 
   -- a line with its line feed
   pub line-stops : (answerer' : W) (own rest : List ℕ) (halt : Halt C) → HasNoFeed line → EndsWithItsFeed own
       → length rest < room → StopsAt rules start reads.stream (line ++ own) halt
-      → IsHalted Ran Halted answerer' reads.stream.run halt
+      → IsHalted Ran Halted answerer' reads.stream.run (text_of (line ++ own)) halt
       → HaltsWith rules first Ran Halted false (bytes ++ (own ++ rest)) put text n answerer' halt
   line-stops answerer' own rest Failed plain ends short at halted =
-      breaks-failed (bytes ++ (own ++ rest)) answerer' ((line ++ own) ++ rest) (same-bytes own rest) halted
+      breaks-failed (bytes ++ (own ++ rest)) answerer' ((line ++ own) ++ rest) (same-bytes own rest)
+      (halted-next answerer' own rest Failed plain ends halted)
   line-stops answerer' own rest NoMemory plain ends short at halted =
-      breaks-memory (bytes ++ (own ++ rest)) answerer' ((line ++ own) ++ rest) (same-bytes own rest) halted
+      breaks-memory (bytes ++ (own ++ rest)) answerer' ((line ++ own) ++ rest) (same-bytes own rest)
+      (halted-next answerer' own rest NoMemory plain ends halted)
   line-stops answerer' own rest (Stops stop) plain ends short at halted =
       whole-stop answerer' own rest (ending_at n stop) plain ends
       (subst (λ m. DoesLine rules start reads.stream (line ++ own) (Err (ending_at m stop))) (sym reads.number) at)
       (few-feed rules first reads.front (line ++ own) reads.stream n reads.runs reads.number rest stop
       (feed-append line own plain ends) short)
-      (left-by Ran Halted answerer' reads.stream.run n stop halted)
+      (left-by Ran Halted answerer' reads.stream.run (text_of (line ++ own)) n stop halted)
 
   -- what is kept of a line is fewer than a room behind its limit
   kept-few : IsKept n start line → length bytes < limit_of n start + room
@@ -266,7 +298,7 @@ module _ {R C W : Type 0} (rules : Rules R C) (first : R) (Ran : W → R → Typ
   -- the last line of an input, whose end is the input's
   last-ends : (answerer' : W) (ending : Ending C) → HasNoFeed line → line ≢ []
       → DoesLine rules start reads.stream line (Err ending) → TakesFew (reads.front ++ line) ending
-      → IsLeft Ran Halted answerer' reads.stream.run ending
+      → IsLeft Ran Halted answerer' reads.stream.run (text_of line) ending
       → EndsAs rules first Ran Halted true bytes put text ending answerer'
   last-ends answerer' ending plain some does few left =
       subst (λ b. EndsAs rules first Ran Halted true b put text ending answerer') (sym reads.whole)
@@ -278,31 +310,45 @@ module _ {R C W : Type 0} (rules : Rules R C) (first : R) (Ran : W → R → Typ
             (subst (λ m. line_stream rules true m reads.stream line ≡ Err ending) reads.size (does true refl));
         told = reads.told;
         few = few;
-        left = left;
+        left =
+            subst (λ next. IsLeft Ran Halted answerer' reads.stream.run next ending)
+            (sym (next-last rules first reads.front line reads.stream n reads.runs reads.number plain some)) left;
       })
 
+  halted-last : (answerer' : W) (halt : Halt C) → HasNoFeed line → line ≢ []
+      → IsHalted Ran Halted answerer' reads.stream.run (text_of line) halt
+      → IsHalted Ran Halted answerer' reads.stream.run (next_text bytes reads.stream) halt
+  halted-last answerer' halt plain some halted =
+      subst (λ b. IsHalted Ran Halted answerer' reads.stream.run (next_text b reads.stream) halt) (sym reads.whole)
+      (subst (λ next. IsHalted Ran Halted answerer' reads.stream.run next halt)
+      (sym (next-last rules first reads.front line reads.stream n reads.runs reads.number plain some)) halted)
+
   last-halts : (answerer' : W) (halt : Halt C) → IsKept n start line → line ≢ []
-      → StopsAt rules start reads.stream line halt → IsHalted Ran Halted answerer' reads.stream.run halt
+      → StopsAt rules start reads.stream line halt
+      → IsHalted Ran Halted answerer' reads.stream.run (text_of line) halt
       → HaltsWith rules first Ran Halted true bytes put text n answerer' halt
-  last-halts answerer' Failed kept some at halted = breaks-failed bytes answerer' line reads.whole halted
-  last-halts answerer' NoMemory kept some at halted = breaks-memory bytes answerer' line reads.whole halted
+  last-halts answerer' Failed kept some at halted =
+      breaks-failed bytes answerer' line reads.whole (halted-last answerer' Failed kept.plain some halted)
+  last-halts answerer' NoMemory kept some at halted =
+      breaks-memory bytes answerer' line reads.whole (halted-last answerer' NoMemory kept.plain some halted)
   last-halts answerer' (Stops stop) kept some at halted =
       last-ends answerer' (ending_at n stop) kept.plain some
       (subst (λ m. DoesLine rules start reads.stream line (Err (ending_at m stop))) (sym reads.number) at)
       (few-unfinished rules first reads.front line reads.stream n reads.runs reads.number stop kept.plain some
       (subst (λ b. length b < limit_of n (length reads.front) + room) reads.whole
       (subst (λ k. length bytes < limit_of n k + room) reads.size (kept-few kept))))
-      (left-by Ran Halted answerer' reads.stream.run n stop halted)
+      (left-by Ran Halted answerer' reads.stream.run (text_of line) n stop halted)
 
   pub last-stops : (text' : List ℕ) (n' : ℕ) (answerer' : W) (halt : Halt C) → text' ≡ text → n' ≡ n
       → IsKept n start line → line ≢ [] → StopsAt rules start reads.stream (line ++ []) halt
-      → IsHalted Ran Halted answerer' reads.stream.run halt
+      → IsHalted Ran Halted answerer' reads.stream.run (text_of (line ++ [])) halt
       → HaltsWith rules first Ran Halted true bytes put text' n' answerer' halt
   last-stops text' n' answerer' halt untold same kept some at halted =
       subst (λ t. HaltsWith rules first Ran Halted true bytes put t n' answerer' halt) (sym untold)
       (subst (λ m. HaltsWith rules first Ran Halted true bytes put text m answerer' halt) (sym same)
       (last-halts answerer' halt kept some
-      (subst (λ l. StopsAt rules start reads.stream l halt) (append-nil line) at) halted))
+      (subst (λ l. StopsAt rules start reads.stream l halt) (append-nil line) at)
+      (subst (λ l. IsHalted Ran Halted answerer' reads.stream.run (text_of l) halt) (append-nil line) halted)))
 
   -- the last line was answered, and the input ends behind it
   pub last-answered : (text' : List ℕ) (n' : ℕ) (answerer' : W) (ending : Ending C) (rules' : Rules R C)
@@ -335,7 +381,7 @@ module _ {R C W : Type 0} (rules : Rules R C) (first : R) (Ran : W → R → Typ
             (length-append reads.runs.cut (line ∷ []) ∙ omega (arith, reads.runs.count))
             (sum_by-append length reads.runs.cut (line ∷ [])
             ∙ omega (arith, reads.runs.size, length-append reads.front line));
-        left = left-over rules Ran Halted answerer' next gathers.ran;
+        left = left-over rules Ran Halted answerer' next _ gathers.ran;
       }))
 
   -- no last line is there
@@ -354,7 +400,7 @@ module _ {R C W : Type 0} (rules : Rules R C) (first : R) (Ran : W → R → Typ
             few-end rules (reads.front ++ []) reads.stream reads.runs.cut
             (reads.runs.cuts [] ∙ no-more reads.runs.cut) reads.runs.count
             (reads.runs.size ∙ ap length (sym (append-nil reads.front)));
-        left = left-over rules Ran Halted answerer reads.stream reads.ran;
+        left = left-over rules Ran Halted answerer reads.stream _ reads.ran;
       }))
 
   -- the source failed: what is there of a line isn't answered
@@ -389,7 +435,7 @@ module _ {R C W : Type 0} (rules : Rules R C) (first : R) (Ran : W → R → Typ
 
 -- ---- what a line that isn't answered comes to
 
-module _ {R C W : Type 0} (rules : Rules R C) (first : R) (Ran : W → R → Type 0) (Halted : W → R → Halt C → Type 0)
+module _ {R C W : Type 0} (rules : Rules R C) (first : R) (Ran : W → R → Type 0) (Halted : W → R → List ℕ → Halt C → Type 0)
     (ended : Bool) (bytes put text : List ℕ) (n : ℕ) (answerer : W) where
   pub halts-end : (halt : Halt C) (result : Result (Ending C) Break) → result ≡ halted_at n halt
       → HaltsWith rules first Ran Halted ended bytes put text n answerer halt

@@ -10,9 +10,9 @@ use Rattle.streamed_lines.specs.declared.ending.Break.{Break}
 use Rattle.streamed_lines.specs.declared.ending.Break.TheVariants.{WriteFault, Failed as FailedBreak, NoMemory as NoMemoryBreak}
 use Rattle.plasma_outside.specs.declared.sink.SinkRefusal.{SinkRefusal}
 use Rattle.plasma_outside.specs.declared.sink.SinkRefusal.TheVariants.{Failed as SinkFailed, NoMemory as SinkNoMemory}
-use Rattle.streamed_lines.specs.Lines.{lines_in, is_whole, is_too_long, limit_of, HasNoFeed}
+use Rattle.streamed_lines.specs.Lines.{lines_in, is_whole, text_of, is_too_long, limit_of, HasNoFeed}
 use Rattle.streamed_lines.specs.Streams.{Rules, Stream, no_lines, next_number, with_answer, ending_at, line_stream, stream_from, stream_of}
-use Rattle.streamed_lines.specs.Bounds.{TakesFew}
+use Rattle.streamed_lines.specs.Bounds.{line_at, TakesFew}
 use Rattle.streamed_lines.specs.Outside.{Gave, Wrote}
 
 -- ---- what breaks a stream off
@@ -118,39 +118,43 @@ module _ {R C W : Type 0} (rules : Rules R C) (first : R) (Ran : W → R → Typ
 
 -- ---- where an answerer is left
 
-module _ {R C W : Type 0} (Ran : W → R → Type 0) (Halted : W → R → Halt C → Type 0) where
-  -- An answerer whose lines came to this and whose next line isn't answered: it halted there. Where the line passes a
-  -- limit or memory runs out it may not have been asked, and is where they left it.
-  abbrev pub IsHalted : W → R → Halt C → Type 0
-  IsHalted answerer run (Stops TooLongStop) = Ran answerer run ⊎ Halted answerer run (Stops TooLongStop)
-  IsHalted answerer run NoMemory = Ran answerer run ⊎ Halted answerer run NoMemory
-  IsHalted answerer run halt = Halted answerer run halt
+-- the text of the line behind those of a stream
+abbrev pub next_text : {R : Type 0} → List ℕ → Stream R → List ℕ
+next_text bytes stream = text_of (line_at bytes (next_number stream))
+
+module _ {R C W : Type 0} (Ran : W → R → Type 0) (Halted : W → R → List ℕ → Halt C → Type 0) where
+  -- An answerer whose lines came to this and whose next line, of this text, isn't answered: it halted there. Where the
+  -- line passes a limit or memory runs out it may not have been asked, and is where they left it.
+  abbrev pub IsHalted : W → R → List ℕ → Halt C → Type 0
+  IsHalted answerer run text (Stops TooLongStop) = Ran answerer run ⊎ Halted answerer run text (Stops TooLongStop)
+  IsHalted answerer run text NoMemory = Ran answerer run ⊎ Halted answerer run text NoMemory
+  IsHalted answerer run text halt = Halted answerer run text halt
 
   -- The same, where the stream ended so. No answerer is asked for a line that is missing.
-  abbrev pub IsLeft : W → R → Ending C → Type 0
-  IsLeft answerer run Complete = Ran answerer run
-  IsLeft answerer run ReadFault = Ran answerer run
-  IsLeft answerer run (BadLine n) = Ran answerer run ⊎ Halted answerer run (Stops BadLineStop)
-  IsLeft answerer run (TooLong n) = IsHalted answerer run (Stops TooLongStop)
-  IsLeft answerer run (Ended n cause) = IsHalted answerer run (Stops (Ends cause))
+  abbrev pub IsLeft : W → R → List ℕ → Ending C → Type 0
+  IsLeft answerer run text Complete = Ran answerer run
+  IsLeft answerer run text ReadFault = Ran answerer run
+  IsLeft answerer run text (BadLine n) = Ran answerer run ⊎ Halted answerer run text (Stops BadLineStop)
+  IsLeft answerer run text (TooLong n) = IsHalted answerer run text (Stops TooLongStop)
+  IsLeft answerer run text (Ended n cause) = IsHalted answerer run text (Stops (Ends cause))
 
   -- and where it was broken off
-  abbrev pub IsBroken : W → R → Break → Type 0
-  IsBroken answerer run WriteFault = Ran answerer run
-  IsBroken answerer run FailedBreak = IsHalted answerer run Failed
-  IsBroken answerer run NoMemoryBreak = IsHalted answerer run NoMemory
+  abbrev pub IsBroken : W → R → List ℕ → Break → Type 0
+  IsBroken answerer run text WriteFault = Ran answerer run
+  IsBroken answerer run text FailedBreak = IsHalted answerer run text Failed
+  IsBroken answerer run text NoMemoryBreak = IsHalted answerer run text NoMemory
 
 -- ---- what ended a stream
 
 module _ {R C W : Type 0} (rules : Rules R C) (first : R) (Ran : W → R → Type 0)
-    (Halted : W → R → Halt C → Type 0) where
+    (Halted : W → R → List ℕ → Halt C → Type 0) where
   -- the stream of these bytes ends so, and the text of its answers was put or is gathered
   pub record EndsAs (ended : Bool) (bytes put text : List ℕ) (ending : Ending C) (answerer : W) : Type 0 where
     pub stream : Stream R
     pub streams : stream_of rules first bytes ended ≡ record { stream = stream; ending = ending }
     pub told : put ++ text ≡ stream.text
     pub few : TakesFew bytes ending
-    pub left : IsLeft Ran Halted answerer stream.run ending
+    pub left : IsLeft Ran Halted answerer stream.run (next_text bytes stream) ending
 
   -- where these are told: what the source gave was answered to its end, and the sink has taken the text but for what
   -- is gathered
@@ -177,7 +181,7 @@ module _ {R C W : Type 0} (rules : Rules R C) (first : R) (Ran : W → R → Typ
     pub whole : bytes ≡ front ++ rest
     pub runs : RunsTo rules first front stream
     pub put_is : IsPut why put text stream.text
-    pub broken : IsBroken Ran Halted answerer stream.run why
+    pub broken : IsBroken Ran Halted answerer stream.run (next_text bytes stream) why
 
   -- where these are told: the source gave bytes on which the stream was broken off, and the sink has taken what was put
   pub record BrokeOff (left later taken after : Option (List ℕ)) (text : List ℕ) (why : Break) (answerer : W)

@@ -19,8 +19,8 @@ pub trait Answerer {
     /// It is where lines left it that came to this.
     ghost ran: { Self → Run → Type 0 };
 
-    /// It was where lines left it that came to this, and halted so at the next one.
-    ghost halted: { Self → Run → Halt Self.Cause → Type 0 };
+    /// It was where lines left it that came to this, and halted so at the next one, which is this without its line feed.
+    ghost halted: { Self → Run → List ℕ → Halt Self.Cause → Type 0 };
 
     /// It may be asked for an answer.
     ghost ready: { Self → Type 0 };
@@ -32,7 +32,7 @@ pub trait Answerer {
         ensures answered { (run : Run) → ran self.old run
             → OnOk result (IsAnswered (rules self.old) ran run line.now text.old.items text.new.items self.new) }
         ensures halts { (run : Run) → ran self.old run → IfErr result (HaltsAt (rules self.old) run line.now) }
-        ensures halted { (run : Run) → ran self.old run → IfErr result (halted self.new run) }
+        ensures halted { (run : Run) → ran self.old run → IfErr result (halted self.new run line.now) }
         ensures untold { OnErr result (text.new.items ≡ text.old.items) }
         ensures rules { rules self.new ≡ rules self.old }
         ensures ready { OnOk result (ready self.new) };

@@ -35,7 +35,7 @@ returns-in_err-answer_kept-clause-halts g c =
     _ _ _ c.in_err-answer_kept.field-0.0 (g.A.Answerer.rules c.loop-place.answerer) c.loop-place.invariant.rules
     c.in_err-answer_kept.ensures.untold c.in_err-answer_kept.ensures.same_number
     (rw c.split_at.ensures.front at c.in_err-answer_kept.ensures.stops)
-    c.in_err-answer_kept.ensures.halted)
+    (rw c.split_at.ensures.front at c.in_err-answer_kept.ensures.halted))
 
 pub returns-clause-reads : goal.returns-clause-reads
 returns-clause-reads g c =
