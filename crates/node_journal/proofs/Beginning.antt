@@ -2,7 +2,7 @@
 use Rattle.std.proofs.Common.{◌≡◌, ◌≤◌, ◌+◌, ℕ, Bool, cond, List, [], ◌∷◌, ◌++◌, length, take, Option, Some, None, Result, Ok, Err, inr, refl, sym, ◌∙◌, ap, subst, arith, length-append}
 use Rattle.std.proofs.lemmas.List.{append-nil, take-append-le}
 use Rattle.std.specs.Option.{option_map}
-use Rattle.std.specs.Result.{IfOk, IfErr}
+use Rattle.std.specs.Result.{IfOk, IfErr, OnOk}
 use Rattle.plasma_base.specs.Causes.{faults_after}
 use Rattle.crash_disk.specs.Disk.{Step, History, content, FaultPlan}
 use Rattle.crash_disk.specs.Calls.{WhereTold, Course, passed, failed_after, stopped_after, after_course, with_made, Made}
@@ -13,7 +13,7 @@ use Rattle.gate_journal.specs.Journal.{JournalState, Keeps, IsSettled, Appended}
 use Rattle.gate_journal.specs.Make.{make_steps}
 use Rattle.gate_journal.specs.declared.refusal.InitRefusal.{InitRefusal}
 use Rattle.gate_journal.specs.declared.refusal.InitRefusal.TheVariants.{AlreadyMade as InitMade, DeviceFault as InitFault, NoMemory as InitNoMemory}
-use Rattle.node_journal.specs.Begin.{is_taken, image_made, journal_steps, init_steps, InitsOver, StopsBehindOver, is_fault_refusal, is_init_fault, BeginsEmpty, RefusesEmpty, PassesInit, BeginsPair}
+use Rattle.node_journal.specs.Begin.{is_taken, image_made, journal_steps, init_steps, InitsOver, StopsBehindOver, is_fault_refusal, is_init_fault, Inits, BeginsEmpty, RefusesEmpty, PassesInit, PassesPair, RefusesBehindNotes, RefusesBehindLeaves}
 use Rattle.node_journal.specs.Inside.{FindsOver, AppendsIdentity, OpensEmpty, RefusesEmptyOver}
 use Rattle.node_journal.specs.declared.init.NotBegun.{NotBegun}
 use Rattle.node_journal.proofs.Untaken.{kept_untaken, other_taken, making_holds}
@@ -241,21 +241,47 @@ module _ {D E : Type 0} (told : D → Option History) (plan : D → Option Fault
     (identity : List ℕ) {notes mid new_notes : D} {leaves new_leaves : E}
     (begins : PassesInit told plan faults journal_steps notes mid)
     (beside : PassesInit leaves_told leaves_plan leaves_faults journal_steps leaves new_leaves) where
-  pub pair_appended : (result : Result Unit InitRefusal) → AppendsIdentity told plan identity mid result new_notes
+  pub pair_passes : (result : Result Unit InitRefusal) → AppendsIdentity told plan identity mid result new_notes
       → faults new_notes ≡ faults_after (faults mid) (is_init_fault result)
-      → BeginsPair told plan faults leaves_told leaves_plan leaves_faults identity notes leaves result
-      new_notes new_leaves
-  pair_appended (Ok done) appends count = (
+      → OnOk result (PassesPair told plan faults leaves_told leaves_plan leaves_faults identity notes leaves
+      new_notes new_leaves)
+  pair_passes (Ok done) appends count = (
     record {
       inits = λ before is. passes_init told plan before is identity (begins.inits before is) new_notes appends;
       count = count ∙ begins.count;
     },
     beside,
   )
-  pair_appended (Err why) appends count = inr (inr (
+  pair_passes (Err why) appends count = tt
+
+  pub pair_stops : (result : Result Unit InitRefusal) → AppendsIdentity told plan identity mid result new_notes
+      → faults new_notes ≡ faults_after (faults mid) (is_init_fault result)
+      → IfErr result (λ why. RefusesBehindNotes told plan faults leaves_told leaves_plan leaves_faults identity
+      notes leaves why new_notes new_leaves)
+  pair_stops (Ok done) appends count = tt
+  pair_stops (Err why) appends count = inr (inr (
     record {
       stopped = λ before is. stops_behind told plan before is identity (begins.inits before is) why new_notes appends;
       count = count ∙ ap (λ (n : ℕ). faults_after n (is_fault_refusal why)) begins.count;
     },
     beside,
   ))
+
+-- the notes begun behind the journal of the leaves
+module _ {D E : Type 0} (told : D → Option History) (plan : D → Option FaultPlan) (faults : D → ℕ)
+    (leaves_told : E → Option History) (leaves_plan : E → Option FaultPlan) (leaves_faults : E → ℕ)
+    (identity : List ℕ) {notes new_notes : D} {leaves new_leaves : E}
+    (beside : PassesInit leaves_told leaves_plan leaves_faults journal_steps leaves new_leaves) where
+  pub begun_passes : (result : Result Unit InitRefusal) → Inits told plan (init_steps identity) notes result new_notes
+      → faults new_notes ≡ faults_after (faults notes) (is_init_fault result)
+      → OnOk result (PassesPair told plan faults leaves_told leaves_plan leaves_faults identity notes leaves
+      new_notes new_leaves)
+  begun_passes (Ok done) inits count = (record { inits = inits; count = count }, beside)
+  begun_passes (Err why) inits count = tt
+
+  pub begun_stops : (result : Result Unit InitRefusal) → Inits told plan (init_steps identity) notes result new_notes
+      → faults new_notes ≡ faults_after (faults notes) (is_init_fault result)
+      → IfErr result (λ why. RefusesBehindLeaves told plan faults leaves_told leaves_plan leaves_faults identity
+      notes leaves why new_notes new_leaves)
+  begun_stops (Ok done) inits count = tt
+  begun_stops (Err why) inits count = inr (record { inits = inits; count = count }, beside)

@@ -1,6 +1,7 @@
 -- What a crash leaves of inits, however they went.
 use Rattle.std.proofs.Common.{◌≡◌, ◌≤◌, ◌⊎◌, ℕ, zero, suc, Bool, true, false, cond, eqb, List, [], ◌∷◌, ◌++◌, length, MatchBool, refl, sym, ap, subst, inl, inr, arith, length-append}
-use Rattle.crash_disk.specs.Disk.{Step, asks_length, reads, writes, syncs, History, content, MayLeave}
+use Rattle.std.proofs.lemmas.List.{append-nil}
+use Rattle.crash_disk.specs.Disk.{Step, asks_length, reads, writes, syncs, with_call, is_touched, synced_content, unsynced_ranges, History, content, MayLeave}
 use Rattle.crash_disk.specs.Calls.{Course, passed, failed_after, stopped_after, after_course}
 use Rattle.crash_disk.proofs.Left.{content_may_be_left, fresh_disk_leaves_itself}
 use Rattle.gate_journal.specs.Image.{most}
@@ -10,9 +11,24 @@ use Rattle.gate_journal.specs.Make.{empty, is_made, make_steps, IsBlank}
 use Rattle.gate_journal.proofs.Rest.{AtRest, rest_images, leaves_now, append_rests, course_leaves}
 use Rattle.gate_journal.proofs.Stopped.{stopped_openings, stopped_makings}
 use Rattle.node_journal.specs.Begin.{is_taken, image_made, journal_steps, init_steps}
-use Rattle.node_journal.specs.Laws.{InitsMakeFewCalls, EachImage, InitEvent, prepares, begins, crashes, after_event, MayCome, after_events, MayAllCome, IsUntakenOrBegun, InitsMayBeRepeated, InitsEndBegun, StoppedPreparations, PreparedJournalsAreEmpty}
+use Rattle.node_journal.specs.Laws.{InitsMakeFewCalls, EachImage, InitEvent, asks, prepares, begins, crashes, after_event, MayCome, after_events, MayAllCome, IsUntakenOrBegun, InitsMayBeRepeated, InitsEndBegun, StoppedPreparations, PreparedJournalsAreEmpty}
 use Rattle.node_journal.proofs.Courses.{after_both, course_split}
 use Rattle.node_journal.proofs.Untaken.{some_made, empty_untaken, blank_untaken, untaken_kept, making_holds}
+
+-- a question for the length leaves what was left before
+asked_leaves : (failed : Bool) (history : History) (image : List ℕ)
+    → MayLeave (with_call asks_length failed history) image → MayLeave history image
+asked_leaves failed history image may =
+    let same : unsynced_ranges (with_call asks_length failed history) ≡ unsynced_ranges history =
+    append-nil (unsynced_ranges history) in
+    record {
+      no_shorter = may.no_shorter;
+      no_longer = may.no_longer;
+      untouched =
+          λ place out.
+          may.untouched place
+          (subst (λ ranges. is_touched (synced_content history) ranges place ≡ false) (sym same) out);
+    }
 
 few_made : (made five : Bool) → length
     (cond made (asks_length ∷ cond five (reads 0 5 ∷ []) [])
@@ -152,6 +168,7 @@ module _ (identity : List ℕ) (fits : length identity ≤ most) where
 
   fine_after : (event : InitEvent) (history : History) → EachImage history IsFine → MayCome event history
       → EachImage (after_event identity event history) IsFine
+  fine_after (asks failed) history fine may = λ image left. fine image (asked_leaves failed history image left)
   fine_after (prepares course) history fine may = prepared_fine history course fine
   fine_after (begins course) history fine may = begun_fine history course fine
   fine_after (crashes image) history fine may = λ again left. subst IsFine

@@ -6,3 +6,4 @@ mod Courses
 mod Untaken
 pub mod Beginning
 mod Lasting
+mod Asking

@@ -19,7 +19,7 @@ use Rattle.node_journal.specs.Begin.{has_content, is_taken, image_made}
 pub empty_keeps : Keeps [] empty
 empty_keeps = ap result_ok (records_from-end 1 4 0 [] refl)
 
-not_less : (count : ℕ) → count ≤ 5 → ltb 5 count ≡ false
+pub not_less : (count : ℕ) → count ≤ 5 → ltb 5 count ≡ false
 not_less count le = grind (arith, nat_tests)
 
 pub some_made : (image : List ℕ) (records : List (List ℕ)) → kept_records image ≡ Some records → is_made image ≡ true

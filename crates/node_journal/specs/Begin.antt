@@ -1,8 +1,8 @@
 -- The beginning of a node's journal, or of an empty one.
-use Rattle.std.specs.Prelude.{◌≡◌, ◌≤◌, ◌⊎◌, ℕ, Bool, true, false, nat_lt, if◌then◌else◌, List, [], ◌∷◌, ◌++◌, length, Option, Some, None, Result, Ok, Err}
+use Rattle.std.specs.Prelude.{◌≡◌, ◌<◌, ◌≤◌, ◌⊎◌, ℕ, Bool, true, false, nat_lt, if◌then◌else◌, List, [], ◌∷◌, ◌++◌, length, Option, Some, None, Result, Ok, Err}
 use Rattle.plasma_base.specs.Causes.{faults_after}
-use Rattle.crash_disk.specs.Disk.{Step, History, content, FaultPlan}
-use Rattle.crash_disk.specs.Calls.{WhereTold, passed, failed_after, stopped_after, Made}
+use Rattle.crash_disk.specs.Disk.{Step, asks_length, History, content, FaultPlan}
+use Rattle.crash_disk.specs.Calls.{WhereTold, passed, failed_after, stopped_after, Called, Made}
 use Rattle.gate_journal.specs.Image.{kept_records}
 use Rattle.gate_journal.specs.Journal.{JournalState, IsSettled, fresh_journal}
 use Rattle.gate_journal.specs.Steps.{append_steps, open_steps}
@@ -95,19 +95,74 @@ module _ {D : Type 0} (told : D → Option History) (plan : D → Option FaultPl
       pub stopped : WhereTold (told old) (λ before. StopsBehindOver identity (content before) old why new)
       pub count : faults new ≡ faults_after (faults old) (is_fault_refusal why)
 
+    -- an init that was stopped so, or whose image was taken
+    pub record StopsInit (steps : List ℕ → List Step) (old : D) (why : InitRefusal) (new : D) : Type 0 where
+      pub inits : Inits steps old (Err why) new
+      pub count : faults new ≡ faults_after (faults old) (is_fault_refusal why)
+
+    -- the disk was asked for its length, and for nothing else
+    pub record IsAsked (old new : D) : Type 0 where
+      pub called : Called told plan asks_length false old new
+      pub count : faults new ≡ faults old
+
+    -- it wasn't told: the call failed, or memory ran out before it
+    abbrev pub IsNotTold : D → InitRefusal → D → Type 0
+    IsNotTold old DeviceFault new =
+        Called told plan asks_length true old new × (faults new ≡ faults_after (faults old) true)
+    IsNotTold old NoMemory new = new ≡ old
+    IsNotTold old (AlreadyMade count) new = ⊥
+
+-- the disk holds more than five bytes, or at most so many
+abbrev pub IsLong : Option History → Type 0
+IsLong told = WhereTold told (λ before. 5 < length (content before))
+
+abbrev pub IsShort : Option History → Type 0
+IsShort told = WhereTold told (λ before. length (content before) ≤ 5)
+
+-- where it is told before and after, the disk holds what it held
+abbrev pub HoldsAsBefore : Option History → Option History → Type 0
+HoldsAsBefore old new = WhereTold old (λ before. WhereTold new (λ now. content now ≡ content before))
+
 -- over the disk of a node's notes and that of a key's leaves
 module _ {D E : Type 0} (told : D → Option History) (plan : D → Option FaultPlan) (faults : D → ℕ)
     (leaves_told : E → Option History) (leaves_plan : E → Option FaultPlan) (leaves_faults : E → ℕ) where
-  -- What an init of notes and of leaves did that was answered so. At Ok both journals were made or opened and the
-  -- identity was appended to the notes. Else the notes' journal wasn't made or opened, and the leaves stay; or it was,
-  -- and the leaves' journal wasn't; or both were, and the append was stopped.
-  abbrev pub BeginsPair : List ℕ → D → E → Result Unit InitRefusal → D → E → Type 0
-  BeginsPair identity notes leaves (Ok done) new_notes new_leaves =
-      PassesInit told plan faults (init_steps identity) notes new_notes
-      × PassesInit leaves_told leaves_plan leaves_faults journal_steps leaves new_leaves
-  BeginsPair identity notes leaves (Err why) new_notes new_leaves =
+  -- What an init did that begins with the notes, since there is nothing to make of them, and was refused: their journal
+  -- wasn't opened, and the leaves stay; or it was, and the leaves' journal wasn't made or opened; or both were, and the
+  -- append was stopped.
+  abbrev pub RefusesBehindNotes : List ℕ → D → E → InitRefusal → D → E → Type 0
+  RefusesBehindNotes identity notes leaves why new_notes new_leaves =
       (RefusesEmpty told plan faults notes why new_notes × (new_leaves ≡ leaves))
       ⊎ (PassesInit told plan faults journal_steps notes new_notes
       × RefusesEmpty leaves_told leaves_plan leaves_faults leaves why new_leaves)
       ⊎ (StopsBehind told plan faults identity notes why new_notes
       × PassesInit leaves_told leaves_plan leaves_faults journal_steps leaves new_leaves)
+
+  -- One that begins with the leaves, since the notes aren't taken: the leaves' journal wasn't made or opened, and the
+  -- notes stay; or it was, and the init of the notes was stopped.
+  abbrev pub RefusesBehindLeaves : List ℕ → D → E → InitRefusal → D → E → Type 0
+  RefusesBehindLeaves identity notes leaves why new_notes new_leaves =
+      ((new_notes ≡ notes) × RefusesEmpty leaves_told leaves_plan leaves_faults leaves why new_leaves)
+      ⊎ (StopsInit told plan faults (init_steps identity) notes why new_notes
+      × PassesInit leaves_told leaves_plan leaves_faults journal_steps leaves new_leaves)
+
+  -- and either, by what the notes hold
+  abbrev pub RefusesPair : List ℕ → D → E → InitRefusal → D → E → Type 0
+  RefusesPair identity notes leaves why new_notes new_leaves =
+      (IsLong (told notes) × RefusesBehindNotes identity notes leaves why new_notes new_leaves)
+      ⊎ (IsShort (told notes) × RefusesBehindLeaves identity notes leaves why new_notes new_leaves)
+
+  -- What both did where they went through: both journals were made or opened and the identity was appended to the notes.
+  abbrev pub PassesPair : List ℕ → D → E → D → E → Type 0
+  PassesPair identity notes leaves new_notes new_leaves =
+      PassesInit told plan faults (init_steps identity) notes new_notes
+      × PassesInit leaves_told leaves_plan leaves_faults journal_steps leaves new_leaves
+
+  -- What an init of notes and of leaves did that was answered so. First the notes were asked for their length, and by
+  -- that it begins with the one or with the other, so that nothing is made where an image is taken.
+  abbrev pub BeginsPair : List ℕ → D → E → Result Unit InitRefusal → D → E → Type 0
+  BeginsPair identity notes leaves (Ok done) new_notes new_leaves =
+      (asked : D) × IsAsked told plan faults notes asked × PassesPair identity asked leaves new_notes new_leaves
+  BeginsPair identity notes leaves (Err why) new_notes new_leaves =
+      (IsNotTold told plan faults notes why new_notes × (new_leaves ≡ leaves))
+      ⊎ ((asked : D) × IsAsked told plan faults notes asked
+      × RefusesPair identity asked leaves why new_notes new_leaves)

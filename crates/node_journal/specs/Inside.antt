@@ -1,7 +1,7 @@
 -- What notes keep, and what the calls inside their calls do.
 use Rattle.std.specs.Prelude.{◌≡◌, ◌≢◌, ℕ, Bool, true, false, List, [], length, Option, Some, None, Result, Ok, Err}
-use Rattle.crash_disk.specs.Disk.{History, content, FaultPlan}
-use Rattle.crash_disk.specs.Calls.{WhereTold, passed, failed_after, stopped_after, Made}
+use Rattle.crash_disk.specs.Disk.{asks_length, History, content, FaultPlan}
+use Rattle.crash_disk.specs.Calls.{WhereTold, passed, failed_after, stopped_after, Called, Made}
 use Rattle.gate_journal.specs.Image.{spelled, kept_records}
 use Rattle.gate_journal.specs.Steps.{append_steps, open_steps}
 use Rattle.gate_journal.specs.Make.{is_made, make_steps}
@@ -53,6 +53,13 @@ open_refusal_of count why = InitNoMemory
 
 -- over a disk that tells its history and foretells its faults
 module _ {D : Type 0} (told : D → Option History) (plan : D → Option FaultPlan) where
+  -- a question for the length that was answered so
+  abbrev pub AsksLength : D → Result ℕ InitRefusal → D → Type 0
+  AsksLength old (Ok count) new = Called told plan asks_length false old new
+  AsksLength old (Err InitFault) new = Called told plan asks_length true old new
+  AsksLength old (Err InitNoMemory) new = new ≡ old
+  AsksLength old (Err why) new = ⊥
+
   -- What a making over an image did, where a journal that is there is taken for made: the length of what was there is
   -- answered.
   abbrev pub FindsOver : List ℕ → D → Result ℕ InitRefusal → D → Type 0

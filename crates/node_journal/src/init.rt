@@ -4,10 +4,10 @@ ghost use Rattle.crash_disk.specs.Disk.{content};
 ghost use Rattle.crash_disk.specs.Calls.{WhereTold};
 ghost use Rattle.gate_journal.specs.Image.{most};
 ghost use Rattle.gate_journal.specs.Journal.{IsSettled, fresh_journal};
-ghost use Rattle.node_journal.specs.Begin.{init_steps, Inits, is_fault_refusal, is_init_fault, BeginsEmpty, RefusesEmpty, BeginsPair};
-ghost use Rattle.node_journal.specs.Inside.{init_refusal_of, length_found, open_refusal_of, FindsOver, AppendsIdentity, OpensEmpty, RefusesEmptyOver};
+ghost use Rattle.node_journal.specs.Begin.{init_steps, Inits, is_fault_refusal, is_init_fault, BeginsEmpty, RefusesEmpty, PassesPair, RefusesBehindNotes, RefusesBehindLeaves, BeginsPair};
+ghost use Rattle.node_journal.specs.Inside.{init_refusal_of, length_found, open_refusal_of, AsksLength, FindsOver, AppendsIdentity, OpensEmpty, RefusesEmptyOver};
 
-use crash_disk::Disk;
+use crash_disk::{Disk, DiskFailed};
 use gate_journal::{InitRefusal, Journal, JournalRefusal, Returned};
 use std::alloc::Global;
 
@@ -146,27 +146,34 @@ pub fn begin<D: Disk>(alloc: Global, disk: D, identity: &[u8]) -> (D, Result<(),
     }
 }
 
-/// Begins a node with a key: the journal of its notes and that of its leaves, in this order, each as
-/// `begin_journal`, and then the identity is appended to the notes. At `Ok` each image that a crash may
-/// leave of the notes spells the identity alone, and each of the leaves spells no record. At most sixteen
-/// device calls on each disk, up to the first that fails or to want of memory.
-///
-/// `AlreadyMade` comes exactly where an image spells one or more records, or spells no list of records and
-/// has more than five bytes. The length is that image's, and the notes' where both are so. It yields to a
-/// `DeviceFault` of the same call, and to want of memory.
-///
-/// A call that was stopped may be repeated: on the notes' disk it is an event of `inits_may_be_repeated`;
-/// `stopped_preparations` and `prepared_journals_are_empty` are of the leaves' disk. No device call of the
-/// append is made before the leaves' journal was made or opened.
-pub fn begin_pair<D: Disk, E: Disk>(
+// Asks a disk for its length.
+fn ask_length<D: Disk>(disk: &mut D) -> Result<u64, InitRefusal>
+    ensures length { IfOk result (λ count. WhereTold (D.told disk.new) (λ now. count ≡ length (content now))) }
+    ensures asks { AsksLength D.told D.plan disk.old result disk.new }
+    ensures cause { D.faults disk.new ≡ faults_after (D.faults disk.old) (is_init_fault result) }
+{
+    if disk.make_room(1, 0).is_err() {
+        return Err(InitRefusal::NoMemory);
+    }
+    match disk.len() {
+        Ok(length) => Ok(length),
+        Err(DiskFailed) => Err(InitRefusal::DeviceFault),
+    }
+}
+
+// Begins a node with a key whose notes have more than five bytes, so that there is nothing to make of them: their
+// journal is opened, the leaves' made or opened, and then the identity is appended to the notes.
+fn begin_behind_notes<D: Disk, E: Disk>(
     alloc: Global,
     notes: D,
     leaves: E,
     identity: &[u8],
 ) -> (D, E, Result<(), InitRefusal>)
     requires { length identity.now ≤ most }
-    ensures inits { BeginsPair D.told D.plan D.faults E.told E.plan E.faults identity.now
-        notes leaves result.2 result.0 result.1 }
+    ensures passes { OnOk result.2 (PassesPair D.told D.plan D.faults E.told E.plan E.faults identity.now
+        notes leaves result.0 result.1) }
+    ensures refused { IfErr result.2 (λ why. RefusesBehindNotes D.told D.plan D.faults E.told E.plan E.faults identity.now
+        notes leaves why result.0 result.1) }
     ensures begun { OnOk result.2 (WhereTold (D.told result.0) (λ now. IsSettled now (identity.now ∷ []))) }
     ensures empty { OnOk result.2 (WhereTold (E.told result.1) (λ now. IsSettled now [])) }
 {
@@ -186,4 +193,63 @@ pub fn begin_pair<D: Disk, E: Disk>(
     };
     let (notes, appended) = append_identity(journal, identity);
     (notes, leaves, appended)
+}
+
+// Begins a node with a key whose notes have at most five bytes, so that they aren't taken: the leaves' journal is made
+// or opened, and then the notes are begun.
+fn begin_behind_leaves<D: Disk, E: Disk>(
+    alloc: Global,
+    notes: D,
+    leaves: E,
+    identity: &[u8],
+) -> (D, E, Result<(), InitRefusal>)
+    requires { length identity.now ≤ most }
+    ensures passes { OnOk result.2 (PassesPair D.told D.plan D.faults E.told E.plan E.faults identity.now
+        notes leaves result.0 result.1) }
+    ensures refused { IfErr result.2 (λ why. RefusesBehindLeaves D.told D.plan D.faults E.told E.plan E.faults
+        identity.now notes leaves why result.0 result.1) }
+    ensures begun { OnOk result.2 (WhereTold (D.told result.0) (λ now. IsSettled now (identity.now ∷ []))) }
+    ensures empty { OnOk result.2 (WhereTold (E.told result.1) (λ now. IsSettled now [])) }
+{
+    let leaves = match begin_journal(alloc, leaves) {
+        Ok(leaves) => leaves.take_disk(),
+        Err(refused) => {
+            let NotBegun { disk, why } = refused;
+            return (notes, disk, Err(why));
+        }
+    };
+    let (notes, answer) = begin(alloc, notes, identity);
+    (notes, leaves, answer)
+}
+
+/// Begins a node with a key: the journal of its notes and that of its leaves are made, or opened where they
+/// stand, and the identity is appended to the notes. At `Ok` each image that a crash may leave of the notes
+/// spells the identity alone, and each of the leaves spells no record. At most sixteen device calls on each
+/// disk, up to the first that fails or to want of memory.
+///
+/// `AlreadyMade` comes exactly where an image spells one or more records, or spells no list of records and
+/// has more than five bytes. The length is that image's, and the notes' where both are so. Both images stay
+/// then (`refused_pairs_stay`). It yields to a `DeviceFault` of the same call, and to want of memory.
+///
+/// A call that was stopped may be repeated: on the notes' disk it is two events of `inits_may_be_repeated`,
+/// first the question for the length; `stopped_preparations` and `prepared_journals_are_empty` are of the
+/// leaves' disk. No device call of the append is made before the leaves' journal was made or opened.
+pub fn begin_pair<D: Disk, E: Disk>(
+    alloc: Global,
+    notes: D,
+    leaves: E,
+    identity: &[u8],
+) -> (D, E, Result<(), InitRefusal>)
+    requires { length identity.now ≤ most }
+    ensures inits { BeginsPair D.told D.plan D.faults E.told E.plan E.faults identity.now
+        notes leaves result.2 result.0 result.1 }
+    ensures begun { OnOk result.2 (WhereTold (D.told result.0) (λ now. IsSettled now (identity.now ∷ []))) }
+    ensures empty { OnOk result.2 (WhereTold (E.told result.1) (λ now. IsSettled now [])) }
+{
+    let mut notes = notes;
+    match ask_length(&mut notes) {
+        Ok(length) if length > EMPTY_LENGTH => begin_behind_notes(alloc, notes, leaves, identity),
+        Ok(_) => begin_behind_leaves(alloc, notes, leaves, identity),
+        Err(why) => (notes, leaves, Err(why)),
+    }
 }

@@ -1,11 +1,13 @@
-ghost use Rattle.node_journal.specs.Laws.{NotesFollow, InitsMakeFewCalls, InitsMayBeRepeated, InitsEndBegun, StoppedPreparations, PreparedJournalsAreEmpty};
+ghost use Rattle.node_journal.specs.Laws.{NotesFollow, InitsMakeFewCalls, InitsMayBeRepeated, InitsEndBegun, StoppedPreparations, PreparedJournalsAreEmpty, RefusedPairsStay};
+
+use crash_disk::Disk;
 
 /// Records of a role and one that may follow them are of the role.
 pub fn notes_follow()
     ensures { NotesFollow }
 {}
 
-/// An init makes at most sixteen device calls on its disk.
+/// An init makes at most sixteen device calls on its disk, with the one that asks for the length.
 pub fn inits_make_few_calls()
     ensures { InitsMakeFewCalls }
 {}
@@ -32,4 +34,10 @@ pub fn stopped_preparations()
 /// A journal that was made or opened over an image that isn't taken is empty in each image of a crash.
 pub fn prepared_journals_are_empty()
     ensures { PreparedJournalsAreEmpty }
+{}
+
+/// An init of notes and of leaves that is refused since an image is taken leaves both as they were, where the disks tell
+/// what they hold.
+pub fn refused_pairs_stay<D: Disk, E: Disk>()
+    ensures { RefusedPairsStay D.told D.plan D.faults E.told E.plan E.faults }
 {}

@@ -16,7 +16,7 @@ pub use gate_journal::InitRefusal;
 pub use init::{NotBegun, begin, begin_journal, begin_pair};
 pub use laws::{
     inits_end_begun, inits_make_few_calls, inits_may_be_repeated, notes_follow,
-    prepared_journals_are_empty, stopped_preparations,
+    prepared_journals_are_empty, refused_pairs_stay, stopped_preparations,
 };
 pub use notes::Notes;
 pub use role::Role;

@@ -39,12 +39,11 @@ module _ {D : Type 0} (told : D → Option History) (faults : D → ℕ) where
 
 -- behind a command that was stopped for want of memory
 module _ {D : Type 0} (told : D → Option History) (faults : D → ℕ) where
-  pub starved-keeps : {L : Type 0} (line : L) (added : L → Option (List ℕ)) (at : NotesAt) (notes : NotesState D)
-      → StoppedAt told faults (added line) at NoMemory notes
-      → Keeps told faults at notes.disk ⊎ ((line : L) × Keeps told faults (with_note at (added line)) notes.disk)
-  starved-keeps line added at notes (inl is) = inl (stays-keeps told faults at notes is.there)
-  starved-keeps line added at notes (inr is) =
-      inr (line, stays-keeps told faults (with_note at (added line)) notes is.there)
+  pub starved-keeps : (added : Option (List ℕ)) (at : NotesAt) (notes : NotesState D)
+      → StoppedAt told faults added at NoMemory notes
+      → Keeps told faults at notes.disk ⊎ Keeps told faults (with_note at added) notes.disk
+  starved-keeps added at notes (inl is) = inl (stays-keeps told faults at notes is.there)
+  starved-keeps added at notes (inr is) = inr (stays-keeps told faults (with_note at added) notes is.there)
 
 -- notes that were just opened
 module _ {D : Type 0} (told : D → Option History) (plan : D → Option FaultPlan) (faults : D → ℕ) where
@@ -84,11 +83,9 @@ module _ {D H : Type 0} (told : D → Option History) (faults : D → ℕ) where
     stays-keeps told faults at.notes (notes_part wallet) is.1,
   )
 
-  pub starved-both : {L : Type 0} (line : L) (leaf added : L → Option (List ℕ)) (at : WalletAt)
-      (wallet : WalletState D H) → WalletStoppedAt told faults (leaf line) (added line) at NoMemory wallet
+  pub starved-both : (leaf added : Option (List ℕ)) (at : WalletAt) (wallet : WalletState D H)
+      → WalletStoppedAt told faults leaf added at NoMemory wallet
       → KeepsBoth told faults at wallet.notes_disk wallet.leaves_disk
-      ⊎ ((line : L)
-      × KeepsBoth told faults (with_either at (leaf line) (added line)) wallet.notes_disk wallet.leaves_disk)
-  starved-both line leaf added at wallet (inl is) = inl (wallet-keeps at wallet is)
-  starved-both line leaf added at wallet (inr is) =
-      inr (line, wallet-keeps (with_either at (leaf line) (added line)) wallet is)
+      ⊎ KeepsBoth told faults (with_either at leaf added) wallet.notes_disk wallet.leaves_disk
+  starved-both leaf added at wallet (inl is) = inl (wallet-keeps at wallet is)
+  starved-both leaf added at wallet (inr is) = inr (wallet-keeps (with_either at leaf added) wallet is)

@@ -10,43 +10,43 @@ use Rattle.streamed_lines.specs.declared.ending.Halt.{Halt}
 use Rattle.streamed_lines.specs.declared.ending.Halt.TheVariants.{Stops, Failed, NoMemory as NoMemoryHalt}
 use Rattle.streamed_lines.specs.declared.ending.Break.{Break}
 use Rattle.streamed_lines.specs.declared.ending.Break.TheVariants.{WriteFault as WriteBreak, Failed as FailedBreak, NoMemory as NoMemoryBreak}
-use Rattle.streamed_lines.specs.Streams.{Rules, Streamed, stream_of}
+use Rattle.streamed_lines.specs.Streams.{Rules, Stream, Streamed, stream_of}
 use Rattle.streamed_lines.specs.Bounds.{TakesFew}
-use Rattle.streamed_lines.specs.Reading.{is_read_fault, IsLeft, Answers, BrokeOff}
-use Rattle.node_sessions.specs.Sessions.{SessionState, begun, calls_of}
+use Rattle.streamed_lines.specs.Reading.{is_read_fault, next_text, IsLeft, Answers, BrokeOff}
+use Rattle.node_sessions.specs.Sessions.{SessionState, begun, calls_of, commanded}
 use Rattle.node_sessions.specs.Commands.{IsHaltedNode}
 use Rattle.run_endings.specs.declared.status.Status.{Status}
 use Rattle.run_endings.specs.declared.status.Status.TheVariants.{Done, Refused, Usage, BadLine as BadLineStatus, ReadFault as ReadFaultStatus, WriteFault, DeviceFault, NoMemory, TooLong as TooLongStatus, NotJournal, AlreadyMade}
 use Rattle.run_endings.specs.Outputs.{EndsAs}
 use Rattle.node_runs.specs.Endings.{status_of, last_text, session_output, fault_output}
-use Rattle.node_runs.specs.Sessions.{Outside, BrokenAt, RunsSession}
+use Rattle.node_runs.specs.Sessions.{Outside, AtNext, BrokenAt, RunsSession}
 use Rattle.node_runs.proofs.EndLaws.{ends-more, failed-of}
 
 -- over a session's answerer, which leaves the node where its lines left it
-module _ {N A L W : Type 0} (rules : Rules (SessionState A) (List ℕ)) (found : A) (Ran : W → SessionState A → Type 0)
-    (Halted : W → SessionState A → Halt (List ℕ) → Type 0) (IsAt : N → A → Type 0)
-    (IsStopped : N → List RootCall → A → L → NodeStop → Type 0) (session : W) (node : N)
+module _ {N A L W : Type 0} (rules : Rules (SessionState A) (List ℕ)) (command_in : List ℕ → Option L) (found : A)
+    (Ran : W → SessionState A → Type 0) (Halted : W → SessionState A → List ℕ → Halt (List ℕ) → Type 0)
+    (IsAt : N → A → Type 0) (IsStopped : N → List RootCall → A → L → NodeStop → Type 0) (session : W) (node : N)
     (ran : (run : SessionState A) → Ran session run → IsAt node run.node)
-    (halted : (run : SessionState A) (halt : Halt (List ℕ)) → Halted session run halt
-    → IsHaltedNode IsAt IsStopped node (calls_of run.log) run.node halt) where
+    (halted : (run : SessionState A) (line : List ℕ) (halt : Halt (List ℕ)) → Halted session run line halt
+    → IsHaltedNode IsAt IsStopped node (calls_of run.log) run.node (commanded command_in run line) halt) where
   -- what a run of it did
   abbrev Runs : Outside → Type 0 → Status → Type 0
   Runs outside failed status =
-      RunsSession rules found (λ at. IsAt node at)
-      (λ log at. (command : L) × IsStopped node log at command NodeFault)
-      (λ log at. (command : L) × IsStopped node log at command NodeMemory)
+      RunsSession rules command_in found (λ at. IsAt node at)
+      (λ log at command. IsStopped node log at command NodeFault)
+      (λ log at command. IsStopped node log at command NodeMemory)
       outside failed status
 
   -- the node is where the answered lines left it
-  left-at : (run : SessionState A) (ending : Ending (List ℕ)) → IsLeft Ran Halted session run ending
-      → IsAt node run.node
-  left-at run Complete is = ran run is
-  left-at run ReadFault is = ran run is
-  left-at run (BadLine n) (inl is) = ran run is
-  left-at run (BadLine n) (inr is) = halted run (Stops BadLineStop) is
-  left-at run (TooLong n) (inl is) = ran run is
-  left-at run (TooLong n) (inr is) = halted run (Stops TooLongStop) is
-  left-at run (Ended n cause) is = halted run (Stops (Ends cause)) is
+  left-at : (run : SessionState A) (line : List ℕ) (ending : Ending (List ℕ))
+      → IsLeft Ran Halted session run line ending → IsAt node run.node
+  left-at run line Complete is = ran run is
+  left-at run line ReadFault is = ran run is
+  left-at run line (BadLine n) (inl is) = ran run is
+  left-at run line (BadLine n) (inr is) = halted run line (Stops BadLineStop) is
+  left-at run line (TooLong n) (inl is) = ran run is
+  left-at run line (TooLong n) (inr is) = halted run line (Stops TooLongStop) is
+  left-at run line (Ended n cause) is = halted run line (Stops (Ends cause)) is
 
   -- a session that was answered to its end, whose last text was put
   pub answered-runs : (left later taken put_then after : Option (List ℕ)) (text : List ℕ) (ending : Ending (List ℕ))
@@ -74,7 +74,7 @@ module _ {N A L W : Type 0} (rules : Rules (SessionState A) (List ℕ)) (found :
             (sym is.streams) is.few;
         left =
             subst (λ (streamed : Streamed (SessionState A) (List ℕ)). IsAt node streamed.stream.run.node)
-            (sym is.streams) (left-at is.stream.run ending is.left);
+            (sym is.streams) (left-at is.stream.run _ ending is.left);
       })
 
   -- one whose next command met a device fault
@@ -99,15 +99,15 @@ module _ {N A L W : Type 0} (rules : Rules (SessionState A) (List ℕ)) (found :
             subst (λ told. EndsAs (fault_output told) status taken after ⊥) is.put_is
             (ends-more taken put_then after broke.put text (fault_output text).last ⊥ broke.wrote DeviceFault status
             (λ wrong. absurd (cc)) ends);
-        left = halted is.stream.run Failed is.broken;
+        left = halted is.stream.run (next_text broke.bytes is.stream) Failed is.broken;
       }))
 
   -- one that was broken off for this, behind which the node is there
   broken-runs : (left later taken after : Option (List ℕ)) (text : List ℕ) (failed : Type 0) (why : Break)
       (status : Status) (broke : BrokeOff rules (begun found) Ran Halted left later taken after text why session)
       → (rest : List ℕ) × (broke.put ++ rest ≡ broke.breaks.stream.text)
-      → BrokenAt (λ at. IsAt node at) (λ log at. (command : L) × IsStopped node log at command NodeMemory) status
-      broke.breaks.stream.run
+      → BrokenAt command_in (λ at. IsAt node at) (λ log at command. IsStopped node log at command NodeMemory) status
+      broke.bytes broke.breaks.stream
       → Runs (record { left = left; later = later; taken = taken; after = after }) failed status
   broken-runs left later taken after text failed why status broke rest there =
       let is = broke.breaks in
@@ -134,11 +134,12 @@ module _ {N A L W : Type 0} (rules : Rules (SessionState A) (List ℕ)) (found :
       broken-runs left later taken after text failed WriteBreak WriteFault broke broke.breaks.put_is
       (ran broke.breaks.stream.run broke.breaks.broken)
 
-  starved-at : (run : SessionState A)
-      → Ran session run ⊎ Halted session run NoMemoryHalt
-      → IsAt node run.node ⊎ ((command : L) × IsStopped node (calls_of run.log) run.node command NodeMemory)
-  starved-at run (inl is) = inl (ran run is)
-  starved-at run (inr is) = halted run NoMemoryHalt is
+  starved-at : (bytes : List ℕ) (stream : Stream (SessionState A))
+      → Ran session stream.run ⊎ Halted session stream.run (next_text bytes stream) NoMemoryHalt
+      → IsAt node stream.run.node
+      ⊎ AtNext command_in bytes stream (λ log at command. IsStopped node log at command NodeMemory)
+  starved-at bytes stream (inl is) = inl (ran stream.run is)
+  starved-at bytes stream (inr is) = halted stream.run (next_text bytes stream) NoMemoryHalt is
 
   -- one for which memory ran out
   pub starved-runs : (left later taken after : Option (List ℕ)) (text : List ℕ) (failed : Type 0)
@@ -149,36 +150,48 @@ module _ {N A L W : Type 0} (rules : Rules (SessionState A) (List ℕ)) (found :
       let broke =
       subst (λ why. BrokeOff rules (begun found) Ran Halted left later taken after text why session) same broken in
       broken-runs left later taken after text failed NoMemoryBreak NoMemory broke broke.breaks.put_is
-      (starved-at broke.breaks.stream.run broke.breaks.broken)
+      (starved-at broke.bytes broke.breaks.stream broke.breaks.broken)
 
 -- what a run did, in other words of where it leaves the node
-module _ {A : Type 0} (rules : Rules (SessionState A) (List ℕ)) (found : A) (Left Left_ : A → Type 0)
-    (Faulted Faulted_ Unanswered Unanswered_ : List RootCall → A → Type 0)
+module _ {A L : Type 0} (rules : Rules (SessionState A) (List ℕ)) (command_in : List ℕ → Option L) (found : A)
+    (Left Left_ : A → Type 0) (Faulted Faulted_ Unanswered Unanswered_ : List RootCall → A → L → Type 0)
     (left : (at : A) → Left at → Left_ at)
-    (faulted : (log : List RootCall) (at : A) → Faulted log at → Faulted_ log at)
-    (unanswered : (log : List RootCall) (at : A) → Unanswered log at → Left_ at ⊎ Unanswered_ log at) where
-  broken-or : (session : SessionState A) → Left session.node ⊎ Unanswered (calls_of session.log) session.node
-      → Left_ session.node ⊎ Unanswered_ (calls_of session.log) session.node
-  broken-or session (inl is) = inl (left session.node is)
-  broken-or session (inr is) = unanswered (calls_of session.log) session.node is
+    (faulted : (log : List RootCall) (at : A) (command : L) → Faulted log at command → Faulted_ log at command)
+    (unanswered : (log : List RootCall) (at : A) (command : L) → Unanswered log at command
+    → Left_ at ⊎ Unanswered_ log at command) where
+  at-next : (bytes : List ℕ) (stream : Stream (SessionState A)) → AtNext command_in bytes stream Faulted
+      → AtNext command_in bytes stream Faulted_
+  at-next bytes stream is =
+      (is.0, (is.1.0, faulted (calls_of stream.run.log) stream.run.node is.0 is.1.1))
 
-  broken-in : (status : Status) (session : SessionState A) → BrokenAt Left Unanswered status session
-      → BrokenAt Left_ Unanswered_ status session
-  broken-in WriteFault session is = left session.node is
-  broken-in NoMemory session is = broken-or session is
-  broken-in Done session is = absurd is
-  broken-in Refused session is = absurd is
-  broken-in Usage session is = absurd is
-  broken-in BadLineStatus session is = absurd is
-  broken-in ReadFaultStatus session is = absurd is
-  broken-in DeviceFault session is = absurd is
-  broken-in TooLongStatus session is = absurd is
-  broken-in NotJournal session is = absurd is
-  broken-in AlreadyMade session is = absurd is
+  broken-or : (bytes : List ℕ) (stream : Stream (SessionState A))
+      → Left stream.run.node ⊎ AtNext command_in bytes stream Unanswered
+      → Left_ stream.run.node ⊎ AtNext command_in bytes stream Unanswered_
+  broken-or bytes stream (inl is) = inl (left stream.run.node is)
+  broken-or bytes stream (inr is) =
+      elim (unanswered (calls_of stream.run.log) stream.run.node is.0 is.1.1) [
+        | inl there ↦ inl there
+        | inr done ↦ inr (is.0, (is.1.0, done))
+      ]
+
+  broken-in : (status : Status) (bytes : List ℕ) (stream : Stream (SessionState A))
+      → BrokenAt command_in Left Unanswered status bytes stream
+      → BrokenAt command_in Left_ Unanswered_ status bytes stream
+  broken-in WriteFault bytes stream is = left stream.run.node is
+  broken-in NoMemory bytes stream is = broken-or bytes stream is
+  broken-in Done bytes stream is = absurd is
+  broken-in Refused bytes stream is = absurd is
+  broken-in Usage bytes stream is = absurd is
+  broken-in BadLineStatus bytes stream is = absurd is
+  broken-in ReadFaultStatus bytes stream is = absurd is
+  broken-in DeviceFault bytes stream is = absurd is
+  broken-in TooLongStatus bytes stream is = absurd is
+  broken-in NotJournal bytes stream is = absurd is
+  broken-in AlreadyMade bytes stream is = absurd is
 
   pub in-words : (outside : Outside) (failed : Type 0) (status : Status)
-      → RunsSession rules found Left Faulted Unanswered outside failed status
-      → RunsSession rules found Left_ Faulted_ Unanswered_ outside failed status
+      → RunsSession rules command_in found Left Faulted Unanswered outside failed status
+      → RunsSession rules command_in found Left_ Faulted_ Unanswered_ outside failed status
   in-words outside failed status (inl is) = inl (record {
     bytes = is.bytes;
     ended = is.ended;
@@ -194,7 +207,7 @@ module _ {A : Type 0} (rules : Rules (SessionState A) (List ℕ)) (found : A) (L
     gave = is.gave;
     begins = is.begins;
     ends = is.ends;
-    left = faulted (calls_of is.stream.run.log) is.stream.run.node is.left;
+    left = at-next is.bytes is.stream is.left;
   }))
   in-words outside failed status (inr (inr is)) = inr (inr (record {
     bytes = is.bytes;
@@ -203,5 +216,5 @@ module _ {A : Type 0} (rules : Rules (SessionState A) (List ℕ)) (found : A) (L
     gave = is.gave;
     begins = is.begins;
     front = is.front;
-    left = broken-in status is.stream.run is.left;
+    left = broken-in status is.bytes is.stream is.left;
   }))

@@ -5,7 +5,6 @@ use Rattle.gate_journal.specs.declared.refusal.JournalRefusal.{JournalRefusal}
 use Rattle.plasma_tx.specs.declared.call.RootCall.{RootCall}
 use Rattle.node_journal.specs.Notes.{NotesState, Opened, RefusesRole}
 use Rattle.node_journal.specs.Role.{role_in}
-use Rattle.node_lines.specs.declared.wallet_line.WalletLine.{WalletLine}
 use Rattle.node_lines.specs.Grammar.{watcher_line_in, operator_line_in, wallet_line_in}
 use Rattle.node_rules.specs.Watcher.{watcher_kinds, who_is as watcher_is}
 use Rattle.node_rules.specs.Wallet.{who as wallet_is}
@@ -43,11 +42,11 @@ module _ {D : Type 0} (told : D → Option History) (plan : D → Option FaultPl
         RunsSession
         (session_rules (tag opened.records) command_in
         (λ log at line. notes_do at (outcome at.dig log at.kept.records line)))
+        command_in
         (record { kept = opened_at told faults opened; dig = dig })
         (λ at. Keeps told faults at.kept disk)
-        (λ log at. (line : L) × Failed told faults (outcome at.dig log at.kept.records line).note at.kept disk)
-        (λ log at. (line : L)
-        × Keeps told faults (with_note at.kept (outcome at.dig log at.kept.records line).note) disk)
+        (λ log at line. Failed told faults (outcome at.dig log at.kept.records line).note at.kept disk)
+        (λ log at line. Keeps told faults (with_note at.kept (outcome at.dig log at.kept.records line).note) disk)
         outside failed status
 
     -- the disk was opened, and the session run; or it wasn't
@@ -73,13 +72,13 @@ module _ {D : Type 0} (told : D → Option History) (plan : D → Option FaultPl
   WalletSession opened notes leaves outside failed status =
       RunsSession
       (session_rules (wallet_is opened.records).tag wallet_line_in wallet_does)
+      wallet_line_in
       (record { kept = both_opened told faults opened; dig = dig })
       (λ at. KeepsBoth told faults at.kept notes leaves)
-      (λ log at. (line : WalletLine)
-      × EitherFailed told faults (wallet_outcome at.dig log (records_of at.kept) line).leaf
+      (λ log at line. EitherFailed told faults (wallet_outcome at.dig log (records_of at.kept) line).leaf
       (wallet_outcome at.dig log (records_of at.kept) line).note at.kept notes leaves)
-      (λ log at. (line : WalletLine)
-      × KeepsBoth told faults (with_either at.kept (wallet_outcome at.dig log (records_of at.kept) line).leaf
+      (λ log at line. KeepsBoth told faults (with_either at.kept
+      (wallet_outcome at.dig log (records_of at.kept) line).leaf
       (wallet_outcome at.dig log (records_of at.kept) line).note) notes leaves)
       outside failed status
 

@@ -1,11 +1,11 @@
 -- What a session of a node does, from its first line to its last.
-use Rattle.std.specs.Prelude.{◌≡◌, ◌⊎◌, ℕ, Bool, List, ◌++◌, Option}
+use Rattle.std.specs.Prelude.{◌≡◌, ◌⊎◌, ℕ, Bool, List, ◌++◌, Option, Some}
 use Rattle.plasma_tx.specs.declared.call.RootCall.{RootCall}
 use Rattle.streamed_lines.specs.Streams.{Rules, Stream, Streamed, stream_of}
 use Rattle.streamed_lines.specs.Bounds.{TakesFew}
 use Rattle.streamed_lines.specs.Outside.{Gave, WroteFront}
-use Rattle.streamed_lines.specs.Reading.{RunsTo}
-use Rattle.node_sessions.specs.Sessions.{SessionState, begun, calls_of}
+use Rattle.streamed_lines.specs.Reading.{RunsTo, next_text}
+use Rattle.node_sessions.specs.Sessions.{SessionState, begun, calls_of, commanded}
 use Rattle.run_endings.specs.declared.status.Status.{Status}
 use Rattle.run_endings.specs.declared.status.Status.TheVariants.{WriteFault, NoMemory}
 use Rattle.run_endings.specs.Outputs.{EndsAs}
@@ -25,18 +25,27 @@ pub record Begins {R C : Type 0} (rules : Rules R C) (first : R) (bytes : List �
   pub whole : bytes ≡ front ++ rest
   pub runs : RunsTo rules first front stream
 
--- where the disks of a node are behind a session that was broken off with this status: as what commands came to; or
--- behind a command that was done, and whose answer was lost for want of memory
-module _ {A : Type 0} (Left : A → Type 0) (Unanswered : List RootCall → A → Type 0) where
-  abbrev pub BrokenAt : Status → SessionState A → Type 0
-  BrokenAt WriteFault session = Left session.node
-  BrokenAt NoMemory session = Left session.node ⊎ Unanswered (calls_of session.log) session.node
-  BrokenAt status session = ⊥
+-- the next line behind a session spells a command, and with it this holds
+abbrev pub AtNext : {A L : Type 0} → (List ℕ → Option L) → List ℕ → Stream (SessionState A)
+    → (List RootCall → A → L → Type 0) → Type 0
+AtNext {L = L} command_in bytes stream Holds =
+    (command : L) × (commanded command_in stream.run (next_text bytes stream) ≡ Some command)
+    × Holds (calls_of stream.run.log) stream.run.node command
 
--- By these rules, over a node that the run found here. Its disks are handed back as what commands came to; or behind a
--- command that met a device fault; or behind one that was done, and whose answer was lost for want of memory.
-module _ {A : Type 0} (rules : Rules (SessionState A) (List ℕ)) (found : A) (Left : A → Type 0)
-    (Faulted Unanswered : List RootCall → A → Type 0) where
+-- where the disks of a node are behind a session that was broken off with this status: as what its commands came to; or
+-- behind the next command, which was done, and whose answer was lost for want of memory
+module _ {A L : Type 0} (command_in : List ℕ → Option L) (Left : A → Type 0)
+    (Unanswered : List RootCall → A → L → Type 0) where
+  abbrev pub BrokenAt : Status → List ℕ → Stream (SessionState A) → Type 0
+  BrokenAt WriteFault bytes stream = Left stream.run.node
+  BrokenAt NoMemory bytes stream = Left stream.run.node ⊎ AtNext command_in bytes stream Unanswered
+  BrokenAt status bytes stream = ⊥
+
+-- By these rules, over a node that the run found here and whose commands are read so. Its disks are handed back as what
+-- commands came to; or behind a command that met a device fault; or behind one that was done, and whose answer was lost
+-- for want of memory.
+module _ {A L : Type 0} (rules : Rules (SessionState A) (List ℕ)) (command_in : List ℕ → Option L) (found : A)
+    (Left : A → Type 0) (Faulted Unanswered : List RootCall → A → L → Type 0) where
   -- the session of an input
   abbrev pub session_of : List ℕ → Bool → Streamed (SessionState A) (List ℕ)
   session_of bytes ended = stream_of rules (begun found) bytes ended
@@ -54,7 +63,7 @@ module _ {A : Type 0} (rules : Rules (SessionState A) (List ℕ)) (found : A) (L
       pub few : TakesFew bytes (session_of bytes ended).ending
       pub left : Left (session_of bytes ended).stream.run.node
 
-    -- Lines were answered, and a command behind them met a device fault.
+    -- Lines were answered, and the command of the next one met a device fault.
     pub record Faults : Type 0 where
       pub bytes : List ℕ
       pub ended : Bool
@@ -62,7 +71,7 @@ module _ {A : Type 0} (rules : Rules (SessionState A) (List ℕ)) (found : A) (L
       pub gave : Gave outside.left outside.later bytes ended
       pub begins : Begins rules (begun found) bytes stream
       pub ends : EndsAs (fault_output stream.text) status outside.taken outside.after ⊥
-      pub left : Faulted (calls_of stream.run.log) stream.run.node
+      pub left : AtNext command_in bytes stream Faulted
 
     -- Lines were answered, a beginning of whose answers was written, and then the sink refused or memory ran out.
     pub record BreaksOff : Type 0 where
@@ -72,7 +81,7 @@ module _ {A : Type 0} (rules : Rules (SessionState A) (List ℕ)) (found : A) (L
       pub gave : Gave outside.left outside.later bytes ended
       pub begins : Begins rules (begun found) bytes stream
       pub front : WroteFront outside.taken outside.after stream.text
-      pub left : BrokenAt Left Unanswered status stream.run
+      pub left : BrokenAt command_in Left Unanswered status bytes stream
 
     -- what a session with this status did
     abbrev pub RunsSession : Type 0

@@ -24,10 +24,10 @@ pub fn run_session<N: Commanded, S: Source, K: Sink>(
     ghost found: { N.At }
     requires open { N.is_open node }
     requires found { N.is_at node found }
-    ensures runs { RunsSession (session_rules (N.tag node) (N.command_in node) (N.does node)) found
+    ensures runs { RunsSession (session_rules (N.tag node) (N.command_in node) (N.does node)) (N.command_in node) found
         (λ at. N.is_at result.0 at)
-        (λ log at. (command : N.Command) × N.is_stopped result.0 log at command Stop.DeviceFault)
-        (λ log at. (command : N.Command) × N.is_stopped result.0 log at command Stop.NoMemory)
+        (λ log at command. N.is_stopped result.0 log at command Stop.DeviceFault)
+        (λ log at command. N.is_stopped result.0 log at command Stop.NoMemory)
         (record { left = S.left source.old; later = S.left source.new; taken = K.taken sink.old; after = K.taken sink.new })
         (ReadsToFault (S.faults source.old) (S.faults source.new) (S.failed_last source.new) true) result.1 }
     ensures source_faults { ReadsBy result.1

@@ -1,1 +1,2 @@
 mod SessionLaws
+mod CompleteLaws

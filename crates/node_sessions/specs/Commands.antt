@@ -1,5 +1,5 @@
 -- What an answer of a commanded node says, where it leaves the node, and where that leaves the node's session.
-use Rattle.std.specs.Prelude.{◌≡◌, ◌⊎◌, ℕ, List, ◌++◌, Result, Ok, Err}
+use Rattle.std.specs.Prelude.{◌≡◌, ◌⊎◌, ℕ, List, ◌++◌, Option, Some, Result, Ok, Err}
 use Rattle.node_journal.specs.declared.stop.Stop.{Stop as NodeStop}
 use Rattle.node_journal.specs.declared.stop.Stop.TheVariants.{NoMemory as NodeMemory, DeviceFault}
 use Rattle.node_answers.specs.declared.said.Said.{Said}
@@ -7,7 +7,7 @@ use Rattle.node_answers.specs.declared.said.Said.TheVariants.{Answered, Refused}
 use Rattle.streamed_lines.specs.declared.ending.Halt.{Halt}
 use Rattle.streamed_lines.specs.declared.ending.Halt.TheVariants.{Stops, Failed, NoMemory}
 use Rattle.plasma_tx.specs.declared.call.RootCall.{RootCall}
-use Rattle.node_sessions.specs.Sessions.{SessionState, OrStop, calls_of}
+use Rattle.node_sessions.specs.Sessions.{SessionState, OrStop, calls_of, commanded}
 
 -- A command that does this was answered so behind a text: it was done, and its answer stands behind the text; or it was
 -- refused, and the node is where it was.
@@ -44,12 +44,16 @@ module _ {N A L : Type 0} (IsAt : N → A → Type 0) (IsStopped : N → List Ro
     pub at : IsAt new left
     pub told : after ≡ before ++ answer
 
-  -- where the node is when a line halts the session: a refusal, a bad line and want of memory in the log leave it; a
-  -- command that was stopped behind this log leaves it as its stop says
-  abbrev pub IsHaltedNode : N → List RootCall → A → Halt (List ℕ) → Type 0
-  IsHaltedNode node log at (Stops stop) = IsAt node at
-  IsHaltedNode node log at Failed = (command : L) × IsStopped node log at command DeviceFault
-  IsHaltedNode node log at NoMemory = IsAt node at ⊎ ((command : L) × IsStopped node log at command NodeMemory)
+  -- the command that a line spells was stopped so behind this log
+  abbrev pub IsStoppedIn : N → List RootCall → A → Option L → NodeStop → Type 0
+  IsStoppedIn node log at spelled stop = (command : L) × (spelled ≡ Some command) × IsStopped node log at command stop
+
+  -- where the node is when a line, which spells this command, halts the session behind this log: a refusal, a bad line
+  -- and want of memory in the log leave it; a command that was stopped leaves it as its stop says
+  abbrev pub IsHaltedNode : N → List RootCall → A → Option L → Halt (List ℕ) → Type 0
+  IsHaltedNode node log at spelled (Stops stop) = IsAt node at
+  IsHaltedNode node log at spelled Failed = IsStoppedIn node log at spelled DeviceFault
+  IsHaltedNode node log at spelled NoMemory = IsAt node at ⊎ IsStoppedIn node log at spelled NodeMemory
 
   -- a session in memory is what lines came to
   pub record IsSession (session : SessionState N) (run : SessionState A) : Type 0 where
@@ -57,8 +61,9 @@ module _ {N A L : Type 0} (IsAt : N → A → Type 0) (IsStopped : N → List Ro
     pub over_is : session.is_over ≡ run.is_over
     pub node_is : IsAt session.node run.node
 
-  -- it was what lines came to, and the next one halted it so: its log stays
-  pub record IsHaltedSession (session : SessionState N) (run : SessionState A) (halt : Halt (List ℕ)) : Type 0 where
+  -- it was what lines came to, and the next one, which spells its command so, halted it: its log stays
+  pub record IsHaltedSession (command_in : List ℕ → Option L) (session : SessionState N) (run : SessionState A)
+      (line : List ℕ) (halt : Halt (List ℕ)) : Type 0 where
     pub log_is : session.log ≡ run.log
     pub over_is : session.is_over ≡ run.is_over
-    pub node_is : IsHaltedNode session.node (calls_of run.log) run.node halt
+    pub node_is : IsHaltedNode session.node (calls_of run.log) run.node (commanded command_in run line) halt

@@ -79,6 +79,10 @@ abbrev pub command_line : {N L : Type 0} → (List RootCall → N → L → Resu
 command_line does log node None = Err BadLine
 command_line does log node (Some command) = done (does log node command)
 
+-- the command that a line spells behind a log that has ended, if it spells one; there is none in a log
+abbrev pub commanded : {N L : Type 0} → (List ℕ → Option L) → SessionState N → List ℕ → Option L
+commanded command_in session line = if session.is_over then command_in line else None
+
 -- ---- any line
 
 -- of a node of the chain with this tag, whose commands are read and done so

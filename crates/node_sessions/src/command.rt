@@ -26,7 +26,7 @@ pub fn answer_command<N: Commanded>(
     ensures halts { (at : N.At) → N.is_at node.old at → IfErr result (HaltsCommand
         (command_line (N.does node.old) log.now.log at (N.command_in node.old line.now))) }
     ensures halted { (at : N.At) → N.is_at node.old at
-        → IfErr result (IsHaltedNode N.is_at N.is_stopped node.new log.now.log at) }
+        → IfErr result (IsHaltedNode N.is_at N.is_stopped node.new log.now.log at (N.command_in node.old line.now)) }
     ensures untold { OnErr result (text.new.items ≡ text.old.items) }
     ensures open { OnOk result (N.is_open node.new) }
     ensures same_tag { N.tag node.new ≡ N.tag node.old }

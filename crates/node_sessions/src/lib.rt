@@ -3,8 +3,10 @@
 
 mod command;
 mod commanded;
+mod laws;
 mod log;
 mod session;
 
 pub use commanded::Commanded;
+pub use laws::done_commands_are_answered;
 pub use session::Session;

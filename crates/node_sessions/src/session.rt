@@ -1,6 +1,6 @@
 ghost use Rattle.std.specs.Prelude.{◌≡◌, List, ℕ};
 ghost use Rattle.streamed_lines.specs.declared.ending.Halt.{Halt};
-ghost use Rattle.node_sessions.specs.Sessions.{SessionState, begun, calls_of, session_rules};
+ghost use Rattle.node_sessions.specs.Sessions.{SessionState, begun, calls_of, commanded, session_rules};
 ghost use Rattle.node_sessions.specs.Commands.{IsHaltedNode};
 
 use super::command::answer_command;
@@ -51,9 +51,10 @@ impl<N: Commanded> Session<N> {
     pub fn take_node(self) -> N
         ensures node { result ≡ self.node }
         ensures ran { (run : SessionState N.At) → ⟦<Session<N> as Answerer>⟧.ran self run → N.is_at result run.node }
-        ensures halted { (run : SessionState N.At) (halt : Halt (List ℕ))
-            → ⟦<Session<N> as Answerer>⟧.halted self run halt
-            → IsHaltedNode N.is_at N.is_stopped result (calls_of run.log) run.node halt }
+        ensures halted { (run : SessionState N.At) (line : List ℕ) (halt : Halt (List ℕ))
+            → ⟦<Session<N> as Answerer>⟧.halted self run line halt
+            → IsHaltedNode N.is_at N.is_stopped result (calls_of run.log) run.node
+            (commanded (N.command_in result) run line) halt }
     {
         self.node
     }
@@ -71,7 +72,7 @@ impl<N: Commanded> Answerer for Session<N> {
 
     ghost ran = { IsSession N.is_at N.is_stopped };
 
-    ghost halted = { IsHaltedSession N.is_at N.is_stopped };
+    ghost halted = { λ session. IsHaltedSession N.is_at N.is_stopped (N.command_in session.node) session };
 
     ghost ready = { λ session. N.is_open session.node };
 

@@ -5,7 +5,7 @@ use Rattle.crash_disk.specs.Calls.{stopped_after, after_course, Made}
 use Rattle.crash_disk.proofs.Calls.{made_stop}
 use Rattle.gate_journal.specs.declared.refusal.JournalRefusal.TheVariants.{NoMemory as JournalNoMemory}
 use Rattle.gate_journal.specs.declared.refusal.InitRefusal.TheVariants.{NoMemory}
-use Rattle.node_journal.specs.Begin.{Inits, journal_steps, BeginsPair}
+use Rattle.node_journal.specs.Begin.{Inits, BeginsPair}
 use Rattle.node_journal.specs.Notes.{NotesState, Opened, RefusesRole}
 
 pub given_up : {D : Type 0} (told : D → Option History) (plan : D → Option FaultPlan) (faults : D → ℕ)
@@ -45,4 +45,4 @@ module _ {D : Type 0} (told : D → Option History) (plan : D → Option FaultPl
       → BeginsPair told plan faults leaves_told leaves_plan leaves_faults identity disk leaves
       (Err NoMemory) disk leaves
   no_pair leaves_told leaves_plan faults leaves_faults identity disk leaves =
-      inl (record { inits = no_init journal_steps disk; count = refl }, refl)
+      inl (refl, refl)

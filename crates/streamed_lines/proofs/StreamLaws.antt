@@ -10,7 +10,7 @@ use Rattle.streamed_lines.specs.declared.ending.Stop.{Stop}
 use Rattle.streamed_lines.specs.declared.ending.Halt.{Halt}
 use Rattle.streamed_lines.specs.declared.ending.Halt.TheVariants.{Stops, Failed, NoMemory}
 use Rattle.streamed_lines.specs.Lines.{lines_in, is_whole, text_of, is_too_long, EndsWithItsFeed}
-use Rattle.streamed_lines.specs.Streams.{Rules, Stream, no_lines, next_number, stream_or, goes_on, end_of_input, line_stream, stream_from, stream_of}
+use Rattle.streamed_lines.specs.Streams.{Rules, Stream, no_lines, next_number, with_answer, stream_or, goes_on, end_of_input, line_stream, stream_from, stream_of}
 use Rattle.streamed_lines.specs.Reading.{HaltsAt, DoesLine, StopsAt, IsAnswered, Gathers, RunsTo}
 use Rattle.streamed_lines.proofs.LineLaws.{lines_in-feed, whole-feed}
 
@@ -92,6 +92,16 @@ module _ {R C : Type 0} (rules : Rules R C) where
   unfolding stream_from
   at-line ended start stream line lines outcome is =
       ap (λ o. goes_on stream o (λ next. stream_from rules ended (start + length line) next lines)) is
+
+  -- a line that is answered, and the stream goes on behind it
+  pub goes-on : (ended : Bool) (start : ℕ) (stream : Stream R) (line : List ℕ) (lines : List (List ℕ))
+      (answered : R × List ℕ) → is_too_long (next_number stream) start line ≡ false
+      → (ended || is_whole line) ≡ true → rules.next stream.run (text_of line) ≡ Ok answered
+      → stream_from rules ended start stream (line ∷ lines)
+      ≡ stream_from rules ended (start + length line) (with_answer stream answered) lines
+  goes-on ended start stream line lines answered fits may is =
+      at-line ended start stream line lines (Ok (with_answer stream answered))
+      (line-by-text ended start stream line fits may ∙ ap (stream_or stream) is)
 
 -- ---- many lines
 

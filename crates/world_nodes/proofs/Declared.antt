@@ -10,7 +10,7 @@ use Rattle.crash_disk.specs.Memory.{MemState}
 use Rattle.crash_disk.proofs.Plans.{none_listed}
 use Rattle.gate_journal.specs.Journal.{IsSettled}
 use Rattle.gate_journal.specs.declared.refusal.InitRefusal.{InitRefusal}
-use Rattle.node_journal.specs.Begin.{init_steps, journal_steps, InitsOver, Inits, BeginsPair}
+use Rattle.node_journal.specs.Begin.{init_steps, journal_steps, InitsOver, Inits, IsAsked, BeginsPair}
 use Rattle.lms_sign.specs.declared.secret.Secret.{Secret}
 use Rattle.lms_sign.specs.Tree.{public_key_of}
 use Rattle.plasma_tx.specs.declared.owner.Owner.{Owner}
@@ -124,6 +124,15 @@ init_listed steps old new result done ok inits none =
     InitsOver mem_told mem_plan steps (content old.history) old r new) ok (inits old.history refl) in
     planned_listed (length (steps (content old.history))) old new over.1.planned.1 none
 
+-- nor after a question for the length
+unfolded_asked : (old new : MemState) → IsAsked mem_told mem_plan mem_faults old new
+    → mem_plan new ≡ option_map (after_calls 1) (mem_plan old)
+unfolding after_calls
+unfolded_asked old new asked = asked.called.goes_on
+
+asked_listed : (old new : MemState) → IsAsked mem_told mem_plan mem_faults old new → NoneListed old → NoneListed new
+asked_listed old new asked none = planned_listed 1 old new (unfolded_asked old new asked) none
+
 pub pair_listed : (identity : List ℕ) (notes leaves new_notes new_leaves : MemState) (result : Result Unit
     InitRefusal)
     (done : Unit {0}) → result ≡ Ok done
@@ -134,8 +143,9 @@ pair_listed identity notes leaves new_notes new_leaves result done ok begins non
     let both = subst (λ (r : Result Unit InitRefusal). BeginsPair mem_told mem_plan mem_faults mem_told
     mem_plan mem_faults
     identity notes leaves r new_notes new_leaves) ok begins in (
-      init_listed (init_steps identity) notes new_notes (Ok tt) tt refl both.0.inits none,
-      init_listed journal_steps leaves new_leaves (Ok tt) tt refl both.1.inits none',
+      init_listed (init_steps identity) both.0 new_notes (Ok tt) tt refl both.2.0.inits
+          (asked_listed notes both.0 both.1 none),
+      init_listed journal_steps leaves new_leaves (Ok tt) tt refl both.2.1.inits none',
     )
 
 -- a disk that was begun with an identity

@@ -1,6 +1,5 @@
 use Rattle.std.proofs.Common.{inl, refl}
 use contract.BorrowLft.{⊑_meet, ⊑_static}
-use Rattle.node_lines.specs.declared.wallet_line.WalletLine.{WalletLine}
 use Rattle.node_answers.specs.Answers.{wallet_outcome}
 use Rattle.node_roles.specs.Wallets.{records_of, with_either}
 use Rattle.node_runs.specs.Runs.{RunsWallet}
@@ -47,17 +46,14 @@ returns-in-Ok-clause-runs g c =
       },
       record { opens_notes = opened.opens_notes; opens_leaves = opened.opens_leaves; bound = opened.bound },
       rw (c.take_disks-notes.ensures.notes, c.take_disks-notes.ensures.leaves)
-          (in-words _ _ _ (λ at. KeepsBoth told faults at.kept wallet.notes_disk wallet.leaves_disk)
-          _ (λ log at. (line : WalletLine)
-          × EitherFailed told faults (wallet_outcome at.dig log (records_of at.kept) line).leaf
+          (in-words _ _ _ _ (λ at. KeepsBoth told faults at.kept wallet.notes_disk wallet.leaves_disk)
+          _ (λ log at line. EitherFailed told faults (wallet_outcome at.dig log (records_of at.kept) line).leaf
           (wallet_outcome at.dig log (records_of at.kept) line).note at.kept wallet.notes_disk wallet.leaves_disk)
-          _ (λ log at. (line : WalletLine)
-          × KeepsBoth told faults (with_either at.kept (wallet_outcome at.dig log (records_of at.kept) line).leaf
+          _ (λ log at line. KeepsBoth told faults (with_either at.kept
+          (wallet_outcome at.dig log (records_of at.kept) line).leaf
           (wallet_outcome at.dig log (records_of at.kept) line).note) wallet.notes_disk wallet.leaves_disk)
           (λ at is. wallet-keeps told faults at.kept wallet is.1)
-          (λ log at is. (is.0, either-failed told faults _ _ at.kept wallet is.1))
-          (λ log at is.
-          starved-both told faults is.0 (λ line. (wallet_outcome at.dig log (records_of at.kept) line).leaf)
-          (λ line. (wallet_outcome at.dig log (records_of at.kept) line).note) at.kept wallet is.1)
+          (λ log at line is. either-failed told faults _ _ at.kept wallet is)
+          (λ log at line is. starved-both told faults _ _ at.kept wallet is)
           _ _ _ runs),
     )

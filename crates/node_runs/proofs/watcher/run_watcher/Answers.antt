@@ -1,6 +1,5 @@
 use Rattle.std.proofs.Common.{inl, refl}
 use contract.BorrowLft.{⊑_meet, ⊑_static}
-use Rattle.node_lines.specs.declared.watcher_line.WatcherLine.{WatcherLine}
 use Rattle.node_answers.specs.Answers.{watcher_outcome}
 use Rattle.node_roles.specs.Notes.{with_note}
 use Rattle.node_runs.specs.Runs.{RunsWatcher}
@@ -40,14 +39,13 @@ returns-in-Ok-clause-runs g c =
       c.in-Ok.node.notes,
       c.in-Ok.ensures.opened,
       rw c.take_disk.ensures
-          (in-words _ _ _ (λ at. Keeps told faults at.kept notes.disk)
-          _ (λ log at. (line : WatcherLine)
-          × Failed told faults (watcher_outcome at.dig log at.kept.records line).note at.kept notes.disk)
-          _ (λ log at. (line : WatcherLine)
-          × Keeps told faults (with_note at.kept (watcher_outcome at.dig log at.kept.records line).note) notes.disk)
+          (in-words _ _ _ _ (λ at. Keeps told faults at.kept notes.disk)
+          _ (λ log at line.
+          Failed told faults (watcher_outcome at.dig log at.kept.records line).note at.kept notes.disk)
+          _ (λ log at line.
+          Keeps told faults (with_note at.kept (watcher_outcome at.dig log at.kept.records line).note) notes.disk)
           (λ at is. stays-keeps told faults at.kept notes is.1.there)
-          (λ log at is. (is.0, fails-failed told faults _ at.kept notes is.1))
-          (λ log at is.
-          starved-keeps told faults is.0 (λ line. (watcher_outcome at.dig log at.kept.records line).note) at.kept notes is.1)
+          (λ log at line is. fails-failed told faults _ at.kept notes is)
+          (λ log at line is. starved-keeps told faults _ at.kept notes is)
           _ _ _ runs),
     )

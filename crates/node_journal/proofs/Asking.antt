@@ -1,0 +1,167 @@
+-- A question for a disk's length, and what a refused init leaves.
+use Rattle.std.proofs.Common.{◌≡◌, ◌⊎◌, ◌<◌, ◌≤◌, ℕ, Bool, true, false, ltb, ◌||◌, List, [], ◌∷◌, ◌++◌, length, Option, Some, None, Result, Ok, Err, inl, inr, refl, sym, ◌∙◌, ap, subst, arith, length-append}
+use Rattle.std.specs.Option.{option_map}
+use Rattle.std.proofs.lemmas.Bool.Decides.{nat_tests}
+use Rattle.crash_disk.specs.Disk.{Step, asks_length, with_call, after_one, History, content, FaultPlan}
+use Rattle.crash_disk.specs.Calls.{WhereTold, Called, IsStill, passed, after_course, Made}
+use Rattle.gate_journal.specs.Image.{spelled, spelled_record, spelled_records, kept_records}
+use Rattle.gate_journal.specs.Steps.{open_steps}
+use Rattle.gate_journal.specs.Make.{is_made, make_steps}
+use Rattle.gate_journal.specs.declared.refusal.InitRefusal.TheVariants.{AlreadyMade}
+use Rattle.gate_journal.proofs.Front.{fronts}
+use Rattle.node_journal.specs.Begin.{has_content, is_taken, image_made, journal_steps, init_steps, InitsOver, RefusesEmpty, PassesInit, StopsInit, IsAsked, HoldsAsBefore, BeginsPair}
+use Rattle.node_journal.specs.Laws.{RefusedPairsStay}
+use Rattle.node_journal.proofs.Courses.{after_both}
+use Rattle.node_journal.proofs.Untaken.{not_less, unmade_untaken, making_holds}
+
+-- ---- the question
+
+module _ {D : Type 0} (told : D → Option History) (plan : D → Option FaultPlan) (faults : D → ℕ) where
+  -- a call on a disk that is still the same
+  pub called_from : {step : Step} {failed : Bool} {first old new : D} → IsStill told plan faults first old
+      → Called told plan step failed old new → Called told plan step failed first new
+  called_from {step = step} {failed = failed} still called = record {
+    history = called.history ∙ ap (option_map (with_call step failed)) still.same_calls;
+    fails = λ foretold is. called.fails foretold (still.same_plan ∙ is);
+    goes_on = called.goes_on ∙ ap (option_map after_one) still.same_plan;
+  }
+
+  -- the length that was told is that of what the disk then holds
+  pub told_length : (count : ℕ) {old new : D} → Called told plan asks_length false old new
+      → WhereTold (told old) (λ before. count ≡ length (content before))
+      → WhereTold (told new) (λ now. count ≡ length (content now))
+  told_length count {old = old} {new = new} called is = at (told old) refl is
+    where
+      at : (t : Option History) → told old ≡ t → WhereTold t (λ before. count ≡ length (content before))
+          → WhereTold (told new) (λ now. count ≡ length (content now))
+      at None none is = λ now some. absurd (cc (called.history, ap (option_map (with_call asks_length false)) none, some))
+      at (Some before) there is = λ now some.
+          let same : with_call asks_length false before ≡ now =
+          cc (called.history, ap (option_map (with_call asks_length false)) there, some) in
+          is before refl ∙ ap (λ h. length (content h)) same
+
+-- ---- images by their length
+
+long_made : (image : List ℕ) → 5 < length image → is_made image ≡ true
+long_made image long = (let more : ltb 5 (length image) ≡ true = grind (arith, nat_tests) in rw more refl)
+
+taken_made : (image : List ℕ) → is_taken image ≡ true → is_made image ≡ true
+taken_made image taken = at (is_made image) refl
+  where
+    at : (b : Bool) → is_made image ≡ b → is_made image ≡ true
+    at true is = is
+    at false is = absurd (cc (unmade_untaken image is, taken))
+
+short_untaken : (image : List ℕ) → length image ≤ 5 → is_taken image ≡ false
+short_untaken image short = at (kept_records image) refl
+  where
+    at : (kept : Option (List (List ℕ))) → kept_records image ≡ kept → is_taken image ≡ false
+    at None is = ap (has_content (length image)) is ∙ not_less (length image) short
+    at (Some []) is = ap (has_content (length image)) is
+    at (Some (body ∷ bodies)) is =
+        let f = fronts image (body ∷ bodies) is in
+        absurd (omega (
+          arith,
+          short,
+          ap length f.is,
+          length-append f.front (f.gate ∷ f.rest),
+          f.read.place,
+          length-append (spelled_record body) (spelled_records bodies),
+        ))
+
+-- what a disk holds once a journal that stands on it was opened
+stands : (history : History) → is_made (content history) ≡ true
+    → content (after_course passed (journal_steps (content history)) history) ≡ content history
+stands history made =
+    ap content (after_both (make_steps (content history)) (open_steps (image_made (content history))) history)
+    ∙ making_holds history ∙ rw made refl
+
+-- ---- what stays
+
+module _ {D : Type 0} (told : D → Option History) where
+  -- where the disk told before, it tells now, and holds what it held
+  abbrev Stays : D → D → Type 0
+  Stays old new = (before : History) → told old ≡ Some before
+      → (now : History) × (told new ≡ Some now) × (content now ≡ content before)
+
+  stays-on : {old mid new : D} → Stays old mid → Stays mid new → Stays old new
+  stays-on first second before is =
+      let mid = first before is in
+      let now = second mid.0 mid.1 in
+      (now.0, now.1, now.2 ∙ mid.2)
+
+  same-stays : {old new : D} → new ≡ old → Stays old new
+  same-stays same before is = (before, ap told same ∙ is, refl)
+
+  stays-holds : {old new : D} → Stays old new → HoldsAsBefore (told old) (told new)
+  stays-holds stays before is now some =
+      let there = stays before is in
+      let same : there.0 ≡ now = cc (there.1, some) in
+      ap content (sym same) ∙ there.2
+
+  module _ (plan : D → Option FaultPlan) (faults : D → ℕ) where
+    asked-stays : {old new : D} → IsAsked told plan faults old new → Stays old new
+    asked-stays asked before is = (
+      with_call asks_length false before,
+      asked.called.history ∙ ap (option_map (with_call asks_length false)) is,
+      refl,
+    )
+
+    -- a journal that stands was opened, or not
+    opened-stays : {old new : D} → ((before : History) → told old ≡ Some before → is_made (content before) ≡ true)
+        → ((before : History) → told old ≡ Some before
+        → Made told plan journal_steps (length (journal_steps (content before))) passed old new)
+        → Stays old new
+    opened-stays made calls before is = (
+      after_course passed (journal_steps (content before)) before,
+      (calls before is).calls ∙ ap (option_map (λ h. after_course passed (journal_steps (content h)) h)) is,
+      stands before (made before is),
+    )
+
+    refused-stays : {old new : D} (count : ℕ) → RefusesEmpty told plan faults old (AlreadyMade count) new
+        → Stays old new
+    refused-stays count refused =
+        opened-stays (λ before is. taken_made (content before) (refused.inits before is).0)
+        (λ before is. (refused.inits before is).2)
+
+    long-stays : {old new : D} → WhereTold (told old) (λ before. 5 < length (content before))
+        → PassesInit told plan faults journal_steps old new → Stays old new
+    long-stays long passes =
+        opened-stays (λ before is. long_made (content before) (long before is))
+        (λ before is. (passes.inits before is).1)
+
+    -- a short image isn't taken
+    short-never : {P : Type 0} {old new : D} (steps : List ℕ → List Step) (count : ℕ) (before : History)
+        → told old ≡ Some before → WhereTold (told old) (λ before. length (content before) ≤ 5)
+        → StopsInit told plan faults steps old (AlreadyMade count) new → P
+    short-never steps count before is short stops =
+        absurd (cc (short_untaken (content before) (short before is), (stops.inits before is).0))
+
+pub refused_pairs_stay : {D E : Type 0} (told : D → Option History) (plan : D → Option FaultPlan) (faults : D → ℕ)
+    (leaves_told : E → Option History) (leaves_plan : E → Option FaultPlan) (leaves_faults : E → ℕ)
+    → RefusedPairsStay told plan faults leaves_told leaves_plan leaves_faults
+refused_pairs_stay told plan faults leaves_told leaves_plan leaves_faults identity notes new_notes leaves new_leaves
+    count before is (inl never) = absurd never.0
+refused_pairs_stay told plan faults leaves_told leaves_plan leaves_faults identity notes new_notes leaves new_leaves
+    count before is (inr (asked, asks, inl (long, inl (refused, same)))) = (
+      stays-holds told
+          (stays-on told (asked-stays told plan faults asks) (refused-stays told plan faults count refused)),
+      stays-holds leaves_told (same-stays leaves_told same),
+    )
+refused_pairs_stay told plan faults leaves_told leaves_plan leaves_faults identity notes new_notes leaves new_leaves
+    count before is (inr (asked, asks, inl (long, inr (inl (passes, refused))))) = (
+      stays-holds told (stays-on told (asked-stays told plan faults asks) (long-stays told plan faults long passes)),
+      stays-holds leaves_told (refused-stays leaves_told leaves_plan leaves_faults count refused),
+    )
+refused_pairs_stay told plan faults leaves_told leaves_plan leaves_faults identity notes new_notes leaves new_leaves
+    count before is (inr (asked, asks, inl (long, inr (inr (stops, passes))))) =
+    let now = asked-stays told plan faults asks before is in absurd (stops.stopped now.0 now.1)
+refused_pairs_stay told plan faults leaves_told leaves_plan leaves_faults identity notes new_notes leaves new_leaves
+    count before is (inr (asked, asks, inr (short, inl (same, refused)))) = (
+      stays-holds told (stays-on told (asked-stays told plan faults asks) (same-stays told same)),
+      stays-holds leaves_told (refused-stays leaves_told leaves_plan leaves_faults count refused),
+    )
+refused_pairs_stay told plan faults leaves_told leaves_plan leaves_faults identity notes new_notes leaves new_leaves
+    count before is (inr (asked, asks, inr (short, inr (stops, passes)))) =
+    let now = asked-stays told plan faults asks before is in
+    short-never told plan faults (init_steps identity) count now.0 now.1 short stops
