@@ -1,3 +1,4 @@
 mod EndLaws
 mod SessionLaws
 mod DiskLaws
+pub mod FaultLaws

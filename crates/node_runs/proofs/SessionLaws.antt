@@ -12,7 +12,7 @@ use Rattle.streamed_lines.specs.declared.ending.Break.{Break}
 use Rattle.streamed_lines.specs.declared.ending.Break.TheVariants.{WriteFault as WriteBreak, Failed as FailedBreak, NoMemory as NoMemoryBreak}
 use Rattle.streamed_lines.specs.Streams.{Rules, Stream, Streamed, stream_of}
 use Rattle.streamed_lines.specs.Bounds.{TakesFew}
-use Rattle.streamed_lines.specs.Reading.{is_read_fault, next_text, IsLeft, Answers, BrokeOff}
+use Rattle.streamed_lines.specs.Reading.{is_read_fault, next_text, IsLeft, HaltsNext, Answers, BrokeOff}
 use Rattle.node_sessions.specs.Sessions.{SessionState, begun, calls_of, commanded}
 use Rattle.node_sessions.specs.Commands.{IsHaltedNode}
 use Rattle.run_endings.specs.declared.status.Status.{Status}
@@ -99,7 +99,7 @@ module _ {N A L W : Type 0} (rules : Rules (SessionState A) (List ℕ)) (command
             subst (λ told. EndsAs (fault_output told) status taken after ⊥) is.put_is
             (ends-more taken put_then after broke.put text (fault_output text).last ⊥ broke.wrote DeviceFault status
             (λ wrong. absurd (cc)) ends);
-        left = halted is.stream.run (next_text broke.bytes is.stream) Failed is.broken;
+        left = (is.broken.0, halted is.stream.run (next_text broke.bytes is.stream) Failed is.broken.1);
       }))
 
   -- one that was broken off for this, behind which the node is there
@@ -107,7 +107,7 @@ module _ {N A L W : Type 0} (rules : Rules (SessionState A) (List ℕ)) (command
       (status : Status) (broke : BrokeOff rules (begun found) Ran Halted left later taken after text why session)
       → (rest : List ℕ) × (broke.put ++ rest ≡ broke.breaks.stream.text)
       → BrokenAt command_in (λ at. IsAt node at) (λ log at command. IsStopped node log at command NodeMemory) status
-      broke.bytes broke.breaks.stream
+      broke.ended broke.bytes broke.breaks.stream
       → Runs (record { left = left; later = later; taken = taken; after = after }) failed status
   broken-runs left later taken after text failed why status broke rest there =
       let is = broke.breaks in
@@ -134,12 +134,16 @@ module _ {N A L W : Type 0} (rules : Rules (SessionState A) (List ℕ)) (command
       broken-runs left later taken after text failed WriteBreak WriteFault broke broke.breaks.put_is
       (ran broke.breaks.stream.run broke.breaks.broken)
 
-  starved-at : (bytes : List ℕ) (stream : Stream (SessionState A))
-      → Ran session stream.run ⊎ Halted session stream.run (next_text bytes stream) NoMemoryHalt
+  starved-at : (ended : Bool) (bytes : List ℕ) (stream : Stream (SessionState A))
+      → Ran session stream.run ⊎ HaltsNext Ran Halted ended bytes session stream NoMemoryHalt
       → IsAt node stream.run.node
-      ⊎ AtNext command_in bytes stream (λ log at command. IsStopped node log at command NodeMemory)
-  starved-at bytes stream (inl is) = inl (ran stream.run is)
-  starved-at bytes stream (inr is) = halted stream.run (next_text bytes stream) NoMemoryHalt is
+      ⊎ AtNext command_in ended bytes stream (λ log at command. IsStopped node log at command NodeMemory)
+  starved-at ended bytes stream (inl is) = inl (ran stream.run is)
+  starved-at ended bytes stream (inr is) =
+      elim (halted stream.run (next_text bytes stream) NoMemoryHalt is.1) [
+        | inl there ↦ inl there
+        | inr stopped ↦ inr (is.0, stopped)
+      ]
 
   -- one for which memory ran out
   pub starved-runs : (left later taken after : Option (List ℕ)) (text : List ℕ) (failed : Type 0)
@@ -150,7 +154,7 @@ module _ {N A L W : Type 0} (rules : Rules (SessionState A) (List ℕ)) (command
       let broke =
       subst (λ why. BrokeOff rules (begun found) Ran Halted left later taken after text why session) same broken in
       broken-runs left later taken after text failed NoMemoryBreak NoMemory broke broke.breaks.put_is
-      (starved-at broke.bytes broke.breaks.stream broke.breaks.broken)
+      (starved-at broke.ended broke.bytes broke.breaks.stream broke.breaks.broken)
 
 -- what a run did, in other words of where it leaves the node
 module _ {A L : Type 0} (rules : Rules (SessionState A) (List ℕ)) (command_in : List ℕ → Option L) (found : A)
@@ -159,35 +163,35 @@ module _ {A L : Type 0} (rules : Rules (SessionState A) (List ℕ)) (command_in 
     (faulted : (log : List RootCall) (at : A) (command : L) → Faulted log at command → Faulted_ log at command)
     (unanswered : (log : List RootCall) (at : A) (command : L) → Unanswered log at command
     → Left_ at ⊎ Unanswered_ log at command) where
-  at-next : (bytes : List ℕ) (stream : Stream (SessionState A)) → AtNext command_in bytes stream Faulted
-      → AtNext command_in bytes stream Faulted_
-  at-next bytes stream is =
-      (is.0, (is.1.0, faulted (calls_of stream.run.log) stream.run.node is.0 is.1.1))
+  at-next : (ended : Bool) (bytes : List ℕ) (stream : Stream (SessionState A))
+      → AtNext command_in ended bytes stream Faulted → AtNext command_in ended bytes stream Faulted_
+  at-next ended bytes stream (may, (command, spells, is)) =
+      (may, (command, spells, faulted (calls_of stream.run.log) stream.run.node command is))
 
-  broken-or : (bytes : List ℕ) (stream : Stream (SessionState A))
-      → Left stream.run.node ⊎ AtNext command_in bytes stream Unanswered
-      → Left_ stream.run.node ⊎ AtNext command_in bytes stream Unanswered_
-  broken-or bytes stream (inl is) = inl (left stream.run.node is)
-  broken-or bytes stream (inr is) =
-      elim (unanswered (calls_of stream.run.log) stream.run.node is.0 is.1.1) [
+  broken-or : (ended : Bool) (bytes : List ℕ) (stream : Stream (SessionState A))
+      → Left stream.run.node ⊎ AtNext command_in ended bytes stream Unanswered
+      → Left_ stream.run.node ⊎ AtNext command_in ended bytes stream Unanswered_
+  broken-or ended bytes stream (inl is) = inl (left stream.run.node is)
+  broken-or ended bytes stream (inr (may, (command, spells, is))) =
+      elim (unanswered (calls_of stream.run.log) stream.run.node command is) [
         | inl there ↦ inl there
-        | inr done ↦ inr (is.0, (is.1.0, done))
+        | inr done ↦ inr (may, (command, spells, done))
       ]
 
-  broken-in : (status : Status) (bytes : List ℕ) (stream : Stream (SessionState A))
-      → BrokenAt command_in Left Unanswered status bytes stream
-      → BrokenAt command_in Left_ Unanswered_ status bytes stream
-  broken-in WriteFault bytes stream is = left stream.run.node is
-  broken-in NoMemory bytes stream is = broken-or bytes stream is
-  broken-in Done bytes stream is = absurd is
-  broken-in Refused bytes stream is = absurd is
-  broken-in Usage bytes stream is = absurd is
-  broken-in BadLineStatus bytes stream is = absurd is
-  broken-in ReadFaultStatus bytes stream is = absurd is
-  broken-in DeviceFault bytes stream is = absurd is
-  broken-in TooLongStatus bytes stream is = absurd is
-  broken-in NotJournal bytes stream is = absurd is
-  broken-in AlreadyMade bytes stream is = absurd is
+  broken-in : (status : Status) (ended : Bool) (bytes : List ℕ) (stream : Stream (SessionState A))
+      → BrokenAt command_in Left Unanswered status ended bytes stream
+      → BrokenAt command_in Left_ Unanswered_ status ended bytes stream
+  broken-in WriteFault ended bytes stream is = left stream.run.node is
+  broken-in NoMemory ended bytes stream is = broken-or ended bytes stream is
+  broken-in Done ended bytes stream is = absurd is
+  broken-in Refused ended bytes stream is = absurd is
+  broken-in Usage ended bytes stream is = absurd is
+  broken-in BadLineStatus ended bytes stream is = absurd is
+  broken-in ReadFaultStatus ended bytes stream is = absurd is
+  broken-in DeviceFault ended bytes stream is = absurd is
+  broken-in TooLongStatus ended bytes stream is = absurd is
+  broken-in NotJournal ended bytes stream is = absurd is
+  broken-in AlreadyMade ended bytes stream is = absurd is
 
   pub in-words : (outside : Outside) (failed : Type 0) (status : Status)
       → RunsSession rules command_in found Left Faulted Unanswered outside failed status
@@ -207,7 +211,7 @@ module _ {A L : Type 0} (rules : Rules (SessionState A) (List ℕ)) (command_in 
     gave = is.gave;
     begins = is.begins;
     ends = is.ends;
-    left = at-next is.bytes is.stream is.left;
+    left = at-next is.ended is.bytes is.stream is.left;
   }))
   in-words outside failed status (inr (inr is)) = inr (inr (record {
     bytes = is.bytes;
@@ -216,5 +220,5 @@ module _ {A L : Type 0} (rules : Rules (SessionState A) (List ℕ)) (command_in 
     gave = is.gave;
     begins = is.begins;
     front = is.front;
-    left = broken-in status is.bytes is.stream is.left;
+    left = broken-in status is.ended is.bytes is.stream is.left;
   }))

@@ -3,3 +3,4 @@ pub mod Disks
 pub mod Sessions
 pub mod Runs
 pub mod Inits
+pub mod Faults

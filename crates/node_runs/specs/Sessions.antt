@@ -4,7 +4,7 @@ use Rattle.plasma_tx.specs.declared.call.RootCall.{RootCall}
 use Rattle.streamed_lines.specs.Streams.{Rules, Stream, Streamed, stream_of}
 use Rattle.streamed_lines.specs.Bounds.{TakesFew}
 use Rattle.streamed_lines.specs.Outside.{Gave, WroteFront}
-use Rattle.streamed_lines.specs.Reading.{RunsTo, next_text}
+use Rattle.streamed_lines.specs.Reading.{RunsTo, MayBeAnswered, next_text}
 use Rattle.node_sessions.specs.Sessions.{SessionState, begun, calls_of, commanded}
 use Rattle.run_endings.specs.declared.status.Status.{Status}
 use Rattle.run_endings.specs.declared.status.Status.TheVariants.{WriteFault, NoMemory}
@@ -25,21 +25,22 @@ pub record Begins {R C : Type 0} (rules : Rules R C) (first : R) (bytes : List �
   pub whole : bytes ≡ front ++ rest
   pub runs : RunsTo rules first front stream
 
--- the next line behind a session spells a command, and with it this holds
-abbrev pub AtNext : {A L : Type 0} → (List ℕ → Option L) → List ℕ → Stream (SessionState A)
+-- The next line behind a session may be answered, and spells a command, and with that this holds.
+abbrev pub AtNext : {A L : Type 0} → (List ℕ → Option L) → Bool → List ℕ → Stream (SessionState A)
     → (List RootCall → A → L → Type 0) → Type 0
-AtNext {L = L} command_in bytes stream Holds =
-    (command : L) × (commanded command_in stream.run (next_text bytes stream) ≡ Some command)
-    × Holds (calls_of stream.run.log) stream.run.node command
+AtNext {L = L} command_in ended bytes stream Holds =
+    MayBeAnswered ended bytes stream
+    × ((command : L) × (commanded command_in stream.run (next_text bytes stream) ≡ Some command)
+    × Holds (calls_of stream.run.log) stream.run.node command)
 
 -- where the disks of a node are behind a session that was broken off with this status: as what its commands came to; or
 -- behind the next command, which was done, and whose answer was lost for want of memory
 module _ {A L : Type 0} (command_in : List ℕ → Option L) (Left : A → Type 0)
     (Unanswered : List RootCall → A → L → Type 0) where
-  abbrev pub BrokenAt : Status → List ℕ → Stream (SessionState A) → Type 0
-  BrokenAt WriteFault bytes stream = Left stream.run.node
-  BrokenAt NoMemory bytes stream = Left stream.run.node ⊎ AtNext command_in bytes stream Unanswered
-  BrokenAt status bytes stream = ⊥
+  abbrev pub BrokenAt : Status → Bool → List ℕ → Stream (SessionState A) → Type 0
+  BrokenAt WriteFault ended bytes stream = Left stream.run.node
+  BrokenAt NoMemory ended bytes stream = Left stream.run.node ⊎ AtNext command_in ended bytes stream Unanswered
+  BrokenAt status ended bytes stream = ⊥
 
 -- By these rules, over a node that the run found here and whose commands are read so. Its disks are handed back as what
 -- commands came to; or behind a command that met a device fault; or behind one that was done, and whose answer was lost
@@ -71,7 +72,7 @@ module _ {A L : Type 0} (rules : Rules (SessionState A) (List ℕ)) (command_in 
       pub gave : Gave outside.left outside.later bytes ended
       pub begins : Begins rules (begun found) bytes stream
       pub ends : EndsAs (fault_output stream.text) status outside.taken outside.after ⊥
-      pub left : AtNext command_in bytes stream Faulted
+      pub left : AtNext command_in ended bytes stream Faulted
 
     -- Lines were answered, a beginning of whose answers was written, and then the sink refused or memory ran out.
     pub record BreaksOff : Type 0 where
@@ -81,7 +82,7 @@ module _ {A L : Type 0} (rules : Rules (SessionState A) (List ℕ)) (command_in 
       pub gave : Gave outside.left outside.later bytes ended
       pub begins : Begins rules (begun found) bytes stream
       pub front : WroteFront outside.taken outside.after stream.text
-      pub left : BrokenAt command_in Left Unanswered status bytes stream
+      pub left : BrokenAt command_in Left Unanswered status ended bytes stream
 
     -- what a session with this status did
     abbrev pub RunsSession : Type 0

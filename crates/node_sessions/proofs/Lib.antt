@@ -1,2 +1,3 @@
 mod SessionLaws
 mod CompleteLaws
+pub mod StayLaws

@@ -52,3 +52,18 @@ ReadsBy DeviceFault Reads = Reads false
 ReadsBy TooLong Reads = Reads false
 ReadsBy NotJournal Reads = Reads false
 ReadsBy AlreadyMade Reads = Reads false
+
+-- What a status says of a node's disks: they met a fault, or they met none. Where the text wasn't written to the end,
+-- they may have met one or not.
+abbrev pub FaultsBy : Status → (Bool → Type 0) → Type 0
+FaultsBy DeviceFault Met = Met true
+FaultsBy WriteFault Met = (fault : Bool) × Met fault
+FaultsBy NoMemory Met = (fault : Bool) × Met fault
+FaultsBy Done Met = Met false
+FaultsBy Refused Met = Met false
+FaultsBy Usage Met = Met false
+FaultsBy BadLine Met = Met false
+FaultsBy ReadFault Met = Met false
+FaultsBy TooLong Met = Met false
+FaultsBy NotJournal Met = Met false
+FaultsBy AlreadyMade Met = Met false

@@ -95,7 +95,7 @@ module _ {R C W : Type 0} (rules : Rules R C) (first : R) (Ran : W → R → Typ
     }
 
     broken : (last : Option (List ℕ)) (bytes text' : List ℕ) (ended : Bool) (answerer' : W) (why : Break)
-        → Gave left last bytes ended → BreaksOff rules first Ran Halted bytes going.put text' why answerer'
+        → Gave left last bytes ended → BreaksOff rules first Ran Halted ended bytes going.put text' why answerer'
         → BrokeOff rules first Ran Halted left last taken after text' why answerer'
     broken last bytes text' ended answerer' why gave breaks = record {
       bytes = bytes;
@@ -129,13 +129,13 @@ module _ {R C W : Type 0} (rules : Rules R C) (first : R) (Ran : W → R → Typ
 
       pub going-breaks : ((first : R) (bytes put : List ℕ)
           → Reads rules' first Ran bytes put text line n start answerer
-          → IfErr result (λ why. BreaksOff rules' first Ran Halted bytes put text' why answerer'))
+          → IfErr result (λ why. BreaksOff rules' first Ran Halted true bytes put text' why answerer'))
           → IfErr result (λ why. BrokeOff rules first Ran Halted left last taken after text' why answerer')
       going-breaks breaks =
           if-err _ _ result
           (λ why. broken last going.bytes text' true answerer' why (gave-last last true gave))
           (subst (λ r. (first : R) (bytes put : List ℕ) → Reads r first Ran bytes put text line n start answerer
-          → IfErr result (λ why. BreaksOff r first Ran Halted bytes put text' why answerer')) same breaks
+          → IfErr result (λ why. BreaksOff r first Ran Halted true bytes put text' why answerer')) same breaks
           first going.bytes going.put going.reads)
 
     -- a line of what was taken halted the stream
@@ -188,7 +188,7 @@ module _ {R C W : Type 0} (rules : Rules R C) (first : R) (Ran : W → R → Typ
             append_assoc going.put front.front front.back ∙ ap (λ t. going.put ++ t) front.whole ∙ reads.told
 
         by_refusal : (refusal : SinkRefusal)
-            → BreaksOff rules first Ran Halted (going.bytes ++ bytes) (going.put ++ front.front) text''
+            → BreaksOff rules first Ran Halted false (going.bytes ++ bytes) (going.put ++ front.front) text''
             (break_of refusal) answerer'
         by_refusal SinkFailed = record {
           front = reads.front;

@@ -1,6 +1,7 @@
 mod LineLaws
 pub mod OutsideLaws
-mod StreamLaws
+pub mod StreamLaws
 mod StopLaws
 mod ReadLaws
 mod GoingLaws
+mod BeginningLaws

@@ -4,7 +4,7 @@ use Rattle.std.specs.Prelude.{OnOk}
 use Rattle.std.proofs.lemmas.List.{append-nil, length-append, length-take, length-drop, take-append-drop}
 use Rattle.streamed_lines.specs.declared.TheConstants.{MOST_LINES, MOST_LINE_BYTES, MOST_INPUT_BYTES}
 use Rattle.streamed_lines.specs.declared.ending.Halt.{Halt}
-use Rattle.streamed_lines.specs.Lines.{is_feed, text_of, limit_of, HasNoFeed, EndsWithItsFeed}
+use Rattle.streamed_lines.specs.Lines.{is_feed, limit_of, HasNoFeed, EndsWithItsFeed}
 use Rattle.streamed_lines.specs.Streams.{Rules, Stream, no_lines, next_number, with_answer}
 use Rattle.streamed_lines.specs.Bounds.{room}
 use Rattle.streamed_lines.specs.Reading.{DoesLine, Gathers, StopsAt, IsKept, StopsKept, Reads, IsHalted, HaltsWith}
@@ -168,8 +168,8 @@ module _ {R C W : Type 0} (rules : Rules R C) (Ran : W → R → Type 0) (taken 
         → text' ≡ text → n' ≡ n
         → ((stream : Stream R) → Ran answerer stream.run → n ≡ next_number stream
         → StopsAt rules' start stream (line ++ take (i + 1) rest) halt)
-        → ((stream : Stream R) → Ran answerer stream.run
-        → IsHalted Ran Halted answerer' stream.run (text_of (line ++ take (i + 1) rest)) halt)
+        → ((stream : Stream R) → Ran answerer stream.run → n ≡ next_number stream
+        → IsHalted Ran Halted start answerer' stream (line ++ take (i + 1) rest) halt)
         → HaltsWith rules first Ran Halted false (bytes ++ taken) put text' n' answerer' halt
     way-stops i found low bound text' n' answerer' halt rules' same untold number at halted =
         let here = way.reads first bytes put begun in
@@ -186,7 +186,7 @@ module _ {R C W : Type 0} (rules : Rules R C) (Ran : W → R → Type 0) (taken 
         (line-stops rules first Ran Halted (bytes ++ way.done) put text line n start answerer here answerer' own later
         halt way.plain (feed-some rest i found) short
         (subst (λ r. StopsAt r start here.stream (line ++ own) halt) same (at here.stream here.ran here.number))
-        (halted here.stream here.ran))))
+        (halted here.stream here.ran here.number))))
 
     pub way-ends : HasNoFeed (line ++ rest) → (n' : ℕ) (halt : Halt C) → n' ≡ n
         → StopsKept n start (line ++ rest) halt

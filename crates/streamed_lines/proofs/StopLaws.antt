@@ -1,5 +1,5 @@
 -- What ends a stream: a line, or the end of what is read.
-use Rattle.std.proofs.Common.{◌≡◌, ℕ, ◌+◌, ◌-◌, ◌<◌, ◌==◌, Bool, true, false, if◌then◌else◌, List, [], ◌∷◌, ◌++◌, length, take, Result, Ok, Err, inl, inr, refl, sym, ap, ◌∙◌, subst, arith, append_assoc}
+use Rattle.std.proofs.Common.{◌≡◌, ℕ, ◌+◌, ◌-◌, ◌<◌, ◌==◌, ◌⊎◌, ◌||◌, Bool, true, false, if◌then◌else◌, List, [], ◌∷◌, ◌++◌, length, take, Result, Ok, Err, inl, inr, refl, sym, ap, ◌∙◌, subst, arith, append_assoc}
 use Rattle.std.specs.Prelude.{◌≢◌, sum_by, slice_index_or, IfOk, IfErr}
 use Rattle.std.proofs.lemmas.Bool.{true≢false, eqb-true}
 use Rattle.std.proofs.lemmas.List.{append-nil, length-append}
@@ -15,7 +15,7 @@ use Rattle.streamed_lines.specs.declared.ending.Break.{Break}
 use Rattle.streamed_lines.specs.Lines.{lines_in, is_whole, text_of, is_too_long, limit_of, HasNoFeed, EndsWithItsFeed}
 use Rattle.streamed_lines.specs.Streams.{Rules, Stream, next_number, ending_at, with_answer, end_of_input, line_stream, stream_of}
 use Rattle.streamed_lines.specs.Bounds.{room, line_at, start_of, end_of, TakesFew}
-use Rattle.streamed_lines.specs.Reading.{halted_at, next_text, DoesLine, Gathers, StopsAt, IsKept, StopsKept, RunsTo, Reads, IsHalted, IsLeft, EndsAs, BreaksOff, HaltsWith}
+use Rattle.streamed_lines.specs.Reading.{halted_at, next_text, DoesLine, Gathers, StopsAt, IsKept, StopsKept, RunsTo, Reads, HaltedAt, IsHalted, IsLeft, HaltsNext, EndsAs, BreaksOff, HaltsWith}
 use Rattle.streamed_lines.proofs.LineLaws.{plain-open, feed-append, whole-feed, lines_in-feed, lines_in-unfinished, kept-fits}
 use Rattle.streamed_lines.proofs.StreamLaws.{stream-stops, stream-ends, stream-answers, stream-over, waits, too-long}
 
@@ -80,6 +80,25 @@ module _ {R C : Type 0} (rules : Rules R C) (first : R) (front line : List ℕ) 
       ap (λ k. text_of (line_at (front ++ line) k)) (sym number)
       ∙ ap text_of (line-is (front ++ line) []
       (runs.cuts line ∙ ap (λ ls. runs.cut ++ ls) (lines_in-unfinished line some plain)))
+
+  -- an answerer that was asked for the line halted at the next one
+  halts-next : {W : Type 0} (Ran : W → R → Type 0) (Halted : W → R → List ℕ → Halt C → Type 0) (ended : Bool)
+      (bytes : List ℕ) (more : List (List ℕ)) → lines_in bytes ≡ runs.cut ++ line ∷ more
+      → (ended || is_whole line) ≡ true → (answerer : W) (halt : Halt C) (start : ℕ) → start ≡ length front
+      → HaltedAt Ran Halted start answerer stream line halt → HaltsNext Ran Halted ended bytes answerer stream halt
+  halts-next Ran Halted ended bytes more lines seen answerer halt start size halted =
+      let at : line_at bytes (next_number stream) ≡ line =
+      ap (line_at bytes) (sym number) ∙ line-is bytes more lines in
+      let begins : start_of bytes (next_number stream) ≡ start =
+      ap (start_of bytes) (sym number) ∙ start-is bytes more lines ∙ sym size in (
+        record {
+          fits =
+              ap (λ m. is_too_long (next_number stream) m (line_at bytes (next_number stream))) begins
+              ∙ ap (is_too_long (next_number stream) start) at ∙ halted.0;
+          seen = ap (λ l. ended || is_whole l) at ∙ seen;
+        },
+        subst (λ l. Halted answerer stream.run (text_of l) halt) (sym at) halted.1,
+      )
 
   -- few bytes were taken behind a line that ends with its line feed
   few-whole : (rest : List ℕ) → EndsWithItsFeed line → length rest < room
@@ -153,12 +172,12 @@ few-end {C = C} rules bytes stream lines is count size =
 -- ---- where an answerer is left
 
 -- where it is left by a line that stops the stream
-left-by : {R C W : Type 0} (Ran : W → R → Type 0) (Halted : W → R → List ℕ → Halt C → Type 0) (answerer : W) (run : R)
-    (next : List ℕ) (n : ℕ) (stop : Stop C) → IsHalted Ran Halted answerer run next (Stops stop)
-    → IsLeft Ran Halted answerer run next (ending_at n stop)
-left-by Ran Halted answerer run next n BadLineStop halted = inr halted
-left-by Ran Halted answerer run next n TooLongStop halted = halted
-left-by Ran Halted answerer run next n (Ends cause) halted = halted
+left-by : {R C W : Type 0} (Ran : W → R → Type 0) (Halted : W → R → List ℕ → Halt C → Type 0) (answerer : W)
+    (stream : Stream R) (line : List ℕ) (n start : ℕ) (stop : Stop C) → IsHalted Ran Halted start answerer stream line (Stops stop)
+    → IsLeft Ran Halted answerer stream.run (text_of line) (ending_at n stop)
+left-by Ran Halted answerer stream line n start BadLineStop halted = inr halted
+left-by Ran Halted answerer stream line n start TooLongStop halted = halted
+left-by Ran Halted answerer stream line n start (Ends cause) halted = halted
 
 -- where it is left at the end of an input
 left-over : {R C W : Type 0} (rules : Rules R C) (Ran : W → R → Type 0) (Halted : W → R → List ℕ → Halt C → Type 0)
@@ -177,10 +196,10 @@ module _ {R C W : Type 0} (rules : Rules R C) (first : R) (Ran : W → R → Typ
     (bytes put text line : List ℕ) (n start : ℕ) (answerer : W)
     (reads : Reads rules first Ran bytes put text line n start answerer) where
   -- the line isn't answered, since the answerer failed or memory ran out
-  breaks-failed : (all : List ℕ) (answerer' : W) (rest : List ℕ) → all ≡ reads.front ++ rest
-      → IsHalted Ran Halted answerer' reads.stream.run (next_text all reads.stream) Failed
-      → HaltsWith rules first Ran Halted true all put text n answerer' Failed
-  breaks-failed all answerer' rest whole halted = record {
+  breaks-failed : (ended : Bool) (all : List ℕ) (answerer' : W) (rest : List ℕ) → all ≡ reads.front ++ rest
+      → HaltsNext Ran Halted ended all answerer' reads.stream Failed
+      → HaltsWith rules first Ran Halted ended all put text n answerer' Failed
+  breaks-failed ended all answerer' rest whole halted = record {
     front = reads.front;
     rest = rest;
     stream = reads.stream;
@@ -190,10 +209,10 @@ module _ {R C W : Type 0} (rules : Rules R C) (first : R) (Ran : W → R → Typ
     broken = halted;
   }
 
-  breaks-memory : (all : List ℕ) (answerer' : W) (rest : List ℕ) → all ≡ reads.front ++ rest
-      → IsHalted Ran Halted answerer' reads.stream.run (next_text all reads.stream) NoMemory
-      → HaltsWith rules first Ran Halted true all put text n answerer' NoMemory
-  breaks-memory all answerer' rest whole halted = record {
+  breaks-memory : (ended : Bool) (all : List ℕ) (answerer' : W) (rest : List ℕ) → all ≡ reads.front ++ rest
+      → Ran answerer' reads.stream.run ⊎ HaltsNext Ran Halted ended all answerer' reads.stream NoMemory
+      → HaltsWith rules first Ran Halted ended all put text n answerer' NoMemory
+  breaks-memory ended all answerer' rest whole halted = record {
     front = reads.front;
     rest = rest;
     stream = reads.stream;
@@ -209,16 +228,17 @@ module _ {R C W : Type 0} (rules : Rules R C) (first : R) (Ran : W → R → Typ
       ∙ ap (λ b. reads.front ++ b) (sym (append_assoc line own rest))
 
   -- it halted at the line that ends there, which is the next one
-  halted-next : (answerer' : W) (own rest : List ℕ) (halt : Halt C) → HasNoFeed line → EndsWithItsFeed own
-      → IsHalted Ran Halted answerer' reads.stream.run (text_of (line ++ own)) halt
-      → IsHalted Ran Halted answerer' reads.stream.run (next_text (bytes ++ (own ++ rest)) reads.stream) halt
-  halted-next answerer' own rest halt plain ends halted =
-      subst (λ b. IsHalted Ran Halted answerer' reads.stream.run (next_text b reads.stream) halt)
-      (sym (same-bytes own rest))
-      (subst (λ next. IsHalted Ran Halted answerer' reads.stream.run next halt)
-      (sym (next-whole rules first reads.front (line ++ own) reads.stream n reads.runs reads.number rest
-      (feed-append line own plain ends)))
-      halted)
+  halted-whole : (answerer' : W) (own rest : List ℕ) (halt : Halt C) → HasNoFeed line → EndsWithItsFeed own
+      → HaltedAt Ran Halted start answerer' reads.stream (line ++ own) halt
+      → HaltsNext Ran Halted false (bytes ++ (own ++ rest)) answerer' reads.stream halt
+  halted-whole answerer' own rest halt plain ends halted =
+      let whole = feed-append line own plain ends in
+      subst (λ b. HaltsNext Ran Halted false b answerer' reads.stream halt) (sym (same-bytes own rest))
+      (halts-next rules first reads.front (line ++ own) reads.stream n reads.runs reads.number Ran Halted false
+      (reads.front ++ ((line ++ own) ++ rest)) (lines_in rest)
+      (reads.runs.cuts ((line ++ own) ++ rest)
+      ∙ ap (λ ls. reads.runs.cut ++ ls) (lines_in-feed (line ++ own) rest whole))
+      (whole-feed (line ++ own) whole) answerer' halt start reads.size halted)
 
   whole-stop : (answerer' : W) (own rest : List ℕ) (ending : Ending C) → HasNoFeed line → EndsWithItsFeed own
       → DoesLine rules start reads.stream (line ++ own) (Err ending)
@@ -245,20 +265,20 @@ module _ {R C W : Type 0} (rules : Rules R C) (first : R) (Ran : W → R → Typ
   -- a line with its line feed
   pub line-stops : (answerer' : W) (own rest : List ℕ) (halt : Halt C) → HasNoFeed line → EndsWithItsFeed own
       → length rest < room → StopsAt rules start reads.stream (line ++ own) halt
-      → IsHalted Ran Halted answerer' reads.stream.run (text_of (line ++ own)) halt
+      → IsHalted Ran Halted start answerer' reads.stream (line ++ own) halt
       → HaltsWith rules first Ran Halted false (bytes ++ (own ++ rest)) put text n answerer' halt
   line-stops answerer' own rest Failed plain ends short at halted =
-      breaks-failed (bytes ++ (own ++ rest)) answerer' ((line ++ own) ++ rest) (same-bytes own rest)
-      (halted-next answerer' own rest Failed plain ends halted)
+      breaks-failed false (bytes ++ (own ++ rest)) answerer' ((line ++ own) ++ rest) (same-bytes own rest)
+      (halted-whole answerer' own rest Failed plain ends halted)
   line-stops answerer' own rest NoMemory plain ends short at halted =
-      breaks-memory (bytes ++ (own ++ rest)) answerer' ((line ++ own) ++ rest) (same-bytes own rest)
-      (halted-next answerer' own rest NoMemory plain ends halted)
+      breaks-memory false (bytes ++ (own ++ rest)) answerer' ((line ++ own) ++ rest) (same-bytes own rest)
+      (elim halted [ inl ran ↦ inl ran | inr asked ↦ inr (halted-whole answerer' own rest NoMemory plain ends asked) ])
   line-stops answerer' own rest (Stops stop) plain ends short at halted =
       whole-stop answerer' own rest (ending_at n stop) plain ends
       (subst (λ m. DoesLine rules start reads.stream (line ++ own) (Err (ending_at m stop))) (sym reads.number) at)
       (few-feed rules first reads.front (line ++ own) reads.stream n reads.runs reads.number rest stop
       (feed-append line own plain ends) short)
-      (left-by Ran Halted answerer' reads.stream.run (text_of (line ++ own)) n stop halted)
+      (left-by Ran Halted answerer' reads.stream (line ++ own) n start stop halted)
 
   -- what is kept of a line is fewer than a room behind its limit
   kept-few : IsKept n start line → length bytes < limit_of n start + room
@@ -271,7 +291,7 @@ module _ {R C W : Type 0} (rules : Rules R C) (first : R) (Ran : W → R → Typ
   pub kept-stops : (halt : Halt C) → HasNoFeed line → length bytes < limit_of n start + room
       → StopsKept n start line halt → HaltsWith rules first Ran Halted false bytes put text n answerer halt
   kept-stops Failed plain few never = absurd never
-  kept-stops NoMemory plain few at = breaks-memory bytes answerer line reads.whole (inl reads.ran)
+  kept-stops NoMemory plain few at = breaks-memory false bytes answerer line reads.whole (inl reads.ran)
   kept-stops (Stops BadLineStop) plain few never = absurd never
   kept-stops (Stops (Ends cause)) plain few never = absurd never
   kept-stops (Stops TooLongStop) plain few at =
@@ -316,39 +336,42 @@ module _ {R C W : Type 0} (rules : Rules R C) (first : R) (Ran : W → R → Typ
       })
 
   halted-last : (answerer' : W) (halt : Halt C) → HasNoFeed line → line ≢ []
-      → IsHalted Ran Halted answerer' reads.stream.run (text_of line) halt
-      → IsHalted Ran Halted answerer' reads.stream.run (next_text bytes reads.stream) halt
+      → HaltedAt Ran Halted start answerer' reads.stream line halt
+      → HaltsNext Ran Halted true bytes answerer' reads.stream halt
   halted-last answerer' halt plain some halted =
-      subst (λ b. IsHalted Ran Halted answerer' reads.stream.run (next_text b reads.stream) halt) (sym reads.whole)
-      (subst (λ next. IsHalted Ran Halted answerer' reads.stream.run next halt)
-      (sym (next-last rules first reads.front line reads.stream n reads.runs reads.number plain some)) halted)
+      subst (λ b. HaltsNext Ran Halted true b answerer' reads.stream halt) (sym reads.whole)
+      (halts-next rules first reads.front line reads.stream n reads.runs reads.number Ran Halted true
+      (reads.front ++ line) []
+      (reads.runs.cuts line ∙ ap (λ ls. reads.runs.cut ++ ls) (lines_in-unfinished line some plain))
+      refl answerer' halt start reads.size halted)
 
   last-halts : (answerer' : W) (halt : Halt C) → IsKept n start line → line ≢ []
       → StopsAt rules start reads.stream line halt
-      → IsHalted Ran Halted answerer' reads.stream.run (text_of line) halt
+      → IsHalted Ran Halted start answerer' reads.stream line halt
       → HaltsWith rules first Ran Halted true bytes put text n answerer' halt
   last-halts answerer' Failed kept some at halted =
-      breaks-failed bytes answerer' line reads.whole (halted-last answerer' Failed kept.plain some halted)
+      breaks-failed true bytes answerer' line reads.whole (halted-last answerer' Failed kept.plain some halted)
   last-halts answerer' NoMemory kept some at halted =
-      breaks-memory bytes answerer' line reads.whole (halted-last answerer' NoMemory kept.plain some halted)
+      breaks-memory true bytes answerer' line reads.whole
+      (elim halted [ inl ran ↦ inl ran | inr asked ↦ inr (halted-last answerer' NoMemory kept.plain some asked) ])
   last-halts answerer' (Stops stop) kept some at halted =
       last-ends answerer' (ending_at n stop) kept.plain some
       (subst (λ m. DoesLine rules start reads.stream line (Err (ending_at m stop))) (sym reads.number) at)
       (few-unfinished rules first reads.front line reads.stream n reads.runs reads.number stop kept.plain some
       (subst (λ b. length b < limit_of n (length reads.front) + room) reads.whole
       (subst (λ k. length bytes < limit_of n k + room) reads.size (kept-few kept))))
-      (left-by Ran Halted answerer' reads.stream.run (text_of line) n stop halted)
+      (left-by Ran Halted answerer' reads.stream line n start stop halted)
 
   pub last-stops : (text' : List ℕ) (n' : ℕ) (answerer' : W) (halt : Halt C) → text' ≡ text → n' ≡ n
       → IsKept n start line → line ≢ [] → StopsAt rules start reads.stream (line ++ []) halt
-      → IsHalted Ran Halted answerer' reads.stream.run (text_of (line ++ [])) halt
+      → IsHalted Ran Halted start answerer' reads.stream (line ++ []) halt
       → HaltsWith rules first Ran Halted true bytes put text' n' answerer' halt
   last-stops text' n' answerer' halt untold same kept some at halted =
       subst (λ t. HaltsWith rules first Ran Halted true bytes put t n' answerer' halt) (sym untold)
       (subst (λ m. HaltsWith rules first Ran Halted true bytes put text m answerer' halt) (sym same)
       (last-halts answerer' halt kept some
       (subst (λ l. StopsAt rules start reads.stream l halt) (append-nil line) at)
-      (subst (λ l. IsHalted Ran Halted answerer' reads.stream.run (text_of l) halt) (append-nil line) halted)))
+      (subst (λ l. IsHalted Ran Halted start answerer' reads.stream l halt) (append-nil line) halted)))
 
   -- the last line was answered, and the input ends behind it
   pub last-answered : (text' : List ℕ) (n' : ℕ) (answerer' : W) (ending : Ending C) (rules' : Rules R C)
@@ -452,13 +475,13 @@ module _ {R C W : Type 0} (rules : Rules R C) (first : R) (Ran : W → R → Typ
 
   pub halts-break : (halt : Halt C) (result : Result (Ending C) Break) → result ≡ halted_at n halt
       → HaltsWith rules first Ran Halted ended bytes put text n answerer halt
-      → IfErr result (λ why. BreaksOff rules first Ran Halted bytes put text why answerer)
+      → IfErr result (λ why. BreaksOff rules first Ran Halted ended bytes put text why answerer)
   halts-break halt result is halts =
-      subst (λ r. IfErr r (λ why. BreaksOff rules first Ran Halted bytes put text why answerer)) (sym is)
+      subst (λ r. IfErr r (λ why. BreaksOff rules first Ran Halted ended bytes put text why answerer)) (sym is)
       (by_halt halt halts)
     where
       by_halt : (halt : Halt C) → HaltsWith rules first Ran Halted ended bytes put text n answerer halt
-          → IfErr (halted_at n halt) (λ why. BreaksOff rules first Ran Halted bytes put text why answerer)
+          → IfErr (halted_at n halt) (λ why. BreaksOff rules first Ran Halted ended bytes put text why answerer)
       by_halt (Stops stop) halts = tt
       by_halt Failed halts = halts
       by_halt NoMemory halts = halts

@@ -85,7 +85,7 @@ module _ {R C : Type 0} (rules : Rules R C) where
   too-long ended start stream line long = rw long refl
 
   -- the stream at a line that does this
-  at-line : (ended : Bool) (start : ℕ) (stream : Stream R) (line : List ℕ) (lines : List (List ℕ))
+  pub at-line : (ended : Bool) (start : ℕ) (stream : Stream R) (line : List ℕ) (lines : List (List ℕ))
       (outcome : Result (Stream R) (Ending C)) → line_stream rules ended start stream line ≡ outcome
       → stream_from rules ended start stream (line ∷ lines) ≡ goes_on stream outcome
       (λ next. stream_from rules ended (start + length line) next lines)

@@ -3,3 +3,4 @@ pub mod Streams
 pub mod Bounds
 pub mod Outside
 pub mod Reading
+pub mod Laws

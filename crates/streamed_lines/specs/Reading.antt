@@ -12,7 +12,7 @@ use Rattle.plasma_outside.specs.declared.sink.SinkRefusal.{SinkRefusal}
 use Rattle.plasma_outside.specs.declared.sink.SinkRefusal.TheVariants.{Failed as SinkFailed, NoMemory as SinkNoMemory}
 use Rattle.streamed_lines.specs.Lines.{lines_in, is_whole, text_of, is_too_long, limit_of, HasNoFeed}
 use Rattle.streamed_lines.specs.Streams.{Rules, Stream, no_lines, next_number, with_answer, ending_at, line_stream, stream_from, stream_of}
-use Rattle.streamed_lines.specs.Bounds.{line_at, TakesFew}
+use Rattle.streamed_lines.specs.Bounds.{line_at, start_of, TakesFew}
 use Rattle.streamed_lines.specs.Outside.{Gave, Wrote}
 
 -- ---- what breaks a stream off
@@ -122,27 +122,48 @@ module _ {R C W : Type 0} (rules : Rules R C) (first : R) (Ran : W → R → Typ
 abbrev pub next_text : {R : Type 0} → List ℕ → Stream R → List ℕ
 next_text bytes stream = text_of (line_at bytes (next_number stream))
 
+-- the line behind those of a stream may be answered: it passes no limit, and its line feed was seen, or the end of the
+-- input
+pub record MayBeAnswered {R : Type 0} (ended : Bool) (bytes : List ℕ) (stream : Stream R) : Type 0 where
+  pub fits :
+      is_too_long (next_number stream) (start_of bytes (next_number stream)) (line_at bytes (next_number stream)) ≡ false
+  pub seen : (ended || is_whole (line_at bytes (next_number stream))) ≡ true
+
 module _ {R C W : Type 0} (Ran : W → R → Type 0) (Halted : W → R → List ℕ → Halt C → Type 0) where
-  -- An answerer whose lines came to this and whose next line, of this text, isn't answered: it halted there. Where the
-  -- line passes a limit or memory runs out it may not have been asked, and is where they left it.
-  abbrev pub IsHalted : W → R → List ℕ → Halt C → Type 0
-  IsHalted answerer run text (Stops TooLongStop) = Ran answerer run ⊎ Halted answerer run text (Stops TooLongStop)
-  IsHalted answerer run text NoMemory = Ran answerer run ⊎ Halted answerer run text NoMemory
-  IsHalted answerer run text halt = Halted answerer run text halt
+  -- It was asked for a line that passes no limit, the next one, and halted there.
+  abbrev pub HaltedAt : ℕ → W → Stream R → List ℕ → Halt C → Type 0
+  HaltedAt start answerer stream line halt =
+      (is_too_long (next_number stream) start line ≡ false) × Halted answerer stream.run (text_of line) halt
+
+  -- An answerer whose lines came to this stream and whose next line isn't answered: it halted there. Where the line passes
+  -- a limit or memory runs out it may not have been asked, and is where they left it.
+  abbrev pub IsHalted : ℕ → W → Stream R → List ℕ → Halt C → Type 0
+  IsHalted start answerer stream line (Stops TooLongStop) =
+      Ran answerer stream.run ⊎ Halted answerer stream.run (text_of line) (Stops TooLongStop)
+  IsHalted start answerer stream line (Stops stop) = Halted answerer stream.run (text_of line) (Stops stop)
+  IsHalted start answerer stream line NoMemory =
+      Ran answerer stream.run ⊎ HaltedAt start answerer stream line NoMemory
+  IsHalted start answerer stream line Failed = HaltedAt start answerer stream line Failed
 
   -- The same, where the stream ended so. No answerer is asked for a line that is missing.
   abbrev pub IsLeft : W → R → List ℕ → Ending C → Type 0
   IsLeft answerer run text Complete = Ran answerer run
   IsLeft answerer run text ReadFault = Ran answerer run
   IsLeft answerer run text (BadLine n) = Ran answerer run ⊎ Halted answerer run text (Stops BadLineStop)
-  IsLeft answerer run text (TooLong n) = IsHalted answerer run text (Stops TooLongStop)
-  IsLeft answerer run text (Ended n cause) = IsHalted answerer run text (Stops (Ends cause))
+  IsLeft answerer run text (TooLong n) = Ran answerer run ⊎ Halted answerer run text (Stops TooLongStop)
+  IsLeft answerer run text (Ended n cause) = Halted answerer run text (Stops (Ends cause))
 
-  -- and where it was broken off
-  abbrev pub IsBroken : W → R → List ℕ → Break → Type 0
-  IsBroken answerer run text WriteFault = Ran answerer run
-  IsBroken answerer run text FailedBreak = IsHalted answerer run text Failed
-  IsBroken answerer run text NoMemoryBreak = IsHalted answerer run text NoMemory
+  -- it halted at the line behind those of a stream of these bytes, which may be answered
+  abbrev pub HaltsNext : Bool → List ℕ → W → Stream R → Halt C → Type 0
+  HaltsNext ended bytes answerer stream halt =
+      MayBeAnswered ended bytes stream × Halted answerer stream.run (next_text bytes stream) halt
+
+  -- and where the stream was broken off
+  abbrev pub IsBroken : Bool → List ℕ → W → Stream R → Break → Type 0
+  IsBroken ended bytes answerer stream WriteFault = Ran answerer stream.run
+  IsBroken ended bytes answerer stream FailedBreak = HaltsNext ended bytes answerer stream Failed
+  IsBroken ended bytes answerer stream NoMemoryBreak =
+      Ran answerer stream.run ⊎ HaltsNext ended bytes answerer stream NoMemory
 
 -- ---- what ended a stream
 
@@ -174,14 +195,14 @@ module _ {R C W : Type 0} (rules : Rules R C) (first : R) (Ran : W → R → Typ
   IsPut NoMemoryBreak put text all = (rest : List ℕ) × (put ++ rest ≡ all)
 
   -- a stream that was broken off behind some lines of these bytes, whose answers were put or are gathered
-  pub record BreaksOff (bytes put text : List ℕ) (why : Break) (answerer : W) : Type 0 where
+  pub record BreaksOff (ended : Bool) (bytes put text : List ℕ) (why : Break) (answerer : W) : Type 0 where
     pub front : List ℕ
     pub rest : List ℕ
     pub stream : Stream R
     pub whole : bytes ≡ front ++ rest
     pub runs : RunsTo rules first front stream
     pub put_is : IsPut why put text stream.text
-    pub broken : IsBroken Ran Halted answerer stream.run (next_text bytes stream) why
+    pub broken : IsBroken Ran Halted ended bytes answerer stream why
 
   -- where these are told: the source gave bytes on which the stream was broken off, and the sink has taken what was put
   pub record BrokeOff (left later taken after : Option (List ℕ)) (text : List ℕ) (why : Break) (answerer : W)
@@ -191,10 +212,10 @@ module _ {R C W : Type 0} (rules : Rules R C) (first : R) (Ran : W → R → Typ
     pub put : List ℕ
     pub gave : Gave left later bytes ended
     pub wrote : Wrote taken after put
-    pub breaks : BreaksOff bytes put text why answerer
+    pub breaks : BreaksOff ended bytes put text why answerer
 
   -- a line of these bytes halted the stream
   abbrev pub HaltsWith : Bool → List ℕ → List ℕ → List ℕ → ℕ → W → Halt C → Type 0
   HaltsWith ended bytes put text n answerer (Stops stop) = EndsAs ended bytes put text (ending_at n stop) answerer
-  HaltsWith ended bytes put text n answerer Failed = BreaksOff bytes put text FailedBreak answerer
-  HaltsWith ended bytes put text n answerer NoMemory = BreaksOff bytes put text NoMemoryBreak answerer
+  HaltsWith ended bytes put text n answerer Failed = BreaksOff ended bytes put text FailedBreak answerer
+  HaltsWith ended bytes put text n answerer NoMemory = BreaksOff ended bytes put text NoMemoryBreak answerer

@@ -1,5 +1,4 @@
 ghost use Rattle.std.specs.Prelude.{◌≡◌, ◌≤◌, ◌+◌, ◌++◌, [], length, OnOk, OnErr, IfErr};
-ghost use Rattle.streamed_lines.specs.Lines.{text_of};
 ghost use Rattle.streamed_lines.specs.Streams.{Stream, next_number};
 ghost use Rattle.streamed_lines.specs.Reading.{Gathers, StopsAt, IsHalted};
 
@@ -23,8 +22,8 @@ fn answer_one<A: Answerer>(
         text.old.items text.new.items answerer.new) }
     ensures stops { (stream : Stream A.Run) → A.ran answerer.old stream.run → reading.old.number ≡ next_number stream
         → IfErr result (StopsAt (A.rules answerer.old) reading.old.start stream line.now) }
-    ensures halted { (stream : Stream A.Run) → A.ran answerer.old stream.run
-        → IfErr result (IsHalted A.ran A.halted answerer.new stream.run (text_of line.now)) }
+    ensures halted { (stream : Stream A.Run) → A.ran answerer.old stream.run → reading.old.number ≡ next_number stream
+        → IfErr result (IsHalted A.ran A.halted reading.old.start answerer.new stream line.now) }
     ensures untold { OnErr result (text.new.items ≡ text.old.items) }
     ensures number { OnOk result (reading.new.number ≡ reading.old.number + 1) }
     ensures same_number { OnErr result (reading.new.number ≡ reading.old.number) }
@@ -61,9 +60,9 @@ pub fn answer_kept<A: Answerer>(
     ensures stops { (stream : Stream A.Run) → A.ran answerer.old stream.run → reading.old.number ≡ next_number stream
         → IfErr result
         (StopsAt (A.rules answerer.old) reading.old.start stream (reading.old.line.items ++ rest.now)) }
-    ensures halted { (stream : Stream A.Run) → A.ran answerer.old stream.run
+    ensures halted { (stream : Stream A.Run) → A.ran answerer.old stream.run → reading.old.number ≡ next_number stream
         → IfErr result
-        (IsHalted A.ran A.halted answerer.new stream.run (text_of (reading.old.line.items ++ rest.now))) }
+        (IsHalted A.ran A.halted reading.old.start answerer.new stream (reading.old.line.items ++ rest.now)) }
     ensures untold { OnErr result (text.new.items ≡ text.old.items) }
     ensures number { OnOk result (reading.new.number ≡ reading.old.number + 1) }
     ensures same_number { OnErr result (reading.new.number ≡ reading.old.number) }

@@ -4,12 +4,14 @@
 mod answerer;
 mod answering;
 mod ending;
+mod laws;
 mod lines;
 mod reading;
 mod stream;
 
 pub use answerer::Answerer;
 pub use ending::{Break, Ending, Halt, Stop};
+pub use laws::beginnings_wait;
 pub use stream::{answer_lines, put_text};
 
 /// The most lines of an input.

@@ -112,7 +112,7 @@ fn answer_last<A: Answerer>(
         → Reads (A.rules answerer.old) first A.ran bytes put text.old.items
         reading.old.line.items reading.old.number reading.old.start answerer.old
         → IfErr result (λ why.
-        BreaksOff (A.rules answerer.old) first A.ran A.halted bytes put text.new.items why answerer.new) }
+        BreaksOff (A.rules answerer.old) first A.ran A.halted true bytes put text.new.items why answerer.new) }
     ensures rules { A.rules answerer.new ≡ A.rules answerer.old }
     ensures ready { result ≡ Ok Ending.Complete → A.ready answerer.new }
     ensures no_write { is_write_fault result ≡ false }

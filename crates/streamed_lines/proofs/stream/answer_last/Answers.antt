@@ -25,7 +25,7 @@ returns-in-Err-clause-ends g c =
     c.in-Err.ensures.untold c.in-Err.ensures.same_number c.requires.kept
     (some-is c.args.reading.now.line.items _ (omega arith) (sym c.is_empty.ensures ∙ c.if-is_empty.false))
     (c.in-Err.ensures.stops reads.stream reads.ran reads.number)
-    (c.in-Err.ensures.halted reads.stream reads.ran))
+    (c.in-Err.ensures.halted reads.stream reads.ran reads.number))
 
 pub returns-in-Err-clause-breaks : goal.returns-in-Err-clause-breaks
 returns-in-Err-clause-breaks g c =
@@ -35,4 +35,4 @@ returns-in-Err-clause-breaks g c =
     c.in-Err.ensures.untold c.in-Err.ensures.same_number c.requires.kept
     (some-is c.args.reading.now.line.items _ (omega arith) (sym c.is_empty.ensures ∙ c.if-is_empty.false))
     (c.in-Err.ensures.stops reads.stream reads.ran reads.number)
-    (c.in-Err.ensures.halted reads.stream reads.ran))
+    (c.in-Err.ensures.halted reads.stream reads.ran reads.number))

@@ -1,0 +1,343 @@
+-- The faults that a run's disks met, by its status.
+use Rattle.std.proofs.Common.{◌≡◌, ◌⊎◌, ℕ, Bool, true, false, List, Option, Some, None, Result, Ok, Err, inl, inr, refl, sym, ap, ◌∙◌, subst}
+use Rattle.std.specs.Prelude.{Unit}
+use Rattle.plasma_base.specs.Causes.{faults_after}
+use Rattle.crash_disk.specs.Disk.{History, FaultPlan}
+use Rattle.gate_journal.specs.Journal.{is_device_fault}
+use Rattle.gate_journal.specs.declared.refusal.InitRefusal.{InitRefusal}
+use Rattle.gate_journal.specs.declared.refusal.InitRefusal.TheVariants.{AlreadyMade as InitMade, DeviceFault as InitFault, NoMemory as InitNoMemory}
+use Rattle.gate_journal.specs.declared.refusal.JournalRefusal.{JournalRefusal}
+use Rattle.gate_journal.specs.declared.refusal.JournalRefusal.TheVariants.{AlreadyMade as JournalMade, NotJournal as JournalPlace, DeviceFault as JournalFault, Closed as JournalClosed, RecordTooLong as JournalLong, NoMemory as JournalNoMemory}
+use Rattle.plasma_tx.specs.declared.call.RootCall.{RootCall}
+use Rattle.node_journal.specs.Notes.{NotesState, Opened, RefusesRole}
+use Rattle.node_journal.specs.Begin.{BeginsPair, IsNotTold, RefusesPair, is_init_fault}
+use Rattle.streamed_lines.specs.declared.ending.Ending.{Ending}
+use Rattle.streamed_lines.specs.declared.ending.Ending.TheVariants.{Complete, BadLine, ReadFault, TooLong, Ended}
+use Rattle.streamed_lines.specs.Streams.{Rules, Stream, stream_of}
+use Rattle.node_sessions.specs.Sessions.{SessionState, begun, calls_of, session_rules}
+use Rattle.node_sessions.proofs.StayLaws.{session-keeps, run-keeps}
+use Rattle.node_answers.specs.Answers.{Outcome, wallet_outcome}
+use Rattle.node_roles.specs.Notes.{NodeAt, NotesAt, with_note}
+use Rattle.node_roles.specs.Deeds.{left_with, notes_do}
+use Rattle.node_roles.specs.Wallets.{WalletAt, records_of, with_either, wallet_does}
+use Rattle.node_lines.specs.Grammar.{wallet_line_in}
+use Rattle.node_rules.specs.Wallet.{who as wallet_is}
+use Rattle.wallet_core.specs.declared.notes.LeafRecord.{LeafRecord}
+use Rattle.run_endings.specs.declared.status.Status.{Status}
+use Rattle.run_endings.specs.declared.status.Status.TheVariants.{Done, Refused, Usage, BadLine as BadLineStatus, ReadFault as ReadFaultStatus, WriteFault, DeviceFault, NoMemory, TooLong as TooLongStatus, NotJournal, AlreadyMade}
+use Rattle.run_endings.specs.Statuses.{FaultsBy}
+use Rattle.run_endings.specs.Outputs.{Output, EndsAs}
+use Rattle.wallet_node.specs.Opening.{IsUnbound, RefusesWallet}
+use Rattle.node_runs.specs.Endings.{status_of, session_output, fault_output, refused_output, init_output}
+use Rattle.node_runs.specs.Disks.{Keeps, Failed, KeepsBoth, EitherFailed}
+use Rattle.node_runs.specs.Faults.{Counts, CountsEither}
+use Rattle.node_runs.specs.Inits.{InitsNotes, InitsWallet}
+use Rattle.node_runs.specs.Runs.{RunsNotes, RunsWatcher, RunsOperator, RunsWallet}
+use Rattle.node_runs.specs.Sessions.{Outside, RunsSession}
+
+-- ---- by the output
+
+-- a run whose output has another status than DeviceFault ends with another
+other-status : (output : Output) (status : Status) {before after : Option (List ℕ)} {failed : Type 0}
+    → (output.status ≡ DeviceFault → ⊥) → EndsAs output status before after failed → status ≡ DeviceFault → ⊥
+other-status output DeviceFault never ends is = never ends.0
+other-status output Done never ends is = absurd (cc (is))
+other-status output Refused never ends is = absurd (cc (is))
+other-status output Usage never ends is = absurd (cc (is))
+other-status output BadLineStatus never ends is = absurd (cc (is))
+other-status output ReadFaultStatus never ends is = absurd (cc (is))
+other-status output WriteFault never ends is = absurd (cc (is))
+other-status output NoMemory never ends is = absurd (cc (is))
+other-status output TooLongStatus never ends is = absurd (cc (is))
+other-status output NotJournal never ends is = absurd (cc (is))
+other-status output AlreadyMade never ends is = absurd (cc (is))
+
+-- no fault was met
+none-met : (Met : Bool → Type 0) (status : Status) → (status ≡ DeviceFault → ⊥) → Met false → FaultsBy status Met
+none-met Met DeviceFault never none = absurd (never refl)
+none-met Met WriteFault never none = (false, none)
+none-met Met NoMemory never none = (false, none)
+none-met Met Done never none = none
+none-met Met Refused never none = none
+none-met Met Usage never none = none
+none-met Met BadLineStatus never none = none
+none-met Met ReadFaultStatus never none = none
+none-met Met TooLongStatus never none = none
+none-met Met NotJournal never none = none
+none-met Met AlreadyMade never none = none
+
+-- one was, and the run says so, or its text was stopped
+one-met : (Met : Bool → Type 0) (answers : List ℕ) (status : Status) {before after : Option (List ℕ)} {failed : Type 0}
+    → EndsAs (fault_output answers) status before after failed → Met true → FaultsBy status Met
+one-met Met answers DeviceFault ends one = one
+one-met Met answers WriteFault ends one = (true, one)
+one-met Met answers NoMemory ends one = (true, one)
+one-met Met answers Done ends one = absurd (cc (ends.0))
+one-met Met answers Refused ends one = absurd (cc (ends.0))
+one-met Met answers Usage ends one = absurd (cc (ends.0))
+one-met Met answers BadLineStatus ends one = absurd (cc (ends.0))
+one-met Met answers ReadFaultStatus ends one = absurd (cc (ends.0.0))
+one-met Met answers TooLongStatus ends one = absurd (cc (ends.0))
+one-met Met answers NotJournal ends one = absurd (cc (ends.0))
+one-met Met answers AlreadyMade ends one = absurd (cc (ends.0))
+
+session-other : (ending : Ending (List ℕ)) → status_of ending ≡ DeviceFault → ⊥
+session-other Complete is = cc
+session-other (BadLine n) is = cc
+session-other ReadFault is = cc
+session-other (TooLong n) is = cc
+session-other (Ended n cause) is = cc
+
+-- ---- a session
+
+module _ {A L : Type 0} (tag : List ℕ) (command_in : List ℕ → Option L)
+    (does : List RootCall → A → L → Result (A × List ℕ) (List ℕ)) {M : Type 0} (part : A → M)
+    (kept : (log : List RootCall) (at : A) (command : L) (left : A) (text : List ℕ)
+    → does log at command ≡ Ok (left, text) → part left ≡ part at)
+    (found : A) (Left : A → Type 0) (Faulted Unanswered : List RootCall → A → L → Type 0) (Met : Bool → Type 0)
+    (left : (at : A) → part at ≡ part found → Left at → Met false)
+    (faulted : (log : List RootCall) (at : A) (command : L) → part at ≡ part found → Faulted log at command → Met true)
+    (unanswered : (log : List RootCall) (at : A) (command : L) → part at ≡ part found → Unanswered log at command
+    → Met false) where
+  session-counts : (outside : Outside) (failed : Type 0) (status : Status)
+      → RunsSession (session_rules tag command_in does) command_in found Left Faulted Unanswered outside failed status
+      → FaultsBy status Met
+  session-counts outside failed status (inl is) =
+      let ended = stream_of (session_rules tag command_in does) (begun found) is.bytes is.ended in
+      none-met Met status
+      (other-status (session_output ended) status (session-other ended.ending) is.ends)
+      (left ended.stream.run.node (session-keeps tag command_in does part kept found is.bytes is.ended) is.left)
+  session-counts outside failed status (inr (inl is)) =
+      one-met Met is.stream.text status is.ends
+      (faulted (calls_of is.stream.run.log) is.stream.run.node is.left.1.0
+      (run-keeps tag command_in does part kept found is.begins.front is.stream is.begins.runs) is.left.1.2)
+  session-counts outside failed WriteFault (inr (inr is)) =
+      (false, left is.stream.run.node
+      (run-keeps tag command_in does part kept found is.begins.front is.stream is.begins.runs) is.left)
+  session-counts outside failed NoMemory (inr (inr is)) =
+      let same = run-keeps tag command_in does part kept found is.begins.front is.stream is.begins.runs in
+      (false, elim is.left [
+        | inl there ↦ left is.stream.run.node same there
+        | inr next ↦ unanswered (calls_of is.stream.run.log) is.stream.run.node next.1.0 same next.1.2
+      ])
+  session-counts outside failed Done (inr (inr is)) = absurd is.left
+  session-counts outside failed Refused (inr (inr is)) = absurd is.left
+  session-counts outside failed Usage (inr (inr is)) = absurd is.left
+  session-counts outside failed BadLineStatus (inr (inr is)) = absurd is.left
+  session-counts outside failed ReadFaultStatus (inr (inr is)) = absurd is.left
+  session-counts outside failed DeviceFault (inr (inr is)) = absurd is.left
+  session-counts outside failed TooLongStatus (inr (inr is)) = absurd is.left
+  session-counts outside failed NotJournal (inr (inr is)) = absurd is.left
+  session-counts outside failed AlreadyMade (inr (inr is)) = absurd is.left
+
+-- ---- what was refused
+
+refused-counts : (Met : Bool → Type 0) (why : JournalRefusal) (status : Status) {before after : Option (List ℕ)}
+    → EndsAs (refused_output why) status before after ⊥ → Met (is_device_fault why) → FaultsBy status Met
+refused-counts Met JournalFault status ends met = one-met Met [] status ends met
+refused-counts Met (JournalPlace place) status ends met =
+    none-met Met status (other-status (refused_output (JournalPlace place)) status (λ is. cc (is)) ends) met
+refused-counts Met (JournalMade count) status ends met =
+    none-met Met status (other-status (refused_output (JournalMade count)) status (λ is. cc (is)) ends) met
+refused-counts Met (JournalLong count) status ends met =
+    none-met Met status (other-status (refused_output (JournalLong count)) status (λ is. cc (is)) ends) met
+refused-counts Met JournalClosed status ends met =
+    none-met Met status (other-status (refused_output JournalClosed) status (λ is. cc (is)) ends) met
+refused-counts Met JournalNoMemory status ends met =
+    none-met Met status (other-status (refused_output JournalNoMemory) status (λ is. cc (is)) ends) met
+
+init-counts : (Met : Bool → Type 0) (answer : Result Unit InitRefusal) (status : Status)
+    {before after : Option (List ℕ)} → EndsAs (init_output answer) status before after ⊥ → Met (is_init_fault answer)
+    → FaultsBy status Met
+init-counts Met (Ok done) status ends met =
+    none-met Met status (other-status (init_output (Ok done)) status (λ is. cc (is)) ends) met
+init-counts Met (Err InitFault) status ends met = one-met Met [] status ends met
+init-counts Met (Err (InitMade count)) status ends met =
+    none-met Met status (other-status (init_output (Err (InitMade count))) status (λ is. cc (is)) ends) met
+init-counts Met (Err InitNoMemory) status ends met =
+    none-met Met status (other-status (init_output (Err InitNoMemory)) status (λ is. cc (is)) ends) met
+
+-- ---- what a command keeps
+
+notes-keep : (at : NotesAt) (added : Option (List ℕ)) → (with_note at added).faults ≡ at.faults
+notes-keep at None = refl
+notes-keep at (Some body) = refl
+
+both : WalletAt → ℕ × ℕ
+both at = (at.notes.faults, at.leaves.faults)
+
+either-keep : (at : WalletAt) (leaf added : Option (List ℕ)) → both (with_either at leaf added) ≡ both at
+unfolding both
+either-keep at None added = ap (λ (n : ℕ). (n, at.leaves.faults)) (notes-keep at.notes added)
+either-keep at (Some leaf) added = refl
+
+left-keep : {A M : Type 0} (part : A → M) (next left : A) (says : Result (List ℕ) (List ℕ)) (text : List ℕ)
+    → left_with next says ≡ Ok (left, text) → part left ≡ part next
+left-keep part next left (Ok answer) text is = (let same : next ≡ left = cc (is) in ap part (sym same))
+left-keep part next left (Err cause) text is = absurd (cc (is))
+
+-- ---- over disks that count their faults
+
+module _ {D : Type 0} (told : D → Option History) (faults : D → ℕ) where
+  failed-counts : (added : Option (List ℕ)) (at : NotesAt) (disk : D) → Failed told faults added at disk
+      → faults disk ≡ faults_after at.faults true
+  failed-counts None at disk never = absurd never
+  failed-counts (Some body) at disk is = is.faults_are
+
+  module _ (notes leaves new_notes new_leaves : D) where
+    notes-met : (fault : Bool) → Counts faults notes new_notes fault → Counts faults leaves new_leaves false
+        → CountsEither faults notes leaves new_notes new_leaves fault
+    notes-met true met none = inl (met, none)
+    notes-met false met none = (met, none)
+
+    leaves-met : (fault : Bool) → Counts faults notes new_notes false → Counts faults leaves new_leaves fault
+        → CountsEither faults notes leaves new_notes new_leaves fault
+    leaves-met true none met = inr (none, met)
+    leaves-met false none met = (none, met)
+
+-- ---- a node over one disk
+
+module _ {D : Type 0} (told : D → Option History) (plan : D → Option FaultPlan) (faults : D → ℕ)
+    (dig : List ℕ → List ℕ) where
+  notes-count : {L : Type 0} (read : List ℕ → Result (List (List ℕ)) ℕ) (tag : List (List ℕ) → List ℕ)
+      (command_in : List ℕ → Option L)
+      (outcome : (List ℕ → List ℕ) → List RootCall → List (List ℕ) → L → Outcome)
+      (old new : D) (outside : Outside) (failed : Type 0) (status : Status)
+      → RunsNotes told plan faults dig read tag command_in outcome old new outside failed status
+      → FaultsBy status (Counts faults old new)
+  notes-count read tag command_in outcome old new outside failed status (inl (opened, opens, runs)) =
+      session-counts (tag opened.records) command_in
+      (λ log at line. notes_do at (outcome at.dig log at.kept.records line))
+      (λ (at : NodeAt NotesAt). at.kept.faults)
+      (λ log at line left text is.
+      left-keep (λ (a : NodeAt NotesAt). a.kept.faults) _ left (outcome at.dig log at.kept.records line).says text is
+      ∙ notes-keep at.kept (outcome at.dig log at.kept.records line).note)
+      _ _ _ _ (Counts faults old new)
+      (λ at same keeps. keeps.faults_are ∙ same ∙ opens.count)
+      (λ log at line same is.
+      failed-counts told faults (outcome at.dig log at.kept.records line).note at.kept new is
+      ∙ ap (λ n. faults_after n true) (same ∙ opens.count))
+      (λ log at line same keeps.
+      keeps.faults_are ∙ notes-keep at.kept (outcome at.dig log at.kept.records line).note ∙ same ∙ opens.count)
+      outside failed status runs
+  notes-count read tag command_in outcome old new outside failed status (inr (why, refuses, refused)) =
+      refused-counts (Counts faults old new) why status refused.ends refuses.count
+
+  pub watcher-counts : (old new : D) (outside : Outside) (failed : Type 0) (status : Status)
+      → RunsWatcher told plan faults dig old new outside failed status → FaultsBy status (Counts faults old new)
+  unfolding RunsWatcher
+  watcher-counts old new outside failed status runs = notes-count _ _ _ _ old new outside failed status runs
+
+  pub operator-counts : (old new : D) (outside : Outside) (failed : Type 0) (status : Status)
+      → RunsOperator told plan faults dig old new outside failed status → FaultsBy status (Counts faults old new)
+  unfolding RunsOperator
+  operator-counts old new outside failed status runs = notes-count _ _ _ _ old new outside failed status runs
+
+  -- ---- a wallet
+
+  module _ (notes leaves new_notes new_leaves : D) where
+    either-counts : (leaf added : Option (List ℕ)) (at : WalletAt) → at.notes.faults ≡ faults notes
+        → at.leaves.faults ≡ faults leaves → EitherFailed told faults leaf added at new_notes new_leaves
+        → CountsEither faults notes leaves new_notes new_leaves true
+    either-counts None added at of_notes of_leaves is = inl (
+      failed-counts told faults added at.notes new_notes is.0 ∙ ap (λ n. faults_after n true) of_notes,
+      is.1.faults_are ∙ of_leaves,
+    )
+    either-counts (Some leaf) added at of_notes of_leaves is = inr (
+      is.1.faults_are ∙ of_notes,
+      is.0.faults_are ∙ ap (λ n. faults_after n true) of_leaves,
+    )
+
+    unbound-none : (bodies : List LeafRecord) (records : List (List ℕ)) (why : JournalRefusal)
+        → IsUnbound dig bodies records why → is_device_fault why ≡ false
+    unbound-none bodies records (JournalPlace place) is = refl
+    unbound-none bodies records JournalNoMemory is = refl
+    unbound-none bodies records JournalFault never = absurd never
+    unbound-none bodies records (JournalMade count) never = absurd never
+    unbound-none bodies records (JournalLong count) never = absurd never
+    unbound-none bodies records JournalClosed never = absurd never
+
+    refused-met : (why : JournalRefusal)
+        → RefusesWallet told plan faults dig notes leaves why new_notes new_leaves
+        → CountsEither faults notes leaves new_notes new_leaves (is_device_fault why)
+    refused-met why (inl (refuses, same)) =
+        notes-met told faults notes leaves new_notes new_leaves (is_device_fault why) refuses.count (ap faults same)
+    refused-met why (inr (opened, opens, (same, inl refuses))) =
+        leaves-met told faults notes leaves new_notes new_leaves (is_device_fault why)
+        (ap faults same ∙ opens.count) refuses.count
+    refused-met why (inr (opened, opens, (same, inr (behind, opens_leaves, at, unbound)))) =
+        subst (CountsEither faults notes leaves new_notes new_leaves) (sym (unbound-none _ _ why unbound))
+        (ap faults same ∙ opens.count, ap faults at ∙ opens_leaves.count)
+
+    pub wallet-counts : (outside : Outside) (failed : Type 0) (status : Status)
+        → RunsWallet told plan faults dig notes leaves new_notes new_leaves outside failed status
+        → FaultsBy status (CountsEither faults notes leaves new_notes new_leaves)
+    unfolding RunsWallet both
+    wallet-counts outside failed status (inl (opened, opens, runs)) =
+        session-counts (wallet_is opened.records).tag wallet_line_in wallet_does
+        (λ (at : NodeAt WalletAt). both at.kept)
+        (λ log at line left text is.
+        left-keep (λ (a : NodeAt WalletAt). both a.kept) _ left
+        (wallet_outcome at.dig log (records_of at.kept) line).says text is
+        ∙ either-keep at.kept (wallet_outcome at.dig log (records_of at.kept) line).leaf
+        (wallet_outcome at.dig log (records_of at.kept) line).note)
+        _ _ _ _ (CountsEither faults notes leaves new_notes new_leaves)
+        (λ at same keeps. (
+          keeps.of_notes.faults_are ∙ ap (λ (b : ℕ × ℕ). b.0) same ∙ opens.opens_notes.count,
+          keeps.of_leaves.faults_are ∙ ap (λ (b : ℕ × ℕ). b.1) same ∙ opens.opens_leaves.count,
+        ))
+        (λ log at line same is.
+        either-counts (wallet_outcome at.dig log (records_of at.kept) line).leaf
+        (wallet_outcome at.dig log (records_of at.kept) line).note at.kept
+        (ap (λ (b : ℕ × ℕ). b.0) same ∙ opens.opens_notes.count)
+        (ap (λ (b : ℕ × ℕ). b.1) same ∙ opens.opens_leaves.count) is)
+        (λ log at line same keeps.
+        let more = either-keep at.kept (wallet_outcome at.dig log (records_of at.kept) line).leaf
+        (wallet_outcome at.dig log (records_of at.kept) line).note in (
+          keeps.of_notes.faults_are ∙ ap (λ (b : ℕ × ℕ). b.0) (more ∙ same) ∙ opens.opens_notes.count,
+          keeps.of_leaves.faults_are ∙ ap (λ (b : ℕ × ℕ). b.1) (more ∙ same) ∙ opens.opens_leaves.count,
+        ))
+        outside failed status runs
+    wallet-counts outside failed status (inr (why, refuses, refused)) =
+        refused-counts (CountsEither faults notes leaves new_notes new_leaves) why status refused.ends
+        (refused-met why refuses)
+
+-- ---- inits
+
+module _ {D : Type 0} (told : D → Option History) (plan : D → Option FaultPlan) (faults : D → ℕ)
+    (taken after : Option (List ℕ)) (status : Status) (identity : List ℕ) where
+  pub inits-count : (old new : D) → InitsNotes told plan faults taken after status identity old new
+      → FaultsBy status (Counts faults old new)
+  inits-count old new is = init-counts (Counts faults old new) is.answer status is.ends is.count
+
+  pair-met : (notes leaves new_notes new_leaves : D) (answer : Result Unit InitRefusal)
+      → BeginsPair told plan faults told plan faults identity notes leaves answer new_notes new_leaves
+      → CountsEither faults notes leaves new_notes new_leaves (is_init_fault answer)
+  pair-met notes leaves new_notes new_leaves (Ok done) (asked, asks, passes) =
+      (passes.0.count ∙ asks.count, passes.1.count)
+  pair-met notes leaves new_notes new_leaves (Err InitFault) (inl (untold, same)) = inl (untold.1, ap faults same)
+  pair-met notes leaves new_notes new_leaves (Err InitNoMemory) (inl (untold, same)) =
+      (ap faults untold, ap faults same)
+  pair-met notes leaves new_notes new_leaves (Err (InitMade count)) (inl (never, same)) = absurd never
+  pair-met notes leaves new_notes new_leaves (Err why) (inr (asked, asks, inl (long, inl (refuses, same)))) =
+      notes-met told faults notes leaves new_notes new_leaves (is_init_fault {Unit} (Err why))
+      (refuses.count ∙ ap (λ n. faults_after n (is_init_fault {Unit} (Err why))) asks.count) (ap faults same)
+  pair-met notes leaves new_notes new_leaves (Err why) (inr (asked, asks, inl (long, inr (inl (passes, refuses))))) =
+      leaves-met told faults notes leaves new_notes new_leaves (is_init_fault {Unit} (Err why))
+      (passes.count ∙ asks.count) refuses.count
+  pair-met notes leaves new_notes new_leaves (Err why) (inr (asked, asks, inl (long, inr (inr (stops, passes))))) =
+      notes-met told faults notes leaves new_notes new_leaves (is_init_fault {Unit} (Err why))
+      (stops.count ∙ ap (λ n. faults_after n (is_init_fault {Unit} (Err why))) asks.count) passes.count
+  pair-met notes leaves new_notes new_leaves (Err why) (inr (asked, asks, inr (short, inl (same, refuses)))) =
+      leaves-met told faults notes leaves new_notes new_leaves (is_init_fault {Unit} (Err why))
+      (ap faults same ∙ asks.count) refuses.count
+  pair-met notes leaves new_notes new_leaves (Err why) (inr (asked, asks, inr (short, inr (stops, passes)))) =
+      notes-met told faults notes leaves new_notes new_leaves (is_init_fault {Unit} (Err why))
+      (stops.count ∙ ap (λ n. faults_after n (is_init_fault {Unit} (Err why))) asks.count) passes.count
+
+  pub inits-count-either : (notes leaves new_notes new_leaves : D)
+      → InitsWallet told plan faults taken after status identity notes leaves new_notes new_leaves
+      → FaultsBy status (CountsEither faults notes leaves new_notes new_leaves)
+  inits-count-either notes leaves new_notes new_leaves is =
+      init-counts (CountsEither faults notes leaves new_notes new_leaves) is.answer status is.ends
+      (pair-met notes leaves new_notes new_leaves is.answer is.inits)
