@@ -4,7 +4,7 @@ use Rattle.std.specs.Prelude.{◌≢◌}
 use Rattle.std.specs.List.{concat}
 use Rattle.std.proofs.lemmas.Bool.{eqb-true, true≢false}
 use Rattle.std.proofs.lemmas.List.{append-nil}
-use Rattle.replay_run.specs.Lines.{lines_in, before_lines, EndsWithItsFeed}
+use Rattle.streamed_lines.specs.Lines.{lines_in, before_lines, EndsWithItsFeed}
 use Rattle.replay_run.specs.Laws.{IsUnfinished, AreLines, LinesAreTheBytes, LinesAreOneCut}
 use Rattle.replay_run.proofs.LineLaws.{no-feed, plain-nil, some-bytes, lines_in-feed, lines_in-unfinished}
 

@@ -1,12 +1,10 @@
 mod LineLaws
 mod ReplayLaws
-mod StopLaws
-mod ReadLaws
-mod OutsideLaws
-mod GoingLaws
-mod RunLaws
-mod CutLaws
 mod EndingLaws
-mod Promises
+mod AnswerLaws
+mod OutsideLaws
+mod RunLaws
 mod BriefLaws
+mod CutLaws
 mod RuleLaws
+mod Promises

@@ -23,7 +23,7 @@ use Rattle.world_rules.proofs.ByteTexts.{small-sha256}
 use Rattle.world_laws.specs.Headline.{IsRun}
 use Rattle.world_laws.proofs.Promises.{held_coins_are_safe, lost_is_shown}
 use Rattle.world_laws.proofs.SignedRuns.{leaves_sign_one_message}
-use Rattle.replay_run.specs.Lines.{lines_in, text_of}
+use Rattle.streamed_lines.specs.Lines.{lines_in, text_of}
 use Rattle.replay_run.specs.Replays.{replay_of}
 use Rattle.replay_run.specs.Laws.{lines_spelled}
 use Rattle.replay_run.specs.Headline.{KeepsCoins, KeepsThePromise, ReplaysKeepThePromise}

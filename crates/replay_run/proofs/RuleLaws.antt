@@ -6,9 +6,10 @@ use Rattle.schedule_text.specs.declared.line.Line.{Line}
 use Rattle.schedule_text.specs.Grammar.{line_in}
 use Rattle.world_rules.specs.Steps.{run_of}
 use Rattle.world_core.specs.Lines.{is_full, WouldFill}
-use Rattle.replay_run.specs.declared.reply.Ending.{Ending}
-use Rattle.replay_run.specs.declared.reply.Ending.TheVariants.{Complete, BadLine, ReadFault, TooLong}
-use Rattle.replay_run.specs.Lines.{lines_in, text_of, is_too_long}
+use Rattle.streamed_lines.specs.declared.ending.Ending.{Ending}
+use Rattle.streamed_lines.specs.declared.ending.Ending.TheVariants.{Complete, BadLine, ReadFault, TooLong, Ended}
+use Rattle.streamed_lines.specs.Lines.{lines_in, text_of, is_too_long}
+use Rattle.replay_run.specs.declared.ending.NoCause.{NoCause}
 use Rattle.replay_run.specs.Replays.{replay_of}
 use Rattle.replay_run.specs.Endings.{IsAnswered, EndsAt, EndsBy, KeepTheRules, LinesThatKeepTheRulesAreAnswered}
 use Rattle.replay_run.proofs.EndingLaws.{endings-have_causes}
@@ -37,7 +38,7 @@ module _ (dig : List ℕ → List ℕ) (earlier : List Line) (line : List ℕ) (
       true≢false (sym full.2 ∙ ap is_full same ∙ answered.fits)
 
   -- it ends no replay
-  ends-none : (n start : ℕ) (ending : Ending) → is_too_long n start line ≡ false
+  ends-none : (n start : ℕ) (ending : Ending NoCause) → is_too_long n start line ≡ false
       → EndsAt dig earlier true n start line ending → ⊥
   ends-none n start Complete fits never = never
   ends-none n start ReadFault fits at = true≢false at.1
@@ -51,10 +52,11 @@ module _ (dig : List ℕ → List ℕ) (earlier : List Line) (line : List ℕ) (
         | inl none ↦ some-none (line_in (text_of line)) spelled answered.spells none
         | inr bad ↦ some-none (run_of dig (bad.0 ∷ earlier)) answered.run (ran-as bad.0 bad.1) bad.2
       ]
+  ends-none n start (Ended m cause) fits never = never
 
 ends-complete : (dig : List ℕ → List ℕ) (earlier : List Line) (n start : ℕ) (lines : List (List ℕ)) (more : ℕ)
-    (ending : Ending) → KeepTheRules dig earlier n start lines → EndsBy dig true earlier n start lines more ending
-    → ending ≡ Complete
+    (ending : Ending NoCause) → KeepTheRules dig earlier n start lines
+    → EndsBy dig true earlier n start lines more ending → ending ≡ Complete
 unfolding KeepTheRules EndsBy
 ends-complete dig earlier n start [] zero ending kept ends = ends
 ends-complete dig earlier n start [] (suc more) ending kept never = absurd never

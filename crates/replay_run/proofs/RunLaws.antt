@@ -1,98 +1,81 @@
 -- How a whole run ends.
-use Rattle.std.proofs.Common.{◌≡◌, ℕ, inl, inr, Bool, true, false, List, [], ◌++◌, Option, Some, None, Result, Ok, Err, refl, sym, ap, ◌∙◌, subst, append_assoc}
-use Rattle.std.specs.Prelude.{◌≢◌, IsErr}
+use Rattle.std.proofs.Common.{◌≡◌, ℕ, inl, inr, Bool, true, List, ◌++◌, Option, Result, Ok, Err, sym, ap, ◌∙◌, subst, append_assoc}
+use Rattle.std.specs.Prelude.{IsErr}
 use Rattle.std.proofs.lemmas.Bool.{false≢true}
-use Rattle.std.proofs.lemmas.List.{append-nil}
 use Rattle.plasma_outside.specs.declared.sink.SinkRefusal.{SinkRefusal}
 use Rattle.plasma_outside.specs.declared.sink.SinkRefusal.TheVariants.{Failed, NoMemory as WantsMemory}
-use Rattle.world_rules.specs.Steps.{Run}
 use Rattle.world_core.specs.Worlds.{WorldState}
-use Rattle.replay_run.specs.declared.reply.Ending.{Ending}
-use Rattle.replay_run.specs.declared.reply.Ending.TheVariants.{Complete, BadLine, ReadFault, TooLong}
+use Rattle.streamed_lines.specs.declared.ending.Ending.{Ending}
+use Rattle.streamed_lines.specs.declared.ending.Ending.TheVariants.{Complete, BadLine, ReadFault, TooLong, Ended}
 use Rattle.run_endings.specs.declared.status.Status.{Status}
 use Rattle.run_endings.specs.declared.status.Status.TheVariants.{ReadFault as ReadFaultStatus}
-use Rattle.replay_run.specs.Replays.{Replay as ReplayOf, replay_of}
+use Rattle.replay_run.specs.Replays.{JudgedRun, Replay as ReplayOf, replay_of}
 use Rattle.replay_run.specs.Text.{answers_text, closing_text, last_text}
 use Rattle.run_endings.specs.Statuses.{status_of_refusal}
 use Rattle.run_endings.specs.Outputs.{Output}
 use Rattle.replay_run.specs.Output.{status_of, status_of_replay, replay_output}
-use Rattle.replay_run.specs.Bounds.{TakesFew, TakesFewBy, FewBy}
-use Rattle.streamed_lines.specs.Outside.{Wrote, WroteFront, ReadsToFault}
-use Rattle.run_endings.specs.Statuses.{ReadsBy}
+use Rattle.replay_run.specs.Bounds.{TakesFewBy, FewBy}
+use Rattle.streamed_lines.specs.Bounds.{TakesFew}
+use Rattle.streamed_lines.specs.Outside.{Wrote, WroteFront}
+use Rattle.streamed_lines.specs.Reading.{is_read_fault}
 use Rattle.run_endings.specs.Outputs.{Stops, EndsAs}
 use Rattle.replay_run.specs.Runs.{RanOver}
-use Rattle.replay_run.specs.Reading.{is_read_fault, Ran, Reads, Answers, StopsEarly}
+use Rattle.replay_run.specs.declared.ending.NoCause.{NoCause}
+use Rattle.replay_run.specs.Reading.{Ran, Answers, StopsEarly}
 use Rattle.streamed_lines.proofs.OutsideLaws.{wrote-more}
 use Rattle.run_endings.proofs.EndingLaws.{ends-whole, ends-stopped}
 use Rattle.replay_run.proofs.OutsideLaws.{front-more, front-none}
 
 -- a reading's faults, in the words of a run's status
 module _ (Reads : Bool → Type 0) where
-  pub failed-of : (ending : Ending) → Reads (is_read_fault (Ok ending)) → status_of ending ≡ ReadFaultStatus
+  pub failed-of : (ending : Ending NoCause) → Reads (is_read_fault (Ok ending)) → status_of ending ≡ ReadFaultStatus
       → Reads true
   failed-of Complete reads wrong = absurd (cc)
   failed-of (BadLine n) reads wrong = absurd (cc)
   failed-of ReadFault reads is = reads
   failed-of (TooLong n) reads wrong = absurd (cc)
+  failed-of (Ended n cause) reads wrong = elim cause [ ]
 
-pub few-by : (ending : Ending) (bytes : List ℕ) → TakesFew bytes ending → TakesFewBy (status_of ending) bytes ending
+pub few-by : (ending : Ending NoCause) (bytes : List ℕ) → TakesFew bytes ending
+    → TakesFewBy (status_of ending) bytes ending
 few-by Complete bytes few = tt
 few-by (BadLine n) bytes few = few
 few-by ReadFault bytes few = tt
 few-by (TooLong n) bytes few = few
+few-by (Ended n cause) bytes few = elim cause [ ]
 
-pub few-stopped : (refusal : SinkRefusal) (bytes : List ℕ) (ending : Ending)
+pub few-stopped : (refusal : SinkRefusal) (bytes : List ℕ) (ending : Ending NoCause)
     → TakesFewBy (status_of_refusal refusal) bytes ending
 few-stopped Failed bytes ending = tt
 few-stopped WantsMemory bytes ending = tt
 
--- under the digest that a world keeps
-pub answers-under : {H : Type 0} (left later taken after : Option (List ℕ)) (d dig : List ℕ → List ℕ) (text : List ℕ)
-    (ending : Ending) (world : WorldState H) → d ≡ dig → Answers left later taken after d text ending world
-    → Answers left later taken after dig text ending world
-answers-under left later taken after d dig text ending world same answers =
-    subst (λ (e : List ℕ → List ℕ). Answers left later taken after e text ending world) same answers
-
-pub stops-under : (left later taken after : Option (List ℕ)) (d dig : List ℕ → List ℕ) → d ≡ dig
-    → StopsEarly left later taken after d → StopsEarly left later taken after dig
-stops-under left later taken after d dig same stops =
-    subst (λ (e : List ℕ → List ℕ). StopsEarly left later taken after e) same stops
-
 -- a replay whose lines were all answered, up to what ended it
-module _ {H : Type 0} (left later taken after : Option (List ℕ)) (dig : List ℕ → List ℕ) (text : List ℕ)
-    (ending : Ending) (world : WorldState H) (Failed_ : Bool → Type 0)
-    (answers : Answers left later taken after dig text ending world)
+module _ {H : Type 0} (left later taken after : Option (List ℕ)) (digest_of : H → List ℕ → List ℕ)
+    (dig : List ℕ → List ℕ) (text : List ℕ) (ending : Ending NoCause) (world : WorldState H) (Failed_ : Bool → Type 0)
+    (answers : Answers left later taken after digest_of dig text ending world)
     (reads : Failed_ (is_read_fault (Ok ending))) where
-  -- the run that it left
-  abbrev pub run_left : Run
-  run_left = answers.finishes.ends.run
+  -- what stands behind the answers
+  abbrev last_of : List ℕ
+  last_of = last_text (closing_text dig answers.run) ending
 
-  output-is : replay_output dig answers.bytes answers.ended ≡ record {
-    status = status_of ending;
-    answers = answers.put ++ text;
-    last = last_text (closing_text dig run_left) ending;
-  }
+  abbrev whole : Output
+  whole = record { status = status_of ending; answers = answers.put ++ text; last = last_of }
+
+  output-is : replay_output dig answers.bytes answers.ended ≡ whole
   output-is =
-      let ends = answers.finishes.ends in
       ap (λ (r : ReplayOf). record {
         status = status_of r.ending;
         answers = answers_text r;
         last = last_text (closing_text dig r.run) r.ending;
-      }) ends.replays
-      ∙ ap (λ t. record {
-        status = status_of ending;
-        answers = t;
-        last = last_text (closing_text dig run_left) ending;
-      }) (sym ends.told)
+      }) answers.replays
+      ∙ ap (λ t. record { status = status_of ending; answers = t; last = last_of }) (sym answers.told)
 
   -- the text that was gathered, with the lines behind the answers
-  pub told-last : (d : List ℕ → List ℕ) (all : List ℕ) → (ending ≡ Complete → d ≡ dig)
-      → ((e : List ℕ → List ℕ) (run : Run) → (ending ≡ Complete → (e ≡ d) × Ran e run world)
-      → all ≡ text ++ last_text (closing_text e run) ending)
-      → all ≡ text ++ last_text (closing_text dig run_left) ending
-  told-last d all same told = told dig run_left (λ is. (sym (same is), answers.finishes.ran is))
+  pub told-last : (all : List ℕ) → ((run : JudgedRun) → (ending ≡ Complete → Ran digest_of world run)
+      → all ≡ text ++ last_text (closing_text run.digest run.run) ending) → all ≡ text ++ last_of
+  told-last all told = told (record { digest = dig; run = answers.run }) answers.ran
 
-  pub ran-whole : (last : Option (List ℕ)) → Wrote after last (text ++ last_text (closing_text dig run_left) ending)
+  pub ran-whole : (last : Option (List ℕ)) → Wrote after last (text ++ last_of)
       → RanOver (replay_output dig) (FewBy dig) left later taken last (Failed_ true) (status_of ending)
   ran-whole last wrote = record {
     bytes = answers.bytes;
@@ -100,18 +83,15 @@ module _ {H : Type 0} (left later taken after : Option (List ℕ)) (dig : List �
     gave = answers.gave;
     ends =
         subst (λ o. EndsAs o (status_of ending) taken last (Failed_ true)) (sym output-is)
-        (ends-whole
-        (record { status = status_of ending; answers = answers.put ++ text; last = last_text (closing_text dig run_left) ending })
-        taken last (Failed_ true) (failed-of Failed_ ending reads)
-        (subst (Wrote taken last) (sym (append_assoc answers.put text (last_text (closing_text dig run_left) ending)))
-        (wrote-more taken after last answers.put (text ++ last_text (closing_text dig run_left) ending) answers.wrote wrote)));
+        (ends-whole whole taken last (Failed_ true) (failed-of Failed_ ending reads)
+        (subst (Wrote taken last) (sym (append_assoc answers.put text last_of))
+        (wrote-more taken after last answers.put (text ++ last_of) answers.wrote wrote)));
     few =
         subst (λ (r : ReplayOf). TakesFewBy (status_of ending) answers.bytes r.ending)
-        (sym answers.finishes.ends.replays) (few-by ending answers.bytes answers.finishes.ends.few);
+        (sym answers.replays) (few-by ending answers.bytes answers.few);
   }
 
-  pub ran-part : (last : Option (List ℕ)) (refusal : SinkRefusal)
-      → WroteFront after last (text ++ last_text (closing_text dig run_left) ending)
+  pub ran-part : (last : Option (List ℕ)) (refusal : SinkRefusal) → WroteFront after last (text ++ last_of)
       → RanOver (replay_output dig) (FewBy dig) left later taken last (Failed_ true) (status_of_refusal refusal)
   ran-part last refusal front = record {
     bytes = answers.bytes;
@@ -119,15 +99,11 @@ module _ {H : Type 0} (left later taken after : Option (List ℕ)) (dig : List �
     gave = answers.gave;
     ends =
         subst (λ o. EndsAs o (status_of_refusal refusal) taken last (Failed_ true)) (sym output-is)
-        (ends-stopped refusal
-        (record { status = status_of ending; answers = answers.put ++ text; last = last_text (closing_text dig run_left) ending })
-        taken last (Failed_ true)
+        (ends-stopped refusal whole taken last (Failed_ true)
         (record {
           front =
-              subst (WroteFront taken last)
-              (ap (λ t. answers.put ++ t) (append-nil (text ++ last_text (closing_text dig run_left) ending))
-              ∙ sym (append_assoc answers.put text (last_text (closing_text dig run_left) ending)))
-              (front-more taken after last answers.put (text ++ last_text (closing_text dig run_left) ending) [] answers.wrote front);
+              subst (WroteFront taken last) (sym (append_assoc answers.put text last_of))
+              (front-more taken after last answers.put (text ++ last_of) answers.wrote front);
           fault = λ is. inl (failed-of Failed_ ending reads is);
         }));
     few = few-stopped refusal answers.bytes (replay_of dig answers.bytes answers.ended).ending;
@@ -138,11 +114,11 @@ pub ran-early : (left later taken after : Option (List ℕ)) (dig : List ℕ →
     (refusal : SinkRefusal) → StopsEarly left later taken after dig
     → RanOver (replay_output dig) (FewBy dig) left later taken after failed (status_of_refusal refusal)
 ran-early left later taken after dig failed refusal stops =
-    let output = replay_output dig stops.bytes false in
+    let output = replay_output dig stops.bytes stops.ended in
     let front = stops.front in
     record {
       bytes = stops.bytes;
-      ended = false;
+      ended = stops.ended;
       gave = stops.gave;
       ends =
           ends-stopped refusal output taken after failed
@@ -156,12 +132,13 @@ ran-early left later taken after dig failed refusal stops =
             };
             fault = λ is. inr front;
           });
-      few = few-stopped refusal stops.bytes (replay_of dig stops.bytes false).ending;
+      few = few-stopped refusal stops.bytes (replay_of dig stops.bytes stops.ended).ending;
     }
 
 -- a replay that was stopped ends with an error
 pub by-error : (output : List ℕ → Bool → Output) (Few : Status → List ℕ → Bool → Type 0)
-    (left later taken after : Option (List ℕ)) (failed : Type 0) (result : Result Ending SinkRefusal) → IsErr result
+    (left later taken after : Option (List ℕ)) (failed : Type 0) (result : Result (Ending NoCause) SinkRefusal)
+    → IsErr result
     → ((refusal : SinkRefusal) → RanOver output Few left later taken after failed (status_of_refusal refusal))
     → RanOver output Few left later taken after failed (status_of_replay result)
 by-error output Few left later taken after failed (Ok ending) wrong each = absurd (false≢true wrong)

@@ -4,9 +4,10 @@ use Rattle.schedule_text.specs.declared.line.Line.{Line}
 use Rattle.schedule_text.specs.Grammar.{line_in}
 use Rattle.world_rules.specs.Steps.{Run, run_of}
 use Rattle.world_core.specs.Lines.{is_full, WouldFill}
-use Rattle.replay_run.specs.declared.reply.Ending.{Ending}
-use Rattle.replay_run.specs.declared.reply.Ending.TheVariants.{Complete, BadLine, ReadFault, TooLong}
-use Rattle.replay_run.specs.Lines.{lines_in, is_whole, text_of, is_too_long}
+use Rattle.streamed_lines.specs.declared.ending.Ending.{Ending}
+use Rattle.streamed_lines.specs.declared.ending.Ending.TheVariants.{Complete, BadLine, ReadFault, TooLong, Ended}
+use Rattle.streamed_lines.specs.Lines.{lines_in, is_whole, text_of, is_too_long}
+use Rattle.replay_run.specs.declared.ending.NoCause.{NoCause}
 use Rattle.replay_run.specs.Replays.{replay_of}
 
 -- line n, which begins after so many bytes, may be answered: it passes no limit, and its line feed was seen, or the
@@ -35,17 +36,18 @@ module _ (dig : List ℕ → List ℕ) (earlier : List Line) where
   Fills line = (spelled : Line) × (line_in (text_of line) ≡ Some spelled) × WouldFill dig earlier spelled
 
   -- line n, which begins after so many bytes, ends the replay so
-  abbrev pub EndsAt : Bool → ℕ → ℕ → List ℕ → Ending → Type 0
+  abbrev pub EndsAt : Bool → ℕ → ℕ → List ℕ → Ending NoCause → Type 0
   EndsAt ended n start line Complete = ⊥
   EndsAt ended n start line (TooLong m) =
       (m ≡ n) × ((is_too_long n start line ≡ true) ⊎ (MayBeAnswered ended n start line × Fills line))
   EndsAt ended n start line ReadFault =
       (is_too_long n start line ≡ false) × (ended ≡ false) × (is_whole line ≡ false)
   EndsAt ended n start line (BadLine m) = (m ≡ n) × MayBeAnswered ended n start line × IsBad line
+  EndsAt ended n start line (Ended m cause) = ⊥
 
 -- The lines from line n on end so after so many answered ones: each of these is answered, and the next one says how,
 -- or where there is none the end of the input does.
-unfoldable pub EndsBy : (List ℕ → List ℕ) → Bool → List Line → ℕ → ℕ → List (List ℕ) → ℕ → Ending → Type 0
+unfoldable pub EndsBy : (List ℕ → List ℕ) → Bool → List Line → ℕ → ℕ → List (List ℕ) → ℕ → Ending NoCause → Type 0
 EndsBy dig ended earlier n start [] zero ending = ending ≡ (if ended then Complete else ReadFault)
 EndsBy dig ended earlier n start [] (suc more) ending = ⊥
 EndsBy dig ended earlier n start (line ∷ lines) zero ending = EndsAt dig earlier ended n start line ending

@@ -4,7 +4,7 @@ use Rattle.std.specs.List.{concat, filter_map}
 use Rattle.schedule_text.specs.declared.line.Line.{Line}
 use Rattle.schedule_text.specs.Grammar.{line_in}
 use Rattle.world_rules.specs.Steps.{run_of}
-use Rattle.replay_run.specs.Lines.{lines_in, text_of, HasNoFeed, EndsWithItsFeed}
+use Rattle.streamed_lines.specs.Lines.{lines_in, text_of, HasNoFeed, EndsWithItsFeed}
 use Rattle.replay_run.specs.Replays.{replay_of}
 
 -- the last line, where no line feed ends it: it isn't empty

@@ -1,5 +1,4 @@
 pub mod Forms
-pub mod Lines
 pub mod Replays
 pub mod Text
 pub mod Bounds

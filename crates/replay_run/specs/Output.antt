@@ -5,9 +5,10 @@ use Rattle.run_endings.specs.declared.status.Status.TheVariants.{Done, Usage, Ba
 use Rattle.run_endings.specs.Statuses.{status_of_refusal}
 use Rattle.run_endings.specs.Outputs.{Output}
 use Rattle.plasma_outside.specs.declared.sink.SinkRefusal.{SinkRefusal}
-use Rattle.replay_run.specs.declared.reply.Ending.{Ending}
-use Rattle.replay_run.specs.declared.reply.Ending.TheVariants.{Complete, BadLine, ReadFault, TooLong}
+use Rattle.streamed_lines.specs.declared.ending.Ending.{Ending}
+use Rattle.streamed_lines.specs.declared.ending.Ending.TheVariants.{Complete, BadLine, ReadFault, TooLong, Ended}
 use Rattle.world_maker.specs.Generator.{made_text}
+use Rattle.replay_run.specs.declared.ending.NoCause.{NoCause}
 use Rattle.replay_run.specs.Replays.{replay_of}
 use Rattle.replay_run.specs.Text.{answers_text, closing_text, brief_text, last_text}
 
@@ -20,11 +21,12 @@ usage_output = record {
 }
 
 -- the status of what ended a replay
-abbrev pub status_of : Ending → Status
+abbrev pub status_of : Ending NoCause → Status
 status_of Complete = Done
 status_of (BadLine n) = BadLineStatus
 status_of ReadFault = ReadFaultStatus
 status_of (TooLong n) = TooLongStatus
+status_of (Ended n cause) = elim cause [ ]
 
 -- `replay` under a digest: the answers of the lines of the input that are run, and the status and the lines of what
 -- ended it
@@ -58,6 +60,6 @@ verify_output verified = record {
 }
 
 -- the status of a replay
-abbrev pub status_of_replay : Result Ending SinkRefusal → Status
+abbrev pub status_of_replay : Result (Ending NoCause) SinkRefusal → Status
 status_of_replay (Ok ending) = status_of ending
 status_of_replay (Err refusal) = status_of_refusal refusal

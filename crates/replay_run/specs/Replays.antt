@@ -1,56 +1,61 @@
 -- A replay: the lines of an input are run, up to what ends it.
-use Rattle.std.specs.Prelude.{ℕ, ◌+◌, ◌&&◌, not, Bool, if◌then◌else◌, List, [], ◌∷◌, length, Option, Some, None, Result, Ok, Err, option_and_then}
+use Rattle.std.specs.Prelude.{ℕ, ◌+◌, Bool, true, if◌then◌else◌, List, [], ◌∷◌, length, Option, Some, None, Result, Ok, Err, option_and_then}
 use Rattle.schedule_text.specs.Grammar.{line_in}
-use Rattle.world_rules.specs.Steps.{Run, no_lines, step_run}
+use Rattle.world_rules.specs.Steps.{TraceEntry, Run, no_lines, step_run}
+use Rattle.world_rules.specs.Texts.{trace_line_text}
 use Rattle.world_core.specs.Lines.{is_full}
-use Rattle.replay_run.specs.declared.reply.Ending.{Ending}
-use Rattle.replay_run.specs.declared.reply.Ending.TheVariants.{Complete, BadLine, ReadFault, TooLong}
-use Rattle.replay_run.specs.Lines.{lines_in, is_whole, text_of, is_too_long}
+use Rattle.streamed_lines.specs.declared.ending.Ending.{Ending}
+use Rattle.streamed_lines.specs.declared.ending.Stop.{Stop}
+use Rattle.streamed_lines.specs.declared.ending.Stop.TheVariants.{BadLine, TooLong}
+use Rattle.streamed_lines.specs.Streams.{Rules, Streamed, stream_of}
+use Rattle.replay_run.specs.declared.ending.NoCause.{NoCause}
+
+-- what lines come to: their run, and the digest that judges it, which no line changes
+pub record JudgedRun : Type 0 where
+  pub digest : List ℕ → List ℕ
+  pub run : Run
+
+-- before the first line
+abbrev pub begun : (List ℕ → List ℕ) → JudgedRun
+begun dig = record { digest = dig; run = no_lines }
+
+-- the text of the newest line of a trace
+abbrev pub newest_text : List TraceEntry → List ℕ
+newest_text [] = []
+newest_text (entry ∷ earlier) = trace_line_text (length earlier + 1) entry.done entry.reply
+
+-- what a line comes to: the run with it, and the text of its answer, or why it ends the replay
+abbrev pub Next : Type 0
+Next = Result (JudgedRun × List ℕ) (Stop NoCause)
+
+-- the run with a line, unless it has no step; a line that fills the mail passes a limit
+abbrev pub fitting : JudgedRun → Next
+fitting judged = if is_full judged.run then Err TooLong else Ok (judged, newest_text judged.run.entries)
+
+abbrev pub run_or : (List ℕ → List ℕ) → Option Run → Next
+run_or dig None = Err BadLine
+run_or dig (Some run) = fitting (record { digest = dig; run = run })
+
+-- under a digest, the run with the line that these bytes spell, if they spell one that keeps the rules
+abbrev pub text_run : (List ℕ → List ℕ) → Run → List ℕ → Option Run
+text_run dig run text = option_and_then (λ line. step_run dig line run) (line_in text)
+
+-- the rules of a replay: each line takes its step, and an input may end behind any
+abbrev pub replay_rules : Rules JudgedRun NoCause
+replay_rules = record {
+  next = λ judged text. run_or judged.digest (text_run judged.digest judged.run text);
+  may_end = λ judged. true;
+}
 
 -- the run of the answered lines, and what ended the replay
 pub record Replay : Type 0 where
   pub run : Run
-  pub ending : Ending
+  pub ending : Ending NoCause
 
--- the number of the line behind those of a run
-abbrev pub next_number : Run → ℕ
-next_number run = length run.entries + 1
+-- the replay that a stream of lines is
+abbrev pub replay_in : Streamed JudgedRun NoCause → Replay
+replay_in streamed = record { run = streamed.stream.run.run; ending = streamed.ending }
 
--- the run with line n, unless it has no step; a line that fills the mail passes a limit
-abbrev pub fitting : ℕ → Run → Result Run Ending
-fitting n run = if is_full run then Err (TooLong n) else Ok run
-
-abbrev pub run_or : ℕ → Option Run → Result Run Ending
-run_or n None = Err (BadLine n)
-run_or n (Some run) = fitting n run
-
--- under a digest
-module _ (dig : List ℕ → List ℕ) where
-  -- the run with the line that these bytes spell, if they spell one that keeps the rules
-  abbrev pub text_run : Run → List ℕ → Option Run
-  text_run run text = option_and_then (λ line. step_run dig line run) (line_in text)
-
-  -- What the next line does, which begins after so many bytes: it is run, or it ends the replay. `ended` says that
-  -- the input was read to its end; where it wasn't, a line without its line feed isn't answered.
-  unfoldable pub line_run : Bool → ℕ → Run → List ℕ → Result Run Ending
-  line_run ended start run line =
-      let n = next_number run in
-      if is_too_long n start line then Err (TooLong n)
-      else if not ended && not (is_whole line) then Err ReadFault
-      else run_or n (text_run run (text_of line))
-
-  -- a replay that ends so before a line, or goes on behind it
-  abbrev pub goes_on : Run → Result Run Ending → (Run → Replay) → Replay
-  goes_on run (Err ending) after = record { run = run; ending = ending }
-  goes_on run (Ok next) after = after next
-
-  -- the replay of these lines, behind a run that read so many bytes
-  unfoldable pub replay_from : Bool → ℕ → Run → List (List ℕ) → Replay
-  replay_from ended start run [] = record { run = run; ending = if ended then Complete else ReadFault }
-  replay_from ended start run (line ∷ lines) =
-      goes_on run (line_run ended start run line)
-      (λ next. replay_from ended (start + length line) next lines)
-
-  -- the replay of an input
-  unfoldable pub replay_of : List ℕ → Bool → Replay
-  replay_of bytes ended = replay_from ended 0 no_lines (lines_in bytes)
+-- the replay of an input under a digest
+unfoldable pub replay_of : (List ℕ → List ℕ) → List ℕ → Bool → Replay
+replay_of dig bytes ended = replay_in (stream_of replay_rules (begun dig) bytes ended)

@@ -6,8 +6,9 @@ use Rattle.world_rules.specs.Steps.{Run}
 use Rattle.world_rules.specs.Verdicts.{verdicts_of, counts_of, exhibit_of_run}
 use Rattle.world_rules.specs.Texts.{trace_line_text, entries_text, verdict_text, exhibit_text, counts_text}
 use Rattle.world_rules.specs.declared.reply.TraceLine.{TraceLine}
-use Rattle.replay_run.specs.declared.reply.Ending.{Ending}
-use Rattle.replay_run.specs.declared.reply.Ending.TheVariants.{Complete, BadLine, ReadFault, TooLong}
+use Rattle.streamed_lines.specs.declared.ending.Ending.{Ending}
+use Rattle.streamed_lines.specs.declared.ending.Ending.TheVariants.{Complete, BadLine, ReadFault, TooLong, Ended}
+use Rattle.replay_run.specs.declared.ending.NoCause.{NoCause}
 use Rattle.replay_run.specs.Replays.{Replay}
 
 -- a line that was answered
@@ -27,8 +28,9 @@ abbrev pub brief_text : (List ℕ → List ℕ) → Run → List ℕ
 brief_text dig run = counts_text (counts_of dig run) ++ exhibit_text (exhibit_of_run dig run)
 
 -- what stands behind the answers: this text, or what ended the run; 10 is the line feed
-unfoldable pub last_text : List ℕ → Ending → List ℕ
+unfoldable pub last_text : List ℕ → Ending NoCause → List ℕ
 last_text complete Complete = complete
 last_text complete (BadLine n) = phrase (codes "bad line") (n ∷ []) ++ 10 ∷ []
 last_text complete ReadFault = codes "read fault" ++ 10 ∷ []
 last_text complete (TooLong n) = phrase (codes "too long") (n ∷ []) ++ 10 ∷ []
+last_text complete (Ended n cause) = elim cause [ ]

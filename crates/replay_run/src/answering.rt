@@ -1,151 +1,160 @@
-ghost use Rattle.std.specs.Prelude.{◌≡◌, ◌≤◌, ◌+◌, ◌++◌, List, [], length, Some, IfOk, OnOk, OnErr, IfErr};
+ghost use Rattle.std.specs.Prelude.{◌≡◌, [], ℕ, List, Some, Ok, IfOk, OnOk, OnErr, IfErr, false};
+ghost use Rattle.plasma_base.specs.Causes.{faults_after};
+ghost use Rattle.plasma_outside.specs.Outside.{is_failed};
 ghost use Rattle.schedule_text.specs.declared.line.Line.{Line};
 ghost use Rattle.schedule_text.specs.Grammar.{IsLine, line_in};
-ghost use Rattle.world_rules.specs.Steps.{Run};
 ghost use Rattle.world_core.specs.Worlds.{NodesSpell, IsAfter};
 ghost use Rattle.world_core.specs.Lines.{IsStep};
-ghost use Rattle.replay_run.specs.Replays.{next_number};
+ghost use Rattle.streamed_lines.specs.Outside.{ReadsToFault};
+ghost use Rattle.streamed_lines.specs.Reading.{HaltsAt, is_read_fault};
+ghost use Rattle.replay_run.specs.Replays.{JudgedRun, begun, replay_rules};
 ghost use Rattle.replay_run.specs.Text.{told_text};
-ghost use Rattle.replay_run.specs.Reading.{Ran, GoesOn, Gathers, StopsAt, SpellsNone, HasNoStep};
+ghost use Rattle.replay_run.specs.Reading.{Ran, GoesOn, SpellsNone, HasNoStep, Answers, StopsEarly};
 
-use super::lines::{is_too_long, text_of};
-use super::reading::Reading;
-use super::reply::Stop;
-use super::{MOST_INPUT_BYTES, MOST_LINES};
+use super::ending::NoCause;
 use plasma_base::Hash32;
+use plasma_outside::{Sink, SinkRefusal, Source};
 use schedule_text::{Line, LineRefusal, read};
 use std::alloc::Global;
+use streamed_lines::{Answerer, Break, Ending, Halt, Stop, answer_lines};
 use world_core::{StepRefusal, World};
 use world_rules::TraceLine;
 use world_trace::print_line;
 
-// Reads the line that bytes spell.
-fn read_line(alloc: Global, number: u64, text: &[u8]) -> Result<Line, Stop>
-    ensures found { IfOk result (λ line. line_in text.now ≡ Some line) }
-    ensures grammar { IfOk result IsLine }
-    ensures bad { IfErr result (SpellsNone text.now number) }
-{
-    match read(alloc, text) {
-        Ok(line) => Ok(line),
-        Err(LineRefusal::BadLine) => Err(Stop::BadLine { line: number }),
-        Err(LineRefusal::NoMemory) => Err(Stop::NoMemory),
+/// What answers the lines of a schedule: the world that steps through them.
+#[derive(Drop)]
+pub struct Replayer<H: Hash32 + Copy> {
+    pub alloc: Global,
+    pub world: World<H>,
+}
+
+impl<H: Hash32 + Copy> Replayer<H> {
+    // What answers a schedule from its first line on, with openings judged by this digest.
+    fn new(alloc: Global, hash: H) -> Replayer<H>
+        ensures hash { result.world.hash ≡ hash }
+        ensures ran { Ran H.digest_of result.world (begun (H.digest_of result.world.hash)) }
+        ensures nodes { NodesSpell result.world }
+    {
+        Replayer {
+            alloc,
+            world: World::new_with(alloc, hash),
+        }
     }
 }
 
-// Takes the step of line `number`.
+// Reads the line that bytes spell.
+fn read_line(alloc: Global, text: &[u8]) -> Result<Line, Halt<NoCause>>
+    ensures found { IfOk result (λ line. line_in text.now ≡ Some line) }
+    ensures grammar { IfOk result IsLine }
+    ensures bad { IfErr result (SpellsNone text.now) }
+{
+    match read(alloc, text) {
+        Ok(line) => Ok(line),
+        Err(LineRefusal::BadLine) => Err(Halt::Stops {
+            stop: Stop::BadLine,
+        }),
+        Err(LineRefusal::NoMemory) => Err(Halt::NoMemory),
+    }
+}
+
+// Takes the step of a line.
 fn step_line<H: Hash32 + Copy>(
     world: &mut World<H>,
-    number: u64,
     line: &Line,
-) -> Result<TraceLine, Stop>
+) -> Result<TraceLine, Halt<NoCause>>
     requires grammar { IsLine line.now }
     requires nodes { NodesSpell world.old }
     ensures told { (lines : List Line) → IsAfter (H.digest_of world.old.hash) lines world.old
         → IfOk result (λ told. IsStep (H.digest_of world.old.hash) lines line.now told world.new) }
     ensures stops { (lines : List Line) → IsAfter (H.digest_of world.old.hash) lines world.old
-        → IfErr result (HasNoStep (H.digest_of world.old.hash) lines line.now number) }
+        → IfErr result (HasNoStep (H.digest_of world.old.hash) lines line.now) }
     ensures hash { OnOk result (world.new.hash ≡ world.old.hash) }
     ensures nodes { OnOk result (NodesSpell world.new) }
 {
     match world.step(line) {
         Ok(told) => Ok(told),
-        Err(StepRefusal::BadLine) => Err(Stop::BadLine { line: number }),
-        Err(StepRefusal::MailFull) => Err(Stop::TooLong { line: number }),
-        Err(StepRefusal::NoMemory) => Err(Stop::NoMemory),
+        Err(StepRefusal::BadLine) => Err(Halt::Stops {
+            stop: Stop::BadLine,
+        }),
+        Err(StepRefusal::MailFull) => Err(Halt::Stops {
+            stop: Stop::TooLong,
+        }),
+        Err(StepRefusal::NoMemory) => Err(Halt::NoMemory),
     }
 }
 
-// Answers line `number` of an input, which begins after `start` bytes of it.
-fn answer_line<H: Hash32 + Copy>(
+// Reads a line, and takes its step.
+fn take_line<H: Hash32 + Copy>(
     alloc: Global,
     world: &mut World<H>,
-    number: u64,
-    start: u64,
     line: &[u8],
-) -> Result<TraceLine, Stop>
-    requires start { start ≤ MOST_INPUT_BYTES }
+) -> Result<TraceLine, Halt<NoCause>>
     requires nodes { NodesSpell world.old }
-    ensures told { (run : Run) → Ran (H.digest_of world.old.hash) run world.old → number ≡ next_number run
-        → IfOk result (λ told. GoesOn (H.digest_of world.old.hash) start run line.now (told_text told) world.new) }
-    ensures stops { (run : Run) → Ran (H.digest_of world.old.hash) run world.old → number ≡ next_number run
-        → IfErr result (StopsAt (H.digest_of world.old.hash) start run line.now) }
-    ensures hash { OnOk result (world.new.hash ≡ world.old.hash) }
+    ensures told { (run : JudgedRun) → Ran H.digest_of world.old run
+        → IfOk result (λ told. GoesOn H.digest_of run line.now (told_text told) world.new) }
+    ensures halts { (run : JudgedRun) → Ran H.digest_of world.old run
+        → IfErr result (HaltsAt replay_rules run line.now) }
     ensures nodes { OnOk result (NodesSpell world.new) }
-    ensures lines { OnOk result (number ≤ MOST_LINES) }
-    ensures within { OnOk result (start + length line.now ≤ MOST_INPUT_BYTES) }
 {
-    if is_too_long(number, start, line) {
-        return Err(Stop::TooLong { line: number });
-    }
-    let read = read_line(alloc, number, text_of(line))?;
-    step_line(world, number, &read)
+    let read = read_line(alloc, line)?;
+    step_line(world, &read)
 }
 
-/// Answers a line into the text.
-pub fn answer_one<H: Hash32 + Copy>(
-    alloc: Global,
-    world: &mut World<H>,
-    reading: &mut Reading,
-    line: &[u8],
-    text: &mut Vec<u8>,
-) -> Result<(), Stop>
-    requires start { reading.old.start ≤ MOST_INPUT_BYTES }
-    requires nodes { NodesSpell world.old }
-    ensures told { (run : Run) → Ran (H.digest_of world.old.hash) run world.old
-        → reading.old.number ≡ next_number run
-        → OnOk result (Gathers (H.digest_of world.old.hash) reading.old.start run line.now
-        text.old.items text.new.items world.new) }
-    ensures stops { (run : Run) → Ran (H.digest_of world.old.hash) run world.old
-        → reading.old.number ≡ next_number run
-        → IfErr result (StopsAt (H.digest_of world.old.hash) reading.old.start run line.now) }
-    ensures untold { OnErr result (text.new.items ≡ text.old.items) }
-    ensures number { OnOk result (reading.new.number ≡ reading.old.number + 1) }
-    ensures lines { OnOk result (reading.old.number ≤ MOST_LINES) }
-    ensures start { OnOk result (reading.new.start ≡ reading.old.start + length line.now) }
-    ensures within { OnOk result (reading.new.start ≤ MOST_INPUT_BYTES) }
-    ensures line { reading.new.line ≡ reading.old.line }
-    ensures hash { OnOk result (world.new.hash ≡ world.old.hash) }
-    ensures nodes { OnOk result (NodesSpell world.new) }
-{
-    let told = answer_line(alloc, world, reading.number, reading.start, line)?;
-    print_line(&told, text)?;
-    reading.number += 1;
-    reading.start += line.len() as u64;
-    Ok(())
+impl<H: Hash32 + Copy> Answerer for Replayer<H> {
+    ghost use Rattle.world_core.specs.Worlds.{NodesSpell};
+    ghost use Rattle.replay_run.specs.Replays.{JudgedRun, replay_rules};
+    ghost use Rattle.replay_run.specs.Reading.{Ran};
+
+    type Cause = NoCause;
+
+    ghost Run = { JudgedRun };
+
+    ghost rules = { λ _. replay_rules };
+
+    ghost ran = { λ replayer run. Ran H.digest_of replayer.world run };
+
+    ghost halted = { λ _ _ _ _. Unit {0} };
+
+    ghost ready = { λ replayer. NodesSpell replayer.world };
+
+    fn answer(&mut self, line: &[u8], text: &mut Vec<u8>) -> Result<(), Halt<NoCause>> {
+        let told = take_line(self.alloc, &mut self.world, line)?;
+        print_line(&told, text)?;
+        Ok(())
+    }
+
+    fn may_end(&self) -> bool {
+        true
+    }
 }
 
-/// Answers the line that is kept with the rest of it into the text.
-pub fn answer_kept<H: Hash32 + Copy>(
+/// Answers the lines of a schedule into the sink, each before more is taken, with openings judged by this digest. It
+/// gives what ended the replay, and the world, which all lines left where all were answered. What is left of the text
+/// is not yet put.
+pub fn answer_schedule<H: Hash32 + Copy, S: Source, K: Sink>(
+    h: H,
     alloc: Global,
-    world: &mut World<H>,
-    reading: &mut Reading,
-    rest: &[u8],
+    source: &mut S,
+    sink: &mut K,
     text: &mut Vec<u8>,
-) -> Result<(), Stop>
-    requires start { reading.old.start ≤ MOST_INPUT_BYTES }
-    requires nodes { NodesSpell world.old }
-    ensures told { (run : Run) → Ran (H.digest_of world.old.hash) run world.old
-        → reading.old.number ≡ next_number run
-        → OnOk result (Gathers (H.digest_of world.old.hash) reading.old.start run (reading.old.line.items ++ rest.now)
-        text.old.items text.new.items world.new) }
-    ensures stops { (run : Run) → Ran (H.digest_of world.old.hash) run world.old
-        → reading.old.number ≡ next_number run
-        → IfErr result
-        (StopsAt (H.digest_of world.old.hash) reading.old.start run (reading.old.line.items ++ rest.now)) }
-    ensures untold { OnErr result (text.new.items ≡ text.old.items) }
-    ensures number { OnOk result (reading.new.number ≡ reading.old.number + 1) }
-    ensures lines { OnOk result (reading.old.number ≤ MOST_LINES) }
-    ensures start { OnOk result
-        (reading.new.start ≡ reading.old.start + length reading.old.line.items + length rest.now) }
-    ensures within { OnOk result (reading.new.start ≤ MOST_INPUT_BYTES) }
-    ensures none_left { OnOk result (reading.new.line.items ≡ []) }
-    ensures hash { OnOk result (world.new.hash ≡ world.old.hash) }
-    ensures nodes { OnOk result (NodesSpell world.new) }
+) -> Result<(World<H>, Ending<NoCause>), SinkRefusal>
+    requires none { text.old.items ≡ [] }
+    ensures answered { IfOk result (λ done. Answers (S.left source.old) (S.left source.new) (K.taken sink.old)
+        (K.taken sink.new) H.digest_of (H.digest_of h) text.new.items done.1 done.0) }
+    ensures stopped { OnErr result (StopsEarly (S.left source.old) (S.left source.new) (K.taken sink.old)
+        (K.taken sink.new) (H.digest_of h)) }
+    ensures reads { IfOk result (λ done. ReadsToFault (S.faults source.old) (S.faults source.new)
+        (S.failed_last source.new) (is_read_fault (Ok done.1))) }
+    ensures no_fault { OnErr result (ReadsToFault (S.faults source.old) (S.faults source.new)
+        (S.failed_last source.new) false) }
+    ensures cause { K.faults sink.new ≡ faults_after (K.faults sink.old) (is_failed result) }
 {
-    if reading.line.is_empty() {
-        return answer_one(alloc, world, reading, rest, text);
+    let mut replayer = Replayer::new(alloc, h);
+    match answer_lines(alloc, &mut replayer, source, sink, text) {
+        Ok(ending) => Ok((replayer.world, ending)),
+        Err(Break::WriteFault) => Err(SinkRefusal::Failed),
+        Err(Break::NoMemory) => Err(SinkRefusal::NoMemory),
+        // No line of a replay fails but for want of memory.
+        Err(Break::Failed) => Err(SinkRefusal::NoMemory),
     }
-    let mut line = std::mem::replace(&mut reading.line, Vec::new(alloc));
-    line.extend_from_slice(rest)?;
-    answer_one(alloc, world, reading, &line, text)
 }

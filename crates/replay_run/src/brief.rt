@@ -1,24 +1,23 @@
-ghost use Rattle.std.specs.Prelude.{◌≡◌, ◌++◌, ℕ, List, true, OnOk};
+ghost use Rattle.std.specs.Prelude.{◌≡◌, ◌++◌, true, OnOk};
 ghost use Rattle.plasma_base.specs.Causes.{faults_after};
-ghost use Rattle.plasma_outside.specs.declared.sink.SinkRefusal.{SinkRefusal};
-ghost use Rattle.plasma_outside.specs.Outside.{Puts, is_failed};
-ghost use Rattle.world_rules.specs.Steps.{Run};
-ghost use Rattle.replay_run.specs.declared.reply.Ending.{Ending};
+ghost use Rattle.plasma_outside.specs.Outside.{is_failed};
+ghost use Rattle.streamed_lines.specs.declared.ending.Ending.{Ending};
+ghost use Rattle.streamed_lines.specs.Outside.{ReadsToFault};
+ghost use Rattle.run_endings.specs.Statuses.{ReadsBy};
+ghost use Rattle.replay_run.specs.Replays.{JudgedRun};
 ghost use Rattle.replay_run.specs.Text.{brief_text, last_text};
 ghost use Rattle.replay_run.specs.Output.{brief_output, status_of_replay};
 ghost use Rattle.replay_run.specs.Bounds.{FewBy};
-ghost use Rattle.streamed_lines.specs.Outside.{ReadsToFault};
-ghost use Rattle.run_endings.specs.Statuses.{ReadsBy};
 ghost use Rattle.replay_run.specs.Runs.{RanOver};
 ghost use Rattle.replay_run.specs.Reading.{Ran};
 
-use super::replay::answer_lines;
-use super::reply::Ending;
+use super::answering::answer_schedule;
+use super::ending::NoCause;
 use super::text::push_ending;
 use plasma_base::{Hash32, NoMemory};
 use plasma_outside::{Sink, SinkRefusal, Source};
 use std::alloc::Global;
-use streamed_lines::put_text;
+use streamed_lines::{Ending, put_text};
 use world_core::World;
 use world_trace::{print_counts, print_exhibit};
 
@@ -40,8 +39,8 @@ impl Sink for NoSink {
 
 // Puts what is counted of a run at the end, and its exhibit.
 fn push_counts<H: Hash32 + Copy>(world: &World<H>, text: &mut Vec<u8>) -> Result<(), NoMemory>
-    ensures { (run : Run) → Ran (H.digest_of world.now.hash) run world.now
-        → OnOk result (text.new.items ≡ text.old.items ++ brief_text (H.digest_of world.now.hash) run) }
+    ensures { (run : JudgedRun) → Ran H.digest_of world.now run
+        → OnOk result (text.new.items ≡ text.old.items ++ brief_text run.digest run.run) }
 {
     let counts = world.counts()?;
     print_counts(&counts, text)?;
@@ -51,12 +50,11 @@ fn push_counts<H: Hash32 + Copy>(world: &World<H>, text: &mut Vec<u8>) -> Result
 // What is counted of a run that is complete, or what ended it.
 fn push_last<H: Hash32 + Copy>(
     world: &World<H>,
-    ending: Ending,
+    ending: Ending<NoCause>,
     text: &mut Vec<u8>,
 ) -> Result<(), NoMemory>
-    ensures { (dig : List ℕ → List ℕ) (run : Run)
-        → (ending ≡ Ending.Complete → (dig ≡ H.digest_of world.now.hash) × Ran dig run world.now)
-        → OnOk result (text.new.items ≡ text.old.items ++ last_text (brief_text dig run) ending) }
+    ensures { (run : JudgedRun) → (ending ≡ Ending.Complete → Ran H.digest_of world.now run)
+        → OnOk result (text.new.items ≡ text.old.items ++ last_text (brief_text run.digest run.run) ending) }
 {
     match ending {
         Ending::Complete => push_counts(world, text),
@@ -70,7 +68,7 @@ pub fn brief<H: Hash32 + Copy, S: Source, K: Sink>(
     alloc: Global,
     source: &mut S,
     sink: &mut K,
-) -> Result<Ending, SinkRefusal>
+) -> Result<Ending<NoCause>, SinkRefusal>
     ensures output { RanOver (brief_output (H.digest_of h)) (FewBy (H.digest_of h))
         (S.left source.old) (S.left source.new) (K.taken sink.old) (K.taken sink.new)
         (ReadsToFault (S.faults source.old) (S.faults source.new) (S.failed_last source.new) true)
@@ -79,9 +77,8 @@ pub fn brief<H: Hash32 + Copy, S: Source, K: Sink>(
         (ReadsToFault (S.faults source.old) (S.faults source.new) (S.failed_last source.new)) }
     ensures cause { K.faults sink.new ≡ faults_after (K.faults sink.old) (is_failed result) }
 {
-    let mut world = World::new_with(alloc, h);
     let mut answers = Vec::new(alloc);
-    let ending = answer_lines(alloc, &mut world, source, &mut NoSink, &mut answers)?;
+    let (world, ending) = answer_schedule(h, alloc, source, &mut NoSink, &mut answers)?;
     let mut text = Vec::new(alloc);
     push_last(&world, ending, &mut text)?;
     put_text(sink, &mut text)?;

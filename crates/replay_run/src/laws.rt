@@ -3,7 +3,7 @@ ghost use Rattle.replay_run.specs.Endings.{EndingsHaveTheirCause, LinesThatKeepT
 ghost use Rattle.replay_run.specs.Headline.{ReplaysKeepThePromise};
 ghost use Rattle.replay_run.specs.Laws.{LinesAreTheBytes, LinesAreOneCut, AnsweredLinesAreARun};
 
-use super::{MOST_INPUT_BYTES, MOST_LINE_BYTES, MOST_LINES};
+use streamed_lines::{MOST_INPUT_BYTES, MOST_LINE_BYTES, MOST_LINES};
 
 /// The lines of an input, one after another, are its bytes. None is empty; each ends with its only
 /// line feed, but for the last, which may have none. No other lists of bytes are so.

@@ -3,11 +3,9 @@
 
 mod answering;
 mod brief;
+mod ending;
 mod laws;
-mod lines;
-mod reading;
 mod replay;
-mod reply;
 mod text;
 mod top;
 mod verifying;
@@ -17,13 +15,5 @@ pub use laws::{
     lines_that_keep_the_rules_are_answered, replays_keep_the_promise, the_limits_are_these_numbers,
 };
 pub use run_endings::Status;
+pub use streamed_lines::{MOST_INPUT_BYTES, MOST_LINE_BYTES, MOST_LINES};
 pub use top::{Ended, run, run_with};
-
-/// The most lines of an input.
-pub const MOST_LINES: u64 = 200_000;
-
-/// The most bytes of a line, without its line feed.
-pub const MOST_LINE_BYTES: u64 = 8_388_608;
-
-/// The most bytes of an input.
-pub const MOST_INPUT_BYTES: u64 = 67_108_864;

@@ -1,11 +1,12 @@
 ghost use Rattle.std.specs.Prelude.{◌≡◌, ◌≢◌, ◌++◌, ◌∷◌, [], ℕ, List, OnOk};
 ghost use Rattle.world_rules.specs.Causes.{phrase};
-ghost use Rattle.replay_run.specs.declared.reply.Ending.{Ending};
+ghost use Rattle.streamed_lines.specs.declared.ending.Ending.{Ending};
 ghost use Rattle.replay_run.specs.Text.{last_text};
 
-use super::reply::Ending;
+use super::ending::NoCause;
 use line_forms::push_number;
 use plasma_base::NoMemory;
+use streamed_lines::Ending;
 
 // Puts words, and a number after them, at the end.
 fn push_phrase(out: &mut Vec<u8>, words: &[u8], number: u64) -> Result<(), NoMemory>
@@ -26,7 +27,7 @@ fn push_words(out: &mut Vec<u8>, words: &[u8]) -> Result<(), NoMemory>
 
 /// Puts the last line at the end: what ended a run that isn't complete.
 #[tactic(auto, unfolding(crate::specs::Text::last_text))]
-pub fn push_ending(out: &mut Vec<u8>, ending: Ending) -> Result<(), NoMemory>
+pub fn push_ending(out: &mut Vec<u8>, ending: Ending<NoCause>) -> Result<(), NoMemory>
     ensures { (complete : List ℕ) → ending ≢ Ending.Complete
         → OnOk result (out.new.items ≡ out.old.items ++ last_text complete ending) }
 {

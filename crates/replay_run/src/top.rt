@@ -14,6 +14,7 @@ ghost use Rattle.replay_run.specs.Runs.{RanOver};
 ghost use Rattle.replay_run.specs.Does.{Does, DoesForm};
 
 use super::brief::brief;
+use super::ending::status_of;
 use super::replay::replay;
 use super::verifying::is_verified;
 use crash_disk::Disk;
@@ -238,7 +239,7 @@ fn run_replay<H: Hash32, S: Source, K: Sink>(
     ensures sink_faults { K.faults sink.new ≡ faults_after (K.faults sink.old) (is_write_fault result) }
 {
     match replay(h, alloc, source, sink) {
-        Ok(ending) => ending.status(),
+        Ok(ending) => status_of(ending),
         Err(refusal) => Status::of_refusal(refusal),
     }
 }
@@ -258,7 +259,7 @@ fn run_brief<H: Hash32, S: Source, K: Sink>(
     ensures sink_faults { K.faults sink.new ≡ faults_after (K.faults sink.old) (is_write_fault result) }
 {
     match brief(h, alloc, source, sink) {
-        Ok(ending) => ending.status(),
+        Ok(ending) => status_of(ending),
         Err(refusal) => Status::of_refusal(refusal),
     }
 }

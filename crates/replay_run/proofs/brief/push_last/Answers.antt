@@ -1,17 +1,12 @@
-use Rattle.std.proofs.Common.{◌≡◌, ◌++◌, sym, subst, List, ℕ}
+use Rattle.std.proofs.Common.{◌≡◌, ◌++◌, sym, subst}
 use Rattle.std.specs.Prelude.{OnOk}
 use Rattle.replay_run.specs.Text.{brief_text, last_text}
-use Rattle.replay_run.specs.Reading.{Ran}
 use Rattle.replay_run.proofs.brief.push_last.Goals as goal
 
 pub returns-in-Complete : goal.returns-in-Complete
 unfolding last_text
 returns-in-Complete g c =
-    λ dig run ran.
-    let both = ran c.in-Complete.is in
-    let kept = subst (λ (d : List ℕ → List ℕ). Ran d run c.args.world.now) both.0 both.1 in
+    λ run ran.
     subst (λ e. OnOk c.push_counts.result
-    (c.push_counts.new.text.items ≡ c.args.text.now.items ++ last_text (brief_text dig run) e)) (sym c.in-Complete.is)
-    (subst (λ (d : List ℕ → List ℕ). OnOk c.push_counts.result
-    (c.push_counts.new.text.items ≡ c.args.text.now.items ++ brief_text d run))
-    (sym both.0) (c.push_counts.ensures run kept))
+    (c.push_counts.new.text.items ≡ c.args.text.now.items ++ last_text (brief_text run.digest run.run) e))
+    (sym c.in-Complete.is) (c.push_counts.ensures run (ran c.in-Complete.is))

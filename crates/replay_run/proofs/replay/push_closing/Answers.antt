@@ -3,7 +3,7 @@ use Rattle.std.specs.List.{flat_map}
 use Rattle.world_rules.specs.Texts.{verdict_text, exhibit_text}
 use Rattle.replay_run.specs.Text.{closing_text}
 use Rattle.replay_run.proofs.OutsideLaws.{joined}
-use Rattle.replay_run.proofs.ReadLaws.{on-ok}
+use Rattle.replay_run.proofs.ReplayLaws.{on-ok}
 use Rattle.replay_run.proofs.replay.push_closing.Goals as goal
 
 pub returns : goal.returns
@@ -11,9 +11,10 @@ returns g c =
     λ run ran.
     let dig : List ℕ → List ℕ = g.H.Hash32.digest_of c.args.world.now.hash in
     let old : List ℕ = c.args.text.now.items in
-    let verdicts = c.as_slice.ensures.value ∙ c.in_ok-verdicts.ensures ran.lines run ran.after ran.is in
-    let shown = c.in_ok-exhibit.ensures ran.lines run ran.after ran.is in
+    let verdicts = c.as_slice.ensures.value ∙ c.in_ok-verdicts.ensures ran.lines run.run ran.after ran.is in
+    let shown = c.in_ok-exhibit.ensures ran.lines run.run ran.after ran.is in
     let front =
     ◌∙◌ {A = List ℕ} c.in_ok-push_verdicts.ensures (ap (λ vs. old ++ flat_map verdict_text vs) verdicts) in
-    on-ok _ (c.print_exhibit.new.out.items ≡ old ++ closing_text dig run) _
-    (λ is. joined _ _ _ _ _ _ is front (ap exhibit_text shown)) c.print_exhibit.ensures.ok
+    rw ran.digest
+    (on-ok _ (c.print_exhibit.new.out.items ≡ old ++ closing_text dig run.run) _
+    (λ is. joined _ _ _ _ _ _ is front (ap exhibit_text shown)) c.print_exhibit.ensures.ok)

@@ -1,62 +1,41 @@
-use Rattle.std.proofs.Common.{◌∙◌, ap, sym, subst, List, ℕ, Ok, true}
-use Rattle.world_rules.specs.Steps.{no_lines}
-use Rattle.world_core.specs.Worlds.{WorldState}
+use Rattle.std.proofs.Common.{subst, true}
 use Rattle.streamed_lines.specs.Outside.{Wrote, WroteFront, ReadsToFault}
-use Rattle.replay_run.specs.Reading.{Ran}
 use Rattle.replay_run.proofs.OutsideLaws.{front-none}
-use Rattle.replay_run.proofs.GoingLaws.{ran-none}
-use Rattle.replay_run.proofs.RunLaws.{ran-early, ran-part, ran-whole, told-last, by-error, answers-under, stops-under}
+use Rattle.replay_run.proofs.RunLaws.{ran-early, ran-part, ran-whole, told-last, by-error}
 use Rattle.replay_run.proofs.replay.replay.Goals as goal
 
-pub answer_lines-requires-clause-first : goal.answer_lines-requires-clause-first
-answer_lines-requires-clause-first g c =
-    subst (λ (d : List ℕ → List ℕ). Ran d no_lines c.new_with-world.result)
-    (ap g.H.Hash32.digest_of (sym (ap WorldState.hash c.new_with-world.ensures.state)))
-    (ran-none _ _ c.new_with-world.ensures.after)
-
-pub returns-in_err-ending-clause-output : goal.returns-in_err-ending-clause-output
-returns-in_err-ending-clause-output g c =
+pub returns-in_err-world-clause-output : goal.returns-in_err-world-clause-output
+returns-in_err-world-clause-output g c =
     by-error _ _ _ _ _ _ _ _ c.from_residual.ensures.0
-    (λ refusal. ran-early _ _ _ _ (g.H.Hash32.digest_of c.args.h) _ refusal
-    (stops-under _ _ _ _ _ _ (ap g.H.Hash32.digest_of (ap WorldState.hash c.new_with-world.ensures.state))
-    c.in_err-ending.ensures.stopped))
+    (λ refusal. ran-early _ _ _ _ (g.H.Hash32.digest_of c.args.h) _ refusal c.in_err-world.ensures.stopped)
 
 pub returns-in_err-push_last-clause-output : goal.returns-in_err-push_last-clause-output
 returns-in_err-push_last-clause-output g c =
-    let answers = answers-under _ _ _ _ _ _ _ _ _
-    (ap g.H.Hash32.digest_of (ap WorldState.hash c.new_with-world.ensures.state)) c.in_ok-ending.ensures.answered in
-    let Faults = ReadsToFault (g.S.Source.faults c.args.source.now) (g.S.Source.faults c.answer_lines.new.source)
-    (g.S.Source.failed_last c.answer_lines.new.source) in
+    let Faults = ReadsToFault (g.S.Source.faults c.args.source.now) (g.S.Source.faults c.answer_schedule.new.source)
+    (g.S.Source.failed_last c.answer_schedule.new.source) in
     by-error _ _ _ _ _ _ (Faults true) _ c.from_residual-in_err-push_last.ensures.0
-    (λ refusal. ran-part _ _ _ _ _ _ _ _ Faults answers c.in_ok-ending.ensures.reads _ refusal (front-none _ _))
+    (λ refusal. ran-part _ _ _ _ g.H.Hash32.digest_of _ _ _ _ Faults c.in_ok-world.ensures.answered
+    c.in_ok-world.ensures.reads _ refusal (front-none _ _))
 
 pub returns-in_err-put_text-clause-output : goal.returns-in_err-put_text-clause-output
 returns-in_err-put_text-clause-output g c =
-    let answers = answers-under _ _ _ _ _ _ _ _ _
-    (ap g.H.Hash32.digest_of (ap WorldState.hash c.new_with-world.ensures.state)) c.in_ok-ending.ensures.answered in
-    let Faults = ReadsToFault (g.S.Source.faults c.args.source.now) (g.S.Source.faults c.answer_lines.new.source)
-    (g.S.Source.failed_last c.answer_lines.new.source) in
-    let told = told-last _ _ _ _ _ _ _ _ Faults answers c.in_ok-ending.ensures.reads
-    (g.H.Hash32.digest_of c.answer_lines.new.world.hash) c.push_last.new.text.items
-    (λ is. ap g.H.Hash32.digest_of (c.in_ok-ending.ensures.hash (ap Ok is)
-    ∙ ap WorldState.hash c.new_with-world.ensures.state))
-    c.in_ok-push_last.ensures in
+    let Faults = ReadsToFault (g.S.Source.faults c.args.source.now) (g.S.Source.faults c.answer_schedule.new.source)
+    (g.S.Source.failed_last c.answer_schedule.new.source) in
+    let told = told-last _ _ _ _ g.H.Hash32.digest_of _ _ _ _ Faults c.in_ok-world.ensures.answered
+    c.in_ok-world.ensures.reads c.push_last.new.text.items c.in_ok-push_last.ensures in
     by-error _ _ _ _ _ _ (Faults true) _ c.from_residual-in_err-put_text.ensures.0
-    (λ refusal. ran-part _ _ _ _ _ _ _ _ Faults answers c.in_ok-ending.ensures.reads _ refusal
-    (subst (WroteFront (g.K.Sink.taken c.answer_lines.new.sink) (g.K.Sink.taken c.put_text.new.sink)) told
+    (λ refusal. ran-part _ _ _ _ g.H.Hash32.digest_of _ _ _ _ Faults c.in_ok-world.ensures.answered
+    c.in_ok-world.ensures.reads _ refusal
+    (subst (WroteFront (g.K.Sink.taken c.answer_schedule.new.sink) (g.K.Sink.taken c.put_text.new.sink)) told
     c.in_err-put_text.ensures.err))
 
 pub returns-clause-output : goal.returns-clause-output
 returns-clause-output g c =
-    let answers = answers-under _ _ _ _ _ _ _ _ _
-    (ap g.H.Hash32.digest_of (ap WorldState.hash c.new_with-world.ensures.state)) c.in_ok-ending.ensures.answered in
-    let Faults = ReadsToFault (g.S.Source.faults c.args.source.now) (g.S.Source.faults c.answer_lines.new.source)
-    (g.S.Source.failed_last c.answer_lines.new.source) in
-    let told = told-last _ _ _ _ _ _ _ _ Faults answers c.in_ok-ending.ensures.reads
-    (g.H.Hash32.digest_of c.answer_lines.new.world.hash) c.push_last.new.text.items
-    (λ is. ap g.H.Hash32.digest_of (c.in_ok-ending.ensures.hash (ap Ok is)
-    ∙ ap WorldState.hash c.new_with-world.ensures.state))
-    c.in_ok-push_last.ensures in
-    ran-whole _ _ _ _ _ _ _ _ Faults answers c.in_ok-ending.ensures.reads _
-    (subst (Wrote (g.K.Sink.taken c.answer_lines.new.sink) (g.K.Sink.taken c.put_text.new.sink)) told
+    let Faults = ReadsToFault (g.S.Source.faults c.args.source.now) (g.S.Source.faults c.answer_schedule.new.source)
+    (g.S.Source.failed_last c.answer_schedule.new.source) in
+    let told = told-last _ _ _ _ g.H.Hash32.digest_of _ _ _ _ Faults c.in_ok-world.ensures.answered
+    c.in_ok-world.ensures.reads c.push_last.new.text.items c.in_ok-push_last.ensures in
+    ran-whole _ _ _ _ g.H.Hash32.digest_of _ _ _ _ Faults c.in_ok-world.ensures.answered c.in_ok-world.ensures.reads
+    _
+    (subst (Wrote (g.K.Sink.taken c.answer_schedule.new.sink) (g.K.Sink.taken c.put_text.new.sink)) told
     c.in_ok-put_text.ensures.ok)
