@@ -22,7 +22,6 @@ use Rattle.node_roles.specs.Deeds.{left_with, notes_do}
 use Rattle.node_roles.specs.Wallets.{WalletAt, records_of, with_either, wallet_does}
 use Rattle.node_lines.specs.Grammar.{wallet_line_in}
 use Rattle.node_rules.specs.Wallet.{who as wallet_is}
-use Rattle.wallet_core.specs.declared.notes.LeafRecord.{LeafRecord}
 use Rattle.run_endings.specs.declared.status.Status.{Status}
 use Rattle.run_endings.specs.declared.status.Status.TheVariants.{Done, Refused, Usage, BadLine as BadLineStatus, ReadFault as ReadFaultStatus, WriteFault, DeviceFault, NoMemory, TooLong as TooLongStatus, NotJournal, AlreadyMade}
 use Rattle.run_endings.specs.Statuses.{FaultsBy}
@@ -38,7 +37,7 @@ use Rattle.node_runs.specs.Sessions.{Outside, RunsSession}
 -- ---- by the output
 
 -- a run whose output has another status than DeviceFault ends with another
-other-status : (output : Output) (status : Status) {before after : Option (List ℕ)} {failed : Type 0}
+pub other-status : (output : Output) (status : Status) {before after : Option (List ℕ)} {failed : Type 0}
     → (output.status ≡ DeviceFault → ⊥) → EndsAs output status before after failed → status ≡ DeviceFault → ⊥
 other-status output DeviceFault never ends is = never ends.0
 other-status output Done never ends is = absurd (cc (is))
@@ -53,7 +52,7 @@ other-status output NotJournal never ends is = absurd (cc (is))
 other-status output AlreadyMade never ends is = absurd (cc (is))
 
 -- no fault was met
-none-met : (Met : Bool → Type 0) (status : Status) → (status ≡ DeviceFault → ⊥) → Met false → FaultsBy status Met
+pub none-met : (Met : Bool → Type 0) (status : Status) → (status ≡ DeviceFault → ⊥) → Met false → FaultsBy status Met
 none-met Met DeviceFault never none = absurd (never refl)
 none-met Met WriteFault never none = (false, none)
 none-met Met NoMemory never none = (false, none)
@@ -65,6 +64,21 @@ none-met Met ReadFaultStatus never none = none
 none-met Met TooLongStatus never none = none
 none-met Met NotJournal never none = none
 none-met Met AlreadyMade never none = none
+
+-- the same in other words
+pub by-more : (Met More : Bool → Type 0) → ((fault : Bool) → Met fault → More fault) → (status : Status)
+    → FaultsBy status Met → FaultsBy status More
+by-more Met More more DeviceFault is = more true is
+by-more Met More more WriteFault is = (is.0, more is.0 is.1)
+by-more Met More more NoMemory is = (is.0, more is.0 is.1)
+by-more Met More more Done is = more false is
+by-more Met More more Refused is = more false is
+by-more Met More more Usage is = more false is
+by-more Met More more BadLineStatus is = more false is
+by-more Met More more ReadFaultStatus is = more false is
+by-more Met More more TooLongStatus is = more false is
+by-more Met More more NotJournal is = more false is
+by-more Met More more AlreadyMade is = more false is
 
 -- one was, and the run says so, or its text was stopped
 one-met : (Met : Bool → Type 0) (answers : List ℕ) (status : Status) {before after : Option (List ℕ)} {failed : Type 0}
@@ -185,7 +199,7 @@ module _ {D : Type 0} (told : D → Option History) (faults : D → ℕ) where
   failed-counts (Some body) at disk is = is.faults_are
 
   module _ (notes leaves new_notes new_leaves : D) where
-    notes-met : (fault : Bool) → Counts faults notes new_notes fault → Counts faults leaves new_leaves false
+    pub notes-met : (fault : Bool) → Counts faults notes new_notes fault → Counts faults leaves new_leaves false
         → CountsEither faults notes leaves new_notes new_leaves fault
     notes-met true met none = inl (met, none)
     notes-met false met none = (met, none)
@@ -248,7 +262,7 @@ module _ {D : Type 0} (told : D → Option History) (plan : D → Option FaultPl
       is.0.faults_are ∙ ap (λ n. faults_after n true) of_leaves,
     )
 
-    unbound-none : (bodies : List LeafRecord) (records : List (List ℕ)) (why : JournalRefusal)
+    unbound-none : (bodies : _) (records : List (List ℕ)) (why : JournalRefusal)
         → IsUnbound dig bodies records why → is_device_fault why ≡ false
     unbound-none bodies records (JournalPlace place) is = refl
     unbound-none bodies records JournalNoMemory is = refl

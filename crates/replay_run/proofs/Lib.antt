@@ -8,3 +8,4 @@ mod BriefLaws
 mod CutLaws
 mod RuleLaws
 mod Promises
+mod FaultLaws

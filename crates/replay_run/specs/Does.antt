@@ -57,6 +57,7 @@ module _ {D : Type 0} (told : D → Option History) (plan : D → Option FaultPl
   -- memory ran out while the words were read: nothing was read or written, and no disk was used
   pub record ReadsNoWords : Type 0 where
     pub is : status ≡ NoMemory
+    pub unread : outside.later ≡ outside.left
     pub unwritten : outside.after ≡ outside.taken
     pub notes_stay : new_notes ≡ notes
     pub leaves_stay : new_leaves ≡ leaves

@@ -3,8 +3,9 @@ ghost use Rattle.sha2.specs.Sha256.{sha256};
 ghost use Rattle.plasma_base.specs.Causes.{faults_after};
 ghost use Rattle.streamed_lines.specs.Outside.{ReadsToFault};
 ghost use Rattle.run_words.specs.Forms.{form_of, IsSound};
-ghost use Rattle.run_endings.specs.Statuses.{is_write_fault, ReadsBy};
+ghost use Rattle.run_endings.specs.Statuses.{is_write_fault, ReadsBy, FaultsBy};
 ghost use Rattle.run_endings.specs.Outputs.{EndsAs};
+ghost use Rattle.node_runs.specs.Faults.{CountsEither};
 ghost use Rattle.replay_run.specs.Forms.{is_verified, reads_input, uses_notes, uses_leaves};
 ghost use Rattle.replay_run.specs.Output.{make_output, verify_output, replay_output, brief_output};
 ghost use Rattle.replay_run.specs.Bounds.{FewBy};
@@ -107,6 +108,9 @@ pub fn run<S: Source, K: Sink, D: Disk>(
     ensures source_faults { ReadsBy result.status
         (ReadsToFault (S.faults source.old) (S.faults source.new) (S.failed_last source.new)) }
 
+    // A fault of a node's disk is answered, unless the text isn't written to the end, and comes for no other cause.
+    ensures disk_faults { FaultsBy result.status (CountsEither D.faults notes leaves result.notes result.leaves) }
+
     // A fault of the sink is answered, and no other answer comes where it had one.
     ensures sink_faults { K.faults sink.new ≡ faults_after (K.faults sink.old) (is_write_fault result.status) }
 {
@@ -132,6 +136,7 @@ pub fn run_with<H: Hash32, S: Source, K: Sink, D: Disk>(
     ensures leaves_stay { uses_leaves (form_of (map string_bytes words.now)) ≡ false → result.leaves ≡ leaves }
     ensures source_faults { ReadsBy result.status
         (ReadsToFault (S.faults source.old) (S.faults source.new) (S.failed_last source.new)) }
+    ensures disk_faults { FaultsBy result.status (CountsEither D.faults notes leaves result.notes result.leaves) }
     ensures sink_faults { K.faults sink.new ≡ faults_after (K.faults sink.old) (is_write_fault result.status) }
 {
     match form_of(alloc, words) {

@@ -1,0 +1,78 @@
+-- The faults that the disks of a run met, by its status, for each form.
+use Rattle.std.proofs.Common.{◌≡◌, ℕ, Bool, true, false, List, Option, Some, None, refl, ap}
+use Rattle.crash_disk.specs.Disk.{History, FaultPlan}
+use Rattle.streamed_lines.specs.declared.ending.Ending.{Ending}
+use Rattle.streamed_lines.specs.declared.ending.Ending.TheVariants.{Complete, BadLine, ReadFault, TooLong, Ended}
+use Rattle.run_words.specs.declared.form.Form.{Form}
+use Rattle.run_words.specs.declared.form.Form.TheVariants.{Replay, Brief, Wallet, Operator, Watcher, InitWallet, InitOperator, InitWatcher, Make, Verify}
+use Rattle.run_endings.specs.declared.status.Status.{Status}
+use Rattle.run_endings.specs.declared.status.Status.TheVariants.{DeviceFault}
+use Rattle.run_endings.specs.Statuses.{FaultsBy}
+use Rattle.run_endings.specs.Outputs.{Output, EndsAs}
+use Rattle.node_runs.specs.Faults.{Counts, CountsEither}
+use Rattle.node_runs.specs.Sessions.{Outside}
+use Rattle.node_runs.proofs.FaultLaws.{other-status, none-met, by-more, notes-met, watcher-counts, operator-counts, wallet-counts, inits-count, inits-count-either}
+use Rattle.replay_run.specs.declared.ending.NoCause.{NoCause}
+use Rattle.replay_run.specs.Forms.{is_verified, uses_notes, uses_leaves}
+use Rattle.replay_run.specs.Output.{status_of, usage_output, replay_output, brief_output, make_output, verify_output}
+use Rattle.replay_run.specs.Replays.{replay_of}
+use Rattle.replay_run.specs.Does.{DoesForm}
+
+replay-other : (ending : Ending NoCause) → status_of ending ≡ DeviceFault → ⊥
+replay-other Complete is = cc (is)
+replay-other (BadLine n) is = cc (is)
+replay-other ReadFault is = cc (is)
+replay-other (TooLong n) is = cc (is)
+replay-other (Ended n cause) is = elim cause [ ]
+
+module _ {D : Type 0} (told : D → Option History) (plan : D → Option FaultPlan) (faults : D → ℕ)
+    (dig : List ℕ → List ℕ) (notes leaves new_notes new_leaves : D) (outside : Outside) (failed : Type 0)
+    (status : Status) where
+  abbrev Met : Bool → Type 0
+  Met = CountsEither faults notes leaves new_notes new_leaves
+
+  -- a form that uses no disk, and has another status
+  unused : (output : Output) {cause : Type 0} → (output.status ≡ DeviceFault → ⊥)
+      → EndsAs output status outside.taken outside.after cause → new_notes ≡ notes → new_leaves ≡ leaves
+      → FaultsBy status Met
+  unused output never ends notes_stay leaves_stay =
+      none-met Met status (other-status output status never ends) (ap faults notes_stay, ap faults leaves_stay)
+
+  -- one that uses the notes alone
+  of-notes : FaultsBy status (Counts faults notes new_notes) → new_leaves ≡ leaves → FaultsBy status Met
+  of-notes counts leaves_stay =
+      by-more (Counts faults notes new_notes) Met
+      (λ fault met. notes-met told faults notes leaves new_notes new_leaves fault met (ap faults leaves_stay)) status
+      counts
+
+  pub does-count : (form : Option Form)
+      → DoesForm told plan faults dig notes leaves new_notes new_leaves outside failed status form
+      → (uses_notes form ≡ false → new_notes ≡ notes) → (uses_leaves form ≡ false → new_leaves ≡ leaves)
+      → FaultsBy status Met
+  does-count None does notes_stay leaves_stay =
+      unused usage_output (λ is. cc (is)) does (notes_stay refl) (leaves_stay refl)
+  does-count (Some Replay) does notes_stay leaves_stay =
+      unused (replay_output dig does.bytes does.ended) (replay-other (replay_of dig does.bytes does.ended).ending)
+      does.ends (notes_stay refl) (leaves_stay refl)
+  does-count (Some Brief) does notes_stay leaves_stay =
+      unused (brief_output dig does.bytes does.ended) (replay-other (replay_of dig does.bytes does.ended).ending)
+      does.ends (notes_stay refl) (leaves_stay refl)
+  does-count (Some Wallet) does notes_stay leaves_stay =
+      wallet-counts told plan faults dig notes leaves new_notes new_leaves outside failed status does
+  does-count (Some Operator) does notes_stay leaves_stay =
+      of-notes (operator-counts told plan faults dig notes new_notes outside failed status does) (leaves_stay refl)
+  does-count (Some Watcher) does notes_stay leaves_stay =
+      of-notes (watcher-counts told plan faults dig notes new_notes outside failed status does) (leaves_stay refl)
+  does-count (Some (InitWallet tag account seed types)) does notes_stay leaves_stay =
+      inits-count-either told plan faults outside.taken outside.after status _ notes leaves new_notes new_leaves does
+  does-count (Some (InitOperator tag account)) does notes_stay leaves_stay =
+      of-notes (inits-count told plan faults outside.taken outside.after status _ notes new_notes does)
+      (leaves_stay refl)
+  does-count (Some (InitWatcher tag account)) does notes_stay leaves_stay =
+      of-notes (inits-count told plan faults outside.taken outside.after status _ notes new_notes does)
+      (leaves_stay refl)
+  does-count (Some (Make seed count)) does notes_stay leaves_stay =
+      unused (make_output seed count) (λ is. cc (is)) does (notes_stay refl) (leaves_stay refl)
+  does-count (Some (Verify key message signature)) does notes_stay leaves_stay =
+      unused (verify_output (is_verified key message signature)) (λ is. cc (is)) does (notes_stay refl)
+      (leaves_stay refl)
