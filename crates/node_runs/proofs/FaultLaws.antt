@@ -16,12 +16,15 @@ use Rattle.streamed_lines.specs.declared.ending.Ending.TheVariants.{Complete, Ba
 use Rattle.streamed_lines.specs.Streams.{Rules, Stream, stream_of}
 use Rattle.node_sessions.specs.Sessions.{SessionState, begun, calls_of, session_rules}
 use Rattle.node_sessions.proofs.StayLaws.{session-keeps, run-keeps}
-use Rattle.node_answers.specs.Answers.{Outcome, wallet_outcome}
+use Rattle.node_answers.specs.Answers.{Outcome, watcher_outcome, operator_outcome, wallet_outcome}
 use Rattle.node_roles.specs.Notes.{NodeAt, NotesAt, with_note}
 use Rattle.node_roles.specs.Deeds.{left_with, notes_do}
 use Rattle.node_roles.specs.Wallets.{WalletAt, records_of, with_either, wallet_does}
-use Rattle.node_lines.specs.Grammar.{wallet_line_in}
+use Rattle.node_lines.specs.Grammar.{watcher_line_in, operator_line_in, wallet_line_in}
+use Rattle.node_journal.specs.Role.{role_in}
+use Rattle.node_rules.specs.Watcher.{watcher_kinds, who_is as watcher_is}
 use Rattle.node_rules.specs.Wallet.{who as wallet_is}
+use Rattle.operator_rules.specs.Records.{operator_kinds, who_is as operator_is}
 use Rattle.run_endings.specs.declared.status.Status.{Status}
 use Rattle.run_endings.specs.declared.status.Status.TheVariants.{Done, Refused, Usage, BadLine as BadLineStatus, ReadFault as ReadFaultStatus, WriteFault, DeviceFault, NoMemory, TooLong as TooLongStatus, NotJournal, AlreadyMade}
 use Rattle.run_endings.specs.Statuses.{FaultsBy}
@@ -240,12 +243,16 @@ module _ {D : Type 0} (told : D → Option History) (plan : D → Option FaultPl
   pub watcher-counts : (old new : D) (outside : Outside) (failed : Type 0) (status : Status)
       → RunsWatcher told plan faults dig old new outside failed status → FaultsBy status (Counts faults old new)
   unfolding RunsWatcher
-  watcher-counts old new outside failed status runs = notes-count _ _ _ _ old new outside failed status runs
+  watcher-counts old new outside failed status runs =
+      notes-count (role_in (watcher_kinds dig)) (λ records. (watcher_is records).tag) watcher_line_in watcher_outcome
+      old new outside failed status runs
 
   pub operator-counts : (old new : D) (outside : Outside) (failed : Type 0) (status : Status)
       → RunsOperator told plan faults dig old new outside failed status → FaultsBy status (Counts faults old new)
   unfolding RunsOperator
-  operator-counts old new outside failed status runs = notes-count _ _ _ _ old new outside failed status runs
+  operator-counts old new outside failed status runs =
+      notes-count (role_in operator_kinds) (λ records. (operator_is records).tag) operator_line_in operator_outcome
+      old new outside failed status runs
 
   -- ---- a wallet
 
@@ -334,20 +341,20 @@ module _ {D : Type 0} (told : D → Option History) (plan : D → Option FaultPl
       (ap faults untold, ap faults same)
   pair-met notes leaves new_notes new_leaves (Err (InitMade count)) (inl (never, same)) = absurd never
   pair-met notes leaves new_notes new_leaves (Err why) (inr (asked, asks, inl (long, inl (refuses, same)))) =
-      notes-met told faults notes leaves new_notes new_leaves (is_init_fault {Unit} (Err why))
-      (refuses.count ∙ ap (λ n. faults_after n (is_init_fault {Unit} (Err why))) asks.count) (ap faults same)
+      notes-met told faults notes leaves new_notes new_leaves (is_init_fault {T = Unit} (Err why))
+      (refuses.count ∙ ap (λ n. faults_after n (is_init_fault {T = Unit} (Err why))) asks.count) (ap faults same)
   pair-met notes leaves new_notes new_leaves (Err why) (inr (asked, asks, inl (long, inr (inl (passes, refuses))))) =
-      leaves-met told faults notes leaves new_notes new_leaves (is_init_fault {Unit} (Err why))
+      leaves-met told faults notes leaves new_notes new_leaves (is_init_fault {T = Unit} (Err why))
       (passes.count ∙ asks.count) refuses.count
   pair-met notes leaves new_notes new_leaves (Err why) (inr (asked, asks, inl (long, inr (inr (stops, passes))))) =
-      notes-met told faults notes leaves new_notes new_leaves (is_init_fault {Unit} (Err why))
-      (stops.count ∙ ap (λ n. faults_after n (is_init_fault {Unit} (Err why))) asks.count) passes.count
+      notes-met told faults notes leaves new_notes new_leaves (is_init_fault {T = Unit} (Err why))
+      (stops.count ∙ ap (λ n. faults_after n (is_init_fault {T = Unit} (Err why))) asks.count) passes.count
   pair-met notes leaves new_notes new_leaves (Err why) (inr (asked, asks, inr (short, inl (same, refuses)))) =
-      leaves-met told faults notes leaves new_notes new_leaves (is_init_fault {Unit} (Err why))
+      leaves-met told faults notes leaves new_notes new_leaves (is_init_fault {T = Unit} (Err why))
       (ap faults same ∙ asks.count) refuses.count
   pair-met notes leaves new_notes new_leaves (Err why) (inr (asked, asks, inr (short, inr (stops, passes)))) =
-      notes-met told faults notes leaves new_notes new_leaves (is_init_fault {Unit} (Err why))
-      (stops.count ∙ ap (λ n. faults_after n (is_init_fault {Unit} (Err why))) asks.count) passes.count
+      notes-met told faults notes leaves new_notes new_leaves (is_init_fault {T = Unit} (Err why))
+      (stops.count ∙ ap (λ n. faults_after n (is_init_fault {T = Unit} (Err why))) asks.count) passes.count
 
   pub inits-count-either : (notes leaves new_notes new_leaves : D)
       → InitsWallet told plan faults taken after status identity notes leaves new_notes new_leaves

@@ -24,7 +24,7 @@ pub fn run_session<N: Commanded, S: Source, K: Sink>(
     ghost found: { N.At }
     requires open { N.is_open node }
     requires found { N.is_at node found }
-    ensures runs { RunsSession (session_rules (N.tag node) (N.command_in node) (N.does node)) (N.command_in node) found
+    ensures runs { RunsSession (session_rules (N.tag node) (N.command_in node) (N.does node)) (N.command_in result.0) found
         (λ at. N.is_at result.0 at)
         (λ log at command. N.is_stopped result.0 log at command Stop.DeviceFault)
         (λ log at command. N.is_stopped result.0 log at command Stop.NoMemory)

@@ -1,27 +1,25 @@
 -- A session whose commands are all done is complete.
-use Rattle.std.proofs.Common.{◌≡◌, ◌⊎◌, inl, inr, ℕ, ◌+◌, Bool, true, false, List, [], ◌∷◌, ◌++◌, if◌then◌else◌, length, Option, Some, None, Result, Ok, Err, refl, sym, ap, ◌∙◌}
-use Rattle.std.specs.Str.{bytes_eq}
+use Rattle.std.proofs.Common.{◌≡◌, inl, inr, ℕ, ◌+◌, Bool, true, false, List, [], ◌∷◌, ◌++◌, if◌then◌else◌, length, Option, Some, None, Result, Ok, Err, refl, ap, ◌∙◌, subst, arith}
 use Rattle.std.proofs.lemmas.Slice.Eq.{bytes_eq-Decides}
 use Rattle.plasma_tx.specs.declared.call.RootCall.{RootCall}
 use Rattle.plasma_tx.specs.Chain.{Chain}
-use Rattle.root_log.specs.Grammar.{chain_in, appended}
-use Rattle.node_lines.specs.Grammar.{is_end_of_log}
 use Rattle.streamed_lines.specs.declared.ending.Ending.TheVariants.{Complete}
+use Rattle.streamed_lines.specs.declared.ending.Stop.TheVariants.{Ends}
 use Rattle.streamed_lines.specs.Lines.{lines_in, text_of, is_too_long}
 use Rattle.streamed_lines.specs.Streams.{Stream, Streamed, stream_from, stream_of}
 use Rattle.streamed_lines.proofs.StreamLaws.{goes-on}
-use Rattle.node_sessions.specs.Sessions.{SessionState, begun, other_chain, first_log, longer_log, joins, done, leaves, command_line, log_line, next_line, session_rules}
+use Rattle.node_sessions.specs.Sessions.{SessionState, begun, other_chain, first_log, longer_log, joins, done, leaves, command_line, next_line, session_rules}
 use Rattle.node_sessions.specs.Laws.{AreDone, EndLogAndAreDone, KeepTheRules, DoneCommandsAreAnswered}
 
 module _ {A L : Type 0} (tag : List ℕ) (command_in : List ℕ → Option L)
     (does : List RootCall → A → L → Result (A × List ℕ) (List ℕ)) where
   -- lines that were answered, with this log, ended or not, and the node there
-  behind : Option Chain → Bool → A → ℕ → List ℕ → Stream (SessionState A)
+  abbrev behind : Option Chain → Bool → A → ℕ → List ℕ → Stream (SessionState A)
   behind log over at count told =
       record { run = record { log = log; is_over = over; node = at }; count = count; text = told }
 
   -- what ends a session behind them
-  ending-is : (start : ℕ) (stream : Stream (SessionState A)) (lines : List (List ℕ)) → Type 0
+  abbrev ending-is : (start : ℕ) (stream : Stream (SessionState A)) (lines : List (List ℕ)) → Type 0
   ending-is start stream lines =
       (stream_from (session_rules tag command_in does) true start stream lines).ending ≡ Complete
 
@@ -43,16 +41,14 @@ module _ {A L : Type 0} (tag : List ℕ) (command_in : List ℕ → Option L)
   unfolding AreDone stream_from next_line
   commands log at count start told [] are = refl
   commands log at count start told (line ∷ lines) are =
-      let command = are.1.0 in
-      let left = are.1.1.0 in
-      let answer = are.1.1.1.0 in
-      let spells = are.1.1.1.1.0 in
+      let left = are.1.1 in
+      let answer = are.1.2 in
       let session : SessionState A = record { log = Some log; is_over = true; node = at } in
       on start (behind (Some log) true at count told) line lines
       (record { log = Some log; is_over = true; node = left }) answer are.0
-      (ap (λ spelled. leaves session (command_line does log.log at spelled)) spells
-      ∙ ap (λ outcome. leaves session (done outcome)) are.1.1.1.1.1.0)
-      (commands log left (count + 1) (start + length line) (told ++ answer) lines are.1.1.1.1.1.1)
+      (ap (λ spelled. leaves session (command_line does log.log at spelled)) are.1.3
+      ∙ ap (λ outcome. leaves session (done outcome)) are.1.4)
+      (commands log left (count + 1) (start + length line) (told ++ answer) lines are.1.5)
 
   log-ends : (log : Chain) (at : A) (count start : ℕ) (told : List ℕ) (lines : List (List ℕ))
       → EndLogAndAreDone tag command_in does log at (count + 1) start lines
@@ -68,8 +64,8 @@ module _ {A L : Type 0} (tag : List ℕ) (command_in : List ℕ → Option L)
       let session : SessionState A = record { log = Some log; is_over = false; node = at } in
       on start (behind (Some log) false at count told) line lines
       (record { log = Some longer; is_over = false; node = at }) [] fits
-      (rw goes.0 (ap (λ found. joins session (longer_log found)) goes.1.1.0))
-      (log-ends longer at (count + 1) (start + length line) (told ++ []) lines goes.1.1.1)
+      (rw goes.0 (ap (λ found. joins session (longer_log found)) goes.1.1))
+      (log-ends longer at (count + 1) (start + length line) (told ++ []) lines goes.1.2)
 
   begins : (found : A) (lines : List (List ℕ)) → KeepTheRules tag command_in does found lines
       → ending-is 0 (behind None false found 0 []) lines
@@ -80,10 +76,11 @@ module _ {A L : Type 0} (tag : List ℕ) (command_in : List ℕ → Option L)
       let session = begun found in
       on 0 (behind None false found 0 []) line lines (record { log = Some chain; is_over = false; node = found }) []
       keep.0
-      (ap (λ first. joins session (first_log tag first)) keep.1.1.0
+      (ap (λ first. joins session (first_log tag first)) keep.1.1
       ∙ ap (λ same. joins session (if same then Ok chain else Err (Ends other_chain)))
-      ((bytes_eq-Decides chain.tag tag).1 keep.1.1.1.0))
-      (log-ends chain found 1 (length line) [] lines keep.1.1.1.1)
+      ((bytes_eq-Decides chain.tag tag).1 keep.1.2))
+      (subst (λ m. ending-is m (behind (Some chain) false found 1 []) lines) (omega arith)
+      (log-ends chain found 1 (length line) [] lines keep.1.3))
 
   pub done-are_answered : DoneCommandsAreAnswered tag command_in does
   unfolding stream_of

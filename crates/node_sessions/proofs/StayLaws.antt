@@ -1,5 +1,5 @@
 -- What no command changes of a node stays through a session.
-use Rattle.std.proofs.Common.{◌≡◌, ℕ, ◌+◌, ◌&&◌, not, Bool, true, false, if◌then◌else◌, List, [], ◌∷◌, ◌++◌, length, Option, Some, None, Result, Ok, Err, refl, sym, ap, ◌∙◌, subst}
+use Rattle.std.proofs.Common.{◌≡◌, ℕ, ◌+◌, ◌&&◌, not, Bool, true, false, if◌then◌else◌, List, [], ◌∷◌, ◌++◌, length, Option, Some, None, Result, Ok, Err, refl, sym, ap, ◌∙◌}
 use Rattle.plasma_tx.specs.declared.call.RootCall.{RootCall}
 use Rattle.plasma_tx.specs.Chain.{Chain}
 use Rattle.root_log.specs.Grammar.{chain_in, appended}
@@ -12,9 +12,13 @@ use Rattle.streamed_lines.specs.Streams.{Rules, Stream, Streamed, no_lines, next
 use Rattle.streamed_lines.specs.Reading.{RunsTo}
 use Rattle.node_sessions.specs.Sessions.{SessionState, OrStop, begun, first_log, longer_log, joins, done, leaves, command_line, log_line, line_of, next_line, session_rules}
 
--- a stream that goes on is another one
-ok-err : {T E : Type 0} (x : T) (e : E) {P : Type 0} → Err {T} {E} e ≡ Ok x → P
-ok-err x e wrong = absurd (cc)
+-- what went wrong didn't go well
+ok-err : {T E P : Type 0} (result : Result T E) (x : T) (e : E) → result ≡ Err e → result ≡ Ok x → P
+ok-err result x e wrong well = absurd (cc (wrong, well))
+
+-- what went well came to one thing
+ok-same : {T E : Type 0} (result : Result T E) (a b : T) → result ≡ Ok a → result ≡ Ok b → a ≡ b
+ok-same result a b first second = cc (first, second)
 
 module _ {A L : Type 0} (tag : List ℕ) (command_in : List ℕ → Option L)
     (does : List RootCall → A → L → Result (A × List ℕ) (List ℕ)) {M : Type 0} (part : A → M)
@@ -30,29 +34,29 @@ module _ {A L : Type 0} (tag : List ℕ) (command_in : List ℕ → Option L)
 
     joined : (found : OrStop Chain) → joins session found ≡ Ok (next, text) → Keeps
     joined (Ok chain) is =
-        let same : record session { log = Some chain } ≡ next = cc (is) in
-        ap (λ (s : SessionState A). part s.node) (sym same)
-    joined (Err stop) is = ok-err (next, text) stop is
+        ap (λ (s : SessionState A × List ℕ). part s.0.node)
+        (sym (ok-same _ (record session { log = Some chain }, []) (next, text) refl is))
+    joined (Err stop) is = ok-err _ (next, text) stop refl is
 
     logged : (chain : Chain) (ends : Bool) (found : OrStop Chain)
         → (if ends then Ok (record session { is_over = true }, []) else joins session found) ≡ Ok (next, text)
         → Keeps
     logged chain true found is =
-        let same : record session { is_over = true } ≡ next = cc (is) in
-        ap (λ (s : SessionState A). part s.node) (sym same)
+        ap (λ (s : SessionState A × List ℕ). part s.0.node)
+        (sym (ok-same _ (record session { is_over = true }, []) (next, text) refl is))
     logged chain false found is = joined found is
 
     commanded-keeps : (chain : Chain) (spelled : Option L)
         → leaves session (command_line does chain.log session.node spelled) ≡ Ok (next, text) → Keeps
-    commanded-keeps chain None is = ok-err (next, text) _ is
+    commanded-keeps chain None is = ok-err _ (next, text) _ refl is
     commanded-keeps chain (Some command) is = by (does chain.log session.node command) refl is
       where
         by : (outcome : Result (A × List ℕ) (List ℕ)) → does chain.log session.node command ≡ outcome
             → leaves session (done outcome) ≡ Ok (next, text) → Keeps
-        by (Err cause) did is = ok-err (next, text) _ is
+        by (Err cause) did is = ok-err _ (next, text) _ refl is
         by (Ok left) did is =
-            let same : record session { node = left.0 } ≡ next = cc (is) in
-            ap (λ (s : SessionState A). part s.node) (sym same)
+            ap (λ (s : SessionState A × List ℕ). part s.0.node)
+            (sym (ok-same _ (record session { node = left.0 }, left.1) (next, text) refl is))
             ∙ kept chain.log session.node command left.0 left.1 did
 
     later : (chain : Chain) (over : Bool)
@@ -75,18 +79,18 @@ module _ {A L : Type 0} (tag : List ℕ) (command_in : List ℕ → Option L)
       (outcome : Result (SessionState A × List ℕ) (Stop (List ℕ)))
       → next_line tag command_in does stream.run line ≡ outcome → stream_or stream outcome ≡ Ok next
       → part next.run.node ≡ part stream.run.node
-  answered-keeps stream next line (Err stop) is goes = ok-err next _ goes
+  answered-keeps stream next line (Err stop) is goes = ok-err _ next _ refl goes
   answered-keeps stream next line (Ok answered) is goes =
-      let same : with_answer stream answered ≡ next = cc (goes) in
-      ap (λ (s : Stream (SessionState A)). part s.run.node) (sym same)
+      ap (λ (s : Stream (SessionState A)). part s.run.node)
+      (sym (ok-same _ (with_answer stream answered) next refl goes))
       ∙ line-keeps stream.run line answered.0 answered.1 is
 
   tested-keeps : (stream next : Stream (SessionState A)) (line : List ℕ) (long waits : Bool)
       → (if long then Err (TooLong (next_number stream)) else if waits then Err ReadFault
       else stream_or stream (next_line tag command_in does stream.run line)) ≡ Ok next
       → part next.run.node ≡ part stream.run.node
-  tested-keeps stream next line true waits is = ok-err next _ is
-  tested-keeps stream next line false true is = ok-err next _ is
+  tested-keeps stream next line true waits is = ok-err _ next _ refl is
+  tested-keeps stream next line false true is = ok-err _ next _ refl is
   tested-keeps stream next line false false is =
       answered-keeps stream next line (next_line tag command_in does stream.run line) refl is
 

@@ -1,10 +1,10 @@
 -- Nodes that are declared.
 use Rattle.std.proofs.Common.{◌≡◌, ◌∷◌, [], ℕ, true, List, length, Option, Some, None, Result, Ok, refl, sym, ◌∙◌, ap, subst}
-use Rattle.std.specs.Option.{ForSome, option_map_or, unwrap_or}
+use Rattle.std.specs.Option.{ForSome, option_map, option_map_or, unwrap_or}
 use Rattle.std.specs.List.{slice_get}
 use Rattle.std.specs.Result.{OnOk}
 use Rattle.std.proofs.lemmas.Result.{IfOk-at_ok}
-use Rattle.crash_disk.specs.Disk.{Step, content}
+use Rattle.crash_disk.specs.Disk.{Step, content, after_calls}
 use Rattle.crash_disk.specs.Calls.{WhereTold}
 use Rattle.crash_disk.specs.Memory.{MemState}
 use Rattle.crash_disk.proofs.Plans.{none_listed}
