@@ -1,5 +1,5 @@
 -- The disks of a node that is somewhere, as they are handed back.
-use Rattle.std.proofs.Common.{◌≡◌, ◌⊎◌, ℕ, List, Option, Some, None, Result, refl, subst, inl, inr}
+use Rattle.std.proofs.Common.{◌⊎◌, ℕ, List, Option, Some, None, Result, refl, subst, inl, inr}
 use Rattle.crash_disk.specs.Disk.{History, FaultPlan}
 use Rattle.crash_disk.specs.Calls.{WhereTold}
 use Rattle.gate_journal.specs.Journal.{IsSettled}

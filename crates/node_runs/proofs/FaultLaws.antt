@@ -1,6 +1,5 @@
 -- The faults that a run's disks met, by its status.
-use Rattle.std.proofs.Common.{◌≡◌, ◌⊎◌, ℕ, Bool, true, false, List, Option, Some, None, Result, Ok, Err, inl, inr, refl, sym, ap, ◌∙◌, subst}
-use Rattle.std.specs.Prelude.{Unit}
+use Rattle.std.proofs.Common.{◌≡◌, ℕ, Bool, true, false, List, [], Option, Some, None, Result, Ok, Err, inl, inr, refl, sym, ap, ◌∙◌, subst}
 use Rattle.plasma_base.specs.Causes.{faults_after}
 use Rattle.crash_disk.specs.Disk.{History, FaultPlan}
 use Rattle.gate_journal.specs.Journal.{is_device_fault}
@@ -9,13 +8,12 @@ use Rattle.gate_journal.specs.declared.refusal.InitRefusal.TheVariants.{AlreadyM
 use Rattle.gate_journal.specs.declared.refusal.JournalRefusal.{JournalRefusal}
 use Rattle.gate_journal.specs.declared.refusal.JournalRefusal.TheVariants.{AlreadyMade as JournalMade, NotJournal as JournalPlace, DeviceFault as JournalFault, Closed as JournalClosed, RecordTooLong as JournalLong, NoMemory as JournalNoMemory}
 use Rattle.plasma_tx.specs.declared.call.RootCall.{RootCall}
-use Rattle.node_journal.specs.Notes.{NotesState, Opened, RefusesRole}
-use Rattle.node_journal.specs.Begin.{BeginsPair, IsNotTold, RefusesPair, is_init_fault}
+use Rattle.node_journal.specs.Begin.{BeginsPair, is_init_fault}
 use Rattle.streamed_lines.specs.declared.ending.Ending.{Ending}
 use Rattle.streamed_lines.specs.declared.ending.Ending.TheVariants.{Complete, BadLine, ReadFault, TooLong, Ended}
-use Rattle.streamed_lines.specs.Streams.{Rules, Stream, stream_of}
-use Rattle.node_sessions.specs.Sessions.{SessionState, begun, calls_of, session_rules}
-use Rattle.node_sessions.proofs.StayLaws.{session-keeps, run-keeps}
+use Rattle.streamed_lines.specs.Streams.{stream_of}
+use Rattle.node_sessions.specs.Sessions.{begun, calls_of, session_rules}
+use Rattle.node_sessions.proofs.StayLaws.{ok-same, session-keeps, run-keeps}
 use Rattle.node_answers.specs.Answers.{Outcome, watcher_outcome, operator_outcome, wallet_outcome}
 use Rattle.node_roles.specs.Notes.{NodeAt, NotesAt, with_note}
 use Rattle.node_roles.specs.Deeds.{left_with, notes_do}
@@ -31,7 +29,7 @@ use Rattle.run_endings.specs.Statuses.{FaultsBy}
 use Rattle.run_endings.specs.Outputs.{Output, EndsAs}
 use Rattle.wallet_node.specs.Opening.{IsUnbound, RefusesWallet}
 use Rattle.node_runs.specs.Endings.{status_of, session_output, fault_output, refused_output, init_output}
-use Rattle.node_runs.specs.Disks.{Keeps, Failed, KeepsBoth, EitherFailed}
+use Rattle.node_runs.specs.Disks.{Failed, EitherFailed}
 use Rattle.node_runs.specs.Faults.{Counts, CountsEither}
 use Rattle.node_runs.specs.Inits.{InitsNotes, InitsWallet}
 use Rattle.node_runs.specs.Runs.{RunsNotes, RunsWatcher, RunsOperator, RunsWallet}
@@ -40,19 +38,19 @@ use Rattle.node_runs.specs.Sessions.{Outside, RunsSession}
 -- ---- by the output
 
 -- a run whose output has another status than DeviceFault ends with another
-pub other-status : (output : Output) (status : Status) {before after : Option (List ℕ)} {failed : Type 0}
+pub other-status : (output : Output) (status : Status) (before after : Option (List ℕ)) (failed : Type 0)
     → (output.status ≡ DeviceFault → ⊥) → EndsAs output status before after failed → status ≡ DeviceFault → ⊥
-other-status output DeviceFault never ends is = never ends.0
-other-status output Done never ends is = absurd (cc (is))
-other-status output Refused never ends is = absurd (cc (is))
-other-status output Usage never ends is = absurd (cc (is))
-other-status output BadLineStatus never ends is = absurd (cc (is))
-other-status output ReadFaultStatus never ends is = absurd (cc (is))
-other-status output WriteFault never ends is = absurd (cc (is))
-other-status output NoMemory never ends is = absurd (cc (is))
-other-status output TooLongStatus never ends is = absurd (cc (is))
-other-status output NotJournal never ends is = absurd (cc (is))
-other-status output AlreadyMade never ends is = absurd (cc (is))
+other-status output DeviceFault before after failed never ends is = never ends.0
+other-status output Done before after failed never ends is = absurd (cc (is))
+other-status output Refused before after failed never ends is = absurd (cc (is))
+other-status output Usage before after failed never ends is = absurd (cc (is))
+other-status output BadLineStatus before after failed never ends is = absurd (cc (is))
+other-status output ReadFaultStatus before after failed never ends is = absurd (cc (is))
+other-status output WriteFault before after failed never ends is = absurd (cc (is))
+other-status output NoMemory before after failed never ends is = absurd (cc (is))
+other-status output TooLongStatus before after failed never ends is = absurd (cc (is))
+other-status output NotJournal before after failed never ends is = absurd (cc (is))
+other-status output AlreadyMade before after failed never ends is = absurd (cc (is))
 
 -- no fault was met
 pub none-met : (Met : Bool → Type 0) (status : Status) → (status ≡ DeviceFault → ⊥) → Met false → FaultsBy status Met
@@ -84,19 +82,20 @@ by-more Met More more NotJournal is = more false is
 by-more Met More more AlreadyMade is = more false is
 
 -- one was, and the run says so, or its text was stopped
-one-met : (Met : Bool → Type 0) (answers : List ℕ) (status : Status) {before after : Option (List ℕ)} {failed : Type 0}
+one-met : (Met : Bool → Type 0) (answers : List ℕ) (status : Status) (before after : Option (List ℕ))
+    (failed : Type 0)
     → EndsAs (fault_output answers) status before after failed → Met true → FaultsBy status Met
-one-met Met answers DeviceFault ends one = one
-one-met Met answers WriteFault ends one = (true, one)
-one-met Met answers NoMemory ends one = (true, one)
-one-met Met answers Done ends one = absurd (cc (ends.0))
-one-met Met answers Refused ends one = absurd (cc (ends.0))
-one-met Met answers Usage ends one = absurd (cc (ends.0))
-one-met Met answers BadLineStatus ends one = absurd (cc (ends.0))
-one-met Met answers ReadFaultStatus ends one = absurd (cc (ends.0.0))
-one-met Met answers TooLongStatus ends one = absurd (cc (ends.0))
-one-met Met answers NotJournal ends one = absurd (cc (ends.0))
-one-met Met answers AlreadyMade ends one = absurd (cc (ends.0))
+one-met Met answers DeviceFault before after failed ends one = one
+one-met Met answers WriteFault before after failed ends one = (true, one)
+one-met Met answers NoMemory before after failed ends one = (true, one)
+one-met Met answers Done before after failed ends one = absurd (cc (ends.0))
+one-met Met answers Refused before after failed ends one = absurd (cc (ends.0))
+one-met Met answers Usage before after failed ends one = absurd (cc (ends.0))
+one-met Met answers BadLineStatus before after failed ends one = absurd (cc (ends.0))
+one-met Met answers ReadFaultStatus before after failed ends one = absurd (cc (ends.0.0))
+one-met Met answers TooLongStatus before after failed ends one = absurd (cc (ends.0))
+one-met Met answers NotJournal before after failed ends one = absurd (cc (ends.0))
+one-met Met answers AlreadyMade before after failed ends one = absurd (cc (ends.0))
 
 session-other : (ending : Ending (List ℕ)) → status_of ending ≡ DeviceFault → ⊥
 session-other Complete is = cc
@@ -122,21 +121,25 @@ module _ {A L : Type 0} (tag : List ℕ) (command_in : List ℕ → Option L)
   session-counts outside failed status (inl is) =
       let ended = stream_of (session_rules tag command_in does) (begun found) is.bytes is.ended in
       none-met Met status
-      (other-status (session_output ended) status (session-other ended.ending) is.ends)
+      (other-status (session_output ended) status _ _ _ (session-other ended.ending) is.ends)
       (left ended.stream.run.node (session-keeps tag command_in does part kept found is.bytes is.ended) is.left)
   session-counts outside failed status (inr (inl is)) =
-      one-met Met is.stream.text status is.ends
+      one-met Met is.stream.text status _ _ _ is.ends
       (faulted (calls_of is.stream.run.log) is.stream.run.node is.left.1.0
       (run-keeps tag command_in does part kept found is.begins.front is.stream is.begins.runs) is.left.1.2)
-  session-counts outside failed WriteFault (inr (inr is)) =
-      (false, left is.stream.run.node
-      (run-keeps tag command_in does part kept found is.begins.front is.stream is.begins.runs) is.left)
+  session-counts outside failed WriteFault (inr (inr is)) = (
+    false,
+    left is.stream.run.node
+        (run-keeps tag command_in does part kept found is.begins.front is.stream is.begins.runs) is.left,
+  )
   session-counts outside failed NoMemory (inr (inr is)) =
-      let same = run-keeps tag command_in does part kept found is.begins.front is.stream is.begins.runs in
-      (false, elim is.left [
-        | inl there ↦ left is.stream.run.node same there
-        | inr next ↦ unanswered (calls_of is.stream.run.log) is.stream.run.node next.1.0 same next.1.2
-      ])
+      let same = run-keeps tag command_in does part kept found is.begins.front is.stream is.begins.runs in (
+        false,
+        elim is.left [
+          | inl there ↦ left is.stream.run.node same there
+          | inr next ↦ unanswered (calls_of is.stream.run.log) is.stream.run.node next.1.0 same next.1.2
+        ],
+      )
   session-counts outside failed Done (inr (inr is)) = absurd is.left
   session-counts outside failed Refused (inr (inr is)) = absurd is.left
   session-counts outside failed Usage (inr (inr is)) = absurd is.left
@@ -149,30 +152,30 @@ module _ {A L : Type 0} (tag : List ℕ) (command_in : List ℕ → Option L)
 
 -- ---- what was refused
 
-refused-counts : (Met : Bool → Type 0) (why : JournalRefusal) (status : Status) {before after : Option (List ℕ)}
+refused-counts : (Met : Bool → Type 0) (why : JournalRefusal) (status : Status) (before after : Option (List ℕ))
     → EndsAs (refused_output why) status before after ⊥ → Met (is_device_fault why) → FaultsBy status Met
-refused-counts Met JournalFault status ends met = one-met Met [] status ends met
-refused-counts Met (JournalPlace place) status ends met =
-    none-met Met status (other-status (refused_output (JournalPlace place)) status (λ is. cc (is)) ends) met
-refused-counts Met (JournalMade count) status ends met =
-    none-met Met status (other-status (refused_output (JournalMade count)) status (λ is. cc (is)) ends) met
-refused-counts Met (JournalLong count) status ends met =
-    none-met Met status (other-status (refused_output (JournalLong count)) status (λ is. cc (is)) ends) met
-refused-counts Met JournalClosed status ends met =
-    none-met Met status (other-status (refused_output JournalClosed) status (λ is. cc (is)) ends) met
-refused-counts Met JournalNoMemory status ends met =
-    none-met Met status (other-status (refused_output JournalNoMemory) status (λ is. cc (is)) ends) met
+refused-counts Met JournalFault status before after ends met = one-met Met [] status _ _ _ ends met
+refused-counts Met (JournalPlace place) status before after ends met =
+    none-met Met status (other-status (refused_output (JournalPlace place)) status _ _ _ (λ is. cc (is)) ends) met
+refused-counts Met (JournalMade count) status before after ends met =
+    none-met Met status (other-status (refused_output (JournalMade count)) status _ _ _ (λ is. cc (is)) ends) met
+refused-counts Met (JournalLong count) status before after ends met =
+    none-met Met status (other-status (refused_output (JournalLong count)) status _ _ _ (λ is. cc (is)) ends) met
+refused-counts Met JournalClosed status before after ends met =
+    none-met Met status (other-status (refused_output JournalClosed) status _ _ _ (λ is. cc (is)) ends) met
+refused-counts Met JournalNoMemory status before after ends met =
+    none-met Met status (other-status (refused_output JournalNoMemory) status _ _ _ (λ is. cc (is)) ends) met
 
 init-counts : (Met : Bool → Type 0) (answer : Result Unit InitRefusal) (status : Status)
-    {before after : Option (List ℕ)} → EndsAs (init_output answer) status before after ⊥ → Met (is_init_fault answer)
+    (before after : Option (List ℕ)) → EndsAs (init_output answer) status before after ⊥ → Met (is_init_fault answer)
     → FaultsBy status Met
-init-counts Met (Ok done) status ends met =
-    none-met Met status (other-status (init_output (Ok done)) status (λ is. cc (is)) ends) met
-init-counts Met (Err InitFault) status ends met = one-met Met [] status ends met
-init-counts Met (Err (InitMade count)) status ends met =
-    none-met Met status (other-status (init_output (Err (InitMade count))) status (λ is. cc (is)) ends) met
-init-counts Met (Err InitNoMemory) status ends met =
-    none-met Met status (other-status (init_output (Err InitNoMemory)) status (λ is. cc (is)) ends) met
+init-counts Met (Ok done) status before after ends met =
+    none-met Met status (other-status (init_output (Ok done)) status _ _ _ (λ is. cc (is)) ends) met
+init-counts Met (Err InitFault) status before after ends met = one-met Met [] status _ _ _ ends met
+init-counts Met (Err (InitMade count)) status before after ends met =
+    none-met Met status (other-status (init_output (Err (InitMade count))) status _ _ _ (λ is. cc (is)) ends) met
+init-counts Met (Err InitNoMemory) status before after ends met =
+    none-met Met status (other-status (init_output (Err InitNoMemory)) status _ _ _ (λ is. cc (is)) ends) met
 
 -- ---- what a command keeps
 
@@ -190,7 +193,8 @@ either-keep at (Some leaf) added = refl
 
 left-keep : {A M : Type 0} (part : A → M) (next left : A) (says : Result (List ℕ) (List ℕ)) (text : List ℕ)
     → left_with next says ≡ Ok (left, text) → part left ≡ part next
-left-keep part next left (Ok answer) text is = (let same : next ≡ left = cc (is) in ap part (sym same))
+left-keep part next left (Ok answer) text is =
+    ap (λ (p : _ × List ℕ). part p.0) (sym (ok-same _ (next, answer) (left, text) refl is))
 left-keep part next left (Err cause) text is = absurd (cc (is))
 
 -- ---- over disks that count their faults
@@ -238,7 +242,7 @@ module _ {D : Type 0} (told : D → Option History) (plan : D → Option FaultPl
       keeps.faults_are ∙ notes-keep at.kept (outcome at.dig log at.kept.records line).note ∙ same ∙ opens.count)
       outside failed status runs
   notes-count read tag command_in outcome old new outside failed status (inr (why, refuses, refused)) =
-      refused-counts (Counts faults old new) why status refused.ends refuses.count
+      refused-counts (Counts faults old new) why status _ _ refused.ends refuses.count
 
   pub watcher-counts : (old new : D) (outside : Outside) (failed : Type 0) (status : Status)
       → RunsWatcher told plan faults dig old new outside failed status → FaultsBy status (Counts faults old new)
@@ -320,7 +324,7 @@ module _ {D : Type 0} (told : D → Option History) (plan : D → Option FaultPl
         ))
         outside failed status runs
     wallet-counts outside failed status (inr (why, refuses, refused)) =
-        refused-counts (CountsEither faults notes leaves new_notes new_leaves) why status refused.ends
+        refused-counts (CountsEither faults notes leaves new_notes new_leaves) why status _ _ refused.ends
         (refused-met why refuses)
 
 -- ---- inits
@@ -329,7 +333,7 @@ module _ {D : Type 0} (told : D → Option History) (plan : D → Option FaultPl
     (taken after : Option (List ℕ)) (status : Status) (identity : List ℕ) where
   pub inits-count : (old new : D) → InitsNotes told plan faults taken after status identity old new
       → FaultsBy status (Counts faults old new)
-  inits-count old new is = init-counts (Counts faults old new) is.answer status is.ends is.count
+  inits-count old new is = init-counts (Counts faults old new) is.answer status _ _ is.ends is.count
 
   pair-met : (notes leaves new_notes new_leaves : D) (answer : Result Unit InitRefusal)
       → BeginsPair told plan faults told plan faults identity notes leaves answer new_notes new_leaves
@@ -360,5 +364,5 @@ module _ {D : Type 0} (told : D → Option History) (plan : D → Option FaultPl
       → InitsWallet told plan faults taken after status identity notes leaves new_notes new_leaves
       → FaultsBy status (CountsEither faults notes leaves new_notes new_leaves)
   inits-count-either notes leaves new_notes new_leaves is =
-      init-counts (CountsEither faults notes leaves new_notes new_leaves) is.answer status is.ends
+      init-counts (CountsEither faults notes leaves new_notes new_leaves) is.answer status _ _ is.ends
       (pair-met notes leaves new_notes new_leaves is.answer is.inits)

@@ -1,5 +1,5 @@
 -- A session of a node that was answered, or broken off, as a run of the node.
-use Rattle.std.proofs.Common.{◌≡◌, ◌⊎◌, ℕ, inl, inr, Bool, true, false, List, [], ◌++◌, Option, Result, Ok, Err, refl, sym, ap, ◌∙◌, subst}
+use Rattle.std.proofs.Common.{◌≡◌, ◌⊎◌, ℕ, inl, inr, Bool, true, List, ◌++◌, Option, Ok, sym, ap, ◌∙◌, subst}
 use Rattle.plasma_tx.specs.declared.call.RootCall.{RootCall}
 use Rattle.node_journal.specs.declared.stop.Stop.{Stop as NodeStop}
 use Rattle.node_journal.specs.declared.stop.Stop.TheVariants.{NoMemory as NodeMemory, DeviceFault as NodeFault}

@@ -6,7 +6,7 @@ use Rattle.gate_journal.specs.declared.refusal.InitRefusal.{InitRefusal}
 use Rattle.gate_journal.specs.declared.refusal.InitRefusal.TheVariants.{AlreadyMade as InitMade, DeviceFault as InitFault, NoMemory as InitNoMemory}
 use Rattle.streamed_lines.specs.declared.ending.Ending.{Ending}
 use Rattle.streamed_lines.specs.declared.ending.Ending.TheVariants.{Complete, BadLine, ReadFault, TooLong, Ended}
-use Rattle.streamed_lines.specs.Streams.{Stream, Streamed}
+use Rattle.streamed_lines.specs.Streams.{Streamed}
 use Rattle.run_endings.specs.declared.status.Status.{Status}
 use Rattle.run_endings.specs.declared.status.Status.TheVariants.{Done, Refused, BadLine as BadLineStatus, ReadFault as ReadFaultStatus, DeviceFault, NoMemory, TooLong as TooLongStatus, NotJournal, AlreadyMade}
 use Rattle.run_endings.specs.Outputs.{Output}

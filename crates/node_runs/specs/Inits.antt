@@ -1,5 +1,5 @@
 -- What an init of a watcher, an operator or a wallet does.
-use Rattle.std.specs.Prelude.{◌≡◌, ℕ, List, [], ◌∷◌, None, Option, Result, OnOk}
+use Rattle.std.specs.Prelude.{◌≡◌, ℕ, List, [], ◌∷◌, Option, Result, OnOk}
 use Rattle.plasma_base.specs.Causes.{faults_after}
 use Rattle.crash_disk.specs.Disk.{History, FaultPlan}
 use Rattle.crash_disk.specs.Calls.{WhereTold}

@@ -1,5 +1,5 @@
 -- What a run of a watcher, an operator or a wallet does.
-use Rattle.std.specs.Prelude.{◌≡◌, ◌⊎◌, ℕ, false, List, [], Option, Result}
+use Rattle.std.specs.Prelude.{◌⊎◌, ℕ, false, List, [], Option, Result}
 use Rattle.crash_disk.specs.Disk.{History, FaultPlan}
 use Rattle.gate_journal.specs.declared.refusal.JournalRefusal.{JournalRefusal}
 use Rattle.plasma_tx.specs.declared.call.RootCall.{RootCall}
@@ -9,12 +9,12 @@ use Rattle.node_lines.specs.Grammar.{watcher_line_in, operator_line_in, wallet_l
 use Rattle.node_rules.specs.Watcher.{watcher_kinds, who_is as watcher_is}
 use Rattle.node_rules.specs.Wallet.{who as wallet_is}
 use Rattle.operator_rules.specs.Records.{operator_kinds, who_is as operator_is}
-use Rattle.wallet_node.specs.State.{WalletState, notes_part, leaves_part}
+use Rattle.wallet_node.specs.State.{WalletState}
 use Rattle.wallet_node.specs.Opening.{OpensWallet, RefusesWallet}
 use Rattle.node_answers.specs.Answers.{Outcome, watcher_outcome, operator_outcome, wallet_outcome}
-use Rattle.node_roles.specs.Notes.{NotesAt, with_note}
+use Rattle.node_roles.specs.Notes.{with_note}
 use Rattle.node_roles.specs.Deeds.{notes_do}
-use Rattle.node_roles.specs.Wallets.{WalletAt, records_of, with_either, wallet_does}
+use Rattle.node_roles.specs.Wallets.{records_of, with_either, wallet_does}
 use Rattle.node_sessions.specs.Sessions.{session_rules}
 use Rattle.streamed_lines.specs.Outside.{Gave}
 use Rattle.run_endings.specs.declared.status.Status.{Status}

@@ -17,7 +17,7 @@ ok-err : {T E P : Type 0} (result : Result T E) (x : T) (e : E) → result ≡ E
 ok-err result x e wrong well = absurd (cc (wrong, well))
 
 -- what went well came to one thing
-ok-same : {T E : Type 0} (result : Result T E) (a b : T) → result ≡ Ok a → result ≡ Ok b → a ≡ b
+pub ok-same : {T E : Type 0} (result : Result T E) (a b : T) → result ≡ Ok a → result ≡ Ok b → a ≡ b
 ok-same result a b first second = cc (first, second)
 
 module _ {A L : Type 0} (tag : List ℕ) (command_in : List ℕ → Option L)

@@ -36,7 +36,7 @@ module _ {D : Type 0} (told : D → Option History) (plan : D → Option FaultPl
       → EndsAs output status outside.taken outside.after cause → new_notes ≡ notes → new_leaves ≡ leaves
       → FaultsBy status Met
   unused output never ends notes_stay leaves_stay =
-      none-met Met status (other-status output status never ends) (ap faults notes_stay, ap faults leaves_stay)
+      none-met Met status (other-status output status _ _ _ never ends) (ap faults notes_stay, ap faults leaves_stay)
 
   -- one that uses the notes alone
   of-notes : FaultsBy status (Counts faults notes new_notes) → new_leaves ≡ leaves → FaultsBy status Met
