@@ -1,4 +1,6 @@
-use super::chain::{Due, STRANGER, bundle, due_of};
+use super::chain::{Due, bundle};
+use super::checks::assert_same;
+use super::commands::{self, due, send, state};
 use super::outcomes::crash_both;
 use super::transfers::{Payment, make_payment};
 use super::wallets::{Disks, Transfer, Wallet, closed, make_key, opened, owner_of, started, told};
@@ -26,12 +28,15 @@ struct Accepts {
 fn accept(node: &mut Wallet, given: &Payment, cut: &[u8]) -> Accepts {
     let (log, history) = (&given.payers_exit.cancelled, given.history.as_slice());
     Accepts {
-        stands: node.accept(&given.payers_exit.stands, history),
-        withdrawn: node.accept(&given.exit.withdrawn, history),
-        cut: node.accept(log, cut),
-        bad: node.accept(log, &[1]),
-        before: node.state(log, 1),
-        accepted: [node.accept(log, history), node.accept(log, history)],
+        stands: commands::accept(node, &given.payers_exit.stands, history),
+        withdrawn: commands::accept(node, &given.exit.withdrawn, history),
+        cut: commands::accept(node, log, cut),
+        bad: commands::accept(node, log, &[1]),
+        before: state(node, log, 1),
+        accepted: [
+            commands::accept(node, log, history),
+            commands::accept(node, log, history),
+        ],
         records: node.records(),
     }
 }
@@ -49,12 +54,12 @@ struct Keeps {
 fn send_on(alloc: Global, node: &mut Wallet, given: &Payment) -> Keeps {
     Keeps {
         records: node.records(),
-        state: node.state(&given.quiet, 1),
+        state: state(node, &given.quiet, 1),
         due: [
-            due_of(node.watch(&given.payers_exit.stands)),
-            due_of(node.watch(&given.payers_exit.cancelled)),
+            due(node, &given.payers_exit.stands),
+            due(node, &given.payers_exit.cancelled),
         ],
-        sent: told(alloc, &node.owner(), &node.send(&given.quiet, 1, &STRANGER)),
+        sent: told(alloc, &node.owner(), send(node, &given.quiet, 1)).0,
     }
 }
 
@@ -95,16 +100,25 @@ fn play(
 fn assert_accepts(rt: &impl Abort, accepts: &Accepts) {
     let accepted = Ok(Accepted { coin: 1, tip: 2 });
     let history = |why| Err(NodeRefusal::History { why });
-    assert_eq!(rt; accepts.stands, Err(NodeRefusal::ExitStands { block: 1 }));
-    assert_eq!(rt; accepts.withdrawn, Err(NodeRefusal::Withdrawn));
-    assert_eq!(rt; accepts.cut, history(HistoryRefusal::MissingBlock { n: 2 }));
-    assert_eq!(rt;
-        accepts.bad,
-        history(HistoryRefusal::BadBundle { place: 0 })
+    assert_same(
+        rt,
+        accepts.stands,
+        Err(NodeRefusal::ExitStands { block: 1 }),
     );
-    assert_eq!(rt; accepts.before, CoinState::Nothing);
-    assert_eq!(rt; accepts.accepted, [accepted, accepted]);
-    assert_eq!(rt; accepts.records, (1, 0));
+    assert_same(rt, accepts.withdrawn, Err(NodeRefusal::Withdrawn));
+    assert_same(
+        rt,
+        accepts.cut,
+        history(HistoryRefusal::MissingBlock { n: 2 }),
+    );
+    assert_same(
+        rt,
+        accepts.bad,
+        history(HistoryRefusal::BadBundle { place: 0 }),
+    );
+    assert_same(rt, accepts.before, CoinState::Nothing);
+    assert_same(rt, accepts.accepted, [accepted, accepted]);
+    assert_same(rt, accepts.records, (1, 0));
 }
 
 fn assert_keeps(rt: &impl Abort, keeps: &Keeps) {
@@ -122,10 +136,10 @@ fn assert_keeps(rt: &impl Abort, keeps: &Keeps) {
         last: None,
         is_signed: true,
     };
-    assert_eq!(rt; keeps.records, (1, 0));
-    assert_eq!(rt; keeps.state, CoinState::Held { tip: 2 });
-    assert_eq!(rt; keeps.due, [after, Due::Nothing]);
-    assert_eq!(rt; keeps.sent, Ok(transfer));
+    assert_same(rt, keeps.records, (1, 0));
+    assert_same(rt, keeps.state, CoinState::Held { tip: 2 });
+    assert_same(rt, keeps.due, [after, Due::Nothing]);
+    assert_same(rt, keeps.sent, Ok(transfer));
 }
 
 #[test]

@@ -1,7 +1,8 @@
-use super::chain::{Due, TAG, bundle, due_of};
+use super::chain::{Due, TAG, bundle};
+use super::checks::assert_same;
 use super::transfers::{Payment, make_payment};
 use super::wallets::{make_key, owner_of};
-use super::watchers::{WATCHER, Watcher, begun, opened};
+use super::watchers::{self, WATCHER, Watcher, begun, due, opened, release};
 use coin_history::HistoryRefusal;
 use crash_disk::MemDisk;
 use plasma_base::Toy;
@@ -24,11 +25,14 @@ struct Guards {
 fn guard(node: &mut Watcher, given: &Payment, cut: &[u8]) -> Guards {
     let (log, history) = (&given.quiet, given.history.as_slice());
     Guards {
-        guards: [node.guard(log, history), node.guard(log, history)],
-        cut: node.guard(log, cut),
-        bad: node.guard(log, &[1]),
+        guards: [
+            watchers::guard(node, log, history),
+            watchers::guard(node, log, history),
+        ],
+        cut: watchers::guard(node, log, cut),
+        bad: watchers::guard(node, log, &[1]),
         records: node.records(),
-        due: due_of(node.watch(log)),
+        due: due(node, log),
     }
 }
 
@@ -48,12 +52,12 @@ fn watch(node: &mut Watcher, given: &Payment) -> Watches {
     Watches {
         records: node.records(),
         due: [
-            due_of(node.watch(&given.payers_exit.stands)),
-            due_of(node.watch(&given.payers_exit.cancelled)),
+            due(node, &given.payers_exit.stands),
+            due(node, &given.payers_exit.cancelled),
         ],
-        guard: node.guard(&given.payers_exit.stands, given.history.as_slice()),
-        releases: [node.release(1, 1), node.release(1, 2), node.release(1, 2)],
-        last_due: due_of(node.watch(&given.payers_exit.stands)),
+        guard: watchers::guard(node, &given.payers_exit.stands, given.history.as_slice()),
+        releases: [release(node, 1), release(node, 2), release(node, 2)],
+        last_due: due(node, &given.payers_exit.stands),
         last_records: node.records(),
     }
 }
@@ -78,11 +82,19 @@ fn play(alloc: Global, given: &Payment, cut: &[u8]) -> Result<(Guards, Watches),
 fn assert_guards(rt: &impl Abort, guards: &Guards) {
     let accepted = Ok(Accepted { coin: 1, tip: 2 });
     let history = |why| Err(NodeRefusal::History { why });
-    assert_eq!(rt; guards.guards, [accepted, accepted]);
-    assert_eq!(rt; guards.cut, history(HistoryRefusal::MissingBlock { n: 2 }));
-    assert_eq!(rt; guards.bad, history(HistoryRefusal::BadBundle { place: 0 }));
-    assert_eq!(rt; guards.records, (1, 0));
-    assert_eq!(rt; guards.due, Due::Nothing);
+    assert_same(rt, guards.guards, [accepted, accepted]);
+    assert_same(
+        rt,
+        guards.cut,
+        history(HistoryRefusal::MissingBlock { n: 2 }),
+    );
+    assert_same(
+        rt,
+        guards.bad,
+        history(HistoryRefusal::BadBundle { place: 0 }),
+    );
+    assert_same(rt, guards.records, (1, 0));
+    assert_same(rt, guards.due, Due::Nothing);
 }
 
 fn assert_watches(rt: &impl Abort, watches: &Watches) {
@@ -93,12 +105,12 @@ fn assert_watches(rt: &impl Abort, watches: &Watches) {
         exit: 1,
         block: 2,
     };
-    assert_eq!(rt; watches.records, (1, 0));
-    assert_eq!(rt; watches.due, [after, Due::Nothing]);
-    assert_eq!(rt; watches.guard, Err(NodeRefusal::ExitStands { block: 1 }));
-    assert_eq!(rt; watches.releases, [no_guard, Ok(()), no_guard]);
-    assert_eq!(rt; watches.last_due, Due::Nothing);
-    assert_eq!(rt; watches.last_records, (2, 0));
+    assert_same(rt, watches.records, (1, 0));
+    assert_same(rt, watches.due, [after, Due::Nothing]);
+    assert_same(rt, watches.guard, Err(NodeRefusal::ExitStands { block: 1 }));
+    assert_same(rt, watches.releases, [no_guard, Ok(()), no_guard]);
+    assert_same(rt, watches.last_due, Due::Nothing);
+    assert_same(rt, watches.last_records, (2, 0));
 }
 
 #[test]

@@ -1,4 +1,6 @@
-use super::chain::{Due, STRANGER, bundle, deposited, due_of};
+use super::chain::{Due, STRANGER, bundle, deposited};
+use super::checks::assert_same;
+use super::commands::{self, due, send, state};
 use super::transfers::{Payment, make_payment};
 use super::wallets::{Wallet, leaf, make_key, owner_of, started};
 use plasma_tx::{RootCall, RootLog, Shown};
@@ -11,24 +13,32 @@ use wallet_node::{Accepted, NodeRefusal, WalletKey};
 // The start of an exit: the account, the coin, the exit's block, and that of the parent, which a deposit doesn't have.
 type Start = (u64, u64, u64, Option<u64>);
 
-fn start(answer: Result<RootCall, NodeRefusal>) -> Result<Start, NodeRefusal> {
-    match answer {
-        Ok(
-            RootCall::StartDeposit {
-                account,
-                coin,
-                block,
-            },
-        ) => Ok((account, coin, block, None)),
-        Ok(
-            RootCall::StartSpend {
-                account,
-                coin,
-                parent: Shown::Deposit { block },
-                exit,
-            },
-        ) => Ok((account, coin, exit.block, Some(block))),
-        Ok(_) => Ok((0, 0, 0, None)),
+// What a call starts; zeros where it is none that starts an exit.
+fn start_of(call: &RootCall) -> Start {
+    match call {
+        RootCall::StartDeposit {
+            account,
+            coin,
+            block,
+        } => (*account, *coin, *block, None),
+        RootCall::StartSpend {
+            account,
+            coin,
+            parent: Shown::Deposit { block },
+            exit,
+        } => (*account, *coin, exit.block, Some(*block)),
+        _ => (0, 0, 0, None),
+    }
+}
+
+// What a wallet starts that leaves with a coin.
+fn start(node: &mut Wallet, log: &RootLog, coin: u64) -> Result<Start, NodeRefusal> {
+    match node.leave(log, coin) {
+        Ok(call) => {
+            let start = start_of(&call);
+            drop(call);
+            Ok(start)
+        }
         Err(why) => Err(why),
     }
 }
@@ -44,10 +54,10 @@ struct Leaves {
 
 fn leave(node: &mut Wallet, log: &RootLog) -> Leaves {
     Leaves {
-        starts: [start(node.leave(log, 2)), start(node.leave(log, 2))],
+        starts: [start(node, log, 2), start(node, log, 2)],
         records: node.records(),
-        state: node.state(log, 2),
-        sent: leaf(node.send(log, 2, &STRANGER)),
+        state: state(node, log, 2),
+        sent: leaf(send(node, log, 2)),
     }
 }
 
@@ -63,10 +73,10 @@ struct Accepts {
 
 fn accept(node: &mut Wallet, log: &RootLog, other: &RootLog, bundle: &[u8]) -> Accepts {
     Accepts {
-        own: node.accept(log, bundle),
-        other: node.accept(other, bundle),
+        own: commands::accept(node, log, bundle),
+        other: commands::accept(node, other, bundle),
         records: node.records(),
-        due: due_of(node.watch(log)),
+        due: due(node, log),
     }
 }
 
@@ -83,17 +93,21 @@ fn play(
 }
 
 fn assert_leaves(rt: &impl Abort, leaves: &Leaves) {
-    assert_eq!(rt; leaves.starts, [Ok((11, 2, 2, None)), Ok((11, 2, 2, None))]);
-    assert_eq!(rt; leaves.records, (1, 0));
-    assert_eq!(rt; leaves.state, CoinState::Leaving { tip: 2 });
-    assert_eq!(rt; leaves.sent, Err(NodeRefusal::Leaving));
+    assert_same(
+        rt,
+        leaves.starts,
+        [Ok((11, 2, 2, None)), Ok((11, 2, 2, None))],
+    );
+    assert_same(rt, leaves.records, (1, 0));
+    assert_same(rt, leaves.state, CoinState::Leaving { tip: 2 });
+    assert_same(rt, leaves.sent, Err(NodeRefusal::Leaving));
 }
 
 fn assert_accepts(rt: &impl Abort, accepts: &Accepts) {
-    assert_eq!(rt; accepts.own, Ok(Accepted { coin: 1, tip: 1 }));
-    assert_eq!(rt; accepts.other, Err(NodeRefusal::NotMine));
-    assert_eq!(rt; accepts.records, (1, 0));
-    assert_eq!(rt; accepts.due, Due::Nothing);
+    assert_same(rt, accepts.own, Ok(Accepted { coin: 1, tip: 1 }));
+    assert_same(rt, accepts.other, Err(NodeRefusal::NotMine));
+    assert_same(rt, accepts.records, (1, 0));
+    assert_same(rt, accepts.due, Due::Nothing);
 }
 
 #[test]
@@ -122,14 +136,14 @@ struct Paid {
 
 fn leave_paid(node: &mut Wallet, given: &Payment) -> Paid {
     Paid {
-        accepted: node.accept(&given.quiet, given.history.as_slice()),
-        start: start(node.leave(&given.quiet, 1)),
+        accepted: commands::accept(node, &given.quiet, given.history.as_slice()),
+        start: start(node, &given.quiet, 1),
         states: [
-            node.state(&given.exit.challenged, 1),
-            node.state(&given.exit.withdrawn, 1),
+            state(node, &given.exit.challenged, 1),
+            state(node, &given.exit.withdrawn, 1),
         ],
-        due: due_of(node.watch(&given.exit.challenged)),
-        late: start(node.leave(&given.exit.withdrawn, 1)),
+        due: due(node, &given.exit.challenged),
+        late: start(node, &given.exit.withdrawn, 1),
     }
 }
 
@@ -147,11 +161,11 @@ fn assert_paid(rt: &impl Abort, paid: &Paid) {
         block: 2,
     };
     let leaving = CoinState::Leaving { tip: 2 };
-    assert_eq!(rt; paid.accepted, Ok(Accepted { coin: 1, tip: 2 }));
-    assert_eq!(rt; paid.start, Ok((11, 1, 2, Some(1))));
-    assert_eq!(rt; paid.states, [leaving, CoinState::Nothing]);
-    assert_eq!(rt; paid.due, answer);
-    assert_eq!(rt; paid.late, Err(NodeRefusal::NotHeld));
+    assert_same(rt, paid.accepted, Ok(Accepted { coin: 1, tip: 2 }));
+    assert_same(rt, paid.start, Ok((11, 1, 2, Some(1))));
+    assert_same(rt, paid.states, [leaving, CoinState::Nothing]);
+    assert_same(rt, paid.due, answer);
+    assert_same(rt, paid.late, Err(NodeRefusal::NotHeld));
 }
 
 #[test]

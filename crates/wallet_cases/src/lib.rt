@@ -7,6 +7,10 @@ mod accepting;
 #[cfg(test)]
 mod chain;
 #[cfg(test)]
+mod checks;
+#[cfg(test)]
+mod commands;
+#[cfg(test)]
 mod guarding;
 #[cfg(test)]
 mod leaving;

@@ -1,6 +1,8 @@
-use super::chain::{STRANGER, bundle, commit_empty, deposited, no_leaf};
+use super::chain::{bundle, commit_empty, deposited, no_leaf};
+use super::checks::assert_same;
+use super::commands::{self, again, migrate, send_until, state};
 use super::wallets::{
-    Transfer, Wallet, digest_of, leaf, make_key, owner_of, reopened, started, told,
+    Transfer, Wallet, leaf, leaf_and_digest, make_key, owner_of, reopened, started, told,
 };
 use plasma_base::NoMemory;
 use plasma_tx::{Owner, RootLog};
@@ -24,11 +26,11 @@ struct Sends {
 
 fn send(alloc: Global, node: &mut Wallet, log: &RootLog, shown: &[u8]) -> Sends {
     Sends {
-        late: leaf(node.send_until(log, 1, &STRANGER, 2)),
-        unmarked: leaf(node.send_until(log, 1, &STRANGER, 3)),
-        migrations: [node.migrate(), node.migrate()],
-        sent: told(alloc, &node.owner(), &node.send_until(log, 1, &STRANGER, 3)),
-        early: node.reclaim(log, shown),
+        late: leaf(send_until(node, log, 2)),
+        unmarked: leaf(send_until(node, log, 3)),
+        migrations: [migrate(node), migrate(node)],
+        sent: told(alloc, &node.owner(), send_until(node, log, 3)).0,
+        early: commands::reclaim(node, log, shown),
     }
 }
 
@@ -45,17 +47,20 @@ struct Takes {
 }
 
 fn take_back(alloc: Global, node: &mut Wallet, log: &RootLog, shown: &[u8]) -> Takes {
-    let first = digest_of(&node.again(1));
-    let taken = [node.reclaim(log, shown), node.reclaim(log, shown)];
-    let state = node.state(log, 1);
-    let sent = node.send(log, 1, &STRANGER);
+    let (_, first) = leaf_and_digest(again(node, 1));
+    let taken = [
+        commands::reclaim(node, log, shown),
+        commands::reclaim(node, log, shown),
+    ];
+    let before = state(node, log, 1);
+    let (sent, last) = told(alloc, &node.owner(), commands::send(node, log, 1));
     Takes {
         taken,
-        state,
-        sent: told(alloc, &node.owner(), &sent),
-        after: node.state(log, 1),
+        state: before,
+        sent,
+        after: state(node, log, 1),
         first,
-        last: digest_of(&sent),
+        last,
     }
 }
 
@@ -70,12 +75,12 @@ struct Kept {
 }
 
 fn look(node: &Wallet, log: &RootLog) -> Kept {
-    let again = node.again(1);
+    let (again, digest) = leaf_and_digest(again(node, 1));
     Kept {
         records: node.records(),
-        state: node.state(log, 1),
-        digest: digest_of(&again),
-        again: leaf(again),
+        state: state(node, log, 1),
+        again,
+        digest,
     }
 }
 
@@ -122,11 +127,11 @@ fn transfer(q: u32, last: Option<u64>) -> Result<Transfer, NodeRefusal> {
 }
 
 fn assert_sends(rt: &impl Abort, sends: &Sends) {
-    assert_eq!(rt; sends.late, Err(NodeRefusal::BadLast { blocks: 2 }));
-    assert_eq!(rt; sends.unmarked, Err(NodeRefusal::OldJournal));
-    assert_eq!(rt; sends.migrations, [Ok(()), Err(NodeRefusal::AlreadyNew)]);
-    assert_eq!(rt; sends.sent, transfer(0, Some(3)));
-    assert_eq!(rt; sends.early, Err(NodeRefusal::NotYet { last: 3 }));
+    assert_same(rt, sends.late, Err(NodeRefusal::BadLast { blocks: 2 }));
+    assert_same(rt, sends.unmarked, Err(NodeRefusal::OldJournal));
+    assert_same(rt, sends.migrations, [Ok(()), Err(NodeRefusal::AlreadyNew)]);
+    assert_same(rt, sends.sent, transfer(0, Some(3)));
+    assert_same(rt, sends.early, Err(NodeRefusal::NotYet { last: 3 }));
 }
 
 const SENDING: CoinState = CoinState::Sending { tip: 1, q: 1 };
@@ -137,18 +142,18 @@ fn assert_takes(rt: &impl Abort, takes: &Takes) {
         tip: 1,
         q: 0,
     });
-    assert_eq!(rt; takes.taken, [taken, Err(NodeRefusal::NotSending)]);
-    assert_eq!(rt; takes.state, CoinState::Held { tip: 1 });
-    assert_eq!(rt; takes.sent, transfer(1, None));
-    assert_eq!(rt; takes.after, SENDING);
+    assert_same(rt, takes.taken, [taken, Err(NodeRefusal::NotSending)]);
+    assert_same(rt, takes.state, CoinState::Held { tip: 1 });
+    assert_same(rt, takes.sent, transfer(1, None));
+    assert_same(rt, takes.after, SENDING);
     assert_ne!(rt; takes.first, takes.last);
 }
 
 fn assert_kept(rt: &impl Abort, kept: &Kept, digest: Option<[u8; 32]>) {
-    assert_eq!(rt; kept.records, (1, 2));
-    assert_eq!(rt; kept.state, SENDING);
-    assert_eq!(rt; kept.again, Ok(1));
-    assert_eq!(rt; kept.digest, digest);
+    assert_same(rt, kept.records, (1, 2));
+    assert_same(rt, kept.state, SENDING);
+    assert_same(rt, kept.again, Ok(1));
+    assert_same(rt, kept.digest, digest);
 }
 
 // The log in which the wallet deposited two coins, with a block behind them that has no leaf.

@@ -1,7 +1,7 @@
-use super::chain::{STRANGER, deposited};
-use super::wallets::{
-    Transfer, Wallet, digest_of, leaf, make_key, owner_of, reopened, started, told,
-};
+use super::chain::deposited;
+use super::checks::assert_same;
+use super::commands::{again, send, state};
+use super::wallets::{Transfer, Wallet, leaf, make_key, owner_of, reopened, started, told};
 use plasma_tx::{Owner, RootLog};
 use std::alloc::Global;
 use std::process::Abort;
@@ -22,15 +22,15 @@ struct Sends {
 
 fn send_twice(alloc: Global, node: &mut Wallet, log: &RootLog) -> Sends {
     let owner = node.owner();
-    let before = node.state(log, 1);
-    let sent = node.send(log, 1, &STRANGER);
+    let before = state(node, log, 1);
+    let (first, digest) = told(alloc, &owner, send(node, log, 1));
     Sends {
         owner,
         before,
-        first: told(alloc, &owner, &sent),
+        first,
         second: leaf(node.send(log, 1, &owner)),
-        after: node.state(log, 1),
-        digest: digest_of(&sent),
+        after: state(node, log, 1),
+        digest,
     }
 }
 
@@ -46,13 +46,13 @@ struct Kept {
 }
 
 fn look(alloc: Global, node: &Wallet, log: &RootLog) -> Kept {
-    let again = node.again(1);
+    let (first, digest) = told(alloc, &node.owner(), again(node, 1));
     Kept {
         records: node.records(),
-        state: node.state(log, 1),
-        again: told(alloc, &node.owner(), &again),
-        digest: digest_of(&again),
-        other: leaf(node.again(2)),
+        state: state(node, log, 1),
+        again: first,
+        digest,
+        other: leaf(again(node, 2)),
     }
 }
 
@@ -79,19 +79,19 @@ const TRANSFER: Transfer = Transfer {
 };
 
 fn assert_sends(rt: &impl Abort, sends: &Sends, owner: &Owner) {
-    assert_eq!(rt; sends.owner, *owner);
-    assert_eq!(rt; sends.before, CoinState::Held { tip: 1 });
-    assert_eq!(rt; sends.first, Ok(TRANSFER));
-    assert_eq!(rt; sends.second, Err(NodeRefusal::NotHeld));
-    assert_eq!(rt; sends.after, SENDING);
+    assert_same(rt, sends.owner, *owner);
+    assert_same(rt, sends.before, CoinState::Held { tip: 1 });
+    assert_same(rt, sends.first, Ok(TRANSFER));
+    assert_same(rt, sends.second, Err(NodeRefusal::NotHeld));
+    assert_same(rt, sends.after, SENDING);
 }
 
 fn assert_kept(rt: &impl Abort, kept: &Kept, digest: Option<[u8; 32]>) {
-    assert_eq!(rt; kept.records, (0, 1));
-    assert_eq!(rt; kept.state, SENDING);
-    assert_eq!(rt; kept.again, Ok(TRANSFER));
-    assert_eq!(rt; kept.digest, digest);
-    assert_eq!(rt; kept.other, Err(NodeRefusal::NotSending));
+    assert_same(rt, kept.records, (0, 1));
+    assert_same(rt, kept.state, SENDING);
+    assert_same(rt, kept.again, Ok(TRANSFER));
+    assert_same(rt, kept.digest, digest);
+    assert_same(rt, kept.other, Err(NodeRefusal::NotSending));
 }
 
 #[test]

@@ -1,4 +1,6 @@
-use super::chain::{STRANGER, deposited};
+use super::chain::deposited;
+use super::checks::assert_same;
+use super::commands::{send, state};
 use super::wallets::{Wallet, leaf, make_key, owner_of, started};
 use plasma_tx::RootLog;
 use std::alloc::Global;
@@ -12,8 +14,8 @@ fn send_all(node: &mut Wallet, log: &RootLog) -> bool {
     let mut all = true;
     for q in 0..32 {
         let coin = u64::from(q) + 1;
-        all &= leaf(node.send(log, coin, &STRANGER)) == Ok(q);
-        all &= node.state(log, coin) == CoinState::Sending { tip: coin, q };
+        all &= leaf(send(node, log, coin)) == Ok(q);
+        all &= state(node, log, coin) == CoinState::Sending { tip: coin, q };
     }
     all
 }
@@ -32,10 +34,10 @@ struct Answers {
 fn spend(node: &mut Wallet, log: &RootLog) -> Answers {
     Answers {
         all: send_all(node, log),
-        spent: leaf(node.send(log, 33, &STRANGER)),
-        left: node.leave(log, 33).is_ok(),
+        spent: leaf(send(node, log, 33)),
+        left: node.leave(log, 33).err().is_none(),
         records: node.records(),
-        state: node.state(log, 33),
+        state: state(node, log, 33),
     }
 }
 
@@ -46,9 +48,9 @@ fn spend_once(alloc: Global, key: WalletKey, log: &RootLog) -> Result<Answers, F
 
 fn assert_answers(rt: &impl Abort, answers: &Answers) {
     assert!(rt; answers.all && answers.left);
-    assert_eq!(rt; answers.spent, Err(NodeRefusal::KeySpent { used: 32 }));
-    assert_eq!(rt; answers.records, (1, 32));
-    assert_eq!(rt; answers.state, CoinState::Leaving { tip: 33 });
+    assert_same(rt, answers.spent, Err(NodeRefusal::KeySpent { used: 32 }));
+    assert_same(rt, answers.records, (1, 32));
+    assert_same(rt, answers.state, CoinState::Leaving { tip: 33 });
 }
 
 #[test]

@@ -1,7 +1,9 @@
-use super::chain::{Due, STRANGER, deposited, due_of};
+use super::chain::{Due, deposited};
+use super::checks::assert_same;
+use super::commands::{self, again, due, state};
 use super::outcomes::{ROWS, crash_both};
 use super::wallets::{
-    Disks, Wallet, begun, closed, digest_of, disk_of, leaf, make_key, opened, owner_of,
+    Disks, Wallet, begun, closed, disk_of, leaf, leaf_and_digest, make_key, opened, owner_of,
 };
 use crash_disk::MemDisk;
 use plasma_base::NoMemory;
@@ -33,7 +35,7 @@ fn send(
     key: &mut Option<WalletKey>,
 ) -> Result<(Result<u32, NodeRefusal>, Disks), Fail> {
     let mut node = opened(alloc, disks, key.take())?;
-    let sent = leaf(node.send(log, 1, &STRANGER));
+    let sent = leaf(commands::send(&mut node, log, 1));
     Ok((sent, closed(node, key)))
 }
 
@@ -51,10 +53,10 @@ struct Left {
 fn look(node: &mut Wallet, log: &RootLog) -> Left {
     Left {
         records: node.records(),
-        again: leaf(node.again(1)),
-        sent: leaf(node.send(log, 1, &STRANGER)),
-        digest: digest_of(&node.again(1)),
-        other: leaf(node.send(log, 2, &STRANGER)),
+        again: leaf(again(node, 1)),
+        sent: leaf(commands::send(node, log, 1)),
+        digest: leaf_and_digest(again(node, 1)).1,
+        other: leaf(commands::send(node, log, 2)),
     }
 }
 
@@ -155,14 +157,14 @@ struct Answers {
 
 fn fail(node: &mut Wallet, log: &RootLog) -> Answers {
     let before = node.is_closed();
-    let sent = leaf(node.send(log, 1, &STRANGER));
+    let sent = leaf(commands::send(node, log, 1));
     Answers {
         sent,
         left: node.leave(log, 1).err(),
-        migrated: node.migrate(),
+        migrated: commands::migrate(node),
         closed: [before, node.is_closed()],
-        state: node.state(log, 1),
-        due: due_of(node.watch(log)),
+        state: state(node, log, 1),
+        due: due(node, log),
     }
 }
 
@@ -172,12 +174,12 @@ fn fail_once(alloc: Global, key: WalletKey, log: &RootLog) -> Result<Answers, Fa
 }
 
 fn assert_answers(rt: &impl Abort, answers: &Answers) {
-    assert_eq!(rt; answers.sent, Err(NodeRefusal::DeviceFault));
-    assert_eq!(rt; answers.left, Some(NodeRefusal::Closed));
-    assert_eq!(rt; answers.migrated, Err(NodeRefusal::Closed));
-    assert_eq!(rt; answers.closed, [false, true]);
-    assert_eq!(rt; answers.state, CoinState::Held { tip: 1 });
-    assert_eq!(rt; answers.due, Due::Nothing);
+    assert_same(rt, answers.sent, Err(NodeRefusal::DeviceFault));
+    assert_same(rt, answers.left, Some(NodeRefusal::Closed));
+    assert_same(rt, answers.migrated, Err(NodeRefusal::Closed));
+    assert_same(rt, answers.closed, [false, true]);
+    assert_same(rt, answers.state, CoinState::Held { tip: 1 });
+    assert_same(rt, answers.due, Due::Nothing);
 }
 
 #[test]

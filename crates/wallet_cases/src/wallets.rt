@@ -124,30 +124,45 @@ fn read(alloc: Global, owner: &Owner, sent: &Sent) -> Transfer {
     }
 }
 
-/// What is answered, with the transfer read.
+/// What is answered, with the transfer read, and the digest of the bytes that were sent.
 pub fn told(
     alloc: Global,
     owner: &Owner,
-    answer: &Result<Sent, NodeRefusal>,
-) -> Result<Transfer, NodeRefusal> {
+    answer: Result<Sent, NodeRefusal>,
+) -> (Result<Transfer, NodeRefusal>, Option<[u8; 32]>) {
     match answer {
-        Ok(sent) => Ok(read(alloc, owner, sent)),
-        Err(why) => Err(*why),
+        Ok(sent) => {
+            let transfer = read(alloc, owner, &sent);
+            let digest = Sha.digest(sent.bytes.as_slice());
+            drop(sent);
+            (Ok(transfer), Some(digest))
+        }
+        Err(why) => (Err(why), None),
     }
 }
 
-/// The digest of the bytes that were sent.
-pub fn digest_of(answer: &Result<Sent, NodeRefusal>) -> Option<[u8; 32]> {
+/// The leaf of a transfer that was sent, and the digest of its bytes.
+pub fn leaf_and_digest(
+    answer: Result<Sent, NodeRefusal>,
+) -> (Result<u32, NodeRefusal>, Option<[u8; 32]>) {
     match answer {
-        Ok(sent) => Some(Sha.digest(sent.bytes.as_slice())),
-        Err(_) => None,
+        Ok(sent) => {
+            let (q, digest) = (sent.q, Sha.digest(sent.bytes.as_slice()));
+            drop(sent);
+            (Ok(q), Some(digest))
+        }
+        Err(why) => (Err(why), None),
     }
 }
 
-/// The leaf of a transfer that was sent.
+/// The leaf alone.
 pub fn leaf(answer: Result<Sent, NodeRefusal>) -> Result<u32, NodeRefusal> {
     match answer {
-        Ok(sent) => Ok(sent.q),
+        Ok(sent) => {
+            let q = sent.q;
+            drop(sent);
+            Ok(q)
+        }
         Err(why) => Err(why),
     }
 }
