@@ -53,13 +53,16 @@ pub fn crash_both(alloc: Global, disks: Disks, place: usize) -> Result<Disks, No
     ))
 }
 
+/// How many device calls an init makes on its notes before those of the append: three of the making of a journal, and
+/// three of its opening.
+pub const CALLS_BEFORE: u64 = 6;
+
 /// Whether the identity is there after such a crash, where the call with this number of an init fails on the notes'
-/// disk: the making and the opening of a journal have three calls each, and the append that follows four. At 0 none
-/// fails.
-pub fn is_begun(call: u64, place: usize) -> bool {
+/// disk: so many come before the four of the append. At 0 none fails.
+pub fn is_begun(call: u64, before: u64, place: usize) -> bool {
     let row = match call {
         0 => 0,
-        7..11 => call - 6,
+        _ if call > before => call - before,
         _ => return false,
     };
     match ROWS.get(row as usize) {

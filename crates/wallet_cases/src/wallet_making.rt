@@ -2,7 +2,7 @@ ghost use Rattle.std.specs.Prelude.{◌≡◌, true};
 ghost use Rattle.lms_sign.specs.Types.{is_supported};
 
 use super::chain::TAG;
-use super::outcomes::{crash_both, is_begun};
+use super::outcomes::{CALLS_BEFORE, crash_both, is_begun};
 use super::wallets::{Disks, begun, closed, disk_of, make_key, opened, owner_of, who};
 use crash_disk::{Disk, MemDisk};
 use gate_journal::{InitRefusal, JournalRefusal};
@@ -51,7 +51,7 @@ fn fail(
     Ok((answers, records(alloc, disks, key)?))
 }
 
-// With each outcome of the crash between both.
+// With each outcome of the crash between both. A wallet's notes are asked for their length first.
 fn try_calls(
     rt: &impl Abort,
     alloc: Global,
@@ -64,7 +64,7 @@ fn try_calls(
         Err(InitRefusal::DeviceFault)
     };
     for place in 0..4 {
-        let again = if fails.1 == 0 && is_begun(fails.0, place) {
+        let again = if fails.1 == 0 && is_begun(fails.0, CALLS_BEFORE + 1, place) {
             Err(InitRefusal::AlreadyMade { length: 91 })
         } else {
             Ok(())
@@ -82,7 +82,7 @@ fn try_calls(
 #[test]
 fn each_call_of_an_init_fails(rt: HostRuntime) -> Result<(), Fail> {
     let mut key = Some(make_key(rt.alloc())?);
-    for call in 0..11 {
+    for call in 0..12 {
         try_calls(&rt, rt.alloc(), (call, 0), &mut key)?;
     }
     for call in 1..7 {

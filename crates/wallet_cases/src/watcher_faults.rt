@@ -1,5 +1,5 @@
 use super::chain::TAG;
-use super::outcomes::{ROWS, crashed, is_begun};
+use super::outcomes::{CALLS_BEFORE, ROWS, crashed, is_begun};
 use super::transfers::{Payment, make_payment};
 use super::wallets::{disk_of, make_key, owner_of};
 use super::watchers::{WATCHER, Watcher, begun, opened};
@@ -32,7 +32,7 @@ fn each_call_of_an_init_fails(rt: HostRuntime) -> Result<(), Fail> {
             Ok(())
         };
         for place in 0..4 {
-            let again = if is_begun(call, place) {
+            let again = if is_begun(call, CALLS_BEFORE, place) {
                 Err(InitRefusal::AlreadyMade { length: 51 })
             } else {
                 Ok(())
