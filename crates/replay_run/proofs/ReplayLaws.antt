@@ -14,7 +14,7 @@ use Rattle.streamed_lines.specs.Reading.{HaltsAt}
 use Rattle.replay_run.specs.declared.ending.NoCause.{NoCause}
 use Rattle.replay_run.specs.Replays.{JudgedRun, newest_text, fitting, run_or, text_run, replay_rules}
 use Rattle.replay_run.specs.Text.{told_text}
-use Rattle.replay_run.specs.Reading.{Ran, GoesOn, SpellsNone, HasNoStep}
+use Rattle.replay_run.specs.Reading.{Ran, GoesOn, HasNoStep}
 
 -- ---- what holds where a result is Ok, or Err, in other words
 
@@ -62,61 +62,45 @@ fitting-at judged b is =
 
 -- ---- one line
 
--- bytes, over a world that lines left
+-- bytes that spell a line, over a world that lines left
 module _ {H : Type 0} (digest_of : H → List ℕ → List ℕ) (world : WorldState H) (judged : JudgedRun)
-    (ran : Ran digest_of world judged) (bytes : List ℕ) where
+    (ran : Ran digest_of world judged) (bytes : List ℕ) (line : Line) (found : line_in bytes ≡ Some line) where
   abbrev dig : List ℕ → List ℕ
   dig = digest_of world.hash
 
-  next-by : (o : Option Run) → text_run dig judged.run bytes ≡ o
+  -- the rules make of them what the lines and this one come to
+  next-by : (o : Option Run) → run_of dig (line ∷ ran.lines) ≡ o
       → replay_rules.next judged bytes ≡ run_or judged.digest o
   next-by o is =
       ap (λ (d : List ℕ → List ℕ). run_or judged.digest (text_run d judged.run bytes)) ran.digest
-      ∙ ap (run_or judged.digest) is
+      ∙ ap (run_or judged.digest)
+      (ap (option_and_then (λ l. step_run dig l judged.run)) found
+      ∙ run-more dig line ran.lines judged.run o ran.is is)
 
-  pub unread-halts : (halt : Halt NoCause) → SpellsNone bytes halt → HaltsAt replay_rules judged bytes halt
-  unread-halts (Stops BadLine) none =
-      next-by None (ap (option_and_then (λ line. step_run dig line judged.run)) none)
-  unread-halts (Stops TooLong) never = absurd never
-  unread-halts (Stops (Ends cause)) never = absurd never
-  unread-halts Failed never = tt
-  unread-halts NoMemory at = tt
+  pub step-halts : (halt : Halt NoCause) → HasNoStep dig ran.lines line halt → HaltsAt replay_rules judged bytes halt
+  step-halts (Stops BadLine) none = next-by None none
+  step-halts (Stops TooLong) full =
+      next-by (Some full.0) full.1 ∙ fitting-at (record { digest = judged.digest; run = full.0 }) true full.2
+  step-halts (Stops (Ends cause)) never = absurd never
+  step-halts Failed never = tt
+  step-halts NoMemory at = tt
 
-  -- the line that they spell
-  module _ (line : Line) (found : line_in bytes ≡ Some line) where
-    spelled-next : (o : Option Run) → run_of dig (line ∷ ran.lines) ≡ o
-        → replay_rules.next judged bytes ≡ run_or judged.digest o
-    spelled-next o is =
-        next-by o
-        (ap (option_and_then (λ l. step_run dig l judged.run)) found
-        ∙ run-more dig line ran.lines judged.run o ran.is is)
-
-    pub step-halts : (halt : Halt NoCause) → HasNoStep dig ran.lines line halt
-        → HaltsAt replay_rules judged bytes halt
-    step-halts (Stops BadLine) none = spelled-next None none
-    step-halts (Stops TooLong) full =
-        spelled-next (Some full.0) full.1
-        ∙ fitting-at (record { digest = judged.digest; run = full.0 }) true full.2
-    step-halts (Stops (Ends cause)) never = absurd never
-    step-halts Failed never = tt
-    step-halts NoMemory at = tt
-
-    pub step-goes : (told : TraceLine) (new : WorldState H) → new.hash ≡ world.hash
-        → IsStep dig ran.lines line told new → GoesOn digest_of judged bytes (told_text told) new
-    step-goes told new same step =
-        let next : JudgedRun = record { digest = judged.digest; run = step.after.run } in
-        let kept : dig ≡ digest_of new.hash = ap digest_of (sym same) in
-        record {
-          next = next;
+  pub step-goes : (told : TraceLine) (new : WorldState H) → new.hash ≡ world.hash
+      → IsStep dig ran.lines line told new → GoesOn digest_of judged bytes (told_text told) new
+  step-goes told new same step =
+      let next : JudgedRun = record { digest = judged.digest; run = step.after.run } in
+      let kept : dig ≡ digest_of new.hash = ap digest_of (sym same) in
+      record {
+        next = next;
+        is =
+            next-by (Some step.after.run) step.after.ran ∙ fitting-at next false step.fits
+            ∙ ap (λ text. Ok (next, text)) (ap newest_text step.entries ∙ ap told_text (sym step.is));
+        ran = record {
+          lines = line ∷ ran.lines;
+          digest = ran.digest ∙ kept;
+          after = subst (λ (d : List ℕ → List ℕ). IsAfter d (line ∷ ran.lines) new) kept step.after;
           is =
-              spelled-next (Some step.after.run) step.after.ran ∙ fitting-at next false step.fits
-              ∙ ap (λ text. Ok (next, text)) (ap newest_text step.entries ∙ ap told_text (sym step.is));
-          ran = record {
-            lines = line ∷ ran.lines;
-            digest = ran.digest ∙ kept;
-            after = subst (λ (d : List ℕ → List ℕ). IsAfter d (line ∷ ran.lines) new) kept step.after;
-            is =
-                subst (λ (d : List ℕ → List ℕ). run_of d (line ∷ ran.lines) ≡ Some step.after.run) kept
-                step.after.ran;
-          };
-        }
+              subst (λ (d : List ℕ → List ℕ). run_of d (line ∷ ran.lines) ≡ Some step.after.run) kept
+              step.after.ran;
+        };
+      }

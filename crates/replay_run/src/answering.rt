@@ -1,4 +1,4 @@
-ghost use Rattle.std.specs.Prelude.{◌≡◌, [], ℕ, List, Some, Ok, IfOk, OnOk, OnErr, IfErr, false};
+ghost use Rattle.std.specs.Prelude.{◌≡◌, [], List, Some, Ok, IfOk, OnOk, OnErr, IfErr, false};
 ghost use Rattle.plasma_base.specs.Causes.{faults_after};
 ghost use Rattle.plasma_outside.specs.Outside.{is_failed};
 ghost use Rattle.schedule_text.specs.declared.line.Line.{Line};
