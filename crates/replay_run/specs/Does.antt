@@ -23,7 +23,7 @@ use Rattle.replay_run.specs.Runs.{RanOver}
 module _ {D : Type 0} (told : D → Option History) (plan : D → Option FaultPlan) (faults : D → ℕ)
     (dig : List ℕ → List ℕ) (notes leaves new_notes new_leaves : D) (outside : Outside) (failed : Type 0)
     (status : Status) where
-  -- it writes this text, and nothing else is done
+  -- It writes this text. That it reads nothing and leaves the disks is said by clauses of their own.
   abbrev pub Writes : Output → Type 0
   Writes output = EndsAs output status outside.taken outside.after ⊥
 
