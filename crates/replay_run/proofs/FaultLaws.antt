@@ -1,5 +1,5 @@
 -- The faults that the disks of a run met, by its status, for each form.
-use Rattle.std.proofs.Common.{◌≡◌, ℕ, Bool, true, false, List, Option, Some, None, refl, ap}
+use Rattle.std.proofs.Common.{◌≡◌, ℕ, Bool, false, List, Option, Some, None, refl, ap}
 use Rattle.crash_disk.specs.Disk.{History, FaultPlan}
 use Rattle.streamed_lines.specs.declared.ending.Ending.{Ending}
 use Rattle.streamed_lines.specs.declared.ending.Ending.TheVariants.{Complete, BadLine, ReadFault, TooLong, Ended}
@@ -32,10 +32,10 @@ module _ {D : Type 0} (told : D → Option History) (plan : D → Option FaultPl
   Met = CountsEither faults notes leaves new_notes new_leaves
 
   -- a form that uses no disk, and has another status
-  unused : (output : Output) {cause : Type 0} → (output.status ≡ DeviceFault → ⊥)
+  unused : (output : Output) (cause : Type 0) → (output.status ≡ DeviceFault → ⊥)
       → EndsAs output status outside.taken outside.after cause → new_notes ≡ notes → new_leaves ≡ leaves
       → FaultsBy status Met
-  unused output never ends notes_stay leaves_stay =
+  unused output cause never ends notes_stay leaves_stay =
       none-met Met status (other-status output status _ _ _ never ends) (ap faults notes_stay, ap faults leaves_stay)
 
   -- one that uses the notes alone
@@ -50,12 +50,12 @@ module _ {D : Type 0} (told : D → Option History) (plan : D → Option FaultPl
       → (uses_notes form ≡ false → new_notes ≡ notes) → (uses_leaves form ≡ false → new_leaves ≡ leaves)
       → FaultsBy status Met
   does-count None does notes_stay leaves_stay =
-      unused usage_output (λ is. cc (is)) does (notes_stay refl) (leaves_stay refl)
+      unused usage_output _ (λ is. cc (is)) does (notes_stay refl) (leaves_stay refl)
   does-count (Some Replay) does notes_stay leaves_stay =
-      unused (replay_output dig does.bytes does.ended) (replay-other (replay_of dig does.bytes does.ended).ending)
+      unused (replay_output dig does.bytes does.ended) _ (replay-other (replay_of dig does.bytes does.ended).ending)
       does.ends (notes_stay refl) (leaves_stay refl)
   does-count (Some Brief) does notes_stay leaves_stay =
-      unused (brief_output dig does.bytes does.ended) (replay-other (replay_of dig does.bytes does.ended).ending)
+      unused (brief_output dig does.bytes does.ended) _ (replay-other (replay_of dig does.bytes does.ended).ending)
       does.ends (notes_stay refl) (leaves_stay refl)
   does-count (Some Wallet) does notes_stay leaves_stay =
       wallet-counts told plan faults dig notes leaves new_notes new_leaves outside failed status does
@@ -72,7 +72,7 @@ module _ {D : Type 0} (told : D → Option History) (plan : D → Option FaultPl
       of-notes (inits-count told plan faults outside.taken outside.after status _ notes new_notes does)
       (leaves_stay refl)
   does-count (Some (Make seed count)) does notes_stay leaves_stay =
-      unused (make_output seed count) (λ is. cc (is)) does (notes_stay refl) (leaves_stay refl)
+      unused (make_output seed count) _ (λ is. cc (is)) does (notes_stay refl) (leaves_stay refl)
   does-count (Some (Verify key message signature)) does notes_stay leaves_stay =
-      unused (verify_output (is_verified key message signature)) (λ is. cc (is)) does (notes_stay refl)
+      unused (verify_output (is_verified key message signature)) _ (λ is. cc (is)) does (notes_stay refl)
       (leaves_stay refl)
