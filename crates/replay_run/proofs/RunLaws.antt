@@ -11,7 +11,7 @@ use Rattle.run_endings.specs.declared.status.Status.{Status}
 use Rattle.run_endings.specs.declared.status.Status.TheVariants.{ReadFault as ReadFaultStatus}
 use Rattle.replay_run.specs.Replays.{JudgedRun, Replay as ReplayOf, replay_of}
 use Rattle.replay_run.specs.Text.{answers_text, closing_text, last_text}
-use Rattle.run_endings.specs.Statuses.{status_of_refusal}
+use Rattle.run_endings.specs.Statuses.{status_of_refusal, ReadsBy}
 use Rattle.run_endings.specs.Outputs.{Output}
 use Rattle.replay_run.specs.Output.{status_of, status_of_replay, replay_output}
 use Rattle.replay_run.specs.Bounds.{TakesFewBy, FewBy}
@@ -143,6 +143,13 @@ pub by-error : (output : List ℕ → Bool → Output) (Few : Status → List �
     → RanOver output Few left later taken after failed (status_of_replay result)
 by-error output Few left later taken after failed (Ok ending) wrong each = absurd (false≢true wrong)
 by-error output Few left later taken after failed (Err refusal) is each = each refusal
+
+-- and its reading failed or not
+pub read-before : (Reads : Bool → Type 0) (result : Result (Ending NoCause) SinkRefusal) → IsErr result
+    → (failed : Bool) → Reads failed → ReadsBy (status_of_replay result) Reads
+read-before Reads (Ok ending) wrong failed reads = absurd (false≢true wrong)
+read-before Reads (Err Failed) is failed reads = (failed, reads)
+read-before Reads (Err WantsMemory) is failed reads = (failed, reads)
 
 -- want of memory before anything was written
 pub stops-unwritten : (output : Output) (before : Option (List ℕ)) (failed : Type 0)

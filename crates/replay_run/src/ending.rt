@@ -6,7 +6,7 @@ use run_endings::Status;
 use streamed_lines::Ending;
 
 /// The causes of its own for which a line ends a replay: there are none.
-#[derive(Debug, Clone, Copy, PartialEq, Eq)]
+#[derive(Clone, Copy)]
 pub enum NoCause {}
 
 /// The status of a replay that ended so.

@@ -1,3 +1,4 @@
+use contract.BorrowLft.{⊑_meet, ⊑_static}
 use Rattle.replay_run.proofs.AnswerLaws.{answers-so, stops-so}
 use Rattle.replay_run.proofs.answering.answer_schedule.Goals as goal
 
@@ -16,7 +17,14 @@ returns-in-Err-NoMemory-clause-stopped g c =
     rw (← c.new-replayer.ensures.hash)
     (stops-so _ _ _ _ _ _ _ _ _ c.in-Err-NoMemory.field-0 c.in-Err-NoMemory.ensures.broken)
 
-pub returns-in-Err-Failed-clause-stopped : goal.returns-in-Err-Failed-clause-stopped
-returns-in-Err-Failed-clause-stopped g c =
+pub returns-clause-stopped : goal.returns-clause-stopped
+returns-clause-stopped g c =
     rw (← c.new-replayer.ensures.hash)
     (stops-so _ _ _ _ _ _ _ _ _ c.in-Err-Failed.field-0 c.in-Err-Failed.ensures.broken)
+
+pub answer_lines-requires : goal.answer_lines-requires
+answer_lines-requires g c κs within =
+    let h = within.0 in (
+      search (⊑_meet, ⊑_static, h) depth 120 fits 200000,
+      (within.1.0, (within.1.1, (⊑_static _, (c.requires.none, (c.new-replayer.ensures.nodes, c.new-replayer.ensures.ran))))),
+    )

@@ -1,7 +1,7 @@
 use Rattle.std.proofs.Common.{subst, true}
 use Rattle.streamed_lines.specs.Outside.{Wrote, WroteFront, ReadsToFault}
 use Rattle.replay_run.proofs.OutsideLaws.{front-none}
-use Rattle.replay_run.proofs.RunLaws.{by-error}
+use Rattle.replay_run.proofs.RunLaws.{by-error, read-before}
 use Rattle.replay_run.proofs.BriefLaws.{brief-early, brief-part, brief-whole, told-brief}
 use Rattle.replay_run.proofs.brief.brief.Goals as goal
 
@@ -42,3 +42,7 @@ returns-clause-output g c =
     _ _
     (subst (Wrote (g.K.Sink.taken c.args.sink.now) (g.K.Sink.taken c.put_text.new.sink)) told
     c.in_ok-put_text.ensures.ok)
+
+pub returns-in_err-put_text-clause-reads : goal.returns-in_err-put_text-clause-reads
+returns-in_err-put_text-clause-reads g c =
+    read-before _ _ c.from_residual-in_err-put_text.ensures.0 _ c.in_ok-world.ensures.reads
