@@ -11,7 +11,7 @@ use super::down::DownNode;
 use super::entry::{Entry, Site, closed_of, down_of, offer_nothing, put, take};
 use super::kept::{Counts, count_records, kept_record};
 use super::order::{CutEnd, NodeOrder};
-use super::up::{counts, open_up, run_up, stop_up, take_down};
+use super::up::{counts, run_up};
 use crash_disk::Outcome;
 use node_journal::Stop;
 use plasma_base::{Hash32, NoMemory};
@@ -55,9 +55,9 @@ fn run_cut<H: Hash32 + Copy>(
     ensures { IfOk result (λ cut.
         IsCutShort H (H.digest_of hash) log.now.log n order.now down cut.given cut.down) }
 {
-    let mut node = open_up(alloc, hash, down)?;
+    let mut node = down.open_up(alloc, hash)?;
     let ran = run_up(alloc, &mut node, log, order);
-    let down = take_down(node);
+    let down = node.take_down();
     match ran {
         Ok(given) => Ok(CutShort {
             down,
@@ -80,16 +80,16 @@ fn open_cut<H: Hash32 + Copy>(
     ensures { IfOk result (λ cut. IsCutOpening H (H.digest_of hash) calls down cut.end cut.down) }
 {
     if calls < 3 {
-        let down = stop_up(alloc, hash, down)?;
+        let down = down.stop_up(alloc, hash)?;
         return Ok(CutOpening {
             down,
             end: CutEnd::Stopped { kept: None },
         });
     }
-    let node = open_up(alloc, hash, down)?;
+    let node = down.open_up(alloc, hash)?;
     let (notes, leaves) = counts(&node);
     Ok(CutOpening {
-        down: take_down(node),
+        down: node.take_down(),
         end: CutEnd::Done {
             given: says(alloc, Reply::Opened { notes, leaves }),
         },

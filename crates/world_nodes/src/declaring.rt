@@ -11,7 +11,6 @@ ghost use Rattle.world_nodes.specs.Inside.{empty_disk, down_kind, member_kind, f
 use super::down::DownNode;
 use super::entry::{Entry, Member, Site};
 use super::order::NodeKind;
-use super::up::open_up;
 use crash_disk::MemDisk;
 use node_rules::WalletIdentity;
 use plasma_base::{Bytes, Hash32, NoMemory};
@@ -41,7 +40,7 @@ fn over<H: Hash32 + Copy>(
     ensures spells { IfOk result Spells }
     ensures hash { IfOk result (λ entry. entry.hash ≡ hash) }
 {
-    let node = open_up(alloc, hash, down)?;
+    let node = down.open_up(alloc, hash)?;
     Ok(Entry {
         alloc,
         hash,

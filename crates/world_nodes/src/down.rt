@@ -1,14 +1,19 @@
 ghost use Rattle.std.specs.Prelude.{◌≡◌, IfOk};
 ghost use Rattle.crash_disk.specs.Memory.{with_fuse};
 ghost use Rattle.crash_disk.specs.Outcomes.{HasPattern};
-ghost use Rattle.world_nodes.specs.Inside.{crashed, with_disks};
+ghost use Rattle.gate_journal.specs.declared.refusal.JournalRefusal.{JournalRefusal};
+ghost use Rattle.world_nodes.specs.Inside.{crashed, with_disks, Opens, RefusesDown, up_hash};
 
+use super::up::{UpNode, lose};
 use crash_disk::{MemDisk, Outcome};
-use plasma_base::NoMemory;
-use wallet_node::WalletKey;
+use gate_journal::{JournalRefusal, Returned};
+use operator_core::Operator;
+use plasma_base::{Hash32, NoMemory};
+use std::alloc::Global;
+use wallet_node::{ReturnedBoth, WalletKey, WalletNode};
+use watcher_node::WatcherNode;
 
 /// A node that is down: its disks, and a wallet's key, which was made once.
-#[derive(Drop)]
 pub enum DownNode {
     Wallet {
         notes: MemDisk,
@@ -21,6 +26,21 @@ pub enum DownNode {
     Operator {
         notes: MemDisk,
     },
+}
+
+// Written by hand, as that of a node that is up.
+impl Drop for DownNode {
+    fn drop(self) {
+        match self {
+            DownNode::Wallet {
+                notes: _,
+                leaves: _,
+                key: _,
+            } => {}
+            DownNode::Watcher { notes: _ } => {}
+            DownNode::Operator { notes: _ } => {}
+        }
+    }
 }
 
 // The disk after a crash.
@@ -80,6 +100,74 @@ impl DownNode {
             },
             DownNode::Operator { notes } => DownNode::Operator {
                 notes: fuse_disk(notes, calls),
+            },
+        }
+    }
+
+    // Opens the disks of a node that is down.
+    pub fn open_up<H: Hash32 + Copy>(self, alloc: Global, hash: H) -> Result<UpNode<H>, NoMemory>
+        ensures opens { IfOk result (λ node. Opens (H.digest_of hash) self node) }
+        ensures hash { IfOk result (λ node. up_hash node ≡ hash) }
+    {
+        match self {
+            DownNode::Wallet { notes, leaves, key } => {
+                match WalletNode::open_keyed(alloc, notes, leaves, hash, Some(key)) {
+                    Ok(node) => Ok(UpNode::Wallet(node)),
+                    Err(_) => Err(NoMemory),
+                }
+            }
+            DownNode::Watcher { notes } => match WatcherNode::open_with(alloc, notes, hash) {
+                Ok(node) => Ok(UpNode::Watcher(node)),
+                Err(_) => Err(NoMemory),
+            },
+            DownNode::Operator { notes } => match Operator::open_with(alloc, notes, hash) {
+                Ok(node) => Ok(UpNode::Operator(node)),
+                Err(_) => Err(NoMemory),
+            },
+        }
+    }
+
+    // Opens the disks of a node that is down, of which the notes' one is to meet a device fault before a key
+    // is asked for, so that the key stays.
+    pub fn stop_up<H: Hash32 + Copy>(self, alloc: Global, hash: H) -> Result<DownNode, NoMemory>
+        ensures { IfOk result (λ left. RefusesDown (H.digest_of hash) self JournalRefusal.DeviceFault left) }
+    {
+        match self {
+            DownNode::Wallet { notes, leaves, key } => {
+                match WalletNode::open_keyed(alloc, notes, leaves, hash, None) {
+                    Ok(node) => Err(lose(UpNode::Wallet(node))),
+                    Err(returned) => {
+                        let ReturnedBoth { notes, leaves, why } = returned;
+                        match why {
+                            JournalRefusal::DeviceFault => Ok(DownNode::Wallet {
+                                notes,
+                                leaves,
+                                key,
+                            }),
+                            _ => Err(NoMemory),
+                        }
+                    }
+                }
+            }
+            DownNode::Watcher { notes } => match WatcherNode::open_with(alloc, notes, hash) {
+                Ok(node) => Err(lose(UpNode::Watcher(node))),
+                Err(returned) => {
+                    let Returned { disk, why } = returned;
+                    match why {
+                        JournalRefusal::DeviceFault => Ok(DownNode::Watcher { notes: disk }),
+                        _ => Err(NoMemory),
+                    }
+                }
+            },
+            DownNode::Operator { notes } => match Operator::open_with(alloc, notes, hash) {
+                Ok(node) => Err(lose(UpNode::Operator(node))),
+                Err(returned) => {
+                    let Returned { disk, why } = returned;
+                    match why {
+                        JournalRefusal::DeviceFault => Ok(DownNode::Operator { notes: disk }),
+                        _ => Err(NoMemory),
+                    }
+                }
             },
         }
     }

@@ -9,7 +9,7 @@ ghost use Rattle.world_nodes.specs.Inside.{member_kind, IsDownOf};
 
 use super::down::DownNode;
 use super::order::NodeKind;
-use super::up::{UpNode, take_down};
+use super::up::UpNode;
 use node_rules::WalletIdentity;
 use plasma_base::{Bytes, Hash32, NoMemory};
 use plasma_tx::{Owner, RootCall};
@@ -35,7 +35,6 @@ pub enum Member {
 
 /// A node of a world, over disks in memory. It is up or down; a call that answers `NoMemory` may lose it, and
 /// then each later call answers `NoMemory` too.
-#[derive(Drop)]
 pub struct Entry<H: Hash32 + Copy> {
     pub(crate) alloc: Global,
     pub(crate) hash: H,
@@ -56,6 +55,21 @@ impl<H: Hash32 + Copy> Model for Entry<H> {
     ghost view = { λ e. view_of e.hash e.name e.account e.member e.site e.offers.items };
 
     ghost invariant = { λ e. IsWhole e.hash e.member e.site };
+}
+
+// Written by hand, as that of a node that is up.
+impl<H: Hash32 + Copy> Drop for Entry<H> {
+    fn drop(self) {
+        let Entry {
+            alloc: _,
+            hash: _,
+            name: _,
+            account: _,
+            member: _,
+            site: _,
+            offers: _,
+        } = self;
+    }
 }
 
 // Takes the node out, and leaves it lost.
@@ -112,7 +126,7 @@ pub fn down_of<H: Hash32 + Copy>(site: Site<H>) -> Result<DownNode, NoMemory>
     ensures { IfOk result (IsDownOf site) }
 {
     match site {
-        Site::Up(node) => Ok(take_down(node)),
+        Site::Up(node) => Ok(node.take_down()),
         Site::Down(down) => Ok(down),
         Site::Gone => Err(NoMemory),
     }

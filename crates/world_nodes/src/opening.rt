@@ -4,7 +4,7 @@ ghost use Rattle.world_nodes.specs.Orders.{order_deed};
 ghost use Rattle.world_nodes.specs.Nodes.{Spells, IsDone, Runs};
 
 use super::entry::{Entry, Site, closed_of, offer_nothing, put, take};
-use super::up::{counts, open_up};
+use super::up::counts;
 use plasma_base::{Hash32, NoMemory};
 use world_rules::Reply;
 use world_trace::{Given, says};
@@ -37,7 +37,7 @@ impl<H: Hash32 + Copy> Entry<H> {
     {
         let site = take(&mut self.site);
         let down = closed_of(site)?;
-        let node = open_up(self.alloc, self.hash, down)?;
+        let node = down.open_up(self.alloc, self.hash)?;
         let (notes, leaves) = counts(&node);
         put(&mut self.site, Site::Up(node));
         offer_nothing(&mut self.offers);

@@ -1,31 +1,35 @@
 ghost use Rattle.std.specs.Prelude.{◌≡◌, ◌-◌, ℕ, true, false, length, IfOk};
-ghost use Rattle.gate_journal.specs.declared.refusal.JournalRefusal.{JournalRefusal};
 ghost use Rattle.node_journal.specs.Notes.{stopped_by};
 ghost use Rattle.leaf_journal.specs.Records.{messages_of};
 ghost use Rattle.world_trace.specs.Given.{IsGiven};
 ghost use Rattle.world_nodes.specs.Orders.{fits, is_opening_order, order_deed};
 ghost use Rattle.world_nodes.specs.Nodes.{role_of};
-ghost use Rattle.world_nodes.specs.Inside.{bare_node, leaves_of, Opens, RefusesDown, taken_down, up_closed, up_halves, up_hash, up_kind, UpDid};
+ghost use Rattle.world_nodes.specs.Inside.{bare_node, leaves_of, taken_down, up_closed, up_halves, up_hash, up_kind, UpDid};
 
 use super::down::DownNode;
 use super::order::NodeOrder;
 use crash_disk::MemDisk;
-use gate_journal::{JournalRefusal, Returned};
 use node_journal::Stop;
 use operator_core::Operator;
 use plasma_base::{Hash32, NoMemory};
 use plasma_tx::RootLog;
 use std::alloc::Global;
-use wallet_node::{ReturnedBoth, WalletNode};
+use wallet_node::WalletNode;
 use watcher_node::WatcherNode;
 use world_trace::Given;
 
 /// A node that is up.
-#[derive(Drop)]
 pub enum UpNode<H: Hash32 + Copy> {
     Wallet(WalletNode<MemDisk, H>),
     Watcher(WatcherNode<MemDisk, H>),
     Operator(Operator<MemDisk, H>),
+}
+
+// Written by hand, so that each place that lets a node go calls it; a derived one is proved anew at each.
+impl<H: Hash32 + Copy> Drop for UpNode<H> {
+    fn drop(self) {
+        let _ = self.take_down();
+    }
 }
 
 // Runs an order on a node that is up.
@@ -62,78 +66,6 @@ pub fn run_up<H: Hash32 + Copy>(
     }
 }
 
-// Opens the disks of a node that is down.
-pub fn open_up<H: Hash32 + Copy>(
-    alloc: Global,
-    hash: H,
-    down: DownNode,
-) -> Result<UpNode<H>, NoMemory>
-    ensures opens { IfOk result (λ node. Opens (H.digest_of hash) down node) }
-    ensures hash { IfOk result (λ node. up_hash node ≡ hash) }
-{
-    match down {
-        DownNode::Wallet { notes, leaves, key } => {
-            match WalletNode::open_keyed(alloc, notes, leaves, hash, Some(key)) {
-                Ok(node) => Ok(UpNode::Wallet(node)),
-                Err(_) => Err(NoMemory),
-            }
-        }
-        DownNode::Watcher { notes } => match WatcherNode::open_with(alloc, notes, hash) {
-            Ok(node) => Ok(UpNode::Watcher(node)),
-            Err(_) => Err(NoMemory),
-        },
-        DownNode::Operator { notes } => match Operator::open_with(alloc, notes, hash) {
-            Ok(node) => Ok(UpNode::Operator(node)),
-            Err(_) => Err(NoMemory),
-        },
-    }
-}
-
-// Opens the disks of a node that is down, of which the notes' one is to meet a device fault before a key
-// is asked for, so that the key stays.
-pub fn stop_up<H: Hash32 + Copy>(
-    alloc: Global,
-    hash: H,
-    down: DownNode,
-) -> Result<DownNode, NoMemory>
-    ensures { IfOk result (λ left. RefusesDown (H.digest_of hash) down JournalRefusal.DeviceFault left) }
-{
-    match down {
-        DownNode::Wallet { notes, leaves, key } => {
-            match WalletNode::open_keyed(alloc, notes, leaves, hash, None) {
-                Ok(_) => Err(NoMemory),
-                Err(returned) => {
-                    let ReturnedBoth { notes, leaves, why } = returned;
-                    match why {
-                        JournalRefusal::DeviceFault => Ok(DownNode::Wallet { notes, leaves, key }),
-                        _ => Err(NoMemory),
-                    }
-                }
-            }
-        }
-        DownNode::Watcher { notes } => match WatcherNode::open_with(alloc, notes, hash) {
-            Ok(_) => Err(NoMemory),
-            Err(returned) => {
-                let Returned { disk, why } = returned;
-                match why {
-                    JournalRefusal::DeviceFault => Ok(DownNode::Watcher { notes: disk }),
-                    _ => Err(NoMemory),
-                }
-            }
-        },
-        DownNode::Operator { notes } => match Operator::open_with(alloc, notes, hash) {
-            Ok(_) => Err(NoMemory),
-            Err(returned) => {
-                let Returned { disk, why } = returned;
-                match why {
-                    JournalRefusal::DeviceFault => Ok(DownNode::Operator { notes: disk }),
-                    _ => Err(NoMemory),
-                }
-            }
-        },
-    }
-}
-
 // How many records a node that is up has without its identity, and how many of its leaves are bound.
 pub fn counts<H: Hash32 + Copy>(node: &UpNode<H>) -> (u64, u64)
     ensures notes { result.0 ≡ length (up_halves node.now).notes.records - 1 }
@@ -146,20 +78,28 @@ pub fn counts<H: Hash32 + Copy>(node: &UpNode<H>) -> (u64, u64)
     }
 }
 
-// The disks of a node that is up, and a wallet's key.
-pub fn take_down<H: Hash32 + Copy>(node: UpNode<H>) -> DownNode
-    ensures { result ≡ taken_down node }
-{
-    match node {
-        UpNode::Wallet(node) => {
-            let (notes, leaves, key) = node.take_apart();
-            DownNode::Wallet { notes, leaves, key }
+// Lets a node go that was not to be opened.
+pub fn lose<H: Hash32 + Copy>(node: UpNode<H>) -> NoMemory {
+    drop(node);
+    NoMemory
+}
+
+impl<H: Hash32 + Copy> UpNode<H> {
+    // The disks of a node that is up, and a wallet's key.
+    pub fn take_down(self) -> DownNode
+        ensures { result ≡ taken_down self }
+    {
+        match self {
+            UpNode::Wallet(node) => {
+                let (notes, leaves, key) = node.take_apart();
+                DownNode::Wallet { notes, leaves, key }
+            }
+            UpNode::Watcher(node) => DownNode::Watcher {
+                notes: node.take_disk(),
+            },
+            UpNode::Operator(node) => DownNode::Operator {
+                notes: node.take_disk(),
+            },
         }
-        UpNode::Watcher(node) => DownNode::Watcher {
-            notes: node.take_disk(),
-        },
-        UpNode::Operator(node) => DownNode::Operator {
-            notes: node.take_disk(),
-        },
     }
 }

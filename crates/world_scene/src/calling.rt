@@ -52,6 +52,19 @@ impl<H: Hash32 + Copy> Scene<H> {
         Ok(says(self.alloc, reply, event))
     }
 
+    // Enters a call, and lets it go by its name, which is proved once and not at each way out.
+    pub(crate) fn enter_own(&mut self, call: RootCall) -> Result<LineAnswer, NoMemory>
+        ensures shows { IfOk result (λ answer. shown_of (called (H.digest_of self.old.hash) (world_of self.old) call)
+            ≡ answered answer (world_of self.new)) }
+        ensures tells { IfOk result (λ answer. TellsEffect (H.digest_of self.old.hash) (world_of self.old) answer.event
+            (called (H.digest_of self.old.hash) (world_of self.old) call)) }
+        ensures nodes { OnOk result (NodesStay self.old self.new) }
+    {
+        let answer = self.enter_call(&call);
+        drop(call);
+        answer
+    }
+
     // Enters the call of a `call` line, whose account is known from then on.
     pub(crate) fn enter_raw(
         &mut self,

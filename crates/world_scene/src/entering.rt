@@ -73,22 +73,21 @@ impl<H: Hash32 + Copy> Scene<H> {
     }
 
     // An offered call is entered, where there is one.
-    fn enter_offer(&mut self, offer: &Option<RootCall>) -> Result<LineAnswer, NoMemory>
+    fn enter_offer(&mut self, offer: Option<RootCall>) -> Result<LineAnswer, NoMemory>
         ensures shows { IfOk result (λ answer.
-            shown_of (entered (H.digest_of self.old.hash) (world_of self.old) offer.now)
+            shown_of (entered (H.digest_of self.old.hash) (world_of self.old) offer)
             ≡ answered answer (world_of self.new)) }
         ensures tells { IfOk result (λ answer. TellsEffect (H.digest_of self.old.hash) (world_of self.old) answer.event
-            (entered (H.digest_of self.old.hash) (world_of self.old) offer.now)) }
+            (entered (H.digest_of self.old.hash) (world_of self.old) offer)) }
         ensures nodes { OnOk result (NodesStay self.old self.new) }
     {
         match offer {
-            Some(call) => self.enter_call(call),
+            Some(call) => self.enter_own(call),
             None => Ok(idles(self.alloc, Reply::Nothing)),
         }
     }
 
     // A call that a node offers is entered, where it has one by this number.
-    #[tactic(auto, using(crate::proofs::Growth::stays_spell))]
     pub(crate) fn enter(&mut self, node: &[u8], number: u64) -> Result<LineAnswer, StepRefusal>
         ensures keeps { OnOk result (is_declared any_role (world_of self.old) node.now ≡ true) }
         ensures shows { IfOk result (λ answer.
@@ -102,7 +101,7 @@ impl<H: Hash32 + Copy> Scene<H> {
         ensures same { IsErrOf result StepRefusal.BadLine → self.new ≡ self.old }
     {
         let offer = self.offer_of(node, number)?;
-        let answer = self.enter_offer(&offer)?;
+        let answer = self.enter_offer(offer)?;
         Ok(answer)
     }
 
@@ -117,7 +116,7 @@ impl<H: Hash32 + Copy> Scene<H> {
         ensures nodes { OnOk result (NodesStay self.old self.new) }
         ensures never { IsErrOf result StepRefusal.BadLine → ⊥ }
     {
-        let answer = self.enter_call(&RootCall::Fund { account, amount })?;
+        let answer = self.enter_own(RootCall::Fund { account, amount })?;
         Ok(answer)
     }
 
@@ -132,12 +131,12 @@ impl<H: Hash32 + Copy> Scene<H> {
         ensures nodes { OnOk result (NodesStay self.old self.new) }
         ensures never { IsErrOf result StepRefusal.BadLine → ⊥ }
     {
-        let answer = self.enter_call(&RootCall::Tick { now: time })?;
+        let answer = self.enter_own(RootCall::Tick { now: time })?;
         Ok(answer)
     }
 
     // A deposit by a wallet's account with its key.
-    #[tactic(auto, using(crate::proofs::Growth::stays_spell), unfolding(world_rules::specs::Steps::effect_in))]
+    #[tactic(auto, unfolding(world_rules::specs::Steps::effect_in))]
     pub(crate) fn deposit(&mut self, wallet: &[u8], amount: u64) -> Result<LineAnswer, StepRefusal>
         ensures keeps { OnOk result (keeps_rules_in (world_of self.old) (Line.Deposit wallet.now amount) ≡ true) }
         ensures shows { IfOk result (λ answer. shows (H.digest_of self.old.hash) (world_of self.old)
@@ -159,7 +158,7 @@ impl<H: Hash32 + Copy> Scene<H> {
             amount,
             key,
         };
-        let answer = self.enter_call(&call)?;
+        let answer = self.enter_own(call)?;
         Ok(answer)
     }
 
@@ -188,7 +187,9 @@ impl<H: Hash32 + Copy> Scene<H> {
         let Some(call) = self.call_of(account, form)? else {
             return Err(StepRefusal::BadLine);
         };
-        let answer = self.enter_raw(account, &call)?;
+        let entered = self.enter_raw(account, &call);
+        drop(call);
+        let answer = entered?;
         Ok(answer)
     }
 }

@@ -160,10 +160,16 @@ impl<H: Hash32 + Copy> Scene<H> {
 }
 
 // A node, by its number, and an order of it.
-#[derive(Drop)]
 pub struct Chosen {
     pub n: usize,
     pub order: NodeOrder,
+}
+
+// Written by hand, so that each place that lets one go calls it; a derived one is proved anew at each.
+impl Drop for Chosen {
+    fn drop(self) {
+        let Chosen { n: _, order: _ } = self;
+    }
 }
 
 impl<H: Hash32 + Copy> Scene<H> {
