@@ -5,8 +5,6 @@
 mod entries;
 mod laws;
 mod ledger;
-#[cfg(test)]
-mod tests;
 
 pub use entries::Sums;
 pub use laws::held_money_is_of_known_accounts;

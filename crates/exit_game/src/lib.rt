@@ -6,8 +6,6 @@ mod game;
 mod laws;
 mod slot;
 mod slots;
-#[cfg(test)]
-mod tests;
 
 pub use challenges::{Challenge, Challenges};
 pub use game::Game;

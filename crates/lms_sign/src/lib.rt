@@ -40,8 +40,3 @@ pub fn nodes_are_the_standards()
 pub fn signatures_are_valid()
     ensures { SignaturesAreValid }
 {}
-
-#[cfg(test)]
-mod tests;
-#[cfg(test)]
-mod vectors;

@@ -8,8 +8,6 @@
 #![tactic(auto)]
 
 mod pages;
-#[cfg(test)]
-mod tests;
 mod tree;
 
 pub use tree::PagedTree;

@@ -4,4 +4,3 @@ pub mod Effect
 pub mod Begin
 pub mod Laws
 pub mod Inside
-pub mod Toy

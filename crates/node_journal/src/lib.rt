@@ -7,10 +7,6 @@ mod laws;
 mod notes;
 mod role;
 mod stop;
-#[cfg(test)]
-mod tests;
-#[cfg(test)]
-mod toy;
 
 pub use gate_journal::InitRefusal;
 pub use init::{NotBegun, begin, begin_journal, begin_pair};

@@ -6,8 +6,6 @@ mod memory;
 mod sink;
 mod source;
 mod std_io;
-#[cfg(test)]
-mod tests;
 
 pub use memory::{MemSink, MemSource};
 pub use sink::{Sink, SinkRefusal};

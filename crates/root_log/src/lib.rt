@@ -7,8 +7,6 @@ mod first_line;
 mod laws;
 mod lines;
 mod refusal;
-#[cfg(test)]
-mod tests;
 mod text;
 
 pub use calls::call_of;

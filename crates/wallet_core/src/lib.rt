@@ -4,8 +4,6 @@
 mod coin_state;
 mod laws;
 mod notes;
-#[cfg(test)]
-mod tests;
 
 pub use coin_state::{CoinState, state};
 pub use laws::{a_state_is_its_sentence, kept_coins_are_held};

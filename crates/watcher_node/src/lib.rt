@@ -8,8 +8,6 @@ mod making;
 mod node;
 mod records;
 mod role;
-#[cfg(test)]
-mod tests;
 mod watched;
 
 pub use making::init;

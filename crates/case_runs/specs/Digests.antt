@@ -1,0 +1,9 @@
+use Rattle.std.specs.Prelude.{◌≡◌, ℕ, List, Bool, true, false, cond, length}
+use Rattle.sha2.specs.Sha256.{sha256}
+use Rattle.sha2.proofs.Facts256.{length-sha256}
+use Rattle.plasma_base.specs.Toy.{toy_digest, length-toy_digest}
+
+-- the digest that a case chooses, SHA-256 or the toy digest, has 32 bytes
+pub length-chosen : (is_toy : Bool) (bytes : List ℕ) → length (cond is_toy (toy_digest bytes) (sha256 bytes)) ≡ 32
+length-chosen true bytes = length-toy_digest bytes
+length-chosen false bytes = length-sha256 bytes
