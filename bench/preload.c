@@ -3,7 +3,7 @@
 // FAULT=call:n:what   the n-th call of its kind does otherwise. call is `write` or `read`, on a journal, or `out` or
 //                     `in`, on descriptor 1 or 0. what is `short` (half of the bytes), `one` (one byte), `end` (none),
 //                     `part` and a number (half of the bytes, and each later write fails with that errno), or a number.
-// WRONG=what          makes a wrong program of a right one. `frame-sync`, `gate-sync` and `folder-sync` leave this sync
+// WRONG=what          makes a wrong program of a right one. `frame-sync`, `gate-sync` and `folder-sync` leave this
 //                     out: behind a write of more bytes than one, behind a write of one byte, of a folder.
 //                     `deaf-syncs` and `deaf-writes` take a call on a journal for done that failed.
 #define _GNU_SOURCE
@@ -98,6 +98,7 @@ int fsync(int fd) {
     written[fd] = 0;
     if (size > 1 && is_wrong("frame-sync")) return 0;
     if (size == 1 && is_wrong("gate-sync")) return 0;
+    if (size == 0 && is_wrong("opening-sync")) return 0;
     int done = real(fd);
     return done && is_wrong("deaf-syncs") ? 0 : done;
 }
