@@ -43,8 +43,11 @@ def ops_of(trace):
 
 def op_of(match, at, call):
     """What one call is, as a list of none or one."""
-    name, words, value, rest = match.groups()
-    value = int(value) if value != "?" else -1
+    name, words, value, _ = match.groups()
+    if value == "?":
+        # (the run was killed before the call was made)
+        return []
+    value = int(value)
     begin = re.match(r"(\d+)<((?:\\x[0-9a-f]{2})*)>", words)
     path = text(begin[2]).decode(errors="replace") if begin else ""
     file, key = journal_of(path), (begin[1] if begin else None, journal_of(path))
