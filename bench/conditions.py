@@ -150,7 +150,8 @@ def made(program, tally, room):
             if mode != 0o600:
                 raise Wrong(f"{name} has the mode {mode:o}")
 
-    status = subprocess.run([program, *words], cwd=folder, stdout=subprocess.DEVNULL, umask=0).returncode
+    status = subprocess.run([program, *words], cwd=folder, stdout=subprocess.DEVNULL,
+                            preexec_fn=lambda: os.umask(0)).returncode
     tried(tally, "init", "modes under umask 0", status, {0}, only_owner, "refused")
 
     def nothing_made():

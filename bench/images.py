@@ -152,6 +152,11 @@ def moments(ops, files, keeps_left=False):
     return found
 
 
+def noise_of(count, chance):
+    """Random bytes."""
+    return chance.getrandbits(8 * count).to_bytes(count, "big") if count else b""
+
+
 def some(low, high, chance, most):
     """Numbers from one to another: all, or the first and last nine, those about each 512th, and others."""
     every = range(low, high + 1)
@@ -192,7 +197,7 @@ def torn(old, new, places, chance, most):
     kinds += [(f"one bit at {k}", lambda i, p, k=k: new[p] ^ (1 << k % 8) if i == k else new[p]) for k in cuts]
     kinds += [(f"all {value:02x}", lambda i, p, value=value: value) for value in (0, 0xA5, 0xFF)]
     for number in range(8):
-        noise = chance.randbytes(count)
+        noise = noise_of(count, chance)
         kinds.append((f"noise {number}", lambda i, p, noise=noise: noise[i]))
         kept = [chance.randrange(2) for _ in range(len(new) // 512 + 1)]
         kinds.append((f"sectors {number}", lambda i, p, kept=kept: new[p] if kept[p // 512] else base[p]))
@@ -206,7 +211,7 @@ def torn(old, new, places, chance, most):
     for name, pick in kinds:
         yield name, mixed(pick)
     ends = [mixed(pick) for _, pick in (kinds[0], kinds[1])]
-    ends += [mixed(lambda i, p: 0xA5), mixed(lambda i, p, noise=chance.randbytes(count): noise[i])]
+    ends += [mixed(lambda i, p: 0xA5), mixed(lambda i, p, noise=noise_of(count, chance): noise[i])]
     for length in some(len(old), len(new), chance, most):
         for name, image in zip(("old", "new", "all a5", "noise"), ends):
             yield f"{name}, {length} bytes", image[:length]
