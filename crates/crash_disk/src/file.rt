@@ -128,16 +128,18 @@ impl<'a, R: Files<File = File>> LazyFile<'a, R> {
         let Some(file) = &self.file else {
             return Ok(());
         };
-        if let Err(error) = file.sync_all() {
-            // From now on the system may take bytes for written that the disk doesn't have, and no later sync tells of
-            // them. So the file is marked, and no later opening takes it. The mark lasts no shorter than these bytes,
-            // since both are in the system's memory. Where it can't be set, as by another than the owner, the call
-            // fails all the same.
+        let folder = if self.is_named {
+            None
+        } else {
+            Some(folder_of(self.files, self.path)?)
+        };
+        if let Err(error) = sync_named(file, folder.as_ref()) {
+            // From now on the system may take for written what the disk doesn't have, bytes or the file's name, and no
+            // later sync tells of it. So the file is marked, and no later opening takes it. The mark lasts no shorter
+            // than these bytes, since both are in the system's memory. Where it can't be set, as by another than the
+            // owner, the call fails all the same.
             let _ = file.set_permissions(Permissions::from_mode(MARKED));
             return Err(error);
-        }
-        if !self.is_named {
-            sync_folder(self.files, self.path)?;
         }
         self.check(file)?;
         self.is_named = true;
@@ -145,16 +147,22 @@ impl<'a, R: Files<File = File>> LazyFile<'a, R> {
     }
 }
 
-// Lets the folder of the file at a path keep its names through a crash.
-fn sync_folder<R: Files<File = File>>(files: &R, path: &str) -> io::Result<()> {
+// The folder of the file at a path.
+fn folder_of<R: Files<File = File>>(files: &R, path: &str) -> io::Result<File> {
     let folder = match Path::new(path).parent() {
         Some(folder) if folder != Path::new("") => folder,
         _ => Path::new("."),
     };
-    OpenOptions::new()
-        .read(true)
-        .open(files, folder)?
-        .sync_all()
+    OpenOptions::new().read(true).open(files, folder)
+}
+
+// Lets a file's bytes last through a crash, and then its name, where that may be lost yet.
+fn sync_named(file: &File, folder: Option<&File>) -> io::Result<()> {
+    file.sync_all()?;
+    match folder {
+        Some(folder) => folder.sync_all(),
+        None => Ok(()),
+    }
 }
 
 /// A disk over a file that it holds alone, which contracts see as its count of faults. As a disk it tells nothing of
@@ -172,8 +180,9 @@ fn sync_folder<R: Files<File = File>>(files: &R, path: &str) -> io::Result<()> {
 /// It fails where it opens or syncs the file and
 /// - the file has a second name, a hard link;
 /// - the file isn't the one at the path any more: it was removed or renamed, or another one was put there;
-/// - the file's owner may not write it. A sync that fails takes this right away (mode 0400), since the system may then
-///   take bytes for written that the disk doesn't have. Give it back once the machine was started anew.
+/// - the file's owner may not write it. A sync that fails, of the file or of its folder, takes this right away (mode
+///   0400), since the system may then take bytes for written that the disk doesn't have. Give it back once the machine
+///   was started anew.
 ///
 /// A write fails where it begins behind the file's end, as after somebody cut the file.
 #[derive(Drop)]
