@@ -1,6 +1,7 @@
 ghost use Rattle.std.specs.Prelude.{◌≡◌, IfSome};
 ghost use Rattle.sha2.specs.Sha256.{sha256};
 ghost use Rattle.sha2.proofs.Facts256.{length-sha256};
+ghost use Rattle.plasma_base.specs.DigestBytes.{small-sha256};
 
 use super::fields::get_u64;
 use super::hash::{Hash32, Sha};
@@ -121,6 +122,8 @@ impl Hash32 for KeptSha {
     ghost digest_of = { λ _ bytes. sha256 bytes };
 
     ghost length_is = { λ _ bytes. length-sha256 bytes };
+
+    ghost bytes_are = { λ _ bytes. (small-sha256 bytes).are };
 
     fn digest(&self, bytes: &[u8]) -> [u8; 32] {
         match (
