@@ -1,4 +1,4 @@
-ghost use Rattle.std.specs.Prelude.{◌≡◌, ◌+◌, ◌*◌, ◌^◌, ◌%◌, ◌<◌, ◌≤◌};
+ghost use Rattle.std.specs.Prelude.{◌≡◌, ◌+◌, ◌-◌, ◌*◌, ◌^◌, ◌%◌, ◌<◌, ◌≤◌};
 ghost use Rattle.plasma_base.specs.Toy.{group_sum, toy_text, toy_digest, length-toy_digest};
 ghost use Rattle.plasma_base.specs.DigestBytes.{small-toy_digest};
 
@@ -78,3 +78,8 @@ pub fn toy_digest(bytes: &[u8]) -> [u8; 32]
 {
     Toy.digest(bytes)
 }
+
+/// The modulus of the toy digest is 2^61 - 1.
+pub fn the_modulus_is_this_number()
+    ensures { TOY_MODULUS ≡ 2 ^ 61 - 1 }
+{}
