@@ -7,7 +7,7 @@ mod laws;
 mod ledger;
 
 pub use entries::Sums;
-pub use laws::held_money_is_of_known_accounts;
+pub use laws::{held_money_is_of_known_accounts, the_limit_is_this_number};
 pub use ledger::{Ledger, NoFunds, SumTooLarge};
 
 /// The most money that is ever funded: 2 ^ 62.

@@ -4,3 +4,4 @@ pub mod Forms
 pub mod Tokens
 pub mod Pieces
 pub mod Laws
+pub mod Refusals

@@ -26,10 +26,9 @@ impl From<AllocError> for LineRefusal {
 }
 
 impl From<HexRefusal> for LineRefusal {
-    ghost use Rattle.plasma_base.specs.declared.hex_text.HexRefusal.{HexRefusal};
-    ghost use Rattle.line_forms.specs.declared.refusal.LineRefusal.{LineRefusal};
+    ghost use Rattle.line_forms.specs.Refusals.{line_refusal};
 
-    ghost from_gives = { λ refusal result. result ≡ LineRefusal.BadLine → refusal ≡ HexRefusal.BadHex };
+    ghost from_gives = { λ refusal result. result ≡ line_refusal refusal };
 
     fn from(refusal: HexRefusal) -> LineRefusal {
         match refusal {

@@ -1,5 +1,6 @@
-ghost use Rattle.std.specs.Prelude.{◌≡◌, ◌+◌, ◌*◌, ◌^◌, ◌%◌, ◌<◌, ◌≤◌};
+ghost use Rattle.std.specs.Prelude.{◌≡◌, ◌+◌, ◌-◌, ◌*◌, ◌^◌, ◌%◌, ◌<◌, ◌≤◌};
 ghost use Rattle.plasma_base.specs.Toy.{group_sum, toy_text, toy_digest, length-toy_digest};
+ghost use Rattle.plasma_base.specs.DigestBytes.{small-toy_digest};
 
 use super::TOY_MODULUS;
 use super::hash::Hash32;
@@ -14,6 +15,8 @@ impl Hash32 for Toy {
     ghost digest_of = { λ _ bytes. toy_digest bytes };
 
     ghost length_is = { λ _ bytes. length-toy_digest bytes };
+
+    ghost bytes_are = { λ _ bytes. (small-toy_digest bytes).are };
 
     fn digest(&self, bytes: &[u8]) -> [u8; 32] {
         text_of(added(0, bytes, 0))
@@ -75,3 +78,8 @@ pub fn toy_digest(bytes: &[u8]) -> [u8; 32]
 {
     Toy.digest(bytes)
 }
+
+/// The modulus of the toy digest is 2^61 - 1.
+pub fn the_modulus_is_this_number()
+    ensures { TOY_MODULUS ≡ 2 ^ 61 - 1 }
+{}
