@@ -7,7 +7,7 @@ use Rattle.lms_sign.specs.Lanes.{write_four}
 use Rattle.lms_sign.proofs.Lists.{chain_value-more, chain_value-none}
 
 -- the four numbers, in a list
-abbrev pub four : ℕ → ℕ → ℕ → ℕ → List ℕ
+abbrev four : ℕ → ℕ → ℕ → ℕ → List ℕ
 four a b c d = a ∷ b ∷ c ∷ d ∷ []
 
 pub write_four-other : (f : ℕ → List ℕ) (s : List (List ℕ)) (a b c d k : ℕ) → k ≢ a → k ≢ b → k ≢ c → k ≢ d
@@ -16,7 +16,8 @@ write_four-other f s a b c d k not_a not_b not_c not_d =
     get_or-set_other _ d k (f d) [] not_d ∙ get_or-set_other _ c k (f c) [] not_c
     ∙ get_or-set_other _ b k (f b) [] not_b ∙ get_or-set_other s a k (f a) [] not_a
 
-module _ (f : ℕ → List ℕ) (s : List (List ℕ)) (a b c d : ℕ) (ab : a < b) (bc : b < c) (cd : c < d) (within : d < length s) where
+module _ (f : ℕ → List ℕ) (s : List (List ℕ)) (a b c d : ℕ) (ab : a < b) (bc : b < c) (cd : c < d)
+    (within : d < length s) where
   write_four-d : get_or (write_four s (four a b c d) f) d [] ≡ f d
   write_four-d =
       let one = length-set s a (f a) in
@@ -41,11 +42,11 @@ module _ (f : ℕ → List ℕ) (s : List (List ℕ)) (a b c d : ℕ) (ab : a < 
       ∙ get_or-set_other _ b a (f b) [] (omega arith) ∙ get_or-set_same s a (f a) [] (omega arith)
 
 -- no number from the first up to the second passes the test
-abbrev pub NoneIn : (ℕ → Bool) → ℕ → ℕ → Type 0
+abbrev NoneIn : (ℕ → Bool) → ℕ → ℕ → Type 0
 NoneIn has low high = (k : ℕ) → low ≤ k → k < high → has k ≡ false
 
 -- the number passes the test, if it is below n
-abbrev pub PassesBelow : (ℕ → Bool) → ℕ → ℕ → Type 0
+abbrev PassesBelow : (ℕ → Bool) → ℕ → ℕ → Type 0
 PassesBelow has n k = k < n → has k ≡ true
 
 -- the string at k after a step of four chains, which are the first that take one
@@ -55,33 +56,36 @@ pub write_four-next : (has : ℕ → Bool) (f : ℕ → List ℕ) (s : List (Lis
     → PassesBelow has n a → PassesBelow has n b → PassesBelow has n c → PassesBelow has n d
     → (k : ℕ) → k < n → a ≤ k → k < e
     → get_or (write_four s (four a b c d) f) k [] ≡ cond (has k) (f k) (get_or s k [])
-write_four-next has f s n a b c d e ab bc cd within after_a after_b after_c after_d at_a at_b at_c at_d k below from to =
+write_four-next has f s n a b c d e ab bc cd within after_a after_b after_c after_d at_a at_b at_c at_d k below from
+    to =
+    let rising : (a < b) × (b < c) × (c < d) = (omega arith, omega arith, omega arith) in
     let skipped : has k ≡ false → k ≢ a → k ≢ b → k ≢ c → k ≢ d
     → get_or (write_four s (four a b c d) f) k [] ≡ cond (has k) (f k) (get_or s k []) =
     λ none not_a not_b not_c not_d. rw none (write_four-other f s a b c d k not_a not_b not_c not_d) in
     elim (cases_lt a k) [
       | inr le ↦
           let same : k ≡ a = omega arith in
-          rw (same, at_a (omega arith)) (write_four-a f s a b c d (omega arith) (omega arith) (omega arith) within)
+          rw (same, at_a (omega arith)) (write_four-a f s a b c d rising.0 rising.1 rising.2 within)
       | inl past_a ↦ elim (cases_lt k b) [
         | inl lt ↦ skipped (after_a k (omega arith) lt) (omega arith) (omega arith) (omega arith) (omega arith)
         | inr ge_b ↦ elim (cases_lt b k) [
           | inr le ↦
               let same : k ≡ b = omega arith in
-              rw (same, at_b (omega arith)) (write_four-b f s a b c d (omega arith) (omega arith) (omega arith) within)
+              rw (same, at_b (omega arith)) (write_four-b f s a b c d rising.0 rising.1 rising.2 within)
           | inl past_b ↦ elim (cases_lt k c) [
             | inl lt ↦ skipped (after_b k (omega arith) lt) (omega arith) (omega arith) (omega arith) (omega arith)
             | inr ge_c ↦ elim (cases_lt c k) [
               | inr le ↦
                   let same : k ≡ c = omega arith in
-                  rw (same, at_c (omega arith)) (write_four-c f s a b c d (omega arith) (omega arith) (omega arith) within)
+                  rw (same, at_c (omega arith)) (write_four-c f s a b c d rising.0 rising.1 rising.2 within)
               | inl past_c ↦ elim (cases_lt k d) [
                 | inl lt ↦ skipped (after_c k (omega arith) lt) (omega arith) (omega arith) (omega arith) (omega arith)
                 | inr ge_d ↦ elim (cases_lt d k) [
                   | inr le ↦
                       let same : k ≡ d = omega arith in
-                      rw (same, at_d (omega arith)) (write_four-d f s a b c d (omega arith) (omega arith) (omega arith) within)
-                  | inl past_d ↦ skipped (after_d k (omega arith) to) (omega arith) (omega arith) (omega arith) (omega arith)
+                      rw (same, at_d (omega arith)) (write_four-d f s a b c d rising.0 rising.1 rising.2 within)
+                  | inl past_d ↦
+                      skipped (after_d k (omega arith) to) (omega arith) (omega arith) (omega arith) (omega arith)
                 ]
               ]
             ]

@@ -89,7 +89,8 @@ pub(crate) fn step_four(id: &[u8; 16], q: u32, j: u8, numbers: [usize; 4], strin
     requires rising { (slice_index numbers 0 < slice_index numbers 1) × (slice_index numbers 1 < slice_index numbers 2)
         × (slice_index numbers 2 < slice_index numbers 3) }
     requires within { slice_index numbers 3 < length strings.old }
-    ensures { strings.new ≡ write_four strings.old numbers (λ n. chain_step id.now q n j (slice_index_or strings.old n [])) }
+    ensures { strings.new
+        ≡ write_four strings.old numbers (λ n. chain_step id.now q n j (slice_index_or strings.old n [])) }
 {
     let [first, second, third, fourth] = numbers;
     let blocks = [

@@ -32,9 +32,9 @@ groups-preserved c =
       done = λ k below before. rw c.step_four.ensures (elim (cases_lt k c.groups.first) [
         | inl earlier ↦ write_four-other step strings a b d e k (omega arith) (omega arith) (omega arith) (omega arith)
             ∙ c.groups.invariant.done k below earlier
-        | inr from ↦ write_four-next has step strings (length spans) a b d e f second.low third.low fourth.low (omega arith)
-            second.passed third.passed fourth.passed next.passed c.groups.invariant.found second.found third.found
-            fourth.found k below from before ∙ rw (c.groups.invariant.left k below from) refl
+        | inr from ↦ write_four-next has step strings (length spans) a b d e f second.low third.low fourth.low
+            (omega arith) second.passed third.passed fourth.passed next.passed c.groups.invariant.found second.found
+            third.found fourth.found k below from before ∙ rw (c.groups.invariant.left k below from) refl
       ]);
       left = λ k below from. rw c.step_four.ensures (write_four-other step strings a b d e k (omega arith) (omega arith)
           (omega arith) (omega arith) ∙ c.groups.invariant.left k below (omega arith));

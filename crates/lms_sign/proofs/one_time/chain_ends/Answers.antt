@@ -10,7 +10,8 @@ take_steps-requires-clause-spans c n below =
     let whole : Span = record { from = 0; to = c.chain_length-steps.result } in
     let k = c.from.result in
     let long : length (take k (replicate 67 whole)) ≡ k = length-take-le k (replicate 67 whole) (omega arith) in
-    let span = get_or-take k (replicate 67 whole) n none (omega arith) ∙ get_or-replicate 67 n whole none (omega arith) in
+    let span = get_or-take k (replicate 67 whole) n none (omega arith)
+    ∙ get_or-replicate 67 n whole none (omega arith) in
     rw span (omega arith, omega arith)
 
 pub returns : goal.returns
@@ -20,7 +21,8 @@ returns c i below =
     let whole : Span = record { from = 0; to = c.chain_length-steps.result } in
     let k = c.from.result in
     let long : length (take k (replicate 67 whole)) ≡ k = length-take-le k (replicate 67 whole) (omega arith) in
-    let span = get_or-take k (replicate 67 whole) i none (omega arith) ∙ get_or-replicate 67 i whole none (omega arith) in
+    let span = get_or-take k (replicate 67 whole) i none (omega arith)
+    ∙ get_or-replicate 67 i whole none (omega arith) in
     let all : c.chain_length-steps.result - 0 ≡ c.chain_length-steps.result = omega arith in
     c.take_steps.ensures i (omega arith) ∙ rw (
       span,

@@ -9,7 +9,8 @@ use Rattle.lms_sign.proofs.one_time.finished_strings.Goals as goal
 
 pub given-preserved : goal.given-preserved
 given-preserved c =
-    let span : ℕ → Span = λ n. record { from = digit c.args.types.now c.args.hash.now n; to = c.chain_length-steps.result } in
+    let span : ℕ → Span =
+        λ n. record { from = digit c.args.types.now c.args.hash.now n; to = c.chain_length-steps.result } in
     record {
       span_count = search rules;
       string_count = search rules;

@@ -21,7 +21,8 @@ take_steps-requires-clause-spans c n below =
     let k = c.from-2.result in
     let spans = c.digits.spans in
     let long : length (take k spans) ≡ k = length-take-le k spans (omega arith) in
-    let span = get_or-take k spans n (record { from = 0; to = 0 }) (omega arith) ∙ c.digits.invariant.1 n (omega arith) in
+    let span = get_or-take k spans n (record { from = 0; to = 0 }) (omega arith)
+    ∙ c.digits.invariant.1 n (omega arith) in
     rw span (omega arith, omega (arith, digit-le c.args.secret.now.types c.args.hash.now n))
 
 pub returns : goal.returns
@@ -31,6 +32,7 @@ returns c i below =
     let spans = c.digits.spans in
     let steps = digit c.args.secret.now.types c.args.hash.now i in
     let long : length (take k spans) ≡ k = length-take-le k spans (omega arith) in
-    let span = get_or-take k spans i (record { from = 0; to = 0 }) (omega arith) ∙ c.digits.invariant.1 i (omega arith) in
+    let span = get_or-take k spans i (record { from = 0; to = 0 }) (omega arith)
+    ∙ c.digits.invariant.1 i (omega arith) in
     let whole : steps - 0 ≡ steps = omega arith in
     c.take_steps.ensures i (omega arith) ∙ rw (span, whole, c.private_elements-strings.ensures i below) refl
