@@ -2,3 +2,6 @@ pub mod Sizes
 pub mod Lists
 pub mod Nodes
 pub mod Laws
+pub mod LaneFacts
+pub mod BlockFacts
+pub mod ChainFacts

@@ -1,9 +1,10 @@
 -- Strings one after another, and the steps of a chain.
-use Rattle.std.proofs.Common.{◌≡◌, ℕ, zero, suc, ◌+◌, ◌/◌, List, ◌++◌, take, drop, refl, sym, ap, ◌∙◌, add-one, append_assoc, append-nil, arith, length, zero-add}
-use Rattle.std.proofs.lemmas.List.{take_all}
+use Rattle.std.proofs.Common.{◌≡◌, ℕ, zero, suc, ◌+◌, ◌/◌, ◌<◌, List, ◌++◌, take, drop, refl, sym, ap, ◌∙◌, add-one, append_assoc, append-nil, arith, get_or, inl, inr, length, set, zero-add}
+use Rattle.std.proofs.lemmas.Bool.{cases_lt}
+use Rattle.std.proofs.lemmas.List.{get_or-set_other, get_or-set_same, take_all}
 use Rattle.sha2.proofs.Facts256.{length-sha256}
 use Rattle.lms_sign.specs.declared.secret.Secret.{Secret}
-use Rattle.lms_sign.specs.Types.{u16str, u32str}
+use Rattle.lms_sign.specs.Types.{u8str, u16str, u32str}
 use Rattle.lms_sign.specs.Valid.{ancestor_node, parent_node}
 use Rattle.lms_sign.specs.OneTime.{chain_at, chain_step, chain_value, concatenation}
 
@@ -58,6 +59,10 @@ pub put_on : (mid out s xs : List ℕ) (n m : ℕ) → take n mid ≡ xs → tak
     → n + length s ≡ m → take m out ≡ xs ++ s
 put_on mid out s xs n m h e l = rw (← l) (e ∙ ap (λ t. t ++ s) h)
 
+pub length-u8str : (n : ℕ) → length (u8str n) ≡ 1
+unfolding u8str
+length-u8str n = refl
+
 pub length-u16str : (n : ℕ) → length (u16str n) ≡ 2
 unfolding u16str
 length-u16str n = refl
@@ -65,3 +70,23 @@ length-u16str n = refl
 pub length-u32str : (n : ℕ) → length (u32str n) ≡ 4
 unfolding u32str
 length-u32str n = refl
+
+-- pieces that are the same one by one are the same one after another
+pub concatenation-same : (f g : ℕ → List ℕ) (n : ℕ) → ((i : ℕ) → i < n → f i ≡ g i)
+    → concatenation f n ≡ concatenation g n
+unfolding concatenation
+concatenation-same f g zero same = refl
+concatenation-same f g (suc n) same = rw (
+  concatenation-same f g n (λ i below. same i (omega arith)),
+  same n (omega arith),
+) refl
+
+-- element k of a list set, when those before it are
+pub set_next : {X : Type 0} (f : ℕ → X) (xs : List X) (k : ℕ) (v d : X) → k < length xs → v ≡ f k
+    → ((n : ℕ) → n < k → get_or xs n d ≡ f n) → (n : ℕ) → n < k + 1 → get_or (set xs k v) n d ≡ f n
+set_next f xs k v d within here before n below = elim (cases_lt n k) [
+  | inl earlier ↦ get_or-set_other xs k n v d (omega arith) ∙ before n earlier
+  | inr last ↦
+      let same : n ≡ k = omega arith in
+      rw same (get_or-set_same xs k v d within ∙ here)
+]

@@ -3,3 +3,5 @@ pub mod OneTime
 pub mod Tree
 pub mod Valid
 pub mod Kept
+pub mod Lanes
+pub mod Chains

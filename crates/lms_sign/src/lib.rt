@@ -5,8 +5,11 @@ ghost use Rattle.lms_sign.specs.Types.{HasSizes};
 ghost use Rattle.lms_sign.specs.Tree.{NodesAreTheStandards};
 ghost use Rattle.lms_sign.specs.Valid.{SignaturesAreValid};
 
+mod blocks;
+mod chains;
 mod fields;
 mod hashing;
+mod lanes;
 mod one_time;
 mod public_key;
 mod secret;

@@ -1,13 +1,20 @@
-ghost use Rattle.std.specs.Prelude.{◌≡◌, ◌+◌, ◌*◌, ◌^◌, ◌<◌, ◌≤◌, ◌⊎◌, length};
+ghost use Rattle.std.specs.Prelude.{◌≡◌, ℕ, ◌+◌, ◌*◌, ◌^◌, ◌<◌, ◌≤◌, ◌⊎◌, [], length, slice_index_or};
 ghost use Rattle.lms_sign.specs.Types.{chain_length, chains};
-ghost use Rattle.lms_sign.specs.OneTime.{chain_at, chain_value, coefficient, digit, one_time_public, randomizer, hash_with_checksum};
+ghost use Rattle.lms_sign.specs.OneTime.{chain_end, coefficient, concatenation, digit, finished_string, hash_with_checksum, one_time_key, one_time_public, private_element, randomizer, signed_string};
 ghost use Rattle.lms_sign.specs.Valid.{candidate, string_of};
 
+use super::chains::{Span, take_steps};
 use super::fields::{put, u16str};
 use super::hashing::{D_PBLC, chain_step, hasher_for, message_hash};
 use super::secret::Secret;
 use super::types::LmsTypes;
 use sha2::Digest;
+
+// No leaf has more chains.
+const MOST_CHAINS: usize = 67;
+
+/// The strings of a leaf's chains, and three more, which are left free.
+pub(crate) const STRINGS: usize = 70;
 
 /// The i-th group of w bits of the bytes, from the highest bit of the first byte.
 #[tactic(auto, using(crate::proofs::Sizes::digits_of_width), unfolding(crate::specs::OneTime::coefficient))]
@@ -24,7 +31,7 @@ fn coefficient(bytes: &[u8], i: u16, w: usize) -> u8
 }
 
 /// The hash with its checksum.
-pub(crate) fn hash_with_checksum(types: &LmsTypes, hash: &[u8; 32]) -> [u8; 34]
+fn hash_with_checksum(types: &LmsTypes, hash: &[u8; 32]) -> [u8; 34]
     ensures { result ≡ hash_with_checksum types.now hash.now }
 {
     let w = types.width();
@@ -40,25 +47,13 @@ pub(crate) fn hash_with_checksum(types: &LmsTypes, hash: &[u8; 32]) -> [u8; 34]
 }
 
 /// The digit that says how far a chain is taken.
-pub(crate) fn digit(types: &LmsTypes, hash: &[u8; 32], with_sum: &[u8; 34], i: u16) -> u8
+fn digit(types: &LmsTypes, hash: &[u8; 32], with_sum: &[u8; 34], i: u16) -> u8
     requires of_hash { with_sum.now ≡ hash_with_checksum types.now hash.now }
     requires in_chains { i < chains types.now }
     ensures value { result ≡ digit types.now hash.now i }
     ensures bound { result ≤ chain_length types.now }
 {
     coefficient(with_sum, i, types.width())
-}
-
-/// So many further steps of a chain, from the string at a place.
-pub(crate) fn chain(id: &[u8; 16], q: u32, i: u16, from: u8, steps: u8, start: [u8; 32]) -> [u8; 32]
-    requires { from + steps < 256 }
-    ensures { result ≡ chain_value id.now q i from steps start }
-{
-    let mut string = start;
-    for j in from..from + steps {
-        string = chain_step(id, q, i, j, &string);
-    }
-    string
 }
 
 /// The number of steps from the start of a chain to its end.
@@ -68,14 +63,6 @@ pub(crate) fn chain_length(types: &LmsTypes) -> u8
     ((1u16 << types.width()) - 1) as u8
 }
 
-/// The string of a chain after so many steps from its start.
-pub(crate) fn chain_at(secret: &Secret, q: u32, i: u16, steps: u8) -> [u8; 32]
-    ensures { result ≡ chain_at secret.now q i steps }
-{
-    let start = chain_step(&secret.id, q, i, 0xff, &secret.seed);
-    chain(&secret.id, q, i, 0, steps, start)
-}
-
 /// The randomizer of a leaf.
 pub(crate) fn randomizer(secret: &Secret, q: u32) -> [u8; 32]
     ensures { result ≡ randomizer secret.now q }
@@ -83,16 +70,92 @@ pub(crate) fn randomizer(secret: &Secret, q: u32) -> [u8; 32]
     chain_step(&secret.id, q, 0xfffd, 0xff, &secret.seed)
 }
 
+/// The strings of the chains of leaf q, each taken as far as its digit of the hash says.
+pub(crate) fn signed_strings(secret: &Secret, q: u32, hash: &[u8; 32]) -> [[u8; 32]; STRINGS]
+    ensures { (i : ℕ) → i < chains secret.now.types
+        → slice_index_or result i [] ≡ signed_string secret.now q hash.now i }
+{
+    let types = &secret.types;
+    let with_sum = hash_with_checksum(types, hash);
+    let mut spans = [Span { from: 0, to: 0 }; MOST_CHAINS];
+    'digits: for i in 0..types.chains() {
+        let to = digit(types, hash, &with_sum, i);
+        spans[usize::from(i)] = Span { from: 0, to };
+    }
+    let mut strings = private_elements(secret, q);
+    let spans = &spans[..usize::from(types.chains())];
+    take_steps(&secret.id, q, chain_length(types), spans, &mut strings);
+    strings
+}
+
+// The strings that the chains of leaf q start with.
+fn private_elements(secret: &Secret, q: u32) -> [[u8; 32]; STRINGS]
+    ensures { (i : ℕ) → i < chains secret.now.types
+        → slice_index_or result i [] ≡ private_element secret.now q i }
+{
+    let mut strings = [[0; 32]; STRINGS];
+    'starts: for i in 0..secret.types.chains() {
+        strings[usize::from(i)] = chain_step(&secret.id, q, i, 0xff, &secret.seed);
+    }
+    strings
+}
+
+// The strings that the chains of leaf q end with.
+fn chain_ends(secret: &Secret, q: u32) -> [[u8; 32]; STRINGS]
+    ensures { (i : ℕ) → i < chains secret.now.types → slice_index_or result i [] ≡ chain_end secret.now q i }
+{
+    let steps = chain_length(&secret.types);
+    let spans = [Span { from: 0, to: steps }; MOST_CHAINS];
+    let mut strings = private_elements(secret, q);
+    let spans = &spans[..usize::from(secret.types.chains())];
+    take_steps(&secret.id, q, steps, spans, &mut strings);
+    strings
+}
+
+// The strings that a signature of the hash leads to at the ends of the chains.
+fn finished_strings(
+    types: &LmsTypes,
+    id: &[u8; 16],
+    q: u32,
+    hash: &[u8; 32],
+    signature: &[u8],
+) -> [[u8; 32]; STRINGS]
+    requires { 40 + 32 * chains types.now ≤ length signature.now }
+    ensures { (i : ℕ) → i < chains types.now → slice_index_or result i []
+        ≡ finished_string types.now id.now q hash.now (string_of signature.now) i }
+{
+    let with_sum = hash_with_checksum(types, hash);
+    let steps = chain_length(types);
+    let mut spans = [Span { from: 0, to: 0 }; MOST_CHAINS];
+    let mut strings = [[0; 32]; STRINGS];
+    'given: for i in 0..types.chains() {
+        let from = digit(types, hash, &with_sum, i);
+        spans[usize::from(i)] = Span { from, to: steps };
+        strings[usize::from(i)] = string_of(signature, i);
+    }
+    let spans = &spans[..usize::from(types.chains())];
+    take_steps(id, q, steps, spans, &mut strings);
+    strings
+}
+
+// The one-time public key, from the ends of the chains.
+fn one_time_key(id: &[u8; 16], q: u32, ends: &[[u8; 32]]) -> [u8; 32]
+    ensures { result
+        ≡ one_time_key id.now q (concatenation (λ i. slice_index_or ends.now i []) (length ends.now)) }
+{
+    let mut hasher = hasher_for(id, q, D_PBLC);
+    'ends: for i in 0..ends.len() {
+        hasher.update(ends[i]);
+    }
+    hasher.finalize()
+}
+
 /// The one-time public key of a leaf.
 pub(crate) fn one_time_public(secret: &Secret, q: u32) -> [u8; 32]
     ensures { result ≡ one_time_public secret.now q }
 {
-    let steps = chain_length(&secret.types);
-    let mut hasher = hasher_for(&secret.id, q, D_PBLC);
-    for i in 0..secret.types.chains() {
-        hasher.update(chain_at(secret, q, i, steps));
-    }
-    hasher.finalize()
+    let ends = chain_ends(secret, q);
+    one_time_key(&secret.id, q, &ends[..usize::from(secret.types.chains())])
 }
 
 /// The one-time public key that a signature of the message speaks for.
@@ -107,15 +170,8 @@ pub(crate) fn candidate(
     ensures { result ≡ candidate types.now id.now q message.now signature.now }
 {
     let hash = message_hash(id, q, &signature[8..40], message);
-    let with_sum = hash_with_checksum(types, &hash);
-    let steps = chain_length(types);
-    let mut hasher = hasher_for(id, q, D_PBLC);
-    for i in 0..types.chains() {
-        let from = digit(types, &hash, &with_sum, i);
-        let string = string_of(signature, i);
-        hasher.update(chain(id, q, i, from, steps - from, string));
-    }
-    hasher.finalize()
+    let ends = finished_strings(types, id, q, &hash, signature);
+    one_time_key(id, q, &ends[..usize::from(types.chains())])
 }
 
 /// The string that a signature gives for a chain.

@@ -6,7 +6,7 @@ ghost use Rattle.lms_sign.specs.Valid.{IsValid};
 
 use super::fields::{put, u32str};
 use super::hashing::message_hash;
-use super::one_time::{chain_at, digit, hash_with_checksum, randomizer};
+use super::one_time::{randomizer, signed_strings};
 use super::secret_key::SecretKey;
 
 /// Writes the signature of the message by the leaf q (RFC 8554, section 5.4.1). It is valid under
@@ -38,11 +38,10 @@ fn put_chains(key: &SecretKey, q: u32, hash: &[u8; 32], out: &mut [u8])
         ≡ take 40 out.old ++ concatenation (signed_string key.now q hash.now) (chains key.now.types) }
 {
     let secret = key.secret();
-    let with_sum = hash_with_checksum(&secret.types, hash);
+    let strings = signed_strings(secret, q, hash);
     for i in 0..secret.types.chains() {
-        let steps = digit(&secret.types, hash, &with_sum, i);
-        let string = chain_at(secret, q, i, steps);
-        put(out, 40 + 32 * usize::from(i), &string);
+        let i = usize::from(i);
+        put(out, 40 + 32 * i, &strings[i]);
     }
 }
 

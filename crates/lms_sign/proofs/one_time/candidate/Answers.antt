@@ -1,17 +1,22 @@
+use Rattle.std.proofs.Common.{◌≡◌, ◌∙◌, [], arith, get_or-take, length, refl, take}
+use Rattle.std.proofs.lemmas.List.{length-take-le}
+use Rattle.lms_sign.specs.Types.{chains}
 use Rattle.lms_sign.specs.OneTime.{finished_string}
-use Rattle.lms_sign.proofs.Lists.{concatenation-more, concatenation-none}
+use Rattle.lms_sign.specs.Valid.{string_of}
+use Rattle.lms_sign.proofs.Lists.{concatenation-same}
 use Rattle.lms_sign.proofs.one_time.candidate.Goals as goal
 
-pub loop-i-init : goal.loop-i-init
-loop-i-init c = rw concatenation-none c.hasher_for-hasher.ensures
-
-pub loop-i-preserved : goal.loop-i-preserved
-unfolding finished_string
-loop-i-preserved c =
-    let end = c.update.ensures _ c.loop-i.invariant in
-    rw concatenation-more (rw (
-      c.chain.ensures,
-      c.chain_length-steps.ensures,
-      c.string_of-string.ensures,
-      c.digit-from.ensures.value,
-    ) at end)
+pub returns : goal.returns
+returns c =
+    let types = c.args.types.now in
+    let k = c.from.result in
+    let ends = c.finished_strings-ends.result in
+    let count : k ≡ chains types = omega arith in
+    let long : length (take k ends) ≡ chains types = length-take-le k ends (omega arith) ∙ count in
+    c.one_time_key.ensures ∙ rw (
+      long,
+      concatenation-same _ (finished_string types c.args.id.now c.args.q c.message_hash-hash.result
+          (string_of c.args.signature.now)) (chains types)
+          (λ i below. get_or-take k ends i [] (omega arith) ∙ c.finished_strings-ends.ensures i below),
+      c.message_hash-hash.ensures,
+    ) refl

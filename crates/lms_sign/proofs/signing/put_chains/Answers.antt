@@ -1,4 +1,4 @@
-use Rattle.std.proofs.Common.{◌≡◌, ◌+◌, ◌*◌, ◌++◌, ◌∙◌, refl, sym, arith, length, take}
+use Rattle.std.proofs.Common.{◌≡◌, ◌+◌, ◌*◌, ◌++◌, ◌∙◌, [], refl, sym, arith, length, slice_index_or, take}
 use Rattle.lms_sign.specs.Types.{chains}
 use Rattle.lms_sign.specs.OneTime.{concatenation, signed_string}
 use Rattle.lms_sign.proofs.Lists.{concatenation-more, concatenation-none, length-chain_at, put_on}
@@ -11,15 +11,14 @@ pub loop-i-preserved : goal.loop-i-preserved
 unfolding signed_string
 loop-i-preserved c =
     let i = c.loop-i.i in
-    let string = c.chain_at-string.result in
-    let whole : length string ≡ 32 = rw c.chain_at-string.ensures
-    (length-chain_at c.secret-secret.result.now c.args.q i c.digit-steps.result) in
-    let value : string ≡ signed_string c.args.key.now c.args.q c.args.hash.now
-    i = rw (c.chain_at-string.ensures, c.digit-steps.ensures.value, c.secret-secret.ensures.value) refl in
-    let before : take (40 + 32 * c.from.result) c.loop-i.out ≡ take 40 c.args.out.now ++ concatenation
-    (signed_string c.args.key.now c.args.q c.args.hash.now) i = rw c.from.ensures c.loop-i.invariant in
+    let string = slice_index_or c.signed_strings-strings.result c.from-i.result [] in
+    let same = rw c.secret-secret.ensures.value at (c.signed_strings-strings.ensures i (omega arith)) in
+    let value : string ≡ signed_string c.args.key.now c.args.q c.args.hash.now i = rw c.from-i.ensures same in
+    let whole : length string ≡ 32 = rw value (length-chain_at c.args.key.now c.args.q i _) in
+    let before : take (40 + 32 * c.from-i.result) c.loop-i.out ≡ take 40 c.args.out.now ++ concatenation
+    (signed_string c.args.key.now c.args.q c.args.hash.now) i = rw c.from-i.ensures c.loop-i.invariant in
     put_on c.loop-i.out c.put.new.out string _ _ (40 + 32 * (i + 1)) before c.put.ensures
-    (omega (arith, c.from.ensures)) ∙ rw (concatenation-more, value) refl
+    (omega (arith, c.from-i.ensures)) ∙ rw (concatenation-more, value) refl
 
 pub returns : goal.returns
 returns c =

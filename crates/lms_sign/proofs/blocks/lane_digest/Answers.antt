@@ -1,0 +1,29 @@
+use Rattle.std.proofs.Common.{rules, ◌≡◌, ◌+◌, ◌*◌, ◌∙◌, add-one, ap, arith, length, refl, slice_index, sym}
+use Rattle.std.specs.Int.{w32, to_be_bytes}
+use Rattle.sha2.specs.Sha256.{digest_bytes}
+use Rattle.lms_sign.specs.Lanes.{lane}
+use Rattle.lms_sign.proofs.LaneFacts.{lane_word}
+use Rattle.lms_sign.proofs.Lists.{all_of_front, put_on}
+use Rattle.lms_sign.proofs.blocks.lane_digest.Goals as goal
+
+pub words-init : goal.words-init
+unfolding digest_bytes
+words-init c = search rules
+
+pub words-preserved : goal.words-preserved
+unfolding digest_bytes
+words-preserved c =
+    let hash = c.args.hash.now in
+    let k = c.words.k in
+    let word : c.to_be_bytes.result ≡ to_be_bytes w32 (slice_index (lane c.args.j hash) k) = c.to_be_bytes.ensures
+    ∙ ap (to_be_bytes w32) (sym (lane_word c.args.j hash k)) in
+    let long : length c.to_be_bytes.result ≡ 4 = rw word refl in (
+      c.put.auto.out ∙ c.words.invariant.0,
+      put_on c.words.digest c.put.new.out c.to_be_bytes.result _ (4 * k) (4 * (k + 1)) c.words.invariant.1
+          c.put.ensures (omega arith) ∙ rw (add-one, word) refl,
+    )
+
+pub returns : goal.returns
+returns c =
+    let done : c.words.k ≡ 8 = omega arith in
+    all_of_front c.words.digest _ 32 c.words.invariant.0 (rw done at c.words.invariant.1)
