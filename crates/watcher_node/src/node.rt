@@ -15,6 +15,7 @@ use kept_coins::KeptCoin;
 use node_journal::Notes;
 use plasma_base::{Hash32, Sha};
 use std::alloc::Global;
+use std::collections::BTreeMap;
 use std::marker::Model;
 
 /// A watcher: its notes on a disk, and in memory the guards that they leave, with the links that their
@@ -26,7 +27,8 @@ pub struct WatcherNode<D: Disk, H: Hash32 + Copy> {
     pub(crate) notes: Notes<D, WatcherRole<H>>,
     pub(crate) tag: [u8; 32],
     pub(crate) account: u64,
-    pub(crate) guards: Vec<KeptCoin>,
+    // by coin and tip
+    pub(crate) guards: BTreeMap<(u64, u64), KeptCoin>,
 }
 
 impl<D: Disk, H: Hash32 + Copy> Model for WatcherNode<D, H> {
@@ -38,7 +40,7 @@ impl<D: Disk, H: Hash32 + Copy> Model for WatcherNode<D, H> {
 
     ghost view = { λ n. record { notes = n.notes.notes; hash = n.hash } };
 
-    ghost invariant = { λ n. IsKept (H.digest_of n.hash) n.notes.notes.records n.tag n.account n.guards.items
+    ghost invariant = { λ n. IsKept (H.digest_of n.hash) n.notes.notes.records n.tag n.account n.guards.entries
         × (n.notes.role ≡ record { hash = n.hash }) };
 }
 
