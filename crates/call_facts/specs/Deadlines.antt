@@ -1,13 +1,10 @@
 -- Deadlines, as a log shows exits and challenges.
-use Rattle.std.specs.Prelude.{ℕ, ◌+◌, ◌&&◌, ◌||◌, not, Bool, nat_lt, List}
+use Rattle.std.specs.Prelude.{ℕ, ◌+◌, ◌&&◌, ◌||◌, not, Bool}
 use Rattle.std.specs.List.{list_any}
-use Rattle.plasma_tx.specs.declared.call.RootCall.{RootCall}
 use Rattle.plasma_tx.specs.declared.views.ChallengeView.{ChallengeView}
 use Rattle.plasma_tx.specs.declared.views.ExitView.{ExitView}
 use Rattle.root_rules.specs.declared.TheConstants.{CHALLENGE_WINDOW, RESPONSE_WINDOW}
-use Rattle.world_rules.specs.Events.{Joins}
-use Rattle.world_rules.specs.Safety.{is_met, meets_deadline}
-use Rattle.coin_verdicts.specs.Facts.{AreThose}
+use Rattle.world_rules.specs.Safety.{is_met}
 
 -- a tick from one time to another meets the end of the time in which the open challenge may be answered
 abbrev pub meets_challenge_view : ℕ → ℕ → ChallengeView → Bool
@@ -19,8 +16,3 @@ abbrev pub meets_exit_view : ℕ → ℕ → ExitView → Bool
 meets_exit_view before after exit =
     is_met before after (exit.start + CHALLENGE_WINDOW)
     || list_any (meets_challenge_view before after) exit.challenges
-
--- the numbers are the coins from 1 to before a coin with a deadline that a tick to the time meets behind these
-abbrev pub AreMetBelow : List RootCall → ℕ → ℕ → List ℕ → Type 0
-AreMetBelow log time coin met =
-    AreThose (λ c. nat_lt 0 c && (nat_lt c coin && meets_deadline log c (Joins (RootCall.Tick time)))) met

@@ -2,8 +2,6 @@ ghost use Rattle.std.specs.Prelude.{◌≡◌, ◌+◌, IfOk};
 ghost use Rattle.std.specs.List.{list_any};
 ghost use Rattle.plasma_tx.specs.declared.call.RootCall.{RootCall};
 ghost use Rattle.plasma_tx.specs.Views.{now};
-ghost use Rattle.root_rules.specs.Shown.{Rules};
-ghost use Rattle.root_rules.specs.Table.{IsLegal};
 ghost use Rattle.world_rules.specs.Events.{Joins};
 ghost use Rattle.world_rules.specs.Safety.{is_met, meets_deadline};
 ghost use Rattle.coin_verdicts.specs.Facts.{AreThose};
@@ -61,17 +59,19 @@ fn meets_deadline(log: &RootLog, coin: u64, time: u64) -> bool
     meets_exits(log.now(), time, log.exits(coin))
 }
 
-/// The coins with a deadline that a tick to this time meets, each once. In the log of a contract an exit is of a coin
-/// that was deposited, so that it goes over these alone.
-#[tactic(auto, using(crate::proofs::Ticks::none_met, crate::proofs::Ticks::one_met, crate::proofs::Ticks::one_missed))]
+/// The coins with a deadline that a tick to this time meets, each once and rising. A tick that doesn't move the clock on
+/// meets none.
 pub fn coins_met(alloc: Global, log: &RootLog, time: u64) -> Result<Vec<u64>, NoMemory>
-    ensures { (rules : Rules) → IsLegal rules log.now.log → IfOk result (λ met.
+    ensures { IfOk result (λ met.
         AreThose (λ c. meets_deadline log.now.log c (Joins (RootCall.Tick time))) met.items) }
 {
     let mut met = Vec::new(alloc);
-    for coin in 1..log.coins() + 1 {
-        if meets_deadline(log, coin, time) {
-            met.push(coin)?;
+    if time <= log.now() {
+        return Ok(met);
+    }
+    for coin in log.exiting() {
+        if meets_deadline(log, *coin, time) {
+            met.push(*coin)?;
         }
     }
     Ok(met)

@@ -7,8 +7,8 @@ use plasma_tx::{RootCall, RootLog};
 use std::alloc::Global;
 use watch_duty::push_due;
 
-/// Adds what is due for a kept coin, for calls by this account; nothing where the log doesn't have the coin.
-/// `NoMemory` may leave some of them added.
+/// Adds what is due for a kept coin, for calls by this account; nothing where the log doesn't have the coin, or no exit
+/// of it stands. `NoMemory` may leave some of them added.
 pub fn push_due_for(
     alloc: Global,
     log: &RootLog,
@@ -19,6 +19,9 @@ pub fn push_due_for(
     ensures { OnOk result (calls.new.items ≡ calls.old.items ++ due_for_coin log.now.log account kept.now) }
 {
     let coin = kept.coin;
+    if log.exits(coin).is_empty() {
+        return Ok(());
+    }
     match log.coin(coin) {
         Some(made) => push_due(
             alloc,

@@ -215,11 +215,6 @@ last-not p n q is other =
     ap (λ (k : ℕ). find p (reverse (range_with_len 0 k))) is ∙ last-more p n
     ∙ ap (λ (b : Bool). if b then Some n else find p (reverse (range_with_len 0 n))) other
 
--- a list without elements
-pub none-left : {X : Type 0} (xs : List X) → true ≡ (length xs == 0) → xs ≡ []
-none-left [] is = refl
-none-left (x ∷ xs) is = absurd (let none : length (x ∷ xs) ≡ 0 = grind (arith, nat_tests, is) in omega (arith, none))
-
 -- what is found passes the test
 find-true : (p : ℕ → Bool) (xs : List ℕ) (q : ℕ) → find p xs ≡ Some q → p q ≡ true
 find-true p [] q is = absurd (cc is)

@@ -21,7 +21,6 @@ use wallet_core::{CoinState, LeafRecord, state};
 
 /// A wallet: its notes and the leaves of its key, each on a disk, and in memory what they say of coins. A
 /// device fault of either disk closes it until both disks are taken back and opened again.
-#[derive(Drop)]
 pub struct WalletNode<D: Disk, H: Hash32 + Copy> {
     pub(crate) alloc: Global,
     pub(crate) hash: H,
@@ -52,6 +51,13 @@ impl<D: Disk, H: Hash32 + Copy> Model for WalletNode<D, H> {
         IsKept (H.digest_of n.hash) (record { notes = n.notes.notes.records; leaves = n.leaves.records })
         n.who n.key n.leaves.key n.memory n.bodies.items
         × (n.notes.role ≡ record { hash = n.hash }) };
+}
+
+// Written by hand, so that each place that lets a wallet go calls it; a derived one is proved anew at each.
+impl<D: Disk + Drop, H: Hash32 + Copy> Drop for WalletNode<D, H> {
+    fn drop(self) {
+        let _ = self.take_apart();
+    }
 }
 
 impl<D: Disk, H: Hash32 + Copy> WalletNode<D, H> {
@@ -126,10 +132,14 @@ impl<D: Disk, H: Hash32 + Copy> WalletNode<D, H> {
         ensures key { result.2 ≡ secret_of (who self.records) }
     {
         let WalletNode {
+            alloc: _,
+            hash: _,
+            who: _,
+            key,
             notes,
             leaves,
-            key,
-            ..
+            memory: _,
+            bodies: _,
         } = self;
         (notes.take_disk(), leaves.take_disk(), key)
     }

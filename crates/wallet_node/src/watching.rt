@@ -103,15 +103,12 @@ impl<D: Disk, H: Hash32 + Copy> WalletNode<D, H> {
         Ok(())
     }
 
-    // Adds what is due for a coin. Nothing is where no exit of it stands.
+    // Adds what is due for a coin.
     fn push_for(&self, log: &RootLog, coin: u64, calls: &mut Vec<RootCall>) -> Result<(), NoMemory>
         ensures { OnOk result (calls.new.items ≡ calls.old.items
             ++ due_in (H.digest_of self.now.hash) self.now.records log.now.log coin
             (coin_state (H.digest_of self.now.hash) self.now.records log.now.log coin)) }
     {
-        if log.exits(coin).is_empty() {
-            return Ok(());
-        }
         match self.state(log, coin) {
             CoinState::Held { tip } => self.push_at(log, coin, tip, calls),
             CoinState::Leaving { tip } => self.push_at(log, coin, tip, calls),
@@ -120,15 +117,15 @@ impl<D: Disk, H: Hash32 + Copy> WalletNode<D, H> {
     }
 
     /// What is due for the coins that the wallet holds or leaves with, by rising coin, for its account. It
-    /// reads no record anew, and makes no device call, also after a device fault.
-    #[tactic(auto, unfolding(node_rules::specs::Wallet::watch_answer))]
+    /// reads no record anew, and makes no device call, also after a device fault. Of the coins it asks those alone
+    /// of which an exit stands.
     pub fn watch(&self, log: &RootLog) -> Result<Vec<RootCall>, NoMemory>
         ensures { IfOk result (λ calls. calls.items
             ≡ watch_answer (H.digest_of self.now.hash) self.now.records log.now.log) }
     {
         let mut calls = Vec::new(self.alloc);
-        for before in 0..log.coins() {
-            self.push_for(log, before + 1, &mut calls)?;
+        for coin in log.exiting() {
+            self.push_for(log, *coin, &mut calls)?;
         }
         Ok(calls)
     }

@@ -1,7 +1,7 @@
 -- What is due for the guards in memory.
-use Rattle.std.proofs.Common.{◌≡◌, ◌<◌, ◌+◌, ℕ, List, [], ◌∷◌, ◌++◌, length, take, get_or, Option, None, Some, refl, sym, ◌∙◌, ap}
+use Rattle.std.proofs.Common.{◌≡◌, ℕ, List, [], ◌∷◌, ◌++◌, Option, None, Some, refl, ◌∙◌, ap}
 use Rattle.std.specs.List.{flat_map}
-use Rattle.std.proofs.lemmas.List.{flat_map_more, take_more}
+use Rattle.std.specs.Map.{values_of}
 use Rattle.std.proofs.lemmas.List.Folds.{flat_map-map}
 use Rattle.plasma_tx.specs.declared.call.RootCall.{RootCall}
 use Rattle.plasma_tx.specs.declared.views.CoinView.{CoinView}
@@ -9,18 +9,9 @@ use Rattle.plasma_tx.specs.Views.{coin_at}
 use Rattle.coin_history.specs.declared.bundle.Bundle.{Bundle}
 use Rattle.node_rules.specs.Watcher.{who_is, notes_of, guards_of, due_for_kept, watch_answer}
 use Rattle.kept_coins.specs.declared.kept_coin.KeptCoin.{KeptCoin}
-use Rattle.watcher_node.specs.Inside.{watched_in}
+use Rattle.watcher_node.specs.Inside.{watched_in, AreKeyed}
+use Rattle.watcher_node.proofs.Order.{values-keyed}
 use Rattle.kept_coins.specs.KeptCoins.{kept_coin_of, due_for_coin}
-
--- one more guard
-pub due-more : (log : List RootCall) (account : ℕ) (guards : List KeptCoin) (i : ℕ) (watched : KeptCoin)
-    → i < length guards → watched ≡ get_or guards i watched
-    → flat_map (due_for_coin log account) (take i guards) ++ due_for_coin log account watched
-    ≡ flat_map (due_for_coin log account) (take (i + 1) guards)
-due-more log account guards i watched less is =
-    ap (λ (w : KeptCoin). flat_map (due_for_coin log account) (take i guards) ++ due_for_coin log account w) is
-    ∙ flat_map_more (due_for_coin log account) [] (take i guards) (get_or guards i watched)
-    ∙ ap (flat_map (due_for_coin log account)) (sym (take_more guards i watched less))
 
 -- a kept coin and its guard have the same dues
 due-same : (tag : List ℕ) (log : List RootCall) (account : ℕ) (kept : Bundle)
@@ -43,12 +34,13 @@ dues-same tag log account (kept ∷ guards) =
 
 -- what is due for the guards in memory is the answer
 pub dues-answer : (dig : List ℕ → List ℕ) (records : List (List ℕ)) (log : List RootCall) (account : ℕ)
-    (guards : List KeptCoin) → account ≡ (who_is records).account
-    → guards ≡ watched_in (who_is records).tag (notes_of dig records)
-    → flat_map (due_for_coin log account) guards ≡ watch_answer dig records log
+    (entries : List ((ℕ × ℕ) × KeptCoin)) → account ≡ (who_is records).account
+    → AreKeyed entries (watched_in (who_is records).tag (notes_of dig records))
+    → flat_map (due_for_coin log account) (values_of entries) ≡ watch_answer dig records log
 unfolding watch_answer
-dues-answer dig records log account guards is are =
-    ap (flat_map (due_for_coin log account)) are
+dues-answer dig records log account entries is are =
+    ap (flat_map (due_for_coin log account))
+    (ap values_of are ∙ values-keyed (watched_in (who_is records).tag (notes_of dig records)))
     ∙ flat_map-map (due_for_coin log account) (kept_coin_of (who_is records).tag)
     (guards_of (notes_of dig records))
     ∙ dues-same (who_is records).tag log account (guards_of (notes_of dig records))

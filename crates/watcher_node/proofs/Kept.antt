@@ -1,12 +1,16 @@
 -- What is kept in memory of records.
-use Rattle.std.proofs.Common.{◌≡◌, ℕ, true, List, [], ◌∷◌, ◌++◌, reverse, Option, None, Some, refl, sym, ◌∙◌, ap, subst}
+use Rattle.std.proofs.Common.{◌≡◌, ℕ, true, List, [], ◌∷◌, ◌++◌, map, reverse, Option, None, Some, refl, sym, ◌∙◌, ap, subst}
 use Rattle.std.specs.List.{filter_map}
 use Rattle.std.specs.Option.{option_map}
+use Rattle.crash_disk.specs.Disk.{History, FaultPlan}
 use Rattle.node_journal.specs.Role.{are_of, may_follow}
+use Rattle.node_journal.specs.Notes.{NotesState, Did}
+use Rattle.node_journal.specs.declared.stop.Stop.{Stop}
+use Rattle.node_journal.specs.declared.stop.Stop.TheVariants.{Closed, NoMemory, DeviceFault}
 use Rattle.node_rules.specs.Watcher.{WatcherIdentity, Note, identity_in, note_in, watcher_kinds, who_is, notes_of}
 use Rattle.kept_coins.specs.declared.kept_coin.KeptCoin.{KeptCoin}
 use Rattle.watcher_node.specs.declared.watched.Change.{Change}
-use Rattle.watcher_node.specs.Inside.{change_of, changed, watched_in, IsKept}
+use Rattle.watcher_node.specs.Inside.{change_of, changed, watched_in, keyed, AreKeyed, IsKept}
 use Rattle.node_rules.proofs.WatcherRole.{note-keeps, note-adds}
 use Rattle.watcher_node.proofs.Steps.{watched_in-more}
 
@@ -16,8 +20,9 @@ who-first : (first : List ℕ) (rest : List (List ℕ)) (who : WatcherIdentity) 
 unfolding who_is
 who-first first rest who is = rw is refl
 
-kept-of : (dig : List ℕ → List ℕ) (first : List ℕ) (rest : List (List ℕ)) (who : WatcherIdentity) (all : List KeptCoin)
-    → identity_in first ≡ Some who → all ≡ watched_in who.tag (reverse (filter_map (note_in dig who.tag) rest))
+kept-of : (dig : List ℕ → List ℕ) (first : List ℕ) (rest : List (List ℕ)) (who : WatcherIdentity)
+    (all : List ((ℕ × ℕ) × KeptCoin)) → identity_in first ≡ Some who
+    → AreKeyed all (watched_in who.tag (reverse (filter_map (note_in dig who.tag) rest)))
     → IsKept dig (first ∷ rest) who.tag who.account all
 unfolding notes_of
 kept-of dig first rest who all is are =
@@ -27,7 +32,8 @@ kept-of dig first rest who all is are =
       is_account = ap (λ (w : WatcherIdentity). w.account) (sym same);
       are_all =
           are
-          ∙ ap (λ (w : WatcherIdentity). watched_in w.tag (reverse (filter_map (note_in dig w.tag) rest))) (sym same);
+          ∙ ap (λ (w : WatcherIdentity). map keyed (watched_in w.tag (reverse (filter_map (note_in dig w.tag) rest))))
+          (sym same);
     }
 
 -- the tag and the account of an identity
@@ -40,14 +46,15 @@ tag-from None pair is = absurd (cc is)
 tag-from (Some who) pair is = (who, refl, cc is)
 
 pub kept-from : (dig : List ℕ → List ℕ) (records : List (List ℕ)) (first : List ℕ) (rest : List (List ℕ))
-    (pair : List ℕ × ℕ) (all : List KeptCoin) → records ≡ first ∷ rest
+    (pair : List ℕ × ℕ) (all : List ((ℕ × ℕ) × KeptCoin)) → records ≡ first ∷ rest
     → Some pair ≡ option_map named (identity_in first)
-    → all ≡ watched_in pair.0 (reverse (filter_map (note_in dig pair.0) rest)) → IsKept dig records pair.0 pair.1 all
+    → AreKeyed all (watched_in pair.0 (reverse (filter_map (note_in dig pair.0) rest)))
+    → IsKept dig records pair.0 pair.1 all
 kept-from dig records first rest pair all records_are found are =
     let parts = tag-from (identity_in first) pair found in
     let who = parts.0 in
     let kept = kept-of dig first rest who all parts.1
-    (are ∙ ap (λ (p : List ℕ × ℕ). watched_in p.0 (reverse (filter_map (note_in dig p.0) rest))) parts.2) in
+    (are ∙ ap (λ (p : List ℕ × ℕ). map keyed (watched_in p.0 (reverse (filter_map (note_in dig p.0) rest)))) parts.2) in
     subst (λ (r : List (List ℕ)). IsKept dig r pair.0 pair.1 all) (sym records_are)
     (subst (λ (p : List ℕ × ℕ). IsKept dig (first ∷ rest) p.0 p.1 all) (sym parts.2) kept)
 
@@ -59,10 +66,13 @@ note-from tag (Some note) change is = (note, refl, cc is)
 
 -- one more record that spells a change
 pub kept-more : (dig : List ℕ → List ℕ) (records : List (List ℕ)) (body : List ℕ) (more : List (List ℕ)) (tag : List ℕ)
-    (account : ℕ) (all after : List KeptCoin) (change : Change) → are_of (watcher_kinds dig) records ≡ true
+    (account : ℕ) (all after : List ((ℕ × ℕ) × KeptCoin)) (change : Change)
+    → are_of (watcher_kinds dig) records ≡ true
     → more ≡ records ++ body ∷ []
     → Some change ≡ option_map (change_of (who_is records).tag) (note_in dig (who_is records).tag body)
-    → after ≡ changed change all → IsKept dig records tag account all → IsKept dig more tag account after
+    → ((guards : List KeptCoin) → guards ≡ watched_in (who_is records).tag (notes_of dig records)
+    → AreKeyed all guards → AreKeyed after (changed change guards))
+    → IsKept dig records tag account all → IsKept dig more tag account after
 kept-more dig records body more tag account all after change role more_is spells taken kept =
     let who = who_is records in
     let read = note-from who.tag (note_in dig who.tag body) change spells in
@@ -71,12 +81,21 @@ kept-more dig records body more tag account all after change role more_is spells
       is_tag = kept.is_tag ∙ ap (λ (w : WatcherIdentity). w.tag) (sym adds.0);
       is_account = kept.is_account ∙ ap (λ (w : WatcherIdentity). w.account) (sym adds.0);
       are_all =
-          taken ∙ ap (changed change) kept.are_all
-          ∙ ap (λ (c : Change). changed c (watched_in who.tag (notes_of dig records))) read.2
+          taken (watched_in who.tag (notes_of dig records)) refl kept.are_all
+          ∙ ap (map keyed)
+          (ap (λ (c : Change). changed c (watched_in who.tag (notes_of dig records))) read.2
           ∙ sym (watched_in-more who.tag read.0 (notes_of dig records))
           ∙ ap (watched_in who.tag) (sym adds.1)
-          ∙ ap (λ (w : WatcherIdentity). watched_in w.tag (notes_of dig (records ++ body ∷ []))) (sym adds.0);
+          ∙ ap (λ (w : WatcherIdentity). watched_in w.tag (notes_of dig (records ++ body ∷ []))) (sym adds.0));
     })
+
+-- the records of notes stay where a call was stopped
+module _ {D : Type 0} (told : D → Option History) (plan : D → Option FaultPlan) (faults : D → ℕ) where
+  pub stopped-stays : (body : List ℕ) (old new : NotesState D) (stop : Stop)
+      → Did told plan faults (Some body) old (Some stop) new → new.records ≡ old.records
+  stopped-stays body old new DeviceFault did = did.records
+  stopped-stays body old new Closed did = ap (λ (s : NotesState D). s.records) did.1
+  stopped-stays body old new NoMemory did = ap (λ (s : NotesState D). s.records) did.1
 
 -- a record that spells a change may follow
 pub change-follows : (dig : List ℕ → List ℕ) (records : List (List ℕ)) (body : List ℕ) (change : Change)

@@ -1,167 +1,218 @@
--- Guards in the order of coins and tips.
-use Rattle.std.proofs.Common.{◌≡◌, ◌<◌, ◌≤◌, ◌⊎◌, ◌==◌, ◌&&◌, ◌||◌, not, ℕ, Bool, true, false, nat_lt, List, [], ◌∷◌, ◌++◌, length, take, drop, filter, refl, sym, ◌∙◌, ap, inl, inr, arith}
+-- Guards in a map by coins and tips.
+use Rattle.std.proofs.Common.{◌≡◌, ◌==◌, ◌&&◌, ◌||◌, not, ℕ, Bool, true, false, cond, nat_lt, List, [], ◌∷◌, ◌++◌, map, filter, Option, Some, is_some, refl, sym, ◌∙◌, ap, subst, inl, inr, arith}
+use Rattle.std.specs.List.{list_any, AllByRecursion}
+use Rattle.std.specs.List.Sorted.{IsStrictlySortedBy}
+use Rattle.std.specs.declared.cmp.Ordering.{Ordering}
+use Rattle.std.specs.declared.cmp.Ordering.TheVariants.{Less, Equal, Greater}
+use Rattle.std.specs.Ordering.{ordering_then, ordering_reverse, is_lt, is_eq}
+use Rattle.std.specs.BTreeMap.{insert_entry, is_at}
+use Rattle.std.specs.Map.{keys_of, values_of, lookup, remove_entry}
+use Rattle.std.specs.Cmp.{IsTotalOrder}
+use Rattle.std.proofs.lemmas.Cmp.{nat_cmp_total, on_total, then_total, tied_itself}
+use Rattle.std.proofs.lemmas.Bool.{cases_Bool, or_parts}
 use Rattle.std.proofs.lemmas.Bool.Decides.{nat_tests}
-use Rattle.std.proofs.lemmas.Bool.{cases_Bool, and_parts, and_from, or_parts}
-use Rattle.std.specs.List.{list_any, list_all}
-use Rattle.std.proofs.lemmas.List.Folds.{list_all-append}
-use Rattle.std.proofs.lemmas.List.Sums.{length-filter, count_by-le-length}
 use Rattle.kept_coins.specs.declared.kept_coin.KeptCoin.{KeptCoin}
-use Rattle.watcher_node.specs.declared.watched.Change.{Change}
-use Rattle.watcher_node.specs.declared.watched.Change.TheVariants.{Guards, Releases}
-use Rattle.watcher_node.specs.Inside.{is_watched_at, comes_before, AreInOrder, with_watched, changed}
+use Rattle.watcher_node.specs.Inside.{is_watched_at, comes_before, with_watched, by_place, keyed}
 
 -- ---- the order of two numbers and two numbers
 
-abbrev less : ℕ → ℕ → ℕ → ℕ → Bool
-less a b c d = nat_lt a c || (a == c) && nat_lt b d
+total : IsTotalOrder by_place
+total = then_total (on_total (λ (p : ℕ × ℕ). p.0) nat_cmp_total) (on_total (λ (p : ℕ × ℕ). p.1) nat_cmp_total)
 
-less-means : (a b c d : ℕ) → less a b c d ≡ true → (a < c) ⊎ ((a ≡ c) × (b < d))
-less-means a b c d is = grind (arith, nat_tests, is)
+less-by : (l e l' e' : Bool)
+    → is_lt (ordering_then (cond l Less (cond e Equal Greater)) (cond l' Less (cond e' Equal Greater)))
+    ≡ (l || (e && l'))
+less-by true e l' e' = refl
+less-by false true true e' = refl
+less-by false true false true = refl
+less-by false true false false = refl
+less-by false false l' e' = refl
 
-less-from : (a b c d : ℕ) → (a < c) ⊎ ((a ≡ c) × (b < d)) → less a b c d ≡ true
-less-from a b c d is = grind (arith, nat_tests, is)
+same-by : (l e l' e' : Bool) → (e ≡ true → l ≡ false) → (e' ≡ true → l' ≡ false)
+    → is_eq (ordering_then (cond l Less (cond e Equal Greater)) (cond l' Less (cond e' Equal Greater)))
+    ≡ (e && e')
+same-by true true l' e' not-less not-less' = absurd (let wrong = not-less refl in cc wrong)
+same-by true false l' e' not-less not-less' = refl
+same-by false true true true not-less not-less' = absurd (let wrong = not-less' refl in cc wrong)
+same-by false true true false not-less not-less' = refl
+same-by false true false true not-less not-less' = refl
+same-by false true false false not-less not-less' = refl
+same-by false false l' e' not-less not-less' = refl
 
-less-other : (a b c d : ℕ) → less a b c d ≡ false → ((a == c) && (b == d)) ≡ false → (c < a) ⊎ ((c ≡ a) × (d < b))
-less-other a b c d is apart = grind (arith, nat_tests, is, apart)
+not-less : (a b : ℕ) → (a == b) ≡ true → nat_lt a b ≡ false
+not-less a b same = grind (arith, nat_tests, same)
 
-before-trans : (a b c : KeptCoin) → comes_before a b ≡ true → comes_before b c ≡ true → comes_before a c ≡ true
-before-trans a b c one two =
-    less-from a.coin a.tip c.coin c.tip
-    (elim (less-means a.coin a.tip b.coin b.tip one) [
-      | inl x ↦ elim (less-means b.coin b.tip c.coin c.tip two) [
-        | inl y ↦ inl (omega arith)
-        | inr y ↦ inl (omega arith)
-      ]
-      | inr x ↦ elim (less-means b.coin b.tip c.coin c.tip two) [
-        | inl y ↦ inl (omega arith)
-        | inr y ↦ inr (x.0 ∙ y.0, omega arith)
-      ]
-    ])
+abbrev place : KeptCoin → ℕ × ℕ
+place watched = (watched.coin, watched.tip)
 
-before-other : (a b : KeptCoin) → comes_before a b ≡ false → is_watched_at b.coin b.tip a ≡ false
-    → comes_before b a ≡ true
-before-other a b is apart = less-from b.coin b.tip a.coin a.tip (less-other a.coin a.tip b.coin b.tip is apart)
+before-is : (one other : KeptCoin) → is_lt (by_place (place one) (place other)) ≡ comes_before one other
+before-is one other =
+    less-by (nat_lt one.coin other.coin) (one.coin == other.coin) (nat_lt one.tip other.tip) (one.tip == other.tip)
 
--- ---- lists
+flip : (a b : ℕ) → (a == b) ≡ (b == a)
+flip a b = grind arith
 
-all-later : (a b : KeptCoin) (all : List KeptCoin) → comes_before a b ≡ true → list_all (comes_before b) all ≡ true
-    → list_all (comes_before a) all ≡ true
-all-later a b [] is later = refl
-all-later a b (x ∷ xs) is later =
-    let parts = and_parts (comes_before b x) (list_all (comes_before b) xs) later in
-    and_from (comes_before a x) (list_all (comes_before a) xs) (before-trans a b x is parts.0)
-    (all-later a b xs is parts.1)
+at-is : (coin tip : ℕ) (one : KeptCoin) → is_eq (by_place (coin, tip) (place one)) ≡ is_watched_at coin tip one
+at-is coin tip one =
+    same-by (nat_lt coin one.coin) (coin == one.coin) (nat_lt tip one.tip) (tip == one.tip) (not-less coin one.coin)
+    (not-less tip one.tip)
+    ∙ (λ i. flip coin one.coin i && flip tip one.tip i)
 
-all-filter : (p q : KeptCoin → Bool) (all : List KeptCoin) → list_all p all ≡ true → list_all p (filter q all) ≡ true
-all-filter p q [] is = refl
-all-filter p q (x ∷ xs) is =
-    let parts = and_parts (p x) (list_all p xs) is in
-    let rest = all-filter p q xs parts.1 in
-    elim (cases_Bool (q x)) [
-      | inl here ↦ rw here (and_from (p x) (list_all p (filter q xs)) parts.0 rest)
-      | inr here ↦ rw here rest
-    ]
+-- ---- one that is asked for
 
-filter-order : (q : KeptCoin → Bool) (all : List KeptCoin) → AreInOrder all → AreInOrder (filter q all)
-filter-order q [] order = tt
-filter-order q (x ∷ xs) order =
-    let rest = filter-order q xs order.1 in
-    elim (cases_Bool (q x)) [
-      | inl here ↦ rw here (all-filter (comes_before x) q xs order.0, rest)
-      | inr here ↦ rw here rest
-    ]
+has-keyed : (coin tip : ℕ) (all : List KeptCoin)
+    → is_some (lookup (is_at (by_place (coin, tip))) (map keyed all)) ≡ list_any (is_watched_at coin tip) all
+has-keyed coin tip [] = refl
+has-keyed coin tip (x ∷ xs) =
+    at (is_eq (by_place (coin, tip) (place x)))
+    ∙ (λ i. at-is coin tip x i || has-keyed coin tip xs i)
+  where
+    found : Option KeptCoin
+    found = lookup (is_at (by_place (coin, tip))) (map keyed xs)
 
--- those before one, and the others
+    at : (b : Bool) → is_some (cond b (Some x) found) ≡ (b || is_some found)
+    at true = refl
+    at false = refl
+
+pub asked-keyed : (coin tip : ℕ) (entries : List ((ℕ × ℕ) × KeptCoin)) (all : List KeptCoin) → entries ≡ map keyed all
+    → list_any (is_watched_at coin tip) all ≡ is_some (lookup (is_at (by_place (coin, tip))) entries)
+asked-keyed coin tip entries all are =
+    sym (has-keyed coin tip all)
+    ∙ ap (λ (es : List ((ℕ × ℕ) × KeptCoin)). is_some (lookup (is_at (by_place (coin, tip))) es)) (sym are)
+
+pub values-keyed : (all : List KeptCoin) → values_of (map keyed all) ≡ all
+values-keyed [] = refl
+values-keyed (x ∷ xs) = ap (λ (l : List KeptCoin). x ∷ l) (values-keyed xs)
+
+-- ---- one that is put there
+
 abbrev before : KeptCoin → List KeptCoin → List KeptCoin
 before watched all = filter (λ other. comes_before other watched) all
 
 abbrev behind : KeptCoin → List KeptCoin → List KeptCoin
 behind watched all = filter (λ other. not (comes_before other watched)) all
 
--- where one isn't before, none after it is
-after-none : (x watched : KeptCoin) (all : List KeptCoin) → comes_before x watched ≡ false
-    → list_all (comes_before x) all ≡ true → (before watched all ≡ []) × (behind watched all ≡ all)
-after-none x watched [] is later = (refl, refl)
-after-none x watched (y ∷ ys) is later =
-    let parts = and_parts (comes_before x y) (list_all (comes_before x) ys) later in
-    let rest = after-none x watched ys is parts.1 in
-    elim (cases_Bool (comes_before y watched)) [
-      | inl here ↦ (let through = before-trans x y watched parts.0 here in absurd (cc (is, through)))
-      | inr here ↦ rw here (rest.0, ap (λ (l : List KeptCoin). y ∷ l) rest.1)
-    ]
+abbrev AllLater : ℕ × ℕ → List KeptCoin → Type 0
+AllLater p all = AllByRecursion (λ q. by_place p q ≡ Less) (keys_of (map keyed all))
 
--- those before one are the first so many
-pub place-splits : (watched : KeptCoin) (all : List KeptCoin) → AreInOrder all
-    → (take (length (before watched all)) all ≡ before watched all)
-    × (drop (length (before watched all)) all ≡ behind watched all)
-place-splits watched [] order = (refl, refl)
-place-splits watched (x ∷ xs) order =
-    let rest = place-splits watched xs order.1 in
-    elim (cases_Bool (comes_before x watched)) [
-      | inl here ↦ rw here (ap (λ (l : List KeptCoin). x ∷ l) rest.0, rest.1)
-      | inr here ↦
-          let none = after-none x watched xs here order.0 in
-          rw here (rw none.0 (refl, ap (λ (l : List KeptCoin). x ∷ l) (sym none.1)))
-    ]
+after-all : (p q : ℕ × ℕ) (all : List KeptCoin) → by_place p q ≡ Less → AllLater q all → AllLater p all
+after-all p q [] less later = tt
+after-all p q (x ∷ xs) less later =
+    (total.trans p q (place x) less later.0, after-all p q xs less later.1)
 
--- one more in front
-put-one : (watched x : KeptCoin) (xs : List KeptCoin) → AreInOrder (x ∷ xs)
-    → is_watched_at watched.coin watched.tip x ≡ false → AreInOrder (before watched xs ++ watched ∷ behind watched xs)
-    → AreInOrder (before watched (x ∷ xs) ++ watched ∷ behind watched (x ∷ xs))
-put-one watched x xs order same rest = elim (cases_Bool (comes_before x watched)) [
+-- where one comes after none of them
+none-before : (watched : KeptCoin) (all : List KeptCoin) → AllLater (place watched) all
+    → (before watched all ≡ []) × (behind watched all ≡ all)
+none-before watched [] later = (refl, refl)
+none-before watched (x ∷ xs) later =
+    let rest = none-before watched xs later.1 in
+    let other : comes_before x watched ≡ false =
+    sym (before-is x watched)
+    ∙ ap is_lt (total.antisymm (place x) (place watched) ∙ ap ordering_reverse later.0) in
+    rw other (rest.0, ap (λ (l : List KeptCoin). x ∷ l) rest.1)
+
+put-is : (watched : KeptCoin) (all : List KeptCoin) → IsStrictlySortedBy by_place (keys_of (map keyed all))
+    → list_any (is_watched_at watched.coin watched.tip) all ≡ false
+    → insert_entry by_place (map keyed all) (place watched) watched
+    ≡ map keyed (before watched all ++ watched ∷ behind watched all)
+unfolding IsStrictlySortedBy
+put-is watched [] sorted absent = refl
+put-is watched (x ∷ xs) sorted absent =
+    at (by_place (place watched) (place x)) refl (put-is watched xs sorted.1 parts.1)
+  where
+    parts : (is_watched_at watched.coin watched.tip x ≡ false)
+        × (list_any (is_watched_at watched.coin watched.tip) xs ≡ false)
+    parts = or_parts (is_watched_at watched.coin watched.tip x)
+        (list_any (is_watched_at watched.coin watched.tip) xs) absent
+
+    at : (o : Ordering) → by_place (place watched) (place x) ≡ o
+        → insert_entry by_place (map keyed xs) (place watched) watched
+        ≡ map keyed (before watched xs ++ watched ∷ behind watched xs)
+        → insert_entry by_place (map keyed (x ∷ xs)) (place watched) watched
+        ≡ map keyed (before watched (x ∷ xs) ++ watched ∷ behind watched (x ∷ xs))
+    at Less less rest =
+        let none = none-before watched (x ∷ xs)
+        (less, after-all (place watched) (place x) xs less sorted.0) in
+        rw (less, none.0, none.1) refl
+    at Equal same rest =
+        absurd (let wrong = ap is_eq (sym same) ∙ at-is watched.coin watched.tip x ∙ parts.0 in cc wrong)
+    at Greater more rest =
+        let first : comes_before x watched ≡ true =
+        sym (before-is x watched)
+        ∙ ap is_lt (total.antisymm (place x) (place watched) ∙ ap ordering_reverse more) in
+        rw (more, first) (ap (λ (l : List ((ℕ × ℕ) × KeptCoin)). keyed x ∷ l) rest)
+
+pub put-keyed : (watched : KeptCoin) (all : List KeptCoin) (old new : List ((ℕ × ℕ) × KeptCoin))
+    → IsStrictlySortedBy by_place (keys_of old) → list_any (is_watched_at watched.coin watched.tip) all ≡ false
+    → old ≡ map keyed all → new ≡ insert_entry by_place old (watched.coin, watched.tip) watched
+    → new ≡ map keyed (with_watched watched all)
+put-keyed watched all old new sorted absent are put =
+    put ∙ ap (λ (es : List ((ℕ × ℕ) × KeptCoin)). insert_entry by_place es (place watched) watched) are
+    ∙ put-is watched all (subst (λ (es : List ((ℕ × ℕ) × KeptCoin)). IsStrictlySortedBy by_place (keys_of es)) are sorted)
+    absent
+    ∙ rw absent refl
+
+-- one that is there stays
+pub kept-keyed : (watched : KeptCoin) (all : List KeptCoin)
+    → list_any (is_watched_at watched.coin watched.tip) all ≡ true → map keyed all ≡ map keyed (with_watched watched all)
+kept-keyed watched all there = rw there refl
+
+-- ---- one that is taken away
+
+none-at : (coin tip : ℕ) (all : List KeptCoin) → AllLater (coin, tip) all
+    → filter (λ watched. not (is_watched_at coin tip watched)) all ≡ all
+none-at coin tip [] later = refl
+none-at coin tip (x ∷ xs) later =
+    rw (sym (at-is coin tip x) ∙ ap is_eq later.0) (ap (λ (l : List KeptCoin). x ∷ l) (none-at coin tip xs later.1))
+
+behind-same : (p q : ℕ × ℕ) (all : List KeptCoin) → is_eq (by_place p q) ≡ true → AllLater q all → AllLater p all
+behind-same p q [] same later = tt
+behind-same p q (x ∷ xs) same later =
+    (total.congr p q (place x) (equal (by_place p q) same) ∙ later.0, behind-same p q xs same later.1)
+  where
+    equal : (o : Ordering) → is_eq o ≡ true → o ≡ Equal
+    equal Less wrong = absurd (cc wrong)
+    equal Equal is = refl
+    equal Greater wrong = absurd (cc wrong)
+
+remove-is : (coin tip : ℕ) (all : List KeptCoin) → IsStrictlySortedBy by_place (keys_of (map keyed all))
+    → remove_entry (is_at (by_place (coin, tip))) (map keyed all)
+    ≡ map keyed (filter (λ watched. not (is_watched_at coin tip watched)) all)
+unfolding IsStrictlySortedBy
+remove-is coin tip [] sorted = refl
+remove-is coin tip (x ∷ xs) sorted = elim (cases_Bool (is_eq (by_place (coin, tip) (place x)))) [
   | inl here ↦
-      let later : list_all (comes_before x) (before watched xs ++ watched ∷ behind watched xs) ≡ true =
-      list_all-append (comes_before x) (before watched xs) (watched ∷ behind watched xs)
-      ∙ and_from (list_all (comes_before x) (before watched xs))
-      (list_all (comes_before x) (watched ∷ behind watched xs))
-      (all-filter (comes_before x) (λ other. comes_before other watched) xs order.0)
-      (and_from (comes_before x watched) (list_all (comes_before x) (behind watched xs)) here
-      (all-filter (comes_before x) (λ other. not (comes_before other watched)) xs order.0)) in
-      rw here (later, rest)
-  | inr here ↦
-      let none = after-none x watched xs here order.0 in
-      let first = before-other x watched here same in
-      rw here (rw (none.0, none.1) (
-        and_from (comes_before watched x) (list_all (comes_before watched) xs) first
-            (all-later watched x xs first order.0),
-        (order.0, order.1),
-      ))
+      let there : is_watched_at coin tip x ≡ true = sym (at-is coin tip x) ∙ here in
+      rw (here, there)
+      (ap (map keyed) (sym (none-at coin tip xs (behind-same (coin, tip) (place x) xs here sorted.0))))
+  | inr other ↦
+      let apart : is_watched_at coin tip x ≡ false = sym (at-is coin tip x) ∙ other in
+      rw (other, apart) (ap (λ (l : List ((ℕ × ℕ) × KeptCoin)). keyed x ∷ l) (remove-is coin tip xs sorted.1))
 ]
 
-put-order : (watched : KeptCoin) (all : List KeptCoin) → AreInOrder all
-    → list_any (is_watched_at watched.coin watched.tip) all ≡ false
-    → AreInOrder (before watched all ++ watched ∷ behind watched all)
-put-order watched [] order apart = (refl, tt)
-put-order watched (x ∷ xs) order apart =
-    let parts = or_parts (is_watched_at watched.coin watched.tip x)
-    (list_any (is_watched_at watched.coin watched.tip) xs) apart in
-    put-one watched x xs order parts.0 (put-order watched xs order.1 parts.1)
+pub removed-keyed : (coin tip : ℕ) (all : List KeptCoin) (old new : List ((ℕ × ℕ) × KeptCoin))
+    → IsStrictlySortedBy by_place (keys_of old) → old ≡ map keyed all
+    → new ≡ remove_entry (is_at (by_place (coin, tip))) old
+    → new ≡ map keyed (filter (λ watched. not (is_watched_at coin tip watched)) all)
+removed-keyed coin tip all old new sorted are gone =
+    gone ∙ ap (remove_entry (is_at (by_place (coin, tip)))) are
+    ∙ remove-is coin tip all
+    (subst (λ (es : List ((ℕ × ℕ) × KeptCoin)). IsStrictlySortedBy by_place (keys_of es)) are sorted)
 
-pub with-order : (watched : KeptCoin) (all : List KeptCoin) → AreInOrder all → AreInOrder (with_watched watched all)
-with-order watched all order = at (list_any (is_watched_at watched.coin watched.tip) all) refl
+-- one that was put where there was none, and is taken away again
+pub put-undone : (p : ℕ × ℕ) (watched : KeptCoin) (old : List ((ℕ × ℕ) × KeptCoin))
+    → is_some (lookup (is_at (by_place p)) old) ≡ false
+    → remove_entry (is_at (by_place p)) (insert_entry by_place old p watched) ≡ old
+put-undone p watched [] absent = rw (tied_itself total p) refl
+put-undone p watched (e ∷ es) absent = at (by_place p e.0) refl (put-undone p watched es) absent
   where
-    at : (b : Bool) → list_any (is_watched_at watched.coin watched.tip) all ≡ b
-        → AreInOrder (with_watched watched all)
-    at true is = rw is order
-    at false is = rw is (put-order watched all order is)
-
-pub changed-order : (change : Change) (all : List KeptCoin) → AreInOrder all → AreInOrder (changed change all)
-changed-order (Guards watched) all order = with-order watched all order
-changed-order (Releases coin tip) all order = filter-order (λ watched. not (is_watched_at coin tip watched)) all order
-
-pub place-within : (watched : KeptCoin) (all : List KeptCoin) (place : ℕ) → place ≡ length (before watched all)
-    → place ≤ length all
-place-within watched all place is =
-    let bound = count_by-le-length (λ other. comes_before other watched) all in
-    omega (arith, is, bound, length-filter (λ other. comes_before other watched) all)
-
-pub put-is : (watched : KeptCoin) (all : List KeptCoin) (place : ℕ) (more : List KeptCoin)
-    → list_any (is_watched_at watched.coin watched.tip) all ≡ false → place ≡ length (before watched all)
-    → AreInOrder all → more ≡ take place all ++ watched ∷ drop place all → more ≡ with_watched watched all
-put-is watched all place more none is order put =
-    let parts = place-splits watched all order in
-    let here : take place all ++ watched ∷ drop place all ≡ before watched all ++ watched ∷ behind watched all =
-    ap (λ (n : ℕ). take n all ++ watched ∷ drop n all) is
-    ∙ ap (λ (l : List KeptCoin). l ++ watched ∷ drop (length (before watched all)) all) parts.0
-    ∙ ap (λ (l : List KeptCoin). before watched all ++ watched ∷ l) parts.1 in
-    put ∙ here ∙ rw none refl
+    at : (o : Ordering) → by_place p e.0 ≡ o
+        → (is_some (lookup (is_at (by_place p)) es) ≡ false
+        → remove_entry (is_at (by_place p)) (insert_entry by_place es p watched) ≡ es)
+        → is_some (lookup (is_at (by_place p)) (e ∷ es)) ≡ false
+        → remove_entry (is_at (by_place p)) (insert_entry by_place (e ∷ es) p watched) ≡ e ∷ es
+    at Less less rest none = rw less (rw (tied_itself total p) refl)
+    at Equal same rest none = absurd (let wrong = rw same at none in cc wrong)
+    at Greater more rest none =
+        let later = rw more at none in
+        rw more (rw more (ap (λ (l : List ((ℕ × ℕ) × KeptCoin)). e ∷ l) (rest later)))

@@ -1,5 +1,5 @@
 -- What a note makes of the guards.
-use Rattle.std.proofs.Common.{◌≡◌, ◌<◌, ◌+◌, ◌||◌, not, ℕ, Bool, true, false, List, [], ◌∷◌, ◌++◌, length, take, get_or, map, filter, reverse, Option, None, Some, refl, sym, ◌∙◌, ap, subst, inl, inr}
+use Rattle.std.proofs.Common.{◌≡◌, ◌<◌, ◌+◌, ◌||◌, not, ℕ, Bool, true, false, List, [], ◌∷◌, ◌++◌, length, take, get_or, map, filter, reverse, Option, None, Some, refl, sym, ◌∙◌, ap, inl, inr}
 use Rattle.std.proofs.lemmas.Bool.{cases_Bool}
 use Rattle.std.specs.List.{list_any, filter_map, cons_option}
 use Rattle.std.specs.Option.{option_map}
@@ -7,9 +7,8 @@ use Rattle.std.proofs.lemmas.List.{map-append, take_more}
 use Rattle.coin_history.specs.declared.bundle.Bundle.{Bundle}
 use Rattle.node_rules.specs.Watcher.{Note, Guarded, Released, is_of, is_before, with_guard, note_in, guards_of}
 use Rattle.node_rules.proofs.OneMore.{reverse-grow}
-use Rattle.watcher_node.specs.Inside.{change_of, is_watched_at, comes_before, AreInOrder, with_watched, changed, changed_by, watched_in}
+use Rattle.watcher_node.specs.Inside.{change_of, is_watched_at, comes_before, with_watched, changed, changed_by, watched_in}
 use Rattle.kept_coins.specs.KeptCoins.{kept_coin_of}
-use Rattle.watcher_node.proofs.Order.{changed-order}
 
 filter-map : {X Y : Type 0} (f : X → Y) (p : Y → Bool) (xs : List X)
     → filter p (map f xs) ≡ map f (filter (λ x. p (f x)) xs)
@@ -52,13 +51,6 @@ watched_in-more tag (Released coin tip) notes =
 pub watched_in-none : (tag : List ℕ) → watched_in tag [] ≡ []
 unfolding guards_of
 watched_in-none tag = refl
-
-pub watched_in-order : (tag : List ℕ) (notes : List Note) → AreInOrder (watched_in tag notes)
-unfolding guards_of
-watched_in-order tag [] = tt
-watched_in-order tag (note ∷ notes) =
-    subst AreInOrder (sym (watched_in-more tag note notes))
-    (changed-order (change_of tag note) (watched_in tag notes) (watched_in-order tag notes))
 
 pub watched-start : (dig : List ℕ → List ℕ) (tag : List ℕ)
     → [] ≡ watched_in tag (reverse (filter_map (note_in dig tag) []))

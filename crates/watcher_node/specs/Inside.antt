@@ -1,6 +1,8 @@
 -- What a watcher keeps in memory of the coins that it guards.
-use Rattle.std.specs.Prelude.{◌≡◌, ℕ, ◌==◌, ◌&&◌, ◌||◌, not, Bool, true, nat_lt, if◌then◌else◌, List, [], ◌∷◌, ◌++◌, map, filter, Option, None, Some}
-use Rattle.std.specs.List.{list_any, list_all}
+use Rattle.std.specs.Prelude.{◌≡◌, ℕ, ◌==◌, ◌&&◌, ◌||◌, not, Bool, nat_lt, if◌then◌else◌, List, ◌∷◌, ◌++◌, map, filter, Option, None, Some}
+use Rattle.std.specs.declared.cmp.Ordering.{Ordering}
+use Rattle.std.specs.List.{list_any}
+use Rattle.std.specs.Ordering.{nat_cmp, ordering_then}
 use Rattle.coin_history.specs.declared.refusal.HistoryRefusal.{HistoryRefusal}
 use Rattle.coin_history.specs.declared.refusal.HistoryRefusal.TheVariants.{NoMemory as HistoryMemory}
 use Rattle.node_rules.specs.Watcher.{Note, Guarded, Released, who_is, notes_of, guards_of}
@@ -25,11 +27,6 @@ abbrev pub comes_before : KeptCoin → KeptCoin → Bool
 comes_before watched other =
     nat_lt watched.coin other.coin || (watched.coin == other.coin) && nat_lt watched.tip other.tip
 
--- they stand in the order of coins and tips
-abbrev pub AreInOrder : List KeptCoin → Type 0
-AreInOrder [] = Unit {0}
-AreInOrder (watched ∷ all) = (list_all (comes_before watched) all ≡ true) × AreInOrder all
-
 -- one more at its place, where there is none of this coin and tip
 abbrev pub with_watched : KeptCoin → List KeptCoin → List KeptCoin
 with_watched watched all =
@@ -51,12 +48,24 @@ changed_by (Some change) all = changed change all
 abbrev pub watched_in : List ℕ → List Note → List KeptCoin
 watched_in tag notes = map (kept_coin_of tag) (guards_of notes)
 
+-- coins with tips in the order in which a map has them: by the coin, and then by the tip
+abbrev pub by_place : ℕ × ℕ → ℕ × ℕ → Ordering
+by_place one other = ordering_then (nat_cmp one.0 other.0) (nat_cmp one.1 other.1)
+
+-- a guard as an entry of a map
+abbrev pub keyed : KeptCoin → (ℕ × ℕ) × KeptCoin
+keyed watched = ((watched.coin, watched.tip), watched)
+
+-- the entries of a map are these guards, by coin and tip
+abbrev pub AreKeyed : List ((ℕ × ℕ) × KeptCoin) → List KeptCoin → Type 0
+AreKeyed entries all = entries ≡ map keyed all
+
 -- what a watcher keeps in memory beside its records
-pub record IsKept (dig : List ℕ → List ℕ) (records : List (List ℕ)) (tag : List ℕ) (account : ℕ) (all : List KeptCoin)
-    : Type 0 where
+pub record IsKept (dig : List ℕ → List ℕ) (records : List (List ℕ)) (tag : List ℕ) (account : ℕ)
+    (entries : List ((ℕ × ℕ) × KeptCoin)) : Type 0 where
   pub is_tag : tag ≡ (who_is records).tag
   pub is_account : account ≡ (who_is records).account
-  pub are_all : all ≡ watched_in (who_is records).tag (notes_of dig records)
+  pub are_all : AreKeyed entries (watched_in (who_is records).tag (notes_of dig records))
 
 -- why a node refuses a history: want of memory is the node's own
 abbrev pub history_refusal : HistoryRefusal → WatcherRefusal

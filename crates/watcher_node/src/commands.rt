@@ -6,6 +6,7 @@ ghost use Rattle.node_journal.specs.Effect.{first_cause};
 ghost use Rattle.node_journal.specs.Notes.{Did, stopped_by};
 ghost use Rattle.node_rules.specs.Kept.{kept_of, links_handed};
 ghost use Rattle.node_rules.specs.Watcher.{Note, Released, note_text, who_is, note_in, is_of, guards_in, guard_causes, guard_taken, guard_by, guard_effect, release_effect};
+ghost use Rattle.watcher_node.specs.declared.watched.Change.{Change};
 ghost use Rattle.watcher_node.specs.State.{stop_in, watcher_stop};
 ghost use Rattle.watcher_node.specs.Inside.{change_of, history_refusal};
 ghost use Rattle.kept_coins.specs.KeptCoins.{IsShown};
@@ -13,7 +14,7 @@ ghost use Rattle.coin_history.specs.Bundles.{IsBundle};
 
 use super::bundles::{guarded_note, released_note};
 use super::node::WatcherNode;
-use super::watched::{Change, apply, has_guard};
+use super::watched::{insert_guard, remove_guard};
 use coin_history::HistoryRefusal;
 use crash_disk::Disk;
 use kept_coins::{KeptCoin, links_handed};
@@ -64,10 +65,36 @@ fn guard_refusal(log: &RootLog, links: &Links, count: usize) -> Option<WatcherRe
 }
 
 impl<D: Disk, H: Hash32 + Copy> WatcherNode<D, H> {
-    // Adds a note that spells this change, and takes the change over.
-    fn take_note(&mut self, body: Bytes, change: Change) -> Result<(), Stop>
+    // Adds the note of a guard that isn't there, and puts the guard into memory. That is done first, so that no memory
+    // is asked for behind the record, and undone where the record isn't durable.
+    fn note_guard(&mut self, body: Bytes, watched: KeptCoin) -> Result<(), Stop>
         requires fits { length body ≤ most }
-        requires spells { Some change ≡ option_map (change_of (who_is self.old.notes.records).tag)
+        requires spells { Some (Change.Guards watched) ≡ option_map (change_of (who_is self.old.notes.records).tag)
+            (note_in (H.digest_of self.old.hash) (who_is self.old.notes.records).tag body) }
+        requires absent { list_any (is_of watched.coin watched.tip)
+            (guards_in (H.digest_of self.old.hash) self.old.notes.records) ≡ false }
+        ensures did { Did D.told D.plan D.faults (Some body) self.old.notes (stopped_by result) self.new.notes }
+        ensures hash { self.new.hash ≡ self.old.hash }
+    {
+        if self.notes.is_closed() {
+            return Err(Stop::Closed);
+        }
+        let place = (watched.coin, watched.tip);
+        insert_guard(&mut self.guards, watched)?;
+        self.notes.is_whole();
+        match self.notes.add(body) {
+            Ok(()) => Ok(()),
+            Err(stop) => {
+                self.guards.remove(&place);
+                Err(stop)
+            }
+        }
+    }
+
+    // Adds the note of a guard that is let go, and takes it out of memory.
+    fn note_release(&mut self, body: Bytes, coin: u64, tip: u64) -> Result<(), Stop>
+        requires fits { length body ≤ most }
+        requires spells { Some (Change.Releases coin tip) ≡ option_map (change_of (who_is self.old.notes.records).tag)
             (note_in (H.digest_of self.old.hash) (who_is self.old.notes.records).tag body) }
         ensures did { Did D.told D.plan D.faults (Some body) self.old.notes (stopped_by result) self.new.notes }
         ensures hash { self.new.hash ≡ self.old.hash }
@@ -75,11 +102,10 @@ impl<D: Disk, H: Hash32 + Copy> WatcherNode<D, H> {
         if self.notes.is_closed() {
             return Err(Stop::Closed);
         }
-        self.guards.reserve(1)?;
         self.notes.is_whole();
         match self.notes.add(body) {
             Ok(()) => {
-                apply(&mut self.guards, change);
+                remove_guard(&mut self.guards, coin, tip);
                 Ok(())
             }
             Err(stop) => Err(stop),
@@ -90,7 +116,7 @@ impl<D: Disk, H: Hash32 + Copy> WatcherNode<D, H> {
     fn has(&self, coin: u64, tip: u64) -> bool
         ensures { result ≡ list_any (is_of coin tip) (guards_in (H.digest_of self.now.hash) self.now.notes.records) }
     {
-        has_guard(self.guards.as_slice(), coin, tip)
+        self.guards.contains_key(&(coin, tip))
     }
 
     // What a history does that nothing refuses, whose note this is.
@@ -114,7 +140,7 @@ impl<D: Disk, H: Hash32 + Copy> WatcherNode<D, H> {
         }
         let Links { spends, .. } = links;
         let watched = KeptCoin { coin, tip, spends };
-        match self.take_note(body, Change::Guards { watched }) {
+        match self.note_guard(body, watched) {
             Ok(()) => Ok(accepted),
             Err(stop) => Err(stop_refusal(stop)),
         }
@@ -189,7 +215,7 @@ impl<D: Disk, H: Hash32 + Copy> WatcherNode<D, H> {
             Ok(body) => body,
             Err(_) => return Err(WatcherRefusal::NoMemory),
         };
-        match self.take_note(body, Change::Releases { coin, tip }) {
+        match self.note_release(body, coin, tip) {
             Ok(()) => Ok(()),
             Err(stop) => Err(stop_refusal(stop)),
         }

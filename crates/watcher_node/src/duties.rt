@@ -1,5 +1,6 @@
 ghost use Rattle.std.specs.Prelude.{◌≡◌, ◌++◌, IfOk, OnOk, OnErr};
 ghost use Rattle.std.specs.List.{flat_map};
+ghost use Rattle.std.specs.BTreeMap.{values};
 ghost use Rattle.node_rules.specs.Watcher.{watch_answer};
 ghost use Rattle.kept_coins.specs.KeptCoins.{due_for_coin};
 
@@ -9,18 +10,19 @@ use kept_coins::{KeptCoin, push_due_for};
 use plasma_base::{Hash32, NoMemory};
 use plasma_tx::{RootCall, RootLog};
 use std::alloc::Global;
+use std::collections::BTreeMap;
 
 // What is due for guards, in their order.
 fn due_calls(
     alloc: Global,
     log: &RootLog,
     account: u64,
-    guards: &[KeptCoin],
+    guards: &BTreeMap<(u64, u64), KeptCoin>,
 ) -> Result<Vec<RootCall>, NoMemory>
-    ensures { IfOk result (λ calls. calls.items ≡ flat_map (due_for_coin log.now.log account) guards.now) }
+    ensures { IfOk result (λ calls. calls.items ≡ flat_map (due_for_coin log.now.log account) (values guards.now)) }
 {
     let mut calls = Vec::new(alloc);
-    for watched in guards {
+    for watched in guards.values() {
         push_due_for(alloc, log, account, watched, &mut calls)?;
     }
     Ok(calls)
@@ -33,7 +35,7 @@ impl<D: Disk, H: Hash32 + Copy> WatcherNode<D, H> {
         ensures { IfOk result (λ calls. calls.items
             ≡ watch_answer (H.digest_of self.now.hash) self.now.notes.records log.now.log) }
     {
-        let calls = due_calls(self.alloc, log, self.account, self.guards.as_slice())?;
+        let calls = due_calls(self.alloc, log, self.account, &self.guards)?;
         Ok(calls)
     }
 }

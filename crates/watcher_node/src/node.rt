@@ -15,18 +15,19 @@ use kept_coins::KeptCoin;
 use node_journal::Notes;
 use plasma_base::{Hash32, Sha};
 use std::alloc::Global;
+use std::collections::BTreeMap;
 use std::marker::Model;
 
 /// A watcher: its notes on a disk, and in memory the guards that they leave, with the links that their
 /// openings show. A device fault closes it until the disk is taken back and opened again.
-#[derive(Drop)]
 pub struct WatcherNode<D: Disk, H: Hash32 + Copy> {
     pub(crate) alloc: Global,
     pub(crate) hash: H,
     pub(crate) notes: Notes<D, WatcherRole<H>>,
     pub(crate) tag: [u8; 32],
     pub(crate) account: u64,
-    pub(crate) guards: Vec<KeptCoin>,
+    // by coin and tip
+    pub(crate) guards: BTreeMap<(u64, u64), KeptCoin>,
 }
 
 impl<D: Disk, H: Hash32 + Copy> Model for WatcherNode<D, H> {
@@ -38,8 +39,15 @@ impl<D: Disk, H: Hash32 + Copy> Model for WatcherNode<D, H> {
 
     ghost view = { λ n. record { notes = n.notes.notes; hash = n.hash } };
 
-    ghost invariant = { λ n. IsKept (H.digest_of n.hash) n.notes.notes.records n.tag n.account n.guards.items
+    ghost invariant = { λ n. IsKept (H.digest_of n.hash) n.notes.notes.records n.tag n.account n.guards.entries
         × (n.notes.role ≡ record { hash = n.hash }) };
+}
+
+// Written by hand, so that each place that lets a watcher go calls it; a derived one is proved anew at each.
+impl<D: Disk + Drop, H: Hash32 + Copy> Drop for WatcherNode<D, H> {
+    fn drop(self) {
+        let _ = self.take_disk();
+    }
 }
 
 // A watcher over notes that were opened; the disk where memory runs out.
@@ -137,7 +145,14 @@ impl<D: Disk, H: Hash32 + Copy> WatcherNode<D, H> {
     pub fn take_disk(self) -> D
         ensures { result ≡ self.notes.disk }
     {
-        let WatcherNode { notes, .. } = self;
+        let WatcherNode {
+            alloc: _,
+            hash: _,
+            notes,
+            tag: _,
+            account: _,
+            guards: _,
+        } = self;
         notes.take_disk()
     }
 }

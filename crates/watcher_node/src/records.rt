@@ -1,14 +1,16 @@
-ghost use Rattle.std.specs.Prelude.{◌≡◌, true, IfOk, OnOk, Some, reverse};
+ghost use Rattle.std.specs.Prelude.{◌≡◌, true, List, IfOk, OnOk, Some, reverse};
 ghost use Rattle.std.specs.Option.{option_map};
 ghost use Rattle.std.specs.List.{filter_map};
 ghost use Rattle.node_journal.specs.Role.{are_of};
+ghost use Rattle.kept_coins.specs.declared.kept_coin.KeptCoin.{KeptCoin};
 ghost use Rattle.node_rules.specs.Watcher.{identity_in, note_in, watcher_kinds};
-ghost use Rattle.watcher_node.specs.Inside.{AreInOrder, change_of, changed_by, watched_in, IsKept};
+ghost use Rattle.watcher_node.specs.Inside.{change_of, changed_by, watched_in, AreKeyed, IsKept};
 
 use super::watched::{Change, apply};
 use kept_coins::{KeptCoin, number_at, read_kept};
 use plasma_base::{Bytes, Hash32, NoMemory};
 use std::alloc::Global;
+use std::collections::BTreeMap;
 
 // The tag and the account of the identity that a record spells.
 #[tactic(auto, unfolding(node_rules::specs::Watcher::identity_in))]
@@ -54,15 +56,17 @@ pub fn read_note<H: Hash32>(
 }
 
 // Takes the change over that a record spells, where it spells one.
-fn take_over(all: &mut Vec<KeptCoin>, change: Option<Change>) -> Result<(), NoMemory>
-    requires { AreInOrder all.old.items }
-    ensures { OnOk result (all.new.items ≡ changed_by change all.old.items) }
+fn take_over(
+    all: &mut BTreeMap<(u64, u64), KeptCoin>,
+    change: Option<Change>,
+) -> Result<(), NoMemory>
+    ensures { OnOk result ((guards : List KeptCoin) → AreKeyed all.old.entries guards
+        → AreKeyed all.new.entries (changed_by change guards)) }
 {
-    if let Some(change) = change {
-        all.reserve(1)?;
-        apply(all, change);
+    match change {
+        Some(change) => apply(all, change),
+        None => Ok(()),
     }
-    Ok(())
 }
 
 // What a watcher keeps in memory of its records.
@@ -70,7 +74,8 @@ fn take_over(all: &mut Vec<KeptCoin>, change: Option<Change>) -> Result<(), NoMe
 pub struct InMemory {
     pub tag: [u8; 32],
     pub account: u64,
-    pub guards: Vec<KeptCoin>,
+    // by coin and tip
+    pub guards: BTreeMap<(u64, u64), KeptCoin>,
 }
 
 // The guards that notes leave, the oldest first.
@@ -79,11 +84,11 @@ fn read_guards<H: Hash32>(
     h: &H,
     tag: &[u8; 32],
     notes: &[Bytes],
-) -> Result<Vec<KeptCoin>, NoMemory>
-    ensures { IfOk result (λ all. all.items
-        ≡ watched_in tag.now (reverse (filter_map (note_in (H.digest_of h.now) tag.now) notes.now))) }
+) -> Result<BTreeMap<(u64, u64), KeptCoin>, NoMemory>
+    ensures { IfOk result (λ all. AreKeyed all.entries
+        (watched_in tag.now (reverse (filter_map (note_in (H.digest_of h.now) tag.now) notes.now)))) }
 {
-    let mut all = Vec::new(alloc);
+    let mut all = BTreeMap::new(alloc);
     for note in notes {
         let change = read_note(alloc, h, tag, note.as_slice())?;
         take_over(&mut all, change)?;
@@ -94,7 +99,7 @@ fn read_guards<H: Hash32>(
 // What is kept in memory of a watcher's records.
 pub fn in_memory<H: Hash32>(alloc: Global, h: &H, records: &[Bytes]) -> Result<InMemory, NoMemory>
     requires { are_of (watcher_kinds (H.digest_of h.now)) records.now ≡ true }
-    ensures { IfOk result (λ kept. IsKept (H.digest_of h.now) records.now kept.tag kept.account kept.guards.items) }
+    ensures { IfOk result (λ kept. IsKept (H.digest_of h.now) records.now kept.tag kept.account kept.guards.entries) }
 {
     let Some((first, notes)) = records.split_first() else {
         unreachable!();

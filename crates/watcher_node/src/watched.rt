@@ -1,8 +1,13 @@
-ghost use Rattle.std.specs.Prelude.{◌≡◌, ◌<◌, not, filter, length, vec_len, vec_capacity};
-ghost use Rattle.std.specs.List.{list_any};
-ghost use Rattle.watcher_node.specs.Inside.{is_watched_at, comes_before, AreInOrder, with_watched, changed};
+ghost use Rattle.std.specs.Prelude.{◌≡◌, List, not, filter, OnOk, OnErr};
+ghost use Rattle.std.specs.List.Sorted.{IsStrictlySortedBy};
+ghost use Rattle.std.specs.BTreeMap.{insert_entry};
+ghost use Rattle.std.specs.Map.{keys_of};
+ghost use Rattle.kept_coins.specs.declared.kept_coin.KeptCoin.{KeptCoin};
+ghost use Rattle.watcher_node.specs.Inside.{is_watched_at, with_watched, changed, by_place, AreKeyed};
 
 use kept_coins::KeptCoin;
+use plasma_base::NoMemory;
+use std::collections::BTreeMap;
 
 // What a note changes.
 #[derive(Drop)]
@@ -11,58 +16,51 @@ pub enum Change {
     Releases { coin: u64, tip: u64 },
 }
 
-// Whether it comes before a coin and a tip.
-fn comes_before(watched: &KeptCoin, other: &KeptCoin) -> bool
-    ensures { result ≡ comes_before watched.now other.now }
+// Puts a guard at its place, or in the place of the one of its coin and tip.
+pub fn insert_guard(
+    all: &mut BTreeMap<(u64, u64), KeptCoin>,
+    watched: KeptCoin,
+) -> Result<(), NoMemory>
+    ensures ok { OnOk result (all.new.entries
+        ≡ insert_entry by_place all.old.entries (watched.coin, watched.tip) watched) }
+    ensures ordered { IsStrictlySortedBy by_place (keys_of all.old.entries) }
+    ensures err { OnErr result (all.new.entries ≡ all.old.entries) }
 {
-    watched.coin < other.coin || watched.coin == other.coin && watched.tip < other.tip
-}
-
-// Whether a guard of the coin with the tip is there.
-pub fn has_guard(all: &[KeptCoin], coin: u64, tip: u64) -> bool
-    ensures { result ≡ list_any (is_watched_at coin tip) all.now }
-{
-    all.iter()
-        .any(|watched| watched.coin == coin && watched.tip == tip)
-}
-
-// How many guards come before one.
-fn place_of(all: &[KeptCoin], watched: &KeptCoin) -> usize
-    ensures { result ≡ length (filter (λ other. comes_before other watched.now) all.now) }
-{
-    all.iter()
-        .filter(|other| comes_before(other, watched))
-        .count()
+    all.insert((watched.coin, watched.tip), watched)?;
+    Ok(())
 }
 
 // Puts a guard at its place, where there is none of its coin and tip.
-fn put_guard(all: &mut Vec<KeptCoin>, watched: KeptCoin)
-    requires room { vec_len all.old < vec_capacity all.old }
-    requires order { AreInOrder all.old.items }
-    ensures { all.new.items ≡ with_watched watched all.old.items }
+fn put_guard(all: &mut BTreeMap<(u64, u64), KeptCoin>, watched: KeptCoin) -> Result<(), NoMemory>
+    ensures { OnOk result ((guards : List KeptCoin) → AreKeyed all.old.entries guards
+        → AreKeyed all.new.entries (with_watched watched guards)) }
 {
-    if has_guard(all.as_slice(), watched.coin, watched.tip) {
-        return;
+    if all.contains_key(&(watched.coin, watched.tip)) {
+        return Ok(());
     }
-    let place = place_of(all.as_slice(), &watched);
-    all.insert(place, watched).unwrap();
+    insert_guard(all, watched)
 }
 
-// Lets the guards of a coin with a tip go.
-fn remove_guard(all: &mut Vec<KeptCoin>, coin: u64, tip: u64)
-    ensures { all.new.items ≡ filter (λ watched. not (is_watched_at coin tip watched)) all.old.items }
+// Lets the guard of a coin with a tip go.
+pub fn remove_guard(all: &mut BTreeMap<(u64, u64), KeptCoin>, coin: u64, tip: u64)
+    ensures { (guards : List KeptCoin) → AreKeyed all.old.entries guards
+        → AreKeyed all.new.entries (filter (λ watched. not (is_watched_at coin tip watched)) guards) }
 {
-    all.retain(|watched| !(watched.coin == coin && watched.tip == tip));
+    // That the map is in order is what `len` says of it.
+    let _ = all.len();
+    all.remove(&(coin, tip));
 }
 
-// Takes a change over.
-pub fn apply(all: &mut Vec<KeptCoin>, change: Change)
-    requires room { vec_len all.old < vec_capacity all.old }
-    requires order { AreInOrder all.old.items }
-    ensures { all.new.items ≡ changed change all.old.items }
+// Takes a change over. `NoMemory` may change nothing.
+pub fn apply(all: &mut BTreeMap<(u64, u64), KeptCoin>, change: Change) -> Result<(), NoMemory>
+    ensures { OnOk result ((guards : List KeptCoin) → AreKeyed all.old.entries guards
+        → AreKeyed all.new.entries (changed change guards)) }
 {
     match change {
         Change::Guards { watched } => put_guard(all, watched),
-        Change::Releases { coin, tip } => remove_guard(all, coin, tip),
+        Change::Releases { coin, tip } => {
+            remove_guard(all, coin, tip);
+            Ok(())
+        }
     }
 }

@@ -1,8 +1,10 @@
-use Rattle.std.proofs.Common.{◌≡◌, take}
+use Rattle.std.proofs.Common.{◌≡◌, ◌++◌}
 use Rattle.std.specs.List.{flat_map}
+use Rattle.std.specs.BTreeMap.{values}
 use Rattle.kept_coins.specs.KeptCoins.{due_for_coin}
 use Rattle.watcher_node.proofs.duties.due_calls.Given as goal
 
 abbrev pub invariant-loop-watched : goal.invariant-loop-watched
 invariant-loop-watched l =
-    l.calls.items ≡ flat_map (due_for_coin l.log.log l.account) (take l.watched-index l.guards)
+    l.calls.items ++ flat_map (due_for_coin l.log.log l.account) l.watched-iterator
+    ≡ flat_map (due_for_coin l.log.log l.account) (values l.guards)

@@ -1,8 +1,6 @@
 use Rattle.std.proofs.Common.{◌∙◌, ap}
-use Rattle.std.specs.List.{flat_map}
 use Rattle.node_rules.specs.Watcher.{watch_answer}
 use Rattle.watcher_node.specs.State.{WatcherState}
-use Rattle.kept_coins.specs.KeptCoins.{due_for_coin}
 use Rattle.watcher_node.proofs.Dues.{dues-answer}
 use Rattle.watcher_node.proofs.node.WatcherNode.watch.Goals as goal
 
@@ -11,7 +9,7 @@ returns g c =
     let inside = c.self.inside in
     let log = c.args.log.now.log in
     let kept = c.self.invariant.0 in
-    c.in_ok-calls.ensures ∙ ap (flat_map (due_for_coin log inside.account)) c.as_slice.ensures.value
-    ∙ dues-answer (g.H.Hash32.digest_of inside.hash) inside.notes.notes.records log inside.account inside.guards.items
-    kept.is_account kept.are_all
+    c.in_ok-calls.ensures
+    ∙ dues-answer (g.H.Hash32.digest_of inside.hash) inside.notes.notes.records log inside.account
+    inside.guards.entries kept.is_account kept.are_all
     ∙ ap (λ (s : WatcherState _ _). watch_answer (g.H.Hash32.digest_of s.hash) s.notes.records log) c.self.view_is

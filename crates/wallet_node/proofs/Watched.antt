@@ -1,0 +1,131 @@
+-- What is due over all coins is due over those of which an exit stands.
+use Rattle.std.proofs.Common.{◌≡◌, ◌<◌, ◌≤◌, ℕ, zero, suc, ◌+◌, ◌==◌, ◌||◌, Bool, true, false, List, [], ◌∷◌, ◌++◌, None, inl, inr, refl, sym, ◌∙◌, ap, arith}
+use Rattle.std.specs.List.{list_any, flat_map, range_with_len, AllByRecursion}
+use Rattle.std.specs.List.Sorted.{IsStrictlySortedBy}
+use Rattle.std.specs.Ordering.{nat_cmp}
+use Rattle.std.specs.BTreeSet.{BTreeSet, contains, IsOrdered}
+use Rattle.std.specs.declared.cmp.Ordering.TheVariants.{Less}
+use Rattle.std.proofs.lemmas.Bool.{cases_eq, ne_eqb, or_from}
+use Rattle.std.proofs.lemmas.Bool.Decides.{nat_tests}
+use Rattle.plasma_tx.specs.declared.call.RootCall.{RootCall}
+use Rattle.plasma_tx.specs.declared.call.RootCall.TheVariants.{Deposit}
+use Rattle.plasma_tx.specs.declared.views.ExitView.{ExitView}
+use Rattle.plasma_tx.specs.Views.{coins, coin_at, exits_of}
+use Rattle.wallet_node.specs.Stub.{has_exits, is_exiting}
+use Rattle.plasma_tx.proofs.States.{is_at-nat}
+use Rattle.wallet_core.specs.declared.coin_state.CoinState.TheVariants.{Nothing}
+use Rattle.wallet_core.specs.State.{state_of}
+use Rattle.node_rules.specs.Wallet.{WalletRecords, coin_state, due_in, watch_answer}
+use Rattle.wallet_node.proofs.Spends.{due-none}
+
+-- ---- rising numbers, and a range
+
+-- they rise, and none is below the first number
+abbrev RiseFrom : ℕ → List ℕ → Type 0
+RiseFrom low [] = Unit {0}
+RiseFrom low (x ∷ xs) = (low ≤ x) × RiseFrom (x + 1) xs
+
+less-means : (x y : ℕ) → nat_cmp x y ≡ Less → x + 1 ≤ y
+less-means x y is = grind (arith, nat_tests, is)
+
+later-from : (x : ℕ) (xs : List ℕ) → AllByRecursion (λ y. nat_cmp x y ≡ Less) xs → AllByRecursion (λ y. x + 1 ≤ y) xs
+later-from x [] later = tt
+later-from x (y ∷ ys) later = (less-means x y later.0, later-from x ys later.1)
+
+rise-from : (low : ℕ) (xs : List ℕ) → AllByRecursion (λ y. low ≤ y) xs → IsStrictlySortedBy nat_cmp xs → RiseFrom low xs
+unfolding IsStrictlySortedBy
+rise-from low [] from sorted = tt
+rise-from low (x ∷ xs) from sorted = (from.0, rise-from (x + 1) xs (later-from x xs sorted.0) sorted.1)
+
+all-from-none : (xs : List ℕ) → AllByRecursion (λ y. 0 ≤ y) xs
+all-from-none [] = tt
+all-from-none (x ∷ xs) = (omega arith, all-from-none xs)
+
+abbrev among : List ℕ → ℕ → Bool
+among xs c = list_any (λ x. x == c) xs
+
+none-below : (low c : ℕ) (xs : List ℕ) → RiseFrom low xs → c < low → among xs c ≡ false
+none-below low c [] rise below = refl
+none-below low c (x ∷ xs) rise below =
+    or_from (x == c) (among xs c) (ne_eqb x c (λ same. absurd (omega arith)))
+    (none-below (x + 1) c xs rise.1 (omega arith))
+
+module _ {X : Type 0} (f : ℕ → List X) where
+  none-due : (low : ℕ) (xs : List ℕ) → RiseFrom low xs → ((c : ℕ) → low ≤ c → f c ≡ []) → flat_map f xs ≡ []
+  none-due low [] rise none = refl
+  none-due low (x ∷ xs) rise none =
+      ap (λ (l : List X). l ++ flat_map f xs) (none x rise.0)
+      ∙ none-due (x + 1) xs rise.1 (λ c from. none c (omega arith))
+
+  -- numbers that rise, and a range in which nothing comes of the other numbers, nor of those past it
+  over-range : (n low : ℕ) (xs : List ℕ) → RiseFrom low xs
+      → ((c : ℕ) → low ≤ c → among xs c ≡ false → f c ≡ [])
+      → ((c : ℕ) → low + n ≤ c → f c ≡ []) → flat_map f xs ≡ flat_map f (range_with_len low n)
+  over-range zero low xs rise other past = none-due low xs rise (λ c from. past c (omega arith))
+  over-range (suc n) low [] rise other past =
+      over-range n (low + 1) [] tt (λ c from not. other c (omega arith) not) (λ c from. past c (omega arith))
+      ∙ ap (λ (l : List X). l ++ flat_map f (range_with_len (low + 1) n)) (sym (other low (omega arith) refl))
+  over-range (suc n) low (x ∷ xs) rise other past = elim (cases_eq low x) [
+    | inl same ↦
+        ap (λ (k : ℕ). f k ++ flat_map f xs) (sym same)
+        ∙ ap (λ (l : List X). f low ++ l)
+        (over-range n (low + 1) xs (next xs same rise.1)
+        (λ c from not. other c (omega arith)
+        (or_from (x == c) (among xs c) (ne_eqb x c (λ here. absurd (omega arith))) not))
+        (λ c from. past c (omega arith)))
+    | inr apart ↦
+        let above : low + 1 ≤ x = higher rise.0 apart in
+        over-range n (low + 1) (x ∷ xs) (above, rise.1) (λ c from not. other c (omega arith) not)
+        (λ c from. past c (omega arith))
+        ∙ ap (λ (l : List X). l ++ flat_map f (range_with_len (low + 1) n))
+        (sym (other low (omega arith) (none-below (low + 1) low (x ∷ xs) (above, rise.1) (omega arith))))
+  ]
+    where
+      next : (ys : List ℕ) → low ≡ x → RiseFrom (x + 1) ys → RiseFrom (low + 1) ys
+      next ys same from = rw same from
+
+      higher : low ≤ x → (low ≡ x → ⊥) → low + 1 ≤ x
+      higher from apart = omega arith
+
+-- ---- coins
+
+-- a log has no coin 0, and none past the number of its coins
+coin_at-none : (log : List RootCall) (c : ℕ) → (0 < c → coins log < c) → coin_at log c ≡ None
+unfolding coin_at coins
+coin_at-none [] c past = refl
+coin_at-none (Deposit account amount key ∷ log) c past =
+    rw (ne_eqb c (coins log + 1) (λ same. absurd (let less : coins log + 1 < c = past (omega arith) in omega arith)))
+    (coin_at-none log c (λ some. (let less : coins log + 1 < c = past some in omega arith)))
+coin_at-none (call ∷ log) c past = coin_at-none log c past
+
+no-exits : (views : List ExitView) → has_exits views ≡ false → views ≡ []
+no-exits [] none = refl
+no-exits (view ∷ views) some = absurd (cc some)
+
+abbrev pub due_of_coin : (List ℕ → List ℕ) → WalletRecords → List RootCall → ℕ → List RootCall
+due_of_coin dig wallet log coin = due_in dig wallet log coin (coin_state dig wallet log coin)
+
+unmade-due : (dig : List ℕ → List ℕ) (wallet : WalletRecords) (log : List RootCall) (coin : ℕ)
+    → coin_at log coin ≡ None → due_of_coin dig wallet log coin ≡ []
+unfolding coin_state state_of
+unmade-due dig wallet log coin none = rw none refl
+
+still-due : (dig : List ℕ → List ℕ) (wallet : WalletRecords) (log : List RootCall) (coin : ℕ)
+    → is_exiting log coin ≡ false → due_of_coin dig wallet log coin ≡ []
+still-due dig wallet log coin still =
+    due-none dig wallet log coin (coin_state dig wallet log coin) (no-exits (exits_of log coin) still)
+
+pub watched-exiting : (dig : List ℕ → List ℕ) (wallet : WalletRecords) (log : List RootCall) (exiting : BTreeSet ℕ)
+    → ((c : ℕ) → contains nat_cmp exiting c ≡ is_exiting log c) → IsOrdered nat_cmp exiting
+    → flat_map (due_of_coin dig wallet log) exiting.keys ≡ watch_answer dig wallet log
+unfolding watch_answer
+watched-exiting dig wallet log exiting exactly rising =
+    over-range due (suc (coins log)) 0 exiting.keys (rise-from 0 exiting.keys (all-from-none exiting.keys) rising)
+    (λ c from none. still-due dig wallet log c
+    (sym (exactly c) ∙ (λ i. list_any (λ coin. is_at-nat c coin i) exiting.keys) ∙ none))
+    (λ c past. unmade-due dig wallet log c (coin_at-none log c (λ some. omega arith)))
+    ∙ ap (λ (calls : List RootCall). calls ++ flat_map due (range_with_len 1 (coins log)))
+    (unmade-due dig wallet log 0 (coin_at-none log 0 (λ wrong. absurd (omega arith))))
+  where
+    due : ℕ → List RootCall
+    due = due_of_coin dig wallet log
