@@ -1,4 +1,4 @@
-use Rattle.std.proofs.Common.{rules, ◌≡◌, ℕ, ◌*◌, ◌∙◌, List, [], arith, length, slice_index, slice_index_or}
+use Rattle.std.proofs.Common.{rules, ℕ, ◌*◌, ◌∙◌, List, [], arith, slice_index, slice_index_or}
 use Rattle.std.proofs.lemmas.List.{length-map}
 use Rattle.sha2.specs.Sha256.{word_at}
 use Rattle.lms_sign.proofs.LaneFacts.{below_four, set_words}

@@ -6,7 +6,7 @@ pub returns : goal.returns
 returns c =
     let numbers = c.args.numbers in
     let step : ℕ → List ℕ =
-        λ n. chain_step c.args.id.now c.args.q n c.args.j (slice_index_or c.args.strings.now n []) in
+    λ n. chain_step c.args.id.now c.args.q n c.args.j (slice_index_or c.args.strings.now n []) in
     let one : slice_index_or c.digests.result 0 [] ≡ step (slice_index numbers 0) = c.digests.ensures 0 (lit< tt)
     ∙ c.chain_block.ensures in
     let two : slice_index_or c.digests.result 1 [] ≡ step (slice_index numbers 1) = c.digests.ensures 1 (lit< tt)

@@ -1,4 +1,4 @@
-use Rattle.std.proofs.Common.{◌≡◌, ℕ, ◌+◌, ◌<◌, ◌∙◌, List, [], Bool, arith, inl, inr, length, refl, slice_index_or}
+use Rattle.std.proofs.Common.{ℕ, ◌∙◌, List, [], Bool, arith, inl, inr, length, refl, slice_index_or}
 use Rattle.std.proofs.lemmas.Bool.{cases_lt}
 use Rattle.lms_sign.specs.OneTime.{chain_step}
 use Rattle.lms_sign.specs.Chains.{has_place, span_at}

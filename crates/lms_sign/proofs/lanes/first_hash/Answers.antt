@@ -1,5 +1,5 @@
-use Rattle.std.proofs.Common.{◌≡◌, ◌∙◌, ap₂, sym}
-use Rattle.sha2.specs.Sha256.{add_state, compress, initial_hash_256, rounds, schedule}
+use Rattle.std.proofs.Common.{◌∙◌, ap₂}
+use Rattle.sha2.specs.Sha256.{add_state, compress, initial_hash_256, rounds}
 use Rattle.sha2.proofs.Schedule256.{IsWindow_first}
 use Rattle.lms_sign.specs.Lanes.{lane}
 use Rattle.lms_sign.proofs.lanes.first_hash.Goals as goal

@@ -1,4 +1,4 @@
-use Rattle.std.proofs.Common.{◌≡◌, refl}
+use Rattle.std.proofs.Common.{refl}
 use Rattle.lms_sign.proofs.LaneFacts.{lane_word, splat_lane}
 use Rattle.lms_sign.proofs.lanes.round.Goals as goal
 

@@ -1,5 +1,5 @@
 use Rattle.std.proofs.Common.{◌≡◌, ◌-◌, ◌∙◌, arith, get_or-take, length, refl, replicate, take}
-use Rattle.std.proofs.lemmas.List.{get_or-replicate, length-replicate, length-take-le}
+use Rattle.std.proofs.lemmas.List.{get_or-replicate, length-take-le}
 use Rattle.lms_sign.specs.declared.chains.Span.{Span}
 use Rattle.lms_sign.specs.OneTime.{chain_end}
 use Rattle.lms_sign.proofs.one_time.chain_ends.Goals as goal

@@ -1,4 +1,4 @@
-use Rattle.std.proofs.Common.{rules, ◌≡◌, ℕ, ◌<◌, ◌∙◌, [], arith, get_or-take, length, refl, take}
+use Rattle.std.proofs.Common.{rules, ◌≡◌, ℕ, ◌∙◌, [], arith, get_or-take, length, refl, take}
 use Rattle.std.proofs.lemmas.List.{length-take-le}
 use Rattle.lms_sign.specs.declared.chains.Span.{Span}
 use Rattle.lms_sign.specs.OneTime.{digit, finished_string}
@@ -10,7 +10,7 @@ use Rattle.lms_sign.proofs.one_time.finished_strings.Goals as goal
 pub given-preserved : goal.given-preserved
 given-preserved c =
     let span : ℕ → Span =
-        λ n. record { from = digit c.args.types.now c.args.hash.now n; to = c.chain_length-steps.result } in
+    λ n. record { from = digit c.args.types.now c.args.hash.now n; to = c.chain_length-steps.result } in
     record {
       span_count = search rules;
       string_count = search rules;

@@ -1,9 +1,7 @@
-use Rattle.std.proofs.Common.{rules, ◌≡◌, ℕ, ◌-◌, ◌<◌, ◌∙◌, [], arith, get_or-take, length, refl, slice_index_or, take}
+use Rattle.std.proofs.Common.{rules, ◌≡◌, ℕ, ◌-◌, ◌∙◌, arith, get_or-take, length, refl, take}
 use Rattle.std.proofs.lemmas.List.{length-take-le}
 use Rattle.lms_sign.specs.declared.chains.Span.{Span}
-use Rattle.lms_sign.specs.Types.{chains}
-use Rattle.lms_sign.specs.OneTime.{digit, private_element, signed_string}
-use Rattle.lms_sign.specs.Chains.{span_at}
+use Rattle.lms_sign.specs.OneTime.{digit, signed_string}
 use Rattle.lms_sign.proofs.Lists.{set_next}
 use Rattle.lms_sign.proofs.Sizes.{digit-le}
 use Rattle.lms_sign.proofs.one_time.signed_strings.Goals as goal
