@@ -42,20 +42,6 @@ impl Tips {
         }
     }
 
-    /// The tips of a vector. It takes no memory.
-    pub fn from_vec(items: Vec<CoinTip>) -> Tips
-        ensures { result ≡ items.items }
-    {
-        Tips { items }
-    }
-
-    /// The tips, lent.
-    pub fn as_slice(&self) -> &[CoinTip]
-        ensures { result.now ≡ self.now }
-    {
-        self.items.as_slice()
-    }
-
     /// Adds a tip at the end. `NoMemory` changes nothing.
     pub fn push(&mut self, note: CoinTip) -> Result<(), NoMemory>
         ensures ok { OnOk result (self.new ≡ self.old ++ note ∷ []) }
