@@ -7,6 +7,7 @@ mod forgeries;
 mod forging;
 mod laws;
 mod lines;
+mod met;
 mod places;
 mod shown;
 mod tested;
