@@ -21,6 +21,7 @@ use Rattle.trace_exhibits.specs.Met.{is_same_opening, is_same_spot, openings_at,
 use Rattle.trace_exhibits.specs.Places.{KeepsPlaces}
 use Rattle.trace_exhibits.specs.declared.met.Spot.{Spot}
 use Rattle.trace_exhibits.specs.declared.met.MetOpenings.{MetOpenings}
+use Rattle.trace_exhibits.specs.declared.digest_key.DigestKey.{DigestKey}
 use Rattle.trace_exhibits.specs.declared.shown.Place.{Place}
 
 -- ---- what is met once one more opening is
@@ -119,7 +120,7 @@ module _ (dig : List ℕ → List ℕ) where
         (contains-has (strings_before dig shown number) string (keeps coin opening is string there))))
 
     -- an opening that was met adds no string
-    pub met-known : {S : Type 0} (places : HashMap (List ℕ) Place S) (one : Opened) (met : MetOpenings)
+    pub met-known : {S : Type 0} (places : HashMap DigestKey Place S) (one : Opened) (met : MetOpenings)
         → slice_get shown number ≡ Some one → KeepsMet dig met (strings_before dig shown number)
         → is_met met one.coin one.opening ≡ true → KeepsPlaces dig shown places (strings_before dig shown number)
         → KeepsPlaces dig shown places (strings_before dig shown (number + 1))

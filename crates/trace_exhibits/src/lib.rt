@@ -2,6 +2,7 @@
 //! key never made.
 #![tactic(auto)]
 
+mod digest_key;
 mod exhibit;
 mod forgeries;
 mod forging;

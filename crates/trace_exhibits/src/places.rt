@@ -9,6 +9,7 @@ ghost use Rattle.trace_exhibits.specs.Opened.{AreMarked};
 ghost use Rattle.trace_exhibits.specs.Met.{KeepsMet};
 ghost use Rattle.trace_exhibits.specs.Places.{KeepsSeen};
 
+use super::digest_key::DigestKey;
 use super::met::MetOpenings;
 use super::shown::{Clash, Place, ShownOpening};
 use super::way::{Last, Way, is_same_string, make_last, string_in, string_of, way_of};
@@ -21,7 +22,7 @@ use std::collections::HashMap;
 /// way up of the last opening whose string was met again.
 #[derive(Drop)]
 struct Seen {
-    places: HashMap<[u8; 32], Place>,
+    places: HashMap<DigestKey, Place>,
     last: Option<Last>,
 }
 
@@ -172,10 +173,12 @@ fn add_string<H: Hash32>(
         (λ clash. (rest : List (List ℕ))
         → first_clash (H.digest_of h.now) [] (before ++ string ∷ rest) ≡ Some (pair_of clash))) }
 {
-    let digest = way.digests[place.level];
-    match seen.places.get(&digest).copied() {
+    let key = DigestKey {
+        bytes: way.digests[place.level],
+    };
+    match seen.places.get(&key).copied() {
         None => {
-            seen.places.insert(digest, place)?;
+            seen.places.insert(key, place)?;
             Ok(None)
         }
         Some(first) => clash_at(
