@@ -1,5 +1,6 @@
 pub mod Facts
 pub mod Notes
+pub mod Quiet
 pub mod Standings
 pub mod Books
 pub mod Signings

@@ -1,6 +1,6 @@
 ghost use Rattle.std.specs.Prelude.{◌≡◌, ◌-◌, ◌==◌, ◌||◌, if◌then◌else◌, nat_lt, not, filter, replicate, reverse, IfOk, OnOk, IfSome, IfNone, Some, None};
 ghost use Rattle.coin_verdicts.specs.Facts.{has};
-ghost use Rattle.coin_verdicts.specs.Notes.{is_guard, tips_at};
+ghost use Rattle.coin_verdicts.specs.Notes.{is_guard, nodes_at, tips_at};
 ghost use Rattle.coin_verdicts.specs.Books.{blank, with_more, with_guard, without_guard, with_met, book_at, IsChanged, AreMet};
 
 use super::fact::Numbers;
@@ -60,11 +60,11 @@ impl Book {
         remove_guard(&mut self.guards, watcher, tip);
     }
 
-    /// The tips at which one of the nodes guards the coin.
-    pub fn tips(&self, alloc: Global, nodes: &Numbers) -> Result<Numbers, NoMemory>
-        ensures { IfOk result (λ tips. tips ≡ tips_at nodes.now self.now.guards) }
+    /// The tips at which a quiet node that offers no call of the coin guards it.
+    pub fn tips(&self, alloc: Global, coin: u64, nodes: &QuietNodes) -> Result<Numbers, NoMemory>
+        ensures { IfOk result (λ tips. tips ≡ tips_at (nodes_at coin nodes.now) self.now.guards) }
     {
-        Ok(Numbers::from_vec(tips_at(alloc, nodes, &self.guards)?))
+        Ok(Numbers::from_vec(tips_at(alloc, coin, nodes, &self.guards)?))
     }
 
     /// Notes that a tick met a deadline of the coin, whose book this is.
@@ -77,8 +77,8 @@ impl Book {
     ) -> Result<(), NoMemory>
         ensures { OnOk result (self.new ≡ with_met line coin nodes.now self.old) }
     {
+        let tips = self.tips(alloc, coin, nodes)?;
         let nodes = nodes.at(alloc, coin)?;
-        let tips = self.tips(alloc, &nodes)?;
         self.note(Note {
             line,
             change: Change::Meets { nodes, tips },
@@ -212,13 +212,18 @@ fn remove_guard(guards: &mut Vec<Guard>, watcher: u64, tip: u64)
     guards.retain(|guard| !(guard.watcher == watcher && guard.tip == tip));
 }
 
-// The tips at which one of the nodes guards a coin.
-fn tips_at(alloc: Global, nodes: &Numbers, guards: &[Guard]) -> Result<Vec<u64>, NoMemory>
-    ensures { IfOk result (λ tips. tips.items ≡ tips_at nodes.now guards.now) }
+// The tips at which a quiet node that offers no call of the coin guards it.
+fn tips_at(
+    alloc: Global,
+    coin: u64,
+    nodes: &QuietNodes,
+    guards: &[Guard],
+) -> Result<Vec<u64>, NoMemory>
+    ensures { IfOk result (λ tips. tips.items ≡ tips_at (nodes_at coin nodes.now) guards.now) }
 {
     let mut tips = Vec::new(alloc);
     for guard in guards {
-        if nodes.has(guard.watcher) {
+        if nodes.is_at(guard.watcher, coin) {
             tips.push(guard.tip)?;
         }
     }

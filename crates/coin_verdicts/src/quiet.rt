@@ -1,35 +1,45 @@
-ghost use Rattle.std.specs.Prelude.{◌≡◌, ◌++◌, ◌∷◌, [], not, filter, map, IfOk, OnOk};
+ghost use Rattle.std.specs.Prelude.{◌≡◌, ◌++◌, ◌∷◌, [], nat_eq, filter, map, not, None, IfOk, OnOk};
+ghost use Rattle.std.specs.HashMap.{get};
+ghost use Rattle.std.specs.Option.{option_to_list};
 ghost use Rattle.coin_verdicts.specs.Facts.{has};
 ghost use Rattle.coin_verdicts.specs.Notes.{without_node, nodes_at};
+ghost use Rattle.coin_verdicts.specs.Quiet.{standing, ArePlaces};
 
 use super::fact::Numbers;
 use super::note::Quiet;
 use plasma_base::NoMemory;
 use std::alloc::Global;
+use std::collections::HashMap;
 use std::marker::Model;
 
-/// The nodes whose last command was a watch, after which no call was accepted. Contracts see them as a list.
-#[derive(Debug, Drop)]
+/// The nodes whose last command was a watch, after which no call was accepted: the watches since then, without those
+/// that a later command of their node took out, and the place of each node's. Contracts see the nodes as a list.
+#[derive(Drop)]
 pub struct QuietNodes {
-    items: Vec<Quiet>,
+    watches: Vec<Option<Quiet>>,
+    places: HashMap<u64, usize>,
 }
 
 impl Model for QuietNodes {
     ghost use Rattle.std.specs.Prelude.{List};
     ghost use Rattle.coin_verdicts.specs.declared.note.Quiet.{Quiet};
+    ghost use Rattle.coin_verdicts.specs.Quiet.{standing, ArePlaces};
 
     ghost Value = { List Quiet };
 
-    ghost view = { λ n. n.items.items };
+    ghost view = { λ n. standing n.watches.items };
+
+    ghost invariant = { λ n. ArePlaces n.watches.items n.places };
 }
 
 impl QuietNodes {
-    /// No nodes.
+    /// No nodes. It takes no memory.
     pub fn new(alloc: Global) -> QuietNodes
         ensures { result ≡ [] }
     {
         QuietNodes {
-            items: Vec::new(alloc),
+            watches: Vec::new(alloc),
+            places: HashMap::new(alloc),
         }
     }
 
@@ -37,50 +47,103 @@ impl QuietNodes {
     pub fn clear(&mut self)
         ensures { self.new ≡ [] }
     {
-        self.items.clear();
+        self.watches.clear();
+        self.places.clear();
     }
 
     /// A node had a command: it isn't quiet.
     pub fn remove(&mut self, node: u64)
         ensures { self.new ≡ without_node node self.old }
     {
-        remove_node(&mut self.items, node);
+        take_out(&mut self.watches, &mut self.places, node);
     }
 
-    /// A node watched, and offers calls of these coins.
+    /// A node watched, and offers calls of these coins. Where memory runs out it isn't quiet.
     pub fn watch(&mut self, node: u64, coins: Numbers) -> Result<(), NoMemory>
         ensures { OnOk result (self.new
             ≡ without_node node self.old ++ record { node = node; coins = coins } ∷ []) }
     {
-        self.remove(node);
-        self.items.push(Quiet { node, coins })?;
-        Ok(())
+        take_out(&mut self.watches, &mut self.places, node);
+        put_in(&mut self.watches, &mut self.places, Quiet { node, coins })
     }
 
     /// The quiet nodes that offer no call of the coin.
     pub fn at(&self, alloc: Global, coin: u64) -> Result<Numbers, NoMemory>
         ensures { IfOk result (λ nodes. nodes ≡ nodes_at coin self.now) }
     {
-        Ok(Numbers::from_vec(nodes_at(alloc, &self.items, coin)?))
+        Ok(Numbers::from_vec(nodes_at(alloc, &self.watches, coin)?))
+    }
+
+    /// Whether the node is quiet and offers no call of the coin.
+    pub fn is_at(&self, node: u64, coin: u64) -> bool
+        ensures { result ≡ has (nodes_at coin self.now) node }
+    {
+        is_at(&self.watches, &self.places, node, coin)
     }
 }
 
-// Takes a node out.
-fn remove_node(nodes: &mut Vec<Quiet>, node: u64)
-    ensures { nodes.new.items ≡ without_node node nodes.old.items }
+// Takes a node's watch out, where it stands.
+fn take_out(watches: &mut Vec<Option<Quiet>>, places: &mut HashMap<u64, usize>, node: u64)
+    requires { ArePlaces watches.old.items places.old }
+    ensures standing { standing watches.new.items ≡ without_node node (standing watches.old.items) }
+    ensures places { ArePlaces watches.new.items places.new }
+    ensures gone { get nat_eq places.new node ≡ None }
 {
-    nodes.retain(|quiet| quiet.node != node);
+    let Some(place) = places.remove(&node) else {
+        return;
+    };
+    watches[place] = None;
+}
+
+// Adds the watch of a node of which none stands.
+fn put_in(
+    watches: &mut Vec<Option<Quiet>>,
+    places: &mut HashMap<u64, usize>,
+    quiet: Quiet,
+) -> Result<(), NoMemory>
+    requires places { ArePlaces watches.old.items places.old }
+    requires gone { get nat_eq places.old quiet.node ≡ None }
+    ensures standing { OnOk result (standing watches.new.items ≡ standing watches.old.items ++ quiet ∷ []) }
+    ensures places { ArePlaces watches.new.items places.new }
+{
+    watches.reserve(1)?;
+    places.insert(quiet.node, watches.len())?;
+    watches.push(Some(quiet)).unwrap();
+    Ok(())
 }
 
 // The nodes that offer no call of the coin.
-fn nodes_at(alloc: Global, nodes: &[Quiet], coin: u64) -> Result<Vec<u64>, NoMemory>
-    ensures { IfOk result (λ found. found.items ≡ nodes_at coin nodes.now) }
+fn nodes_at(alloc: Global, watches: &[Option<Quiet>], coin: u64) -> Result<Vec<u64>, NoMemory>
+    ensures { IfOk result (λ found. found.items ≡ nodes_at coin (standing watches.now)) }
 {
     let mut found = Vec::new(alloc);
-    for quiet in nodes {
-        if !quiet.coins.has(coin) {
-            found.push(quiet.node)?;
-        }
+    for watch in watches {
+        push_node(&mut found, watch, coin)?;
     }
     Ok(found)
+}
+
+// Adds the node of a watch that stands, where it offers no call of the coin.
+fn push_node(found: &mut Vec<u64>, watch: &Option<Quiet>, coin: u64) -> Result<(), NoMemory>
+    ensures { OnOk result (found.new.items ≡ found.old.items ++ nodes_at coin (option_to_list watch.now)) }
+{
+    match watch {
+        Some(quiet) if !quiet.coins.has(coin) => found.push(quiet.node)?,
+        _ => {}
+    }
+    Ok(())
+}
+
+// Whether the node's watch stands and offers no call of the coin.
+fn is_at(watches: &[Option<Quiet>], places: &HashMap<u64, usize>, node: u64, coin: u64) -> bool
+    requires { ArePlaces watches.now places.now }
+    ensures { result ≡ has (nodes_at coin (standing watches.now)) node }
+{
+    let Some(place) = places.get(&node) else {
+        return false;
+    };
+    match &watches[*place] {
+        None => false,
+        Some(quiet) => !quiet.coins.has(coin),
+    }
 }

@@ -14,6 +14,7 @@ use Rattle.trace_exhibits.specs.Ways.{pair_of, strings_in_shown, strings_in_all,
 use Rattle.trace_exhibits.specs.Places.{KeepsPlaces, KeepsSeen}
 use Rattle.trace_exhibits.specs.declared.shown.Clash.{Clash}
 use Rattle.trace_exhibits.specs.Opened.{Opened, AreMarked}
+use Rattle.trace_exhibits.specs.declared.digest_key.DigestKey.{DigestKey}
 use Rattle.trace_exhibits.specs.declared.shown.Place.{Place}
 use Rattle.trace_exhibits.specs.declared.places.Seen.{Seen}
 
@@ -60,7 +61,7 @@ module _ (dig : List ℕ → List ℕ) where
       ∙ sym (strings_before-more dig shown number)
 
   -- an opening without a string
-  pub unread-added : {S : Type 0} (shown : List Opened) (places : HashMap (List ℕ) Place S) (number : ℕ) (one : Opened)
+  pub unread-added : {S : Type 0} (shown : List Opened) (places : HashMap DigestKey Place S) (number : ℕ) (one : Opened)
       → slice_get shown number ≡ Some one → strings_in_shown dig one ≡ []
       → KeepsPlaces dig shown places (strings_before dig shown number)
       → KeepsPlaces dig shown places (strings_before dig shown (number + 1))
@@ -74,7 +75,7 @@ module _ (dig : List ℕ → List ℕ) where
       ap (λ c. strings_in dig c other.opening) coin ∙ ap (strings_in dig one.coin) opening
 
   -- an opening that was shown before adds no string
-  pub known-added : {S : Type 0} (shown : List Opened) (places : HashMap (List ℕ) Place S) (number : ℕ) (one : Opened)
+  pub known-added : {S : Type 0} (shown : List Opened) (places : HashMap DigestKey Place S) (number : ℕ) (one : Opened)
       → AreMarked shown → slice_get shown number ≡ Some one → one.is_new ≡ false
       → KeepsPlaces dig shown places (strings_before dig shown number)
       → KeepsPlaces dig shown places (strings_before dig shown (number + 1))
@@ -87,7 +88,7 @@ module _ (dig : List ℕ → List ℕ) where
       (λ string there. strings-earlier dig shown was.0 number string was.2
       (subst (λ (all : List (List ℕ)). Has all string) (sym same) there)))
 
-  pub none-added : {S : Type 0} (shown : List Opened) (places : HashMap (List ℕ) Place S) → places.entries ≡ []
+  pub none-added : {S : Type 0} (shown : List Opened) (places : HashMap DigestKey Place S) → places.entries ≡ []
       → KeepsPlaces dig shown places []
   unfolding first_clash
   none-added shown places empty = record {

@@ -3,7 +3,7 @@ use Rattle.std.proofs.Common.{◌≡◌, ◌≢◌, ℕ, ◌<◌, not, Bool, tru
 use Rattle.std.specs.List.{Contains}
 use Rattle.std.specs.Prelude.{Result, Ok, Err, IfOk, OnOk, MatchOption}
 use Rattle.std.specs.Option.{option_or}
-use Rattle.std.specs.HashMap.{HashMap, get, Updates}
+use Rattle.std.specs.HashMap.{HashMap, Updates}
 use Rattle.std.specs.Str.{bytes_eq}
 use Rattle.std.proofs.lemmas.Bool.{cases_Bool, true≢false, and_parts}
 use Rattle.std.proofs.lemmas.List.{append-nil}
@@ -11,9 +11,10 @@ use Rattle.std.proofs.lemmas.Slice.Eq.{bytes_eq-Decides}
 use Rattle.watch_duty.proofs.Members.{Has, has-left, has-right, has-cases, has-contains, contains-has}
 use Rattle.world_rules.specs.Exhibits.{do_clash, clash_with, first_clash}
 use Rattle.trace_exhibits.specs.Ways.{string_at, pair_of, IsLast}
-use Rattle.trace_exhibits.specs.Places.{KeepsPlaces, KeepsSeen}
+use Rattle.trace_exhibits.specs.Places.{key_of, is_same_digest, place_of, KeepsPlaces, KeepsSeen}
 use Rattle.trace_exhibits.specs.declared.shown.Clash.{Clash}
 use Rattle.trace_exhibits.specs.Opened.{Opened}
+use Rattle.trace_exhibits.specs.declared.digest_key.DigestKey.{DigestKey}
 use Rattle.trace_exhibits.specs.declared.shown.Place.{Place}
 use Rattle.trace_exhibits.specs.declared.places.Seen.{Seen}
 
@@ -92,7 +93,7 @@ module _ (dig : List ℕ → List ℕ) where
         | inr apart ↦ rw apart ((bytes_eq-Decides (dig first) (dig string)).1 same)
       ]
 
-  module _ {S : Type 0} (shown : List Opened) (places : HashMap (List ℕ) Place S) (earlier : List (List ℕ)) where
+  module _ {S : Type 0} (shown : List Opened) (places : HashMap DigestKey Place S) (earlier : List (List ℕ)) where
     -- strings of these with one digest are one string
     one-string : KeepsPlaces dig shown places earlier → (one other : List ℕ) → Has earlier one → Has earlier other
         → dig one ≡ dig other → one ≡ other
@@ -100,7 +101,7 @@ module _ (dig : List ℕ → List ℕ) where
         let first = keeps.known one (has-contains earlier one is_one) in
         let second = keeps.known other (has-contains earlier other is_other) in
         let place : Some first.0 ≡ Some second.0 =
-        sym first.1 ∙ ap (get bytes_eq places) same ∙ second.1 in
+        sym first.1 ∙ ap (place_of places) same ∙ second.1 in
         let e : first.0 ≡ second.0 = cc place in
         sym first.2 ∙ ap (string_at dig shown) e ∙ second.2
 
@@ -136,27 +137,27 @@ module _ (dig : List ℕ → List ℕ) where
     }
 
     -- a string whose digest wasn't met before, and whose place was added
-    pub new-string : (new : HashMap (List ℕ) Place S) (string : List ℕ) (place : Place)
-        → KeepsPlaces dig shown places earlier → get bytes_eq places (dig string) ≡ None
-        → Updates bytes_eq places new (dig string) (Some place) → string_at dig shown place ≡ string → place.level < 65
+    pub new-string : (new : HashMap DigestKey Place S) (string : List ℕ) (place : Place)
+        → KeepsPlaces dig shown places earlier → place_of places (dig string) ≡ None
+        → Updates is_same_digest places new (key_of (dig string)) (Some place) → string_at dig shown place ≡ string → place.level < 65
         → KeepsPlaces dig shown new (earlier ++ string ∷ [])
     new-string new string place keeps absent adds at within = record {
       none = more-none string keeps (clash-none earlier string (λ other is_there same.
           let was = keeps.known other (has-contains earlier other is_there) in
-          let wrong : None ≡ Some was.0 = sym absent ∙ ap (get bytes_eq places) (sym same) ∙ was.1 in
+          let wrong : None ≡ Some was.0 = sym absent ∙ ap (place_of places) (sym same) ∙ was.1 in
           cc wrong));
       known = λ one is_in. elim
           (has-cases earlier (string ∷ []) one (contains-has (earlier ++ string ∷ []) one is_in)) [
             | inl before ↦ known-before one before
             | inr behind ↦ elim behind [
-              | inl same ↦ (place, ap (λ s. get bytes_eq new (dig s)) (sym same) ∙ adds.1, at ∙ same)
+              | inl same ↦ (place, ap (λ s. place_of new (dig s)) (sym same) ∙ adds.1, at ∙ same)
               | inr wrong ↦ absurd wrong
             ]
           ];
       only = λ digest one is. elim (cases_Bool (bytes_eq (dig string) digest)) [
         | inl same ↦ only-here digest one is same
         | inr apart ↦
-            let was = keeps.only digest one (sym (adds.2 digest apart) ∙ is) in (
+            let was = keeps.only digest one (sym (adds.2 (key_of digest) apart) ∙ is) in (
               has-contains (earlier ++ string ∷ []) (string_at dig shown one)
                   (has-left earlier (string ∷ []) (string_at dig shown one)
                   (contains-has earlier (string_at dig shown one) was.0)),
@@ -166,25 +167,25 @@ module _ (dig : List ℕ → List ℕ) where
       ];
     }
       where
-        known-before : (one : List ℕ) → Has earlier one → (p : Place) × (get bytes_eq new (dig one) ≡ Some p)
+        known-before : (one : List ℕ) → Has earlier one → (p : Place) × (place_of new (dig one) ≡ Some p)
             × (string_at dig shown p ≡ one)
         known-before one before =
             let was = keeps.known one (has-contains earlier one before) in
             elim (cases_Bool (bytes_eq (dig string) (dig one))) [
               | inl same ↦
                   let wrong : None ≡ Some was.0 =
-                  sym absent ∙ ap (get bytes_eq places) (bytes-same (dig string) (dig one) same) ∙ was.1 in
+                  sym absent ∙ ap (place_of places) (bytes-same (dig string) (dig one) same) ∙ was.1 in
                   absurd (cc wrong)
-              | inr apart ↦ (was.0, adds.2 (dig one) apart ∙ was.1, was.2)
+              | inr apart ↦ (was.0, adds.2 (key_of (dig one)) apart ∙ was.1, was.2)
             ]
 
-        only-here : (digest : List ℕ) (one : Place) → get bytes_eq new digest ≡ Some one
+        only-here : (digest : List ℕ) (one : Place) → place_of new digest ≡ Some one
             → bytes_eq (dig string) digest ≡ true
             → Contains (earlier ++ string ∷ []) (string_at dig shown one) × (dig (string_at dig shown one) ≡ digest)
             × (one.level < 65)
         only-here digest one is same =
             let e : dig string ≡ digest = bytes-same (dig string) digest same in
-            let both : Some place ≡ Some one = sym adds.1 ∙ ap (get bytes_eq new) e ∙ is in
+            let both : Some place ≡ Some one = sym adds.1 ∙ ap (place_of new) e ∙ is in
             let here : place ≡ one = cc both in
             let made : string ≡ string_at dig shown one = sym at ∙ ap (string_at dig shown) here in (
               has-contains (earlier ++ string ∷ []) (string_at dig shown one)
@@ -195,7 +196,7 @@ module _ (dig : List ℕ → List ℕ) where
 
     -- a string whose digest is that of another one
     pub clashing-string : (string : List ℕ) (place : Place) → KeepsPlaces dig shown places earlier
-        → get bytes_eq places (dig string) ≡ Some place → string_at dig shown place ≢ string
+        → place_of places (dig string) ≡ Some place → string_at dig shown place ≢ string
         → (rest : List (List ℕ)) → first_clash dig [] (earlier ++ string ∷ rest)
         ≡ Some (record { first = string_at dig shown place; second = string })
     clashing-string string place keeps is differ rest =
@@ -207,9 +208,9 @@ module _ (dig : List ℕ → List ℕ) where
         (λ other is_there same. one-string keeps other (string_at dig shown place) is_there there (same ∙ sym was.1)))
 
   -- what becomes of a string whose digest was met before
-  pub met-string : {S E : Type 0} (shown : List Opened) (places : HashMap (List ℕ) Place S) (earlier : List (List ℕ))
+  pub met-string : {S E : Type 0} (shown : List Opened) (places : HashMap DigestKey Place S) (earlier : List (List ℕ))
       (string : List ℕ) (place : Place) (result : Result (Option Clash) E)
-      → KeepsPlaces dig shown places earlier → get bytes_eq places (dig string) ≡ Some place
+      → KeepsPlaces dig shown places earlier → place_of places (dig string) ≡ Some place
       → IfOk result (λ found. found ≡ (if bytes_eq (string_at dig shown place) string then None
       else Some (record { first = string_at dig shown place; second = string })))
       → IfOk result (λ found. MatchOption found (KeepsPlaces dig shown places (earlier ++ string ∷ []))
@@ -231,7 +232,7 @@ module _ (dig : List ℕ → List ℕ) where
   -- and of what is kept beside
   pub met-seen : {E : Type 0} (shown : List Opened) (seen new : Seen) (earlier : List (List ℕ)) (string : List ℕ)
       (place : Place) (result : Result (Option Clash) E)
-      → KeepsSeen dig shown seen earlier → get bytes_eq seen.places (dig string) ≡ Some place
+      → KeepsSeen dig shown seen earlier → place_of seen.places (dig string) ≡ Some place
       → IfOk result (λ found. found ≡ (if bytes_eq (string_at dig shown place) string then None
       else Some (record { first = string_at dig shown place; second = string })))
       → new.places ≡ seen.places → OnOk result (IsLast dig shown new.last)
@@ -250,7 +251,7 @@ module _ (dig : List ℕ → List ℕ) where
       by (Some clash) clashes = clashes
 
   -- strings that were met before
-  pub known-strings : {S : Type 0} (shown : List Opened) (places : HashMap (List ℕ) Place S)
+  pub known-strings : {S : Type 0} (shown : List Opened) (places : HashMap DigestKey Place S)
       (earlier strings : List (List ℕ)) → KeepsPlaces dig shown places earlier
       → ((string : List ℕ) → Has strings string → Has earlier string)
       → KeepsPlaces dig shown places (earlier ++ strings)

@@ -58,7 +58,7 @@ pub and-false : (a b : Bool) → b ≡ false → (a && b) ≡ false
 and-false true b is = is
 and-false false b is = refl
 
-false-and : (a b : Bool) → a ≡ false → (a && b) ≡ false
+pub false-and : (a b : Bool) → a ≡ false → (a && b) ≡ false
 false-and true b is = cc is
 false-and false b is = refl
 

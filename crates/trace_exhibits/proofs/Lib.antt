@@ -2,6 +2,8 @@ pub mod Clashes
 pub mod Strings
 pub mod Added
 pub mod KeptWallets
+pub mod MetLaws
+pub mod SameStrings
 pub mod Reading
 pub mod Lined
 pub mod TestedLaws

@@ -1,14 +1,16 @@
 -- The strings of shown openings, one opening and one level after another.
-use Rattle.std.proofs.Common.{Option, ◌≡◌, ℕ, zero, suc, ◌+◌, ◌<◌, ◌≤◌, List, [], ◌∷◌, ◌++◌, length, take, drop, slice_index_or, get_or, Some, None, refl, sym, ap, ◌∙◌, append_assoc, arith}
+use Rattle.std.proofs.Common.{Option, ◌≡◌, ℕ, true, zero, suc, ◌+◌, ◌<◌, ◌≤◌, List, [], ◌∷◌, ◌++◌, length, take, drop, slice_index_or, get_or, Some, None, refl, sym, ap, ◌∙◌, append_assoc, arith}
+use Rattle.std.specs.Prelude.{IfSome}
 use Rattle.std.specs.List.{slice_get}
 use Rattle.std.specs.Option.{option_map_or}
+use Rattle.std.proofs.lemmas.Bool.{true≢false, eqb-true}
 use Rattle.std.proofs.lemmas.List.{append-nil, take-append-drop, take_all}
 use Rattle.std.proofs.lemmas.Option.{slice_get-get_or}
 use Rattle.std.proofs.lemmas.List.Concat.{flat_map-append}
 use Rattle.std.proofs.lemmas.List.FromFn.{get_or-map-range_with_len, take-map-range_with_len, map-range_with_len_more}
 use Rattle.sparse_merkle.specs.Opening.{hashed_string, hashed_strings}
 use Rattle.watch_duty.proofs.Members.{Has, has-left, has-right}
-use Rattle.trace_exhibits.specs.Ways.{strings_in_shown, strings_in_all, strings_before, strings_at, string_at, strings_below, string_in, IsLastAt}
+use Rattle.trace_exhibits.specs.Ways.{strings_in_shown, strings_in_all, strings_before, strings_at, string_at, strings_below, string_in, is_last, AreDigestsUp, IsLast, IsLastAt}
 use Rattle.trace_exhibits.specs.declared.shown.Place.{Place}
 use Rattle.trace_exhibits.specs.declared.way.Last.{Last}
 use Rattle.trace_exhibits.specs.Opened.{Opened}
@@ -143,3 +145,19 @@ module _ (dig : List ℕ → List ℕ) (shown : List Opened) (place : Place) whe
   string_in-at (Some last) is less =
       sym (string_at-way last.way.coin last.way.leaf last.way.path
       (ap (strings_at dig shown) (sym is.0) ∙ is.1.strings) less)
+
+module _ (dig : List ℕ → List ℕ) (shown : List Opened) (number : ℕ) where
+  -- the way that was made last, where it is that of the opening with this number
+  pub last-here : (last : Option Last) → IsLast dig shown last → is_last last number ≡ true
+      → IsLastAt dig shown number last
+  last-here None right here = absurd (true≢false (sym here))
+  last-here (Some last) right here = (eqb-true last.number number here, right)
+
+  pub last-at : (last : Option Last) → IsLastAt dig shown number last → IsLast dig shown last
+  last-at None at = tt
+  last-at (Some last) at = at.1
+
+  pub digests-at : (last : Option Last) → IsLastAt dig shown number last
+      → IfSome last (λ last. AreDigestsUp dig last.way.coin last.way.leaf last.way.path last.way.digests)
+  digests-at None at = tt
+  digests-at (Some last) at = at.1.digests

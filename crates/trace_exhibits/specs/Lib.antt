@@ -1,4 +1,5 @@
 pub mod Opened
+pub mod Met
 pub mod Ways
 pub mod Places
 pub mod Lines

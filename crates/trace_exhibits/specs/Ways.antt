@@ -1,5 +1,5 @@
 -- The strings of shown openings, and the way up from one opening.
-use Rattle.std.specs.Prelude.{◌≡◌, ℕ, ◌<◌, List, [], map, take, slice_index_or, Option, Some, None, IfSome, MatchOption}
+use Rattle.std.specs.Prelude.{◌≡◌, ℕ, ◌<◌, ◌==◌, Bool, false, List, [], map, take, slice_index_or, Option, Some, None, IfSome, MatchOption}
 use Rattle.std.specs.List.{flat_map, slice_get, range_with_len}
 use Rattle.std.specs.Option.{option_map_or}
 use Rattle.sparse_merkle.specs.Opening.{hashed_string, hashed_strings, digest_at_level}
@@ -49,6 +49,11 @@ pub record IsWayAt (dig : List ℕ → List ℕ) (shown : List Opened) (last : L
 -- the way that was made last, if there is one, is that of the opening with its number
 abbrev pub IsLast : (List ℕ → List ℕ) → List Opened → Option Last → Type 0
 IsLast dig shown last = IfSome last (IsWayAt dig shown)
+
+-- the way that was made last is that of the opening with this number
+abbrev pub is_last : Option Last → ℕ → Bool
+is_last None number = false
+is_last (Some last) number = last.number == number
 
 -- the way of the opening with this number; none where it has no string
 abbrev pub IsLastAt : (List ℕ → List ℕ) → List Opened → ℕ → Option Last → Type 0

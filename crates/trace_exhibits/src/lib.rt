@@ -2,11 +2,13 @@
 //! key never made.
 #![tactic(auto)]
 
+mod digest_key;
 mod exhibit;
 mod forgeries;
 mod forging;
 mod laws;
 mod lines;
+mod met;
 mod places;
 mod shown;
 mod tested;

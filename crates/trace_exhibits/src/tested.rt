@@ -2,19 +2,20 @@ ghost use Rattle.std.specs.Prelude.{◌≡◌, ◌||◌, ◌&&◌, ◌==◌, ◌
 ghost use Rattle.plasma_tx.specs.declared.opening.RawOpening.{RawOpening};
 ghost use Rattle.world_rules.specs.Events.{Event};
 ghost use Rattle.trace_exhibits.specs.Lines.{event_of};
-ghost use Rattle.trace_exhibits.specs.Tested.{is_same_opening, is_tested, KeepsTested};
+ghost use Rattle.trace_exhibits.specs.Met.{is_same_opening};
+ghost use Rattle.trace_exhibits.specs.Tested.{is_tested, KeepsTested};
 
 use super::lines::ExhibitLine;
+use super::met::MetOpenings;
 use plasma_base::NoMemory;
 use plasma_tx::RawOpening;
 use std::alloc::Global;
-use std::collections::HashMap;
 
-/// For each coin the openings that were tested since a wallet was last declared, none of which shows a forgery.
-/// A leaf that binds a body later makes none of them show one.
+/// The openings that were tested since a wallet was last declared, none of which shows a forgery. A leaf that binds
+/// a body later makes none of them show one.
 #[derive(Drop)]
 pub(crate) struct Tested<'a> {
-    openings: HashMap<u64, Vec<&'a RawOpening>>,
+    openings: MetOpenings<'a>,
 }
 
 impl<'a> Tested<'a> {
@@ -23,7 +24,7 @@ impl<'a> Tested<'a> {
         ensures { (tag : List ℕ) (events : List Event) → KeepsTested tag events result }
     {
         Tested {
-            openings: HashMap::new(alloc),
+            openings: MetOpenings::new(alloc),
         }
     }
 
@@ -31,10 +32,7 @@ impl<'a> Tested<'a> {
     pub(crate) fn has(&self, coin: u64, opening: &RawOpening) -> bool
         ensures { result ≡ is_tested self.now coin opening.now }
     {
-        match self.openings.get(&coin) {
-            None => false,
-            Some(these) => these.iter().any(|other| is_same(opening, other)),
-        }
+        self.openings.has(coin, opening)
     }
 
     /// Adds an opening of the coin.
@@ -47,13 +45,7 @@ impl<'a> Tested<'a> {
         ensures { OnOk result ((c : ℕ) (other : RawOpening) → is_tested self.new c other
             ≡ (is_tested self.old c other || ((coin == c) && is_same_opening other opening.now))) }
     {
-        let mut these = match self.openings.remove(&coin) {
-            Some(these) => these,
-            None => Vec::new(alloc),
-        };
-        these.push(opening)?;
-        self.openings.insert(coin, these)?;
-        Ok(())
+        self.openings.add(alloc, coin, opening)
     }
 
     /// Goes on behind a line. All are to be tested again once a wallet is declared.
@@ -65,11 +57,4 @@ impl<'a> Tested<'a> {
             self.openings.clear();
         }
     }
-}
-
-// Whether the openings are one.
-fn is_same(one: &RawOpening, other: &RawOpening) -> bool
-    ensures { result ≡ is_same_opening one.now other.now }
-{
-    one.block == other.block && one.bytes.as_slice() == other.bytes.as_slice()
 }

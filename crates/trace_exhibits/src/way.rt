@@ -1,11 +1,12 @@
 ghost use Rattle.std.specs.Prelude.{◌≡◌, ◌<◌, ◌≤◌, ◌+◌, ◌*◌, true, [], length, take, drop, IfOk, IfSome, OnOk, MatchOption};
+ghost use Rattle.std.specs.Str.{bytes_eq};
 ghost use Rattle.sparse_merkle.specs.MaskedPath.{proof_path, has_proof_length, masked_path_in, mask_in};
 ghost use Rattle.plasma_tx.specs.Openings.{leaf_length};
 ghost use Rattle.sparse_merkle.specs.Opening.{hashed_string, hashed_strings};
 ghost use Rattle.sparse_merkle.specs.TreeDigest.{leaf_string, AreDefaults};
-ghost use Rattle.trace_exhibits.specs.Ways.{strings_in_shown, strings_at, string_at, string_in, AreDigestsUp, IsLast, IsLastAt};
+ghost use Rattle.trace_exhibits.specs.Ways.{strings_in_shown, string_in, is_last, AreDigestsUp, IsLast, IsLastAt};
 
-use super::shown::{Place, ShownOpening};
+use super::shown::ShownOpening;
 use plasma_base::{Bytes, Hash32, NoMemory, get_u32};
 use plasma_tx::OpeningRefusal;
 use sparse_merkle::{bit, leaf_digest, parent_bytes};
@@ -135,9 +136,17 @@ pub(crate) fn string_of<H: Hash32>(
     if level == 0 {
         return leaf_bytes(alloc, way.leaf.as_slice());
     }
-    let below = level - 1;
-    let string = parent_bytes(bit(way.coin, below), &way.digests[below], &way.path[below]);
+    let string = string_above(h, way, level - 1);
     Ok(Vec::from_slice(alloc, &string)?)
+}
+
+// The string above a level of a way up, which is that of an inner node.
+fn string_above<H: Hash32>(h: &H, way: &Way, level: usize) -> [u8; 65]
+    requires digests { AreDigestsUp (H.digest_of h.now) way.now.coin way.now.leaf way.now.path way.now.digests }
+    requires within { level < 64 }
+    ensures { result ≡ hashed_string (H.digest_of h.now) way.now.coin way.now.leaf way.now.path (level + 1) }
+{
+    parent_bytes(bit(way.coin, level), &way.digests[level], &way.path[level])
 }
 
 // The string that is digested for a leaf.
@@ -159,48 +168,37 @@ pub(crate) struct Last {
     pub(crate) way: Way,
 }
 
-/// The string at a place; empty where there is none. The way up that was made last isn't made again.
-pub(crate) fn string_at<H: Hash32>(
-    alloc: Global,
-    h: &H,
-    defaults: &[[u8; 32]; 64],
-    shown: &[ShownOpening<'_>],
-    place: Place,
-    last: &mut Option<Last>,
-) -> Result<Vec<u8>, NoMemory>
-    requires defaults { AreDefaults (H.digest_of h.now) defaults.now }
-    requires within { place.level < 65 }
-    requires last { IsLast (H.digest_of h.now) shown.now last.old }
-    ensures string { IfOk result (λ string. string.items ≡ string_at (H.digest_of h.now) shown.now place) }
-    ensures last { OnOk result (IsLast (H.digest_of h.now) shown.now last.new) }
-{
-    let made = last.take();
-    let found = way_at(alloc, h, defaults, shown, place.number, made)?;
-    let string = string_in(alloc, h, &found, place.level)?;
-    *last = found;
-    Ok(string)
-}
-
-// The way up from the opening with that number, which may be the last one; `None` where there is none.
-fn way_at<H: Hash32>(
+/// Makes the way up from the opening with that number, unless it was made last; `None` where there is none.
+pub(crate) fn make_last<H: Hash32>(
     alloc: Global,
     h: &H,
     defaults: &[[u8; 32]; 64],
     shown: &[ShownOpening<'_>],
     number: usize,
-    last: Option<Last>,
-) -> Result<Option<Last>, NoMemory>
+    last: &mut Option<Last>,
+) -> Result<(), NoMemory>
     requires defaults { AreDefaults (H.digest_of h.now) defaults.now }
-    requires last { IsLast (H.digest_of h.now) shown.now last }
-    ensures { IfOk result (IsLastAt (H.digest_of h.now) shown.now number) }
+    requires last { IsLast (H.digest_of h.now) shown.now last.old }
+    ensures { OnOk result (IsLastAt (H.digest_of h.now) shown.now number last.new) }
+{
+    if is_made(last, number) {
+        return Ok(());
+    }
+    *last = made_at(alloc, h, defaults, shown, number)?;
+    Ok(())
+}
+
+// Whether the way up that was made last is that of the opening with this number.
+fn is_made(last: &Option<Last>, number: usize) -> bool
+    ensures { result ≡ is_last last.now number }
 {
     match last {
-        Some(last) if last.number == number => Ok(Some(last)),
-        _ => made_at(alloc, h, defaults, shown, number),
+        None => false,
+        Some(last) => last.number == number,
     }
 }
 
-// As `way_at`, where there is no last way.
+// The way up from the opening with that number; `None` where there is none.
 fn made_at<H: Hash32>(
     alloc: Global,
     h: &H,
@@ -220,8 +218,8 @@ fn made_at<H: Hash32>(
     }
 }
 
-// The string at a level of a way up; empty where there is none.
-fn string_in<H: Hash32>(
+/// The string at a level of a way up; empty where there is none.
+pub(crate) fn string_in<H: Hash32>(
     alloc: Global,
     h: &H,
     found: &Option<Last>,
@@ -236,4 +234,56 @@ fn string_in<H: Hash32>(
         None => Ok(Vec::new(alloc)),
         Some(last) => string_of(alloc, h, &last.way, level),
     }
+}
+
+/// Whether the string at a level of the way up that was made last, which is empty where there is none, is that at
+/// a level of another one. It takes no memory.
+pub(crate) fn is_same_string<H: Hash32>(
+    h: &H,
+    found: &Option<Last>,
+    at: usize,
+    way: &Way,
+    level: usize,
+) -> bool
+    requires found { IfSome found.now (λ last. AreDigestsUp (H.digest_of h.now) last.way.coin last.way.leaf
+        last.way.path last.way.digests) }
+    requires digests { AreDigestsUp (H.digest_of h.now) way.now.coin way.now.leaf way.now.path way.now.digests }
+    requires at { at < 65 }
+    requires level { level < 65 }
+    ensures { result ≡ bytes_eq (string_in (H.digest_of h.now) found.now at)
+        (hashed_string (H.digest_of h.now) way.now.coin way.now.leaf way.now.path level) }
+{
+    match found {
+        None => false,
+        Some(last) => are_same_strings(h, &last.way, at, way, level),
+    }
+}
+
+// Whether the strings at these levels of two ways up are one. A leaf's begins with another byte than an inner node's.
+fn are_same_strings<H: Hash32>(h: &H, one: &Way, at: usize, other: &Way, level: usize) -> bool
+    requires one { AreDigestsUp (H.digest_of h.now) one.now.coin one.now.leaf one.now.path one.now.digests }
+    requires other { AreDigestsUp (H.digest_of h.now) other.now.coin other.now.leaf other.now.path other.now.digests }
+    requires at { at < 65 }
+    requires level { level < 65 }
+    ensures { result ≡ bytes_eq (hashed_string (H.digest_of h.now) one.now.coin one.now.leaf one.now.path at)
+        (hashed_string (H.digest_of h.now) other.now.coin other.now.leaf other.now.path level) }
+{
+    if at == 0 {
+        return is_leaf_at(h, one.leaf.as_slice(), other, level);
+    }
+    if level == 0 {
+        return false;
+    }
+    string_above(h, one, at - 1) == string_above(h, other, level - 1)
+}
+
+// Whether the string at a level of a way up is that of the leaf.
+fn is_leaf_at<H: Hash32>(h: &H, leaf: &[u8], way: &Way, level: usize) -> bool
+    ensures { result ≡ bytes_eq (leaf_string leaf.now)
+        (hashed_string (H.digest_of h.now) way.now.coin way.now.leaf way.now.path level) }
+{
+    if level == 0 {
+        return leaf == way.leaf.as_slice();
+    }
+    false
 }

@@ -1,12 +1,11 @@
-use Rattle.std.proofs.Common.{◌++◌, ◌∙◌, sym}
-use Rattle.sparse_merkle.specs.Opening.{hashed_strings}
-use Rattle.trace_exhibits.specs.Ways.{strings_before}
-use Rattle.trace_exhibits.proofs.Strings.{strings_at-one}
-use Rattle.trace_exhibits.proofs.Added.{here-is, found-same, one-before, unread-added, known-added}
+use Rattle.std.proofs.Common.{◌≡◌, ◌∙◌, true, sym}
+use Rattle.trace_exhibits.specs.Met.{is_met}
+use Rattle.trace_exhibits.proofs.Added.{here-is, known-added}
+use Rattle.trace_exhibits.proofs.MetLaws.{met-stays, met-known, met-added}
 use Rattle.trace_exhibits.proofs.places.add_opening.Goals as goal
 
-pub returns-then-not-is_new : goal.returns-then-not-is_new
-returns-then-not-is_new g c =
+pub returns-then-not-is_new-clause-found : goal.returns-then-not-is_new-clause-found
+returns-then-not-is_new-clause-found g c =
     let one = c.index-shown-number.result in
     record {
       places = known-added (g.H.Hash32.digest_of c.args.h.now) c.args.shown.now c.args.seen.now.places c.args.number one
@@ -15,32 +14,31 @@ returns-then-not-is_new g c =
       last = c.requires.kept.last;
     }
 
-pub add_way-requires-clause-strings : goal.add_way-requires-clause-strings
-add_way-requires-clause-strings g c =
-    let one = c.index-shown-number.result in
-    let made = rw c.in-Some.is at c.in_ok-way_of.ensures in
-    strings_at-one (g.H.Hash32.digest_of c.args.h.now) c.args.shown.now c.args.number one
-    (here-is c.args.shown.now c.args.number one c.requires.within c.index-shown-number.is) ∙ made.0
+pub returns-then-not-is_new-clause-met : goal.returns-then-not-is_new-clause-met
+returns-then-not-is_new-clause-met g c =
+    met-stays (g.H.Hash32.digest_of c.args.h.now) c.args.shown.now c.args.number c.args.met.now c.requires.met
 
-pub returns-in-None : goal.returns-in-None
-returns-in-None g c =
+pub returns-then-has-clause-found : goal.returns-then-has-clause-found
+returns-then-has-clause-found g c =
     let one = c.index-shown-number.result in
+    let is : is_met c.args.met.now one.coin one.opening ≡ true =
+    rw (c.opening-opening.ensures, c.coin-coin.ensures) at (sym c.has.ensures ∙ c.if-has.true) in
     record {
-      places = unread-added (g.H.Hash32.digest_of c.args.h.now) c.args.shown.now c.args.seen.now.places c.args.number
-          one
+      places = met-known (g.H.Hash32.digest_of c.args.h.now) c.args.shown.now c.args.number c.args.seen.now.places one
+          c.args.met.now
           (here-is c.args.shown.now c.args.number one c.requires.within c.index-shown-number.is)
-          (rw c.in-None.is at c.in_ok-way_of.ensures) c.requires.kept.places;
+          c.requires.met is c.requires.kept.places;
       last = c.requires.kept.last;
     }
 
-pub returns-in-Some : goal.returns-in-Some
-returns-in-Some g c =
-    let dig = g.H.Hash32.digest_of c.args.h.now in
+pub returns-then-has-clause-met : goal.returns-then-has-clause-met
+returns-then-has-clause-met g c =
+    met-stays (g.H.Hash32.digest_of c.args.h.now) c.args.shown.now c.args.number c.args.met.now c.requires.met
+
+pub returns-clause-met : goal.returns-clause-met
+returns-clause-met g c =
     let one = c.index-shown-number.result in
-    let way = c.in-Some.way in
-    let made = rw c.in-Some.is at c.in_ok-way_of.ensures in
-    found-same dig c.args.shown.now _ (strings_before dig c.args.shown.now c.args.number
-    ++ hashed_strings dig way.coin way.leaf way.path) _ c.add_way.result
-    (one-before dig c.args.shown.now c.args.number one (hashed_strings dig way.coin way.leaf way.path)
-    (here-is c.args.shown.now c.args.number one c.requires.within c.index-shown-number.is) made.0)
-    c.add_way.ensures
+    met-added (g.H.Hash32.digest_of c.args.h.now) c.args.shown.now c.args.number c.args.met.now c.add.new.self one
+    c.coin-coin.result c.opening-opening.result.now
+    (here-is c.args.shown.now c.args.number one c.requires.within c.index-shown-number.is)
+    c.coin-coin.ensures c.opening-opening.ensures c.requires.met c.in_ok-add.ensures
