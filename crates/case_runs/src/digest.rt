@@ -1,7 +1,7 @@
 ghost use Rattle.std.specs.Prelude.{cond};
 ghost use Rattle.sha2.specs.Sha256.{sha256};
 ghost use Rattle.plasma_base.specs.Toy.{toy_digest};
-ghost use Rattle.case_runs.specs.Digests.{length-chosen};
+ghost use Rattle.case_runs.specs.Digests.{length-chosen, bytes-chosen};
 
 use plasma_base::{Hash32, Sha, Toy};
 use std::cell::Cell;
@@ -31,6 +31,8 @@ impl Hash32 for CaseDigest {
     ghost digest_of = { λ chosen bytes. cond chosen.is_toy (toy_digest bytes) (sha256 bytes) };
 
     ghost length_is = { λ chosen bytes. length-chosen chosen.is_toy bytes };
+
+    ghost bytes_are = { λ chosen bytes. bytes-chosen chosen.is_toy bytes };
 
     fn digest(&self, bytes: &[u8]) -> [u8; 32] {
         self.count();
