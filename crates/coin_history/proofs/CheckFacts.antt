@@ -16,7 +16,7 @@ use Rattle.plasma_tx.specs.declared.views.CoinView.{CoinView}
 use Rattle.plasma_tx.specs.declared.call.RootCall.TheVariants.{Deposit, Commit}
 use Rattle.plasma_tx.specs.Views.{blocks, coins, block_at, coin_at, new_coin}
 use Rattle.plasma_tx.proofs.Names.{some_same}
-use Rattle.root_rules.specs.Shown.{Tests, Rules, tests_by, root_at, root_in}
+use Rattle.plasma_tx.specs.Shown.{Tests, Rules, tests_by, root_at, root_in}
 use Rattle.coin_history.specs.declared.bundle.Bundle.{Bundle}
 use Rattle.coin_history.specs.History.{is_committed, opens_block, leaf_of_opening, is_empty, is_absent, links_in, tagged}
 use Rattle.coin_history.specs.declared.refusal.HistoryRefusal.{HistoryRefusal}

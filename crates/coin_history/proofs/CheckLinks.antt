@@ -15,7 +15,7 @@ use Rattle.plasma_tx.specs.declared.views.CoinView.{CoinView}
 use Rattle.plasma_tx.specs.Links.{tip_of, last_owner_of}
 use Rattle.plasma_tx.specs.Transfer.{transfer_in}
 use Rattle.plasma_tx.proofs.Leaves.{empty-none}
-use Rattle.root_rules.specs.Shown.{Tests, Rules, spends}
+use Rattle.plasma_tx.specs.Shown.{Tests, Rules, spends}
 use Rattle.coin_history.specs.declared.bundle.Bundle.{Bundle}
 use Rattle.coin_history.specs.History.{leaf_of_opening, is_absent, transfer_of, link_of, links_in, links_of}
 use Rattle.coin_history.specs.declared.refusal.HistoryRefusal.{HistoryRefusal}

@@ -5,7 +5,7 @@ use Rattle.std.proofs.lemmas.Bool.{eqb-true, eq-eqb, true≢false, false_from_ne
 use Rattle.std.proofs.lemmas.List.Elements.{recursion_from_All, All-from_recursion}
 use Rattle.plasma_tx.specs.declared.opening.RawOpening.{RawOpening}
 use Rattle.plasma_tx.specs.declared.call.RootCall.{RootCall}
-use Rattle.root_rules.specs.Shown.{Tests}
+use Rattle.plasma_tx.specs.Shown.{Tests}
 use Rattle.coin_history.specs.declared.refusal.HistoryRefusal.{HistoryRefusal}
 use Rattle.coin_history.specs.declared.refusal.HistoryRefusal.TheVariants.{UnknownBlock, NotAbsent}
 use Rattle.coin_history.specs.Bundles.{AreRising}

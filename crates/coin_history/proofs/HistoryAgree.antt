@@ -15,7 +15,7 @@ use Rattle.plasma_tx.specs.declared.call.RootCall.{RootCall}
 use Rattle.plasma_tx.specs.Transfer.{transfer_in}
 use Rattle.plasma_tx.specs.Views.{coin_at}
 use Rattle.plasma_tx.proofs.Names.{some_same}
-use Rattle.root_rules.specs.Shown.{Tests, Rules, root_at}
+use Rattle.plasma_tx.specs.Shown.{Tests, Rules, root_at}
 use Rattle.coin_history.specs.History.{committed_blocks, blocks_of, opens_block, leaf_of_opening, transfer_of, links_in, is_empty, is_absent}
 use Rattle.coin_history.specs.Laws.{ShowTwoLeaves, block_and_tx, HistoriesAgree, AbsencesExcludeLinks}
 use Rattle.coin_history.proofs.HistoryLinks.{with_tx, absent-none}

@@ -18,8 +18,8 @@ use Rattle.plasma_tx.specs.declared.views.CoinView.{CoinView}
 use Rattle.plasma_tx.specs.Links.{tip_of}
 use Rattle.plasma_tx.specs.Views.{blocks, coins, block_at, new_coin, coin_at}
 use Rattle.plasma_tx.proofs.Names.{some_same}
-use Rattle.root_rules.specs.Shown.{Tests, Rules, root_in, root_at}
-use Rattle.root_rules.proofs.Bounds.{coin_at-le}
+use Rattle.plasma_tx.specs.Shown.{Tests, Rules, root_in, root_at}
+use Rattle.plasma_tx.proofs.Bounds.{coin_at-le}
 use Rattle.coin_history.specs.declared.bundle.Bundle.{Bundle}
 use Rattle.coin_history.specs.History.{is_committed, committed_blocks, opens_block, transfer_of, links_in, links_of, AreLinked, IsHistory}
 use Rattle.coin_history.specs.Checking.{is_asked, opening_at}

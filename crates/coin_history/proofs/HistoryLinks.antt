@@ -13,7 +13,7 @@ use Rattle.plasma_tx.specs.declared.links.Links.{Links}
 use Rattle.plasma_tx.specs.Links.{tip_of, last_owner_of}
 use Rattle.plasma_tx.specs.Transfer.{transfer_in}
 use Rattle.plasma_tx.proofs.Leaves.{empty-none}
-use Rattle.root_rules.specs.Shown.{Tests, Rules, spends, signs}
+use Rattle.plasma_tx.specs.Shown.{Tests, Rules, spends, signs}
 use Rattle.coin_history.specs.Bundles.{AreRising}
 use Rattle.coin_history.specs.History.{leaf_of_opening, is_empty, is_absent, transfer_of, link_of, links_in, AreLinked}
 use Rattle.coin_history.specs.Checking.{opening_at, links_before, is_next, is_next_signed}

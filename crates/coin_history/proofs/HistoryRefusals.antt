@@ -7,7 +7,7 @@ use Rattle.plasma_tx.specs.declared.links.Links.{Links}
 use Rattle.plasma_tx.specs.declared.call.RootCall.{RootCall}
 use Rattle.plasma_tx.specs.Spelling.{number_at}
 use Rattle.plasma_tx.specs.Views.{coin_at}
-use Rattle.root_rules.specs.Shown.{Tests, Rules}
+use Rattle.plasma_tx.specs.Shown.{Tests, Rules}
 use Rattle.coin_history.specs.declared.bundle.Bundle.{Bundle}
 use Rattle.coin_history.specs.declared.refusal.HistoryRefusal.{HistoryRefusal}
 use Rattle.coin_history.specs.declared.refusal.HistoryRefusal.TheVariants.{BadBundle, NoCoin, UnknownBlock, MissingBlock, NotAbsent}

@@ -9,7 +9,7 @@ use Rattle.plasma_tx.specs.declared.opening.RawOpening.{RawOpening}
 use Rattle.plasma_tx.specs.declared.links.Link.{Link}
 use Rattle.plasma_tx.specs.declared.links.Links.{Links}
 use Rattle.plasma_tx.specs.Links.{tip_of}
-use Rattle.root_rules.specs.Shown.{Rules}
+use Rattle.plasma_tx.specs.Shown.{Rules}
 use Rattle.coin_history.specs.History.{is_absent, transfer_of, links_in, links_of}
 use Rattle.coin_history.specs.Laws.{LinksRise, DepositsAreBare, TipsAreLinks}
 use Rattle.coin_history.proofs.HistoryOpenings.{Up, nothing-asked, asked-from_blocks}

@@ -8,7 +8,7 @@ use Rattle.plasma_tx.specs.declared.call.RootCall.{RootCall}
 use Rattle.plasma_tx.specs.declared.views.CoinView.{CoinView}
 use Rattle.plasma_tx.specs.Links.{tip_of, last_owner_of}
 use Rattle.plasma_tx.specs.Views.{coin_at}
-use Rattle.root_rules.specs.Shown.{Tests, Rules, spends, signs}
+use Rattle.plasma_tx.specs.Shown.{Tests, Rules, spends, signs}
 use Rattle.coin_history.specs.declared.bundle.Bundle.{Bundle}
 use Rattle.coin_history.specs.declared.refusal.HistoryRefusal.{HistoryRefusal}
 use Rattle.coin_history.specs.declared.refusal.HistoryRefusal.TheVariants.{NoCoin, UnknownBlock, MissingBlock, BadOpening, NotLink, BadSignature, NotAbsent}

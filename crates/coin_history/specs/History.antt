@@ -13,7 +13,7 @@ use Rattle.plasma_tx.specs.Links.{tip_of}
 use Rattle.plasma_tx.specs.Openings.{leaf_in}
 use Rattle.plasma_tx.specs.Transfer.{transfer_in}
 use Rattle.plasma_tx.specs.Views.{coin_at}
-use Rattle.root_rules.specs.Shown.{Tests, Rules, root_at}
+use Rattle.plasma_tx.specs.Shown.{Tests, Rules, root_at}
 use Rattle.coin_history.specs.declared.bundle.Bundle.{Bundle}
 
 -- ---- blocks and openings

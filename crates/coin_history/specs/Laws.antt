@@ -8,7 +8,7 @@ use Rattle.plasma_tx.specs.declared.links.Links.{Links}
 use Rattle.plasma_tx.specs.declared.call.RootCall.{RootCall}
 use Rattle.plasma_tx.specs.Links.{tip_of}
 use Rattle.plasma_tx.specs.Views.{blocks}
-use Rattle.root_rules.specs.Shown.{Tests, Rules, root_at}
+use Rattle.plasma_tx.specs.Shown.{Tests, Rules, root_at}
 use Rattle.coin_history.specs.declared.bundle.Bundle.{Bundle}
 use Rattle.coin_history.specs.declared.refusal.HistoryRefusal.{HistoryRefusal}
 use Rattle.coin_history.specs.declared.refusal.HistoryRefusal.TheVariants.{BadBundle, NoCoin, UnknownBlock, MissingBlock, BadOpening, NotLink, BadSignature, NotAbsent}

@@ -1,6 +1,6 @@
 ghost use Rattle.std.specs.Prelude.{◌≡◌, ◌≢◌, ◌≤◌, Err};
 ghost use Rattle.plasma_tx.specs.Views.{blocks};
-ghost use Rattle.root_rules.specs.Shown.{tests_by};
+ghost use Rattle.plasma_tx.specs.Shown.{tests_by};
 ghost use Rattle.coin_history.specs.Bundles.{AreRising};
 ghost use Rattle.coin_history.specs.Checking.{opening_at, lowest_failure, above, unless_failed, failure_of_absence, absence_of};
 

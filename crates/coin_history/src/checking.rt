@@ -2,7 +2,7 @@ ghost use Rattle.std.specs.Prelude.{◌≡◌, ◌≢◌, ◌≤◌, ◌++◌, �
 ghost use Rattle.std.specs.Option.{option_map, option_to_list};
 ghost use Rattle.plasma_tx.specs.Links.{tip_of, last_owner_of};
 ghost use Rattle.plasma_tx.specs.Views.{blocks};
-ghost use Rattle.root_rules.specs.Shown.{tests_by, rules_of};
+ghost use Rattle.plasma_tx.specs.Shown.{tests_by, rules_of};
 ghost use Rattle.coin_history.specs.Bundles.{AreRising};
 ghost use Rattle.coin_history.specs.History.{tagged, leaf_of_opening, transfer_of, links_of};
 ghost use Rattle.coin_history.specs.Checking.{opening_at, lowest_failure, above, unless_failed, first_cause, link_causes, failure_in, may_be_tip, history_of};

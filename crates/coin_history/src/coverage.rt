@@ -1,7 +1,7 @@
 ghost use Rattle.std.specs.Prelude.{◌≡◌, ◌≢◌, ◌≤◌, ◌+◌, IfOk, MatchOption, Err, Some, None, if◌then◌else◌};
 ghost use Rattle.sparse_merkle.specs.TreeDigest.{AreDefaults};
 ghost use Rattle.plasma_tx.specs.Views.{blocks};
-ghost use Rattle.root_rules.specs.Shown.{tests_by, root_at};
+ghost use Rattle.plasma_tx.specs.Shown.{tests_by, root_at};
 ghost use Rattle.coin_history.specs.History.{opens_block, leaf_of_opening};
 ghost use Rattle.coin_history.specs.Checking.{is_asked, opening_causes, first_cause, unless_failed};
 ghost use Rattle.coin_history.specs.Inside.{NoneIsAsked, IsFirstAsked};

@@ -5,9 +5,9 @@ use Rattle.std.proofs.lemmas.Bool.{eqb-true}
 use Rattle.std.proofs.lemmas.List.{length-map}
 use Rattle.plasma_tx.specs.declared.call.RootCall.{RootCall}
 use Rattle.plasma_tx.specs.Views.{blocks, coins, coin_at, Exit, exit_at}
-use Rattle.root_rules.specs.Shown.{Tests, Rules}
-use Rattle.root_rules.specs.Table.{answer_to}
-use Rattle.root_rules.specs.Laws.{pays_coin, was_paid}
+use Rattle.plasma_tx.specs.Shown.{Tests, Rules}
+use Rattle.plasma_tx.specs.Table.{answer_to}
+use Rattle.plasma_tx.specs.RuleLaws.{pays_coin, was_paid}
 use Rattle.world_rules.specs.Events.{Event, Joins, Accepts, Binds, TakesBack, Watches, log_of, accepted, bound_by, taken_back, leaf_at, is_taken, not_taken, signed_away_by, is_bundle}
 use Rattle.world_rules.specs.Safety.{was_deposited}
 use Rattle.world_rules.specs.Verdicts.{is_finish_paid}

@@ -3,8 +3,8 @@ use Rattle.std.proofs.Common.{◌≡◌, ◌⊎◌, inl, inr, ℕ, ◌+◌, ◌<
 use Rattle.std.specs.Prelude.{nat_lt}
 use Rattle.std.specs.Option.{option_or}
 use Rattle.std.proofs.lemmas.Bool.{false≢true, ltb-true, lt-ltb}
-use Rattle.root_rules.specs.Shown.{Tests, Rules}
-use Rattle.root_rules.specs.Table.{IsLegal}
+use Rattle.plasma_tx.specs.Shown.{Tests, Rules}
+use Rattle.plasma_tx.specs.Table.{IsLegal}
 use Rattle.world_rules.specs.declared.verdict.VerdictKind.{VerdictKind}
 use Rattle.world_rules.specs.Events.{Event, Joins, log_of, signed_away_by, is_sent_from}
 use Rattle.world_rules.specs.Safety.{holds, goes_unattended}

@@ -4,9 +4,9 @@ use Rattle.std.specs.Prelude.{nat_lt}
 use Rattle.std.specs.Option.{option_or}
 use Rattle.plasma_tx.specs.declared.call.RootCall.{RootCall}
 use Rattle.plasma_tx.specs.Views.{blocks, coins, Exit, exit_at}
-use Rattle.root_rules.specs.Shown.{Tests, Rules}
-use Rattle.root_rules.specs.Table.{IsLegal}
-use Rattle.root_rules.proofs.Ends.{withdrawn_is_paid}
+use Rattle.plasma_tx.specs.Shown.{Tests, Rules}
+use Rattle.plasma_tx.specs.Table.{IsLegal}
+use Rattle.plasma_tx.proofs.Ends.{withdrawn_is_paid}
 use Rattle.world_rules.specs.Events.{Event, Joins, Accepts, Binds, TakesBack, Watches, log_of, wallet_owner, accepted, signed_away_by}
 use Rattle.world_rules.specs.Safety.{holds_with, holds, meets_deadline, goes_unattended, is_guarded, is_own}
 use Rattle.world_rules.specs.Verdicts.{is_others, is_finish_paid, pays_own, takes_from}

@@ -3,7 +3,7 @@ use Rattle.std.proofs.Common.{◌≡◌, ℕ, ◌==◌, ◌&&◌, ◌||◌, not,
 use Rattle.std.specs.List.{list_any}
 use Rattle.std.proofs.lemmas.Bool.{false≢true, and_parts, eqb-true}
 use Rattle.std.proofs.lemmas.List.Folds.{list_any-append}
-use Rattle.root_rules.specs.Shown.{Tests, Rules}
+use Rattle.plasma_tx.specs.Shown.{Tests, Rules}
 use Rattle.world_rules.specs.Events.{Event, Declares, Joins, Bounces, Watches, Idle, log_of, coin_of_call}
 use Rattle.world_rules.specs.Safety.{is_quiet}
 use Rattle.coin_verdicts.specs.declared.fact.Fact.{Fact}

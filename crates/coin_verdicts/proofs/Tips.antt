@@ -5,7 +5,7 @@ use Rattle.plasma_tx.specs.declared.owner.Owner.{Owner}
 use Rattle.plasma_tx.specs.declared.call.RootCall.{RootCall}
 use Rattle.plasma_tx.specs.declared.views.CoinView.{CoinView}
 use Rattle.plasma_tx.specs.Views.{blocks, coins, coin_at, Exit, exit_at}
-use Rattle.root_rules.specs.Shown.{Tests, Rules}
+use Rattle.plasma_tx.specs.Shown.{Tests, Rules}
 use Rattle.coin_history.specs.declared.bundle.Bundle.{Bundle}
 use Rattle.wallet_core.specs.State.{own_deposit, greatest}
 use Rattle.world_rules.specs.Events.{Event, Joins, Accepts, Binds, TakesBack, Watches, log_of, wallet_owner, accepted}

@@ -2,7 +2,7 @@
 use Rattle.std.proofs.Common.{◌≡◌, ℕ, ◌==◌, true, false, if◌then◌else◌, List, [], ◌∷◌, map, refl, ap}
 use Rattle.std.proofs.lemmas.Bool.{false≢true}
 use Rattle.plasma_tx.specs.declared.body.Body.{Body}
-use Rattle.root_rules.specs.Shown.{Tests, Rules}
+use Rattle.plasma_tx.specs.Shown.{Tests, Rules}
 use Rattle.world_rules.specs.Events.{Event, Joins, Binds, TakesBack, Watches, log_of, bound_by, taken_back}
 use Rattle.coin_verdicts.specs.declared.fact.Fact.{Fact}
 use Rattle.coin_verdicts.specs.declared.note.Leaf.{Leaf}

@@ -4,7 +4,7 @@ use Rattle.std.specs.List.{list_any}
 use Rattle.plasma_tx.specs.declared.owner.Owner.{Owner}
 use Rattle.plasma_tx.specs.declared.call.RootCall.{RootCall}
 use Rattle.plasma_tx.specs.Views.{blocks, coins, Exit, exit_at}
-use Rattle.root_rules.specs.Shown.{Tests, Rules}
+use Rattle.plasma_tx.specs.Shown.{Tests, Rules}
 use Rattle.world_rules.specs.Events.{Event, Declares, Joins, Bounces, Accepts, Guards, Releases, Binds, TakesBack, Watches, Leaves, Seals, Other, Idle, log_of, coin_of_call, wallet_owner}
 use Rattle.world_rules.specs.Safety.{meets_deadline}
 use Rattle.world_rules.specs.Verdicts.{is_finish_paid}

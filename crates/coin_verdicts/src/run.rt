@@ -2,8 +2,8 @@ ghost use Rattle.std.specs.Prelude.{◌≡◌, ◌≤◌, ◌++◌, ℕ, List, i
 ghost use Rattle.std.specs.List.{flat_map};
 ghost use Rattle.std.specs.Option.{option_to_list};
 ghost use Rattle.plasma_tx.specs.declared.owner.Owner.{Owner};
-ghost use Rattle.root_rules.specs.Shown.{Tests, Rules};
-ghost use Rattle.root_rules.specs.Table.{IsLegal};
+ghost use Rattle.plasma_tx.specs.Shown.{Tests, Rules};
+ghost use Rattle.plasma_tx.specs.Table.{IsLegal};
 ghost use Rattle.world_rules.specs.Events.{Event, log_of};
 ghost use Rattle.world_rules.specs.Verdicts.{verdicts_on};
 ghost use Rattle.coin_verdicts.specs.Facts.{AreFacts, OwnersStay};

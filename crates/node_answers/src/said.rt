@@ -1,15 +1,14 @@
 ghost use Rattle.std.specs.Prelude.{◌≡◌, ◌++◌, ◌∷◌, [], Ok, IfOk, OnOk, OnErr};
 ghost use Rattle.std.specs.List.{flat_map};
 ghost use Rattle.world_rules.specs.Deeds.{Gives};
-ghost use Rattle.world_trace.specs.Given.{IsGiven};
+ghost use Rattle.world_rules.specs.Given.{IsGiven};
 ghost use Rattle.node_answers.specs.Answers.{made_text, offer_text, given_text, said_by, IsSaid};
 
 use plasma_base::{Bytes, NoMemory, push_hex};
 use plasma_tx::RootCall;
 use root_log::print_call;
 use std::alloc::Global;
-use world_rules::Reply;
-use world_trace::{Given, print_reply};
+use world_rules::{Given, Reply, print_reply};
 
 /// What a node's command came to.
 #[derive(Debug, Drop)]

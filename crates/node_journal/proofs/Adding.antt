@@ -4,11 +4,11 @@ use Rattle.std.specs.Option.{option_map}
 use Rattle.plasma_base.specs.Causes.{faults_after}
 use Rattle.crash_disk.specs.Disk.{History, content, FaultPlan, LeavesOnly}
 use Rattle.crash_disk.specs.Calls.{WhereTold, Course, passed, failed_after, Made}
-use Rattle.gate_journal.specs.Image.{most, spelled}
-use Rattle.gate_journal.specs.Steps.{append_steps}
-use Rattle.gate_journal.specs.Journal.{JournalState, Keeps, KeepsWithOrWithout, IsSettled, Appended, Appends, is_device_fault}
-use Rattle.gate_journal.specs.declared.refusal.JournalRefusal.{JournalRefusal}
-use Rattle.gate_journal.specs.declared.refusal.JournalRefusal.TheVariants.{AlreadyMade, NotJournal, RecordTooLong, DeviceFault, Closed, NoMemory}
+use Rattle.node_journal.specs.Image.{most, spelled}
+use Rattle.node_journal.specs.Steps.{append_steps}
+use Rattle.node_journal.specs.Journal.{JournalState, Keeps, KeepsWithOrWithout, IsSettled, Appended, Appends, is_device_fault}
+use Rattle.node_journal.specs.declared.refusal.JournalRefusal.{JournalRefusal}
+use Rattle.node_journal.specs.declared.refusal.JournalRefusal.TheVariants.{AlreadyMade, NotJournal, RecordTooLong, DeviceFault, Closed, NoMemory}
 use Rattle.node_journal.proofs.Spelling.{length-spelled-push}
 use Rattle.node_journal.specs.Role.{Kinds, are_of, may_follow}
 use Rattle.node_journal.specs.Notes.{NotesState, note_steps, KeepsAtAnyMoment, Added, Did}

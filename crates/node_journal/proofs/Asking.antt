@@ -4,11 +4,11 @@ use Rattle.std.specs.Option.{option_map}
 use Rattle.std.proofs.lemmas.Bool.Decides.{nat_tests}
 use Rattle.crash_disk.specs.Disk.{Step, asks_length, with_call, after_one, History, content, FaultPlan}
 use Rattle.crash_disk.specs.Calls.{WhereTold, Called, IsStill, passed, after_course, Made}
-use Rattle.gate_journal.specs.Image.{spelled, spelled_record, spelled_records, kept_records}
-use Rattle.gate_journal.specs.Steps.{open_steps}
-use Rattle.gate_journal.specs.Make.{is_made, make_steps}
-use Rattle.gate_journal.specs.declared.refusal.InitRefusal.TheVariants.{AlreadyMade}
-use Rattle.gate_journal.proofs.Front.{fronts}
+use Rattle.node_journal.specs.Image.{spelled, spelled_record, spelled_records, kept_records}
+use Rattle.node_journal.specs.Steps.{open_steps}
+use Rattle.node_journal.specs.Make.{is_made, make_steps}
+use Rattle.node_journal.specs.declared.refusal.InitRefusal.TheVariants.{AlreadyMade}
+use Rattle.node_journal.proofs.Front.{fronts}
 use Rattle.node_journal.specs.Begin.{has_content, is_taken, image_made, journal_steps, init_steps, InitsOver, RefusesEmpty, PassesInit, StopsInit, IsAsked, HoldsAsBefore, BeginsPair}
 use Rattle.node_journal.specs.Laws.{RefusedPairsStay}
 use Rattle.node_journal.proofs.Courses.{after_both}

@@ -1,3 +1,14 @@
+pub mod Read
+mod JournalSpelling
+pub mod Front
+mod Left
+pub mod Crash
+mod OpenCalls
+pub mod Rest
+mod Making
+pub mod Stopped
+pub mod Lives
+mod Appending
 pub mod Roles
 mod Openings
 mod Spelling

@@ -3,11 +3,11 @@ use Rattle.std.proofs.Common.{◌≡◌, ◌∙◌, ℕ, true, List, Option, Som
 use Rattle.std.specs.Result.{result_ok}
 use Rattle.crash_disk.specs.Disk.{History, content, FaultPlan}
 use Rattle.crash_disk.specs.Calls.{WhereTold, passed, Made}
-use Rattle.gate_journal.specs.Image.{journal_in}
-use Rattle.gate_journal.specs.Steps.{open_steps}
-use Rattle.gate_journal.specs.Journal.{Keeps, RefusesOpen}
-use Rattle.gate_journal.specs.declared.refusal.JournalRefusal.{JournalRefusal}
-use Rattle.gate_journal.specs.declared.refusal.JournalRefusal.TheVariants.{AlreadyMade, NotJournal, RecordTooLong, DeviceFault, Closed, NoMemory}
+use Rattle.node_journal.specs.Image.{journal_in}
+use Rattle.node_journal.specs.Steps.{open_steps}
+use Rattle.node_journal.specs.Journal.{Keeps, RefusesOpen}
+use Rattle.node_journal.specs.declared.refusal.JournalRefusal.{JournalRefusal}
+use Rattle.node_journal.specs.declared.refusal.JournalRefusal.TheVariants.{AlreadyMade, NotJournal, RecordTooLong, DeviceFault, Closed, NoMemory}
 use Rattle.node_journal.specs.Role.{Kinds, are_of, read_of_kinds, role_in}
 use Rattle.node_journal.specs.Notes.{RefusesRole}
 use Rattle.node_journal.specs.Inside.{IsRoleRefusal}

@@ -4,7 +4,7 @@ use Rattle.std.proofs.lemmas.Bool.{cases_Bool}
 use Rattle.std.specs.List.{list_all, take_while, prefix_len}
 use Rattle.std.proofs.lemmas.List.Sums.{prefix_len-le-length}
 use Rattle.std.proofs.lemmas.List.Folds.{list_all-append, length-prefix_len}
-use Rattle.gate_journal.specs.Image.{spelled}
+use Rattle.node_journal.specs.Image.{spelled}
 use Rattle.node_journal.specs.Role.{Kinds, are_of, may_follow, front_of, of_kinds}
 use Rattle.node_journal.specs.Laws.{NotesFollow}
 

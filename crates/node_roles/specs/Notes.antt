@@ -3,9 +3,9 @@ use Rattle.std.specs.Prelude.{◌≡◌, ◌⊎◌, ℕ, ◌<◌, true, false, L
 use Rattle.plasma_base.specs.Causes.{faults_after}
 use Rattle.crash_disk.specs.Disk.{History}
 use Rattle.crash_disk.specs.Calls.{Course, passed, failed_after, after_course, WhereTold}
-use Rattle.gate_journal.specs.Image.{spelled}
-use Rattle.gate_journal.specs.Journal.{IsSettled}
-use Rattle.gate_journal.specs.Steps.{append_steps}
+use Rattle.node_journal.specs.Image.{spelled}
+use Rattle.node_journal.specs.Journal.{IsSettled}
+use Rattle.node_journal.specs.Steps.{append_steps}
 use Rattle.node_journal.specs.Notes.{NotesState, KeepsAtAnyMoment}
 use Rattle.node_journal.specs.declared.stop.Stop.{Stop}
 use Rattle.node_journal.specs.declared.stop.Stop.TheVariants.{Closed, NoMemory, DeviceFault}

@@ -20,7 +20,7 @@ use Rattle.plasma_tx.specs.Openings.{opening_in}
 use Rattle.plasma_tx.specs.Spelling.{AreBytes}
 use Rattle.plasma_tx.specs.Views.{coin_at}
 use Rattle.plasma_tx.proofs.Names.{some_same}
-use Rattle.root_rules.specs.Shown.{Rules, tests_by, opens_root, root_at}
+use Rattle.plasma_tx.specs.Shown.{Rules, tests_by, opens_root, root_at}
 use Rattle.coin_history.specs.declared.bundle.Bundle.{Bundle}
 use Rattle.coin_history.specs.declared.refusal.HistoryRefusal.{HistoryRefusal}
 use Rattle.coin_history.specs.Bundles.{AreRising, IsBundle, bundle_in}

@@ -14,7 +14,7 @@ use Rattle.plasma_tx.specs.Links.{tip_of}
 use Rattle.plasma_tx.specs.Spelling.{body_text}
 use Rattle.plasma_tx.specs.Views.{blocks}
 use Rattle.plasma_tx.proofs.Names.{some_same}
-use Rattle.root_rules.specs.Shown.{tests_by}
+use Rattle.plasma_tx.specs.Shown.{tests_by}
 use Rattle.coin_history.specs.declared.bundle.Bundle.{Bundle}
 use Rattle.coin_history.specs.declared.refusal.HistoryRefusal.{HistoryRefusal}
 use Rattle.coin_history.specs.Checking.{absence_of}

@@ -7,3 +7,4 @@ pub mod Laws
 pub mod WatcherLaws
 pub mod WalletLaws
 pub mod WalletCommandLaws
+pub mod KeptCoins

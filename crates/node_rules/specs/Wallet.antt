@@ -14,7 +14,7 @@ use Rattle.plasma_tx.specs.declared.call.RootCall.TheVariants.{StartDeposit, Sta
 use Rattle.plasma_tx.specs.Links.{last_spend, last_owner_of, tip_of}
 use Rattle.plasma_tx.specs.Spelling.{body_text}
 use Rattle.plasma_tx.specs.Views.{blocks, coins, is_withdrawn}
-use Rattle.root_rules.specs.Shown.{tests_by}
+use Rattle.plasma_tx.specs.Shown.{tests_by}
 use Rattle.coin_history.specs.declared.bundle.Bundle.{Bundle}
 use Rattle.coin_history.specs.declared.refusal.HistoryRefusal.{HistoryRefusal}
 use Rattle.coin_history.specs.Bundles.{bundle_in}

@@ -3,15 +3,23 @@
 #![tactic(auto)]
 
 mod answers;
+mod due;
+mod handed;
 mod identity;
+mod kept_coin;
 mod laws;
+mod reading;
 mod refusal;
 mod wallet_laws;
 mod watcher_laws;
 
 pub use answers::{Accepted, Reclaimed, Sent};
+pub use due::push_due_for;
+pub use handed::{kept_text, links_handed};
 pub use identity::WalletIdentity;
+pub use kept_coin::KeptCoin;
 pub use laws::kept_histories_are_read_back;
+pub use reading::{number_at, read_kept};
 pub use refusal::{WalletRefusal, WatcherRefusal};
 pub use wallet_laws::{
     held_coins_may_leave, wallet_commands_add_their_records, wallet_commands_keep_the_role,

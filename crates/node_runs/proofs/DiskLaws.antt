@@ -2,7 +2,7 @@
 use Rattle.std.proofs.Common.{◌⊎◌, ℕ, List, Option, Some, None, Result, refl, subst, inl, inr}
 use Rattle.crash_disk.specs.Disk.{History, FaultPlan}
 use Rattle.crash_disk.specs.Calls.{WhereTold}
-use Rattle.gate_journal.specs.Journal.{IsSettled}
+use Rattle.node_journal.specs.Journal.{IsSettled}
 use Rattle.node_journal.specs.Notes.{NotesState, Opened}
 use Rattle.wallet_node.specs.Opening.{OpensWallet}
 use Rattle.wallet_node.specs.State.{WalletState, notes_part, leaves_part}

@@ -1,9 +1,9 @@
 -- What a run of a node writes, by what ended it.
 use Rattle.std.specs.Prelude.{ℕ, List, [], ◌∷◌, ◌++◌, codes, Result, Ok, Err}
-use Rattle.gate_journal.specs.declared.refusal.JournalRefusal.{JournalRefusal}
-use Rattle.gate_journal.specs.declared.refusal.JournalRefusal.TheVariants.{NotJournal as NotJournalRefusal, DeviceFault as DeviceRefusal}
-use Rattle.gate_journal.specs.declared.refusal.InitRefusal.{InitRefusal}
-use Rattle.gate_journal.specs.declared.refusal.InitRefusal.TheVariants.{AlreadyMade as InitMade, DeviceFault as InitFault, NoMemory as InitNoMemory}
+use Rattle.node_journal.specs.declared.refusal.JournalRefusal.{JournalRefusal}
+use Rattle.node_journal.specs.declared.refusal.JournalRefusal.TheVariants.{NotJournal as NotJournalRefusal, DeviceFault as DeviceRefusal}
+use Rattle.node_journal.specs.declared.refusal.InitRefusal.{InitRefusal}
+use Rattle.node_journal.specs.declared.refusal.InitRefusal.TheVariants.{AlreadyMade as InitMade, DeviceFault as InitFault, NoMemory as InitNoMemory}
 use Rattle.streamed_lines.specs.declared.ending.Ending.{Ending}
 use Rattle.streamed_lines.specs.declared.ending.Ending.TheVariants.{Complete, BadLine, ReadFault, TooLong, Ended}
 use Rattle.streamed_lines.specs.Streams.{Streamed}

@@ -1,7 +1,7 @@
 -- What a run of a watcher, an operator or a wallet does.
 use Rattle.std.specs.Prelude.{◌⊎◌, ℕ, false, List, [], Option, Result}
 use Rattle.crash_disk.specs.Disk.{History, FaultPlan}
-use Rattle.gate_journal.specs.declared.refusal.JournalRefusal.{JournalRefusal}
+use Rattle.node_journal.specs.declared.refusal.JournalRefusal.{JournalRefusal}
 use Rattle.plasma_tx.specs.declared.call.RootCall.{RootCall}
 use Rattle.node_journal.specs.Notes.{NotesState, Opened, RefusesRole}
 use Rattle.node_journal.specs.Role.{role_in}

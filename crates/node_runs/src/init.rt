@@ -11,7 +11,7 @@ ghost use Rattle.node_runs.specs.Endings.{init_output, refused_init};
 ghost use Rattle.node_runs.specs.Inits.{InitsNotes, InitsWallet};
 
 use crash_disk::Disk;
-use gate_journal::InitRefusal;
+use node_journal::InitRefusal;
 use node_rules::WalletIdentity;
 use plasma_outside::Sink;
 use run_endings::{Status, push_already_made, put_line};

@@ -7,7 +7,7 @@ ghost use Rattle.node_runs.specs.Runs.{RunsOperator};
 use super::opening::put_refusal;
 use super::session::run_session;
 use crash_disk::Disk;
-use gate_journal::Returned;
+use node_journal::Returned;
 use node_roles::OperatorRun;
 use operator_core::Operator;
 use plasma_base::Hash32;

@@ -7,7 +7,7 @@ ghost use Rattle.node_runs.specs.Runs.{RunsWatcher};
 use super::opening::put_refusal;
 use super::session::run_session;
 use crash_disk::Disk;
-use gate_journal::Returned;
+use node_journal::Returned;
 use node_roles::WatcherRun;
 use plasma_base::Hash32;
 use plasma_outside::{Sink, Source};

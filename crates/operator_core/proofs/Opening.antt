@@ -3,8 +3,8 @@ use Rattle.std.proofs.Common.{◌≡◌, ℕ, List, [], length, Option, Some, No
 use Rattle.crash_disk.specs.Disk.{Step, History, content, FaultPlan}
 use Rattle.crash_disk.specs.Calls.{stopped_after, after_course, Made}
 use Rattle.crash_disk.proofs.Calls.{made_stop}
-use Rattle.gate_journal.specs.declared.refusal.JournalRefusal.TheVariants.{NoMemory as JournalNoMemory}
-use Rattle.gate_journal.specs.declared.refusal.InitRefusal.TheVariants.{NoMemory}
+use Rattle.node_journal.specs.declared.refusal.JournalRefusal.TheVariants.{NoMemory as JournalNoMemory}
+use Rattle.node_journal.specs.declared.refusal.InitRefusal.TheVariants.{NoMemory}
 use Rattle.node_journal.specs.Begin.{Inits, BeginsPair}
 use Rattle.node_journal.specs.Notes.{NotesState, Opened, RefusesRole}
 

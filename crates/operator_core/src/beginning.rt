@@ -1,7 +1,7 @@
 ghost use Rattle.std.specs.Prelude.{◌≡◌, ◌∷◌, [], None, Some, OnOk};
 ghost use Rattle.plasma_base.specs.Causes.{faults_after};
 ghost use Rattle.crash_disk.specs.Calls.{WhereTold};
-ghost use Rattle.gate_journal.specs.Journal.{IsSettled};
+ghost use Rattle.node_journal.specs.Journal.{IsSettled};
 ghost use Rattle.node_journal.specs.Begin.{init_steps, Inits, is_init_fault, BeginsPair};
 ghost use Rattle.operator_rules.specs.Records.{identity_text};
 

@@ -1,5 +1,5 @@
 ghost use Rattle.std.specs.Prelude.{◌≡◌, ◌≤◌, ◌<◌, ◌+◌, [], length, slice_range, IfOk, option_map, Ok};
-ghost use Rattle.gate_journal.specs.Image.{most};
+ghost use Rattle.node_journal.specs.Image.{most};
 ghost use Rattle.plasma_tx.specs.Spelling.{number_at};
 ghost use Rattle.operator_rules.specs.Records.{Laid, Sealed, Offered, identity_text, identity_in, identity_of, note_text, note_in, tag_in};
 ghost use Rattle.std.specs.Option.{unwrap_or};

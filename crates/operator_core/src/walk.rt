@@ -1,5 +1,5 @@
 ghost use Rattle.std.specs.Prelude.{◌≡◌, IfOk, IfSome, option_map, is_some};
-ghost use Rattle.root_rules.specs.Shown.{root_at};
+ghost use Rattle.plasma_tx.specs.Shown.{root_at};
 ghost use Rattle.coin_history.specs.History.{is_committed};
 ghost use Rattle.operator_rules.specs.Trees.{tree_at};
 ghost use Rattle.operator_rules.specs.Walk.{moved_by, transfer_at, present};

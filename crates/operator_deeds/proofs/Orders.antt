@@ -13,8 +13,8 @@ use Rattle.operator_rules.specs.Records.{Laid, note_text}
 use Rattle.operator_rules.specs.Commands.{lay_effect}
 use Rattle.world_rules.specs.Causes.{prove_cause}
 use Rattle.world_rules.specs.Deeds.{Gives, answered, refused}
-use Rattle.world_trace.specs.declared.given.Given.{Given}
-use Rattle.world_trace.specs.Given.{IsGiven}
+use Rattle.world_rules.specs.declared.given.Given.{Given}
+use Rattle.world_rules.specs.Given.{IsGiven}
 
 -- bytes that are too long add no record
 pub lay-refused : (coin : ℕ) (leaf : List ℕ) (why : LayRefusal) → (lay_effect coin leaf).answer ≡ Err why

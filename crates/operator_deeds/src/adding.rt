@@ -5,7 +5,7 @@ ghost use Rattle.operator_rules.specs.Commands.{offer_effect, lay_effect, seal_e
 ghost use Rattle.operator_core.specs.State.{offer_stop, lay_stop, seal_stop};
 ghost use Rattle.world_rules.specs.Causes.{offer_cause, lay_cause, seal_cause};
 ghost use Rattle.world_rules.specs.Deeds.{refused, answered, on_pooled, on_laid, on_sealed};
-ghost use Rattle.world_trace.specs.Given.{IsGiven};
+ghost use Rattle.world_rules.specs.Given.{IsGiven};
 
 use crash_disk::Disk;
 use node_journal::Stop;
@@ -14,8 +14,7 @@ use operator_rules::{LayRefusal, OfferRefusal, SealRefusal, Sealed};
 use plasma_base::Hash32;
 use plasma_tx::RootLog;
 use std::alloc::Global;
-use world_rules::Reply;
-use world_trace::{Given, lay_cause, offer_cause, offers, refused, says};
+use world_rules::{Given, Reply, lay_cause, offer_cause, offers, refused, says};
 
 // What stopped an offer that was refused for this, if anything did; the same of a lay, and of a seal, which
 // nothing else refuses.

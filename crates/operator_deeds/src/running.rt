@@ -1,6 +1,6 @@
 ghost use Rattle.std.specs.Prelude.{◌≡◌, ℕ, false, IfOk};
 ghost use Rattle.node_journal.specs.Notes.{Did, stopped_by};
-ghost use Rattle.world_trace.specs.Given.{IsGiven};
+ghost use Rattle.world_rules.specs.Given.{IsGiven};
 ghost use Rattle.operator_deeds.specs.Orders.{order_deed};
 
 use super::adding::{lay, offer, seal};
@@ -12,7 +12,7 @@ use operator_core::Operator;
 use plasma_base::Hash32;
 use plasma_tx::RootLog;
 use std::alloc::Global;
-use world_trace::Given;
+use world_rules::Given;
 
 /// Runs an order on an operator that is up, and gives out what the definitions say: the answer, the bytes of a
 /// bundle or of an opening, and of a seal the commit that it offers. Device calls: those of an append, where the

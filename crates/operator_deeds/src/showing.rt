@@ -6,7 +6,7 @@ ghost use Rattle.operator_rules.specs.Commands.{prove_answer, bundle_answer, abs
 ghost use Rattle.operator_rules.specs.declared.refusal.ProveRefusal.{ProveRefusal};
 ghost use Rattle.world_rules.specs.Causes.{prove_cause};
 ghost use Rattle.world_rules.specs.Deeds.{refused, answered, on_bundled, on_proved};
-ghost use Rattle.world_trace.specs.Given.{IsGiven};
+ghost use Rattle.world_rules.specs.Given.{IsGiven};
 
 use coin_history::Bundle;
 use crash_disk::Disk;
@@ -16,8 +16,7 @@ use operator_rules::ProveRefusal;
 use plasma_base::{Bytes, Hash32};
 use plasma_tx::{RawOpening, RootLog};
 use std::alloc::Global;
-use world_rules::Reply;
-use world_trace::{Given, makes, prove_cause, refused};
+use world_rules::{Given, Reply, makes, prove_cause, refused};
 
 // What is given out for a refusal, or want of memory.
 fn refusal(alloc: Global, why: &ProveRefusal) -> Result<Given, Stop>

@@ -19,7 +19,7 @@ use Rattle.plasma_tx.specs.Transfer.{transfer_in, is_signed_by}
 use Rattle.plasma_tx.specs.Views.{blocks, coins, new_coin, coin_at}
 use Rattle.plasma_tx.proofs.Leaves.{transfer-read, empty-none}
 use Rattle.plasma_tx.proofs.Names.{some_same}
-use Rattle.root_rules.specs.Shown.{Rules, tests_by, root_at}
+use Rattle.plasma_tx.specs.Shown.{Rules, tests_by, root_at}
 use Rattle.coin_history.specs.declared.bundle.Bundle.{Bundle}
 use Rattle.coin_history.specs.Bundles.{IsBundle}
 use Rattle.coin_history.specs.History.{is_committed, committed_blocks, blocks_of, opens_block, is_empty, is_absent, transfer_of, links_in, links_of, AreLinked, IsHistory}

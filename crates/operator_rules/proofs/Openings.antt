@@ -26,7 +26,7 @@ use Rattle.plasma_tx.specs.Spelling.{body_text, body_length, has_second_mark, si
 use Rattle.plasma_tx.specs.Transfer.{is_signed_by}
 use Rattle.plasma_tx.proofs.OpeningTexts.{opening_in-text, leaf-shown}
 use Rattle.plasma_tx.proofs.Spellings.{signed_in-ok}
-use Rattle.root_rules.specs.Shown.{tests_by, opens_root, root_at}
+use Rattle.plasma_tx.specs.Shown.{tests_by, opens_root, root_at}
 use Rattle.coin_history.specs.History.{opens_block}
 use Rattle.operator_rules.specs.Trees.{opening_in_tree}
 

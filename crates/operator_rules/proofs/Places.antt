@@ -9,7 +9,7 @@ use Rattle.plasma_tx.specs.declared.call.RootCall.{RootCall}
 use Rattle.plasma_tx.specs.declared.views.CoinView.{CoinView}
 use Rattle.plasma_tx.specs.Transfer.{transfer_in, is_signed_by}
 use Rattle.plasma_tx.proofs.Leaves.{empty-none}
-use Rattle.root_rules.specs.Shown.{root_at}
+use Rattle.plasma_tx.specs.Shown.{root_at}
 use Rattle.operator_rules.specs.Trees.{tree_of}
 use Rattle.operator_rules.specs.Walk.{Place, start_of, moved_by, transfer_at, place_at}
 

@@ -22,8 +22,8 @@ use Rattle.plasma_tx.specs.Transfer.{may_stand_in, is_signed_by}
 use Rattle.plasma_tx.specs.Views.{blocks, coins, block_at, new_coin, coin_at}
 use Rattle.plasma_tx.proofs.Names.{some_same}
 use Rattle.plasma_tx.proofs.Parts.{bytes-range, number-below}
-use Rattle.root_rules.specs.Shown.{root_in, root_at}
-use Rattle.root_rules.proofs.Bounds.{coin_at-le}
+use Rattle.plasma_tx.specs.Shown.{root_in, root_at}
+use Rattle.plasma_tx.proofs.Bounds.{coin_at-le}
 use Rattle.coin_history.specs.History.{is_empty}
 use Rattle.operator_rules.specs.declared.refusal.OfferRefusal.{OfferRefusal}
 use Rattle.operator_rules.specs.declared.refusal.OfferRefusal.TheVariants.{PoolHasCoin}

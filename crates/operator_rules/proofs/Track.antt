@@ -17,7 +17,7 @@ use Rattle.plasma_tx.specs.Transfer.{may_stand_in, is_signed_by}
 use Rattle.plasma_tx.specs.Views.{blocks}
 use Rattle.plasma_tx.proofs.Leaves.{transfer-read}
 use Rattle.plasma_tx.proofs.Names.{some_same}
-use Rattle.root_rules.specs.Shown.{root_at}
+use Rattle.plasma_tx.specs.Shown.{root_at}
 use Rattle.coin_history.specs.History.{is_empty}
 use Rattle.coin_history.proofs.HistoryGrow.{root_at-grown}
 use Rattle.operator_rules.specs.Trees.{tree_of, is_root_committed}

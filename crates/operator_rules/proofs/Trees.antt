@@ -17,7 +17,7 @@ use Rattle.plasma_tx.specs.Transfer.{may_stand_in, kept_transfer, transfer_in}
 use Rattle.plasma_tx.specs.Views.{blocks, coins, block_at}
 use Rattle.plasma_tx.proofs.Names.{some_same}
 use Rattle.plasma_tx.proofs.Spellings.{signed_in-ok}
-use Rattle.root_rules.specs.Shown.{root_in, root_at}
+use Rattle.plasma_tx.specs.Shown.{root_in, root_at}
 use Rattle.coin_history.specs.History.{is_empty}
 use Rattle.coin_history.proofs.HistoryGrow.{block_at-le, root_at-grown}
 use Rattle.operator_rules.specs.Trees.{coin_named, tree_of, commits, is_root_committed}

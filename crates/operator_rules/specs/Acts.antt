@@ -15,7 +15,7 @@ use Rattle.plasma_tx.specs.Links.{last_owner_of}
 use Rattle.plasma_tx.specs.Spelling.{signed_in, AreBytes}
 use Rattle.plasma_tx.specs.Transfer.{may_stand_in}
 use Rattle.plasma_tx.specs.Views.{blocks, coin_at}
-use Rattle.root_rules.specs.Shown.{Rules, tests_by}
+use Rattle.plasma_tx.specs.Shown.{Rules, tests_by}
 use Rattle.coin_history.specs.declared.bundle.Bundle.{Bundle}
 use Rattle.coin_history.specs.Bundles.{IsBundle}
 use Rattle.coin_history.specs.Checking.{history_of}

@@ -11,7 +11,7 @@ use Rattle.plasma_tx.specs.declared.call.RootCall.{RootCall}
 use Rattle.plasma_tx.specs.declared.call.RootCall.TheVariants.{Commit}
 use Rattle.plasma_tx.specs.Openings.{raw_of}
 use Rattle.plasma_tx.specs.Spelling.{number_at}
-use Rattle.root_rules.specs.Shown.{root_at}
+use Rattle.plasma_tx.specs.Shown.{root_at}
 use Rattle.coin_history.specs.History.{is_empty}
 use Rattle.operator_rules.specs.Records.{Note, Offered, Laid, Sealed}
 

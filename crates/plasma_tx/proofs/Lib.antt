@@ -11,3 +11,16 @@ pub mod CoinExits
 pub mod Keeps
 pub mod States
 pub mod Answered
+pub mod Accepted
+pub mod Acceptance
+pub mod Legal
+pub mod RuleLeaves
+pub mod Ends
+pub mod Each
+pub mod Bounds
+pub mod RuleNames
+pub mod Weights
+pub mod Sums
+pub mod Held
+pub mod Below
+pub mod MoneyKept

@@ -8,3 +8,8 @@ pub mod Laws
 pub mod ChallengeLists
 pub mod Standing
 pub mod Keeps
+pub mod Shown
+pub mod Money
+pub mod Table
+pub mod Accepted
+pub mod RuleLaws

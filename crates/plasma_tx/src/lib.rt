@@ -11,9 +11,12 @@ mod kept;
 mod laws;
 mod leaf;
 mod links;
+mod movement;
 mod opening;
 mod owner;
 mod root_log;
+mod rule_laws;
+mod rules;
 mod signatures;
 mod signed_tx;
 mod standing;
@@ -29,8 +32,19 @@ pub use laws::{
 };
 pub use leaf::leaf_tx;
 pub use links::{Link, Links, Spends};
+pub use movement::Movement;
 pub use opening::{Opening, OpeningRefusal, RawOpening};
 pub use owner::Owner;
 pub use root_log::RootLog;
+pub use rule_laws::{
+    accepted_calls_show, answers_decide, balances_are_covered, balances_suffice,
+    exits_are_their_owners, exits_leave_by, held_is_of_accounts, held_suffices, logs_are_legal,
+    money_is_kept, openings_show, others_leave_exits, owners_are_read, paid_exactly,
+    the_rules_have_these_numbers, times_are_bounded, withdrawn_is_answered_paid,
+};
+pub use rules::{
+    CHALLENGE_BOND, CHALLENGE_WINDOW, EXIT_BOND, EXIT_PERIOD, LAST_TIME, MOST_MONEY,
+    RESPONSE_WINDOW,
+};
 pub use signed_tx::{SignedTx, TxRefusal, signed_by};
 pub use views::{BlockView, ChallengeView, Challenges, CoinView, ExitView};

@@ -2,7 +2,7 @@
 use Rattle.std.specs.Prelude.{◌≡◌, ◌≢◌, ◌⊎◌, ℕ, Bool, true, List, ◌∷◌, ◌++◌}
 use Rattle.std.specs.Option.{ForSome}
 use Rattle.std.specs.List.{Contains}
-use Rattle.root_rules.specs.Shown.{tests_by, rules_of}
+use Rattle.plasma_tx.specs.Shown.{tests_by, rules_of}
 use Rattle.world_rules.specs.declared.verdict.Verdict.{Verdict}
 use Rattle.world_rules.specs.declared.verdict.VerdictKind.{VerdictKind}
 use Rattle.world_rules.specs.declared.verdict.Exhibit.{Exhibit}

@@ -18,8 +18,7 @@ use schedule_text::{Line, LineRefusal, read};
 use std::alloc::Global;
 use streamed_lines::{Answerer, Break, Ending, Halt, Stop, answer_lines};
 use world_core::{StepRefusal, World};
-use world_rules::TraceLine;
-use world_trace::print_line;
+use world_rules::{TraceLine, print_line};
 
 /// What answers the lines of a schedule: the world that steps through them.
 #[derive(Drop)]

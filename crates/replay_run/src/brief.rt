@@ -19,7 +19,7 @@ use plasma_outside::{Sink, SinkRefusal, Source};
 use std::alloc::Global;
 use streamed_lines::{Ending, put_text};
 use world_core::World;
-use world_trace::{print_counts, print_exhibit};
+use world_rules::{print_counts, print_exhibit};
 
 /// A sink that keeps nothing, for answers that nobody reads.
 #[derive(Drop)]

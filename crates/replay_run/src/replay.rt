@@ -21,8 +21,7 @@ use plasma_outside::{Sink, SinkRefusal, Source};
 use std::alloc::Global;
 use streamed_lines::{Ending, put_text};
 use world_core::World;
-use world_rules::Verdict;
-use world_trace::{print_exhibit, print_verdict};
+use world_rules::{Verdict, print_exhibit, print_verdict};
 
 // Puts verdicts at the end.
 fn push_verdicts(verdicts: &[Verdict], text: &mut Vec<u8>) -> Result<(), NoMemory>

@@ -9,13 +9,13 @@ use Rattle.plasma_tx.specs.declared.call.RootCall.{RootCall}
 use Rattle.plasma_tx.specs.declared.call.RootCall.TheVariants.{Fund}
 use Rattle.plasma_tx.specs.Chain.{Chain, with_log}
 use Rattle.plasma_tx.specs.Views.{Exit, exits}
-use Rattle.root_rules.specs.declared.movement.Movement.{Movement}
-use Rattle.root_rules.specs.Shown.{rules_of}
-use Rattle.root_rules.specs.Money.{pays, takes, releases, share_of, balance_of, held_of, funded, moved}
-use Rattle.root_rules.specs.Table.{IsLegal}
-use Rattle.root_rules.specs.declared.TheConstants.{MOST_MONEY}
-use Rattle.root_rules.proofs.Accepted.{accepted_calls_show}
-use Rattle.root_rules.proofs.Kept.{balances_suffice, held_suffices}
+use Rattle.plasma_tx.specs.declared.movement.Movement.{Movement}
+use Rattle.plasma_tx.specs.Shown.{rules_of}
+use Rattle.plasma_tx.specs.Money.{pays, takes, releases, share_of, balance_of, held_of, funded, moved}
+use Rattle.plasma_tx.specs.Table.{IsLegal}
+use Rattle.plasma_tx.specs.declared.rules.TheConstants.{MOST_MONEY}
+use Rattle.plasma_tx.proofs.Accepted.{accepted_calls_show}
+use Rattle.plasma_tx.proofs.MoneyKept.{balances_suffice, held_suffices}
 use Rattle.root_contract.specs.Exits.{as_exit, exits_of_coin}
 use Rattle.root_contract.specs.Agreement.{Agrees}
 use Rattle.root_contract.specs.Changes.{Changes, IsAccepted, SameMoney}

@@ -17,12 +17,12 @@ use Rattle.plasma_tx.specs.Chain.{Chain, with_log}
 use Rattle.plasma_tx.specs.Views.{now, Challenge, Exit, exits, exit_at, coin_at, challenge_at, block_of, owner_of, owner_of_coin, owner_of_opening, is_responded, responses, is_withdrawn, without_exit, with_exit_changed, with_challenge, with_answer, new_challenge, deposit_exit, spend_exit}
 use Rattle.plasma_tx.specs.Laws.{is_challenged_at}
 use Rattle.plasma_tx.proofs.Answered.{new_challenges_are_open}
-use Rattle.root_rules.specs.declared.TheConstants.{EXIT_BOND, CHALLENGE_BOND}
-use Rattle.root_rules.specs.Shown.{Tests, rules_of}
-use Rattle.root_rules.specs.Money.{moved, pays, takes, releases, funded, amount_of, cancel_pays, exit_bonds, answered_bond, challenge_of, finish_pays, finish_releases}
-use Rattle.root_rules.specs.Table.{is_accepted, log_after, IsLegal}
-use Rattle.root_rules.proofs.Accepted.{accepted_calls_show}
-use Rattle.root_rules.proofs.Bounds.{responds_answer}
+use Rattle.plasma_tx.specs.declared.rules.TheConstants.{EXIT_BOND, CHALLENGE_BOND}
+use Rattle.plasma_tx.specs.Shown.{Tests, rules_of}
+use Rattle.plasma_tx.specs.Money.{moved, pays, takes, releases, funded, amount_of, cancel_pays, exit_bonds, answered_bond, challenge_of, finish_pays, finish_releases}
+use Rattle.plasma_tx.specs.Table.{is_accepted, log_after, IsLegal}
+use Rattle.plasma_tx.proofs.Accepted.{accepted_calls_show}
+use Rattle.plasma_tx.proofs.Bounds.{responds_answer}
 use Rattle.root_contract.specs.declared.stop.Stop.{Stop}
 use Rattle.root_contract.specs.declared.stop.Stop.TheVariants.{Refused, NoMemory}
 use Rattle.root_contract.specs.Exits.{as_exit, as_challenge, IsUnchallenged, IsOpen}

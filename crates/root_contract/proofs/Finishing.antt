@@ -4,8 +4,8 @@ use Rattle.bond_ledger.specs.declared.ledger.Ledger.{Ledger}
 use Rattle.bond_ledger.specs.Ledger.{balance_in, held_in, funded_in, HasSums}
 use Rattle.plasma_tx.specs.declared.views.CoinView.{CoinView}
 use Rattle.plasma_tx.specs.Views.{Challenge, Exit}
-use Rattle.root_rules.specs.declared.movement.Movement.{Movement}
-use Rattle.root_rules.specs.Money.{share_of, amount_of, payout, finish_pays, amount_released, exit_bonds, finish_releases, open_challenges}
+use Rattle.plasma_tx.specs.declared.movement.Movement.{Movement}
+use Rattle.plasma_tx.specs.Money.{share_of, amount_of, payout, finish_pays, amount_released, exit_bonds, finish_releases, open_challenges}
 use Rattle.root_contract.specs.Changes.{SameMoney}
 use Rattle.root_contract.proofs.Agreeing.{Moves, moves-paid}
 use Rattle.root_contract.specs.Settling.{unpaid_of, payout_of, finish_paid, released_of, finish_released}

@@ -1,7 +1,7 @@
 -- The rows of the table once their first causes are found not to hold.
 use Rattle.std.proofs.Common.{◌≡◌, ℕ, ◌==◌, not, true, false, List, [], ◌∷◌, Option, Some, Result, Err, sym, subst}
 use Rattle.std.specs.Prelude.{nat_le, is_some}
-use Rattle.root_rules.specs.declared.TheConstants.{EXIT_BOND, CHALLENGE_WINDOW, RESPONSE_WINDOW}
+use Rattle.plasma_tx.specs.declared.rules.TheConstants.{EXIT_BOND, CHALLENGE_WINDOW, RESPONSE_WINDOW}
 use Rattle.plasma_tx.specs.declared.owner.Owner.{Owner}
 use Rattle.plasma_tx.specs.declared.signed_tx.SignedTx.{SignedTx}
 use Rattle.plasma_tx.specs.declared.call.Shown.{Shown}
@@ -10,8 +10,8 @@ use Rattle.plasma_tx.specs.declared.views.CoinView.{CoinView}
 use Rattle.plasma_tx.specs.declared.answer.Refusal.TheVariants.{NotOwner, ExitStands}
 use Rattle.plasma_tx.specs.declared.answer.Answer.{Answer}
 use Rattle.plasma_tx.specs.Views.{Challenge, Exit, exit_at, challenge_at, block_of, is_withdrawn}
-use Rattle.root_rules.specs.Shown.{Tests, goes_to}
-use Rattle.root_rules.specs.Table.{decided, is_over, is_committed_after, is_committed_between, is_parent_of, too_poor, where_coin, where_exit, start_spend_causes, where_challenged, after_causes, between_causes, respond_causes}
+use Rattle.plasma_tx.specs.Shown.{Tests, goes_to}
+use Rattle.plasma_tx.specs.Table.{decided, is_over, is_committed_after, is_committed_between, is_parent_of, too_poor, where_coin, where_exit, start_spend_causes, where_challenged, after_causes, between_causes, respond_causes}
 use Rattle.root_contract.specs.declared.stop.Stop.{Stop}
 use Rattle.root_contract.specs.declared.stop.Stop.TheVariants.{Refused, NoMemory}
 use Rattle.root_contract.specs.Judging.{Judges, spend_causes}

@@ -7,7 +7,7 @@ use Rattle.bond_ledger.specs.declared.ledger.Ledger.{Ledger}
 use Rattle.bond_ledger.specs.declared.ledger.NoFunds.{NoFunds}
 use Rattle.bond_ledger.specs.declared.ledger.SumTooLarge.{SumTooLarge}
 use Rattle.bond_ledger.specs.Ledger.{balance_in, held_in, funded_in, is_known, amount_at, HasSums}
-use Rattle.root_rules.specs.Money.{moved, share_of}
+use Rattle.plasma_tx.specs.Money.{moved, share_of}
 use Rattle.root_contract.proofs.SettlingLemmas.{share-one}
 
 -- money that suffices is held

@@ -6,9 +6,9 @@ use Rattle.std.proofs.lemmas.Bool.{eq-eqb}
 use Rattle.exit_game.specs.declared.challenges.Challenge.{Challenge as Kept}
 use Rattle.exit_game.specs.declared.slot.Slot.{Slot}
 use Rattle.bond_ledger.specs.Ledger.{amount_at}
-use Rattle.root_rules.specs.declared.TheConstants.{EXIT_BOND, CHALLENGE_BOND}
-use Rattle.root_rules.specs.declared.movement.Movement.{Movement}
-use Rattle.root_rules.specs.Money.{moved, share_of, cancel_pays, exit_bonds, challenge_bonds}
+use Rattle.plasma_tx.specs.declared.rules.TheConstants.{EXIT_BOND, CHALLENGE_BOND}
+use Rattle.plasma_tx.specs.declared.movement.Movement.{Movement}
+use Rattle.plasma_tx.specs.Money.{moved, share_of, cancel_pays, exit_bonds, challenge_bonds}
 use Rattle.plasma_tx.specs.Views.{Challenge}
 use Rattle.root_contract.specs.Exits.{as_challenge, as_exit}
 use Rattle.root_contract.specs.Settling.{open_bonds, first_open, unpaid_amount, payout_of, released_of, finish_paid, finish_released}

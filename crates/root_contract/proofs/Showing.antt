@@ -4,7 +4,7 @@ use Rattle.plasma_tx.specs.declared.opening.RawOpening.{RawOpening}
 use Rattle.plasma_tx.specs.declared.call.RootCall.{RootCall}
 use Rattle.plasma_tx.specs.Openings.{leaf_in}
 use Rattle.plasma_tx.specs.Transfer.{transfer_in}
-use Rattle.root_rules.specs.Shown.{Tests, Rules, root_at, shown_tx}
+use Rattle.plasma_tx.specs.Shown.{Tests, Rules, root_at, shown_tx}
 
 pub show-uncommitted : (tests : Tests) (rules : Rules) (log : List RootCall) (coin : ℕ) (opening : RawOpening)
     → root_at log opening.block ≡ None → shown_tx tests rules log coin opening ≡ None

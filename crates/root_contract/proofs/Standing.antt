@@ -15,11 +15,11 @@ use Rattle.exit_game.proofs.TakenBack.{last_is_taken_back}
 use Rattle.bond_ledger.specs.declared.ledger.Ledger.{Ledger}
 use Rattle.plasma_tx.specs.Chain.{Chain}
 use Rattle.plasma_tx.specs.Views.{now, Exit, Challenge, is_exit, exits, exit_at}
-use Rattle.root_rules.specs.declared.TheConstants.{LAST_TIME}
-use Rattle.root_rules.specs.Shown.{rules_of}
-use Rattle.root_rules.specs.Laws.{IsDatedBy}
-use Rattle.root_rules.proofs.Bounds.{times_are_bounded}
-use Rattle.root_rules.proofs.Each.{some_same, all-found}
+use Rattle.plasma_tx.specs.declared.rules.TheConstants.{LAST_TIME}
+use Rattle.plasma_tx.specs.Shown.{rules_of}
+use Rattle.plasma_tx.specs.RuleLaws.{IsDatedBy}
+use Rattle.plasma_tx.proofs.Bounds.{times_are_bounded}
+use Rattle.plasma_tx.proofs.Each.{some_same, all-found}
 use Rattle.root_contract.specs.Exits.{as_exit, as_challenge, IsDated, IsUnchallenged, IsOpen}
 use Rattle.root_contract.specs.Agreement.{Agrees}
 use Rattle.root_contract.proofs.SlotLemmas.{found, challenge-found}

@@ -6,9 +6,9 @@ use Rattle.bond_ledger.specs.declared.ledger.Ledger.{Ledger}
 use Rattle.bond_ledger.specs.Ledger.{balance_in, held_in, funded_in}
 use Rattle.plasma_tx.specs.Chain.{Chain}
 use Rattle.plasma_tx.specs.Views.{exits}
-use Rattle.root_rules.specs.Shown.{rules_of}
-use Rattle.root_rules.specs.Money.{balance_of, held_of, funded}
-use Rattle.root_rules.specs.Table.{IsLegal}
+use Rattle.plasma_tx.specs.Shown.{rules_of}
+use Rattle.plasma_tx.specs.Money.{balance_of, held_of, funded}
+use Rattle.plasma_tx.specs.Table.{IsLegal}
 use Rattle.root_contract.specs.Exits.{as_exit, exits_of_coin}
 use Rattle.root_contract.specs.declared.contract.Contract.TheInside.{Inside}
 

@@ -5,10 +5,10 @@ use Rattle.bond_ledger.specs.Ledger.{balance_in, held_in, funded_in}
 use Rattle.plasma_tx.specs.declared.call.RootCall.{RootCall}
 use Rattle.plasma_tx.specs.Chain.{Chain}
 use Rattle.plasma_tx.specs.Views.{Exit, exits}
-use Rattle.root_rules.specs.declared.movement.Movement.{Movement}
-use Rattle.root_rules.specs.Shown.{Tests, rules_of}
-use Rattle.root_rules.specs.Money.{pays, takes, releases, funded}
-use Rattle.root_rules.specs.Table.{answer_to, is_accepted}
+use Rattle.plasma_tx.specs.declared.movement.Movement.{Movement}
+use Rattle.plasma_tx.specs.Shown.{Tests, rules_of}
+use Rattle.plasma_tx.specs.Money.{pays, takes, releases, funded}
+use Rattle.plasma_tx.specs.Table.{answer_to, is_accepted}
 
 -- the call is accepted under some tests
 abbrev pub IsAccepted : Chain → RootCall → Type 0

@@ -1,7 +1,7 @@
 -- The slots of a game as the exits that the views have.
 use Rattle.std.specs.Prelude.{◌≡◌, ℕ, ◌≤◌, ◌==◌, false, List, Option, Some, None, map, filter}
 use Rattle.std.specs.List.{AllByRecursion}
-use Rattle.root_rules.specs.declared.TheConstants.{LAST_TIME}
+use Rattle.plasma_tx.specs.declared.rules.TheConstants.{LAST_TIME}
 use Rattle.exit_game.specs.declared.challenges.Challenge.{Challenge as Kept}
 use Rattle.exit_game.specs.declared.slot.Slot.{Slot}
 use Rattle.plasma_tx.specs.Views.{Challenge, Exit, challenge_at}

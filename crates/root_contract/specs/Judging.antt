@@ -8,8 +8,8 @@ use Rattle.plasma_tx.specs.declared.answer.Answer.{Answer}
 use Rattle.plasma_tx.specs.declared.answer.Answer.TheVariants.{Refused as IsRefused, NoMemory as WantsMemory}
 use Rattle.plasma_tx.specs.Chain.{Chain, with_log}
 use Rattle.plasma_tx.specs.declared.answer.Refusal.TheVariants.{NotChild, BadSignature}
-use Rattle.root_rules.specs.Shown.{Tests, rules_of, spends, signs}
-use Rattle.root_rules.specs.Table.{Cause, shows_none, answer_to, is_accepted}
+use Rattle.plasma_tx.specs.Shown.{Tests, rules_of, spends, signs}
+use Rattle.plasma_tx.specs.Table.{Cause, shows_none, answer_to, is_accepted}
 use Rattle.root_contract.specs.declared.stop.Stop.{Stop}
 use Rattle.root_contract.specs.declared.stop.Stop.TheVariants.{Refused, NoMemory}
 

@@ -1,14 +1,13 @@
 ghost use Rattle.std.specs.Prelude.{◌≡◌, []};
 ghost use Rattle.plasma_tx.specs.Views.{now};
-ghost use Rattle.root_rules.specs.Shown.{Tests, tests_by};
+ghost use Rattle.plasma_tx.specs.Shown.{Tests, tests_by};
 ghost use Rattle.root_contract.specs.Judging.{Takes};
 
 use super::contract::Contract;
 use super::stop::Stop;
 use exit_game::{Challenge, Challenges, Slot};
 use plasma_base::Hash32;
-use plasma_tx::{Answer, Owner, RawOpening, RootCall, Shown};
-use root_rules::{EXIT_PERIOD, RESPONSE_WINDOW};
+use plasma_tx::{Answer, EXIT_PERIOD, Owner, RESPONSE_WINDOW, RawOpening, RootCall, Shown};
 
 // The calls: each is judged, and carried out where it is accepted.
 impl Contract {

@@ -1,8 +1,8 @@
 ghost use Rattle.std.specs.Prelude.{◌≡◌, ◌≢◌, [], true};
 ghost use Rattle.plasma_tx.specs.Chain.{with_log};
-ghost use Rattle.root_rules.specs.Shown.{tests_by, rules_of};
-ghost use Rattle.root_rules.specs.Money.{balance_of};
-ghost use Rattle.root_rules.specs.Table.{answer_to, log_after, IsLegal};
+ghost use Rattle.plasma_tx.specs.Shown.{tests_by, rules_of};
+ghost use Rattle.plasma_tx.specs.Money.{balance_of};
+ghost use Rattle.plasma_tx.specs.Table.{answer_to, log_after, IsLegal};
 ghost use Rattle.root_contract.specs.Judging.{Takes, may_want};
 
 use super::stop::{Stop, answer_of};
@@ -49,7 +49,7 @@ impl Contract {
     }
 
     /// The accepted calls, and what the contract was made with. Each was accepted after those before
-    /// it, so the laws of `root_rules` on such logs hold of it.
+    /// it, so the laws of the rules on such logs hold of it.
     pub fn log(&self) -> &RootLog
         ensures chain { result.now ≡ self.now }
         ensures legal { IsLegal (rules_of self.now) self.now.log }

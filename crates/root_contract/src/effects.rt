@@ -2,7 +2,7 @@ ghost use Rattle.std.specs.Prelude.{◌≡◌, ◌+◌, ◌-◌, ◌≤◌, ◌�
 ghost use Rattle.bond_ledger.specs.Ledger.{balance_in, held_in, funded_in, is_known, HasSums};
 ghost use Rattle.plasma_tx.specs.Chain.{with_log};
 ghost use Rattle.plasma_tx.specs.Views.{exits, exit_at, coin_at, is_withdrawn, without_exit, with_exit_changed, with_challenge, with_answer};
-ghost use Rattle.root_rules.specs.Money.{amount_of, moved, share_of, cancel_pays, exit_bonds, finish_pays, finish_releases};
+ghost use Rattle.plasma_tx.specs.Money.{amount_of, moved, share_of, cancel_pays, exit_bonds, finish_pays, finish_releases};
 ghost use Rattle.root_contract.specs.Exits.{as_exit, as_challenge, IsOpen, IsUnchallenged};
 ghost use Rattle.root_contract.specs.Changes.{Changes, IsAccepted, SameMoney};
 ghost use Rattle.root_contract.specs.Settling.{unpaid_of};
@@ -12,8 +12,7 @@ use super::settling::{cancel_exit, finish_exit};
 use bond_ledger::Ledger;
 use exit_game::{Challenge, Slot};
 use plasma_base::NoMemory;
-use plasma_tx::RootCall;
-use root_rules::{CHALLENGE_BOND, EXIT_BOND, MOST_MONEY, Movement};
+use plasma_tx::{CHALLENGE_BOND, EXIT_BOND, MOST_MONEY, Movement, RootCall};
 
 // Each of these carries out a call that is accepted: memory is taken first, so that what follows can't fail.
 impl Contract {

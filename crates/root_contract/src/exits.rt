@@ -1,17 +1,19 @@
 ghost use Rattle.std.specs.Prelude.{◌≡◌, ◌≢◌, Err, ◌+◌, ◌∷◌, [], true, Some, IfOk};
 ghost use Rattle.std.specs.Option.{option_map};
 ghost use Rattle.plasma_tx.specs.Views.{now, exit_at, challenge_at, owner_of};
-ghost use Rattle.root_rules.specs.Shown.{tests_by, rules_of, shown_tx, shown_owner};
-ghost use Rattle.root_rules.specs.Money.{challenge_of, answered_bond, moved};
-ghost use Rattle.root_rules.specs.Table.{decided, after_causes, between_causes, before_causes, respond_causes, finish_causes, finish_effect, is_accepted, where_exit, where_challenged};
+ghost use Rattle.plasma_tx.specs.Shown.{tests_by, rules_of, shown_tx, shown_owner};
+ghost use Rattle.plasma_tx.specs.Money.{challenge_of, answered_bond, moved};
+ghost use Rattle.plasma_tx.specs.Table.{decided, after_causes, between_causes, before_causes, respond_causes, finish_causes, finish_effect, is_accepted, where_exit, where_challenged};
 ghost use Rattle.root_contract.specs.Judging.{Judges};
 
 use super::contract::Contract;
 use super::stop::Stop;
 use super::views::{challenge_at, has_no_open_challenge};
 use plasma_base::Hash32;
-use plasma_tx::{Answer, Owner, RawOpening, Refusal, Shown};
-use root_rules::{CHALLENGE_BOND, CHALLENGE_WINDOW, EXIT_PERIOD, RESPONSE_WINDOW};
+use plasma_tx::{
+    Answer, CHALLENGE_BOND, CHALLENGE_WINDOW, EXIT_PERIOD, Owner, RESPONSE_WINDOW, RawOpening,
+    Refusal, Shown,
+};
 
 // Each of these finds the first cause by which a call on a standing exit is refused.
 impl Contract {

@@ -2,16 +2,15 @@ ghost use Rattle.std.specs.Prelude.{◌≡◌, ◌≢◌, Err, ◌+◌, ◌∷�
 ghost use Rattle.std.specs.Option.{option_map};
 ghost use Rattle.plasma_tx.specs.declared.answer.Answer.{Answer};
 ghost use Rattle.plasma_tx.specs.Views.{now, blocks, coins, coin_at, owner_of, owner_of_coin, owner_of_opening};
-ghost use Rattle.root_rules.specs.Shown.{tests_by, rules_of, shown_tx, shown_owner};
-ghost use Rattle.root_rules.specs.Table.{decided, fund_causes, tick_causes, deposit_causes, commit_causes, start_deposit_causes, start_spend_causes, where_coin};
+ghost use Rattle.plasma_tx.specs.Shown.{tests_by, rules_of, shown_tx, shown_owner};
+ghost use Rattle.plasma_tx.specs.Table.{decided, fund_causes, tick_causes, deposit_causes, commit_causes, start_deposit_causes, start_spend_causes, where_coin};
 ghost use Rattle.root_contract.specs.Judging.{Judges, spend_causes};
 
 use super::contract::Contract;
 use super::stop::Stop;
 use super::views::is_key;
 use plasma_base::Hash32;
-use plasma_tx::{Owner, RawOpening, Refusal, Shown};
-use root_rules::{EXIT_BOND, EXIT_PERIOD, LAST_TIME, MOST_MONEY};
+use plasma_tx::{EXIT_BOND, EXIT_PERIOD, LAST_TIME, MOST_MONEY, Owner, RawOpening, Refusal, Shown};
 
 /// Who owned a coin after the parent of an exit, and who after the exit's block.
 #[derive(Debug, Clone, Copy, PartialEq, Eq)]

@@ -1,5 +1,5 @@
 //! The root contract: it keeps the log of accepted calls and answers each further call by the rules of
-//! `root_rules`. Beside the log it keeps the standing exits and each account's money.
+//! `plasma_tx`. Beside the log it keeps the standing exits and each account's money.
 #![tactic(auto)]
 
 mod calls;

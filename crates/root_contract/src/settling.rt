@@ -3,13 +3,13 @@ ghost use Rattle.std.specs.Option.{option_map};
 ghost use Rattle.exit_game.specs.Slots.{slot_at, without_slot};
 ghost use Rattle.exit_game.specs.Games.{slots_in, HasSlots};
 ghost use Rattle.bond_ledger.specs.Ledger.{balance_in, held_in, funded_in, is_known, HasSums};
-ghost use Rattle.root_rules.specs.Money.{moved, share_of, cancel_pays, exit_bonds};
+ghost use Rattle.plasma_tx.specs.Money.{moved, share_of, cancel_pays, exit_bonds};
 ghost use Rattle.root_contract.specs.Exits.{as_exit};
 ghost use Rattle.root_contract.specs.Settling.{open_bonds, first_open, unpaid_amount, finish_paid, finish_released};
 
 use bond_ledger::Ledger;
 use exit_game::{Challenge, Game};
-use root_rules::{CHALLENGE_BOND, EXIT_BOND, Movement};
+use plasma_tx::{CHALLENGE_BOND, EXIT_BOND, Movement};
 
 /// Takes an exit out that is cancelled: its bond goes to the challenger, and each open challenge's bond goes
 /// back.

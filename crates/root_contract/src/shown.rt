@@ -1,6 +1,6 @@
 ghost use Rattle.std.specs.Prelude.{◌≡◌, IfOk, IfSome, is_some};
 ghost use Rattle.plasma_tx.specs.Openings.{leaf_in, opening_in};
-ghost use Rattle.root_rules.specs.Shown.{tests_by, rules_of, opens_root, shown_tx, shown_owner};
+ghost use Rattle.plasma_tx.specs.Shown.{tests_by, rules_of, opens_root, shown_tx, shown_owner};
 
 use super::contract::Contract;
 use plasma_base::{Hash32, NoMemory};

@@ -1,16 +1,15 @@
 ghost use Rattle.std.specs.Prelude.{◌≡◌, ◌^◌, ◌<◌, ◌≤◌, Some, IfSome};
 ghost use Rattle.std.specs.Option.{option_copied, option_map};
 ghost use Rattle.plasma_tx.specs.Views.{now, blocks, coins, coin_at, exit_at, challenge_at, has_no_open_challenge, is_withdrawn};
-ghost use Rattle.root_rules.specs.Shown.{rules_of, root_at};
-ghost use Rattle.root_rules.specs.Money.{balance_of, funded};
-ghost use Rattle.root_rules.specs.Table.{is_key, is_full, is_committed_between, is_committed_after, is_over, is_parent_of, is_before_parent};
+ghost use Rattle.plasma_tx.specs.Shown.{rules_of, root_at};
+ghost use Rattle.plasma_tx.specs.Money.{balance_of, funded};
+ghost use Rattle.plasma_tx.specs.Table.{is_key, is_full, is_committed_between, is_committed_after, is_over, is_parent_of, is_before_parent};
 ghost use Rattle.root_contract.specs.Exits.{as_challenge, as_exit, IsDated};
 
 use super::contract::Contract;
 use exit_game::{Challenge, Slot};
 use lms_sign::PublicKey;
-use plasma_tx::{BlockView, CoinView, Shown};
-use root_rules::{EXIT_PERIOD, LAST_TIME, MOST_MONEY};
+use plasma_tx::{BlockView, CoinView, EXIT_PERIOD, LAST_TIME, MOST_MONEY, Shown};
 
 // What the log, the game and the ledger say, for those that judge a call.
 impl Contract {

@@ -7,13 +7,13 @@ use Rattle.plasma_tx.specs.declared.owner.Owner.{Owner}
 use Rattle.plasma_tx.specs.declared.body.Body.{Body}
 use Rattle.plasma_tx.specs.declared.call.RootCall.{RootCall}
 use Rattle.coin_history.specs.declared.bundle.Bundle.{Bundle}
-use Rattle.root_rules.specs.Shown.{Tests, Rules}
+use Rattle.plasma_tx.specs.Shown.{Tests, Rules}
 use Rattle.world_rules.specs.Events.{Event, Declares, Joins, Bounces, Accepts, Guards, Releases, Binds, TakesBack, Watches, Leaves, Seals, Other, Idle, log_of}
 use Rattle.coin_verdicts.specs.declared.fact.Fact.{Fact}
 use Rattle.coin_verdicts.specs.Facts.{IsFact, AreFacts}
 use Rattle.trace_exhibits.specs.Lines.{accepts, joins, read_of}
-use Rattle.line_events.specs.declared.event.LineEvent.{LineEvent}
-use Rattle.line_events.specs.Events.{IsEvent, IsJoin, IsWatch}
+use Rattle.run_trace.specs.declared.event.LineEvent.{LineEvent}
+use Rattle.run_trace.specs.Events.{IsEvent, IsJoin, IsWatch}
 use Rattle.run_trace.specs.declared.mark.Mark.{Mark}
 use Rattle.run_trace.specs.Marks.{declares, binds, joined, shows, event_of, IsWithin, AreMarks}
 use Rattle.run_trace.specs.Traces.{TraceState, kept_with, Tells}

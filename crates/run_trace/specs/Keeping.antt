@@ -2,7 +2,7 @@
 use Rattle.std.specs.Prelude.{◌≡◌, ◌⊎◌, ℕ, List, [], ◌∷◌, ◌++◌, length, Some}
 use Rattle.std.specs.List.{slice_get}
 use Rattle.coin_history.specs.declared.bundle.Bundle.{Bundle}
-use Rattle.line_events.specs.declared.event.LineEvent.{LineEvent}
+use Rattle.run_trace.specs.declared.event.LineEvent.{LineEvent}
 use Rattle.trace_exhibits.specs.Lines.{accepts}
 use Rattle.run_trace.specs.declared.mark.Mark.{Mark}
 use Rattle.run_trace.specs.Traces.{TraceState}

@@ -1,3 +1,9 @@
+pub mod Asked
+pub mod Deadlines
+pub mod Events
+pub mod Orders
+pub mod Reading
+pub mod Told
 pub mod Keeping
 pub mod Marks
 pub mod Meetings

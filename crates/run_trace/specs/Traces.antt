@@ -4,7 +4,7 @@ use Rattle.plasma_tx.specs.declared.owner.Owner.{Owner}
 use Rattle.plasma_tx.specs.declared.body.Body.{Body}
 use Rattle.plasma_tx.specs.declared.call.RootCall.{RootCall}
 use Rattle.coin_history.specs.declared.bundle.Bundle.{Bundle}
-use Rattle.root_rules.specs.Shown.{Tests, Rules}
+use Rattle.plasma_tx.specs.Shown.{Tests, Rules}
 use Rattle.world_rules.specs.Events.{Event, log_of}
 use Rattle.coin_verdicts.specs.declared.fact.Fact.{Fact}
 use Rattle.coin_verdicts.specs.Facts.{AreFacts}

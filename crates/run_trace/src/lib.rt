@@ -1,10 +1,25 @@
 //! What is kept of the lines of a run: of each line what its verdicts and its exhibit need, and no mail item twice.
 #![tactic(auto)]
 
+mod asked;
+mod deadlines;
+mod event;
 mod exhibiting;
+mod fact;
+mod given;
+mod kept;
 mod mark;
+mod offered;
+mod reading;
 mod shown;
+mod told;
 mod trace;
 
+pub use asked::fact_asked;
+pub use event::LineEvent;
+pub use fact::{event_of_call, fact_of};
+pub use given::{event_of_finished, event_of_given};
+pub use kept::event_of_stopped;
 pub use mark::Mark;
+pub use told::fact_told;
 pub use trace::Trace;

@@ -9,8 +9,8 @@ use Rattle.node_rules.specs.declared.refusal.WalletRefusal.{WalletRefusal}
 use Rattle.wallet_node.specs.State.{WalletState, notes_part, leaves_part, stop_in, DidNote, DidLeaf}
 use Rattle.world_rules.specs.Causes.{wallet_cause}
 use Rattle.world_rules.specs.Deeds.{Gives, answered}
-use Rattle.world_trace.specs.declared.given.Given.{Given}
-use Rattle.world_trace.specs.Given.{IsGiven}
+use Rattle.world_rules.specs.declared.given.Given.{Given}
+use Rattle.world_rules.specs.Given.{IsGiven}
 use Rattle.wallet_deeds.specs.Orders.{DidEither}
 use Rattle.wallet_deeds.specs.Inside.{HandsOn}
 

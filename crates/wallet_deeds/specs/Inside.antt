@@ -3,8 +3,8 @@ use Rattle.std.specs.Prelude.{◌≡◌, ℕ, List, Option, Some, None, Result, 
 use Rattle.node_journal.specs.declared.stop.Stop.{Stop}
 use Rattle.node_journal.specs.declared.stop.Stop.TheVariants.{NoMemory}
 use Rattle.world_rules.specs.Deeds.{refused}
-use Rattle.world_trace.specs.declared.given.Given.{Given}
-use Rattle.world_trace.specs.Given.{IsGiven}
+use Rattle.world_rules.specs.declared.given.Given.{Given}
+use Rattle.world_rules.specs.Given.{IsGiven}
 
 -- what stopped it is handed on; where nothing did, the text of its cause is given out, or finds no memory
 abbrev pub HandsOn : Option Stop → List ℕ → Result Given Stop → Type 0

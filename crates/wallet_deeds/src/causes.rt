@@ -6,7 +6,7 @@ ghost use Rattle.wallet_deeds.specs.Inside.{HandsOn};
 use node_journal::Stop;
 use node_rules::WalletRefusal;
 use std::alloc::Global;
-use world_trace::{Given, refused, wallet_cause};
+use world_rules::{Given, refused, wallet_cause};
 
 // What stopped a command that was refused for this.
 fn stop_in(why: &WalletRefusal) -> Option<Stop>

@@ -2,7 +2,7 @@ ghost use Rattle.std.specs.Prelude.{◌≡◌, ℕ, false, None, IfOk};
 ghost use Rattle.node_journal.specs.Notes.{stopped_by};
 ghost use Rattle.node_rules.specs.Wallet.{send_effect};
 ghost use Rattle.wallet_node.specs.State.{wallet_stop, DidLeaf};
-ghost use Rattle.world_trace.specs.Given.{IsGiven};
+ghost use Rattle.world_rules.specs.Given.{IsGiven};
 ghost use Rattle.wallet_deeds.specs.Orders.{again_deed, migrate_deed, order_deed, Does};
 
 use super::causes::refuse;
@@ -14,8 +14,7 @@ use plasma_base::Hash32;
 use plasma_tx::{Owner, RootLog};
 use std::alloc::Global;
 use wallet_node::WalletNode;
-use world_rules::Reply;
-use world_trace::{Given, makes, says};
+use world_rules::{Given, Reply, makes, says};
 
 // Sends a coin, with a last block or without one.
 fn sent<D: Disk, H: Hash32 + Copy>(

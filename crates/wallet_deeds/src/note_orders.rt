@@ -1,7 +1,7 @@
 ghost use Rattle.std.specs.Prelude.{◌≡◌, ℕ, false, IfOk};
 ghost use Rattle.node_journal.specs.Notes.{stopped_by};
 ghost use Rattle.world_rules.specs.Deeds.{exit_block};
-ghost use Rattle.world_trace.specs.Given.{IsGiven};
+ghost use Rattle.world_rules.specs.Given.{IsGiven};
 ghost use Rattle.wallet_deeds.specs.Orders.{order_deed, Does};
 
 use super::causes::refuse;
@@ -13,8 +13,7 @@ use plasma_base::Hash32;
 use plasma_tx::{RootCall, RootLog};
 use std::alloc::Global;
 use wallet_node::WalletNode;
-use world_rules::Reply;
-use world_trace::{Given, offer_kinds, offers, says};
+use world_rules::{Given, Reply, offer_kinds, offers, says};
 
 // Takes a coin up by its history.
 pub fn accept<D: Disk, H: Hash32 + Copy>(

@@ -1,6 +1,6 @@
 ghost use Rattle.std.specs.Prelude.{◌≡◌, ℕ, false, IfOk};
 ghost use Rattle.node_journal.specs.Notes.{stopped_by};
-ghost use Rattle.world_trace.specs.Given.{IsGiven};
+ghost use Rattle.world_rules.specs.Given.{IsGiven};
 ghost use Rattle.wallet_deeds.specs.Orders.{order_deed, Does};
 
 use super::leaf_orders::{again, migrate, send};
@@ -12,7 +12,7 @@ use plasma_base::Hash32;
 use plasma_tx::RootLog;
 use std::alloc::Global;
 use wallet_node::WalletNode;
-use world_trace::Given;
+use world_rules::Given;
 
 /// Runs an order on a wallet that no fault closed, with the log of the root chain, and gives out its answer, the
 /// bytes that it makes and the calls that it offers. A refusal of the wallet is such an answer, by the text of its

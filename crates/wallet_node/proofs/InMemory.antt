@@ -7,8 +7,8 @@ use Rattle.std.proofs.lemmas.List.{map-append, take_more}
 use Rattle.plasma_tx.specs.declared.owner.Owner.{Owner}
 use Rattle.coin_history.specs.declared.bundle.Bundle.{Bundle}
 use Rattle.wallet_core.specs.declared.notes.Notes.{Notes}
-use Rattle.kept_coins.specs.declared.kept_coin.KeptCoin.{KeptCoin}
-use Rattle.kept_coins.specs.KeptCoins.{kept_coin_of}
+use Rattle.node_rules.specs.declared.kept_coin.KeptCoin.{KeptCoin}
+use Rattle.node_rules.specs.KeptCoins.{kept_coin_of}
 use Rattle.node_journal.specs.Role.{are_of}
 use Rattle.node_rules.specs.WalletRecords.{Note, Accepts, LeavesWith, Reclaims, note_in, notes_of, accepted_of, state_notes, owner_of, who_is, wallet_kinds}
 use Rattle.node_rules.proofs.OneMore.{reverse-grow}

@@ -3,7 +3,7 @@ use Rattle.std.proofs.Common.{◌≡◌, ◌<◌, ◌^◌, ℕ, ◌==◌, Bool, 
 use Rattle.std.specs.Option.{option_map}
 use Rattle.plasma_tx.specs.declared.links.Link.{Link}
 use Rattle.plasma_tx.specs.declared.links.Links.{Links}
-use Rattle.kept_coins.specs.KeptCoins.{IsShown}
+use Rattle.node_rules.specs.KeptCoins.{IsShown}
 use Rattle.node_rules.specs.Kept.{kept_of}
 use Rattle.node_rules.specs.WalletRecords.{Note, Accepts, LeavesWith, Reclaims, note_text, note_in, accepts}
 use Rattle.node_rules.proofs.WalletTexts.{note_in-text}

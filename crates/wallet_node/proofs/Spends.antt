@@ -7,8 +7,8 @@ use Rattle.std.proofs.lemmas.Bool.Decides.{nat_tests}
 use Rattle.plasma_tx.specs.declared.links.Link.{Link}
 use Rattle.coin_history.specs.declared.bundle.Bundle.{Bundle}
 use Rattle.coin_history.specs.History.{links_in}
-use Rattle.kept_coins.specs.declared.kept_coin.KeptCoin.{KeptCoin}
-use Rattle.kept_coins.specs.KeptCoins.{kept_coin_of}
+use Rattle.node_rules.specs.declared.kept_coin.KeptCoin.{KeptCoin}
+use Rattle.node_rules.specs.KeptCoins.{kept_coin_of}
 use Rattle.watch_duty.specs.Duty.{due_for, due_of, guard_of}
 use Rattle.wallet_core.specs.declared.coin_state.CoinState.{CoinState}
 use Rattle.wallet_core.specs.declared.coin_state.CoinState.TheVariants.{Nothing, Sending, Leaving, Held}

@@ -27,8 +27,8 @@ use Rattle.leaf_journal.specs.declared.refusal.MigrateRefusal.{MigrateRefusal}
 use Rattle.leaf_journal.specs.declared.refusal.MigrateRefusal.TheVariants.{AlreadyNew as IsNew, DeviceFault as MigrateFault, Closed as MigrateClosed}
 use Rattle.wallet_core.specs.declared.notes.LeafRecord.{LeafRecord}
 use Rattle.wallet_core.specs.declared.notes.Notes.{Notes}
-use Rattle.kept_coins.specs.declared.kept_coin.KeptCoin.{KeptCoin}
-use Rattle.kept_coins.specs.KeptCoins.{kept_coin_of}
+use Rattle.node_rules.specs.declared.kept_coin.KeptCoin.{KeptCoin}
+use Rattle.node_rules.specs.KeptCoins.{kept_coin_of}
 use Rattle.node_rules.specs.declared.identity.WalletIdentity.{WalletIdentity}
 use Rattle.node_rules.specs.declared.refusal.WalletRefusal.{WalletRefusal}
 use Rattle.node_rules.specs.declared.refusal.WalletRefusal.TheVariants.{History, NoMemory, KeySpent, DeviceFault, Closed, AlreadyNew}

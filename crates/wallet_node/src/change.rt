@@ -1,4 +1,4 @@
-use kept_coins::KeptCoin;
+use node_rules::KeptCoin;
 
 // What a note changes: a coin is taken up, a coin is left with, or a leaf's transfer is taken back.
 #[derive(Drop)]

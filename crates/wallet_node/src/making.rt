@@ -1,14 +1,13 @@
 ghost use Rattle.std.specs.Prelude.{◌≡◌, ◌≤◌, ◌+◌, ◌++◌, ◌∷◌, [], true, false, length, take, OnOk};
 ghost use Rattle.crash_disk.specs.Calls.{WhereTold};
-ghost use Rattle.gate_journal.specs.Journal.{IsSettled};
+ghost use Rattle.node_journal.specs.Journal.{IsSettled};
 ghost use Rattle.node_journal.specs.Begin.{BeginsPair};
 ghost use Rattle.lms_sign.specs.Types.{is_supported};
 ghost use Rattle.node_rules.specs.WalletRecords.{is_first, common_text, identity_text};
 
 use super::records::is_first;
 use crash_disk::Disk;
-use gate_journal::InitRefusal;
-use node_journal::begin_pair;
+use node_journal::{InitRefusal, begin_pair};
 use node_rules::WalletIdentity;
 use std::alloc::Global;
 

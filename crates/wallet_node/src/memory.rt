@@ -5,7 +5,7 @@ ghost use Rattle.std.specs.BTreeSet.{insert_key};
 ghost use Rattle.wallet_node.specs.Inside.{changed, undone, is_kept_at};
 
 use super::change::Change;
-use kept_coins::KeptCoin;
+use node_rules::KeptCoin;
 use plasma_base::NoMemory;
 use plasma_tx::Owner;
 use std::alloc::Global;

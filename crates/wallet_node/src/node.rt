@@ -1,6 +1,6 @@
 ghost use Rattle.std.specs.Prelude.{◌≡◌, ◌-◌, true, false, length};
 ghost use Rattle.crash_disk.specs.Calls.{WhereTold};
-ghost use Rattle.gate_journal.specs.Journal.{IsSettled};
+ghost use Rattle.node_journal.specs.Journal.{IsSettled};
 ghost use Rattle.leaf_journal.specs.Records.{messages_of};
 ghost use Rattle.node_rules.specs.WalletRecords.{owner_of, secret_of};
 ghost use Rattle.node_rules.specs.Wallet.{who, coin_state};

@@ -3,7 +3,7 @@ ghost use Rattle.node_rules.specs.Kept.{kept_of};
 ghost use Rattle.node_rules.specs.WalletRecords.{Note, note_text};
 ghost use Rattle.coin_history.specs.Bundles.{IsBundle};
 
-use kept_coins::kept_text;
+use node_rules::kept_text;
 use plasma_base::{Bytes, NoMemory, put_u32, put_u64};
 use plasma_tx::Links;
 use std::alloc::Global;

@@ -12,7 +12,7 @@ use super::memory::Memory;
 use super::records::read_note;
 use super::role::body_of;
 use crash_disk::Disk;
-use gate_journal::JournalRefusal;
+use node_journal::JournalRefusal;
 use leaf_journal::Leaves;
 use plasma_base::{Bytes, Hash32, NoMemory};
 use plasma_tx::Owner;

@@ -21,14 +21,14 @@ use Rattle.plasma_tx.specs.Links.{last_spend, tip_of}
 use Rattle.plasma_tx.specs.Openings.{leaf_in}
 use Rattle.plasma_tx.specs.Transfer.{transfer_in}
 use Rattle.plasma_tx.specs.Views.{now, coins, coin_at, new_coin, Challenge, Exit, is_exit, exits, exit_at, exits_of, exit_view, challenge_view, challenge_at}
-use Rattle.root_rules.specs.declared.TheConstants.{CHALLENGE_WINDOW, RESPONSE_WINDOW, CHALLENGE_BOND}
-use Rattle.root_rules.specs.Shown.{Tests, Rules, root_at}
-use Rattle.root_rules.specs.Table.{answer_to, is_accepted, is_before_parent}
-use Rattle.root_rules.specs.Money.{balance_of}
-use Rattle.root_rules.specs.Accepted.{ShowsTx, CancelsAfter, CancelsBetween, Challenges, Responds}
-use Rattle.root_rules.proofs.Acceptance.{transfers_are_shown, shown_calls_are_accepted}
-use Rattle.root_rules.proofs.Each.{some_same}
-use Rattle.root_rules.proofs.Names.{exits-distinct, challenged-once, is_at}
+use Rattle.plasma_tx.specs.declared.rules.TheConstants.{CHALLENGE_WINDOW, RESPONSE_WINDOW, CHALLENGE_BOND}
+use Rattle.plasma_tx.specs.Shown.{Tests, Rules, root_at}
+use Rattle.plasma_tx.specs.Table.{answer_to, is_accepted, is_before_parent}
+use Rattle.plasma_tx.specs.Money.{balance_of}
+use Rattle.plasma_tx.specs.Accepted.{ShowsTx, CancelsAfter, CancelsBetween, Challenges, Responds}
+use Rattle.plasma_tx.proofs.Acceptance.{transfers_are_shown, shown_calls_are_accepted}
+use Rattle.plasma_tx.proofs.Each.{some_same}
+use Rattle.plasma_tx.proofs.RuleNames.{exits-distinct, challenged-once, is_at}
 use Rattle.coin_history.specs.declared.bundle.Bundle.{Bundle}
 use Rattle.coin_history.specs.History.{opens_block, links_in, links_of, AreLinked}
 use Rattle.coin_history.proofs.HistoryLinks.{tip_from, tip-is}

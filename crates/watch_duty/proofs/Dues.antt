@@ -13,8 +13,8 @@ use Rattle.plasma_tx.specs.declared.views.ExitView.{ExitView}
 use Rattle.plasma_tx.specs.ChallengeLists.{is_challenged}
 use Rattle.plasma_tx.specs.Links.{tip_of}
 use Rattle.plasma_tx.specs.Views.{now}
-use Rattle.root_rules.specs.declared.TheConstants.{CHALLENGE_WINDOW, RESPONSE_WINDOW}
-use Rattle.root_rules.specs.Table.{is_over}
+use Rattle.plasma_tx.specs.declared.rules.TheConstants.{CHALLENGE_WINDOW, RESPONSE_WINDOW}
+use Rattle.plasma_tx.specs.Table.{is_over}
 use Rattle.watch_duty.specs.Duty.{link_after, tip_shown, within, old_owner, second_spend, planted_parent, answer, answers, due_for}
 use Rattle.watch_duty.proofs.Members.{Has, has-flat_map}
 

@@ -8,9 +8,9 @@ use Rattle.plasma_tx.specs.declared.opening.RawOpening.{RawOpening}
 use Rattle.plasma_tx.specs.declared.signed_tx.SignedTx.{SignedTx}
 use Rattle.plasma_tx.specs.declared.links.Link.{Link}
 use Rattle.plasma_tx.specs.declared.call.RootCall.{RootCall}
-use Rattle.root_rules.specs.Shown.{Tests, Rules, root_at}
-use Rattle.root_rules.specs.Accepted.{ShowsTx}
-use Rattle.root_rules.proofs.Each.{some_same}
+use Rattle.plasma_tx.specs.Shown.{Tests, Rules, root_at}
+use Rattle.plasma_tx.specs.Accepted.{ShowsTx}
+use Rattle.plasma_tx.proofs.Each.{some_same}
 use Rattle.coin_history.specs.History.{opens_block, transfer_of, links_in, AreLinked}
 use Rattle.coin_history.proofs.HistoryLinks.{tip_from, with_tx}
 use Rattle.watch_duty.specs.Duty.{next_link}

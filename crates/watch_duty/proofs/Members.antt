@@ -2,7 +2,7 @@
 use Rattle.std.proofs.Common.{◌≡◌, ◌⊎◌, ℕ, zero, suc, ◌+◌, ◌<◌, ◌≤◌, cond, ◌||◌, Bool, true, false, if◌then◌else◌, List, [], ◌∷◌, ◌++◌, length, get_or, map, filter, find, Some, None, inl, inr, refl, sym, ap, ◌∙◌, subst, arith}
 use Rattle.std.specs.List.{AllByRecursion, Contains, flat_map, list_any}
 use Rattle.std.proofs.lemmas.Bool.{or_left, or_right, true≢false}
-use Rattle.root_rules.proofs.Names.{one_if, count}
+use Rattle.plasma_tx.proofs.RuleNames.{one_if, count}
 
 -- the list has the item
 abbrev pub Has : {X : Type 0} → List X → X → Type 0

@@ -16,12 +16,12 @@ use Rattle.plasma_tx.specs.declared.views.CoinView.{CoinView}
 use Rattle.plasma_tx.specs.Openings.{leaf_in}
 use Rattle.plasma_tx.specs.Views.{Challenge, Exit, coin_at, block_of, owner_of, owner_of_coin, owner_of_opening, is_exit, deposit_exit, spend_exit, exits, exit_at, with_exit_changed, with_answer_at, with_challenge, new_challenge, challenge_at}
 use Rattle.plasma_tx.proofs.Leaves.{recipient-named}
-use Rattle.root_rules.specs.Shown.{Tests, Rules, root_at, shown_tx, shown_owner}
-use Rattle.root_rules.specs.Table.{is_before_parent, is_parent_of}
-use Rattle.root_rules.specs.Accepted.{ShowsTx, StartsDeposit, StartsSpend, Challenges}
-use Rattle.root_rules.proofs.Accepted.{openings_show, accepted_calls_show}
-use Rattle.root_rules.proofs.Each.{some_same, all-append, all-map, all-weaker, each-exit}
-use Rattle.root_rules.proofs.Names.{exits-distinct}
+use Rattle.plasma_tx.specs.Shown.{Tests, Rules, root_at, shown_tx, shown_owner}
+use Rattle.plasma_tx.specs.Table.{is_before_parent, is_parent_of}
+use Rattle.plasma_tx.specs.Accepted.{ShowsTx, StartsDeposit, StartsSpend, Challenges}
+use Rattle.plasma_tx.proofs.Accepted.{openings_show, accepted_calls_show}
+use Rattle.plasma_tx.proofs.Each.{some_same, all-append, all-map, all-weaker, each-exit}
+use Rattle.plasma_tx.proofs.RuleNames.{exits-distinct}
 use Rattle.coin_history.proofs.HistoryGrow.{root_at-grown, committed-le, coin_at-grown}
 use Rattle.watch_duty.specs.Laws.{IsLegalBy, shown_openings, openings_of_call}
 use Rattle.watch_duty.proofs.Members.{Has, has-left, has-right, only-found}

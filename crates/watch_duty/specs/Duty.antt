@@ -16,8 +16,8 @@ use Rattle.plasma_tx.specs.ChallengeLists.{is_challenged}
 use Rattle.plasma_tx.specs.Links.{last_spend, tip_of}
 use Rattle.plasma_tx.specs.Transfer.{nobody}
 use Rattle.plasma_tx.specs.Views.{exits_of}
-use Rattle.root_rules.specs.declared.TheConstants.{CHALLENGE_WINDOW, RESPONSE_WINDOW}
-use Rattle.root_rules.specs.Table.{is_over}
+use Rattle.plasma_tx.specs.declared.rules.TheConstants.{CHALLENGE_WINDOW, RESPONSE_WINDOW}
+use Rattle.plasma_tx.specs.Table.{is_over}
 use Rattle.watch_duty.specs.declared.guard.Guard.{Guard}
 
 -- ---- a guard's links

@@ -9,10 +9,10 @@ use Rattle.plasma_tx.specs.declared.call.RootCall.{RootCall}
 use Rattle.plasma_tx.specs.declared.call.RootCall.TheVariants.{StartSpend, After, Between, Before, Respond}
 use Rattle.plasma_tx.specs.declared.views.ExitView.{ExitView}
 use Rattle.plasma_tx.specs.Views.{exits_of}
-use Rattle.root_rules.specs.declared.TheConstants.{CHALLENGE_BOND}
-use Rattle.root_rules.specs.Shown.{Tests, Rules, root_at}
-use Rattle.root_rules.specs.Table.{answer_to, is_accepted}
-use Rattle.root_rules.specs.Money.{balance_of}
+use Rattle.plasma_tx.specs.declared.rules.TheConstants.{CHALLENGE_BOND}
+use Rattle.plasma_tx.specs.Shown.{Tests, Rules, root_at}
+use Rattle.plasma_tx.specs.Table.{answer_to, is_accepted}
+use Rattle.plasma_tx.specs.Money.{balance_of}
 use Rattle.coin_history.specs.declared.bundle.Bundle.{Bundle}
 use Rattle.coin_history.specs.History.{leaf_of_opening, IsHistory}
 use Rattle.watch_duty.specs.declared.guard.Guard.{Guard}

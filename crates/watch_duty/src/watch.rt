@@ -2,13 +2,12 @@ ghost use Rattle.std.specs.Prelude.{◌≡◌, ◌++◌, IfOk, OnOk};
 ghost use Rattle.std.specs.Option.{option_copied};
 ghost use Rattle.plasma_tx.specs.ChallengeLists.{is_challenged};
 ghost use Rattle.plasma_tx.specs.Links.{tip_of};
-ghost use Rattle.root_rules.specs.Table.{is_over};
+ghost use Rattle.plasma_tx.specs.Table.{is_over};
 ghost use Rattle.watch_duty.specs.Duty.{next_link, link_after, tip_shown, old_owner, second_spend, planted_parent, answer, answers, due_for, due_of};
 ghost use Rattle.watch_duty.specs.Watches.{log_of, links_of, guard_in, IsTried};
 
 use plasma_base::NoMemory;
-use plasma_tx::{ChallengeView, ExitView, Link, RootCall, RootLog, Shown};
-use root_rules::{CHALLENGE_WINDOW, RESPONSE_WINDOW};
+use plasma_tx::{CHALLENGE_WINDOW, ChallengeView, ExitView, Link, RESPONSE_WINDOW, RootCall, RootLog, Shown};
 use std::alloc::Global;
 
 // A coin that is watched under a log, with its deposit block and its links, for the account that enters

@@ -13,8 +13,8 @@ use Rattle.node_rules.specs.declared.refusal.WatcherRefusal.{WatcherRefusal}
 use Rattle.node_rules.specs.Kept.{links_handed}
 use Rattle.node_rules.specs.Watcher.{Released, note_text, guard_taken, guard_by, guard_causes, guard_effect, release_effect, guards_in, is_of, who_is}
 use Rattle.world_rules.specs.Deeds.{Gives, answered, refused}
-use Rattle.world_trace.specs.declared.given.Given.{Given}
-use Rattle.world_trace.specs.Given.{IsGiven}
+use Rattle.world_rules.specs.declared.given.Given.{Given}
+use Rattle.world_rules.specs.Given.{IsGiven}
 
 -- a refusal adds no record where the answer that is taken is none
 unless-refused : {A E : Type 0} (cause : Option E) (effect : Effect (Result A E)) (answer : A) (why : E)

@@ -5,7 +5,7 @@ ghost use Rattle.watcher_node.specs.State.{stop_in};
 ghost use Rattle.world_rules.specs.Causes.{watcher_cause};
 ghost use Rattle.node_rules.specs.Watcher.{guard_effect, release_effect, watch_answer};
 ghost use Rattle.world_rules.specs.Deeds.{refused, answered, on_guarded, on_released, on_watch};
-ghost use Rattle.world_trace.specs.Given.{IsGiven};
+ghost use Rattle.world_rules.specs.Given.{IsGiven};
 ghost use Rattle.watcher_deeds.specs.Orders.{order_deed};
 
 use super::order::WatcherOrder;
@@ -16,8 +16,7 @@ use plasma_base::Hash32;
 use plasma_tx::RootLog;
 use std::alloc::Global;
 use watcher_node::WatcherNode;
-use world_rules::Reply;
-use world_trace::{Given, offer_kinds, offers, refused, says, watcher_cause};
+use world_rules::{Given, Reply, offer_kinds, offers, refused, says, watcher_cause};
 
 // What stopped a command that was refused for this, if anything did.
 fn stop_in(why: &WatcherRefusal) -> Option<Stop>

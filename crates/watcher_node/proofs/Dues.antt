@@ -8,10 +8,10 @@ use Rattle.plasma_tx.specs.declared.views.CoinView.{CoinView}
 use Rattle.plasma_tx.specs.Views.{coin_at}
 use Rattle.coin_history.specs.declared.bundle.Bundle.{Bundle}
 use Rattle.node_rules.specs.Watcher.{who_is, notes_of, guards_of, due_for_kept, watch_answer}
-use Rattle.kept_coins.specs.declared.kept_coin.KeptCoin.{KeptCoin}
+use Rattle.node_rules.specs.declared.kept_coin.KeptCoin.{KeptCoin}
 use Rattle.watcher_node.specs.Inside.{watched_in, AreKeyed}
 use Rattle.watcher_node.proofs.Order.{values-keyed}
-use Rattle.kept_coins.specs.KeptCoins.{kept_coin_of, due_for_coin}
+use Rattle.node_rules.specs.KeptCoins.{kept_coin_of, due_for_coin}
 
 -- a kept coin and its guard have the same dues
 due-same : (tag : List ℕ) (log : List RootCall) (account : ℕ) (kept : Bundle)

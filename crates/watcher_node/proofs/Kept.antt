@@ -8,7 +8,7 @@ use Rattle.node_journal.specs.Notes.{NotesState, Did}
 use Rattle.node_journal.specs.declared.stop.Stop.{Stop}
 use Rattle.node_journal.specs.declared.stop.Stop.TheVariants.{Closed, NoMemory, DeviceFault}
 use Rattle.node_rules.specs.Watcher.{WatcherIdentity, Note, identity_in, note_in, watcher_kinds, who_is, notes_of}
-use Rattle.kept_coins.specs.declared.kept_coin.KeptCoin.{KeptCoin}
+use Rattle.node_rules.specs.declared.kept_coin.KeptCoin.{KeptCoin}
 use Rattle.watcher_node.specs.declared.watched.Change.{Change}
 use Rattle.watcher_node.specs.Inside.{change_of, changed, watched_in, keyed, AreKeyed, IsKept}
 use Rattle.node_rules.proofs.WatcherRole.{note-keeps, note-adds}

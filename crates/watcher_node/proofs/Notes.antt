@@ -4,7 +4,7 @@ use Rattle.std.specs.Option.{option_map}
 use Rattle.plasma_tx.specs.declared.links.Link.{Link}
 use Rattle.plasma_tx.specs.declared.links.Links.{Links}
 use Rattle.plasma_tx.specs.Links.{tip_of}
-use Rattle.kept_coins.specs.KeptCoins.{IsShown}
+use Rattle.node_rules.specs.KeptCoins.{IsShown}
 use Rattle.node_rules.specs.Kept.{kept_of}
 use Rattle.node_rules.specs.Watcher.{Guarded, Released, note_text, note_in, guarded}
 use Rattle.node_rules.proofs.WatcherTexts.{note_in-text}

@@ -8,7 +8,7 @@ use Rattle.coin_history.specs.declared.bundle.Bundle.{Bundle}
 use Rattle.node_rules.specs.Watcher.{Note, Guarded, Released, is_of, is_before, with_guard, note_in, guards_of}
 use Rattle.node_rules.proofs.OneMore.{reverse-grow}
 use Rattle.watcher_node.specs.Inside.{change_of, is_watched_at, comes_before, with_watched, changed, changed_by, watched_in}
-use Rattle.kept_coins.specs.KeptCoins.{kept_coin_of}
+use Rattle.node_rules.specs.KeptCoins.{kept_coin_of}
 
 filter-map : {X Y : Type 0} (f : X → Y) (p : Y → Bool) (xs : List X)
     → filter p (map f xs) ≡ map f (filter (λ x. p (f x)) xs)

@@ -8,8 +8,8 @@ use Rattle.coin_history.specs.declared.refusal.HistoryRefusal.TheVariants.{NoMem
 use Rattle.node_rules.specs.Watcher.{Note, Guarded, Released, who_is, notes_of, guards_of}
 use Rattle.node_rules.specs.declared.refusal.WatcherRefusal.{WatcherRefusal}
 use Rattle.node_rules.specs.declared.refusal.WatcherRefusal.TheVariants.{History, NoMemory}
-use Rattle.kept_coins.specs.declared.kept_coin.KeptCoin.{KeptCoin}
-use Rattle.kept_coins.specs.KeptCoins.{kept_coin_of}
+use Rattle.node_rules.specs.declared.kept_coin.KeptCoin.{KeptCoin}
+use Rattle.node_rules.specs.KeptCoins.{kept_coin_of}
 use Rattle.watcher_node.specs.declared.watched.Change.{Change}
 use Rattle.watcher_node.specs.declared.watched.Change.TheVariants.{Guards, Releases}
 

@@ -1,7 +1,7 @@
 ghost use Rattle.std.specs.Prelude.{◌≡◌, ◌≢◌, ◌≤◌, false, length, Some, None, Ok, Err, IfOk, IfSome};
 ghost use Rattle.std.specs.Option.{option_map};
 ghost use Rattle.std.specs.List.{list_any};
-ghost use Rattle.gate_journal.specs.Image.{most};
+ghost use Rattle.node_journal.specs.Image.{most};
 ghost use Rattle.node_journal.specs.Effect.{first_cause};
 ghost use Rattle.node_journal.specs.Notes.{Did, stopped_by};
 ghost use Rattle.node_rules.specs.Kept.{kept_of, links_handed};
@@ -9,7 +9,7 @@ ghost use Rattle.node_rules.specs.Watcher.{Note, Released, note_text, who_is, no
 ghost use Rattle.watcher_node.specs.declared.watched.Change.{Change};
 ghost use Rattle.watcher_node.specs.State.{stop_in, watcher_stop};
 ghost use Rattle.watcher_node.specs.Inside.{change_of, history_refusal};
-ghost use Rattle.kept_coins.specs.KeptCoins.{IsShown};
+ghost use Rattle.node_rules.specs.KeptCoins.{IsShown};
 ghost use Rattle.coin_history.specs.Bundles.{IsBundle};
 
 use super::bundles::{guarded_note, released_note};
@@ -17,9 +17,8 @@ use super::node::WatcherNode;
 use super::watched::{insert_guard, remove_guard};
 use coin_history::HistoryRefusal;
 use crash_disk::Disk;
-use kept_coins::{KeptCoin, links_handed};
+use node_rules::{Accepted, KeptCoin, WatcherRefusal, links_handed};
 use node_journal::Stop;
-use node_rules::{Accepted, WatcherRefusal};
 use plasma_base::{Bytes, Hash32};
 use plasma_tx::{Links, RootLog};
 

@@ -2,11 +2,11 @@ ghost use Rattle.std.specs.Prelude.{◌≡◌, ◌++◌, IfOk, OnOk, OnErr};
 ghost use Rattle.std.specs.List.{flat_map};
 ghost use Rattle.std.specs.BTreeMap.{values};
 ghost use Rattle.node_rules.specs.Watcher.{watch_answer};
-ghost use Rattle.kept_coins.specs.KeptCoins.{due_for_coin};
+ghost use Rattle.node_rules.specs.KeptCoins.{due_for_coin};
 
 use super::node::WatcherNode;
 use crash_disk::Disk;
-use kept_coins::{KeptCoin, push_due_for};
+use node_rules::{KeptCoin, push_due_for};
 use plasma_base::{Hash32, NoMemory};
 use plasma_tx::{RootCall, RootLog};
 use std::alloc::Global;

@@ -1,13 +1,12 @@
 ghost use Rattle.std.specs.Prelude.{◌≡◌, ◌≤◌, ◌+◌, ◌++◌, ◌∷◌, [], length, take, OnOk};
 ghost use Rattle.plasma_base.specs.Causes.{faults_after};
 ghost use Rattle.crash_disk.specs.Calls.{WhereTold};
-ghost use Rattle.gate_journal.specs.Journal.{IsSettled};
+ghost use Rattle.node_journal.specs.Journal.{IsSettled};
 ghost use Rattle.node_journal.specs.Begin.{init_steps, Inits, is_init_fault};
 ghost use Rattle.node_rules.specs.Watcher.{identity_text};
 
 use crash_disk::Disk;
-use gate_journal::InitRefusal;
-use node_journal::begin;
+use node_journal::{InitRefusal, begin};
 use std::alloc::Global;
 
 // Writes the bytes at a place, after which those from there on are free.

@@ -2,12 +2,12 @@ ghost use Rattle.std.specs.Prelude.{◌≡◌, true, List, IfOk, OnOk, Some, rev
 ghost use Rattle.std.specs.Option.{option_map};
 ghost use Rattle.std.specs.List.{filter_map};
 ghost use Rattle.node_journal.specs.Role.{are_of};
-ghost use Rattle.kept_coins.specs.declared.kept_coin.KeptCoin.{KeptCoin};
+ghost use Rattle.node_rules.specs.declared.kept_coin.KeptCoin.{KeptCoin};
 ghost use Rattle.node_rules.specs.Watcher.{identity_in, note_in, watcher_kinds};
 ghost use Rattle.watcher_node.specs.Inside.{change_of, changed_by, watched_in, AreKeyed, IsKept};
 
 use super::watched::{Change, apply};
-use kept_coins::{KeptCoin, number_at, read_kept};
+use node_rules::{KeptCoin, number_at, read_kept};
 use plasma_base::{Bytes, Hash32, NoMemory};
 use std::alloc::Global;
 use std::collections::BTreeMap;

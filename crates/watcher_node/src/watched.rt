@@ -2,10 +2,10 @@ ghost use Rattle.std.specs.Prelude.{◌≡◌, List, not, filter, OnOk, OnErr};
 ghost use Rattle.std.specs.List.Sorted.{IsStrictlySortedBy};
 ghost use Rattle.std.specs.BTreeMap.{insert_entry};
 ghost use Rattle.std.specs.Map.{keys_of};
-ghost use Rattle.kept_coins.specs.declared.kept_coin.KeptCoin.{KeptCoin};
+ghost use Rattle.node_rules.specs.declared.kept_coin.KeptCoin.{KeptCoin};
 ghost use Rattle.watcher_node.specs.Inside.{is_watched_at, with_watched, changed, by_place, AreKeyed};
 
-use kept_coins::KeptCoin;
+use node_rules::KeptCoin;
 use plasma_base::NoMemory;
 use std::collections::BTreeMap;
 

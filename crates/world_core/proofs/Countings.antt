@@ -2,7 +2,7 @@
 use Rattle.std.proofs.Common.{◌≡◌, ℕ, List, length, Some, None, refl, sym, ap, ◌∙◌}
 use Rattle.std.specs.List.{count_by}
 use Rattle.plasma_tx.specs.Views.{blocks, coins}
-use Rattle.root_rules.specs.Shown.{tests_by, rules_of}
+use Rattle.plasma_tx.specs.Shown.{tests_by, rules_of}
 use Rattle.schedule_text.specs.declared.line.Line.{Line}
 use Rattle.world_rules.specs.declared.verdict.Verdict.{Verdict}
 use Rattle.world_rules.specs.Events.{log_of}

@@ -7,7 +7,7 @@ use Rattle.std.proofs.lemmas.List.Elements.{All-nil, All-cons}
 use Rattle.line_forms.proofs.FormLaws.{option_map_some}
 use Rattle.plasma_tx.specs.Spelling.{AreBytes}
 use Rattle.plasma_tx.proofs.Names.{some_same}
-use Rattle.root_rules.specs.Shown.{Tests, Rules, tests_by, rules_of}
+use Rattle.plasma_tx.specs.Shown.{Tests, Rules, tests_by, rules_of}
 use Rattle.schedule_text.specs.declared.line.Line.{Line}
 use Rattle.schedule_text.specs.Grammar.{IsLine}
 use Rattle.world_rules.specs.declared.TheConstants.{MOST_MAIL}
@@ -18,8 +18,8 @@ use Rattle.world_rules.specs.Events.{Event, log_of}
 use Rattle.world_rules.specs.Steps.{LineEffect, effect_in, effect_of, with_mail, step, mail_size, is_mail_full, TraceEntry, entry_of, Run, no_lines, with_line, step_run, run_of, events_of}
 use Rattle.world_rules.specs.Verdicts.{is_refused}
 use Rattle.world_rules.proofs.RunLaws.{logs_are_of_events}
-use Rattle.line_events.specs.declared.event.LineEvent.{LineEvent}
-use Rattle.line_events.specs.Events.{IsEvent}
+use Rattle.run_trace.specs.declared.event.LineEvent.{LineEvent}
+use Rattle.run_trace.specs.Events.{IsEvent}
 use Rattle.run_trace.specs.Traces.{TraceState, no_trace, Tells}
 use Rattle.world_scene.specs.declared.answer.LineAnswer.{LineAnswer}
 use Rattle.world_scene.specs.Scenes.{SceneState, shown_of, world_of}

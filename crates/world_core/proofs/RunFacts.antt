@@ -7,8 +7,8 @@ use Rattle.std.proofs.lemmas.List.{length-reverse}
 use Rattle.std.proofs.lemmas.List.Elements.{All-nil}
 use Rattle.std.proofs.lemmas.List.Sums.{sum_by-append}
 use Rattle.plasma_tx.specs.Chain.{Chain}
-use Rattle.root_rules.specs.Shown.{Tests, Rules, tests_by, rules_of}
-use Rattle.root_rules.specs.Table.{IsLegal}
+use Rattle.plasma_tx.specs.Shown.{Tests, Rules, tests_by, rules_of}
+use Rattle.plasma_tx.specs.Table.{IsLegal}
 use Rattle.schedule_text.specs.declared.line.Line.{Line}
 use Rattle.world_rules.specs.World.{World}
 use Rattle.world_rules.specs.Events.{log_of}

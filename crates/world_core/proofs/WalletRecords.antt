@@ -18,11 +18,11 @@ use Rattle.plasma_tx.specs.Spelling.{owner_in}
 use Rattle.plasma_tx.specs.Views.{blocks}
 use Rattle.plasma_tx.proofs.Names.{some_same}
 use Rattle.plasma_tx.proofs.Spellings.{owner_in-is}
-use Rattle.root_rules.specs.Shown.{tests_by, rules_of}
-use Rattle.root_rules.specs.Table.{answer_to, is_accepted, log_after}
-use Rattle.root_rules.specs.Laws.{Shows}
-use Rattle.root_rules.proofs.Accepted.{accepted_calls_show}
-use Rattle.root_rules.proofs.Each.{all-append, all-found, all-weaker}
+use Rattle.plasma_tx.specs.Shown.{tests_by, rules_of}
+use Rattle.plasma_tx.specs.Table.{answer_to, is_accepted, log_after}
+use Rattle.plasma_tx.specs.RuleLaws.{Shows}
+use Rattle.plasma_tx.proofs.Accepted.{accepted_calls_show}
+use Rattle.plasma_tx.proofs.Each.{all-append, all-found, all-weaker}
 use Rattle.schedule_text.specs.declared.command.Command.{Command}
 use Rattle.schedule_text.specs.declared.command.WalletCommand.{WalletCommand}
 use Rattle.node_rules.specs.WalletRecords.{owner_of}

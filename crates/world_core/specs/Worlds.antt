@@ -3,7 +3,7 @@ use Rattle.std.specs.Prelude.{◌≡◌, ◌≤◌, ℕ, List, [], Option, Some,
 use Rattle.std.specs.List.{All, count_by}
 use Rattle.std.specs.Option.{ForSome, option_map_or}
 use Rattle.plasma_tx.specs.Spelling.{AreBytes}
-use Rattle.root_rules.specs.Shown.{tests_by, rules_of}
+use Rattle.plasma_tx.specs.Shown.{tests_by, rules_of}
 use Rattle.schedule_text.specs.declared.line.Line.{Line}
 use Rattle.schedule_text.specs.Grammar.{IsLine}
 use Rattle.world_rules.specs.declared.TheConstants.{MOST_MAIL}

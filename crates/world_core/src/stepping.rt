@@ -10,7 +10,7 @@ ghost use Rattle.world_core.specs.Taking.{Takes};
 
 use super::counting::with_answer;
 use super::world::World;
-use line_events::LineEvent;
+use run_trace::LineEvent;
 use plasma_base::{Bytes, Hash32};
 use schedule_text::Line;
 use world_rules::{Reply, TraceLine};

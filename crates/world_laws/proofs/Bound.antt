@@ -15,7 +15,7 @@ use Rattle.plasma_tx.specs.declared.call.RootCall.{RootCall}
 use Rattle.plasma_tx.specs.Links.{last_owner_of}
 use Rattle.plasma_tx.specs.Transfer.{is_signed_by}
 use Rattle.plasma_tx.specs.Views.{coin_at, is_withdrawn}
-use Rattle.root_rules.specs.Shown.{Tests, Rules}
+use Rattle.plasma_tx.specs.Shown.{Tests, Rules}
 use Rattle.coin_history.specs.declared.bundle.Bundle.{Bundle}
 use Rattle.coin_history.specs.History.{transfer_of, IsHistory}
 use Rattle.coin_history.proofs.HistoryGrow.{histories_stay}

@@ -15,7 +15,7 @@ use Rattle.plasma_tx.specs.declared.views.BlockView.TheVariants.{Root}
 use Rattle.plasma_tx.specs.Links.{tip_of, last_owner_of}
 use Rattle.plasma_tx.specs.Transfer.{transfer_in}
 use Rattle.plasma_tx.specs.Views.{blocks, coins, block_at, coin_at}
-use Rattle.root_rules.specs.Shown.{root_in, root_at, tests_by}
+use Rattle.plasma_tx.specs.Shown.{root_in, root_at, tests_by}
 use Rattle.coin_history.specs.declared.bundle.Bundle.{Bundle}
 use Rattle.coin_history.specs.Bundles.{IsBundle, bundle_in, bundle_text}
 use Rattle.coin_history.specs.History.{IsHistory}

@@ -12,7 +12,7 @@ use Rattle.plasma_tx.specs.declared.views.CoinView.{CoinView}
 use Rattle.plasma_tx.specs.declared.call.RootCall.{RootCall}
 use Rattle.plasma_tx.specs.Spelling.{signed_in}
 use Rattle.plasma_tx.specs.Views.{blocks, coin_at}
-use Rattle.root_rules.proofs.Bounds.{coin_at-le}
+use Rattle.plasma_tx.proofs.Bounds.{coin_at-le}
 use Rattle.coin_history.specs.Bundles.{bundle_text}
 use Rattle.schedule_text.specs.declared.line.Line.{Line}
 use Rattle.schedule_text.specs.declared.command.Command.{Command}

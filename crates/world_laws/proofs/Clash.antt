@@ -15,7 +15,7 @@ use Rattle.plasma_tx.specs.declared.call.RootCall.{RootCall}
 use Rattle.plasma_tx.specs.Openings.{opening_in}
 use Rattle.plasma_tx.specs.Transfer.{transfer_in}
 use Rattle.plasma_tx.proofs.OpeningTexts.{leaf-shown}
-use Rattle.root_rules.specs.Shown.{Tests, Rules, tests_by, opens_root, root_at}
+use Rattle.plasma_tx.specs.Shown.{Tests, Rules, tests_by, opens_root, root_at}
 use Rattle.coin_history.specs.History.{leaf_of_opening, transfer_of}
 use Rattle.watch_duty.proofs.Members.{Has, has-left, has-right, any-has, contains-has}
 use Rattle.world_rules.specs.Laws.{IsDigest}

@@ -10,7 +10,7 @@ use Rattle.plasma_tx.specs.declared.call.RootCall.{RootCall}
 use Rattle.plasma_tx.specs.declared.views.CoinView.{CoinView}
 use Rattle.plasma_tx.specs.declared.views.ExitView.{ExitView}
 use Rattle.plasma_tx.specs.Views.{coin_at, exits_of}
-use Rattle.root_rules.specs.Shown.{Tests, Rules, tests_by, root_at}
+use Rattle.plasma_tx.specs.Shown.{Tests, Rules, tests_by, root_at}
 use Rattle.coin_history.specs.declared.bundle.Bundle.{Bundle}
 use Rattle.coin_history.specs.History.{is_absent, transfer_of, opens_block, is_committed, committed_blocks, blocks_of, links_in, links_of, AreLinked, IsHistory}
 use Rattle.coin_history.proofs.HistoryLinks.{tip-is, tip_from, none-linked}

@@ -10,12 +10,12 @@ use Rattle.plasma_tx.specs.declared.answer.Answer.{Answer}
 use Rattle.plasma_tx.specs.declared.answer.Answer.TheVariants.{Paid, Dropped, Refused}
 use Rattle.plasma_tx.specs.declared.answer.Refusal.TheVariants.{Early}
 use Rattle.plasma_tx.specs.Views.{now, Challenge, Exit, exits, exit_at, challenge_at, is_withdrawn}
-use Rattle.root_rules.specs.declared.TheConstants.{RESPONSE_WINDOW, EXIT_PERIOD}
-use Rattle.root_rules.specs.Shown.{Tests, Rules}
-use Rattle.root_rules.specs.Table.{decided, finish_causes, finish_effect, is_payable, where_exit, answer_to, is_accepted}
-use Rattle.root_rules.specs.Accepted.{CancelsAfter, CancelsBetween}
-use Rattle.root_rules.specs.Laws.{is_paid}
-use Rattle.root_rules.proofs.Accepted.{accepted_calls_show}
+use Rattle.plasma_tx.specs.declared.rules.TheConstants.{RESPONSE_WINDOW, EXIT_PERIOD}
+use Rattle.plasma_tx.specs.Shown.{Tests, Rules}
+use Rattle.plasma_tx.specs.Table.{decided, finish_causes, finish_effect, is_payable, where_exit, answer_to, is_accepted}
+use Rattle.plasma_tx.specs.Accepted.{CancelsAfter, CancelsBetween}
+use Rattle.plasma_tx.specs.RuleLaws.{is_paid}
+use Rattle.plasma_tx.proofs.Accepted.{accepted_calls_show}
 use Rattle.watch_duty.specs.Laws.{openings_of_call}
 use Rattle.watch_duty.proofs.Members.{Has, all-has}
 use Rattle.world_rules.specs.Events.{Event, log_of, wallet_owner, bound_by}

@@ -12,7 +12,7 @@ use Rattle.plasma_tx.specs.declared.links.Links.{Links}
 use Rattle.plasma_tx.specs.declared.call.RootCall.{RootCall}
 use Rattle.plasma_tx.specs.declared.views.CoinView.{CoinView}
 use Rattle.plasma_tx.specs.Links.{tip_of, last_owner_of}
-use Rattle.root_rules.specs.Shown.{Tests, Rules, root_at}
+use Rattle.plasma_tx.specs.Shown.{Tests, Rules, root_at}
 use Rattle.coin_history.specs.declared.bundle.Bundle.{Bundle}
 use Rattle.coin_history.specs.History.{is_empty, is_absent, leaf_of_opening, transfer_of, opens_block, links_in, links_of, AreLinked, IsHistory, IsAbsent}
 use Rattle.coin_history.specs.Checking.{is_asked, opening_at}

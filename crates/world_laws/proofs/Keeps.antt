@@ -7,8 +7,8 @@ use Rattle.lms_sign.specs.declared.types.LmsTypes.{LmsTypes}
 use Rattle.plasma_tx.specs.declared.call.RootCall.{RootCall}
 use Rattle.plasma_tx.specs.declared.answer.Answer.{Answer}
 use Rattle.plasma_tx.specs.Chain.{with_log}
-use Rattle.root_rules.specs.Shown.{tests_by, rules_of}
-use Rattle.root_rules.specs.Table.{answer_to, is_accepted, log_after}
+use Rattle.plasma_tx.specs.Shown.{tests_by, rules_of}
+use Rattle.plasma_tx.specs.Table.{answer_to, is_accepted, log_after}
 use Rattle.schedule_text.specs.declared.line.Line.{Line}
 use Rattle.schedule_text.specs.declared.call_form.CallForm.{CallForm}
 use Rattle.schedule_text.specs.Grammar.{IsLine}

@@ -5,8 +5,8 @@ use Rattle.std.specs.List.{All, list_any}
 use Rattle.std.proofs.lemmas.Bool.{cases_eq, eqb-true, ne_eqb, and_parts, or_cases, or_parts, false≢true}
 use Rattle.std.proofs.lemmas.List.Elements.{All-nil}
 use Rattle.plasma_tx.specs.declared.call.RootCall.{RootCall}
-use Rattle.root_rules.specs.Shown.{tests_by, rules_of}
-use Rattle.root_rules.specs.Table.{answer_to, is_accepted}
+use Rattle.plasma_tx.specs.Shown.{tests_by, rules_of}
+use Rattle.plasma_tx.specs.Table.{answer_to, is_accepted}
 use Rattle.schedule_text.specs.declared.line.Line.{Line}
 use Rattle.schedule_text.specs.declared.command.Command.{Command}
 use Rattle.schedule_text.specs.Grammar.{IsLine}

@@ -16,7 +16,7 @@ use Rattle.plasma_tx.specs.declared.views.ExitView.{ExitView}
 use Rattle.plasma_tx.specs.Links.{last_owner_of}
 use Rattle.plasma_tx.specs.Spelling.{IsOwner, IsBody, body_text, body_at_start}
 use Rattle.plasma_tx.specs.Views.{blocks, coin_at, exits_of, is_withdrawn}
-use Rattle.root_rules.specs.Shown.{tests_by, rules_of}
+use Rattle.plasma_tx.specs.Shown.{tests_by, rules_of}
 use Rattle.coin_history.specs.declared.bundle.Bundle.{Bundle}
 use Rattle.coin_history.specs.declared.refusal.HistoryRefusal.{HistoryRefusal}
 use Rattle.coin_history.specs.Bundles.{bundle_in}

@@ -5,7 +5,7 @@ use Rattle.std.specs.Prelude.{Result}
 use Rattle.std.proofs.lemmas.Bool.{false≢true}
 use Rattle.line_forms.proofs.FormLaws.{option_map_some}
 use Rattle.plasma_tx.specs.declared.links.Links.{Links}
-use Rattle.root_rules.specs.Shown.{Tests, Rules, tests_by, rules_of}
+use Rattle.plasma_tx.specs.Shown.{Tests, Rules, tests_by, rules_of}
 use Rattle.coin_history.specs.declared.refusal.HistoryRefusal.{HistoryRefusal}
 use Rattle.coin_history.specs.History.{IsHistory}
 use Rattle.schedule_text.specs.declared.line.Line.{Line}

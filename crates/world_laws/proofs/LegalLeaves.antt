@@ -12,8 +12,8 @@ use Rattle.plasma_tx.specs.declared.call.RootCall.TheVariants.{Deposit}
 use Rattle.plasma_tx.specs.declared.views.CoinView.{CoinView}
 use Rattle.plasma_tx.specs.Views.{coins, coin_at}
 use Rattle.coin_history.specs.declared.bundle.Bundle.{Bundle}
-use Rattle.root_rules.specs.Shown.{rules_of}
-use Rattle.root_rules.proofs.Bounds.{coin_at-le}
+use Rattle.plasma_tx.specs.Shown.{rules_of}
+use Rattle.plasma_tx.proofs.Bounds.{coin_at-le}
 use Rattle.watch_duty.specs.Duty.{due_of}
 use Rattle.wallet_core.specs.declared.coin_state.CoinState.{CoinState}
 use Rattle.wallet_core.specs.declared.coin_state.CoinState.TheVariants.{Nothing, Sending, Leaving, Held}

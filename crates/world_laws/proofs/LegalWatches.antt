@@ -8,7 +8,7 @@ use Rattle.plasma_tx.specs.declared.links.Links.{Links}
 use Rattle.plasma_tx.specs.declared.call.RootCall.{RootCall}
 use Rattle.plasma_tx.specs.declared.views.CoinView.{CoinView}
 use Rattle.plasma_tx.specs.Views.{coin_at}
-use Rattle.root_rules.specs.Shown.{Rules, rules_of}
+use Rattle.plasma_tx.specs.Shown.{Rules, rules_of}
 use Rattle.coin_history.specs.declared.bundle.Bundle.{Bundle}
 use Rattle.node_rules.specs.Watcher.{who_is, is_of, guards_in, due_for_kept, watch_answer}
 use Rattle.watch_duty.specs.Duty.{due_of}

@@ -4,7 +4,7 @@ use Rattle.std.specs.List.{AllByRecursion, list_any, list_all}
 use Rattle.std.proofs.lemmas.Bool.{eqb-true, and_parts, and_from, or_cases, true≢false, false≢true, false_from_ne_true}
 use Rattle.plasma_tx.specs.declared.call.RootCall.{RootCall}
 use Rattle.plasma_tx.specs.Views.{Challenge, Exit, is_exit, with_exit_changed, with_answer_at, challenge_at, exits, exit_at}
-use Rattle.root_rules.proofs.Names.{exits-distinct}
+use Rattle.plasma_tx.proofs.RuleNames.{exits-distinct}
 use Rattle.watch_duty.proofs.Members.{Has, any-has, only-found}
 
 pub some_same : {A : Type 0} (x y : A) → Some x ≡ Some y → x ≡ y

@@ -10,12 +10,12 @@ use Rattle.plasma_tx.specs.declared.call.RootCall.TheVariants.{After, Between, F
 use Rattle.plasma_tx.specs.declared.answer.Answer.{Answer}
 use Rattle.plasma_tx.specs.declared.views.CoinView.{CoinView}
 use Rattle.plasma_tx.specs.Views.{now, coin_at, Exit, exits, exit_at, is_withdrawn, has_no_open_challenge}
-use Rattle.root_rules.specs.declared.TheConstants.{EXIT_PERIOD}
-use Rattle.root_rules.specs.Shown.{Tests, Rules, tests_by}
-use Rattle.root_rules.specs.Table.{is_accepted, answer_to}
-use Rattle.root_rules.specs.Laws.{is_paid}
-use Rattle.root_rules.proofs.Accepted.{accepted_calls_show}
-use Rattle.root_rules.proofs.Ends.{paid_exactly}
+use Rattle.plasma_tx.specs.declared.rules.TheConstants.{EXIT_PERIOD}
+use Rattle.plasma_tx.specs.Shown.{Tests, Rules, tests_by}
+use Rattle.plasma_tx.specs.Table.{is_accepted, answer_to}
+use Rattle.plasma_tx.specs.RuleLaws.{is_paid}
+use Rattle.plasma_tx.proofs.Accepted.{accepted_calls_show}
+use Rattle.plasma_tx.proofs.Ends.{paid_exactly}
 use Rattle.watch_duty.proofs.Members.{Has, all-has, contains-has}
 use Rattle.world_rules.specs.declared.verdict.VerdictKind.{VerdictKind}
 use Rattle.world_rules.specs.Laws.{IsDigest}

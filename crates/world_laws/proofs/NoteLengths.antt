@@ -23,7 +23,7 @@ use Rattle.plasma_tx.specs.Spelling.{number_text, signed_in}
 use Rattle.plasma_tx.specs.Transfer.{is_transfer, kept_transfer, transfer_in, is_signed_by}
 use Rattle.plasma_tx.specs.Views.{blocks}
 use Rattle.plasma_tx.proofs.OpeningTexts.{opening_in-ok}
-use Rattle.root_rules.specs.Shown.{opens_root, root_at, tests_by}
+use Rattle.plasma_tx.specs.Shown.{opens_root, root_at, tests_by}
 use Rattle.coin_history.specs.declared.bundle.Bundle.{Bundle}
 use Rattle.coin_history.specs.Bundles.{length_text, item_text, bundle_text}
 use Rattle.coin_history.specs.History.{is_committed, committed_blocks, opens_block, transfer_of, link_of, links_in, AreLinked, IsHistory}

@@ -14,7 +14,7 @@ use Rattle.plasma_tx.specs.declared.views.CoinView.{CoinView}
 use Rattle.plasma_tx.specs.declared.views.ExitView.{ExitView}
 use Rattle.plasma_tx.specs.Links.{last_spend, tip_of}
 use Rattle.plasma_tx.specs.Views.{coin_at, exits_of}
-use Rattle.root_rules.specs.Shown.{Tests, Rules}
+use Rattle.plasma_tx.specs.Shown.{Tests, Rules}
 use Rattle.coin_history.specs.declared.bundle.Bundle.{Bundle}
 use Rattle.coin_history.specs.History.{transfer_of, links_in, links_of}
 use Rattle.coin_history.proofs.HistoryGrow.{coin_at-grown}

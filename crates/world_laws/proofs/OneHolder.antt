@@ -6,8 +6,8 @@ use Rattle.plasma_tx.specs.declared.owner.Owner.{Owner}
 use Rattle.plasma_tx.specs.declared.opening.RawOpening.{RawOpening}
 use Rattle.plasma_tx.specs.declared.call.RootCall.TheVariants.{Deposit}
 use Rattle.plasma_tx.specs.Views.{coins, coin_at}
-use Rattle.root_rules.specs.Shown.{Tests, Rules, tests_by}
-use Rattle.root_rules.proofs.Bounds.{coin_at-le}
+use Rattle.plasma_tx.specs.Shown.{Tests, Rules, tests_by}
+use Rattle.plasma_tx.proofs.Bounds.{coin_at-le}
 use Rattle.coin_history.specs.declared.bundle.Bundle.{Bundle}
 use Rattle.watch_duty.proofs.Members.{Has}
 use Rattle.world_rules.specs.Events.{Event, Joins, Accepts, log_of, wallet_owner, accepted, bound_by, signed_away_by}

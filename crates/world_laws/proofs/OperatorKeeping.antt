@@ -16,7 +16,7 @@ use Rattle.plasma_tx.specs.Chain.{Chain, with_log}
 use Rattle.plasma_tx.specs.Spelling.{signed_in}
 use Rattle.plasma_tx.specs.Transfer.{may_stand_in}
 use Rattle.plasma_tx.specs.Views.{blocks}
-use Rattle.root_rules.specs.Shown.{root_at}
+use Rattle.plasma_tx.specs.Shown.{root_at}
 use Rattle.coin_history.proofs.HistoryGrow.{root_at-grown}
 use Rattle.watch_duty.proofs.Members.{Has}
 use Rattle.operator_rules.specs.Records.{Identity, Note, Offered, Laid, Sealed, operator_kinds, who_is, notes_of}

@@ -15,7 +15,7 @@ use Rattle.schedule_text.specs.declared.command.Command.{Command}
 use Rattle.schedule_text.specs.declared.call_form.CallForm.{CallForm}
 use Rattle.schedule_text.specs.Grammar.{node_of, IsLine}
 use Rattle.node_rules.specs.declared.identity.WalletIdentity.{WalletIdentity}
-use Rattle.root_rules.specs.Money.{balance_of}
+use Rattle.plasma_tx.specs.Money.{balance_of}
 use Rattle.watch_duty.proofs.Members.{Has}
 use Rattle.world_rules.specs.declared.reply.Reply.{Reply}
 use Rattle.world_rules.specs.Events.{Idle}

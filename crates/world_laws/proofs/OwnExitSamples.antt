@@ -7,9 +7,9 @@ use Rattle.plasma_tx.specs.Spelling.{owner_text, body_text, owner_in, body_in, s
 use Rattle.plasma_tx.specs.Openings.{leaf_in}
 use Rattle.plasma_tx.specs.Transfer.{transfer_in, recipient_in}
 use Rattle.plasma_tx.specs.Views.{now, blocks, coins, block_at, coin_at, responses, exits, exit_at, is_withdrawn}
-use Rattle.root_rules.specs.Shown.{Tests, shown_tx}
-use Rattle.root_rules.specs.Money.{balance_of, funded, share_of, pays, takes}
-use Rattle.root_rules.specs.Table.{answer_to, is_accepted}
+use Rattle.plasma_tx.specs.Shown.{Tests, shown_tx}
+use Rattle.plasma_tx.specs.Money.{balance_of, funded, share_of, pays, takes}
+use Rattle.plasma_tx.specs.Table.{answer_to, is_accepted}
 use Rattle.lms_sign.specs.Types.{u32_at}
 use Rattle.world_rules.specs.declared.verdict.VerdictKind.{VerdictKind}
 use Rattle.world_rules.specs.Events.{Event, Declares, Joins, Bounces, Watches, Leaves, log_of, wallet_owner, accepted, bound_by, taken_back, not_taken, guarded_by, watchers}

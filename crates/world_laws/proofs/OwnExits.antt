@@ -8,10 +8,10 @@ use Rattle.plasma_tx.specs.declared.body.Body.{Body}
 use Rattle.plasma_tx.specs.declared.call.RootCall.{RootCall}
 use Rattle.plasma_tx.specs.declared.call.RootCall.TheVariants.{StartDeposit, StartSpend, Before, Respond}
 use Rattle.plasma_tx.specs.Views.{Exit, exits, is_withdrawn}
-use Rattle.root_rules.specs.Shown.{Tests, Rules}
-use Rattle.root_rules.specs.Table.{is_accepted, answer_to}
-use Rattle.root_rules.proofs.Accepted.{accepted_calls_show}
-use Rattle.root_rules.proofs.Each.{all-weaker, each-exit}
+use Rattle.plasma_tx.specs.Shown.{Tests, Rules}
+use Rattle.plasma_tx.specs.Table.{is_accepted, answer_to}
+use Rattle.plasma_tx.proofs.Accepted.{accepted_calls_show}
+use Rattle.plasma_tx.proofs.Each.{all-weaker, each-exit}
 use Rattle.node_rules.specs.Watcher.{due_for_kept}
 use Rattle.watch_duty.proofs.Members.{Has, all-has, contains-has, has-contains}
 use Rattle.world_rules.specs.Events.{Event, Declares, Joins, Binds, TakesBack, Watches, Leaves, Seals, log_of, coin_of_call, wallet_owner, bound_by, taken_back, is_taken, not_taken, signed_away_by, is_sent_from, is_command_of, offered, offers_of}

@@ -6,8 +6,8 @@ use Rattle.std.proofs.Math.Nat.{le_refl}
 use Rattle.std.proofs.lemmas.Bool.{or_parts, ne_eqb, eq-eqb}
 use Rattle.plasma_tx.specs.declared.call.RootCall.{RootCall}
 use Rattle.plasma_tx.specs.Views.{coins}
-use Rattle.root_rules.specs.Shown.{Tests, Rules, tests_by, rules_of}
-use Rattle.root_rules.specs.Table.{answer_to, is_accepted}
+use Rattle.plasma_tx.specs.Shown.{Tests, Rules, tests_by, rules_of}
+use Rattle.plasma_tx.specs.Table.{answer_to, is_accepted}
 use Rattle.schedule_text.specs.declared.line.Line.{Line}
 use Rattle.world_rules.specs.Events.{Event, Joins, Watches, log_of, wallet_owner, is_command_of, offered}
 use Rattle.world_rules.specs.World.{World}

@@ -14,8 +14,8 @@ use Rattle.plasma_tx.specs.declared.views.CoinView.{CoinView}
 use Rattle.plasma_tx.specs.ChallengeLists.{is_challenged}
 use Rattle.plasma_tx.specs.Links.{tip_of}
 use Rattle.plasma_tx.specs.Views.{now, Challenge, Exit, exits, challenge_at, challenge_view, exit_view, exits_of}
-use Rattle.root_rules.specs.declared.TheConstants.{CHALLENGE_WINDOW, RESPONSE_WINDOW}
-use Rattle.root_rules.specs.Shown.{Tests, Rules}
+use Rattle.plasma_tx.specs.declared.rules.TheConstants.{CHALLENGE_WINDOW, RESPONSE_WINDOW}
+use Rattle.plasma_tx.specs.Shown.{Tests, Rules}
 use Rattle.watch_duty.specs.Duty.{link_after, tip_shown, within, answer, due_for, due_of}
 use Rattle.watch_duty.proofs.Members.{Has, has-left, has-right, any-map}
 use Rattle.world_rules.specs.Events.{Event, log_of}

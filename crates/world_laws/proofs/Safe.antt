@@ -10,8 +10,8 @@ use Rattle.plasma_tx.specs.declared.call.RootCall.TheVariants.{Deposit, Finish}
 use Rattle.plasma_tx.specs.declared.views.CoinView.{CoinView}
 use Rattle.plasma_tx.specs.declared.views.ExitView.{ExitView}
 use Rattle.plasma_tx.specs.Views.{now, coins, coin_at, new_coin, Exit, exits, exit_at, exit_view, exits_of, is_withdrawn, has_no_open_challenge}
-use Rattle.root_rules.specs.Shown.{Tests, Rules, tests_by}
-use Rattle.root_rules.proofs.Bounds.{coin_at-le}
+use Rattle.plasma_tx.specs.Shown.{Tests, Rules, tests_by}
+use Rattle.plasma_tx.proofs.Bounds.{coin_at-le}
 use Rattle.watch_duty.proofs.Members.{Has}
 use Rattle.wallet_core.specs.State.{is_owner}
 use Rattle.world_rules.specs.Laws.{IsDigest}

@@ -9,8 +9,8 @@ use Rattle.plasma_tx.specs.declared.call.Shown.TheVariants.{Deposit as AtDeposit
 use Rattle.plasma_tx.specs.declared.call.RootCall.TheVariants.{Tick, Deposit, Commit, StartSpend, After, Finish}
 use Rattle.plasma_tx.specs.Spelling.{body_text}
 use Rattle.plasma_tx.specs.Views.{now, blocks, coins, block_at, coin_at, responses, exits, exit_at, is_withdrawn}
-use Rattle.root_rules.specs.Shown.{Tests, Rules}
-use Rattle.root_rules.specs.Table.{answer_to}
+use Rattle.plasma_tx.specs.Shown.{Tests, Rules}
+use Rattle.plasma_tx.specs.Table.{answer_to}
 use Rattle.wallet_core.specs.State.{greatest}
 use Rattle.coin_history.specs.declared.bundle.Bundle.{Bundle}
 use Rattle.world_rules.specs.declared.verdict.VerdictKind.{VerdictKind}

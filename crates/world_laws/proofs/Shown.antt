@@ -13,12 +13,12 @@ use Rattle.plasma_tx.specs.declared.call.RootCall.{RootCall}
 use Rattle.plasma_tx.specs.declared.call.RootCall.TheVariants.{StartDeposit, StartSpend, Before, Respond}
 use Rattle.plasma_tx.specs.declared.views.CoinView.{CoinView}
 use Rattle.plasma_tx.specs.Views.{now, Challenge, Exit, coin_at, exits, block_of, challenge_at, with_challenge, with_answer_at, new_challenge}
-use Rattle.root_rules.specs.declared.TheConstants.{CHALLENGE_WINDOW}
-use Rattle.root_rules.specs.Shown.{Tests, Rules, root_at, shown_tx}
-use Rattle.root_rules.specs.Table.{IsLegal as IsLegalLog}
-use Rattle.root_rules.specs.Accepted.{ShowsTx, StartsSpend}
-use Rattle.root_rules.proofs.Accepted.{openings_show, accepted_calls_show}
-use Rattle.root_rules.proofs.Each.{all-append, all-map, each-exit}
+use Rattle.plasma_tx.specs.declared.rules.TheConstants.{CHALLENGE_WINDOW}
+use Rattle.plasma_tx.specs.Shown.{Tests, Rules, root_at, shown_tx}
+use Rattle.plasma_tx.specs.Table.{IsLegal as IsLegalLog}
+use Rattle.plasma_tx.specs.Accepted.{ShowsTx, StartsSpend}
+use Rattle.plasma_tx.proofs.Accepted.{openings_show, accepted_calls_show}
+use Rattle.plasma_tx.proofs.Each.{all-append, all-map, each-exit}
 use Rattle.watch_duty.specs.Laws.{IsLegalBy, shown_openings, openings_of_call}
 use Rattle.watch_duty.proofs.Members.{Has, has-left, has-right, has-cases, all-has}
 use Rattle.watch_duty.proofs.Shown.{seen as log_seen, IsSpent, IsShownAt as IsLogShownAt, Deposited as LogDeposited, Transferred as LogTransferred, IsShownChallenge as IsLogShownChallenge, IsBegun as IsLogBegun, OfDeposit as LogOfDeposit, OfSpend as LogOfSpend, IsShownExit as IsLogShownExit, exits-shown}

@@ -21,12 +21,12 @@ use Rattle.plasma_tx.specs.declared.answer.Refusal.TheVariants.{Withdrawn, BadBl
 use Rattle.plasma_tx.specs.declared.views.CoinView.{CoinView}
 use Rattle.plasma_tx.specs.Links.{last_spend, tip_of, last_owner_of}
 use Rattle.plasma_tx.specs.Views.{now, coin_at, exit_at, block_of, is_withdrawn}
-use Rattle.root_rules.specs.declared.TheConstants.{EXIT_BOND, EXIT_PERIOD}
-use Rattle.root_rules.specs.Shown.{Tests, Rules, tests_by, root_at, shown_tx, shown_owner}
-use Rattle.root_rules.specs.Table.{Cause, decided, too_poor, is_committed_after, is_parent_of, may_exit_at, start_deposit_causes, start_spend_causes, where_coin, answer_to, is_accepted}
-use Rattle.root_rules.specs.Money.{balance_of}
-use Rattle.root_rules.specs.Accepted.{ShowsTx}
-use Rattle.root_rules.proofs.Acceptance.{transfers_are_shown}
+use Rattle.plasma_tx.specs.declared.rules.TheConstants.{EXIT_BOND, EXIT_PERIOD}
+use Rattle.plasma_tx.specs.Shown.{Tests, Rules, tests_by, root_at, shown_tx, shown_owner}
+use Rattle.plasma_tx.specs.Table.{Cause, decided, too_poor, is_committed_after, is_parent_of, may_exit_at, start_deposit_causes, start_spend_causes, where_coin, answer_to, is_accepted}
+use Rattle.plasma_tx.specs.Money.{balance_of}
+use Rattle.plasma_tx.specs.Accepted.{ShowsTx}
+use Rattle.plasma_tx.proofs.Acceptance.{transfers_are_shown}
 use Rattle.coin_history.specs.declared.bundle.Bundle.{Bundle}
 use Rattle.coin_history.specs.History.{opens_block, links_in, links_of, AreLinked}
 use Rattle.coin_history.proofs.HistoryLinks.{tip_from, owner_from, tip-is, last_owner-is, none-linked}

@@ -13,14 +13,14 @@ use Rattle.plasma_tx.specs.declared.views.CoinView.{CoinView}
 use Rattle.plasma_tx.specs.Laws.{is_challenged_at}
 use Rattle.plasma_tx.specs.Views.{now, coin_at, coins, new_coin, Challenge, Exit, is_exit, exits, exit_at, block_of, deposit_exit, spend_exit, without_exit, challenge_at, with_challenge, with_answer, new_challenge}
 use Rattle.plasma_tx.proofs.Answered.{new_challenges_are_open}
-use Rattle.root_rules.specs.declared.TheConstants.{CHALLENGE_WINDOW, RESPONSE_WINDOW}
-use Rattle.root_rules.specs.Shown.{Tests, Rules, root_at}
-use Rattle.root_rules.specs.Table.{is_accepted, answer_to, is_parent_of}
-use Rattle.root_rules.specs.Accepted.{StartsDeposit, StartsSpend, Challenges, Responds}
-use Rattle.root_rules.proofs.Accepted.{accepted_calls_show}
-use Rattle.root_rules.proofs.Bounds.{exits_are_their_owners, responds_answer}
-use Rattle.root_rules.proofs.Each.{all-append, all-filter}
-use Rattle.root_rules.proofs.Names.{exits-distinct}
+use Rattle.plasma_tx.specs.declared.rules.TheConstants.{CHALLENGE_WINDOW, RESPONSE_WINDOW}
+use Rattle.plasma_tx.specs.Shown.{Tests, Rules, root_at}
+use Rattle.plasma_tx.specs.Table.{is_accepted, answer_to, is_parent_of}
+use Rattle.plasma_tx.specs.Accepted.{StartsDeposit, StartsSpend, Challenges, Responds}
+use Rattle.plasma_tx.proofs.Accepted.{accepted_calls_show}
+use Rattle.plasma_tx.proofs.Bounds.{exits_are_their_owners, responds_answer}
+use Rattle.plasma_tx.proofs.Each.{all-append, all-filter}
+use Rattle.plasma_tx.proofs.RuleNames.{exits-distinct}
 use Rattle.watch_duty.specs.Laws.{shown_openings, openings_of_call}
 use Rattle.watch_duty.proofs.Members.{Has, has-left, has-right, all-has, any-has, only-found}
 use Rattle.world_rules.specs.Events.{Event, Joins, log_of, coin_of_call, wallet_owner, bound_by}

@@ -2,15 +2,15 @@
 use Rattle.std.proofs.Common.{◌≡◌, ◌<◌, ℕ, ◌+◌, ◌==◌, ◌&&◌, ◌||◌, not, Bool, true, false, if◌then◌else◌, List, [], ◌∷◌, Option, Some, None, refl, sym, ap, ◌∙◌, arith}
 use Rattle.std.specs.Prelude.{find, nat_lt, nat_le}
 use Rattle.std.proofs.lemmas.Bool.{and_parts, true≢false, ltb-true, ltb-false, le-leb, eqb-true, false_from_ne_true, leb-true}
-use Rattle.root_rules.specs.declared.TheConstants.{EXIT_PERIOD}
+use Rattle.plasma_tx.specs.declared.rules.TheConstants.{EXIT_PERIOD}
 use Rattle.plasma_tx.specs.declared.owner.Owner.{Owner}
 use Rattle.plasma_tx.specs.declared.call.RootCall.{RootCall}
 use Rattle.plasma_tx.specs.declared.answer.Answer.{Answer}
 use Rattle.plasma_tx.specs.declared.answer.Refusal.{Refusal}
 use Rattle.plasma_tx.specs.Views.{now, Exit, exits, exit_at, is_exit}
-use Rattle.root_rules.specs.Shown.{Tests, Rules}
-use Rattle.root_rules.specs.Laws.{is_paid}
-use Rattle.root_rules.specs.Table.{answer_to, is_accepted, decided, where_exit, finish_causes, is_payable, finish_effect}
+use Rattle.plasma_tx.specs.Shown.{Tests, Rules}
+use Rattle.plasma_tx.specs.RuleLaws.{is_paid}
+use Rattle.plasma_tx.specs.Table.{answer_to, is_accepted, decided, where_exit, finish_causes, is_payable, finish_effect}
 use Rattle.world_rules.specs.Events.{Event, Joins, Bounces, log_of, wallet_owner}
 use Rattle.world_rules.specs.Safety.{holds, is_mine, is_own, finish_harms, call_harms, harms, is_harmed}
 use Rattle.world_rules.specs.Verdicts.{is_others, pays_other, ends_own, takes_from}

@@ -10,7 +10,7 @@ use Rattle.plasma_tx.specs.declared.signed_tx.SignedTx.{SignedTx}
 use Rattle.plasma_tx.specs.declared.call.RootCall.{RootCall}
 use Rattle.plasma_tx.specs.Transfer.{transfer_in}
 use Rattle.plasma_tx.proofs.Leaves.{empty-none}
-use Rattle.root_rules.specs.Shown.{Tests, Rules, root_at}
+use Rattle.plasma_tx.specs.Shown.{Tests, Rules, root_at}
 use Rattle.coin_history.specs.History.{leaf_of_opening, transfer_of, links_in}
 use Rattle.coin_history.proofs.HistoryLinks.{with_tx, none-linked}
 use Rattle.watch_duty.specs.Duty.{next_link}

@@ -8,10 +8,10 @@ use Rattle.plasma_tx.specs.declared.opening.RawOpening.{RawOpening}
 use Rattle.plasma_tx.specs.declared.signed_tx.SignedTx.{SignedTx}
 use Rattle.plasma_tx.specs.declared.call.RootCall.{RootCall}
 use Rattle.plasma_tx.specs.Views.{Challenge, Exit, challenge_at, with_challenge, with_answer, with_answer_at}
-use Rattle.root_rules.specs.declared.TheConstants.{CHALLENGE_WINDOW, RESPONSE_WINDOW}
-use Rattle.root_rules.specs.Shown.{Tests, Rules}
-use Rattle.root_rules.specs.Accepted.{ShowsTx}
-use Rattle.root_rules.proofs.Each.{all-append}
+use Rattle.plasma_tx.specs.declared.rules.TheConstants.{CHALLENGE_WINDOW, RESPONSE_WINDOW}
+use Rattle.plasma_tx.specs.Shown.{Tests, Rules}
+use Rattle.plasma_tx.specs.Accepted.{ShowsTx}
+use Rattle.plasma_tx.proofs.Each.{all-append}
 use Rattle.coin_history.specs.History.{transfer_of}
 use Rattle.watch_duty.proofs.Members.{Has, all-has}
 use Rattle.world_rules.specs.Events.{Event, log_of, wallet_owner, bound_by, signed_away_by}

@@ -1,7 +1,7 @@
 -- What is promised of every schedule: of operator, strangers, losses and crashes.
 use Rattle.std.specs.Prelude.{◌≡◌, ◌≢◌, ◌⊎◌, ◌<◌, ℕ, ◌+◌, ◌||◌, Bool, true, false, nat_lt, List, ◌∷◌, ◌++◌, slice_get, Option, Some, None, is_some, is_none}
 use Rattle.std.specs.List.{All, Contains, list_any}
-use Rattle.root_rules.specs.declared.TheConstants.{EXIT_BOND, CHALLENGE_BOND}
+use Rattle.plasma_tx.specs.declared.rules.TheConstants.{EXIT_BOND, CHALLENGE_BOND}
 use Rattle.lms_sign.specs.Tree.{signature_of}
 use Rattle.plasma_tx.specs.declared.owner.Owner.{Owner}
 use Rattle.plasma_tx.specs.declared.body.Body.{Body}
@@ -10,9 +10,9 @@ use Rattle.plasma_tx.specs.declared.answer.Answer.{Answer}
 use Rattle.plasma_tx.specs.declared.answer.Refusal.{Refusal}
 use Rattle.plasma_tx.specs.Spelling.{body_text}
 use Rattle.plasma_tx.specs.Views.{coins, exit_at}
-use Rattle.root_rules.specs.Shown.{tests_by, rules_of}
-use Rattle.root_rules.specs.Table.{answer_to, is_accepted}
-use Rattle.root_rules.specs.Money.{balance_of}
+use Rattle.plasma_tx.specs.Shown.{tests_by, rules_of}
+use Rattle.plasma_tx.specs.Table.{answer_to, is_accepted}
+use Rattle.plasma_tx.specs.Money.{balance_of}
 use Rattle.schedule_text.specs.declared.line.Line.{Line}
 use Rattle.schedule_text.specs.declared.command.Command.{Command}
 use Rattle.schedule_text.specs.declared.command.WalletCommand.{WalletCommand}

@@ -8,8 +8,8 @@ use Rattle.plasma_tx.specs.declared.links.Links.{Links}
 use Rattle.plasma_tx.specs.declared.call.RootCall.{RootCall}
 use Rattle.plasma_tx.specs.Links.{last_owner_of}
 use Rattle.plasma_tx.specs.Views.{blocks, coin_at, exits_of, is_withdrawn}
-use Rattle.root_rules.specs.Shown.{Tests, Rules}
-use Rattle.root_rules.specs.Table.{answer_to, is_accepted}
+use Rattle.plasma_tx.specs.Shown.{Tests, Rules}
+use Rattle.plasma_tx.specs.Table.{answer_to, is_accepted}
 use Rattle.coin_history.specs.declared.bundle.Bundle.{Bundle}
 use Rattle.coin_history.specs.History.{IsHistory, IsAbsent}
 use Rattle.node_rules.specs.Kept.{kept_links}

@@ -3,8 +3,8 @@ use Rattle.std.specs.Prelude.{◌≡◌, ◌≢◌, ℕ, true, false, List, ◌�
 use Rattle.std.specs.List.{Contains}
 use Rattle.plasma_tx.specs.declared.owner.Owner.{Owner}
 use Rattle.plasma_tx.specs.declared.call.RootCall.{RootCall}
-use Rattle.root_rules.specs.Shown.{Rules, tests_by}
-use Rattle.root_rules.specs.Table.{answer_to, is_accepted}
+use Rattle.plasma_tx.specs.Shown.{Rules, tests_by}
+use Rattle.plasma_tx.specs.Table.{answer_to, is_accepted}
 use Rattle.world_rules.specs.declared.verdict.VerdictKind.{VerdictKind}
 use Rattle.world_rules.specs.declared.verdict.Exhibit.{Exhibit}
 use Rattle.plasma_tx.specs.Views.{coins}

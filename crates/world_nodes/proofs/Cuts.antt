@@ -7,7 +7,7 @@ use Rattle.crash_disk.specs.Memory.{MemState, with_fuse}
 use Rattle.crash_disk.specs.Outcomes.{HasPattern}
 use Rattle.crash_disk.specs.declared.outcome.Outcome.{Outcome}
 use Rattle.crash_disk.proofs.Left.{content_may_be_left}
-use Rattle.gate_journal.specs.Laws.{is_added}
+use Rattle.node_journal.specs.JournalLaws.{is_added}
 use Rattle.node_journal.specs.Notes.{NotesState, RefusesRole}
 use Rattle.node_journal.specs.Role.{role_in}
 use Rattle.node_journal.specs.declared.stop.Stop.{Stop}
@@ -21,7 +21,7 @@ use Rattle.wallet_node.specs.State.{WalletState, notes_part, leaves_part}
 use Rattle.world_rules.specs.World.{Role}
 use Rattle.world_rules.specs.Deeds.{Deed, with_record, adds_record}
 use Rattle.world_rules.specs.Steps.{after_crash}
-use Rattle.world_trace.specs.declared.given.Given.{Given}
+use Rattle.world_rules.specs.declared.given.Given.{Given}
 use Rattle.wallet_deeds.specs.Orders.{DidEither}
 use Rattle.world_nodes.specs.declared.down.DownNode.{DownNode}
 use Rattle.world_nodes.specs.declared.down.DownNode.TheVariants.{Wallet as WalletDown, Watcher as WatcherDown, Operator as OperatorDown}

@@ -8,7 +8,7 @@ use Rattle.std.proofs.Math.Seq.{get_or-append_seam}
 use Rattle.crash_disk.specs.Memory.{with_fuse}
 use Rattle.crash_disk.specs.Outcomes.{HasPattern}
 use Rattle.crash_disk.specs.declared.outcome.Outcome.{Outcome}
-use Rattle.gate_journal.specs.Laws.{is_added}
+use Rattle.node_journal.specs.JournalLaws.{is_added}
 use Rattle.leaf_journal.specs.Records.{messages_of}
 use Rattle.plasma_tx.specs.declared.call.RootCall.{RootCall}
 use Rattle.node_rules.specs.Wallet.{WalletRecords}
@@ -16,8 +16,8 @@ use Rattle.world_rules.specs.World.{Role, Node}
 use Rattle.world_rules.specs.Deeds.{Deed, with_record, adds_record}
 use Rattle.world_rules.specs.declared.reply.Reply.{Reply}
 use Rattle.world_rules.specs.Steps.{with_records, after_crash}
-use Rattle.world_trace.specs.declared.given.Given.{Given}
-use Rattle.world_trace.specs.Given.{IsGiven}
+use Rattle.world_rules.specs.declared.given.Given.{Given}
+use Rattle.world_rules.specs.Given.{IsGiven}
 use Rattle.world_nodes.specs.declared.order.NodeOrder.{NodeOrder}
 use Rattle.world_nodes.specs.declared.order.NodeOrder.TheVariants.{Open}
 use Rattle.world_nodes.specs.declared.order.CutEnd.{CutEnd}

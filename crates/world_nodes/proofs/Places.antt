@@ -4,8 +4,8 @@ use Rattle.crash_disk.specs.Memory.{with_fuse}
 use Rattle.crash_disk.specs.Outcomes.{HasPattern}
 use Rattle.crash_disk.specs.declared.outcome.Outcome.{Outcome}
 use Rattle.plasma_tx.specs.declared.call.RootCall.{RootCall}
-use Rattle.world_trace.specs.declared.given.Given.{Given}
-use Rattle.world_trace.specs.Given.{IsGiven}
+use Rattle.world_rules.specs.declared.given.Given.{Given}
+use Rattle.world_rules.specs.Given.{IsGiven}
 use Rattle.world_nodes.specs.declared.order.NodeOrder.{NodeOrder}
 use Rattle.world_nodes.specs.declared.order.NodeOrder.TheVariants.{Open}
 use Rattle.world_nodes.specs.declared.order.CutEnd.{CutEnd}

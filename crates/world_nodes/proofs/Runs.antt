@@ -14,8 +14,8 @@ use Rattle.operator_rules.specs.Records.{operator_kinds}
 use Rattle.wallet_node.specs.State.{WalletState, notes_part, leaves_part}
 use Rattle.world_rules.specs.World.{Role, Node, wallet_of}
 use Rattle.world_rules.specs.Deeds.{Deed, with_record}
-use Rattle.world_trace.specs.declared.given.Given.{Given}
-use Rattle.world_trace.specs.Given.{IsGiven}
+use Rattle.world_rules.specs.declared.given.Given.{Given}
+use Rattle.world_rules.specs.Given.{IsGiven}
 use Rattle.wallet_deeds.specs.Orders.{DidEither, order_deed as wallet_order_deed}
 use Rattle.wallet_deeds.proofs.OrderLaws.{orders_add_one_record}
 use Rattle.watcher_deeds.specs.Orders.{order_deed as watcher_order_deed}

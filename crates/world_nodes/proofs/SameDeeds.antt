@@ -10,7 +10,7 @@ use Rattle.world_rules.specs.Causes.{wallet_cause, watcher_cause, offer_cause, l
 use Rattle.world_rules.specs.Events.{Event}
 use Rattle.world_rules.specs.World.{Node, wallet_of}
 use Rattle.world_rules.specs.Deeds.{Gives, Deed, answered, on_accepted, on_sent, on_sent_again, on_leaving, on_reclaimed, on_migrated, on_guarded, on_released, on_pooled, on_laid, on_sealed, on_bundled, on_proved, on_open}
-use Rattle.world_trace.specs.declared.given.Given.{Given}
+use Rattle.world_rules.specs.declared.given.Given.{Given}
 use Rattle.wallet_deeds.specs.declared.order.WalletOrder.{WalletOrder}
 use Rattle.wallet_deeds.specs.Orders.{order_deed as wallet_deed_of}
 use Rattle.watcher_deeds.specs.declared.order.WatcherOrder.{WatcherOrder}

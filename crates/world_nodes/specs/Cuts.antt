@@ -2,12 +2,12 @@
 use Rattle.std.specs.Prelude.{◌≡◌, ℕ, Bool, true, false, ◌&&◌, not, nat_lt, if◌then◌else◌, List, Option, None}
 use Rattle.std.specs.Option.{option_or}
 use Rattle.crash_disk.specs.declared.outcome.Outcome.{Outcome}
-use Rattle.gate_journal.specs.Laws.{is_added}
+use Rattle.node_journal.specs.JournalLaws.{is_added}
 use Rattle.plasma_tx.specs.declared.call.RootCall.{RootCall}
 use Rattle.world_rules.specs.World.{Node}
 use Rattle.world_rules.specs.Deeds.{Deed, adds_record}
 use Rattle.world_rules.specs.Steps.{with_records, after_crash}
-use Rattle.world_trace.specs.Given.{IsGiven}
+use Rattle.world_rules.specs.Given.{IsGiven}
 use Rattle.world_nodes.specs.declared.order.NodeOrder.{NodeOrder}
 use Rattle.world_nodes.specs.declared.order.CutEnd.{CutEnd}
 use Rattle.world_nodes.specs.declared.order.CutEnd.TheVariants.{Down, Stopped, Done}

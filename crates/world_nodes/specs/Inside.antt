@@ -5,8 +5,8 @@ use Rattle.crash_disk.specs.Disk.{History, fresh_history, content, FaultPlan}
 use Rattle.crash_disk.specs.Memory.{MemState, plan_of, after_crash}
 use Rattle.crash_disk.specs.Outcomes.{image_after}
 use Rattle.crash_disk.specs.declared.outcome.Outcome.{Outcome}
-use Rattle.gate_journal.specs.Image.{kept_records}
-use Rattle.gate_journal.specs.declared.refusal.JournalRefusal.{JournalRefusal}
+use Rattle.node_journal.specs.Image.{kept_records}
+use Rattle.node_journal.specs.declared.refusal.JournalRefusal.{JournalRefusal}
 use Rattle.node_journal.specs.Notes.{NotesState, Did, Opened, RefusesRole}
 use Rattle.node_journal.specs.Role.{role_in}
 use Rattle.node_journal.specs.declared.stop.Stop.{Stop}
@@ -21,13 +21,13 @@ use Rattle.wallet_node.specs.State.{notes_part, leaves_part}
 use Rattle.wallet_node.specs.Opening.{OpensWallet, RefusesWallet}
 use Rattle.world_rules.specs.World.{Role, Watcher, Node}
 use Rattle.leaf_journal.specs.Records.{messages_of}
-use Rattle.gate_journal.specs.declared.refusal.JournalRefusal.TheVariants.{DeviceFault as JournalFault}
+use Rattle.node_journal.specs.declared.refusal.JournalRefusal.TheVariants.{DeviceFault as JournalFault}
 use Rattle.world_rules.specs.declared.reply.Reply.{Reply}
 use Rattle.world_rules.specs.Events.{Other}
 use Rattle.world_rules.specs.Deeds.{Gives, Deed, says}
 use Rattle.wallet_deeds.specs.Orders.{Does}
-use Rattle.world_trace.specs.declared.given.Given.{Given}
-use Rattle.world_trace.specs.Given.{IsGiven}
+use Rattle.world_rules.specs.declared.given.Given.{Given}
+use Rattle.world_rules.specs.Given.{IsGiven}
 use Rattle.world_nodes.specs.declared.order.NodeKind.{NodeKind}
 use Rattle.world_nodes.specs.declared.order.NodeOrder.{NodeOrder}
 use Rattle.world_nodes.specs.declared.order.NodeKind.TheVariants.{Wallet as WalletKind, Watcher as WatcherKind, Operator as OperatorKind}

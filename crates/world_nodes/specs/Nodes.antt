@@ -6,9 +6,9 @@ use Rattle.crash_disk.specs.Disk.{History, fresh_history, content, MayLeave}
 use Rattle.crash_disk.specs.Calls.{with_made}
 use Rattle.crash_disk.specs.Outcomes.{image_after}
 use Rattle.crash_disk.specs.declared.outcome.Outcome.{Outcome}
-use Rattle.gate_journal.specs.Image.{spelled}
-use Rattle.gate_journal.specs.Steps.{append_steps, open_steps}
-use Rattle.gate_journal.specs.Journal.{Keeps}
+use Rattle.node_journal.specs.Image.{spelled}
+use Rattle.node_journal.specs.Steps.{append_steps, open_steps}
+use Rattle.node_journal.specs.Journal.{Keeps}
 use Rattle.plasma_tx.specs.declared.call.RootCall.{RootCall}
 use Rattle.node_rules.specs.declared.identity.WalletIdentity.{WalletIdentity}
 use Rattle.node_rules.specs.WalletRecords.{identity_text as wallet_text}
@@ -19,8 +19,8 @@ use Rattle.world_rules.specs.Events.{Idle}
 use Rattle.world_rules.specs.World.{Role, Wallet, Watcher, Operator, Node}
 use Rattle.world_rules.specs.Deeds.{Deed, says}
 use Rattle.world_rules.specs.Steps.{new_node, after_command, after_crash}
-use Rattle.world_trace.specs.declared.given.Given.{Given}
-use Rattle.world_trace.specs.Given.{IsGiven}
+use Rattle.world_rules.specs.declared.given.Given.{Given}
+use Rattle.world_rules.specs.Given.{IsGiven}
 use Rattle.world_nodes.specs.declared.order.NodeKind.{NodeKind}
 use Rattle.world_nodes.specs.declared.order.NodeKind.TheVariants.{Wallet as WalletKind, Watcher as WatcherKind, Operator as OperatorKind}
 use Rattle.world_nodes.specs.declared.order.NodeOrder.{NodeOrder}

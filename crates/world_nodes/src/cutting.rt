@@ -17,8 +17,7 @@ use node_journal::Stop;
 use plasma_base::{Hash32, NoMemory};
 use plasma_tx::RootLog;
 use std::alloc::Global;
-use world_rules::Reply;
-use world_trace::{Given, says};
+use world_rules::{Given, Reply, says};
 
 // What is left of an order that was cut: the disks, and what it gave, where no device fault stopped it.
 #[derive(Drop)]

@@ -1,12 +1,12 @@
 ghost use Rattle.std.specs.Prelude.{◌≡◌, IfOk};
 ghost use Rattle.crash_disk.specs.Memory.{with_fuse};
 ghost use Rattle.crash_disk.specs.Outcomes.{HasPattern};
-ghost use Rattle.gate_journal.specs.declared.refusal.JournalRefusal.{JournalRefusal};
+ghost use Rattle.node_journal.specs.declared.refusal.JournalRefusal.{JournalRefusal};
 ghost use Rattle.world_nodes.specs.Inside.{crashed, with_disks, Opens, RefusesDown, up_hash};
 
 use super::up::{UpNode, lose};
 use crash_disk::{MemDisk, Outcome};
-use gate_journal::{JournalRefusal, Returned};
+use node_journal::{JournalRefusal, Returned};
 use operator_core::Operator;
 use plasma_base::{Hash32, NoMemory};
 use std::alloc::Global;

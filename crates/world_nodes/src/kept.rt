@@ -3,7 +3,7 @@ ghost use Rattle.world_nodes.specs.Inside.{counts_of, down_halves, kept_behind, 
 
 use super::down::DownNode;
 use crash_disk::MemDisk;
-use gate_journal::Journal;
+use node_journal::Journal;
 use plasma_base::{Bytes, NoMemory};
 use std::alloc::Global;
 

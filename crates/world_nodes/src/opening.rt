@@ -6,8 +6,7 @@ ghost use Rattle.world_nodes.specs.Nodes.{Spells, IsDone, Runs};
 use super::entry::{Entry, Site, closed_of, offer_nothing, put, take};
 use super::up::counts;
 use plasma_base::{Hash32, NoMemory};
-use world_rules::Reply;
-use world_trace::{Given, says};
+use world_rules::{Given, Reply, says};
 
 impl<H: Hash32 + Copy> Entry<H> {
     // Opens the node, where it is down. No log is asked for.

@@ -2,7 +2,7 @@ use operator_deeds::OperatorOrder;
 use plasma_base::Bytes;
 use wallet_deeds::WalletOrder;
 use watcher_deeds::WatcherOrder;
-use world_trace::Given;
+use world_rules::Given;
 
 /// What a node is.
 #[derive(Debug, Clone, Copy, PartialEq, Eq)]

@@ -1,5 +1,5 @@
 ghost use Rattle.std.specs.Prelude.{◌≡◌, ℕ, [], true, false, None, IfOk, OnOk};
-ghost use Rattle.world_trace.specs.Given.{IsGiven};
+ghost use Rattle.world_rules.specs.Given.{IsGiven};
 ghost use Rattle.world_nodes.specs.Orders.{fits, is_opening_order, order_deed};
 ghost use Rattle.world_nodes.specs.Nodes.{role_of, Spells, IsDone, Runs};
 ghost use Rattle.world_nodes.specs.Inside.{bare_node, up_closed, up_halves, up_hash, up_kind, UpDid};
@@ -10,8 +10,7 @@ use super::up::{UpNode, run_up};
 use plasma_base::{Hash32, NoMemory};
 use plasma_tx::{RootCall, RootLog};
 use std::alloc::Global;
-use world_rules::Reply;
-use world_trace::{Given, says};
+use world_rules::{Given, Reply, says};
 
 // A node that ran an order, what it gave, and a copy of what it offers.
 #[derive(Drop)]

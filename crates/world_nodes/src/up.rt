@@ -1,7 +1,7 @@
 ghost use Rattle.std.specs.Prelude.{◌≡◌, ◌-◌, ℕ, true, false, length, IfOk};
 ghost use Rattle.node_journal.specs.Notes.{stopped_by};
 ghost use Rattle.leaf_journal.specs.Records.{messages_of};
-ghost use Rattle.world_trace.specs.Given.{IsGiven};
+ghost use Rattle.world_rules.specs.Given.{IsGiven};
 ghost use Rattle.world_nodes.specs.Orders.{fits, is_opening_order, order_deed};
 ghost use Rattle.world_nodes.specs.Nodes.{role_of};
 ghost use Rattle.world_nodes.specs.Inside.{bare_node, leaves_of, taken_down, up_closed, up_halves, up_hash, up_kind, UpDid};
@@ -16,7 +16,7 @@ use plasma_tx::RootLog;
 use std::alloc::Global;
 use wallet_node::WalletNode;
 use watcher_node::WatcherNode;
-use world_trace::Given;
+use world_rules::Given;
 
 /// A node that is up.
 pub enum UpNode<H: Hash32 + Copy> {

@@ -10,7 +10,7 @@ use Rattle.plasma_tx.specs.declared.call.RootCall.{RootCall}
 use Rattle.plasma_tx.specs.declared.views.CoinView.{CoinView}
 use Rattle.plasma_tx.specs.Links.{tip_of, last_owner_of}
 use Rattle.plasma_tx.specs.Views.{coin_at}
-use Rattle.root_rules.specs.Shown.{tests_by, Rules}
+use Rattle.plasma_tx.specs.Shown.{tests_by, Rules}
 use Rattle.coin_history.specs.declared.bundle.Bundle.{Bundle}
 use Rattle.coin_history.specs.Bundles.{bundle_in}
 use Rattle.coin_history.specs.History.{IsHistory, blocks_of, committed_blocks, links_in, is_committed}

@@ -11,8 +11,8 @@ use Rattle.plasma_tx.specs.declared.links.Link.{Link}
 use Rattle.plasma_tx.specs.declared.signed_tx.SignedTx.{SignedTx}
 use Rattle.plasma_tx.specs.Openings.{opening_text}
 use Rattle.plasma_tx.specs.Spelling.{number_text}
-use Rattle.root_rules.specs.Shown.{Rules}
-use Rattle.root_rules.proofs.Each.{all-append, all-filter}
+use Rattle.plasma_tx.specs.Shown.{Rules}
+use Rattle.plasma_tx.proofs.Each.{all-append, all-filter}
 use Rattle.coin_history.specs.declared.bundle.Bundle.{Bundle}
 use Rattle.coin_history.specs.Bundles.{item_text, length_text, bundle_text, bundle_in}
 use Rattle.coin_history.specs.History.{transfer_of, links_in}

@@ -2,7 +2,7 @@
 use Rattle.std.proofs.Common.{◌≡◌, ℕ, ◌^◌, ◌<◌, ◌≤◌, ◌&&◌, not, Bool, true, false, if◌then◌else◌, List, [], ◌∷◌, ◌++◌, length, Option, Some, None, refl, sym, ap, ◌∙◌, subst, arith, le_refl}
 use Rattle.std.specs.Prelude.{slice_get, option_map, option_and_then}
 use Rattle.std.proofs.lemmas.Bool.{and_parts, eq-eqb, false≢true}
-use Rattle.gate_journal.specs.Laws.{is_added}
+use Rattle.node_journal.specs.JournalLaws.{is_added}
 use Rattle.line_forms.specs.declared.tokens.OutcomeToken.{OutcomeToken}
 use Rattle.line_forms.specs.declared.tokens.HexOrName.{HexOrName}
 use Rattle.line_forms.proofs.FormLaws.{option_map_some, and_then_some}
@@ -15,10 +15,10 @@ use Rattle.plasma_tx.specs.Chain.{with_log}
 use Rattle.plasma_tx.specs.Spelling.{body_text}
 use Rattle.plasma_tx.specs.Views.{blocks}
 use Rattle.plasma_tx.proofs.Names.{some_same}
-use Rattle.root_rules.specs.Shown.{tests_by, rules_of}
-use Rattle.root_rules.specs.Table.{answer_to, is_accepted, log_after}
-use Rattle.root_rules.specs.Laws.{Shows}
-use Rattle.root_rules.proofs.Accepted.{accepted_calls_show}
+use Rattle.plasma_tx.specs.Shown.{tests_by, rules_of}
+use Rattle.plasma_tx.specs.Table.{answer_to, is_accepted, log_after}
+use Rattle.plasma_tx.specs.RuleLaws.{Shows}
+use Rattle.plasma_tx.proofs.Accepted.{accepted_calls_show}
 use Rattle.schedule_text.specs.declared.line.Line.{Line}
 use Rattle.schedule_text.specs.declared.command.Command.{Command}
 use Rattle.schedule_text.specs.Grammar.{node_of, IsLine}
@@ -48,7 +48,7 @@ use Rattle.node_rules.specs.Watcher.{identity_text as watcher_text, WatcherIdent
 use Rattle.line_forms.specs.Tokens.{IsHexOrName}
 use Rattle.line_forms.specs.declared.tokens.TheConstants.{OWNER_BYTES}
 use Rattle.world_rules.proofs.FitLines.{wallet-fit, watcher-fit, rogue-fit, command-fit, sign-fit, cut-fit}
-use Rattle.root_rules.specs.Money.{balance_of}
+use Rattle.plasma_tx.specs.Money.{balance_of}
 
 -- the world behind the line's event is kept, and the line makes bytes
 pub record IsKeptLine (dig : List ℕ → List ℕ) (events : List Event) (effect : LineEffect) : Type 0 where

@@ -18,7 +18,7 @@ use Rattle.world_rules.proofs.ByteTexts.{Small}
 use Rattle.world_rules.proofs.OperatorItems.{AreSmallRecords}
 use Rattle.world_rules.proofs.Said.{Said}
 use Rattle.world_rules.proofs.Handed.{IsKnownCoin}
-use Rattle.root_rules.proofs.Each.{all-append}
+use Rattle.plasma_tx.proofs.Each.{all-append}
 use Rattle.plasma_tx.specs.declared.body.Body.{Body}
 
 -- what is said of a wallet is what its records are; the records are a wallet's, and bytes

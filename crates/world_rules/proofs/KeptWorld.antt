@@ -15,7 +15,7 @@ use Rattle.plasma_tx.specs.Chain.{with_log}
 use Rattle.plasma_tx.specs.Spelling.{owner_in}
 use Rattle.plasma_tx.specs.Views.{blocks}
 use Rattle.plasma_tx.proofs.Names.{some_same}
-use Rattle.root_rules.proofs.Each.{all-append, all-found}
+use Rattle.plasma_tx.proofs.Each.{all-append, all-found}
 use Rattle.node_rules.specs.WalletRecords.{owner_of}
 use Rattle.node_rules.specs.Wallet.{who}
 use Rattle.world_rules.specs.Events.{Event, Joins, log_of}

@@ -15,8 +15,8 @@ use Rattle.plasma_tx.specs.declared.views.CoinView.{CoinView}
 use Rattle.plasma_tx.specs.Spelling.{number_at, signed_in}
 use Rattle.plasma_tx.specs.Views.{coin_at, blocks}
 use Rattle.plasma_tx.proofs.Names.{some_same}
-use Rattle.root_rules.specs.Shown.{root_at}
-use Rattle.root_rules.proofs.Each.{all-append, all-found}
+use Rattle.plasma_tx.specs.Shown.{root_at}
+use Rattle.plasma_tx.proofs.Each.{all-append, all-found}
 use Rattle.coin_history.specs.declared.bundle.Bundle.{Bundle}
 use Rattle.operator_rules.specs.declared.refusal.OfferRefusal.{OfferRefusal}
 use Rattle.operator_rules.specs.declared.refusal.ProveRefusal.{ProveRefusal}

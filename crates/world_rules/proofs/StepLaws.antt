@@ -5,8 +5,8 @@ use Rattle.line_forms.proofs.FormLaws.{option_map_some}
 use Rattle.plasma_tx.specs.declared.call.RootCall.{RootCall}
 use Rattle.plasma_tx.specs.declared.answer.Answer.{Answer}
 use Rattle.plasma_tx.specs.Chain.{with_log}
-use Rattle.root_rules.specs.Shown.{tests_by, rules_of}
-use Rattle.root_rules.specs.Table.{answer_to, is_accepted, log_after}
+use Rattle.plasma_tx.specs.Shown.{tests_by, rules_of}
+use Rattle.plasma_tx.specs.Table.{answer_to, is_accepted, log_after}
 use Rattle.schedule_text.specs.declared.line.Line.{Line}
 use Rattle.schedule_text.specs.declared.command.Command.{Command}
 use Rattle.world_rules.specs.Events.{Event, Joins, Bounces, Declares, Idle, Other, Watches, Leaves, Seals, log_of}
@@ -74,7 +74,7 @@ module _ (dig : List ℕ → List ℕ) (world : World) where
   called-log : (raw_callers : List ℕ) (call : RootCall)
       → LeavesTheLog world (called dig (record world { raw_callers = raw_callers }) call)
       ⊎ AppendsOneCall dig world (called dig (record world { raw_callers = raw_callers }) call)
-  unfolding Rattle.root_rules.specs.Table.log_after Rattle.world_rules.specs.Events.log_of
+  unfolding Rattle.plasma_tx.specs.Table.log_after Rattle.world_rules.specs.Events.log_of
   called-log raw_callers call = by (is_accepted answer) refl
     where
       answer : Answer

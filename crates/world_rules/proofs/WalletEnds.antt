@@ -23,7 +23,7 @@ use Rattle.node_rules.specs.Wallet.{WalletRecords, WalletEffect, answers, notes_
 use Rattle.node_rules.specs.WalletCommandLaws.{sent_body}
 use Rattle.node_journal.specs.Effect.{first_cause}
 use Rattle.coin_history.specs.Checking.{absence_of}
-use Rattle.root_rules.specs.Shown.{tests_by}
+use Rattle.plasma_tx.specs.Shown.{tests_by}
 use Rattle.plasma_tx.specs.Views.{blocks}
 
 -- ---- accept

@@ -16,7 +16,7 @@ use Rattle.plasma_tx.specs.declared.call.RootCall.{RootCall}
 use Rattle.plasma_tx.specs.Spelling.{AreBytes, IsOwner, IsBody, body_text, signed_text, body_at_start}
 use Rattle.plasma_tx.specs.Views.{blocks}
 use Rattle.plasma_tx.proofs.Spellings.{signed_in-text, signed_in-ok}
-use Rattle.root_rules.proofs.Each.{all-weaker}
+use Rattle.plasma_tx.proofs.Each.{all-weaker}
 use Rattle.wallet_core.specs.declared.notes.LeafRecord.{LeafRecord}
 use Rattle.wallet_core.specs.declared.coin_state.CoinState.TheVariants.{Held}
 use Rattle.node_rules.specs.declared.answers.Sent.{Sent}

@@ -3,12 +3,12 @@ use Rattle.std.specs.Prelude.{◌≡◌, ◌⊎◌, ◌≤◌, ℕ, ◌==◌, �
 use Rattle.std.specs.List.{Contains, count_by, All, list_any}
 use Rattle.std.specs.Str.{bytes_eq}
 use Rattle.line_forms.specs.declared.tokens.OutcomeToken.{OutcomeToken}
-use Rattle.gate_journal.specs.Laws.{is_added}
+use Rattle.node_journal.specs.JournalLaws.{is_added}
 use Rattle.plasma_tx.specs.declared.owner.Owner.{Owner}
 use Rattle.plasma_tx.specs.declared.call.RootCall.{RootCall}
 use Rattle.plasma_tx.specs.Chain.{with_log}
-use Rattle.root_rules.specs.Shown.{tests_by, rules_of}
-use Rattle.root_rules.specs.Table.{answer_to, is_accepted}
+use Rattle.plasma_tx.specs.Shown.{tests_by, rules_of}
+use Rattle.plasma_tx.specs.Table.{answer_to, is_accepted}
 use Rattle.schedule_text.specs.declared.line.Line.{Line}
 use Rattle.schedule_text.specs.declared.command.Command.{Command}
 use Rattle.schedule_text.specs.Grammar.{node_of, IsLine}

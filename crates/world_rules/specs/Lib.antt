@@ -9,3 +9,4 @@ pub mod Safety
 pub mod Verdicts
 pub mod Texts
 pub mod Laws
+pub mod Given

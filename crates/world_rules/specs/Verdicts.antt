@@ -7,9 +7,9 @@ use Rattle.plasma_tx.specs.declared.call.RootCall.{RootCall}
 use Rattle.plasma_tx.specs.declared.views.CoinView.{CoinView}
 use Rattle.plasma_tx.specs.Spelling.{body_at_start}
 use Rattle.plasma_tx.specs.Views.{blocks, coins, coin_at, Exit, exit_at}
-use Rattle.root_rules.specs.Shown.{Tests, Rules, tests_by, rules_of}
-use Rattle.root_rules.specs.Laws.{is_paid}
-use Rattle.root_rules.specs.Table.{answer_to}
+use Rattle.plasma_tx.specs.Shown.{Tests, Rules, tests_by, rules_of}
+use Rattle.plasma_tx.specs.RuleLaws.{is_paid}
+use Rattle.plasma_tx.specs.Table.{answer_to}
 use Rattle.schedule_text.specs.declared.line.Line.{Line}
 use Rattle.schedule_text.specs.declared.command.Command.{Command}
 use Rattle.wallet_core.specs.State.{own_deposit, greatest}

@@ -2,17 +2,31 @@
 //! it leaves, its verdicts, and the words of what is promised of it.
 #![tactic(auto)]
 
+mod causes;
+mod counts;
+mod given;
 mod kept_laws;
 mod laws;
+mod offering;
+mod printing;
+mod replies;
 mod reply;
 mod verdict;
 mod verdict_laws;
+mod words;
 
+pub use causes::{
+    contract_cause, history_cause, lay_cause, offer_cause, prove_cause, wallet_cause, watcher_cause,
+};
+pub use counts::print_counts;
+pub use given::{Given, makes, offers, refused, says};
 pub use kept_laws::events_are_what_disks_keep;
 pub use laws::{
     cuts_keep_as_appends_do, down_nodes_stay, items_are_made, lines_that_keep_the_rules_step,
     offers_are_of_events, records_grow, steps_keep_the_log,
 };
+pub use offering::offer_kinds;
+pub use printing::{print_exhibit, print_line, print_reply, print_verdict};
 pub use reply::{OfferKind, OfferKinds, Reply, TraceLine};
 pub use verdict::{Counts, Exhibit, Verdict, VerdictKind};
 pub use verdict_laws::verdicts_are_given_once;

@@ -4,15 +4,15 @@ use Rattle.std.proofs.lemmas.List.{reverse-append}
 use Rattle.plasma_tx.specs.declared.call.RootCall.{RootCall}
 use Rattle.plasma_tx.specs.declared.answer.Answer.{Answer}
 use Rattle.plasma_tx.specs.Chain.{Chain, with_log}
-use Rattle.root_rules.specs.Shown.{tests_by, rules_of}
-use Rattle.root_rules.specs.Table.{answer_to, log_after, is_accepted}
+use Rattle.plasma_tx.specs.Shown.{tests_by, rules_of}
+use Rattle.plasma_tx.specs.Table.{answer_to, log_after, is_accepted}
 use Rattle.coin_verdicts.specs.declared.fact.Fact.{Fact}
-use Rattle.call_facts.specs.Asked.{IsTold}
+use Rattle.run_trace.specs.Asked.{IsTold}
 use Rattle.world_rules.specs.World.{World}
 use Rattle.world_rules.specs.Events.{Joins, Bounces}
 use Rattle.world_rules.specs.declared.reply.Reply.{Reply}
 use Rattle.world_rules.specs.Steps.{called, reply_to}
-use Rattle.line_events.specs.Events.{IsEvent, event_of_call}
+use Rattle.run_trace.specs.Events.{IsEvent, event_of_call}
 use Rattle.world_scene.specs.Scenes.{SceneState, Shown, world_of, shown_of}
 use Rattle.world_scene.specs.Events.{TellsEffect}
 

@@ -20,7 +20,7 @@ use Rattle.world_rules.specs.Declarations.{plays, is_sendable, has_declared_name
 use Rattle.world_rules.specs.declared.reply.Reply.{Reply}
 use Rattle.world_rules.specs.Deeds.{deed_of}
 use Rattle.world_rules.specs.Steps.{LineEffect, effect_in, act_at, act_on, command_effect, commanded, down, is_opening, answers_down as is_down, after_command, crashed, entered, offer_numbered}
-use Rattle.world_trace.specs.declared.given.Given.{Given}
+use Rattle.world_rules.specs.declared.given.Given.{Given}
 use Rattle.wallet_deeds.specs.declared.order.WalletOrder.{WalletOrder}
 use Rattle.wallet_deeds.specs.Orders.{wallet_order, order_deed as wallet_deed}
 use Rattle.wallet_deeds.proofs.OrderLaws.{commands_are_orders as wallet_commands, watches_are_orders as wallet_watches}
@@ -34,9 +34,9 @@ use Rattle.world_nodes.specs.Nodes.{NodeView, answers_down, Runs, IsDown, IsDone
 use Rattle.world_scene.specs.Scenes.{SceneState, Shown, world_of, node_in, shown_of, shows}
 use Rattle.world_scene.specs.Orders.{node_order, watch_order, OrderAt}
 use Rattle.world_scene.specs.Steps.{shown_by, with_nodes, AllHash, RunsAt, CrashesAt, FitsAt, OfferAt}
-use Rattle.root_rules.specs.Shown.{tests_by, rules_of}
-use Rattle.line_events.specs.declared.event.LineEvent.{LineEvent}
-use Rattle.line_events.specs.Orders.{TellsGiven}
+use Rattle.plasma_tx.specs.Shown.{tests_by, rules_of}
+use Rattle.run_trace.specs.declared.event.LineEvent.{LineEvent}
+use Rattle.run_trace.specs.Orders.{TellsGiven}
 use Rattle.world_scene.specs.Events.{TellsEffect, Tells}
 
 -- what is asked of an order that may not be there

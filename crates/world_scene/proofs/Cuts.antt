@@ -4,7 +4,7 @@ use Rattle.std.specs.Prelude.{option_map}
 use Rattle.std.specs.Str.{bytes_eq}
 use Rattle.std.proofs.lemmas.Slice.Eq.{bytes_eq-Decides}
 use Rattle.std.proofs.lemmas.Option.{slice_get-map}
-use Rattle.gate_journal.specs.Laws.{is_added}
+use Rattle.node_journal.specs.JournalLaws.{is_added}
 use Rattle.line_forms.specs.declared.tokens.OutcomeToken.{OutcomeToken}
 use Rattle.schedule_text.specs.declared.line.Line.{Line}
 use Rattle.schedule_text.specs.declared.command.Command.{Command}
@@ -15,8 +15,8 @@ use Rattle.world_rules.specs.Declarations.{plays}
 use Rattle.world_rules.specs.Deeds.{Deed, deed_of, adds_record}
 use Rattle.world_rules.specs.Events.{Event, Other}
 use Rattle.world_rules.specs.Steps.{says, without_offers, effect_in, cut_effect, cut, stopped, finished, down, is_opening, is_stopped as is_cut_short, outcome_of, with_records, after_crash, answers_down as is_down}
-use Rattle.world_trace.specs.declared.given.Given.{Given}
-use Rattle.world_trace.specs.Given.{IsGiven}
+use Rattle.world_rules.specs.declared.given.Given.{Given}
+use Rattle.world_rules.specs.Given.{IsGiven}
 use Rattle.world_nodes.specs.declared.order.NodeOrder.{NodeOrder}
 use Rattle.world_nodes.specs.declared.order.CutEnd.{CutEnd}
 use Rattle.world_nodes.specs.declared.order.CutEnd.TheVariants.{Down, Stopped, Done}
@@ -24,10 +24,10 @@ use Rattle.wallet_deeds.specs.declared.order.WalletOrder.{WalletOrder}
 use Rattle.world_nodes.specs.Orders.{fits, is_opening_order, order_deed}
 use Rattle.world_nodes.specs.Nodes.{NodeView, answers_down}
 use Rattle.world_nodes.specs.Cuts.{is_stopped, Ends, IsStopped, IsFinished}
-use Rattle.root_rules.specs.Shown.{tests_by, rules_of}
-use Rattle.line_events.specs.declared.event.LineEvent.{LineEvent}
-use Rattle.line_events.specs.Events.{IsEvent}
-use Rattle.line_events.specs.Orders.{HasRecords, event_stopped}
+use Rattle.plasma_tx.specs.Shown.{tests_by, rules_of}
+use Rattle.run_trace.specs.declared.event.LineEvent.{LineEvent}
+use Rattle.run_trace.specs.Events.{IsEvent}
+use Rattle.run_trace.specs.Orders.{HasRecords, event_stopped}
 use Rattle.world_scene.specs.Events.{Tells, TellsInRuns, HasWallets, EndTells}
 use Rattle.world_scene.specs.Scenes.{SceneState, Shown, node_in, world_of, shown_of, shows}
 use Rattle.world_scene.specs.Orders.{OrderAt}

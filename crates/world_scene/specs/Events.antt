@@ -1,14 +1,14 @@
 -- The event that a line is, in memory.
 use Rattle.std.specs.Prelude.{◌≡◌, ℕ, true, List, slice_get, Some}
 use Rattle.std.specs.Option.{ForSome}
-use Rattle.root_rules.specs.Shown.{tests_by, rules_of}
+use Rattle.plasma_tx.specs.Shown.{tests_by, rules_of}
 use Rattle.schedule_text.specs.declared.line.Line.{Line}
 use Rattle.node_rules.specs.WalletOpening.{is_wallet}
 use Rattle.world_rules.specs.World.{Node, World, is_wallet_role, wallet_of}
 use Rattle.world_rules.specs.Steps.{LineEffect, effect_in}
-use Rattle.line_events.specs.declared.event.LineEvent.{LineEvent}
-use Rattle.line_events.specs.Events.{IsEvent}
-use Rattle.line_events.specs.Orders.{TellsFinished, TellsStopped}
+use Rattle.run_trace.specs.declared.event.LineEvent.{LineEvent}
+use Rattle.run_trace.specs.Events.{IsEvent}
+use Rattle.run_trace.specs.Orders.{TellsFinished, TellsStopped}
 use Rattle.world_nodes.specs.declared.order.NodeOrder.{NodeOrder}
 use Rattle.world_nodes.specs.declared.order.CutEnd.{CutEnd}
 

@@ -9,7 +9,7 @@ use Rattle.world_rules.specs.declared.TheConstants.{MOST_WALLETS}
 use Rattle.world_rules.specs.World.{Rogue, World}
 use Rattle.world_rules.specs.Steps.{offer_numbered}
 use Rattle.world_rules.specs.Declarations.{is_new_name, wallet_nodes, is_declared_account, is_caller, is_wallet_seed}
-use Rattle.world_trace.specs.declared.given.Given.{Given}
+use Rattle.world_rules.specs.declared.given.Given.{Given}
 use Rattle.world_nodes.specs.declared.order.NodeOrder.{NodeOrder}
 use Rattle.world_nodes.specs.declared.order.CutEnd.{CutEnd}
 use Rattle.world_nodes.specs.Cuts.{Cuts}

@@ -1,4 +1,4 @@
-use line_events::LineEvent;
+use run_trace::LineEvent;
 use plasma_base::Bytes;
 use world_rules::Reply;
 

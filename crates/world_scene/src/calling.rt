@@ -1,6 +1,6 @@
 ghost use Rattle.std.specs.Prelude.{◌≡◌, ◌∷◌, [], false, IfOk, OnOk, OnErr, Some, None, option_map};
-ghost use Rattle.root_rules.specs.Money.{balance_of};
-ghost use Rattle.line_events.specs.declared.event.LineEvent.{LineEvent};
+ghost use Rattle.plasma_tx.specs.Money.{balance_of};
+ghost use Rattle.run_trace.specs.declared.event.LineEvent.{LineEvent};
 ghost use Rattle.plasma_tx.specs.declared.call.RootCall.{RootCall};
 ghost use Rattle.world_rules.specs.Steps.{called, raw_called, deposit_by, entered, offer_numbered, says};
 ghost use Rattle.world_scene.specs.Scenes.{world_of, shown_of};
@@ -9,8 +9,7 @@ ghost use Rattle.world_scene.specs.Events.{TellsEffect};
 
 use super::answer::LineAnswer;
 use super::scene::Scene;
-use call_facts::{fact_asked, fact_told};
-use line_events::{LineEvent, event_of_call};
+use run_trace::{LineEvent, event_of_call, fact_asked, fact_told};
 use plasma_base::{Bytes, Hash32, NoMemory};
 use plasma_tx::{Owner, RootCall};
 use std::alloc::Global;

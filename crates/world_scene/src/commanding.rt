@@ -1,6 +1,6 @@
 ghost use Rattle.std.specs.Prelude.{◌≡◌, ◌<◌, true, false, length, IfOk, OnOk, IsErrOf, Some};
 ghost use Rattle.std.specs.List.{All};
-ghost use Rattle.line_events.specs.declared.event.LineEvent.{LineEvent};
+ghost use Rattle.run_trace.specs.declared.event.LineEvent.{LineEvent};
 ghost use Rattle.world_nodes.specs.Nodes.{NodeView, Spells};
 ghost use Rattle.schedule_text.specs.declared.line.Line.{Line};
 ghost use Rattle.world_rules.specs.Declarations.{may_command};
@@ -14,12 +14,12 @@ use super::answer::LineAnswer;
 use super::orders::Chosen;
 use super::refusal::StepRefusal;
 use super::scene::Scene;
-use line_events::{LineEvent, event_of_given};
+use run_trace::{LineEvent, event_of_given};
 use plasma_base::{Hash32, NoMemory};
 use plasma_tx::RootLog;
 use schedule_text::Command;
 use world_nodes::{Entry, NodeOrder};
-use world_trace::Given;
+use world_rules::Given;
 
 // Runs an order of the node with this number.
 fn run_at<H: Hash32 + Copy>(

@@ -17,7 +17,7 @@ use super::names::Roles;
 use super::refusal::StepRefusal;
 use super::scene::Scene;
 use crash_disk::Outcome;
-use line_events::LineEvent;
+use run_trace::LineEvent;
 use line_forms::OutcomeToken;
 use plasma_base::{Hash32, NoMemory};
 use world_nodes::Entry;

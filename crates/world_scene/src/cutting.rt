@@ -8,7 +8,7 @@ ghost use Rattle.world_rules.specs.Declarations.{may_command};
 ghost use Rattle.world_rules.specs.Steps.{outcome_of};
 ghost use Rattle.world_rules.specs.World.{World};
 ghost use Rattle.world_nodes.specs.Nodes.{NodeView, Spells};
-ghost use Rattle.line_events.specs.declared.event.LineEvent.{LineEvent};
+ghost use Rattle.run_trace.specs.declared.event.LineEvent.{LineEvent};
 ghost use Rattle.world_scene.specs.Events.{TellsInRuns, EndTells};
 ghost use Rattle.world_scene.specs.Moves.{Cuts};
 ghost use Rattle.world_scene.specs.Orders.{NamesOwner, IsChosen};
@@ -21,16 +21,15 @@ use super::orders::Chosen;
 use super::refusal::StepRefusal;
 use super::scene::Scene;
 use crash_disk::Outcome;
-use line_events::{LineEvent, event_of_finished, event_of_stopped};
+use run_trace::{LineEvent, event_of_finished, event_of_stopped};
 use line_forms::OutcomeToken;
 use plasma_base::{Hash32, NoMemory};
 use plasma_tx::RootLog;
 use schedule_text::Command;
 use std::alloc::Global;
 use world_nodes::{CutEnd, Entry, NodeOrder};
-use world_rules::Reply;
+use world_rules::{Given, Reply};
 use world_tokens::outcome_of;
-use world_trace::Given;
 
 // Runs an order of the node with this number, of which so many device calls pass, and then its disks crash.
 fn cut_at<H: Hash32 + Copy>(

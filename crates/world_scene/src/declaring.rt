@@ -1,5 +1,5 @@
 ghost use Rattle.std.specs.Prelude.{◌≡◌, ◌&&◌, true, false, length, IfOk, OnOk, IsErrOf, OnErr, Some};
-ghost use Rattle.line_events.specs.declared.event.LineEvent.{LineEvent};
+ghost use Rattle.run_trace.specs.declared.event.LineEvent.{LineEvent};
 ghost use Rattle.node_rules.specs.WalletRecords.{owner_of};
 ghost use Rattle.world_scene.specs.Events.{Tells};
 ghost use Rattle.world_tokens.specs.Tokens.{AreTypes};
@@ -16,7 +16,7 @@ use super::answer::LineAnswer;
 use super::calling::{idles, says};
 use super::refusal::StepRefusal;
 use super::scene::Scene;
-use line_events::LineEvent;
+use run_trace::LineEvent;
 use lms_sign::LmsTypes;
 use node_rules::WalletIdentity;
 use plasma_base::{Bytes, Hash32, NoMemory};

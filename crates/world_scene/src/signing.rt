@@ -9,7 +9,7 @@ ghost use Rattle.world_scene.specs.Events.{Tells};
 use super::answer::LineAnswer;
 use super::refusal::StepRefusal;
 use super::scene::Scene;
-use line_events::LineEvent;
+use run_trace::LineEvent;
 use line_forms::HexOrName;
 use plasma_base::Hash32;
 use plasma_tx::Body;

@@ -5,8 +5,7 @@ ghost use Rattle.world_rules.specs.Steps.{reply_to};
 use plasma_base::NoMemory;
 use plasma_tx::Answer;
 use std::alloc::Global;
-use world_rules::Reply;
-use world_trace::contract_cause;
+use world_rules::{Reply, contract_cause};
 
 /// The reply that says the contract's answer to a call, with the text of the cause where it refuses. It is
 /// `NoMemory` where the contract's answer is that memory ran out, and where it runs out here.

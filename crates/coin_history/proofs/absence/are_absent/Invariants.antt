@@ -1,4 +1,4 @@
-use Rattle.root_rules.specs.Shown.{tests_by}
+use Rattle.plasma_tx.specs.Shown.{tests_by}
 use Rattle.coin_history.proofs.CheckAbsences.{Cleared}
 use Rattle.coin_history.proofs.absence.are_absent.Given as goal
 

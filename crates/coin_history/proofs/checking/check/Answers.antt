@@ -1,5 +1,5 @@
 use Rattle.std.proofs.Common.{List, ℕ, ◌∙◌, ap}
-use Rattle.root_rules.specs.Shown.{tests_by, rules_of}
+use Rattle.plasma_tx.specs.Shown.{tests_by, rules_of}
 use Rattle.coin_history.specs.History.{tagged}
 use Rattle.coin_history.specs.Checking.{history_of}
 use Rattle.coin_history.proofs.CheckFacts.{tagged-same}

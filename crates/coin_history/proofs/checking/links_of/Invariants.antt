@@ -1,4 +1,4 @@
-use Rattle.root_rules.specs.Shown.{tests_by}
+use Rattle.plasma_tx.specs.Shown.{tests_by}
 use Rattle.coin_history.specs.History.{tagged}
 use Rattle.coin_history.proofs.CheckLinks.{Walked}
 use Rattle.coin_history.proofs.checking.links_of.Given as goal

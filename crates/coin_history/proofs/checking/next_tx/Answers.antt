@@ -2,7 +2,7 @@ use Rattle.std.proofs.Common.{true, false, refl, sym, ap, ◌∙◌}
 use Rattle.std.proofs.lemmas.Bool.{eq-eqb, ne_eqb}
 use Rattle.plasma_tx.specs.Links.{tip_of}
 use Rattle.plasma_tx.specs.Transfer.{is_signed_by}
-use Rattle.root_rules.specs.Shown.{tests_by, spends}
+use Rattle.plasma_tx.specs.Shown.{tests_by, spends}
 use Rattle.coin_history.specs.History.{tagged}
 use Rattle.coin_history.specs.Inside.{links_with}
 use Rattle.coin_history.proofs.CheckFacts.{absent-from}

@@ -1,6 +1,6 @@
 use Rattle.std.proofs.Common.{◌≡◌, ℕ, ◌+◌, length}
 use Rattle.bond_ledger.specs.Ledger.{balance_in, held_in, funded_in, is_known}
-use Rattle.root_rules.specs.Money.{share_of}
+use Rattle.plasma_tx.specs.Money.{share_of}
 use Rattle.root_contract.specs.Settling.{open_bonds}
 use Rattle.root_contract.proofs.settling.give_back_open.Given as goal
 

@@ -1,6 +1,6 @@
 use Rattle.std.proofs.Common.{None, rules, refl}
 use Rattle.world_rules.specs.Deeds.{on_migrated}
-use Rattle.world_trace.specs.Given.{IsGiven}
+use Rattle.world_rules.specs.Given.{IsGiven}
 use Rattle.wallet_deeds.proofs.Outcomes.{ok-gives, err-gives, leafed, err-did}
 use Rattle.wallet_deeds.proofs.Effects.{migrate-note, migrate-bare}
 use Rattle.wallet_deeds.proofs.leaf_orders.migrate.Goals as goal

@@ -1,6 +1,6 @@
 use Rattle.std.proofs.Common.{None, rules, refl}
 use Rattle.world_rules.specs.Deeds.{on_sent}
-use Rattle.world_trace.specs.Given.{IsGiven}
+use Rattle.world_rules.specs.Given.{IsGiven}
 use Rattle.wallet_deeds.specs.Orders.{order_deed}
 use Rattle.wallet_deeds.proofs.Outcomes.{ok-gives, err-gives, leafed, err-did}
 use Rattle.wallet_deeds.proofs.Effects.{send-note, send-bare}

@@ -1,7 +1,7 @@
 use Rattle.std.proofs.Common.{sym, subst}
 use Rattle.std.specs.Prelude.{IfOk}
 use Rattle.node_journal.specs.Notes.{stopped_by}
-use Rattle.world_trace.specs.Given.{IsGiven}
+use Rattle.world_rules.specs.Given.{IsGiven}
 use Rattle.wallet_deeds.specs.declared.order.WalletOrder.{WalletOrder}
 use Rattle.wallet_deeds.specs.Orders.{order_deed, Does}
 use Rattle.wallet_deeds.proofs.running.run.Goals as goal

@@ -1,7 +1,7 @@
 use Rattle.std.proofs.Common.{◌≡◌, ◌++◌}
 use Rattle.std.specs.List.{flat_map}
 use Rattle.std.specs.BTreeMap.{values}
-use Rattle.kept_coins.specs.KeptCoins.{due_for_coin}
+use Rattle.node_rules.specs.KeptCoins.{due_for_coin}
 use Rattle.watcher_node.proofs.duties.due_calls.Given as goal
 
 abbrev pub invariant-loop-watched : goal.invariant-loop-watched

@@ -2,7 +2,7 @@ use Rattle.std.proofs.Common.{List, ℕ, take, map, reverse, Option, sym, ◌∙
 use Rattle.std.specs.List.{filter_map}
 use Rattle.std.specs.Option.{option_map}
 use Rattle.node_rules.specs.Watcher.{note_in}
-use Rattle.kept_coins.specs.declared.kept_coin.KeptCoin.{KeptCoin}
+use Rattle.node_rules.specs.declared.kept_coin.KeptCoin.{KeptCoin}
 use Rattle.watcher_node.specs.declared.watched.Change.{Change}
 use Rattle.watcher_node.specs.Inside.{change_of, changed_by, watched_in, keyed}
 use Rattle.watcher_node.proofs.Steps.{watched-start, watched-take}

@@ -1,7 +1,7 @@
 use Rattle.std.proofs.Common.{Some, None, subst}
 use Rattle.node_journal.specs.declared.stop.Stop.{Stop}
 use Rattle.world_rules.specs.Deeds.{Deed}
-use Rattle.world_trace.specs.Given.{IsGiven}
+use Rattle.world_rules.specs.Given.{IsGiven}
 use Rattle.world_nodes.specs.Orders.{order_deed}
 use Rattle.world_nodes.specs.Inside.{bare_node, up_halves, UpDid}
 use Rattle.world_nodes.proofs.cutting.run_cut.Goals as goal

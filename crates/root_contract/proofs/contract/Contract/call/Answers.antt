@@ -1,4 +1,4 @@
-use Rattle.root_rules.specs.Shown.{tests_by}
+use Rattle.plasma_tx.specs.Shown.{tests_by}
 use Rattle.root_contract.proofs.Called.{call-answer, call-log, call-no_memory, call-memory}
 use Rattle.root_contract.proofs.contract.Contract.call.Goals as goal
 

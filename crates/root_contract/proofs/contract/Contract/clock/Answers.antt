@@ -1,6 +1,6 @@
 use Rattle.std.proofs.Common.{arith}
-use Rattle.root_rules.specs.Shown.{rules_of}
-use Rattle.root_rules.proofs.Bounds.{times_are_bounded}
+use Rattle.plasma_tx.specs.Shown.{rules_of}
+use Rattle.plasma_tx.proofs.Bounds.{times_are_bounded}
 use Rattle.root_contract.proofs.contract.Contract.clock.Goals as goal
 
 pub returns-clause-limit : goal.returns-clause-limit

@@ -1,6 +1,6 @@
 use Rattle.std.proofs.Common.{◌∙◌, sym}
-use Rattle.root_rules.specs.Shown.{tests_by, rules_of}
-use Rattle.root_rules.proofs.Accepted.{owners_are_read}
+use Rattle.plasma_tx.specs.Shown.{tests_by, rules_of}
+use Rattle.plasma_tx.proofs.Accepted.{owners_are_read}
 use Rattle.root_contract.proofs.contract.Contract.judge_before.Goals as goal
 
 pub returns-clause-owner : goal.returns-clause-owner

@@ -1,6 +1,6 @@
 use Rattle.std.proofs.Common.{sym, ap, ◌∙◌}
 use Rattle.std.specs.Prelude.{is_some}
-use Rattle.root_rules.specs.Shown.{tests_by, rules_of}
+use Rattle.plasma_tx.specs.Shown.{tests_by, rules_of}
 use Rattle.root_contract.proofs.Showing.{show-uncommitted, show-unopened, show-opened}
 use Rattle.root_contract.proofs.contract.Contract.shown.Goals as goal
 

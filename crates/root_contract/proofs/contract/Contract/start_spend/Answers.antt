@@ -2,9 +2,9 @@ use Rattle.std.proofs.Common.{◌+◌, ◌∙◌, sym, refl, ap}
 use Rattle.plasma_tx.specs.declared.answer.Answer.TheVariants.{Started}
 use Rattle.plasma_tx.specs.declared.call.RootCall.TheVariants.{StartSpend}
 use Rattle.plasma_tx.specs.Views.{now}
-use Rattle.root_rules.specs.declared.TheConstants.{EXIT_PERIOD}
-use Rattle.root_rules.specs.Shown.{tests_by}
-use Rattle.root_rules.specs.Table.{answer_to}
+use Rattle.plasma_tx.specs.declared.rules.TheConstants.{EXIT_PERIOD}
+use Rattle.plasma_tx.specs.Shown.{tests_by}
+use Rattle.plasma_tx.specs.Table.{answer_to}
 use Rattle.root_contract.specs.declared.judging.Owners.{Owners}
 use Rattle.root_contract.proofs.Called.{takes-stopped, takes-unheld, accepted, start_spend-changes}
 use Rattle.root_contract.proofs.contract.Contract.start_spend.Goals as goal

@@ -1,4 +1,4 @@
-use Rattle.root_rules.specs.Shown.{tests_by}
+use Rattle.plasma_tx.specs.Shown.{tests_by}
 use Rattle.root_contract.proofs.contract.Contract.take.Goals as goal
 
 pub returns-in-Fund : goal.returns-in-Fund

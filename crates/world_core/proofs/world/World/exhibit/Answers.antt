@@ -1,7 +1,7 @@
 use Rattle.std.proofs.Common.{◌≡◌, ◌∙◌, sym, ap, subst}
 use Rattle.std.proofs.lemmas.Result.{IfOk-weaker}
 use Rattle.plasma_tx.specs.Chain.{Chain}
-use Rattle.root_rules.specs.Shown.{tests_by, rules_of}
+use Rattle.plasma_tx.specs.Shown.{tests_by, rules_of}
 use Rattle.world_rules.specs.Steps.{events_of}
 use Rattle.world_rules.specs.Exhibits.{exhibit_of}
 use Rattle.world_rules.specs.Verdicts.{exhibit_of_run}

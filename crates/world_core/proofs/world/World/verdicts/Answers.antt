@@ -1,7 +1,7 @@
 use Rattle.std.proofs.Common.{◌≡◌, ◌∙◌, List, map, sym, ap, subst}
 use Rattle.std.specs.List.{flat_map}
 use Rattle.std.proofs.lemmas.Result.{IfOk-weaker}
-use Rattle.root_rules.specs.Shown.{tests_by, rules_of}
+use Rattle.plasma_tx.specs.Shown.{tests_by, rules_of}
 use Rattle.world_rules.specs.Steps.{events_of}
 use Rattle.world_rules.specs.Verdicts.{verdicts_on, verdicts_of}
 use Rattle.coin_verdicts.specs.declared.wallet.NamedWallet.{NamedWallet}

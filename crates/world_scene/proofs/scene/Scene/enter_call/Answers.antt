@@ -1,7 +1,7 @@
 use Rattle.std.proofs.Common.{◌≡◌, sym, ap, ◌∙◌, subst, reverse}
-use Rattle.call_facts.specs.Asked.{IsAsked}
-use Rattle.root_rules.specs.Shown.{tests_by, rules_of}
-use Rattle.root_rules.specs.Table.{IsLegal}
+use Rattle.run_trace.specs.Asked.{IsAsked}
+use Rattle.plasma_tx.specs.Shown.{tests_by, rules_of}
+use Rattle.plasma_tx.specs.Table.{IsLegal}
 use Rattle.world_rules.specs.Steps.{called}
 use Rattle.world_scene.specs.Events.{TellsEffect}
 use Rattle.world_scene.specs.Scenes.{SceneState, world_of, shown_of}

@@ -1,5 +1,0 @@
-use Rattle.std.proofs.Common.{◌≡◌, take, map}
-use Rattle.kept_coins.proofs.handed.openings_of.Given as goal
-
-abbrev pub invariant-loop-link : goal.invariant-loop-link
-invariant-loop-link l = l.openings.items ≡ map (λ link. link.opening) (take l.link-index l.links)

@@ -1,4 +1,0 @@
-pub mod CoinLists
-pub mod BodyLaws
-pub mod AnswerLaws
-pub mod StopLaws

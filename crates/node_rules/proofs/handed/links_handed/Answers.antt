@@ -1,0 +1,25 @@
+use Rattle.std.proofs.Common.{◌≡◌, ◌<◌, Ok, sym, ◌∙◌, ap, arith}
+use Rattle.std.proofs.lemmas.List.Elements.{All-from_get_or}
+use Rattle.coin_history.specs.Bundles.{bundle_in}
+use Rattle.node_rules.specs.Kept.{checked_by}
+use Rattle.node_rules.proofs.KeptTexts.{handed-back}
+use Rattle.node_rules.proofs.handed.links_handed.Goals as goal
+
+pub returns-in-Ok-check_tagged-clause-spelled : goal.returns-in-Ok-check_tagged-clause-spelled
+returns-in-Ok-check_tagged-clause-spelled g c =
+    let dig = g.H.Hash32.digest_of c.args.h.now in
+    let small = All-from_get_or (λ byte. byte < 256) c.args.bytes.now 0 (λ i lt. omega (arith, c.type_inv.bytes i)) in
+    let read : bundle_in c.args.bytes.now ≡ Ok c.in-Ok.bundle = sym (c.in-Ok.ensures.value (λ wrong. cc wrong)) in
+    (handed-back dig c.args.tag.now c.args.log.now.log c.args.bytes.now c.in-Ok-check_tagged.links small
+    (ap (checked_by dig c.args.tag.now c.args.log.now.log) read
+    ∙ sym (c.in-Ok-check_tagged.ensures (λ wrong. cc wrong)))).is_kept.is_bundle
+
+pub returns-in-Ok-check_tagged-clause-shown : goal.returns-in-Ok-check_tagged-clause-shown
+returns-in-Ok-check_tagged-clause-shown g c =
+    let dig = g.H.Hash32.digest_of c.args.h.now in
+    let small = All-from_get_or (λ byte. byte < 256) c.args.bytes.now 0 (λ i lt. omega (arith, c.type_inv.bytes i)) in
+    let read : bundle_in c.args.bytes.now ≡ Ok c.in-Ok.bundle = sym (c.in-Ok.ensures.value (λ wrong. cc wrong)) in
+    let back = handed-back dig c.args.tag.now c.args.log.now.log c.args.bytes.now c.in-Ok-check_tagged.links small
+    (ap (checked_by dig c.args.tag.now c.args.log.now.log) read
+    ∙ sym (c.in-Ok-check_tagged.ensures (λ wrong. cc wrong))) in
+    record { read = back.read; shown = back.shown }

@@ -1,0 +1,7 @@
+use Rattle.std.proofs.Common.{take}
+use Rattle.node_rules.proofs.ShownCoins.{Shows}
+use Rattle.node_rules.proofs.reading.kept_coin_in.Given as goal
+
+abbrev pub invariant-loop-opening : goal.invariant-loop-opening
+invariant-loop-opening g l =
+    Shows (g.H.Hash32.digest_of l.h) l.tag l.bundle.coin (take l.opening-index l.openings) l.spends.items

@@ -1,0 +1,84 @@
+ghost use Rattle.std.specs.Prelude.{◌≡◌, ◌++◌, codes, OnOk};
+ghost use Rattle.world_rules.specs.Texts.{kind_text, offers_text, reply_text};
+
+use super::reply::{OfferKind, Reply};
+use super::words::{push_phrase, push_words};
+use plasma_base::NoMemory;
+
+fn push_kind(out: &mut Vec<u8>, kind: OfferKind) -> Result<(), NoMemory>
+    ensures { OnOk result (out.new.items ≡ out.old.items ++ kind_text kind) }
+{
+    match kind {
+        OfferKind::After => push_words(out, b"after"),
+        OfferKind::Between => push_words(out, b"between"),
+        OfferKind::Before => push_words(out, b"before"),
+        OfferKind::Respond => push_words(out, b"respond"),
+    }
+}
+
+fn push_offers(out: &mut Vec<u8>, kinds: &[OfferKind]) -> Result<(), NoMemory>
+    ensures { OnOk result (out.new.items ≡ out.old.items ++ offers_text kinds.now) }
+{
+    push_phrase(out, b"offers", &[kinds.len() as u64])?;
+    for kind in kinds {
+        out.push(b' ')?;
+        push_kind(out, *kind)?;
+    }
+    Ok(())
+}
+
+fn push_refused(out: &mut Vec<u8>, cause: &[u8]) -> Result<(), NoMemory>
+    ensures { OnOk result (out.new.items ≡ out.old.items ++ codes "refused " ++ cause.now) }
+{
+    push_words(out, b"refused ")?;
+    push_words(out, cause)
+}
+
+/// Puts an answer at the end.
+#[tactic(auto, unfolding(world_rules::specs::Texts::reply_text))]
+pub fn push_reply(out: &mut Vec<u8>, reply: &Reply) -> Result<(), NoMemory>
+    ensures { OnOk result (out.new.items ≡ out.old.items ++ reply_text reply.now) }
+{
+    match reply {
+        Reply::Chain => push_words(out, b"chain"),
+        Reply::Wallet => push_words(out, b"wallet"),
+        Reply::Watcher => push_words(out, b"watcher"),
+        Reply::Rogue => push_words(out, b"rogue"),
+        Reply::Funded => push_words(out, b"funded"),
+        Reply::Ticked => push_words(out, b"ticked"),
+        Reply::Deposited { coin, block } => push_phrase(out, b"deposited", &[*coin, *block]),
+        Reply::Committed { block } => push_phrase(out, b"committed", &[*block]),
+        Reply::Started { opens } => push_phrase(out, b"started", &[*opens]),
+        Reply::Cancelled => push_words(out, b"cancelled"),
+        Reply::Challenged { until } => push_phrase(out, b"challenged", &[*until]),
+        Reply::Responded => push_words(out, b"responded"),
+        Reply::Paid => push_words(out, b"paid"),
+        Reply::Dropped => push_words(out, b"dropped"),
+        Reply::Money { balance } => push_phrase(out, b"money", &[*balance]),
+        Reply::Nothing => push_words(out, b"nothing"),
+        Reply::Accepted { coin, tip } => push_phrase(out, b"accepted", &[*coin, *tip]),
+        Reply::Guarded { coin, tip } => push_phrase(out, b"guarded", &[*coin, *tip]),
+        Reply::Sent { leaf } => push_phrase(out, b"sent", &[u64::from(*leaf)]),
+        Reply::Leaving { tip } => push_phrase(out, b"leaving", &[*tip]),
+        Reply::Released => push_words(out, b"released"),
+        Reply::Reclaimed { coin, leaf } => push_phrase(
+            out,
+            b"reclaimed",
+            &[*coin, u64::from(*leaf)],
+        ),
+        Reply::Migrated => push_words(out, b"migrated"),
+        Reply::Pooled { coin } => push_phrase(out, b"pooled", &[*coin]),
+        Reply::Laid { coin } => push_phrase(out, b"laid", &[*coin]),
+        Reply::Sealed { leaves } => push_phrase(out, b"sealed", &[*leaves]),
+        Reply::Bundled { tip } => push_phrase(out, b"bundled", &[*tip]),
+        Reply::Proved => push_words(out, b"proved"),
+        Reply::Signed => push_words(out, b"signed"),
+        Reply::Crashed => push_words(out, b"crashed"),
+        Reply::Stopped => push_words(out, b"stopped"),
+        Reply::Opened { notes, leaves } => push_phrase(out, b"opened", &[*notes, *leaves]),
+        Reply::Up => push_words(out, b"up"),
+        Reply::Down => push_words(out, b"down"),
+        Reply::Offers { kinds } => push_offers(out, kinds.as_slice()),
+        Reply::Refused { cause } => push_refused(out, cause.as_slice()),
+    }
+}
