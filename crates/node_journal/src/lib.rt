@@ -1,5 +1,7 @@
-//! The records of a node in a journal on a disk, proved once for all nodes: what a command that appends at
-//! most one record did, what an opening did, and how a journal is begun.
+//! A journal on a disk: each record is on the disk before it is acknowledged, and a crash at any moment
+//! leaves the records with the one that is being added or without. Over it stand the records of a node,
+//! proved once for all nodes: what a command that appends at most one record did, what an opening did, and
+//! how a journal is begun.
 #![tactic(auto)]
 
 mod image;

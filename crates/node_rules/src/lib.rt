@@ -1,5 +1,7 @@
 //! What wallets and watchers do, as definitions: their records, and for each command its answer, the record
-//! that it adds and what it makes, by the records and the log.
+//! that it adds and what it makes, by the records and the log. And the coins that both keep, in code: a
+//! bundle that is handed in is checked and its links are spelled as a record, a record is read back, and the
+//! calls are found that are due for the coin.
 #![tactic(auto)]
 
 mod answers;

@@ -1,5 +1,6 @@
-//! Transfers, openings and the calls on a root contract: their types, their bytes, and what a log of
-//! accepted calls says.
+//! Transfers, openings and the calls on a root contract: their types, their bytes, what a log of accepted
+//! calls says, and the rules of the contract whole, as definitions: the answer to each call after a log, and
+//! the money of every account. Laws of both hold of every list of calls.
 #![tactic(auto)]
 
 mod answer;

@@ -1,4 +1,6 @@
-//! What is kept of the lines of a run: of each line what its verdicts and its exhibit need, and no mail item twice.
+//! What is kept of the lines of a run: of each line what its verdicts and its exhibit need, and no mail item
+//! twice. That is the event of a node's order or of a call, and what verdicts need to know of a call that is
+//! entered into the contract.
 #![tactic(auto)]
 
 mod asked;

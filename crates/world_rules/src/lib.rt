@@ -1,5 +1,6 @@
 //! The world of a schedule, as definitions: what each line does to the contract and to the nodes, the trace that
-//! it leaves, its verdicts, and the words of what is promised of it.
+//! it leaves, its verdicts, and the words of what is promised of it. And in code what nodes' commands give out,
+//! and the text of a trace: its lines, verdicts and exhibit, and the causes of refusals.
 #![tactic(auto)]
 
 mod causes;
