@@ -14,13 +14,15 @@ use std::alloc::Global;
 
 /// The blocks after one and up to another, of which the committed ones have to be opened.
 #[derive(Debug, Clone, Copy, PartialEq, Eq)]
-pub(crate) struct Span {
-    pub(crate) low: u64,
-    pub(crate) high: u64,
+pub struct Span {
+    /// The block behind which they begin, as a coin's deposit block.
+    pub low: u64,
+    /// The last of them.
+    pub high: u64,
 }
 
-/// The root of a block that was committed.
-pub(crate) fn root_at(log: &RootLog, n: u64) -> Option<[u8; 32]>
+/// The root of a block that was committed; `None` exactly of one that a deposit made, and of none.
+pub fn root_at(log: &RootLog, n: u64) -> Option<[u8; 32]>
     ensures { result ≡ root_at log.now.log n }
 {
     match log.block(n)? {
@@ -30,15 +32,15 @@ pub(crate) fn root_at(log: &RootLog, n: u64) -> Option<[u8; 32]>
 }
 
 /// Whether the block has to be opened.
-pub(crate) fn is_asked(log: &RootLog, span: Span, n: u64) -> bool
+pub fn is_asked(log: &RootLog, span: Span, n: u64) -> bool
     ensures { result ≡ is_asked log.now.log span.low span.high n }
 {
     root_at(log, n).is_some() && span.low < n && n <= span.high
 }
 
-/// The first block from one on and below another that has to be opened. It looks at no block outside
-/// the span.
-pub(crate) fn first_asked(log: &RootLog, span: Span, from: u64, to: u64) -> Option<u64>
+/// The first block from one on and below another that has to be opened; `None` exactly where none has.
+/// It looks at no block outside the span, whose end is a block of the log.
+pub fn first_asked(log: &RootLog, span: Span, from: u64, to: u64) -> Option<u64>
     requires { span.high ≤ blocks log.now.log }
     ensures { MatchOption result (NoneIsAsked (is_asked log.now.log span.low span.high) from to)
         (IsFirstAsked (is_asked log.now.log span.low span.high) from to) }
@@ -54,7 +56,7 @@ pub(crate) fn first_asked(log: &RootLog, span: Span, from: u64, to: u64) -> Opti
 }
 
 /// The number after a block of the log; there are fewer than 2^63.
-pub(crate) fn next_block(log: &RootLog, block: u64) -> u64
+pub fn next_block(log: &RootLog, block: u64) -> u64
     requires { block ≤ blocks log.now.log }
     ensures { result ≡ block + 1 }
 {
@@ -62,9 +64,10 @@ pub(crate) fn next_block(log: &RootLog, block: u64) -> u64
     block + 1
 }
 
-/// The leaf of an opening; refused where its block doesn't have to be opened, or it doesn't open the
-/// block's root at the coin. It is read once, with defaults that the caller made.
-pub(crate) fn leaf_at<H: Hash32>(
+/// The leaf of an opening: `UnknownBlock` where its block doesn't have to be opened, `BadOpening` where it
+/// doesn't open the block's root at the coin. It is read once, with the 64 defaults of the digest that the
+/// caller made, and takes the memory of the leaf.
+pub fn leaf_at<H: Hash32>(
     alloc: Global,
     h: &H,
     defaults: &[[u8; 32]; 64],

@@ -14,6 +14,7 @@ mod spelling;
 pub use absence::absent;
 pub use bundle::{Bundle, Openings};
 pub use checking::{check, check_tagged};
+pub use coverage::{Span, first_asked, is_asked, leaf_at, next_block, root_at};
 pub use laws::{
     a_history_has_its_shape, absences_are_checked, absences_exclude_links, histories_agree,
     histories_are_checked, histories_have_beginnings, histories_have_one_meaning, histories_stay,

@@ -16,4 +16,4 @@ pub use laws::{
     a_printed_call_is_read_back, a_printed_chain_is_read_back, the_first_line_has_these_numbers,
 };
 pub use refusal::LogRefusal;
-pub use text::{print_call, print_chain, read_chain, read_line};
+pub use text::{print_call, print_chain, read_call, read_chain, read_line};

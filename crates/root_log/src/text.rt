@@ -49,9 +49,10 @@ fn each_has_eight_bits(bytes: &[u8])
     ensures { AreBytes bytes.now }
 {}
 
-// The call that a line spells.
+/// The call that a line spells, without a line feed: a `fund`, `tick` or `call` line of a schedule with each
+/// key and each opening a hex. `BadEvent` where the line is none; it takes the memory of the call.
 #[tactic(auto, unfolding(crate::specs::Grammar::call_in))]
-fn read_call(alloc: Global, line: &[u8]) -> Result<RootCall, LogRefusal>
+pub fn read_call(alloc: Global, line: &[u8]) -> Result<RootCall, LogRefusal>
     ensures found { IfOk result (λ call. call_in line.now ≡ Some call) }
     ensures bad { result ≡ Err LogRefusal.BadEvent → call_in line.now ≡ None }
 {
