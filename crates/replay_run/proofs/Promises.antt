@@ -3,8 +3,6 @@ use Rattle.std.proofs.Common.{◌≡◌, refl, ap, subst, ℕ, ◌<◌, ◌⊎�
 use Rattle.std.specs.Prelude.{◌≢◌}
 use Rattle.std.specs.Option.{option_map_or}
 use Rattle.std.specs.List.{All, Contains, filter_map}
-use Rattle.sha2.specs.Sha256.{sha256}
-use Rattle.sha2.proofs.Facts256.{length-sha256}
 use Rattle.root_rules.specs.Shown.{tests_by, rules_of}
 use Rattle.node_rules.proofs.OneMore.{All-reverse, All-filter_map}
 use Rattle.schedule_text.specs.declared.line.Line.{Line}
@@ -19,7 +17,6 @@ use Rattle.world_rules.specs.Exhibits.{collides, is_forged}
 use Rattle.world_rules.specs.Safety.{is_safe}
 use Rattle.world_rules.specs.Verdicts.{verdicts_in, verdicts_of, exhibit_of_run}
 use Rattle.world_rules.specs.Laws.{IsDigest}
-use Rattle.world_rules.proofs.ByteTexts.{small-sha256}
 use Rattle.world_laws.specs.Headline.{IsRun}
 use Rattle.world_laws.proofs.Promises.{held_coins_are_safe, lost_is_shown}
 use Rattle.world_laws.proofs.SignedRuns.{leaves_sign_one_message}
@@ -90,11 +87,3 @@ module _ (dig : List ℕ → List ℕ) (bytes : List ℕ) (ended : Bool) (is_dig
 
 pub replays-keep : ReplaysKeepThePromise
 replays-keep dig bytes ended is_digest = replay-keeps dig bytes ended is_digest
-
--- ---- SHA-256
-
-sha-is_digest : IsDigest sha256
-sha-is_digest bytes = (length-sha256 bytes, (small-sha256 bytes).are)
-
-pub sha-keeps : (bytes : List ℕ) (ended : Bool) → KeepsThePromise sha256 (replay_of sha256 bytes ended).run
-sha-keeps bytes ended = replay-keeps sha256 bytes ended sha-is_digest

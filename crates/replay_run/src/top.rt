@@ -10,7 +10,7 @@ ghost use Rattle.replay_run.specs.Forms.{is_verified, reads_input, uses_notes, u
 ghost use Rattle.replay_run.specs.Output.{make_output, verify_output, replay_output, brief_output};
 ghost use Rattle.replay_run.specs.Bounds.{FewBy};
 ghost use Rattle.replay_run.specs.Replays.{replay_of};
-ghost use Rattle.replay_run.specs.Headline.{KeepsThePromise};
+ghost use Rattle.replay_run.specs.Headline.{KeepsByForm};
 ghost use Rattle.replay_run.specs.Runs.{RanOver};
 ghost use Rattle.replay_run.specs.Does.{Does, DoesForm};
 
@@ -93,9 +93,12 @@ pub fn run<S: Source, K: Sink, D: Disk>(
         (ReadsToFault (S.faults source.old) (S.faults source.new) (S.failed_last source.new) true) result.status
         (form_of (map string_bytes words.now)) }
 
-    // The headline: whatever the bytes are, the run that a `replay` answers keeps the promise.
-    ensures headline { (bytes : List ℕ) (ended : Bool)
-        → KeepsThePromise sha256 (replay_of sha256 bytes ended).run }
+    // The headline: where a schedule is read, what the sink took is the text of the run of the bytes that the source
+    // gave, and that run keeps the promise.
+    ensures headline { KeepsByForm sha256
+        (record { left = S.left source.old; later = S.left source.new; taken = K.taken sink.old; after = K.taken sink.new })
+        (ReadsToFault (S.faults source.old) (S.faults source.new) (S.failed_last source.new) true) result.status
+        (form_of (map string_bytes words.now)) }
 
     // Schedules and the logs and commands of nodes are read; no other form touches the source.
     ensures unread { reads_input (form_of (map string_bytes words.now)) ≡ false → source.new ≡ source.old }
@@ -128,6 +131,10 @@ pub fn run_with<H: Hash32, S: Source, K: Sink, D: Disk>(
     leaves: D,
 ) -> Ended<D>
     ensures output { Does D.told D.plan D.faults (H.digest_of h.now) notes leaves result.notes result.leaves
+        (record { left = S.left source.old; later = S.left source.new; taken = K.taken sink.old; after = K.taken sink.new })
+        (ReadsToFault (S.faults source.old) (S.faults source.new) (S.failed_last source.new) true) result.status
+        (form_of (map string_bytes words.now)) }
+    ensures headline { KeepsByForm (H.digest_of h.now)
         (record { left = S.left source.old; later = S.left source.new; taken = K.taken sink.old; after = K.taken sink.new })
         (ReadsToFault (S.faults source.old) (S.faults source.new) (S.failed_last source.new) true) result.status
         (form_of (map string_bytes words.now)) }
