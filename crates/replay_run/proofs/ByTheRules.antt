@@ -22,7 +22,7 @@ use Rattle.replay_run.specs.Replays.{replay_of}
 use Rattle.replay_run.specs.Does.{Does, ReadsNoWords}
 use Rattle.replay_run.specs.Headline.{run_text, run_brief, AnswersByTheRules, KeepsByForm}
 use Rattle.replay_run.proofs.EndingLaws.{endings-have_causes, answered-are_a_run}
-use Rattle.replay_run.proofs.Promises.{replay-keeps}
+use Rattle.replay_run.proofs.Promises.{replay-keeps, offers-taken}
 
 abbrev first_of : List ℕ → ℕ
 first_of [] = 0
@@ -66,6 +66,7 @@ module _ (dig : List ℕ → List ℕ) (is_digest : IsDigest dig) (outside : Out
           wrote = ends;
           keeps = keeps;
           lost_text = λ verdict has lost. shown-text _ (keeps.lost verdict has lost);
+          takes = offers-taken dig bytes ended is_digest;
         }
 
     nothing-written : outside.after ≡ outside.taken → (written : List ℕ) → WroteFront outside.taken outside.after written

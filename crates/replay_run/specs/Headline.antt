@@ -27,6 +27,7 @@ use Rattle.replay_run.specs.Text.{closing_text, brief_text, last_text}
 use Rattle.replay_run.specs.Output.{status_of}
 use Rattle.replay_run.specs.Laws.{lines_spelled}
 use Rattle.replay_run.specs.Endings.{EndsBy}
+use Rattle.replay_run.specs.Offers.{TakesItsOffers}
 use Rattle.replay_run.specs.Replays.{replay_of}
 
 -- Coins are kept at each line of these events, the newest first: where each tick before it that met a deadline of coin
@@ -70,6 +71,7 @@ run_brief dig run ending =
 -- lines that the first lines of the bytes spell, by the rules of the world; the next line, or the end of the input, says
 -- why it has no more. The sink took the text of that run, or with the statuses WriteFault and NoMemory a beginning of it.
 -- No leaf of it signs two messages, and its coins are kept; where a verdict is `lost` its text doesn't say `no exhibit`.
+-- And what is offered in it is taken.
 pub record AnswersByTheRules
     (dig : List ℕ → List ℕ)
     (text : (List ℕ → List ℕ) → Run → Ending NoCause → Output)
@@ -88,6 +90,7 @@ pub record AnswersByTheRules
   pub keeps : KeepsThePromise dig run
   pub lost_text : (verdict : Verdict) → Contains (verdicts_of dig run) verdict → verdict.kind ≡ VerdictKind.Lost
       → exhibit_text (exhibit_of_run dig run) ≢ codes "no exhibit" ++ 10 ∷ []
+  pub takes : ForSome run.world (TakesItsOffers dig (lines_spelled bytes (length run.entries)) run)
 
 -- so it is of each form that reads a schedule
 abbrev pub KeepsByForm : (List ℕ → List ℕ) → Outside → Type 0 → Status → Option Form → Type 0
