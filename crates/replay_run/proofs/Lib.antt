@@ -8,4 +8,5 @@ mod BriefLaws
 mod CutLaws
 mod RuleLaws
 mod Promises
+mod ByTheRules
 mod FaultLaws

@@ -3,9 +3,8 @@ use Rattle.std.proofs.Common.{◌≡◌, refl, ap, subst, ℕ, ◌<◌, ◌⊎�
 use Rattle.std.specs.Prelude.{◌≢◌}
 use Rattle.std.specs.Option.{option_map_or}
 use Rattle.std.specs.List.{All, Contains, filter_map}
-use Rattle.sha2.specs.Sha256.{sha256}
-use Rattle.sha2.proofs.Facts256.{length-sha256}
 use Rattle.plasma_tx.specs.Shown.{tests_by, rules_of}
+use Rattle.plasma_tx.specs.Table.{answer_to, is_accepted}
 use Rattle.node_rules.proofs.OneMore.{All-reverse, All-filter_map}
 use Rattle.schedule_text.specs.declared.line.Line.{Line}
 use Rattle.schedule_text.specs.Grammar.{IsLine, line_in}
@@ -13,19 +12,21 @@ use Rattle.schedule_text.proofs.GrammarLaws.{line_text-line_in}
 use Rattle.world_rules.specs.declared.verdict.Verdict.{Verdict}
 use Rattle.world_rules.specs.declared.verdict.VerdictKind.{VerdictKind}
 use Rattle.world_rules.specs.declared.verdict.Exhibit.{Exhibit}
+use Rattle.world_rules.specs.Events.{coin_of_call}
 use Rattle.world_rules.specs.World.{World}
 use Rattle.world_rules.specs.Steps.{Run, events_of}
 use Rattle.world_rules.specs.Exhibits.{collides, is_forged}
 use Rattle.world_rules.specs.Safety.{is_safe}
 use Rattle.world_rules.specs.Verdicts.{verdicts_in, verdicts_of, exhibit_of_run}
 use Rattle.world_rules.specs.Laws.{IsDigest}
-use Rattle.world_rules.proofs.ByteTexts.{small-sha256}
 use Rattle.world_laws.specs.Headline.{IsRun}
-use Rattle.world_laws.proofs.Promises.{held_coins_are_safe, lost_is_shown}
+use Rattle.world_laws.proofs.Promises.{held_coins_are_safe, one_holds, due_are_taken, lost_is_shown, starts_taken}
+use Rattle.world_laws.proofs.BundlesTaken.{honest_bundles_are_taken}
 use Rattle.world_laws.proofs.SignedRuns.{leaves_sign_one_message}
 use Rattle.streamed_lines.specs.Lines.{lines_in, text_of}
 use Rattle.replay_run.specs.Replays.{replay_of}
 use Rattle.replay_run.specs.Laws.{lines_spelled}
+use Rattle.replay_run.specs.Offers.{TakesItsOffers}
 use Rattle.replay_run.specs.Headline.{KeepsCoins, KeepsThePromise, ReplaysKeepThePromise}
 use Rattle.replay_run.proofs.EndingLaws.{answered-are_a_run}
 
@@ -46,6 +47,19 @@ either true forged safe is = inl refl
 either false true safe is = inr (inl refl)
 either false false safe is = inr (inr (is refl refl))
 
+-- one of two, or of three that aren't all false
+unless : (clash taken : Bool) → (clash ≡ false → taken ≡ true) → (clash ≡ true) ⊎ (taken ≡ true)
+unless true taken is = inl refl
+unless false taken is = inr (is refl)
+
+not-all : (clash one other : Bool) → (clash ≡ false → one ≡ false → other ≡ false → ⊥)
+    → (clash ≡ true) ⊎ (one ≡ true) ⊎ (other ≡ true)
+not-all clash one other never =
+    either clash one other (λ no_clash not_one. elim (other) as (λ o. (other ≡ o) → o ≡ true) [
+      | true ↦ λ is. refl
+      | false ↦ λ is. absurd (never no_clash not_one is)
+    ] refl)
+
 -- ---- the promise
 
 module _ (dig : List ℕ → List ℕ) (bytes : List ℕ) (ended : Bool) (is_digest : IsDigest dig) where
@@ -55,7 +69,7 @@ module _ (dig : List ℕ → List ℕ) (bytes : List ℕ) (ended : Bool) (is_dig
   abbrev lines : List Line
   lines = lines_spelled bytes (length run.entries)
 
-  ran : (world : World) → run.world ≡ Some world → IsRun dig lines run world
+  pub ran : (world : World) → run.world ≡ Some world → IsRun dig lines run world
   ran world is = record {
     digest = is_digest;
     lines_are = spelled-lines bytes (length run.entries);
@@ -88,13 +102,22 @@ module _ (dig : List ℕ → List ℕ) (bytes : List ℕ) (ended : Bool) (is_dig
     lost = lost-shown run.world refl;
   }
 
+  pub offers-taken : (world : World) → run.world ≡ Some world → TakesItsOffers dig lines run world
+  offers-taken world is = record {
+    one_holder = λ v w c d e differ declared first second.
+        not-all (collides dig (events_of run.entries) c) (is_forged world.chain.tag (events_of run.entries) v c)
+        (is_forged world.chain.tag (events_of run.entries) w c)
+        (λ no_clash not_v not_w.
+        one_holds dig lines run world v w c d e (ran world is) differ declared no_clash not_v not_w first second);
+    starts = λ w account call. starts_taken dig lines run world w account call (ran world is);
+    dues = λ n calls call fresh among pays.
+        unless (collides dig (events_of run.entries) (coin_of_call call))
+        (is_accepted (answer_to (tests_by dig) (rules_of world.chain) world.chain.log call))
+        (λ no_clash. due_are_taken dig lines run world n calls call (ran world is) fresh among no_clash pays);
+    bundles = λ op node n coin tip name made_bytes token made effect.
+        honest_bundles_are_taken dig lines run world op node n coin tip name made_bytes token made effect
+        (ran world is);
+  }
+
 pub replays-keep : ReplaysKeepThePromise
 replays-keep dig bytes ended is_digest = replay-keeps dig bytes ended is_digest
-
--- ---- SHA-256
-
-sha-is_digest : IsDigest sha256
-sha-is_digest bytes = (length-sha256 bytes, (small-sha256 bytes).are)
-
-pub sha-keeps : (bytes : List ℕ) (ended : Bool) → KeepsThePromise sha256 (replay_of sha256 bytes ended).run
-sha-keeps bytes ended = replay-keeps sha256 bytes ended sha-is_digest

@@ -1,5 +1,5 @@
--- The promise, of the run that a replay answered.
-use Rattle.std.specs.Prelude.{◌≡◌, ◌≢◌, ◌⊎◌, ℕ, Bool, true, List, ◌∷◌, ◌++◌}
+-- The promise, of the run that a replay answered, and of the bytes and the text of it.
+use Rattle.std.specs.Prelude.{◌≡◌, ◌≢◌, ◌⊎◌, ℕ, Bool, true, List, [], ◌∷◌, ◌++◌, length, codes, Option, Some}
 use Rattle.std.specs.Option.{ForSome}
 use Rattle.std.specs.List.{Contains}
 use Rattle.plasma_tx.specs.Shown.{tests_by, rules_of}
@@ -8,11 +8,26 @@ use Rattle.world_rules.specs.declared.verdict.VerdictKind.{VerdictKind}
 use Rattle.world_rules.specs.declared.verdict.Exhibit.{Exhibit}
 use Rattle.world_rules.specs.World.{World}
 use Rattle.world_rules.specs.Events.{Event}
-use Rattle.world_rules.specs.Steps.{Run, events_of}
+use Rattle.world_rules.specs.Steps.{Run, run_of, events_of}
 use Rattle.world_rules.specs.Exhibits.{collides, is_forged}
 use Rattle.world_rules.specs.Safety.{is_attended, is_safe}
 use Rattle.world_rules.specs.Verdicts.{SignsOneMessage, verdicts_of, exhibit_of_run}
+use Rattle.world_rules.specs.Texts.{entries_text, exhibit_text}
 use Rattle.world_rules.specs.Laws.{IsDigest}
+use Rattle.streamed_lines.specs.declared.ending.Ending.{Ending}
+use Rattle.streamed_lines.specs.Lines.{lines_in}
+use Rattle.streamed_lines.specs.Outside.{Gave}
+use Rattle.run_words.specs.declared.form.Form.{Form}
+use Rattle.run_words.specs.declared.form.Form.TheVariants.{Replay, Brief}
+use Rattle.run_endings.specs.declared.status.Status.{Status}
+use Rattle.run_endings.specs.Outputs.{Output, EndsAs}
+use Rattle.node_runs.specs.Sessions.{Outside}
+use Rattle.replay_run.specs.declared.ending.NoCause.{NoCause}
+use Rattle.replay_run.specs.Text.{closing_text, brief_text, last_text}
+use Rattle.replay_run.specs.Output.{status_of}
+use Rattle.replay_run.specs.Laws.{lines_spelled}
+use Rattle.replay_run.specs.Endings.{EndsBy}
+use Rattle.replay_run.specs.Offers.{TakesItsOffers}
 use Rattle.replay_run.specs.Replays.{replay_of}
 
 -- Coins are kept at each line of these events, the newest first: where each tick before it that met a deadline of coin
@@ -38,3 +53,47 @@ pub record KeepsThePromise (dig : List ℕ → List ℕ) (run : Run) : Type 0 wh
 abbrev pub ReplaysKeepThePromise : Type 0
 ReplaysKeepThePromise = (dig : List ℕ → List ℕ) (bytes : List ℕ) (ended : Bool)
     → IsDigest dig → KeepsThePromise dig (replay_of dig bytes ended).run
+
+-- what a replay of a run writes that ended so: its answers, and behind them the verdicts and the exhibit, or why it ended
+abbrev pub run_text : (List ℕ → List ℕ) → Run → Ending NoCause → Output
+run_text dig run ending = record {
+  status = status_of ending;
+  answers = entries_text run.entries;
+  last = last_text (closing_text dig run) ending;
+}
+
+-- what a brief of it writes
+abbrev pub run_brief : (List ℕ → List ℕ) → Run → Ending NoCause → Output
+run_brief dig run ending =
+    record { status = status_of ending; answers = []; last = last_text (brief_text dig run) ending }
+
+-- A schedule was read, and its run keeps the promise. The source gave these bytes. The run is that of the schedule's
+-- lines that the first lines of the bytes spell, by the rules of the world; the next line, or the end of the input, says
+-- why it has no more. The sink took the text of that run, or with the statuses WriteFault and NoMemory a beginning of it.
+-- No leaf of it signs two messages, and its coins are kept; where a verdict is `lost` its text doesn't say `no exhibit`.
+-- And what is offered in it is taken.
+pub record AnswersByTheRules
+    (dig : List ℕ → List ℕ)
+    (text : (List ℕ → List ℕ) → Run → Ending NoCause → Output)
+    (outside : Outside)
+    (failed : Type 0)
+    (status : Status)
+    : Type 0 where
+  pub bytes : List ℕ
+  pub ended : Bool
+  pub run : Run
+  pub ending : Ending NoCause
+  pub gave : Gave outside.left outside.later bytes ended
+  pub is_run : run_of dig (lines_spelled bytes (length run.entries)) ≡ Some run
+  pub cause : EndsBy dig ended [] 1 0 (lines_in bytes) (length run.entries) ending
+  pub wrote : EndsAs (text dig run ending) status outside.taken outside.after failed
+  pub keeps : KeepsThePromise dig run
+  pub lost_text : (verdict : Verdict) → Contains (verdicts_of dig run) verdict → verdict.kind ≡ VerdictKind.Lost
+      → exhibit_text (exhibit_of_run dig run) ≢ codes "no exhibit" ++ 10 ∷ []
+  pub takes : ForSome run.world (TakesItsOffers dig (lines_spelled bytes (length run.entries)) run)
+
+-- so it is of each form that reads a schedule
+abbrev pub KeepsByForm : (List ℕ → List ℕ) → Outside → Type 0 → Status → Option Form → Type 0
+KeepsByForm dig outside failed status (Some Replay) = AnswersByTheRules dig run_text outside failed status
+KeepsByForm dig outside failed status (Some Brief) = AnswersByTheRules dig run_brief outside failed status
+KeepsByForm dig outside failed status form = Unit {0}

@@ -9,8 +9,7 @@ ghost use Rattle.node_runs.specs.Faults.{CountsEither};
 ghost use Rattle.replay_run.specs.Forms.{is_verified, reads_input, uses_notes, uses_leaves};
 ghost use Rattle.replay_run.specs.Output.{make_output, verify_output, replay_output, brief_output};
 ghost use Rattle.replay_run.specs.Bounds.{FewBy};
-ghost use Rattle.replay_run.specs.Replays.{replay_of};
-ghost use Rattle.replay_run.specs.Headline.{KeepsThePromise};
+ghost use Rattle.replay_run.specs.Headline.{KeepsByForm};
 ghost use Rattle.replay_run.specs.Runs.{RanOver};
 ghost use Rattle.replay_run.specs.Does.{Does, DoesForm};
 
@@ -21,7 +20,7 @@ use super::verifying::is_verified;
 use crash_disk::Disk;
 use node_rules::WalletIdentity;
 use node_runs::{init_operator, init_wallet, init_watcher, run_operator, run_wallet, run_watcher};
-use plasma_base::{Bytes, Hash32, NoMemory, Sha};
+use plasma_base::{Bytes, Hash32, KeptSha, NoMemory};
 use plasma_outside::{Sink, Source};
 use run_endings::{Status, put_line};
 use run_words::{Form, form_of};
@@ -93,9 +92,12 @@ pub fn run<S: Source, K: Sink, D: Disk>(
         (ReadsToFault (S.faults source.old) (S.faults source.new) (S.failed_last source.new) true) result.status
         (form_of (map string_bytes words.now)) }
 
-    // The headline: whatever the bytes are, the run that a `replay` answers keeps the promise.
-    ensures headline { (bytes : List ℕ) (ended : Bool)
-        → KeepsThePromise sha256 (replay_of sha256 bytes ended).run }
+    // The headline: where a schedule is read, what the sink took is the text of the run of the bytes that the source
+    // gave, and that run keeps the promise.
+    ensures headline { KeepsByForm sha256
+        (record { left = S.left source.old; later = S.left source.new; taken = K.taken sink.old; after = K.taken sink.new })
+        (ReadsToFault (S.faults source.old) (S.faults source.new) (S.failed_last source.new) true) result.status
+        (form_of (map string_bytes words.now)) }
 
     // Schedules and the logs and commands of nodes are read; no other form touches the source.
     ensures unread { reads_input (form_of (map string_bytes words.now)) ≡ false → source.new ≡ source.old }
@@ -114,7 +116,15 @@ pub fn run<S: Source, K: Sink, D: Disk>(
     // A fault of the sink is answered, and no other answer comes where it had one.
     ensures sink_faults { K.faults sink.new ≡ faults_after (K.faults sink.old) (is_write_fault result.status) }
 {
-    run_with(&Sha, alloc, words, source, sink, notes, leaves)
+    run_with(
+        &KeptSha::new(alloc),
+        alloc,
+        words,
+        source,
+        sink,
+        notes,
+        leaves,
+    )
 }
 
 /// Runs the program as `run` does, with openings judged by this digest.
@@ -128,6 +138,10 @@ pub fn run_with<H: Hash32, S: Source, K: Sink, D: Disk>(
     leaves: D,
 ) -> Ended<D>
     ensures output { Does D.told D.plan D.faults (H.digest_of h.now) notes leaves result.notes result.leaves
+        (record { left = S.left source.old; later = S.left source.new; taken = K.taken sink.old; after = K.taken sink.new })
+        (ReadsToFault (S.faults source.old) (S.faults source.new) (S.failed_last source.new) true) result.status
+        (form_of (map string_bytes words.now)) }
+    ensures headline { KeepsByForm (H.digest_of h.now)
         (record { left = S.left source.old; later = S.left source.new; taken = K.taken sink.old; after = K.taken sink.new })
         (ReadsToFault (S.faults source.old) (S.faults source.new) (S.failed_last source.new) true) result.status
         (form_of (map string_bytes words.now)) }
