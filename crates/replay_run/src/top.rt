@@ -116,15 +116,8 @@ pub fn run<S: Source, K: Sink, D: Disk>(
     // A fault of the sink is answered, and no other answer comes where it had one.
     ensures sink_faults { K.faults sink.new ≡ faults_after (K.faults sink.old) (is_write_fault result.status) }
 {
-    run_with(
-        &KeptSha::new(alloc),
-        alloc,
-        words,
-        source,
-        sink,
-        notes,
-        leaves,
-    )
+    let digest = KeptSha::new(alloc);
+    run_with(&digest, alloc, words, source, sink, notes, leaves)
 }
 
 /// Runs the program as `run` does, with openings judged by this digest.
