@@ -6,7 +6,6 @@ ghost use Rattle.operator_core.specs.Inside.{with_place, is_outside};
 ghost use Rattle.std.specs.HashMap.{get, spare};
 ghost use Rattle.std.specs.Str.{bytes_eq};
 
-use super::pool::leaf_in;
 use super::signatures::Signatures;
 use merkle_pages::PagedTree;
 use plasma_base::{Hash32, NoMemory};
@@ -141,7 +140,7 @@ fn tree_at<H: Hash32 + Copy>(trees: &[PagedTree<H>], place: usize) -> Option<&Pa
 fn is_outside<H: Hash32 + Copy>(tree: &PagedTree<H>, coin: u64, roots: &HashSet<[u8; 32]>) -> bool
     ensures { result ≡ is_outside roots.now coin (H.digest_of tree.now.hash) tree.now.entries }
 {
-    !leaf_in(tree, coin).is_empty() && !roots.contains(tree.root())
+    !tree.leaf(coin).is_empty() && !roots.contains(tree.root())
 }
 
 // Whether one of the trees is so.

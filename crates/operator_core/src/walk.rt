@@ -5,7 +5,6 @@ ghost use Rattle.operator_rules.specs.Trees.{tree_at};
 ghost use Rattle.operator_rules.specs.Walk.{moved_by, transfer_at, present};
 ghost use Rattle.operator_core.specs.Tips.{place_of_tip};
 
-use super::pool::leaf_in;
 use super::trees::Trees;
 use merkle_pages::PagedTree;
 use plasma_base::{Hash32, NoMemory};
@@ -65,7 +64,7 @@ fn transfer_at<H: Hash32 + Copy>(
         ≡ transfer_at (H.digest_of trees.now.hash) tag.now log.now.log trees.now.sealed coin n) }
 {
     match tree_at(trees, log, n) {
-        Some(tree) => leaf_tx(alloc, tag, coin, n, leaf_in(tree, coin)),
+        Some(tree) => leaf_tx(alloc, tag, coin, n, tree.leaf(coin)),
         None => Ok(None),
     }
 }
