@@ -12,9 +12,7 @@ use super::bundle::Bundle;
 use super::coverage::{Span, first_asked, leaf_at, next_block, root_at};
 use super::refusal::HistoryRefusal;
 use plasma_base::{Hash32, NoMemory};
-use plasma_tx::{
-    CoinView, Link, Links, Owner, RawOpening, RootLog, SignedTx, Spends, leaf_tx, signed_by,
-};
+use plasma_tx::{CoinView, Link, Links, Owner, RawOpening, RootLog, SignedTx, Spends, leaf_tx};
 use sparse_merkle::defaults;
 use std::alloc::Global;
 
@@ -101,6 +99,7 @@ fn links_of<H: Hash32>(
         let next = next_tx(
             alloc,
             tag,
+            log,
             made,
             bundle,
             spends.as_slice(),
@@ -122,10 +121,12 @@ fn links_of<H: Hash32>(
 }
 
 // The transfer in an opening's leaf, as the next link after these spends; `None` where the leaf is
-// empty. A signature is tested only where the transfer spends the last link.
+// empty. A signature is tested only where the transfer spends the last link, and only where the log doesn't
+// know it yet.
 fn next_tx(
     alloc: Global,
     tag: &[u8; 32],
+    log: &RootLog,
     made: &CoinView,
     bundle: &Bundle,
     spends: &[Link],
@@ -151,7 +152,7 @@ fn next_tx(
     if tx.body.parent != tip(made, spends) {
         return Err(HistoryRefusal::NotLink { n });
     }
-    if !signed_by(&tx, &last_owner(made, spends)) {
+    if !log.signed_by(&tx, &last_owner(made, spends)) {
         return Err(HistoryRefusal::BadSignature { n });
     }
     Ok(Some(tx))

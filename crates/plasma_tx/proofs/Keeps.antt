@@ -1,11 +1,17 @@
 -- What is kept beside the calls stays what the views have.
-use Rattle.std.proofs.Common.{◌≡◌, ℕ, zero, suc, ◌+◌, ◌-◌, ◌==◌, true, false, if◌then◌else◌, List, [], ◌∷◌, ◌++◌, length, Option, Some, None, inl, inr, refl, sym, ap, ◌∙◌, arith}
+use Rattle.std.proofs.Common.{◌≡◌, ℕ, zero, suc, ◌+◌, ◌-◌, ◌==◌, Bool, true, false, cond, ◌||◌, if◌then◌else◌, List, [], ◌∷◌, ◌++◌, length, Option, Some, None, inl, inr, refl, sym, ap, subst, ◌∙◌, arith}
 use Rattle.std.specs.Prelude.{slice_get, unwrap_or}
 use Rattle.std.specs.Ordering.{nat_cmp}
 use Rattle.std.specs.Map.{lookup}
+use Rattle.std.specs.Cmp.Lexicographic.{slice_cmp}
+use Rattle.std.specs.List.{list_any}
+use Rattle.std.specs.List.Sorted.{IsStrictlySortedBy}
+use Rattle.std.specs.Str.{bytes_eq}
 use Rattle.std.specs.BTreeMap.{BTreeMap, is_at}
+use Rattle.std.specs.BTreeSet.{BTreeSet, contains, IsOrdered}
 use Rattle.std.proofs.lemmas.Bool.{cases_eq, eq-eqb, ne_eqb}
 use Rattle.std.proofs.lemmas.List.{length-append}
+use Rattle.std.proofs.lemmas.Map.Text.{is_eq-slice_cmp}
 use Rattle.plasma_tx.specs.declared.call.RootCall.{RootCall}
 use Rattle.plasma_tx.specs.declared.call.RootCall.TheVariants.{Fund, Tick, Deposit, Commit, StartDeposit, StartSpend, After, Between, Before, Respond, Finish}
 use Rattle.plasma_tx.specs.declared.views.BlockView.{BlockView}
@@ -13,9 +19,9 @@ use Rattle.plasma_tx.specs.declared.views.BlockView.TheVariants.{DepositOf, Root
 use Rattle.plasma_tx.specs.declared.views.CoinView.{CoinView}
 use Rattle.plasma_tx.specs.declared.standing.Change.{Change}
 use Rattle.plasma_tx.specs.declared.kept.Kept.{Kept}
-use Rattle.plasma_tx.specs.Views.{now, blocks, coins, block_at, new_coin, coin_at, exits, responses, exits_of, is_withdrawn}
+use Rattle.plasma_tx.specs.Views.{now, blocks, coins, block_at, new_coin, coin_at, exits, responses, exits_of, is_withdrawn, has_exits, is_root_committed}
 use Rattle.plasma_tx.specs.Standing.{Standing, no_standing, standing_after, change_of}
-use Rattle.plasma_tx.specs.Keeps.{item_at, standing_in, Keeps}
+use Rattle.plasma_tx.specs.Keeps.{item_at, standing_in, AreExiting, Keeps}
 use Rattle.plasma_tx.proofs.CoinExits.{after-change}
 
 slice_get-push : {X : Type 0} (xs : List X) (x : X) (m : ℕ) → slice_get (xs ++ x ∷ []) m
@@ -54,6 +60,18 @@ item_at-push items item n =
       ]
     ]
 
+-- the same states and the same coins
+same-exiting : (old new : BTreeMap ℕ Standing) (before after : BTreeSet ℕ) → new ≡ old → after ≡ before
+    → AreExiting old before → AreExiting new after
+same-exiting old new before after states exiting are c =
+    ap (λ (s : BTreeSet ℕ). contains nat_cmp s c) exiting ∙ are c
+    ∙ ap (λ (m : BTreeMap ℕ Standing). has_exits (standing_in m c).exits) (sym states)
+
+-- a set with one more root, and a log with one more Commit
+one-more : (at is had has : Bool) → at ≡ is → had ≡ has → cond at true had ≡ (is || has)
+one-more at true had has same before = ap (λ (b : Bool). cond b true had) same
+one-more at false had has same before = ap (λ (b : Bool). cond b true had) same ∙ before
+
 -- each part of what is kept after a call
 pub keeps-Fund : (log : List RootCall) (account amount : ℕ) (old : Kept) → Keeps log old
     → Keeps (Fund account amount ∷ log) old
@@ -65,6 +83,9 @@ keeps-Fund log account amount old k = record {
   coin_count = k.coin_count;
   coins_are = k.coins_are;
   states_are = k.states_are;
+  exiting_are = k.exiting_are;
+  exiting_rise = k.exiting_rise;
+  roots_are = k.roots_are;
 }
 
 pub keeps-Tick : (log : List RootCall) (time : ℕ) (old : Kept) → Keeps log old
@@ -77,11 +98,14 @@ keeps-Tick log time old k = record {
   coin_count = k.coin_count;
   coins_are = k.coins_are;
   states_are = k.states_are;
+  exiting_are = k.exiting_are;
+  exiting_rise = k.exiting_rise;
+  roots_are = k.roots_are;
 }
 
 pub keeps-Deposit : (log : List RootCall) (account amount : ℕ) (key : List ℕ) (old new : Kept) (coin : CoinView)
     (number : ℕ)
-    → new.clock ≡ old.clock → new.states ≡ old.states
+    → new.clock ≡ old.clock → new.states ≡ old.states → new.exiting ≡ old.exiting → new.roots ≡ old.roots
     → coin ≡ record {
       deposit = length old.blocks.items + 1;
       amount = amount;
@@ -92,7 +116,7 @@ pub keeps-Deposit : (log : List RootCall) (account amount : ℕ) (key : List ℕ
     → new.coins.items ≡ old.coins.items ++ coin ∷ [] → new.blocks.items ≡ old.blocks.items ++ DepositOf number ∷ []
     → Keeps log old → Keeps (Deposit account amount key ∷ log) new
 unfolding now blocks coins block_at coin_at exits responses exits_of is_withdrawn
-keeps-Deposit log account amount key old new coin number clock states made counted coins_are blocks_are k =
+keeps-Deposit log account amount key old new coin number clock states exiting roots made counted coins_are blocks_are k =
     let coin_is : coin ≡ new_coin log account amount key = made
     ∙ (λ i. record {
       deposit = k.block_count i + 1;
@@ -113,14 +137,20 @@ keeps-Deposit log account amount key old new coin number clock states made count
       coins_are = λ c. ap (λ (l : List CoinView). item_at l c) coins_are ∙ item_at-push old.coins.items coin c
           ∙ (λ i. if c == k.coin_count i + 1 then Some (coin_is i) else k.coins_are c i);
       states_are = λ c. ap (λ (m : BTreeMap ℕ Standing). standing_in m c) states ∙ k.states_are c;
+      exiting_are = same-exiting old.states new.states old.exiting new.exiting states exiting k.exiting_are;
+      exiting_rise = subst (λ (s : BTreeSet ℕ). IsOrdered nat_cmp s) (sym exiting) k.exiting_rise;
+      roots_are = λ root. ap (λ (s : BTreeSet (List ℕ)). contains (slice_cmp nat_cmp) s root) roots
+          ∙ k.roots_are root;
     }
 
 pub keeps-Commit : (log : List RootCall) (account : ℕ) (root : List ℕ) (old new : Kept)
-    → new.clock ≡ old.clock → new.states ≡ old.states → new.coins ≡ old.coins
+    → new.clock ≡ old.clock → new.states ≡ old.states → new.exiting ≡ old.exiting → new.coins ≡ old.coins
     → new.blocks.items ≡ old.blocks.items ++ Root root ∷ []
+    → ((other : List ℕ) → contains (slice_cmp nat_cmp) new.roots other
+    ≡ cond (is_at (slice_cmp nat_cmp root) other) true (contains (slice_cmp nat_cmp) old.roots other))
     → Keeps log old → Keeps (Commit account root ∷ log) new
 unfolding now blocks coins block_at coin_at exits responses exits_of is_withdrawn
-keeps-Commit log account root old new clock states coins_same blocks_are k = record {
+keeps-Commit log account root old new clock states exiting coins_same blocks_are added k = record {
   clock = clock ∙ k.clock;
   block_count = ap (λ (l : List BlockView). length l) blocks_are ∙ length-append old.blocks.items (Root root ∷ [])
       ∙ ap (λ n. n + 1) k.block_count;
@@ -129,6 +159,11 @@ keeps-Commit log account root old new clock states coins_same blocks_are k = rec
   coin_count = ap (λ (v : _). length v.items) coins_same ∙ k.coin_count;
   coins_are = λ c. ap (λ (v : _). item_at v.items c) coins_same ∙ k.coins_are c;
   states_are = λ c. ap (λ (m : BTreeMap ℕ Standing). standing_in m c) states ∙ k.states_are c;
+  exiting_are = same-exiting old.states new.states old.exiting new.exiting states exiting k.exiting_are;
+  exiting_rise = subst (λ (s : BTreeSet ℕ). IsOrdered nat_cmp s) (sym exiting) k.exiting_rise;
+  roots_are = λ other. added other
+      ∙ one-more (is_at (slice_cmp nat_cmp root) other) (bytes_eq root other) _ _ (is_eq-slice_cmp root other)
+      (k.roots_are other);
 }
 
 -- the other calls change no block, no coin and no clock
@@ -138,35 +173,37 @@ record IsQuiet (log : List RootCall) (call : RootCall) : Type 0 where
   block_same : (n : ℕ) → block_at (call ∷ log) n ≡ block_at log n
   coins_same : coins (call ∷ log) ≡ coins log
   coin_same : (c : ℕ) → coin_at (call ∷ log) c ≡ coin_at log c
+  roots_same : (root : List ℕ) → is_root_committed (call ∷ log) root ≡ is_root_committed log root
 
 quiet : (log : List RootCall) (call : RootCall) (p : ℕ × Change) → change_of (now log) call ≡ Some p → IsQuiet log call
 unfolding now blocks coins block_at coin_at
 quiet log (StartDeposit account k m) p is =
-    record { clock = refl; blocks_same = refl; block_same = λ n. refl; coins_same = refl; coin_same = λ c. refl }
+    record { clock = refl; blocks_same = refl; block_same = λ n. refl; coins_same = refl; coin_same = λ c. refl; roots_same = λ r. refl }
 quiet log (StartSpend account k parent exit) p is =
-    record { clock = refl; blocks_same = refl; block_same = λ n. refl; coins_same = refl; coin_same = λ c. refl }
+    record { clock = refl; blocks_same = refl; block_same = λ n. refl; coins_same = refl; coin_same = λ c. refl; roots_same = λ r. refl }
 quiet log (After account k m spend) p is =
-    record { clock = refl; blocks_same = refl; block_same = λ n. refl; coins_same = refl; coin_same = λ c. refl }
+    record { clock = refl; blocks_same = refl; block_same = λ n. refl; coins_same = refl; coin_same = λ c. refl; roots_same = λ r. refl }
 quiet log (Between account k m spend) p is =
-    record { clock = refl; blocks_same = refl; block_same = λ n. refl; coins_same = refl; coin_same = λ c. refl }
+    record { clock = refl; blocks_same = refl; block_same = λ n. refl; coins_same = refl; coin_same = λ c. refl; roots_same = λ r. refl }
 quiet log (Before account k m shown) p is =
-    record { clock = refl; blocks_same = refl; block_same = λ n. refl; coins_same = refl; coin_same = λ c. refl }
+    record { clock = refl; blocks_same = refl; block_same = λ n. refl; coins_same = refl; coin_same = λ c. refl; roots_same = λ r. refl }
 quiet log (Respond account k m n spend) p is =
-    record { clock = refl; blocks_same = refl; block_same = λ n. refl; coins_same = refl; coin_same = λ c. refl }
+    record { clock = refl; blocks_same = refl; block_same = λ n. refl; coins_same = refl; coin_same = λ c. refl; roots_same = λ r. refl }
 quiet log (Finish account k m) p is =
-    record { clock = refl; blocks_same = refl; block_same = λ n. refl; coins_same = refl; coin_same = λ c. refl }
+    record { clock = refl; blocks_same = refl; block_same = λ n. refl; coins_same = refl; coin_same = λ c. refl; roots_same = λ r. refl }
 quiet log (Fund account amount) p is = absurd (cc is)
 quiet log (Tick time) p is = absurd (cc is)
 quiet log (Deposit account amount key) p is = absurd (cc is)
 quiet log (Commit account root) p is = absurd (cc is)
 
 pub keeps-change : (log : List RootCall) (call : RootCall) (coin : ℕ) (change : Change) (old : Kept)
-    (states : BTreeMap ℕ Standing)
+    (states : BTreeMap ℕ Standing) (exiting : BTreeSet ℕ)
     → change_of old.clock call ≡ Some (coin, change)
     → ((c : ℕ) → standing_in states c
     ≡ (if c == coin then standing_after coin change (standing_in old.states coin) else standing_in old.states c))
-    → Keeps log old → Keeps (call ∷ log) (record old { states = states })
-keeps-change log call coin change old states is becomes k =
+    → (AreExiting old.states old.exiting → AreExiting states exiting) → IsOrdered nat_cmp exiting
+    → Keeps log old → Keeps (call ∷ log) (record old { states = states; exiting = exiting })
+keeps-change log call coin change old states exiting is becomes are rise k =
     let is_now : change_of (now log) call ≡ Some (coin, change) = ap (λ time. change_of time call) (sym k.clock) ∙ is in
     let same = quiet log call (coin, change) is_now in
     record {
@@ -178,32 +215,27 @@ keeps-change log call coin change old states is becomes k =
       states_are = λ c. becomes c
           ∙ (λ i. if c == coin then standing_after coin change (k.states_are coin i) else k.states_are c i)
           ∙ sym (after-change log call (coin, change) is_now c);
+      exiting_are = are k.exiting_are;
+      exiting_rise = rise;
+      roots_are = λ root. k.roots_are root ∙ sym (same.roots_same root);
     }
-
--- states that read the same
-pub keeps-same : (log : List RootCall) (old : Kept) (states : BTreeMap ℕ Standing)
-    → ((c : ℕ) → standing_in states c ≡ standing_in old.states c) → Keeps log old
-    → Keeps log (record old { states = states })
-keeps-same log old states same k = record {
-  clock = k.clock;
-  block_count = k.block_count;
-  blocks_are = k.blocks_are;
-  coin_count = k.coin_count;
-  coins_are = k.coins_are;
-  states_are = λ c. same c ∙ k.states_are c;
-}
 
 -- what is kept of no calls
 pub keeps-nothing : (kept : Kept) → kept.clock ≡ 0 → kept.blocks.items ≡ [] → kept.coins.items ≡ []
-    → kept.states.entries ≡ [] → Keeps [] kept
-unfolding now blocks coins block_at coin_at exits responses exits_of is_withdrawn
-keeps-nothing kept clock no_blocks no_coins no_states = record {
+    → kept.states.entries ≡ [] → kept.exiting.keys ≡ [] → kept.roots.keys ≡ [] → Keeps [] kept
+unfolding now blocks coins block_at coin_at exits responses exits_of is_withdrawn IsStrictlySortedBy
+keeps-nothing kept clock no_blocks no_coins no_states no_exits no_roots = record {
   clock = clock;
   block_count = ap (λ (l : List BlockView). length l) no_blocks;
   blocks_are = λ n. ap (λ (l : List BlockView). item_at l n) no_blocks ∙ none n;
   coin_count = ap (λ (l : List CoinView). length l) no_coins;
   coins_are = λ c. ap (λ (l : List CoinView). item_at l c) no_coins ∙ none c;
   states_are = λ c. ap (λ (es : List (ℕ × Standing)). unwrap_or (lookup (is_at (nat_cmp c)) es) no_standing) no_states;
+  exiting_are = λ c. ap (λ (ks : List ℕ). list_any (is_at (nat_cmp c)) ks) no_exits
+      ∙ ap (λ (es : List (ℕ × Standing)). has_exits (unwrap_or (lookup (is_at (nat_cmp c)) es) no_standing).exits)
+      (sym no_states);
+  exiting_rise = subst (λ (ks : List ℕ). IsStrictlySortedBy nat_cmp ks) (sym no_exits) tt;
+  roots_are = λ root. ap (λ (ks : List (List ℕ)). list_any (is_at (slice_cmp nat_cmp root)) ks) no_roots;
 }
   where
     none : {X : Type 0} (n : ℕ) → item_at {X = X} [] n ≡ None

@@ -1,16 +1,18 @@
 -- A map of coins after a write at one coin, and a list of exits after a change of one.
 use Rattle.std.proofs.Common.{◌≡◌, ℕ, suc, ◌+◌, ◌<◌, ◌≤◌, ◌==◌, ◌||◌, cond, not, Bool, true, false, if◌then◌else◌, List, [], ◌∷◌, ◌++◌, length, slice_set, slice_index_or, Some, None, inl, inr, refl, sym, ap, ◌∙◌, subst, position, arith}
-use Rattle.std.specs.Prelude.{unwrap_or}
+use Rattle.std.specs.Prelude.{Result, Ok, Err, OnOk, OnErr}
 use Rattle.std.specs.List.{list_any, position_or_len}
 use Rattle.std.specs.Ordering.{nat_cmp}
-use Rattle.std.specs.BTreeMap.{BTreeMap, get, is_at}
+use Rattle.std.specs.BTreeMap.{BTreeMap, is_at}
+use Rattle.std.specs.BTreeSet.{BTreeSet, contains}
 use Rattle.std.proofs.lemmas.Bool.{cases_lt, cases_eq, eq-eqb, ne_eqb, eqb-true, lt-ltb, le-ltb}
 use Rattle.std.proofs.lemmas.List.Folds.{list_any-append}
 use Rattle.plasma_tx.specs.declared.views.ExitView.{ExitView}
-use Rattle.plasma_tx.specs.Standing.{Standing, no_standing, AreDistinct, without_view, with_view_changed, with_challenge_view}
+use Rattle.plasma_tx.specs.Standing.{Standing, AreDistinct, without_view, with_view_changed, with_challenge_view}
 use Rattle.plasma_tx.specs.declared.views.ChallengeView.{ChallengeView}
 use Rattle.plasma_tx.specs.ChallengeLists.{is_challenged}
-use Rattle.plasma_tx.specs.Keeps.{standing_in}
+use Rattle.plasma_tx.specs.Views.{has_exits}
+use Rattle.plasma_tx.specs.Keeps.{AreExiting, standing_in}
 use Rattle.plasma_tx.proofs.Names.{eqb-flip, some_same}
 
 -- a number compares as equal to itself alone
@@ -23,26 +25,27 @@ is_at-nat k c = elim (cases_lt k c) [
   ]
 ]
 
--- the coin that is written has the new state and the others have theirs
-pub states-written : (old new : BTreeMap ℕ Standing) (k : ℕ) (state : Standing)
-    → ((q : ℕ) → get nat_cmp new q ≡ cond (is_at (nat_cmp k) q) (Some state) (get nat_cmp old q))
-    → (c : ℕ) → standing_in new c ≡ (if c == k then state else standing_in old c)
-states-written old new k state written c =
-    ap (λ o. unwrap_or o no_standing) (written c)
-    ∙ ap (λ (b : Bool). unwrap_or (cond b (Some state) (get nat_cmp old c)) no_standing) (is_at-nat k c)
-    ∙ elim (c == k) as (λ b. unwrap_or (cond b (Some state) (get nat_cmp old c)) no_standing
-    ≡ (if b then state else standing_in old c)) [ true ↦ refl | false ↦ refl ]
+-- another coin's state stays, whether memory ran out or not
+pub state-apart : {X Y : Type 0} (old new : BTreeMap ℕ Standing) (k : ℕ) (state : Standing) (result : Result X Y)
+    → OnOk result ((c : ℕ) → standing_in new c ≡ (if c == k then state else standing_in old c))
+    → OnErr result ((c : ℕ) → standing_in new c ≡ standing_in old c)
+    → (c : ℕ) → (c == k) ≡ false → standing_in new c ≡ standing_in old c
+state-apart old new k state (Ok x) ok err c other =
+    ok c ∙ ap (λ (b : Bool). if b then state else standing_in old c) other
+state-apart old new k state (Err e) ok err c other = err c
 
--- a coin without an entry says as much as one that no call names
-pub states-known : (old new : BTreeMap ℕ Standing) (k : ℕ) → get nat_cmp old k ≡ None
-    → ((q : ℕ) → get nat_cmp new q ≡ cond (is_at (nat_cmp k) q) (Some no_standing) (get nat_cmp old q))
-    → (c : ℕ) → standing_in new c ≡ standing_in old c
-states-known old new k none written c =
-    states-written old new k no_standing written c
-    ∙ (elim (c == k) as (λ b. (c == k) ≡ b → (if b then no_standing else standing_in old c) ≡ standing_in old c) [
-      | true ↦ λ is. sym (ap (λ o. unwrap_or o no_standing) (ap (get nat_cmp old) (eqb-true c k is) ∙ none))
-      | false ↦ λ isnt. refl
-    ]) refl
+-- a state and its coin's place among those of which an exit stands, changed together
+pub exiting-changed : (old new : BTreeMap ℕ Standing) (before after : BTreeSet ℕ) (k : ℕ)
+    → contains nat_cmp after k ≡ has_exits (standing_in new k).exits
+    → ((c : ℕ) → is_at (nat_cmp k) c ≡ false → contains nat_cmp after c ≡ contains nat_cmp before c)
+    → ((c : ℕ) → (c == k) ≡ false → standing_in new c ≡ standing_in old c)
+    → AreExiting old before → AreExiting new after
+exiting-changed old new before after k here apart same are c =
+    elim (cases_eq c k) [
+      | inl is ↦ subst (λ n. contains nat_cmp after n ≡ has_exits (standing_in new n).exits) (sym is) here
+      | inr other ↦ apart c (is_at-nat k c ∙ ne_eqb c k other) ∙ are c
+          ∙ ap (λ (s : Standing). has_exits s.exits) (sym (same c (ne_eqb c k other)))
+    ]
 
 -- ---- lists of exits
 

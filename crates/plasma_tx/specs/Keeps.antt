@@ -1,10 +1,12 @@
 -- What a log keeps beside its calls is what the views have.
 use Rattle.std.specs.Prelude.{◌≡◌, ℕ, ◌-◌, ◌==◌, if◌then◌else◌, List, length, Option, None, unwrap_or, slice_get}
 use Rattle.std.specs.Ordering.{nat_cmp}
+use Rattle.std.specs.Cmp.Lexicographic.{slice_cmp}
 use Rattle.std.specs.BTreeMap.{BTreeMap, get}
+use Rattle.std.specs.BTreeSet.{BTreeSet, contains, IsOrdered}
 use Rattle.plasma_tx.specs.declared.call.RootCall.{RootCall}
 use Rattle.plasma_tx.specs.declared.kept.Kept.{Kept}
-use Rattle.plasma_tx.specs.Views.{now, blocks, coins, block_at, coin_at}
+use Rattle.plasma_tx.specs.Views.{now, blocks, coins, block_at, coin_at, has_exits, is_root_committed}
 use Rattle.plasma_tx.specs.Standing.{Standing, no_standing, standing_of}
 
 -- item n, counted from 1
@@ -15,6 +17,14 @@ item_at items n = if n == 0 then None else slice_get items (n - 1)
 abbrev pub standing_in : BTreeMap ℕ Standing → ℕ → Standing
 standing_in states c = unwrap_or (get nat_cmp states c) no_standing
 
+-- the coins of which an exit is kept
+abbrev pub AreExiting : BTreeMap ℕ Standing → BTreeSet ℕ → Type 0
+AreExiting states exiting = (c : ℕ) → contains nat_cmp exiting c ≡ has_exits (standing_in states c).exits
+
+-- the roots that a log commits
+abbrev pub AreRoots : List RootCall → BTreeSet (List ℕ) → Type 0
+AreRoots log roots = (root : List ℕ) → contains (slice_cmp nat_cmp) roots root ≡ is_root_committed log root
+
 -- each part is what the view has of these calls
 pub record Keeps (log : List RootCall) (kept : Kept) : Type 0 where
   pub clock : kept.clock ≡ now log
@@ -23,3 +33,6 @@ pub record Keeps (log : List RootCall) (kept : Kept) : Type 0 where
   pub coin_count : length kept.coins.items ≡ coins log
   pub coins_are : (c : ℕ) → item_at kept.coins.items c ≡ coin_at log c
   pub states_are : (c : ℕ) → standing_in kept.states c ≡ standing_of log c
+  pub exiting_are : AreExiting kept.states kept.exiting
+  pub exiting_rise : IsOrdered nat_cmp kept.exiting
+  pub roots_are : AreRoots log kept.roots

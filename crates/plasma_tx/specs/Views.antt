@@ -2,6 +2,7 @@
 -- view is what it is for every list of calls, also one that no contract accepted.
 use Rattle.std.specs.Prelude.{ℕ, ◌+◌, ◌==◌, ◌&&◌, ◌||◌, not, Bool, true, false, if◌then◌else◌, List, [], ◌∷◌, ◌++◌, Option, Some, None, is_some, find, filter, map}
 use Rattle.std.specs.List.{list_all, list_any}
+use Rattle.std.specs.Str.{bytes_eq}
 use Rattle.plasma_tx.specs.declared.owner.Owner.{Owner}
 use Rattle.plasma_tx.specs.declared.opening.RawOpening.{RawOpening}
 use Rattle.plasma_tx.specs.declared.call.Shown.{Shown}
@@ -45,6 +46,15 @@ block_at (Deposit account amount key ∷ log) n =
     if n == blocks log + 1 then Some (DepositOf (coins log + 1)) else block_at log n
 block_at (Commit account root ∷ log) n = if n == blocks log + 1 then Some (Root root) else block_at log n
 block_at (call ∷ log) n = block_at log n
+
+-- the call commits the root
+abbrev pub commits : List ℕ → RootCall → Bool
+commits root (Commit account committed) = bytes_eq committed root
+commits root call = false
+
+-- a call commits the root
+abbrev pub is_root_committed : List RootCall → List ℕ → Bool
+is_root_committed log root = list_any (commits root) log
 
 -- what a Deposit after these calls makes
 abbrev pub new_coin : List RootCall → ℕ → ℕ → List ℕ → CoinView
@@ -242,3 +252,12 @@ exit_view exit = record {
 -- the standing exits of coin c, in the order of their starts
 unfoldable pub exits_of : List RootCall → ℕ → List ExitView
 exits_of log c = map exit_view (filter (λ exit. exit.coin == c) (exits log))
+
+-- there is one of them
+abbrev pub has_exits : List ExitView → Bool
+has_exits [] = false
+has_exits (exit ∷ exits) = true
+
+-- an exit of coin c stands
+abbrev pub is_exiting : List RootCall → ℕ → Bool
+is_exiting log c = has_exits (exits_of log c)

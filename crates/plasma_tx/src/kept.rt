@@ -1,8 +1,10 @@
-ghost use Rattle.std.specs.Prelude.{◌≡◌, ◌∷◌, [], List, ℕ, OnOk, OnErr, IsSome, if◌then◌else◌, ◌==◌};
+ghost use Rattle.std.specs.Prelude.{◌≡◌, ◌∷◌, [], List, ℕ, true, false, OnOk, OnErr, IsSome, if◌then◌else◌, ◌==◌};
 ghost use Rattle.std.specs.Ordering.{nat_cmp};
-ghost use Rattle.std.specs.BTreeMap.{get};
+ghost use Rattle.std.specs.BTreeMap.{get, is_at};
+ghost use Rattle.std.specs.BTreeSet.{contains, IsOrdered};
+ghost use Rattle.plasma_tx.specs.Views.{has_exits};
 ghost use Rattle.plasma_tx.specs.Standing.{change_of, standing_after, new_exit};
-ghost use Rattle.plasma_tx.specs.Keeps.{Keeps, standing_in};
+ghost use Rattle.plasma_tx.specs.Keeps.{Keeps, AreExiting, standing_in};
 
 use super::call::RootCall;
 use super::exits::push_reserved;
@@ -11,15 +13,18 @@ use super::standing::{Change, CoinState};
 use super::views::{BlockView, Challenges, CoinView, ExitView};
 use plasma_base::NoMemory;
 use std::alloc::Global;
-use std::collections::BTreeMap;
+use std::collections::{BTreeMap, BTreeSet};
 
-/// What a log keeps beside its calls: the clock, the blocks, the coins, and by coin what its exits are.
+/// What a log keeps beside its calls: the clock, the blocks, the coins, by coin what its exits are, the
+/// coins of which an exit stands, and the roots of the blocks.
 #[derive(Drop)]
 pub struct Kept {
     pub clock: u64,
     pub blocks: Vec<BlockView>,
     pub coins: Vec<CoinView>,
     pub states: BTreeMap<u64, CoinState>,
+    pub exiting: BTreeSet<u64>,
+    pub roots: BTreeSet<[u8; 32]>,
 }
 
 impl Kept {
@@ -32,6 +37,8 @@ impl Kept {
             blocks: Vec::new(alloc),
             coins: Vec::new(alloc),
             states: BTreeMap::new(alloc),
+            exiting: BTreeSet::new(alloc),
+            roots: BTreeSet::new(alloc),
         }
     }
 
@@ -62,7 +69,7 @@ impl Kept {
                 match change_of(alloc, self.clock, call) {
                     None => Ok(()),
                     Some((coin, change)) => {
-                        change_state(&mut self.states, alloc, coin, change)?;
+                        change_coin(&mut self.states, &mut self.exiting, alloc, coin, change)?;
                         Ok(())
                     }
                 }
@@ -95,8 +102,56 @@ impl Kept {
             → Keeps (RootCall.Commit account root ∷ log) self.new) }
         ensures err { OnErr result ((log : List RootCall) → Keeps log self.old → Keeps log self.new) }
     {
-        self.blocks.push(BlockView::Root { root })?;
+        self.blocks.reserve(1)?;
+        self.roots.insert(root)?;
+        push_reserved(&mut self.blocks, BlockView::Root { root });
         Ok(())
+    }
+}
+
+/// What is kept of the coin after the change, and whether it is one of those of which an exit stands.
+/// `NoMemory` changes nothing.
+fn change_coin(
+    states: &mut BTreeMap<u64, CoinState>,
+    exiting: &mut BTreeSet<u64>,
+    alloc: Global,
+    coin: u64,
+    change: Change,
+) -> Result<(), NoMemory>
+    ensures ok { OnOk result ((c : ℕ) → standing_in states.new c
+        ≡ (if c == coin then standing_after coin change (standing_in states.old coin) else standing_in states.old c)) }
+    ensures err { OnErr result ((c : ℕ) → standing_in states.new c ≡ standing_in states.old c) }
+    ensures exiting { AreExiting states.old exiting.old → AreExiting states.new exiting.new }
+    ensures rising { IsOrdered nat_cmp exiting.new }
+{
+    // First, so that no memory is wanted once the state is changed.
+    exiting.insert(coin)?;
+    let changed = change_state(states, alloc, coin, change);
+    let stands = has_exits(states, coin);
+    keep_if(exiting, coin, stands);
+    changed
+}
+
+/// Takes the coin out of those of which an exit stands, where none does.
+fn keep_if(exiting: &mut BTreeSet<u64>, coin: u64, stands: bool)
+    ensures coin { contains nat_cmp exiting.old coin ≡ true → contains nat_cmp exiting.new coin ≡ stands }
+    ensures others { (c : ℕ) → is_at (nat_cmp coin) c ≡ false
+        → contains nat_cmp exiting.new c ≡ contains nat_cmp exiting.old c }
+    ensures rising { IsOrdered nat_cmp exiting.old → IsOrdered nat_cmp exiting.new }
+{
+    if stands {
+        return;
+    }
+    exiting.remove(&coin);
+}
+
+/// Whether an exit of the coin is kept.
+fn has_exits(states: &BTreeMap<u64, CoinState>, coin: u64) -> bool
+    ensures { result ≡ has_exits (standing_in states.now coin).exits }
+{
+    match states.get(&coin) {
+        None => false,
+        Some(state) => !state.exits().is_empty(),
     }
 }
 

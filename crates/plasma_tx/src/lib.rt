@@ -14,6 +14,7 @@ mod links;
 mod opening;
 mod owner;
 mod root_log;
+mod signatures;
 mod signed_tx;
 mod standing;
 mod views;

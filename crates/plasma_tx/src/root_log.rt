@@ -1,18 +1,26 @@
-ghost use Rattle.std.specs.Prelude.{◌≡◌, ◌<◌, ◌^◌, ◌∷◌, [], IfOk, OnOk, OnErr, reverse};
+ghost use Rattle.std.specs.Prelude.{◌≡◌, ◌<◌, ◌^◌, ◌∷◌, [], ℕ, IfOk, OnOk, OnErr, reverse};
+ghost use Rattle.std.specs.Ordering.{nat_cmp};
+ghost use Rattle.std.specs.BTreeSet.{contains, IsOrdered};
 ghost use Rattle.plasma_tx.specs.Chain.{with_log};
 ghost use Rattle.plasma_tx.specs.Keeps.{item_at};
-ghost use Rattle.plasma_tx.specs.Views.{now, blocks, coins, block_at, coin_at, is_withdrawn, exits_of};
+ghost use Rattle.plasma_tx.specs.Transfer.{is_signed_by};
+ghost use Rattle.plasma_tx.specs.Views.{now, blocks, coins, block_at, coin_at, is_withdrawn, exits_of, is_exiting, is_root_committed};
 
 use super::call::RootCall;
 use super::exits::push_reserved;
 use super::kept::Kept;
+use super::owner::Owner;
+use super::signatures::Signatures;
+use super::signed_tx::SignedTx;
 use super::views::{BlockView, CoinView, ExitView};
 use plasma_base::NoMemory;
 use std::alloc::Global;
+use std::collections::BTreeSet;
 use std::marker::Model;
 
 /// The log of a root contract: what it was made with, and the accepted calls in order. Beside them it
-/// keeps what they say, for every list of calls, also one that no contract accepted.
+/// keeps what they say, for every list of calls, also one that no contract accepted, and the signatures
+/// that were tested for those who read it, of which callers see nothing.
 #[derive(Drop)]
 pub struct RootLog {
     tag: [u8; 32],
@@ -20,6 +28,7 @@ pub struct RootLog {
     most_blocks: u64,
     events: Vec<RootCall>,
     kept: Kept,
+    signatures: Signatures,
 }
 
 impl Model for RootLog {
@@ -52,6 +61,7 @@ impl RootLog {
             most_blocks,
             events: Vec::new(alloc),
             kept: Kept::new(alloc),
+            signatures: Signatures::new(alloc),
         }
     }
 
@@ -150,6 +160,31 @@ impl RootLog {
             None => &[],
             Some(state) => state.exits(),
         }
+    }
+
+    /// The coins of which an exit stands, rising. It takes no memory. In a log that no contract accepted
+    /// there may be ones that no Deposit made.
+    pub fn exiting(&self) -> &BTreeSet<u64>
+        ensures exactly { (c : ℕ) → contains nat_cmp result.now c ≡ is_exiting self.now.log c }
+        ensures rising { IsOrdered nat_cmp result.now }
+    {
+        &self.kept.exiting
+    }
+
+    /// Whether a block has this root.
+    pub fn commits(&self, root: &[u8; 32]) -> bool
+        ensures { result ≡ is_root_committed self.now.log root.now }
+    {
+        self.kept.roots.contains(root)
+    }
+
+    /// Whether the owner signed the transfer. What a test found is remembered beside the log, for at most
+    /// 4,096 signatures in 12 MB at most, so that a transfer isn't tested anew in each history that has it.
+    /// Where there is no memory it tests again.
+    pub fn signed_by(&self, tx: &SignedTx, owner: &Owner) -> bool
+        ensures { result ≡ is_signed_by tx.now owner.now }
+    {
+        self.signatures.signed_by(tx, owner)
     }
 
     /// As `exits`, as values of their own.

@@ -10,7 +10,7 @@ use super::contract::Contract;
 use super::stop::Stop;
 use super::views::is_key;
 use plasma_base::Hash32;
-use plasma_tx::{Owner, RawOpening, Refusal, Shown, signed_by};
+use plasma_tx::{Owner, RawOpening, Refusal, Shown};
 use root_rules::{EXIT_BOND, EXIT_PERIOD, LAST_TIME, MOST_MONEY};
 
 /// Who owned a coin after the parent of an exit, and who after the exit's block.
@@ -147,7 +147,7 @@ impl Contract {
         if tx.body.parent != parent {
             return Err(Stop::Refused(Refusal::NotChild));
         }
-        if !signed_by(&tx, owner) {
+        if !self.log.signed_by(&tx, owner) {
             return Err(Stop::Refused(Refusal::BadSignature));
         }
         Ok(tx.body.to)

@@ -1,4 +1,4 @@
-use Rattle.std.proofs.Common.{List, ℕ, sym, ◌∙◌, ap}
+use Rattle.std.proofs.Common.{List, ℕ, ◌∙◌, ap}
 use Rattle.root_rules.specs.Shown.{tests_by, rules_of}
 use Rattle.coin_history.specs.History.{tagged}
 use Rattle.coin_history.specs.Checking.{history_of}

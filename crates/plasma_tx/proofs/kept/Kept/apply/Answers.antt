@@ -12,9 +12,10 @@ returns-in-None c = record {
   err = tt;
 }
 
-pub returns-in_ok-change_state-in-Some : goal.returns-in_ok-change_state-in-Some
-returns-in_ok-change_state-in-Some c = record {
+pub returns-in_ok-change_coin-in-Some : goal.returns-in_ok-change_coin-in-Some
+returns-in_ok-change_coin-in-Some c = record {
   ok = λ log k. keeps-change log c.args.call.now c.in-Some.coin c.in-Some.change c.args.self.now
-      c.change_state.new.states (sym c.change_of.ensures ∙ c.in-Some.is) c.in_ok-change_state-in-Some.ensures.ok k;
+      c.change_coin.new.states c.change_coin.new.exiting (sym c.change_of.ensures ∙ c.in-Some.is)
+      c.in_ok-change_coin-in-Some.ensures.ok c.change_coin.ensures.exiting c.change_coin.ensures.rising k;
   err = tt;
 }

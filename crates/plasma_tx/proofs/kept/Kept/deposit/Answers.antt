@@ -23,7 +23,7 @@ returns-clause-ok c =
       length-append old.coins.items (coin ∷ []),
     ) in
     λ log k. keeps-Deposit log c.args.owner.account c.args.amount c.args.owner.key old _ coin c.len-coin.result
-    refl refl
+    refl refl refl refl
     (λ i. record { deposit = counted i + 1; amount = c.args.amount; owner = c.args.owner }) number coins_are
     (c.push_reserved-2.ensures
     ∙ ap (λ (l : List BlockView). l ++ DepositOf c.len-coin.result ∷ []) c.in_ok-reserve.ensures.items) k
