@@ -1,3 +1,5 @@
+pub mod LeafLaws
 pub mod NodeLaws
 pub mod PageLaws
 pub mod PartLaws
+pub mod Rising

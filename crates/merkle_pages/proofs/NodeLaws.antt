@@ -1,38 +1,26 @@
 -- The nodes that a tree keeps are the digests of the parts of its map.
-use Rattle.std.proofs.Common.{◌≡◌, ◌≢◌, ℕ, ◌/◌, ◌^◌, ◌<◌, ◌≤◌, ◌==◌, List, [], slice_index_or, refl, sym, ap, ◌∙◌, inl, inr, arith}
+use Rattle.std.proofs.Common.{◌≡◌, ◌≢◌, ℕ, suc, ◌/◌, ◌^◌, ◌<◌, List, [], Option, slice_index_or, refl, sym, ap, ◌∙◌, inl, inr, arith}
 use Rattle.std.specs.HashMap.{HashMap}
+use Rattle.std.specs.Int.Bits.{bit_xor}
 use Rattle.std.specs.Option.{unwrap_or}
 use Rattle.std.specs.Str.{bytes_eq}
-use Rattle.std.proofs.lemmas.Bool.{cases_Bool, eqb-true, eqb-false}
+use Rattle.std.proofs.lemmas.Bool.{cases_Bool, cases_lt}
+use Rattle.std.proofs.lemmas.Nat.{xor_lt, pow_below}
 use Rattle.std.proofs.lemmas.Slice.Eq.{bytes_eq-Decides}
-use Rattle.sparse_merkle.specs.TreeDigest.{node_string, with_leaf, subtree_digest, root_of, AreDefaults}
+use Rattle.sparse_merkle.specs.TreeDigest.{node_string, subtree_digest, default_digest, root_of, IsMap, AreDefaults}
 use Rattle.sparse_merkle.specs.declared.tree.Entry.{Entry}
-use Rattle.sparse_merkle.proofs.TreeLaws.{IsMap-with_leaf, default_digest-suc}
-use Rattle.merkle_pages.specs.Nodes.{part_at, KeepsNodes}
-use Rattle.merkle_pages.specs.Pages.{name_at, place_at, kept_digest, page_node, SetsPages}
+use Rattle.sparse_merkle.proofs.TreeLaws.{default_digest-suc}
+use Rattle.merkle_pages.specs.Nodes.{part_at, KeepsDefaults, KeepsNodes, IsClear, KeepsNode, AddsPart}
+use Rattle.merkle_pages.specs.Pages.{name_at, place_at, kept_digest, node_at, PutsNode}
 use Rattle.merkle_pages.specs.declared.pages.PageName.{PageName}
 use Rattle.merkle_pages.proofs.PageLaws.{place-level, prefix-from, name_at-prefix, place_at-prefix, page_node-none}
-use Rattle.merkle_pages.proofs.PartLaws.{part_at-same, part_at-whole, part_at-other, part_at-empty}
+use Rattle.merkle_pages.proofs.PartLaws.{part_at-same, part_at-whole, part_at-none, prefix-up, halves, sibling-apart, IsSibling-xor}
 
-pub KeepsNodes-none : {S T : Type 0} (dig : List ℕ → List ℕ) (entries : List Entry) (defaults : List (List ℕ))
-    (root : List ℕ)
-    (pages : HashMap PageName (HashMap ℕ (List ℕ) S) T) → entries ≡ [] → AreDefaults dig defaults
-    → root ≡ dig (node_string (slice_index_or defaults 63 []) (slice_index_or defaults 63 [])) → pages.entries ≡ []
-    → KeepsNodes dig entries defaults root pages
-unfolding root_of
-KeepsNodes-none dig entries defaults root pages none are root_is empty = record {
-  map = rw none (record {
-    rising = λ i j d lt long. absurd (omega arith);
-    small = λ k d lt. absurd (omega arith);
-    not_empty = λ k d lt. absurd (omega arith);
-  });
-  defaults_are = are;
-  root_is = root_is ∙ rw (none, are 63 (omega arith)) (sym (default_digest-suc dig 63));
-  nodes = λ level coin lt. rw (
-    page_node-none pages (name_at level coin) (place_at level coin) empty,
-    none,
-    part_at-empty level coin,
-  ) (are level lt);
+pub KeepsDefaults-made : (dig : List ℕ → List ℕ) (below : List (List ℕ)) (root : List ℕ) → AreDefaults dig below
+    → root ≡ dig (node_string (slice_index_or below 63 []) (slice_index_or below 63 [])) → KeepsDefaults dig below root
+KeepsDefaults-made dig below root are is = record {
+  below_are = are;
+  root_is = is ∙ rw (are 63 (omega arith)) (sym (default_digest-suc dig 63));
 }
 
 kept-read : (digest default : List ℕ) → unwrap_or (kept_digest digest default) default ≡ digest
@@ -41,55 +29,143 @@ kept-read digest default = elim (cases_Bool (bytes_eq digest default)) [
   | inr isnt ↦ rw isnt refl
 ]
 
--- a put that sets the digests of its coin's way up
-pub KeepsNodes-put : {S T : Type 0} (dig : List ℕ → List ℕ) (entries : List Entry) (defaults digests : List (List ℕ))
-    (root : List ℕ)
-    (old roomy new : HashMap PageName (HashMap ℕ (List ℕ) S) T) (coin : ℕ) (leaf : List ℕ) → coin < 2 ^ 64
-    → KeepsNodes dig entries defaults root old
-    → ((level : ℕ) → level ≤ 64 → slice_index_or digests level [] ≡ subtree_digest dig level
-    (part_at level coin (with_leaf entries coin leaf)))
-    → ((name : PageName) (place : ℕ) → page_node roomy name place ≡ page_node old name place)
-    → SetsPages coin digests defaults 64 roomy new
-    → KeepsNodes dig (with_leaf entries coin leaf) defaults (slice_index_or digests 64 []) new
-unfolding root_of
-KeepsNodes-put dig entries defaults digests root old roomy new coin leaf lt h digests_are same sets =
-    let map = IsMap-with_leaf entries coin leaf h.map lt in
-    record {
-      map = map;
-      defaults_are = h.defaults_are;
-      root_is = rw (part_at-whole coin (with_leaf entries coin leaf) lt map.small) at (digests_are 64 (omega arith));
-      nodes = λ level other in_tree. elim (cases_Bool (other / 2 ^ level == coin / 2 ^ level)) [
-        | inl is ↦
-            let e : other / 2 ^ level ≡ coin / 2 ^ level = eqb-true _ _ is in
+module _ {S T : Type 0} (dig : List ℕ → List ℕ) (entries : List Entry) where
+  -- what stands for the siblings of a coin's way up are the digests of their parts
+  pub siblings-are : (root : List ℕ) (pages : HashMap PageName (HashMap ℕ (List ℕ) S) T)
+      (defaults siblings : List (List ℕ)) (coin : ℕ) → coin < 2 ^ 64 → KeepsNodes dig entries root pages
+      → AreDefaults dig defaults
+      → ((k : ℕ) → k < 64 → slice_index_or siblings k []
+      ≡ unwrap_or (node_at k (bit_xor coin (2 ^ k)) pages) (slice_index_or defaults k []))
+      → (k : ℕ) → k < 64
+      → slice_index_or siblings k [] ≡ subtree_digest dig k (part_at k (bit_xor coin (2 ^ k)) entries)
+  siblings-are root pages defaults siblings coin lt h are is k in_tree =
+      is k in_tree
+      ∙ ap (λ (d : List ℕ). unwrap_or (node_at k (bit_xor coin (2 ^ k)) pages) d) (are k in_tree)
+      ∙ h.nodes k (bit_xor coin (2 ^ k)) in_tree (xor_lt 64 coin (2 ^ k) lt (pow_below k 64 in_tree))
+
+  -- ---- one node
+
+  pub KeepsNode-put : (level coin : ℕ) (digest default : List ℕ)
+      (old new : HashMap PageName (HashMap ℕ (List ℕ) S) T)
+      → PutsNode (name_at level coin) (place_at level coin) (kept_digest digest default) old new
+      → default ≡ default_digest dig level → KeepsNode dig level coin digest old new
+  KeepsNode-put level coin digest default old new puts is = record {
+    here = λ lt. ap (λ (o : Option (List ℕ)). unwrap_or o (default_digest dig level)) puts.here
+        ∙ ap (λ (d : List ℕ). unwrap_or (kept_digest digest default) d) (sym is)
+        ∙ kept-read digest default;
+    elsewhere = λ k other in_tree apart. puts.elsewhere (name_at k other) (place_at k other)
+        (λ name place.
+        let page : k / 16 ≡ level / 16 = ap (λ (n : PageName). n.number) name in
+        let e : k ≡ level = place-level k level other coin page place in
+        apart e (prefix-from level other coin (rw e at name) (rw e at place)));
+  }
+
+  pub KeepsNode-root : (level coin : ℕ) (digest : List ℕ) (pages : HashMap PageName (HashMap ℕ (List ℕ) S) T)
+      → level ≡ 64 → KeepsNode dig level coin digest pages pages
+  KeepsNode-root level coin digest pages top = record {
+    here = λ lt. absurd (omega arith);
+    elsewhere = λ k other in_tree apart. refl;
+  }
+
+  -- ---- the nodes of a part
+
+  pub IsClear-bare : (level coin : ℕ) (pages : HashMap PageName (HashMap ℕ (List ℕ) S) T) → pages.entries ≡ []
+      → IsClear level coin pages
+  IsClear-bare level coin pages bare k other in_tree le e =
+      page_node-none pages (name_at k other) (place_at k other) bare
+
+  pub AddsPart-none : (level coin : ℕ) (pages : HashMap PageName (HashMap ℕ (List ℕ) S) T)
+      → part_at level coin entries ≡ [] → IsClear level coin pages → AddsPart dig entries level coin pages pages
+  AddsPart-none level coin pages none clear = record {
+    added = λ k other in_tree le e.
+        ap (λ (o : Option (List ℕ)). unwrap_or o (default_digest dig k)) (clear k other in_tree le e)
+        ∙ ap (λ (part : List Entry). subtree_digest dig k part)
+        (sym (part_at-none k level other coin entries le e none));
+    stays = λ k other in_tree outside. refl;
+  }
+
+  pub AddsPart-leaf : (level coin : ℕ) (digest : List ℕ) (old new : HashMap PageName (HashMap ℕ (List ℕ) S) T)
+      → level ≡ 0 → digest ≡ subtree_digest dig level (part_at level coin entries)
+      → KeepsNode dig level coin digest old new → AddsPart dig entries level coin old new
+  AddsPart-leaf level coin digest old new bottom is keeps = record {
+    added = λ k other in_tree le e.
+        let same : k ≡ level = omega arith in
+        rw (
+          same,
+          name_at-prefix level other coin e,
+          place_at-prefix level other coin e,
+          part_at-same other coin level entries e,
+        ) (keeps.here (omega arith) ∙ is);
+    stays = λ k other in_tree outside. keeps.elsewhere k other in_tree (λ same e. outside (omega arith) e);
+  }
+
+  pub clear-near : (level below coin : ℕ) (pages : HashMap PageName (HashMap ℕ (List ℕ) S) T) → level ≡ suc below
+      → IsClear level coin pages → IsClear below coin pages
+  clear-near level below coin pages up clear k other tree le e =
+      clear k other tree (omega arith) (prefix-up other coin below level (omega arith) e)
+
+  -- the two halves of a part, and its own node
+  module _ (level below coin : ℕ) (up : level ≡ suc below) (lt : coin < 2 ^ 64) (in_tree : below < 64)
+      (old mid : HashMap PageName (HashMap ℕ (List ℕ) S) T) where
+    above-is : bit_xor coin (2 ^ below) / 2 ^ level ≡ coin / 2 ^ level
+    above-is = rw up (IsSibling-xor coin below lt in_tree).above
+
+    apart-is : bit_xor coin (2 ^ below) / 2 ^ below ≢ coin / 2 ^ below
+    apart-is = sibling-apart coin (bit_xor coin (2 ^ below)) below (IsSibling-xor coin below lt in_tree)
+
+    pub clear-far : AddsPart dig entries below coin old mid → IsClear level coin old
+        → IsClear below (bit_xor coin (2 ^ below)) mid
+    clear-far near clear k other tree le e =
+        near.stays k other tree (λ low f. apart-is (sym e ∙ f))
+        ∙ clear k other tree (omega arith)
+        (prefix-up other (bit_xor coin (2 ^ below)) below level (omega arith) e ∙ above-is)
+
+    pub AddsPart-more : (digest : List ℕ) (far new : HashMap PageName (HashMap ℕ (List ℕ) S) T)
+        → AddsPart dig entries below coin old mid
+        → AddsPart dig entries below (bit_xor coin (2 ^ below)) mid far
+        → digest ≡ subtree_digest dig level (part_at level coin entries) → KeepsNode dig level coin digest far new
+        → AddsPart dig entries level coin old new
+    AddsPart-more digest far new near more is keeps = record {
+      added = λ k other tree le e. elim (cases_lt below k) [
+        | inl over ↦
+            let same : k ≡ level = omega arith in
             rw (
+              same,
               name_at-prefix level other coin e,
               place_at-prefix level other coin e,
-              sets.set level in_tree,
-              part_at-same other coin level (with_leaf entries coin leaf) e,
-            ) (kept-read (slice_index_or digests level []) (slice_index_or defaults level [])
-            ∙ digests_are level (omega arith))
-        | inr isnt ↦
-            let ne : other / 2 ^ level ≢ coin / 2 ^ level = eqb-false _ _ isnt in
-            rw (
-              sets.stays (name_at level other) (place_at level other) (elsewhere level other ne),
-              same (name_at level other) (place_at level other),
-              part_at-other coin other level leaf entries h.map ne,
-            ) (h.nodes level other in_tree)
+              part_at-same other coin level entries e,
+            ) (keeps.here (omega arith) ∙ is)
+        | inr under ↦
+            let kept : node_at k other new ≡ node_at k other far =
+            keeps.elsewhere k other tree (λ same _. absurd (omega arith)) in
+            elim (halves other coin (bit_xor coin (2 ^ below)) below (IsSibling-xor coin below lt in_tree)
+            (rw up at e)) [
+              | inl here ↦
+                  let stood : node_at k other far ≡ node_at k other mid =
+                  more.stays k other tree (λ low f. apart-is (sym f ∙ here)) in
+                  ap (λ (o : Option (List ℕ)). unwrap_or o (default_digest dig k)) (kept ∙ stood)
+                  ∙ near.added k other tree under here
+              | inr there ↦
+                  ap (λ (o : Option (List ℕ)). unwrap_or o (default_digest dig k)) kept
+                  ∙ more.added k other tree under there
+            ]
       ];
+      stays = λ k other tree outside.
+          keeps.elsewhere k other tree (λ same e. outside (omega arith) e)
+          ∙ more.stays k other tree (λ low e. outside (omega arith)
+          (prefix-up other (bit_xor coin (2 ^ below)) below level (omega arith) e ∙ above-is))
+          ∙ near.stays k other tree (λ low e. outside (omega arith)
+          (prefix-up other coin below level (omega arith) e));
     }
-  where
-    elsewhere : (level other : ℕ) → other / 2 ^ level ≢ coin / 2 ^ level → (k : ℕ) → k < 64
-        → name_at level other ≡ name_at k coin
-        → place_at level other ≢ place_at k coin
-    elsewhere level other ne k below name place =
-        let page : level / 16 ≡ k / 16 = ap (λ (n : PageName). n.number) name in
-        let e : level ≡ k = place-level level k other coin page place in
-        ne (prefix-from level other coin (rw (← e) at name) (rw (← e) at place))
 
-pub node-root : {S T : Type 0} (dig : List ℕ → List ℕ) (entries : List Entry) (defaults : List (List ℕ)) (root : List ℕ)
-    (pages : HashMap PageName (HashMap ℕ (List ℕ) S) T) (level coin : ℕ) → coin < 2 ^ 64 → level ≡ 64
-    → KeepsNodes dig entries defaults root pages
-    → root ≡ subtree_digest dig level (part_at level coin entries)
-unfolding root_of
-node-root dig entries defaults root pages level coin lt top h = rw (top, part_at-whole coin entries lt h.map.small)
-    h.root_is
+  -- ---- the whole
+
+  pub KeepsNodes-made : (root : List ℕ) (bare new : HashMap PageName (HashMap ℕ (List ℕ) S) T) → IsMap entries
+      → root ≡ subtree_digest dig 64 (part_at 64 0 entries) → AddsPart dig entries 64 0 bare new
+      → KeepsNodes dig entries root new
+  unfolding root_of
+  KeepsNodes-made root bare new map is adds = record {
+    map = map;
+    root_is = rw (part_at-whole 0 entries (omega arith) map.small) at is;
+    nodes = λ level coin in_tree lt. adds.added level coin in_tree (omega arith) (omega arith);
+  }

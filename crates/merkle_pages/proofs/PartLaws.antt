@@ -1,18 +1,21 @@
--- Parts of a map: the two halves of a part, the whole map and one coin as parts, and what a put leaves as it was.
-use Rattle.std.proofs.Common.{◌≡◌, ◌≢◌, ℕ, zero, suc, ◌+◌, ◌/◌, ◌^◌, ◌<◌, ◌==◌, ◌&&◌, Bool, true, false, not, nat_lt, List, [], ◌∷◌, ◌++◌, length, get_or, slice_index_or, refl, sym, ap, ◌∙◌, inl, inr, arith, add-one, append-nil, ◌%◌}
+-- Parts of a map: the two halves of a part, the whole map and one coin as parts, and the coins of a part.
+use Rattle.std.proofs.Common.{◌≡◌, ◌≢◌, ◌⊎◌, ℕ, zero, suc, ◌+◌, ◌-◌, ◌/◌, ◌^◌, ◌<◌, ◌≤◌, ◌==◌, ◌&&◌, Bool, true, false, not, List, [], ◌∷◌, length, get_or, slice_index_or, refl, sym, ap, ◌∙◌, inl, inr, arith, ◌%◌}
 use Rattle.std.specs.Int.{bit_at}
 use Rattle.std.specs.Int.Bits.{bit_xor}
-use Rattle.std.specs.List.{filter, All, AllPairs}
-use Rattle.std.proofs.lemmas.Bool.{cases_Bool, cases_lt, eq-eqb, eqb-true, eqb-false, ne_eqb, both_ways, lt-ltb, le-ltb}
-use Rattle.std.proofs.lemmas.List.{ext_get_or, get_or_push, get_or_append_left}
-use Rattle.std.proofs.lemmas.List.Elements.{filter-append, All-head, All-tail}
+use Rattle.std.specs.List.{filter, All}
+use Rattle.std.specs.List.Sorted.{IsPartitionedBy}
+use Rattle.std.proofs.lemmas.Bool.{cases_Bool, cases_lt, eq-eqb, eqb-true, eqb-false, ne_eqb, both_ways}
+use Rattle.std.proofs.lemmas.List.{ext_get_or, get_or_push, get_or_append_left, get_or-map, length-map, nil_from_length}
+use Rattle.std.proofs.lemmas.List.Elements.{filter_passes, All-head, All-tail}
 use Rattle.std.proofs.lemmas.Nat.{shr-shr, xor_lt, pow_below}
 use Rattle.std.proofs.lemmas.Nat.Bits.{bit_at_xor, bit_at-pow_same, bit_at-pow_other, bit_at-lt, same_from_bits_below}
 use Rattle.std.proofs.Math.Nat.{div-le_self}
 use Rattle.sparse_merkle.specs.Opening.{parent_string}
-use Rattle.sparse_merkle.specs.TreeDigest.{bit_of, leaf_string, leaf_of, entry_of, with_leaf, only_leaf, near_part, far_part, subtree_digest, path_below, path_to, IsMap}
+use Rattle.sparse_merkle.specs.TreeDigest.{bit_of, leaf_string, leaf_of, only_leaf, near_part, far_part, subtree_digest, path_below, path_to, IsMap, IsSubtree}
 use Rattle.sparse_merkle.specs.declared.tree.Entry.{Entry}
-use Rattle.sparse_merkle.proofs.TreeLaws.{agree-lower, bit_at-same, parent_string-sides, length-path_below, leaf_of-with_leaf}
+use Rattle.sparse_merkle.proofs.Lists.{AllPairs-filter}
+use Rattle.sparse_merkle.proofs.TreeLaws.{agree-lower, bit_at-same, parent_string-sides, length-path_below, IsSubtree-parted}
+use Rattle.merkle_pages.specs.Leaves.{coins_of, near_coins, far_coins}
 use Rattle.merkle_pages.specs.Nodes.{part_at}
 
 -- ---- filters
@@ -35,25 +38,25 @@ filter-every p [] h = refl
 filter-every p (x ∷ xs) h =
     rw (All-head (λ y. p y ≡ true) x xs h, filter-every p xs (All-tail (λ y. p y ≡ true) x xs h)) refl
 
-filter-no : {X : Type 0} (p : X → Bool) (xs : List X) → All (λ x. p x ≡ false) xs → filter p xs ≡ []
-filter-no p [] h = refl
-filter-no p (x ∷ xs) h =
-    rw (All-head (λ y. p y ≡ false) x xs h, filter-no p xs (All-tail (λ y. p y ≡ false) x xs h)) refl
+pub not_not : (b : Bool) → b ≡ not (not b)
+not_not true = refl
+not_not false = refl
 
 -- ---- the halves of a part
 
-prefix-above : (m n level : ℕ) → m / 2 ^ level ≡ n / 2 ^ level → m / 2 ^ suc level ≡ n / 2 ^ suc level
-prefix-above m n level e =
-    let one : m / 2 ^ level / 2 ≡ m / 2 ^ (level + 1) = shr-shr m level 1 in
-    let two : n / 2 ^ level / 2 ≡ n / 2 ^ (level + 1) = shr-shr n level 1 in
-    rw add-one at (sym one ∙ ap (λ (k : ℕ). k / 2) e ∙ two)
+-- two coins that agree from a level on agree above it
+pub prefix-up : (m n low high : ℕ) → low ≤ high → m / 2 ^ low ≡ n / 2 ^ low → m / 2 ^ high ≡ n / 2 ^ high
+prefix-up m n low high le e =
+    let width = high - low in
+    let top : low + width ≡ high = omega arith in
+    rw (← top) (sym (shr-shr m low width) ∙ ap (λ (q : ℕ). q / 2 ^ width) e ∙ shr-shr n low width)
 
 -- two coins whose bits at a level are the same agree from the level on where they agree above it
 same_prefix : (m n level : ℕ) → bit_of m level ≡ bit_of n level
     → (m / 2 ^ level == n / 2 ^ level) ≡ (m / 2 ^ suc level == n / 2 ^ suc level)
 same_prefix m n level bit = elim (cases_Bool (m / 2 ^ suc level == n / 2 ^ suc level)) [
   | inl is ↦ rw is (eq-eqb _ _ (agree-lower m n level (eqb-true _ _ is) (bit_at-same m n level bit)))
-  | inr isnt ↦ rw isnt (ne_eqb _ _ (λ e. eqb-false _ _ isnt (prefix-above m n level e)))
+  | inr isnt ↦ rw isnt (ne_eqb _ _ (λ e. eqb-false _ _ isnt (prefix-up m n level (suc level) (omega arith) e)))
 ]
 
 -- two coins whose bits at a level differ don't agree from the level on
@@ -83,7 +86,7 @@ left_half m n level zero_is = elim (cases_Bool (bit_of m level)) [
   | inr isnt ↦ rw (isnt, same_prefix m n level (isnt ∙ sym zero_is)) (and_true _)
 ]
 
-near-part : (coin level : ℕ) (entries : List Entry)
+pub near-part : (coin level : ℕ) (entries : List Entry)
     → near_part coin level (part_at (suc level) coin entries) ≡ part_at level coin entries
 unfolding part_at
 near-part coin level entries = elim (cases_Bool (bit_of coin level)) [
@@ -113,7 +116,7 @@ far-near coin other level entries e = elim (cases_Bool (bit_of coin level)) [
   | inr isnt ↦ rw (isnt, e, isnt) refl
 ]
 
-far-part : (coin other level : ℕ) (entries : List Entry) → IsSibling coin other level
+pub far-part : (coin other level : ℕ) (entries : List Entry) → IsSibling coin other level
     → far_part coin level (part_at (suc level) coin entries) ≡ part_at level other entries
 far-part coin other level entries h =
     far-near coin other level (part_at (suc level) coin entries) h.bit
@@ -145,10 +148,16 @@ only_leaf-part coin (entry ∷ entries) = elim (cases_Bool (entry.coin == coin))
       rw (ne_eqb (entry.coin / 1) (coin / 1) apart, isnt) (only_leaf-part coin entries)
 ]
 
-pub digest-leaf : (dig : List ℕ → List ℕ) (coin : ℕ) (entries : List Entry)
+digest-leaf : (dig : List ℕ → List ℕ) (coin : ℕ) (entries : List Entry)
     → subtree_digest dig 0 (part_at 0 coin entries) ≡ dig (leaf_string (leaf_of entries coin))
 unfolding subtree_digest
 digest-leaf dig coin entries = rw (only_leaf-part coin entries) refl
+
+pub digest-at_leaf : (dig : List ℕ → List ℕ) (level coin : ℕ) (entries : List Entry) (leaf digest : List ℕ)
+    → level ≡ 0 → leaf ≡ leaf_of entries coin → digest ≡ dig (leaf_string leaf)
+    → digest ≡ subtree_digest dig level (part_at level coin entries)
+digest-at_leaf dig level coin entries leaf digest bottom leaf_is is =
+    is ∙ rw (bottom, digest-leaf dig coin entries, ← leaf_is) refl
 
 pub part_at-whole : (coin : ℕ) (entries : List Entry) → coin < 2 ^ 64 → All (λ entry. entry.coin < 2 ^ 64) entries
     → part_at 64 coin entries ≡ entries
@@ -157,9 +166,24 @@ part_at-whole coin entries lt small =
     filter-every (λ entry. entry.coin / 2 ^ 64 == coin / 2 ^ 64) entries (λ k d long. let below =
     small k d long in eq-eqb _ _ (omega arith))
 
-pub part_at-empty : (level coin : ℕ) → part_at level coin [] ≡ []
+-- a part of a part without a leaf has none
+pub part_at-none : (k level other coin : ℕ) (entries : List Entry) → k ≤ level
+    → other / 2 ^ level ≡ coin / 2 ^ level → part_at level coin entries ≡ [] → part_at k other entries ≡ []
 unfolding part_at
-part_at-empty level coin = refl
+part_at-none k level other coin entries le e none =
+    let low : Entry → Bool = λ entry. entry.coin / 2 ^ k == other / 2 ^ k in
+    let high : Entry → Bool = λ entry. entry.coin / 2 ^ level == coin / 2 ^ level in
+    sym (filter-twice low high low (λ entry. within entry) entries) ∙ ap (λ (part : List Entry). filter low part) none
+  where
+    within : (entry : Entry) → (entry.coin / 2 ^ k == other / 2 ^ k)
+        ≡ (entry.coin / 2 ^ level == coin / 2 ^ level && (entry.coin / 2 ^ k == other / 2 ^ k))
+    within entry = elim (cases_Bool (entry.coin / 2 ^ k == other / 2 ^ k)) [
+      | inl is ↦
+          let up : entry.coin / 2 ^ level ≡ coin / 2 ^ level =
+          prefix-up entry.coin other k level le (eqb-true _ _ is) ∙ e in
+          rw (is, eq-eqb _ _ up) refl
+      | inr isnt ↦ rw isnt (and_false (entry.coin / 2 ^ level == coin / 2 ^ level))
+    ]
 
 -- ---- the path of a coin
 
@@ -195,56 +219,6 @@ path_to-from dig coin entries other path lt small siblings long same =
     (λ k within. same k (omega arith) ∙ sym (path_below-at dig coin entries other 64 k siblings (omega arith))) in
     rw (part_at-whole coin entries lt small) at ext
 
--- ---- what a put leaves as it was
-
-split-filter : (p : Entry → Bool) (coin : ℕ) (entries : List Entry)
-    → AllPairs (λ earlier later. earlier.coin < later.coin) entries
-    → ((entry : Entry) → entry.coin ≡ coin → p entry ≡ false)
-    → filter p (filter (λ entry. nat_lt entry.coin coin) entries) ++ filter p
-    (filter (λ entry. nat_lt coin entry.coin) entries) ≡ filter p entries
-split-filter p coin [] rising fails = refl
-split-filter p coin (entry ∷ entries) rising fails = elim (cases_lt entry.coin coin) [
-  | inl below ↦
-      let rest = split-filter p coin entries (λ i j d lt long. rising (suc i) (suc j) d (omega arith) (omega arith))
-      fails in
-      rw (lt-ltb entry.coin coin below, le-ltb coin entry.coin (omega arith)) (elim (cases_Bool (p entry)) [
-        | inl is ↦ rw (is, rest) refl
-        | inr isnt ↦ rw (isnt, rest) refl
-      ])
-  | inr above ↦
-      let higher : (k : ℕ) (d : Entry) → k < length entries → coin < (get_or entries k d).coin =
-      λ k d long. let up = rising 0 (suc k) d (omega arith) (omega arith) in omega arith in
-      let none = filter-no (λ e. nat_lt e.coin coin) entries
-      (λ k d long. le-ltb _ coin (omega (arith, higher k d long))) in
-      let every = filter-every (λ e. nat_lt coin e.coin) entries (λ k d long. lt-ltb coin _ (higher k d long)) in
-      rw (le-ltb entry.coin coin above, none, every) (elim (cases_lt coin entry.coin) [
-        | inl strict ↦ rw (lt-ltb coin entry.coin strict) refl
-        | inr le ↦ rw (le-ltb coin entry.coin le, fails entry (omega arith)) refl
-      ])
-]
-
-entry_of-fails : (p : Entry → Bool) (coin : ℕ) (leaf : List ℕ) → ((entry : Entry) → entry.coin ≡ coin → p entry ≡ false)
-    → filter p (entry_of coin leaf) ≡ []
-entry_of-fails p coin [] fails = refl
-entry_of-fails p coin (byte ∷ bytes) fails = rw (fails (record { coin = coin; leaf = byte ∷ bytes }) refl) refl
-
-pub part_at-other : (coin other level : ℕ) (leaf : List ℕ) (entries : List Entry) → IsMap entries
-    → other / 2 ^ level ≢ coin / 2 ^ level
-    → part_at level other (with_leaf entries coin leaf) ≡ part_at level other entries
-unfolding part_at
-part_at-other coin other level leaf entries map apart =
-    let p : Entry → Bool = λ entry. entry.coin / 2 ^ level == other / 2 ^ level in
-    let fails : (entry : Entry) → entry.coin ≡ coin → p entry ≡ false =
-    λ entry e. ne_eqb _ _ (λ same. apart (sym same ∙ ap (λ (k : ℕ). k / 2 ^ level) e)) in
-    let lower = filter (λ entry. nat_lt entry.coin coin) entries in
-    let higher = filter (λ entry. nat_lt coin entry.coin) entries in
-    rw (
-      filter-append p (lower ++ entry_of coin leaf) higher,
-      filter-append p lower (entry_of coin leaf),
-      entry_of-fails p coin leaf fails,
-      append-nil (filter p lower),
-    ) (split-filter p coin entries map.rising fails)
-
 -- ---- the sibling's coin
 
 bit_at-high : (n k i : ℕ) → bit_at (n / 2 ^ k) i ≡ bit_at n (k + i)
@@ -279,9 +253,9 @@ IsSibling-xor coin level lt in_tree =
           (omega (arith, div-le_self coin (2 ^ suc level))) same;
     }
 
--- ---- the digests on the way up from a coin that has a new leaf
+-- ---- the two halves of a part, by their coins
 
-sibling-apart : (coin other level : ℕ) → IsSibling coin other level → other / 2 ^ level ≢ coin / 2 ^ level
+pub sibling-apart : (coin other level : ℕ) → IsSibling coin other level → other / 2 ^ level ≢ coin / 2 ^ level
 sibling-apart coin other level h e =
     let same : bit_of other level ≡ bit_of coin level = ap (λ (k : ℕ). k % 2 == 1) e in
     turns (bit_of coin level) (sym same ∙ h.bit)
@@ -290,32 +264,105 @@ sibling-apart coin other level h e =
     turns true bad = cc bad
     turns false bad = cc bad
 
-pub way-start : (dig : List ℕ → List ℕ) (coin : ℕ) (leaf : List ℕ) (entries : List Entry) (digest : List ℕ)
-    → digest ≡ dig (leaf_string leaf)
-    → digest ≡ subtree_digest dig 0 (part_at 0 coin (with_leaf entries coin leaf))
-way-start dig coin leaf entries digest is =
-    rw (digest-leaf dig coin (with_leaf entries coin leaf), leaf_of-with_leaf entries coin leaf) is
+-- a coin that agrees with another above a level is on its side there or on the other
+pub halves : (one coin other level : ℕ) → IsSibling coin other level → one / 2 ^ suc level ≡ coin / 2 ^ suc level
+    → (one / 2 ^ level ≡ coin / 2 ^ level) ⊎ (one / 2 ^ level ≡ other / 2 ^ level)
+halves one coin other level h e = elim (cases_Bool (bit_of one level)) [
+  | inl is ↦ elim (cases_Bool (bit_of coin level)) [
+    | inl same ↦ inl (agree-lower one coin level e (bit_at-same one coin level (is ∙ sym same)))
+    | inr differs ↦ inr (agree-lower one other level (e ∙ sym h.above)
+        (bit_at-same one other level (is ∙ sym (h.bit ∙ ap not differs))))
+  ]
+  | inr isnt ↦ elim (cases_Bool (bit_of coin level)) [
+    | inl differs ↦ inr (agree-lower one other level (e ∙ sym h.above)
+        (bit_at-same one other level (isnt ∙ sym (h.bit ∙ ap not differs))))
+    | inr same ↦ inl (agree-lower one coin level e (bit_at-same one coin level (isnt ∙ sym same)))
+  ]
+]
 
-pub way-up : (dig : List ℕ → List ℕ) (coin level : ℕ) (leaf : List ℕ) (entries : List Entry)
-    (digest sibling string above : List ℕ) (turn : Bool)
-    → coin < 2 ^ 64 → level < 64 → IsMap entries
-    → digest ≡ subtree_digest dig level (part_at level coin (with_leaf entries coin leaf))
-    → sibling ≡ subtree_digest dig level (part_at level (bit_xor coin (2 ^ level)) entries) → turn ≡ bit_of coin level
-    → string ≡ parent_string turn digest sibling → above ≡ dig string
-    → above ≡ subtree_digest dig (level + 1) (part_at (level + 1) coin (with_leaf entries coin leaf))
-way-up dig coin level leaf entries digest sibling string above turn lt in_tree map digest_is sibling_is turn_is
-    string_is above_is =
-    let other = bit_xor coin (2 ^ level) in
-    let h = IsSibling-xor coin level lt in_tree in
-    let apart = sibling-apart coin other level h in
-    let e : level + 1 ≡ suc level = omega arith in
-    rw (
-      e,
-      digest-above dig coin other level (with_leaf entries coin leaf) h,
-      part_at-other coin other level leaf
-          entries map apart,
-      ← digest_is,
-      ← sibling_is,
+pub digest-sides : (dig : List ℕ → List ℕ) (coin level below : ℕ) (entries : List Entry)
+    (near far string digest : List ℕ) (turn : Bool) → level ≡ suc below → coin < 2 ^ 64 → below < 64
+    → near ≡ subtree_digest dig below (part_at below coin entries)
+    → far ≡ subtree_digest dig below (part_at below (bit_xor coin (2 ^ below)) entries) → turn ≡ bit_of coin below
+    → string ≡ parent_string turn near far → digest ≡ dig string
+    → digest ≡ subtree_digest dig level (part_at level coin entries)
+digest-sides dig coin level below entries near far string digest turn up lt in_tree near_is far_is turn_is string_is
+    digest_is = rw (
+      up,
+      digest-above dig coin (bit_xor coin (2 ^ below)) below entries (IsSibling-xor coin below lt in_tree),
+      ← near_is,
+      ← far_is,
       ← turn_is,
       ← string_is,
-    ) above_is
+    ) digest_is
+
+-- ---- the coins of a part
+
+filter-coins : (p : ℕ → Bool) (entries : List Entry) → filter p (coins_of entries) ≡ coins_of (filter (λ entry. p
+    entry.coin) entries)
+filter-coins p [] = refl
+filter-coins p (entry ∷ entries) = elim (cases_Bool (p entry.coin)) [
+  | inl is ↦ rw is (ap (λ (coins : List ℕ). entry.coin ∷ coins) (filter-coins p entries))
+  | inr isnt ↦ rw isnt (filter-coins p entries)
+]
+
+pub near-coins : (coin level below : ℕ) (entries : List Entry) (coins near : List ℕ) → level ≡ suc below
+    → coins ≡ coins_of (part_at level coin entries) → near ≡ near_coins coin below coins
+    → near ≡ coins_of (part_at below coin entries)
+near-coins coin level below entries coins near up are is =
+    rw (is, are, up) (sides (part_at (suc below) coin entries)
+    ∙ ap coins_of (near-part coin below entries))
+  where
+    sides : (part : List Entry) → near_coins coin below (coins_of part) ≡ coins_of (near_part coin below part)
+    sides part = elim (cases_Bool (bit_of coin below)) [
+      | inl one ↦ rw one (filter-coins (λ c. bit_of c below) part)
+      | inr zero_is ↦ rw zero_is (filter-coins (λ c. not (bit_of c below)) part)
+    ]
+
+pub far-coins : (coin level below : ℕ) (entries : List Entry) (coins far : List ℕ) → level ≡ suc below
+    → coin < 2 ^ 64 → below < 64 → coins ≡ coins_of (part_at level coin entries) → far ≡ far_coins coin below coins
+    → far ≡ coins_of (part_at below (bit_xor coin (2 ^ below)) entries)
+far-coins coin level below entries coins far up lt in_tree are is =
+    rw (is, are, up) (sides (part_at (suc below) coin entries)
+    ∙ ap coins_of (far-part coin (bit_xor coin (2 ^ below)) below entries (IsSibling-xor coin below lt in_tree)))
+  where
+    sides : (part : List Entry) → far_coins coin below (coins_of part) ≡ coins_of (far_part coin below part)
+    sides part = elim (cases_Bool (bit_of coin below)) [
+      | inl one ↦ rw one (filter-coins (λ c. not (bit_of c below)) part)
+      | inr zero_is ↦ rw zero_is (filter-coins (λ c. bit_of c below) part)
+    ]
+
+pub coins-none : (level coin : ℕ) (entries : List Entry) (coins : List ℕ)
+    → coins ≡ coins_of (part_at level coin entries) → length coins ≡ 0 → part_at level coin entries ≡ []
+coins-none level coin entries coins are none =
+    nil_from_length (part_at level coin entries)
+    (sym (length-map (part_at level coin entries) (λ entry. entry.coin)) ∙ sym (ap length are) ∙ none)
+
+part-subtree : (level coin : ℕ) (entries : List Entry) → IsMap entries → IsSubtree level (part_at level coin entries)
+unfolding part_at
+part-subtree level coin entries map i j d lt long =
+    let p : Entry → Bool = λ entry. entry.coin / 2 ^ level == coin / 2 ^ level in
+    let first : i < length (filter p entries) = omega arith in
+    let one : (get_or (filter p entries) i d).coin / 2 ^ level ≡ coin / 2 ^ level =
+    eqb-true _ _ (filter_passes p entries i d first) in
+    let two : (get_or (filter p entries) j d).coin / 2 ^ level ≡ coin / 2 ^ level =
+    eqb-true _ _ (filter_passes p entries j d long) in (
+      AllPairs-filter (λ earlier later. earlier.coin < later.coin) p entries map.rising i j d lt long,
+      one ∙ sym two,
+    )
+
+-- the coins with a 0 at the bit below a part's level stand before those with a 1
+pub coins-parted : (coin level below : ℕ) (entries : List Entry) (coins : List ℕ) → level ≡ suc below → IsMap entries
+    → coins ≡ coins_of (part_at level coin entries) → IsPartitionedBy (λ c. not (bit_of c below)) coins
+coins-parted coin level below entries coins up map are =
+    rw are (λ i j d le lt.
+    let part = part_at level coin entries in
+    let bare : Entry = record { coin = d; leaf = [] } in
+    let next : below + 1 ≡ level = omega arith in
+    let subtree : IsSubtree (below + 1) part = rw next (part-subtree level coin entries map) in
+    let long : j < length part = omega (arith, length-map part (λ entry. entry.coin)) in
+    let first : i < length part = omega arith in
+    rw (
+      get_or-map (λ (entry : Entry). entry.coin) part i bare d first,
+      get_or-map (λ (entry : Entry). entry.coin) part j bare d long,
+    ) (IsSubtree-parted below part subtree i j bare le long))

@@ -1,8 +1,8 @@
-ghost use Rattle.std.specs.Prelude.{◌≡◌, ◌≢◌, ◌+◌, ◌≤◌, ◌<◌, ◌*◌, ℕ, [], false, slice_index_or, nat_eq, OnOk, IsTrue, None};
-ghost use Rattle.std.specs.HashMap.{get, spare};
-ghost use Rattle.std.specs.Option.{option_copied};
+ghost use Rattle.std.specs.Prelude.{◌≡◌, ◌≢◌, ◌+◌, ◌<◌, ◌*◌, ◌^◌, ℕ, [], length, slice_index_or, nat_eq, unwrap_or, IfOk, OnOk, Some, None};
+ghost use Rattle.std.specs.HashMap.{get};
+ghost use Rattle.std.specs.Int.Bits.{bit_xor};
 ghost use Rattle.merkle_pages.specs.declared.pages.PageName.{PageName};
-ghost use Rattle.merkle_pages.specs.Pages.{same_name, name_in, name_at, place_at, kept_digest, page_node, HasRoom, SetsNodes, SetsPages};
+ghost use Rattle.merkle_pages.specs.Pages.{name_in, name_at, place_at, node_at, kept_digest, PutsNode, TakesSiblings};
 
 use plasma_base::NoMemory;
 use std::alloc::Global;
@@ -45,127 +45,107 @@ fn place(level: usize, coin: u64) -> u32
     (width + (coin >> level) % width) as u32
 }
 
-/// The node that is kept at a level on the way up from a coin.
-pub fn kept_node(pages: &Pages, level: usize, coin: u64) -> Option<&[u8; 32]>
+/// A coin below the sibling of a level on the way up from a coin.
+pub fn sibling_coin(coin: u64, level: usize) -> u64
     requires { level < 64 }
-    ensures { option_copied result ≡ page_node pages.now (name_at level coin) (place_at level coin) }
+    ensures { result ≡ bit_xor coin (2 ^ level) }
 {
-    let page = pages.get(&page_name(level / 16, coin))?;
-    page.get(&place(level, coin))
+    coin ^ (1 << level)
 }
 
-/// Makes room for the nodes of a coin's way up. No node changes; where memory runs out some of the room,
-/// and a page without a node, may stay.
-pub fn make_rooms(alloc: Global, pages: &mut Pages, coin: u64) -> Result<(), NoMemory>
-    ensures same { (name : PageName) (place : ℕ) → page_node pages.new name place ≡ page_node pages.old name place }
-    ensures room { OnOk result ((number : ℕ) → number < 4 → HasRoom pages.new (name_in number coin)) }
+/// The siblings on the way up from a coin, from its leaf's up: the nodes that are kept, and the defaults of
+/// the other levels.
+pub fn siblings(pages: &Pages, coin: u64, defaults: &[[u8; 32]; 64]) -> [[u8; 32]; 64]
+    ensures long { length result ≡ 64 }
+    ensures are { (level : ℕ) → level < 64 → slice_index_or result level []
+        ≡ unwrap_or (node_at level (bit_xor coin (2 ^ level)) pages.now) (slice_index_or defaults.now level []) }
 {
+    let mut siblings = *defaults;
     for number in 0..4 {
-        make_room(alloc, pages, page_name(number, coin))?;
+        take_siblings(pages, number, coin, &mut siblings);
     }
-    Ok(())
+    siblings
 }
 
-// Makes room for 16 further nodes in a page.
-fn make_room(alloc: Global, pages: &mut Pages, name: PageName) -> Result<(), NoMemory>
-    ensures same { (other : PageName) (place : ℕ) → page_node pages.new other place ≡ page_node pages.old other place }
-    ensures others { (other : PageName) → same_name name other ≡ false
-        → get same_name pages.new other ≡ get same_name pages.old other }
-    ensures room { OnOk result (HasRoom pages.new name) }
+// Puts the siblings on the way up from a coin at the 16 levels of a page, all of which it keeps itself, in
+// place of what stands there. Those that it doesn't keep stay.
+fn take_siblings(pages: &Pages, number: usize, coin: u64, siblings: &mut [[u8; 32]; 64])
+    requires { number < 4 }
+    ensures { TakesSiblings pages.now number coin (16 * number) (16 * number + 16) siblings.old siblings.new }
 {
-    if let Some(page) = pages.get_mut(&name) {
-        page.reserve(16)?;
-        return Ok(());
-    }
-    pages.insert(name, HashMap::with_capacity(alloc, 16)?)?;
-    Ok(())
-}
-
-/// Puts the digests of a coin's way up in place of the nodes there, where there is room. Those that are
-/// the default of their level aren't kept, nor is a page without a node.
-pub fn keep_nodes(pages: &mut Pages, coin: u64, digests: &[[u8; 32]; 65], defaults: &[[u8; 32]; 64])
-    requires { (number : ℕ) → number < 4 → HasRoom pages.old (name_in number coin) }
-    ensures { SetsPages coin digests.now defaults.now 64 pages.old pages.new }
-{
-    for number in 0..4 {
-        keep_page(pages, number, coin, digests, defaults);
-        drop_empty(pages, page_name(number, coin));
-    }
-}
-
-// The same in one page.
-fn keep_page(
-    pages: &mut Pages,
-    number: usize,
-    coin: u64,
-    digests: &[[u8; 32]; 65],
-    defaults: &[[u8; 32]; 64],
-)
-    requires in_tree { number < 4 }
-    requires room { HasRoom pages.old (name_in number coin) }
-    ensures set { (level : ℕ) → 16 * number ≤ level → level < 16 * number + 16
-        → page_node pages.new (name_in number coin) (place_at level coin)
-        ≡ kept_digest (slice_index_or digests.now level []) (slice_index_or defaults.now level []) }
-    ensures stays { (place : ℕ)
-        → ((level : ℕ) → 16 * number ≤ level → level < 16 * number + 16 → place ≢ place_at level coin)
-        → page_node pages.new (name_in number coin) place ≡ page_node pages.old (name_in number coin) place }
-    ensures others { (other : PageName) → same_name (name_in number coin) other ≡ false
-        → get same_name pages.new other ≡ get same_name pages.old other }
-{
-    let Some(page) = pages.get_mut(&page_name(number, coin)) else {
-        unreachable!()
+    let Some(page) = pages.get(&page_name(number, coin)) else {
+        return;
     };
-    set_nodes(page, number, coin, digests, defaults);
-}
-
-// Takes a page without a node away.
-fn drop_empty(pages: &mut Pages, name: PageName)
-    ensures same { (other : PageName) (place : ℕ) → page_node pages.new other place ≡ page_node pages.old other place }
-    ensures others { (other : PageName) → same_name name other ≡ false
-        → get same_name pages.new other ≡ get same_name pages.old other }
-{
-    if has_empty(pages, name) {
-        pages.remove(&name);
-    }
-}
-
-// Whether there is a page of that name, without a node.
-fn has_empty(pages: &Pages, name: PageName) -> bool
-    ensures { IsTrue result → (place : ℕ) → page_node pages.now name place ≡ None }
-{
-    match pages.get(&name) {
-        Some(page) => page.is_empty(),
-        None => false,
-    }
-}
-
-// Puts the digests of 16 levels into their page.
-fn set_nodes(
-    page: &mut Page,
-    number: usize,
-    coin: u64,
-    digests: &[[u8; 32]; 65],
-    defaults: &[[u8; 32]; 64],
-)
-    requires in_tree { number < 4 }
-    requires room { 16 ≤ spare page.old }
-    ensures { SetsNodes coin digests.now defaults.now (16 * number) (16 * number + 16) page.old page.new }
-{
     for level in 16 * number..16 * number + 16 {
-        set_node(page, place(level, coin), &digests[level], &defaults[level]);
+        if let Some(digest) = page.get(&place(level, sibling_coin(coin, level))) {
+            siblings[level] = *digest;
+        }
     }
 }
 
-// Puts a digest at a place of a page, or takes the node away where it is the default.
-fn set_node(page: &mut Page, place: u32, digest: &[u8; 32], default: &[u8; 32])
-    requires { 0 < spare page.old }
-    ensures here { get nat_eq page.new place ≡ kept_digest digest.now default.now }
-    ensures elsewhere { (other : ℕ) → other ≢ place → get nat_eq page.new other ≡ get nat_eq page.old other }
-    ensures room { spare page.old ≤ spare page.new + 1 }
+/// Keeps the digest of a node at a level on the way up from a coin, at which the pages keep none. A digest
+/// that is the default of the level isn't kept.
+pub fn keep_node(
+    alloc: Global,
+    pages: &mut Pages,
+    level: usize,
+    coin: u64,
+    digest: &[u8; 32],
+    default: &[u8; 32],
+) -> Result<(), NoMemory>
+    requires in_tree { level < 64 }
+    requires clear { node_at level coin pages.old ≡ None }
+    ensures { OnOk result (PutsNode (name_at level coin) (place_at level coin) (kept_digest digest.now default.now)
+        pages.old pages.new) }
 {
     if digest == default {
-        page.remove(&place);
-    } else if page.insert(place, *digest).is_err() {
-        unreachable!()
+        return Ok(());
     }
+    insert_node(
+        alloc,
+        pages,
+        page_name(level / 16, coin),
+        place(level, coin),
+        *digest,
+    )?;
+    Ok(())
+}
+
+// Puts a node at a place of a page, which is made where there is none.
+fn insert_node(
+    alloc: Global,
+    pages: &mut Pages,
+    name: PageName,
+    place: u32,
+    digest: [u8; 32],
+) -> Result<(), NoMemory>
+    ensures { OnOk result (PutsNode name place (Some digest) pages.old pages.new) }
+{
+    if let Some(page) = pages.get_mut(&name) {
+        put_node(page, place, digest)?;
+        return Ok(());
+    }
+    let page = page_with(alloc, place, digest)?;
+    pages.insert(name, page)?;
+    Ok(())
+}
+
+// A page with one node.
+fn page_with(alloc: Global, place: u32, digest: [u8; 32]) -> Result<Page, NoMemory>
+    ensures here { IfOk result (λ page. get nat_eq page place ≡ Some digest) }
+    ensures elsewhere { IfOk result (λ page. (other : ℕ) → other ≢ place → get nat_eq page other ≡ None) }
+{
+    let mut page = HashMap::with_capacity(alloc, 16)?;
+    put_node(&mut page, place, digest)?;
+    Ok(page)
+}
+
+// Puts a node at a place of a page.
+fn put_node(page: &mut Page, place: u32, digest: [u8; 32]) -> Result<(), NoMemory>
+    ensures here { OnOk result (get nat_eq page.new place ≡ Some digest) }
+    ensures elsewhere { OnOk result ((other : ℕ) → other ≢ place
+        → get nat_eq page.new other ≡ get nat_eq page.old other) }
+{
+    page.insert(place, digest)?;
+    Ok(())
 }

@@ -1,5 +1,5 @@
 -- What a command's record does to what the records leave.
-use Rattle.std.proofs.Common.{◌≡◌, ℕ, ◌+◌, ◌^◌, ◌<◌, true, false, List, [], ◌∷◌, ◌++◌, length, length-append, Some, None, Ok, Err, refl, sym, ap, ◌∙◌, arith}
+use Rattle.std.proofs.Common.{◌≡◌, ℕ, ◌^◌, ◌<◌, true, false, List, [], ◌∷◌, ◌++◌, length, length-append, Some, None, Ok, Err, refl, sym, ap, ◌∙◌, arith}
 use Rattle.std.specs.Prelude.{nat_lt, ◌≤◌}
 use Rattle.std.proofs.lemmas.Bool.{le-ltb, lt-ltb}
 use Rattle.node_journal.specs.Effect.{only}
@@ -8,7 +8,7 @@ use Rattle.plasma_tx.specs.declared.call.RootCall.{RootCall}
 use Rattle.plasma_tx.specs.Spelling.{number_text}
 use Rattle.operator_rules.specs.declared.TheConstants.{MOST_LAID}
 use Rattle.operator_rules.specs.declared.refusal.LayRefusal.TheVariants.{LeafTooLong}
-use Rattle.operator_rules.specs.Records.{Note, Offered, Laid, Sealed, note_text, operator_kinds, who_is, notes_of}
+use Rattle.operator_rules.specs.Records.{Note, Offered, Laid, Sealed, note_text, operator_kinds, notes_of}
 use Rattle.operator_rules.specs.Trees.{Forest, coin_named, forest_of}
 use Rattle.operator_rules.specs.Commands.{forest_in, offer_effect, lay_effect, seal_effect}
 use Rattle.operator_rules.proofs.Role.{commands_keep_the_role, commands_add_their_notes}

@@ -5,5 +5,4 @@ pub mod Rebuilt
 pub mod Ways
 pub mod Opening
 pub mod Adds
-pub mod Committed
 pub mod Offers

@@ -1,17 +1,11 @@
 -- A leaf put back where another was put.
-use Rattle.std.proofs.Common.{◌≡◌, ◌≢◌, ℕ, suc, ◌+◌, ◌<◌, ◌≤◌, nat_lt, List, [], ◌∷◌, ◌++◌, refl, sym, ap, ◌∙◌, inl, inr, append-nil, arith, filter}
-use Rattle.std.specs.List.{All, AllPairs, AllByRecursion}
+use Rattle.std.proofs.Common.{◌≡◌, ◌≢◌, ℕ, ◌<◌, nat_lt, List, [], ◌∷◌, ◌++◌, refl, sym, ap, ◌∙◌, inl, inr, append-nil, arith}
 use Rattle.std.proofs.lemmas.Bool.{cases_Bool, eq-eqb, ne_eqb, ltb-true, lt-ltb, le-ltb, cases_lt, cases_eq}
-use Rattle.std.proofs.lemmas.List.Elements.{filter-append, recursion_from_All}
+use Rattle.std.proofs.lemmas.List.Elements.{filter-append}
 use Rattle.sparse_merkle.specs.declared.tree.Entry.{Entry}
 use Rattle.sparse_merkle.proofs.TreeLaws.{leaf_of-with_leaf, leaf_of-with_other}
 use Rattle.sparse_merkle.specs.TreeDigest.{leaf_of, entry_of, with_leaf, IsMap}
-
-abbrev low : ℕ → List Entry → List Entry
-low coin entries = filter (λ entry. nat_lt entry.coin coin) entries
-
-abbrev high : ℕ → List Entry → List Entry
-high coin entries = filter (λ entry. nat_lt coin entry.coin) entries
+use Rattle.merkle_pages.proofs.Rising.{low, high, AllAbove, above-less, low-above, high-above, IsRising, rising}
 
 -- ---- a second put at a coin
 
@@ -78,22 +72,6 @@ with-with entries coin one other =
 
 -- ---- a put of the leaf that is there
 
-abbrev AllAbove : ℕ → List Entry → Type 0
-AllAbove coin entries = AllByRecursion (λ entry. coin < entry.coin) entries
-
-above-less : (less coin : ℕ) → less ≤ coin → (entries : List Entry) → AllAbove coin entries → AllAbove less entries
-above-less less coin le [] all = tt
-above-less less coin le (entry ∷ entries) all = (omega (arith, all.0), above-less less coin le entries all.1)
-
-low-above : (coin : ℕ) (entries : List Entry) → AllAbove coin entries → low coin entries ≡ []
-low-above coin [] all = refl
-low-above coin (entry ∷ entries) all =
-    simp (le-ltb entry.coin coin (let lt = all.0 in omega arith), low-above coin entries all.1)
-
-high-above : (coin : ℕ) (entries : List Entry) → AllAbove coin entries → high coin entries ≡ entries
-high-above coin [] all = refl
-high-above coin (entry ∷ entries) all = simp (lt-ltb coin entry.coin all.0, high-above coin entries all.1)
-
 leaf-above : (coin : ℕ) (entries : List Entry) → AllAbove coin entries → leaf_of entries coin ≡ []
 unfolding leaf_of
 leaf-above coin [] all = refl
@@ -107,23 +85,6 @@ entry-own entry filled = at entry.leaf refl
     at [] is = absurd (filled is)
     at (byte ∷ bytes) is = ap (λ (l : List ℕ). entry_of entry.coin l) is
         ∙ ap (λ (l : List ℕ). record { coin = entry.coin; leaf = l } ∷ []) (sym is)
-
--- rising, with no empty leaf
-IsRising : List Entry → Type 0
-IsRising [] = Unit {0}
-IsRising (entry ∷ entries) = AllAbove entry.coin entries × (entry.leaf ≢ []) × IsRising entries
-
-rising : (entries : List Entry) → AllPairs (λ earlier later. earlier.coin < later.coin) entries
-    → All (λ entry. entry.leaf ≢ []) entries → IsRising entries
-unfolding IsRising
-rising [] pairs filled = tt
-rising (entry ∷ entries) pairs filled = (
-  recursion_from_All (λ later. entry.coin < later.coin) entries (λ k d lt. pairs 0 (suc k) d (omega arith)
-      (omega arith)),
-  filled 0 entry (omega arith),
-  rising entries (λ i j d lt le. pairs (suc i) (suc j) d (omega arith) (omega arith))
-      (λ k d lt. filled (suc k) d (omega arith)),
-)
 
 with-own : (entries : List Entry) (coin : ℕ) → IsRising entries
     → with_leaf entries coin (leaf_of entries coin) ≡ entries

@@ -1,7 +1,6 @@
 -- The pool and the sealed trees as the operator keeps them.
-use Rattle.std.specs.Prelude.{◌≡◌, ◌≤◌, ◌&&◌, not, ℕ, Bool, true, false, [], ◌∷◌, ◌++◌, if◌then◌else◌, List, length, map, reverse, Option, Some, None}
+use Rattle.std.specs.Prelude.{◌≡◌, ◌≤◌, ◌&&◌, not, ℕ, Bool, true, [], ◌∷◌, ◌++◌, if◌then◌else◌, List, length, map, reverse, Option, Some, None}
 use Rattle.std.specs.HashMap.{HashMap, get}
-use Rattle.std.specs.HashSet.{HashSet, contains}
 use Rattle.std.specs.List.{All, filter_map, position_from}
 use Rattle.std.specs.Str.{bytes_eq}
 use Rattle.merkle_pages.specs.Nodes.{HashedMap}
@@ -18,7 +17,8 @@ use Rattle.operator_rules.specs.declared.refusal.LayRefusal.TheVariants.{Closed 
 use Rattle.operator_rules.specs.declared.refusal.SealRefusal.{SealRefusal}
 use Rattle.operator_rules.specs.declared.refusal.SealRefusal.TheVariants.{Closed as SealClosed, NoMemory as SealNoMemory, DeviceFault as SealFault}
 use Rattle.operator_rules.specs.Records.{Note, note_in, operator_kinds, who_is}
-use Rattle.operator_rules.specs.Trees.{Forest, has_leaf}
+use Rattle.plasma_tx.specs.declared.call.RootCall.{RootCall}
+use Rattle.operator_rules.specs.Trees.{Forest, has_leaf, is_root_committed}
 use Rattle.operator_rules.specs.Commands.{forest_in}
 use Rattle.operator_core.specs.declared.records.Who.{Who}
 use Rattle.operator_core.specs.Texts.{identity_of_who, with_put}
@@ -96,11 +96,6 @@ seal_refusal Closed = SealClosed
 seal_refusal NoMemory = SealNoMemory
 seal_refusal DeviceFault = SealFault
 
--- the tree has a leaf of the coin, and a root that isn't in the set
-abbrev pub is_outside : {S : Type 0} → HashSet (List ℕ) S → ℕ → (List ℕ → List ℕ) → List Entry → Bool
-is_outside roots coin dig tree = has_leaf tree coin && not (contains bytes_eq roots (root_of dig tree))
-
--- the root is the one that was found, if one was
-abbrev pub is_that_root : List ℕ → Option (List ℕ) → Bool
-is_that_root root None = false
-is_that_root root (Some found) = bytes_eq found root
+-- the tree has a leaf of the coin, and a root that the log doesn't commit
+abbrev pub is_outside : List RootCall → ℕ → (List ℕ → List ℕ) → List Entry → Bool
+is_outside log coin dig tree = has_leaf tree coin && not (is_root_committed log (root_of dig tree))

@@ -10,7 +10,6 @@ mod rebuild;
 mod records;
 mod role;
 mod showing;
-mod signatures;
 mod trees;
 mod walk;
 

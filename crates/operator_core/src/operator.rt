@@ -96,7 +96,7 @@ impl<D: Disk> Operator<D> {
 
 impl<D: Disk, H: Hash32 + Copy> Operator<D, H> {
     /// Opens the operator of a disk: its journal is read, and the pool and the sealed trees are built from
-    /// the notes, with 65 digests for the first pool, and 65 for each put and for each seal. Device calls:
+    /// the notes, with 65 digests, and one for each node of a sealed tree's part with a leaf. Device calls:
     /// those of `Journal::open`.
     ///
     /// `NotJournal` comes where the image spells no records, or not those of an operator. A refusal hands
@@ -230,7 +230,7 @@ impl<D: Disk, H: Hash32 + Copy> Operator<D, H> {
     }
 
     /// Offers a signed transfer, which is put into the pool at its coin. The note is durable at `Ok`, which
-    /// answers the coin. It makes 65 digests. Device calls: those of `Journal::append`.
+    /// answers the coin. It makes no digest. Device calls: those of `Journal::append`.
     ///
     /// In this order: `Closed`; `NotTransfer` where the bytes spell no signed transfer of this chain;
     /// `NoCoin`; `WrongParent` where it spends another block than the coin's present tip; `BadSignature`;
@@ -283,7 +283,7 @@ impl<D: Disk, H: Hash32 + Copy> Operator<D, H> {
     }
 
     /// Lays bytes at a coin in place of its leaf in the pool; empty bytes take it out. The note is durable at
-    /// `Ok`. It makes 65 digests. Device calls: those of `Journal::append`.
+    /// `Ok`. It makes no digest. Device calls: those of `Journal::append`.
     ///
     /// In this order: `Closed`; `LeafTooLong` for more than 65,536 bytes; `NoMemory`; `DeviceFault`.
     pub fn lay(&mut self, coin: u64, bytes: &[u8]) -> Result<(), LayRefusal>
@@ -323,8 +323,8 @@ impl<D: Disk, H: Hash32 + Copy> Operator<D, H> {
     }
 
     /// Makes the pool a tree, empties it, and gives the call that commits the tree's root. The note is durable
-    /// at `Ok`. It makes 65 digests, and 65 where a put was refused before. Device calls: those of
-    /// `Journal::append`.
+    /// at `Ok`. It makes a digest for each node of a part with a leaf: at most 65 for a leaf, and for coins
+    /// that stand in a row about two. Device calls: those of `Journal::append`.
     ///
     /// In this order: `Closed`; `NoMemory`; `DeviceFault`.
     #[tactic(auto, unfolding(operator_rules::specs::Commands::seal_effect))]
@@ -357,17 +357,21 @@ impl<D: Disk, H: Hash32 + Copy> Operator<D, H> {
         self.trees.make_room()?;
         let body = sealed_record(self.alloc)?;
         self.notes.is_whole();
+        let tree = self.pool.take()?;
         match self.notes.add(body) {
             Ok(()) => {
-                let leaves = self.pool.len() as u64;
+                let leaves = tree.len() as u64;
                 let call = RootCall::Commit {
                     account: self.who.account,
-                    root: self.pool.root(),
+                    root: *tree.root(),
                 };
-                self.trees.push(self.pool.take());
+                self.trees.push(tree);
                 Ok(Sealed { leaves, call })
             }
-            Err(stop) => Err(stop),
+            Err(stop) => {
+                self.pool.give_back(tree);
+                Err(stop)
+            }
         }
     }
 

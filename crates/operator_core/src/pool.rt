@@ -1,8 +1,8 @@
-ghost use Rattle.std.specs.Prelude.{◌≡◌, ◌<◌, [], length, IfOk, OnOk};
-ghost use Rattle.sparse_merkle.specs.TreeDigest.{leaf_of, with_leaf, root_of};
+ghost use Rattle.std.specs.Prelude.{◌≡◌, [], IfOk, OnOk, OnErr};
+ghost use Rattle.sparse_merkle.specs.TreeDigest.{with_leaf};
 ghost use Rattle.operator_rules.specs.Trees.{has_leaf};
 
-use merkle_pages::PagedTree;
+use merkle_pages::{Defaults, Leaves, PagedTree};
 use plasma_base::{Bytes, Hash32, NoMemory};
 use std::alloc::Global;
 use std::marker::Model;
@@ -15,14 +15,14 @@ struct Before {
     leaf: Bytes,
 }
 
-/// The leaves of the next tree. A put counts only once it is kept, so that it may be made before it is
-/// known whether its note is durable: keeping it takes no memory, and what isn't kept is undone by the
-/// next put.
+/// The leaves of the next tree, none of which is digested before that tree is made. A put counts only
+/// once it is kept, so that it may be made before it is known whether its note is durable: keeping it
+/// takes no memory, and what isn't kept is undone by the next put.
 #[derive(Drop)]
 pub struct Pool<H: Hash32 + Copy> {
     alloc: Global,
-    hash: H,
-    tree: PagedTree<H>,
+    defaults: Defaults<H>,
+    leaves: Leaves,
     before: Option<Before>,
 }
 
@@ -31,46 +31,43 @@ impl<H: Hash32 + Copy> Model for Pool<H> {
 
     ghost Value = { PoolState H };
 
-    ghost use Rattle.std.specs.Prelude.{◌≡◌};
     ghost use Rattle.operator_core.specs.Undone.{put_back};
 
     ghost view = { λ p. record {
-      hash = p.hash;
-      entries = put_back p.before p.tree.entries;
-      ahead = p.tree.entries;
+      hash = p.defaults;
+      entries = put_back p.before p.leaves;
+      ahead = p.leaves;
     } };
-
-    ghost invariant = { λ p. p.tree.hash ≡ p.hash };
 }
 
 impl<H: Hash32 + Copy> Pool<H> {
-    /// No leaf. It takes no memory and makes 65 digests.
-    pub fn new(alloc: Global, hash: H) -> Pool<H>
-        ensures { result ≡ record { hash = hash; entries = []; ahead = [] } }
+    /// No leaf. It takes no memory and makes no digest.
+    pub fn new(alloc: Global, defaults: Defaults<H>) -> Pool<H>
+        ensures { result ≡ record { hash = defaults; entries = []; ahead = [] } }
     {
         Pool {
             alloc,
-            hash,
-            tree: PagedTree::new(alloc, hash),
+            defaults,
+            leaves: Leaves::new(alloc),
             before: None,
         }
     }
 
-    /// Undoes a put that wasn't kept, by 65 digests. Where memory runs out nothing changes.
+    /// Undoes a put that wasn't kept. Where memory runs out nothing changes.
     pub fn undo(&mut self) -> Result<(), NoMemory>
         ensures same { self.new.entries ≡ self.old.entries }
         ensures undone { OnOk result (self.new.ahead ≡ self.old.entries) }
         ensures hash { self.new.hash ≡ self.old.hash }
     {
         if let Some(before) = &self.before {
-            self.tree.put(before.coin, before.leaf.as_slice())?;
+            self.leaves.put(before.coin, before.leaf.as_slice())?;
             self.before = None;
         }
         Ok(())
     }
 
     /// Makes the map with the leaf at the coin, which counts once it is kept. An empty leaf removes.
-    /// Where memory runs out nothing changes. It makes 65 digests, and 65 where a put wasn't kept.
+    /// Where memory runs out nothing changes. It makes no digest.
     #[tactic(auto, using(crate::proofs::Undone::put_back_is))]
     pub fn put(&mut self, coin: u64, leaf: &[u8]) -> Result<(), NoMemory>
         ensures made { OnOk result (self.new.ahead ≡ with_leaf self.old.entries coin leaf.now) }
@@ -78,9 +75,8 @@ impl<H: Hash32 + Copy> Pool<H> {
         ensures hash { self.new.hash ≡ self.old.hash }
     {
         self.undo()?;
-        let leaf_before = copy_of(self.alloc, leaf_in(&self.tree, coin))?;
-        let _ = self.tree.entries();
-        self.tree.put(coin, leaf)?;
+        let leaf_before = copy_of(self.alloc, self.leaves.leaf(coin))?;
+        self.leaves.put(coin, leaf)?;
         self.before = Some(Before {
             coin,
             leaf: leaf_before,
@@ -98,30 +94,36 @@ impl<H: Hash32 + Copy> Pool<H> {
                 return !before.leaf.is_empty();
             }
         }
-        !leaf_in(&self.tree, coin).is_empty()
+        !self.leaves.leaf(coin).is_empty()
     }
 
-    /// The number of leaves, with the last put.
-    pub fn len(&self) -> usize
-        ensures { result ≡ length self.now.ahead }
+    /// Makes the map a tree, with the last put, and leaves none. Each of the tree's nodes is digested
+    /// once. Where memory runs out nothing changes.
+    pub fn take(&mut self) -> Result<PagedTree<H>, NoMemory>
+        ensures tree { IfOk result (λ tree. tree ≡ record { hash = self.old.hash; entries = self.old.ahead }) }
+        ensures empty { OnOk result (self.new ≡ record { hash = self.old.hash; entries = []; ahead = [] }) }
+        ensures same { OnErr result (self.new ≡ self.old) }
     {
-        self.tree.len()
+        let defaults = self.defaults.share()?;
+        let leaves = mem::replace(&mut self.leaves, Leaves::new(self.alloc));
+        match PagedTree::new(self.alloc, defaults, leaves) {
+            Ok(tree) => {
+                self.before = None;
+                Ok(tree)
+            }
+            Err(leaves) => {
+                self.leaves = leaves;
+                Err(NoMemory)
+            }
+        }
     }
 
-    /// The root, with the last put.
-    pub fn root(&self) -> [u8; 32]
-        ensures { result ≡ root_of (H.digest_of self.now.hash) self.now.ahead }
+    /// Takes a tree's leaves back in place of those that are here. It takes no memory.
+    pub fn give_back(&mut self, tree: PagedTree<H>)
+        ensures { self.new ≡ record { hash = self.old.hash; entries = tree.entries; ahead = tree.entries } }
     {
-        *self.tree.root()
-    }
-
-    /// Takes the map out, with the last put, and leaves none. It takes no memory and makes 65 digests.
-    pub fn take(&mut self) -> PagedTree<H>
-        ensures tree { result ≡ record { hash = self.old.hash; entries = self.old.ahead } }
-        ensures empty { self.new ≡ record { hash = self.old.hash; entries = []; ahead = [] } }
-    {
+        self.leaves = tree.into_leaves();
         self.before = None;
-        mem::replace(&mut self.tree, PagedTree::new(self.alloc, self.hash))
     }
 
     /// Keeps the last put.
@@ -130,16 +132,6 @@ impl<H: Hash32 + Copy> Pool<H> {
         ensures hash { self.new.hash ≡ self.old.hash }
     {
         self.before = None;
-    }
-}
-
-/// The leaf of a tree at a coin, which is empty where it has none.
-pub fn leaf_in<H: Hash32 + Copy>(tree: &PagedTree<H>, coin: u64) -> &[u8]
-    ensures { result.now ≡ leaf_of tree.now.entries coin }
-{
-    match tree.leaf(coin) {
-        Some(leaf) => leaf,
-        None => &[],
     }
 }
 

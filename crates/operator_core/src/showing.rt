@@ -8,7 +8,7 @@ ghost use Rattle.operator_rules.specs.Walk.{present};
 ghost use Rattle.operator_rules.specs.Trees.{opening_in_tree, tree_at};
 ghost use Rattle.operator_rules.specs.Commands.{prove_by, openings_of, bundle_between, tip_asked, bundle_of};
 
-use super::pool::{copy_of, leaf_in};
+use super::pool::copy_of;
 use super::trees::Trees;
 use super::walk::{is_committed, present, tree_at};
 use coin_history::{Bundle, Openings};
@@ -29,7 +29,7 @@ fn opening_in_tree<H: Hash32 + Copy>(
     ensures is { IfOk result (λ raw. raw ≡ opening_in_tree (H.digest_of tree.now.hash) coin n tree.now.entries) }
     ensures short { IfOk result (λ raw. length raw.bytes < 2 ^ 32) }
 {
-    let leaf = leaf_in(tree, coin);
+    let leaf = tree.leaf(coin);
     if leaf.len() > u32::MAX as usize {
         return Err(NoMemory);
     }

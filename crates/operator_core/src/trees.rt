@@ -1,29 +1,23 @@
 ghost use Rattle.std.specs.Prelude.{◌≡◌, ◌<◌, ◌++◌, ◌∷◌, [], ℕ, List, true, length, IfSome, OnOk, option_map, slice_get};
 ghost use Rattle.std.specs.List.{list_any};
-ghost use Rattle.plasma_tx.specs.Transfer.{is_signed_by};
 ghost use Rattle.operator_rules.specs.Trees.{tree_of};
 ghost use Rattle.operator_core.specs.Inside.{with_place, is_outside};
 ghost use Rattle.std.specs.HashMap.{get, spare};
 ghost use Rattle.std.specs.Str.{bytes_eq};
 
-use super::pool::leaf_in;
-use super::signatures::Signatures;
 use merkle_pages::PagedTree;
 use plasma_base::{Hash32, NoMemory};
-use plasma_tx::{Owner, SignedTx};
+use plasma_tx::RootLog;
 use std::alloc::Global;
-use std::collections::{HashMap, HashSet};
+use std::collections::HashMap;
 use std::marker::Model;
 
 /// The sealed trees in the order of their seals, and for each root the place of the first tree with it.
-/// Beside them stand the signatures that were tested of what they have, and of what was offered for the
-/// next.
 #[derive(Drop)]
 pub struct Trees<H: Hash32 + Copy> {
     hash: H,
     trees: Vec<PagedTree<H>>,
     index: HashMap<[u8; 32], usize>,
-    signatures: Signatures,
 }
 
 impl<H: Hash32 + Copy> Model for Trees<H> {
@@ -53,23 +47,7 @@ impl<H: Hash32 + Copy> Trees<H> {
             hash,
             trees: Vec::new(alloc),
             index: HashMap::new(alloc),
-            signatures: Signatures::new(alloc),
         }
-    }
-
-    /// Whether the owner signed the transfer. A signature that is remembered isn't tested, and one that is
-    /// tested and valid is remembered.
-    pub fn signed_by(&self, tx: &SignedTx, owner: &Owner) -> bool
-        ensures { result ≡ is_signed_by tx.now owner.now }
-    {
-        self.signatures.signed_by(tx, owner)
-    }
-
-    /// Remembers that the owner signed the transfer, where there is memory.
-    pub fn remember(&self, tx: &SignedTx, owner: &Owner)
-        requires { is_signed_by tx.now owner.now ≡ true }
-    {
-        self.signatures.remember(tx, owner);
     }
 
     /// Makes room for one more tree. No tree changes.
@@ -96,12 +74,12 @@ impl<H: Hash32 + Copy> Trees<H> {
         self.trees.push(tree).unwrap();
     }
 
-    /// Whether a tree has a leaf of the coin, and a root that isn't among these.
-    pub fn has_outside(&self, coin: u64, roots: &HashSet<[u8; 32]>) -> bool
+    /// Whether a tree has a leaf of the coin, and a root that the log doesn't commit.
+    pub fn has_outside(&self, coin: u64, log: &RootLog) -> bool
         ensures { result
-            ≡ list_any (is_outside roots.now coin (H.digest_of self.now.hash)) self.now.sealed }
+            ≡ list_any (is_outside log.now.log coin (H.digest_of self.now.hash)) self.now.sealed }
     {
-        any_outside(self.trees.as_slice(), coin, roots)
+        any_outside(self.trees.as_slice(), coin, log)
     }
 
     /// The first tree with the root.
@@ -137,21 +115,17 @@ fn tree_at<H: Hash32 + Copy>(trees: &[PagedTree<H>], place: usize) -> Option<&Pa
     trees.get(place)
 }
 
-// Whether a tree has a leaf of the coin, and a root that isn't among these.
-fn is_outside<H: Hash32 + Copy>(tree: &PagedTree<H>, coin: u64, roots: &HashSet<[u8; 32]>) -> bool
-    ensures { result ≡ is_outside roots.now coin (H.digest_of tree.now.hash) tree.now.entries }
+// Whether a tree has a leaf of the coin, and a root that the log doesn't commit.
+fn is_outside<H: Hash32 + Copy>(tree: &PagedTree<H>, coin: u64, log: &RootLog) -> bool
+    ensures { result ≡ is_outside log.now.log coin (H.digest_of tree.now.hash) tree.now.entries }
 {
-    !leaf_in(tree, coin).is_empty() && !roots.contains(tree.root())
+    !tree.leaf(coin).is_empty() && !log.commits(tree.root())
 }
 
 // Whether one of the trees is so.
-fn any_outside<H: Hash32 + Copy>(
-    trees: &[PagedTree<H>],
-    coin: u64,
-    roots: &HashSet<[u8; 32]>,
-) -> bool
+fn any_outside<H: Hash32 + Copy>(trees: &[PagedTree<H>], coin: u64, log: &RootLog) -> bool
     ensures { result
-        ≡ list_any (λ tree. is_outside roots.now coin (H.digest_of tree.hash) tree.entries) trees.now }
+        ≡ list_any (λ tree. is_outside log.now.log coin (H.digest_of tree.hash) tree.entries) trees.now }
 {
-    trees.iter().any(|tree| is_outside(tree, coin, roots))
+    trees.iter().any(|tree| is_outside(tree, coin, log))
 }

@@ -5,7 +5,6 @@ ghost use Rattle.operator_rules.specs.Trees.{tree_at};
 ghost use Rattle.operator_rules.specs.Walk.{moved_by, transfer_at, present};
 ghost use Rattle.operator_core.specs.Tips.{place_of_tip};
 
-use super::pool::leaf_in;
 use super::trees::Trees;
 use merkle_pages::PagedTree;
 use plasma_base::{Hash32, NoMemory};
@@ -65,18 +64,18 @@ fn transfer_at<H: Hash32 + Copy>(
         ≡ transfer_at (H.digest_of trees.now.hash) tag.now log.now.log trees.now.sealed coin n) }
 {
     match tree_at(trees, log, n) {
-        Some(tree) => leaf_tx(alloc, tag, coin, n, leaf_in(tree, coin)),
+        Some(tree) => leaf_tx(alloc, tag, coin, n, tree.leaf(coin)),
         None => Ok(None),
     }
 }
 
 // The place after block n with this transfer of the coin. A signature is tested only where the transfer
 // spends the place.
-fn moved_by<H: Hash32 + Copy>(trees: &Trees<H>, n: u64, last: Tip, tx: Option<SignedTx>) -> Tip
+fn moved_by(log: &RootLog, n: u64, last: Tip, tx: Option<SignedTx>) -> Tip
     ensures { place_of_tip result ≡ moved_by n (place_of_tip last) tx }
 {
     match tx {
-        Some(tx) if tx.body.parent == last.block && trees.signed_by(&tx, &last.owner) => Tip {
+        Some(tx) if tx.body.parent == last.block && log.signed_by(&tx, &last.owner) => Tip {
             block: n,
             owner: tx.body.to,
         },
@@ -102,7 +101,7 @@ pub fn present<H: Hash32 + Copy>(
     };
     'way: for before in made.deposit..log.blocks() {
         let n = before + 1;
-        tip = moved_by(trees, n, tip, transfer_at(alloc, trees, log, tag, coin, n)?);
+        tip = moved_by(log, n, tip, transfer_at(alloc, trees, log, tag, coin, n)?);
     }
     Ok(tip)
 }

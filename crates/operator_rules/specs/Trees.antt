@@ -1,5 +1,5 @@
 -- The pool, which is what the next tree will have, and the trees that were sealed; and what a tree shows of a coin.
-use Rattle.std.specs.Prelude.{ℕ, ◌&&◌, ◌||◌, not, Bool, false, List, [], ◌∷◌, ◌++◌, find, Option}
+use Rattle.std.specs.Prelude.{ℕ, ◌&&◌, ◌||◌, not, Bool, List, [], ◌∷◌, ◌++◌, find, Option}
 use Rattle.std.specs.List.{list_any}
 use Rattle.std.specs.Option.{option_and_then}
 use Rattle.std.specs.Str.{bytes_eq}
@@ -8,9 +8,9 @@ use Rattle.sparse_merkle.specs.TreeDigest.{leaf_of, with_leaf, root_of, path_to}
 use Rattle.sparse_merkle.specs.PathProof.{proof_of_path}
 use Rattle.plasma_tx.specs.declared.opening.RawOpening.{RawOpening}
 use Rattle.plasma_tx.specs.declared.call.RootCall.{RootCall}
-use Rattle.plasma_tx.specs.declared.call.RootCall.TheVariants.{Commit}
 use Rattle.plasma_tx.specs.Openings.{raw_of}
 use Rattle.plasma_tx.specs.Spelling.{number_at}
+pub use Rattle.plasma_tx.specs.Views.{commits, is_root_committed}
 use Rattle.plasma_tx.specs.Shown.{root_at}
 use Rattle.coin_history.specs.History.{is_empty}
 use Rattle.operator_rules.specs.Records.{Note, Offered, Laid, Sealed}
@@ -52,14 +52,6 @@ opening_in_tree dig coin n tree =
 -- the tree has a leaf of the coin
 abbrev pub has_leaf : List Entry → ℕ → Bool
 has_leaf tree coin = not (is_empty (leaf_of tree coin))
-
--- the log commits the root
-abbrev pub commits : List ℕ → RootCall → Bool
-commits root (Commit account committed) = bytes_eq committed root
-commits root call = false
-
-abbrev pub is_root_committed : List RootCall → List ℕ → Bool
-is_root_committed log root = list_any (commits root) log
 
 -- the pool has a leaf of the coin, or a sealed tree has one whose root the log doesn't commit
 abbrev pub is_waiting : (List ℕ → List ℕ) → List RootCall → Forest → ℕ → Bool

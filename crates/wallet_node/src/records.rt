@@ -4,8 +4,8 @@ ghost use Rattle.node_rules.specs.WalletRecords.{short_at, identity_of, is_first
 ghost use Rattle.wallet_node.specs.Inside.{change_of};
 
 use super::change::Change;
-use node_rules::{WalletIdentity, number_at, read_kept};
 use lms_sign::LmsTypes;
+use node_rules::{WalletIdentity, number_at, read_kept};
 use plasma_base::{Hash32, NoMemory};
 use std::alloc::Global;
 

@@ -7,7 +7,9 @@ ghost use Rattle.watch_duty.specs.Duty.{next_link, link_after, tip_shown, old_ow
 ghost use Rattle.watch_duty.specs.Watches.{log_of, links_of, guard_in, IsTried};
 
 use plasma_base::NoMemory;
-use plasma_tx::{CHALLENGE_WINDOW, ChallengeView, ExitView, Link, RESPONSE_WINDOW, RootCall, RootLog, Shown};
+use plasma_tx::{
+    CHALLENGE_WINDOW, ChallengeView, ExitView, Link, RESPONSE_WINDOW, RootCall, RootLog, Shown,
+};
 use std::alloc::Global;
 
 // A coin that is watched under a log, with its deposit block and its links, for the account that enters

@@ -17,8 +17,8 @@ use super::node::WatcherNode;
 use super::watched::{insert_guard, remove_guard};
 use coin_history::HistoryRefusal;
 use crash_disk::Disk;
-use node_rules::{Accepted, KeptCoin, WatcherRefusal, links_handed};
 use node_journal::Stop;
+use node_rules::{Accepted, KeptCoin, WatcherRefusal, links_handed};
 use plasma_base::{Bytes, Hash32};
 use plasma_tx::{Links, RootLog};
 

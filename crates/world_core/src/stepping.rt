@@ -10,8 +10,8 @@ ghost use Rattle.world_core.specs.Taking.{Takes};
 
 use super::counting::with_answer;
 use super::world::World;
-use run_trace::LineEvent;
 use plasma_base::{Bytes, Hash32};
+use run_trace::LineEvent;
 use schedule_text::Line;
 use world_rules::{Reply, TraceLine};
 use world_scene::{LineAnswer, Scene, StepRefusal};

@@ -1,5 +1,5 @@
-use run_trace::LineEvent;
 use plasma_base::Bytes;
+use run_trace::LineEvent;
 use world_rules::Reply;
 
 /// What a line is answered, the bytes that it makes, which are its mail item, and the event that it is.

@@ -9,10 +9,10 @@ ghost use Rattle.world_scene.specs.Events.{Tells};
 use super::answer::LineAnswer;
 use super::refusal::StepRefusal;
 use super::scene::Scene;
-use run_trace::LineEvent;
 use line_forms::HexOrName;
 use plasma_base::Hash32;
 use plasma_tx::Body;
+use run_trace::LineEvent;
 use world_rules::Reply;
 
 impl<H: Hash32 + Copy> Scene<H> {
