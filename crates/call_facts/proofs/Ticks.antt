@@ -7,8 +7,7 @@ use Rattle.std.proofs.lemmas.Bool.{and_right, or_from}
 use Rattle.std.proofs.lemmas.Bool.Decides.{nat_tests}
 use Rattle.plasma_tx.specs.declared.call.RootCall.{RootCall}
 use Rattle.plasma_tx.specs.declared.views.ExitView.{ExitView}
-use Rattle.plasma_tx.specs.Views.{now, Challenge, Exit, exits, exit_view, challenge_view, exits_of}
-use Rattle.call_facts.specs.Stub.{has_exits, is_exiting}
+use Rattle.plasma_tx.specs.Views.{now, Challenge, Exit, exits, exit_view, challenge_view, exits_of, has_exits, is_exiting}
 use Rattle.plasma_tx.proofs.States.{is_at-nat}
 use Rattle.root_rules.specs.declared.TheConstants.{CHALLENGE_WINDOW, RESPONSE_WINDOW}
 use Rattle.world_rules.specs.Events.{Joins}
