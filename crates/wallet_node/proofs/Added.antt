@@ -1,5 +1,5 @@
 -- What a wallet keeps in memory with one more note.
-use Rattle.std.proofs.Common.{◌≡◌, ℕ, ◌&&◌, Bool, true, false, List, [], ◌∷◌, ◌++◌, length, take, ◌-◌, Option, Some, None, refl, sym, ◌∙◌, ap, subst}
+use Rattle.std.proofs.Common.{◌≡◌, ℕ, true, List, [], ◌∷◌, ◌++◌, Option, Some, None, refl, sym, ◌∙◌, ap, subst}
 use Rattle.std.specs.Option.{option_map}
 use Rattle.std.proofs.lemmas.Bool.{and_from}
 use Rattle.lms_sign.specs.declared.secret.Secret.{Secret}
@@ -10,7 +10,6 @@ use Rattle.node_journal.specs.Role.{are_of, may_follow}
 use Rattle.wallet_core.specs.declared.notes.LeafRecord.{LeafRecord}
 use Rattle.node_rules.specs.declared.identity.WalletIdentity.{WalletIdentity}
 use Rattle.node_rules.specs.WalletRecords.{Note, Accepts, LeavesWith, Reclaims, secret_of, note_in, notes_of, who_is, wallet_kinds, leaves_in, is_bound_note, are_bound_notes}
-use Rattle.node_rules.specs.Wallet.{WalletRecords}
 use Rattle.node_rules.proofs.WalletGrow.{note-adds, note-follows}
 use Rattle.wallet_node.specs.declared.change.Change.{Change}
 use Rattle.wallet_node.specs.Inside.{MemoryState, change_of, changed, memory_in, is_bound_change, IsKept}

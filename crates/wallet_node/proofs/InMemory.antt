@@ -1,5 +1,5 @@
 -- What a wallet keeps in memory of its notes.
-use Rattle.std.proofs.Common.{◌≡◌, ◌<◌, ◌+◌, ℕ, true, List, [], ◌∷◌, ◌++◌, length, map, take, get_or, drop, Option, None, Some, refl, sym, ◌∙◌, ap, subst}
+use Rattle.std.proofs.Common.{◌≡◌, ◌<◌, ◌+◌, ℕ, true, List, [], ◌∷◌, ◌++◌, length, map, take, get_or, Option, None, Some, refl, sym, ◌∙◌, ap}
 use Rattle.std.specs.Prelude.{reverse}
 use Rattle.std.specs.List.{filter_map, cons_option}
 use Rattle.std.specs.Option.{option_map}
@@ -13,8 +13,7 @@ use Rattle.node_journal.specs.Role.{are_of}
 use Rattle.node_rules.specs.WalletRecords.{Note, Accepts, LeavesWith, Reclaims, note_in, notes_of, accepted_of, state_notes, owner_of, who_is, wallet_kinds}
 use Rattle.node_rules.proofs.OneMore.{reverse-grow}
 use Rattle.node_rules.proofs.WalletGrow.{state-accepts, state-leaves, state-reclaims, accepted-accepts, accepted-leaves, accepted-reclaims, note-adds}
-use Rattle.wallet_node.specs.declared.change.Change.{Change}
-use Rattle.wallet_node.specs.Inside.{MemoryState, change_of, changed, changed_by, memory_of, memory_in}
+use Rattle.wallet_node.specs.Inside.{change_of, changed, changed_by, memory_of, memory_in}
 
 -- one more note
 pub memory-more : (me : Owner) (tag : List ℕ) (note : Note) (notes : List Note)

@@ -1,5 +1,5 @@
 -- What a wallet's leaves do, in the words of its commands.
-use Rattle.std.proofs.Common.{◌≡◌, ◌<◌, ◌⊎◌, ℕ, Bool, true, false, List, [], ◌∷◌, ◌++◌, length, Option, None, Some, if◌then◌else◌, Ok, Err, inl, inr, refl, sym, ◌∙◌, ap, subst, arith}
+use Rattle.std.proofs.Common.{◌≡◌, ◌<◌, ℕ, Bool, true, false, List, [], ◌∷◌, ◌++◌, length, Option, None, Some, if◌then◌else◌, Ok, Err, inl, inr, refl, sym, ◌∙◌, ap, subst, arith}
 use Rattle.std.specs.Prelude.{Result, IfSome}
 use Rattle.std.specs.List.{All}
 use Rattle.std.proofs.lemmas.Bool.{lt-ltb}
@@ -20,7 +20,7 @@ use Rattle.node_rules.specs.declared.identity.WalletIdentity.{WalletIdentity}
 use Rattle.node_rules.specs.declared.refusal.WalletRefusal.{WalletRefusal}
 use Rattle.node_rules.specs.declared.refusal.WalletRefusal.TheVariants.{AlreadyNew as RefusedNew}
 use Rattle.node_rules.specs.WalletRecords.{is_body, leaves_in, notes_of, are_bound_notes}
-use Rattle.node_rules.specs.Wallet.{WalletRecords, WalletEffect, migrate_effect, answers, binds_it}
+use Rattle.node_rules.specs.Wallet.{WalletRecords, migrate_effect, answers, binds_it}
 use Rattle.node_rules.proofs.Bodies.{text-long, text-is_body}
 use Rattle.node_rules.proofs.WalletGrow.{leaves-grow, bound-grow}
 use Rattle.wallet_node.specs.State.{stop_in}

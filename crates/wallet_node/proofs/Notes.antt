@@ -1,14 +1,13 @@
 -- What the notes of a wallet's commands change.
-use Rattle.std.proofs.Common.{◌≡◌, ◌<◌, ◌^◌, ℕ, ◌==◌, Bool, true, false, List, Option, Some, None, is_some, is_none, refl, sym, ◌∙◌, ap}
+use Rattle.std.proofs.Common.{◌≡◌, ◌<◌, ◌^◌, ℕ, List, Some, sym, ◌∙◌, ap}
 use Rattle.std.specs.Option.{option_map}
 use Rattle.plasma_tx.specs.declared.links.Link.{Link}
 use Rattle.plasma_tx.specs.declared.links.Links.{Links}
 use Rattle.node_rules.specs.KeptCoins.{IsShown}
 use Rattle.node_rules.specs.Kept.{kept_of}
-use Rattle.node_rules.specs.WalletRecords.{Note, Accepts, LeavesWith, Reclaims, note_text, note_in, accepts}
+use Rattle.node_rules.specs.WalletRecords.{Accepts, LeavesWith, Reclaims, note_text, note_in, accepts}
 use Rattle.node_rules.proofs.WalletTexts.{note_in-text}
 use Rattle.plasma_tx.specs.Links.{tip_of}
-use Rattle.wallet_node.specs.declared.change.Change.{Change}
 use Rattle.wallet_node.specs.declared.change.Change.TheVariants.{Accepts as TakesUp, LeavesWith as Leaves, Reclaims as TakesBack}
 use Rattle.wallet_node.specs.Inside.{change_of}
 

@@ -1,5 +1,5 @@
 -- A wallet's leaf has one message.
-use Rattle.std.proofs.Common.{◌≡◌, ℕ, List, ◌++◌, Some, sym, ap, subst}
+use Rattle.std.proofs.Common.{◌≡◌, List, Some, subst}
 use Rattle.std.proofs.lemmas.List.Concat.{flat_map-append}
 use Rattle.node_journal.specs.Life.{Event}
 use Rattle.leaf_journal.specs.Laws.{MayCome, life_after, message_at}

@@ -1,5 +1,5 @@
 -- What is due over all coins is due over those of which an exit stands.
-use Rattle.std.proofs.Common.{◌≡◌, ◌<◌, ◌≤◌, ℕ, zero, suc, ◌+◌, ◌==◌, ◌||◌, Bool, true, false, List, [], ◌∷◌, ◌++◌, None, inl, inr, refl, sym, ◌∙◌, ap, arith}
+use Rattle.std.proofs.Common.{◌≡◌, ◌<◌, ◌≤◌, ℕ, zero, suc, ◌+◌, ◌==◌, Bool, false, List, [], ◌∷◌, ◌++◌, None, inl, inr, refl, sym, ◌∙◌, ap, arith}
 use Rattle.std.specs.List.{list_any, flat_map, range_with_len, AllByRecursion}
 use Rattle.std.specs.List.Sorted.{IsStrictlySortedBy}
 use Rattle.std.specs.Ordering.{nat_cmp}
@@ -10,10 +10,8 @@ use Rattle.std.proofs.lemmas.Bool.Decides.{nat_tests}
 use Rattle.plasma_tx.specs.declared.call.RootCall.{RootCall}
 use Rattle.plasma_tx.specs.declared.call.RootCall.TheVariants.{Deposit}
 use Rattle.plasma_tx.specs.declared.views.ExitView.{ExitView}
-use Rattle.plasma_tx.specs.Views.{coins, coin_at, exits_of}
-use Rattle.wallet_node.specs.Stub.{has_exits, is_exiting}
+use Rattle.plasma_tx.specs.Views.{coins, coin_at, exits_of, has_exits, is_exiting}
 use Rattle.plasma_tx.proofs.States.{is_at-nat}
-use Rattle.wallet_core.specs.declared.coin_state.CoinState.TheVariants.{Nothing}
 use Rattle.wallet_core.specs.State.{state_of}
 use Rattle.node_rules.specs.Wallet.{WalletRecords, coin_state, due_in, watch_answer}
 use Rattle.wallet_node.proofs.Spends.{due-none}

@@ -15,7 +15,6 @@ use Rattle.plasma_tx.specs.Transfer.{nobody}
 use Rattle.plasma_tx.specs.declared.links.Links.{Links}
 use Rattle.plasma_tx.specs.Spelling.{body_at_start}
 use Rattle.coin_history.specs.History.{links_in}
-use Rattle.coin_history.specs.declared.bundle.Bundle.{Bundle}
 use Rattle.coin_history.specs.declared.refusal.HistoryRefusal.{HistoryRefusal}
 use Rattle.coin_history.specs.declared.refusal.HistoryRefusal.TheVariants.{NoMemory as HistoryMemory}
 use Rattle.leaf_journal.specs.Records.{MessagesPass}

@@ -6,7 +6,7 @@ use Rattle.node_journal.specs.declared.stop.Stop.{Stop}
 use Rattle.node_journal.specs.declared.stop.Stop.TheVariants.{Closed, NoMemory, DeviceFault}
 use Rattle.node_rules.specs.declared.refusal.WalletRefusal.{WalletRefusal}
 use Rattle.node_rules.specs.declared.refusal.WalletRefusal.TheVariants.{Closed as RefusedClosed, NoMemory as RefusedMemory, DeviceFault as RefusedFault}
-use Rattle.node_rules.specs.Wallet.{WalletRecords, WalletEffect}
+use Rattle.node_rules.specs.Wallet.{WalletRecords}
 
 -- a wallet: the disks of its notes and of its leaves, whether a device fault closed it, its records, and the digest
 -- that it was opened with

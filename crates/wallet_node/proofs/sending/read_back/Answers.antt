@@ -1,4 +1,4 @@
-use Rattle.std.proofs.Common.{◌≡◌, true, Some, None, sym, ◌∙◌, ap}
+use Rattle.std.proofs.Common.{◌≡◌, true, sym, ◌∙◌, ap}
 use Rattle.node_rules.specs.WalletRecords.{is_body}
 use Rattle.wallet_node.proofs.Leaves.{body-is, read-is, read-some}
 use Rattle.wallet_node.proofs.sending.read_back.Goals as goal

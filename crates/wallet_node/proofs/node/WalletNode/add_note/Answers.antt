@@ -1,11 +1,11 @@
-use Rattle.std.proofs.Common.{◌≡◌, ◌||◌, true, false, None, Some, refl, sym, ◌∙◌, ap, subst}
+use Rattle.std.proofs.Common.{◌≡◌, true, None, Some, sym, ◌∙◌, ap, subst}
 use Rattle.std.specs.Option.{option_map}
 use Rattle.node_journal.specs.Role.{are_of, may_follow}
-use Rattle.node_rules.specs.WalletRecords.{wallet_kinds, who_is, note_in, leaves_in}
+use Rattle.node_rules.specs.WalletRecords.{wallet_kinds, note_in, leaves_in}
 use Rattle.node_rules.specs.Wallet.{who}
 use Rattle.wallet_node.specs.declared.role.WalletRole.{WalletRole}
 use Rattle.wallet_node.specs.State.{WalletState}
-use Rattle.wallet_node.specs.Inside.{MemoryState, change_of, undone, is_bound_change}
+use Rattle.wallet_node.specs.Inside.{change_of, is_bound_change}
 use Rattle.wallet_node.proofs.Parts.{open-both, note-done}
 use Rattle.wallet_node.proofs.Added.{change-follows, kept-more}
 use Rattle.wallet_node.proofs.node.WalletNode.add_note.Goals as goal

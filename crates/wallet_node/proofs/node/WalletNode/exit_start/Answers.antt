@@ -1,9 +1,9 @@
-use Rattle.std.proofs.Common.{◌≡◌, ℕ, List, Ok, sym, ◌∙◌, ap}
+use Rattle.std.proofs.Common.{◌≡◌, List, Ok, sym, ◌∙◌, ap}
 use Rattle.plasma_tx.specs.declared.links.Link.{Link}
 use Rattle.node_rules.specs.declared.identity.WalletIdentity.{WalletIdentity}
 use Rattle.node_rules.specs.Wallet.{who, start_of}
 use Rattle.wallet_node.specs.State.{WalletState}
-use Rattle.wallet_node.specs.Inside.{links_behind, spends_at}
+use Rattle.wallet_node.specs.Inside.{links_behind}
 use Rattle.wallet_node.proofs.Spends.{start-is}
 use Rattle.wallet_node.proofs.node.WalletNode.exit_start.Goals as goal
 

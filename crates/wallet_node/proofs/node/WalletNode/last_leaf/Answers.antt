@@ -1,4 +1,4 @@
-use Rattle.std.proofs.Common.{◌≡◌, ◌+◌, ◌-◌, ℕ, sym, ◌∙◌, arith}
+use Rattle.std.proofs.Common.{◌≡◌, ◌+◌, ◌-◌, sym, ◌∙◌, arith}
 use Rattle.node_rules.specs.WalletRecords.{leaves_in}
 use Rattle.node_rules.specs.Wallet.{names_coin}
 use Rattle.wallet_node.proofs.Spends.{last-here, last-not}

@@ -1,4 +1,4 @@
-use Rattle.std.proofs.Common.{◌≡◌, ◌||◌, ℕ, List, Option, Ok, Err, refl, sym, ◌∙◌, ap, subst₂}
+use Rattle.std.proofs.Common.{◌≡◌, ℕ, List, Option, refl, sym, ◌∙◌, ap, subst₂}
 use Rattle.leaf_journal.specs.NodeWords.{migrate_note, migrate_stop, notes_of}
 use Rattle.leaf_journal.proofs.NodeWords.{migrations_in_node_words}
 use Rattle.node_journal.specs.Notes.{Did}

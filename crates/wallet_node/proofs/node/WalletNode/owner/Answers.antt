@@ -1,5 +1,4 @@
 use Rattle.std.proofs.Common.{◌∙◌, ap}
-use Rattle.plasma_tx.specs.declared.owner.Owner.{Owner}
 use Rattle.node_rules.specs.WalletRecords.{owner_of}
 use Rattle.node_rules.specs.Wallet.{who}
 use Rattle.wallet_node.specs.State.{WalletState}

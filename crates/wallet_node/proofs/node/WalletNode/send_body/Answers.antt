@@ -1,15 +1,14 @@
-use Rattle.std.proofs.Common.{rules, ◌≡◌, ◌<◌, ◌||◌, ℕ, List, [], ◌∷◌, ◌++◌, true, None, Some, Ok, Err, Option, length, refl, sym, ◌∙◌, ap, subst, subst₂, arith}
+use Rattle.std.proofs.Common.{rules, ◌≡◌, ◌<◌, ℕ, List, [], ◌∷◌, ◌++◌, true, None, Some, Ok, Err, Option, refl, sym, ◌∙◌, ap, subst, subst₂}
 use Rattle.std.specs.Prelude.{IfSome}
 use Rattle.lms_sign.specs.Types.{leaf_count}
 use Rattle.plasma_tx.specs.declared.body.Body.{Body}
 use Rattle.plasma_tx.specs.Spelling.{body_text, body_at_start}
 use Rattle.leaf_journal.specs.Records.{binding_record, is_marked, MayBind}
 use Rattle.leaf_journal.specs.Leaves.{LeavesState, used_of, leaves_of}
-use Rattle.leaf_journal.specs.NodeWords.{bind_note, bind_stop, notes_of}
+use Rattle.leaf_journal.specs.NodeWords.{notes_of}
 use Rattle.leaf_journal.proofs.NodeWords.{binds_in_node_words}
 use Rattle.node_journal.specs.Notes.{Did}
 use Rattle.node_journal.specs.declared.stop.Stop.{Stop}
-use Rattle.wallet_core.specs.declared.notes.LeafRecord.{LeafRecord}
 use Rattle.node_rules.specs.WalletRecords.{is_body}
 use Rattle.node_rules.specs.Wallet.{who, used}
 use Rattle.wallet_node.specs.State.{WalletState, stop_in}

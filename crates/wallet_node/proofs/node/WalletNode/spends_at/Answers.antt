@@ -1,4 +1,4 @@
-use Rattle.std.proofs.Common.{◌≡◌, [], find, None, Some, sym, ◌∙◌, ap}
+use Rattle.std.proofs.Common.{find, sym, ◌∙◌, ap}
 use Rattle.std.specs.Option.{option_copied}
 use Rattle.node_rules.specs.WalletRecords.{who_is, accepted_of, notes_of}
 use Rattle.wallet_node.specs.State.{WalletState}

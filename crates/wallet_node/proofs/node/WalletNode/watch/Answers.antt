@@ -1,4 +1,4 @@
-use Rattle.std.proofs.Common.{ℕ, List, ◌++◌, ◌∙◌, ap}
+use Rattle.std.proofs.Common.{List, ◌++◌, ◌∙◌, ap}
 use Rattle.std.specs.List.{flat_map}
 use Rattle.plasma_tx.specs.declared.call.RootCall.{RootCall}
 use Rattle.wallet_node.proofs.Watched.{due_of_coin, watched-exiting}
