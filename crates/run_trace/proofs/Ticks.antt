@@ -7,12 +7,7 @@ use Rattle.std.proofs.lemmas.Bool.{and_right, or_from}
 use Rattle.std.proofs.lemmas.Bool.Decides.{nat_tests}
 use Rattle.plasma_tx.specs.declared.call.RootCall.{RootCall}
 use Rattle.plasma_tx.specs.declared.views.ExitView.{ExitView}
-<<<<<<< HEAD:crates/run_trace/proofs/Ticks.antt
-use Rattle.plasma_tx.specs.Views.{now, Challenge, Exit, exits, exit_view, challenge_view, exits_of}
-use Rattle.run_trace.specs.Stub.{has_exits, is_exiting}
-=======
 use Rattle.plasma_tx.specs.Views.{now, Challenge, Exit, exits, exit_view, challenge_view, exits_of, has_exits, is_exiting}
->>>>>>> b9f39c97e25dd1042ac2d7882aa8c9082403eb22:crates/call_facts/proofs/Ticks.antt
 use Rattle.plasma_tx.proofs.States.{is_at-nat}
 use Rattle.plasma_tx.specs.declared.rules.TheConstants.{CHALLENGE_WINDOW, RESPONSE_WINDOW}
 use Rattle.world_rules.specs.Events.{Joins}
