@@ -17,6 +17,8 @@ def main():
         for name, (_, size) in SCHEDULES.items():
             print(f"{name:40} {size:>8,}")
         return
+    if sys.argv[1] not in SCHEDULES:
+        sys.exit(f"no generator has the name {sys.argv[1]!r}")
     make, size = SCHEDULES[sys.argv[1]]
     make(Schedule(sys.stdout), int(sys.argv[2]) if len(sys.argv) > 2 else size)
 
