@@ -1,7 +1,7 @@
 use Rattle.std.proofs.Common.{take}
 use Rattle.kept_coins.proofs.Shown.{Shows}
-use Rattle.kept_coins.proofs.reading.kept_coin_in.Given as goal
+use Rattle.kept_coins.proofs.reading.shown_links.Given as goal
 
 abbrev pub invariant-loop-opening : goal.invariant-loop-opening
 invariant-loop-opening g l =
-    Shows (g.H.Hash32.digest_of l.h) l.tag l.bundle.coin (take l.opening-index l.openings) l.spends.items
+    Shows (g.H.Hash32.digest_of l.h) l.tag l.coin (take l.opening-index l.openings) l.spends.items
