@@ -1,5 +1,5 @@
 -- What the openings of a kept coin show.
-use Rattle.std.proofs.Common.{◌≡◌, ◌<◌, ◌+◌, ◌&&◌, ℕ, Bool, true, false, if◌then◌else◌, List, [], ◌∷◌, ◌++◌, length, take, get_or, Option, None, Some, Ok, is_ok, is_some, refl, sym, ◌∙◌, ap}
+use Rattle.std.proofs.Common.{◌≡◌, ◌<◌, ◌+◌, ◌==◌, ◌&&◌, ℕ, Bool, true, false, if◌then◌else◌, List, [], ◌∷◌, ◌++◌, length, take, get_or, Option, None, Some, Ok, is_ok, is_some, refl, sym, ◌∙◌, ap}
 use Rattle.std.specs.List.{list_all, filter_map}
 use Rattle.std.specs.Option.{option_map}
 use Rattle.std.proofs.lemmas.List.{take_more}
@@ -14,6 +14,7 @@ use Rattle.plasma_tx.specs.Transfer.{transfer_in}
 use Rattle.plasma_tx.proofs.OpeningTexts.{leaf-shown}
 use Rattle.coin_history.specs.History.{link_of, links_in, transfer_of}
 use Rattle.node_rules.specs.Kept.{chain_of, shows_link}
+use Rattle.node_rules.proofs.Still.{none_left}
 
 and-true : (a b : Bool) → a ≡ true → b ≡ true → (a && b) ≡ true
 and-true true b one two = two
@@ -46,6 +47,15 @@ pub shows-none : (dig : List ℕ → List ℕ) (tag : List ℕ) (coin : ℕ) (sp
     → Shows dig tag coin [] spends
 unfolding links_in
 shows-none dig tag coin spends is = record { links = is; all = refl }
+
+pub shown-none : (dig : List ℕ → List ℕ) (tag : List ℕ) (coin : ℕ) (openings : List RawOpening) (spends : List Link)
+    → true ≡ (length openings == 0) → spends ≡ []
+    → Some spends
+    ≡ (if list_all (shows_link dig tag coin) openings then Some (links_in (chain_of tag) coin openings) else None)
+unfolding links_in
+shown-none dig tag coin [] spends none is = ap Some is
+shown-none dig tag coin (raw ∷ openings) spends none is =
+    absurd (let same = none_left (raw ∷ openings) none in cc same)
 
 some-is : (b : Bool) (found : Option Link) (link : Link) → Some link ≡ (if b then found else None)
     → (b ≡ true) × (found ≡ Some link)

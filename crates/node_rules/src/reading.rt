@@ -1,11 +1,18 @@
-ghost use Rattle.std.specs.Prelude.{◌≡◌, ◌+◌, ◌≤◌, length, IfOk, None, Ok, if◌then◌else◌, is_ok};
+ghost use Rattle.std.specs.Prelude.{◌≡◌, ◌+◌, ◌≤◌, length, IfOk, None, Some, Ok, if◌then◌else◌, is_ok};
+ghost use Rattle.std.specs.List.{list_all};
 ghost use Rattle.std.specs.Option.{option_map};
 ghost use Rattle.sparse_merkle.specs.TreeDigest.{AreDefaults};
 ghost use Rattle.plasma_tx.specs.Spelling.{number_at};
 ghost use Rattle.plasma_tx.specs.Openings.{opening_in};
+<<<<<<< HEAD:crates/node_rules/src/reading.rt
 ghost use Rattle.coin_history.specs.History.{link_of};
 ghost use Rattle.node_rules.specs.Kept.{chain_of, ends_at, only_kept, kept_in};
 ghost use Rattle.node_rules.specs.KeptCoins.{kept_coin_of};
+=======
+ghost use Rattle.coin_history.specs.History.{link_of, links_in};
+ghost use Rattle.node_rules.specs.Kept.{chain_of, ends_at, shows_link, only_kept, kept_in};
+ghost use Rattle.node_rules.specs.KeptCoins.{kept_coin_of};
+>>>>>>> 551d8f050431687f6a249df1fdc727a39e1fd4a6:crates/kept_coins/src/reading.rt
 
 use super::kept_coin::KeptCoin;
 use coin_history::{Bundle, HistoryRefusal};
@@ -63,6 +70,32 @@ fn ends_at(tip: u64, openings: &[RawOpening]) -> bool
     }
 }
 
+// The links that openings show, where each shows one. Without an opening it digests nothing.
+fn shown_links<H: Hash32>(
+    alloc: Global,
+    h: &H,
+    tag: &[u8; 32],
+    coin: u64,
+    openings: &[RawOpening],
+) -> Result<Option<Spends>, NoMemory>
+    ensures { IfOk result (λ spends. spends ≡
+        (if list_all (shows_link (H.digest_of h.now) tag.now coin) openings.now
+        then Some (links_in (chain_of tag.now) coin openings.now) else None)) }
+{
+    let mut spends = Vec::new(alloc);
+    if openings.is_empty() {
+        return Ok(Some(Spends::from_vec(spends)));
+    }
+    let defaults = defaults(h);
+    for opening in openings {
+        match shown_link(alloc, h, &defaults, tag, coin, opening)? {
+            Some(link) => spends.push(link)?,
+            None => return Ok(None),
+        }
+    }
+    Ok(Some(Spends::from_vec(spends)))
+}
+
 // A bundle as a kept coin, where it is one.
 fn kept_coin_in<H: Hash32>(
     alloc: Global,
@@ -77,19 +110,14 @@ fn kept_coin_in<H: Hash32>(
     if !ends_at(bundle.tip, openings) {
         return Ok(None);
     }
-    let defaults = defaults(h);
-    let mut spends = Vec::new(alloc);
-    for opening in openings {
-        match shown_link(alloc, h, &defaults, tag, bundle.coin, opening)? {
-            Some(link) => spends.push(link)?,
-            None => return Ok(None),
-        }
+    match shown_links(alloc, h, tag, bundle.coin, openings)? {
+        Some(spends) => Ok(Some(KeptCoin {
+            coin: bundle.coin,
+            tip: bundle.tip,
+            spends,
+        })),
+        None => Ok(None),
     }
-    Ok(Some(KeptCoin {
-        coin: bundle.coin,
-        tip: bundle.tip,
-        spends: Spends::from_vec(spends),
-    }))
 }
 
 /// The kept coin that the bytes of a bundle spell, for a chain with this tag: each of its openings reads, and

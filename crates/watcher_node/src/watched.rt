@@ -16,7 +16,7 @@ pub enum Change {
     Releases { coin: u64, tip: u64 },
 }
 
-// Puts a guard at its place, or in the place of the one of its coin and tip.
+// Puts a guard at its place, or in the place of the one of its coin and tip. `NoMemory` changes nothing.
 pub fn insert_guard(
     all: &mut BTreeMap<(u64, u64), KeptCoin>,
     watched: KeptCoin,
@@ -51,7 +51,7 @@ pub fn remove_guard(all: &mut BTreeMap<(u64, u64), KeptCoin>, coin: u64, tip: u6
     all.remove(&(coin, tip));
 }
 
-// Takes a change over. `NoMemory` may change nothing.
+// Takes a change over. After `NoMemory` the guards are let go.
 pub fn apply(all: &mut BTreeMap<(u64, u64), KeptCoin>, change: Change) -> Result<(), NoMemory>
     ensures { OnOk result ((guards : List KeptCoin) → AreKeyed all.old.entries guards
         → AreKeyed all.new.entries (changed change guards)) }
