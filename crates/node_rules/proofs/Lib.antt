@@ -11,5 +11,5 @@ pub mod WalletAdded
 pub mod WalletRole
 pub mod WalletDuty
 pub mod ExitTips
-pub mod ShownCoins
 pub mod Still
+pub mod ShownCoins

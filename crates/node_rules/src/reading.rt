@@ -4,15 +4,9 @@ ghost use Rattle.std.specs.Option.{option_map};
 ghost use Rattle.sparse_merkle.specs.TreeDigest.{AreDefaults};
 ghost use Rattle.plasma_tx.specs.Spelling.{number_at};
 ghost use Rattle.plasma_tx.specs.Openings.{opening_in};
-<<<<<<< HEAD:crates/node_rules/src/reading.rt
-ghost use Rattle.coin_history.specs.History.{link_of};
-ghost use Rattle.node_rules.specs.Kept.{chain_of, ends_at, only_kept, kept_in};
-ghost use Rattle.node_rules.specs.KeptCoins.{kept_coin_of};
-=======
 ghost use Rattle.coin_history.specs.History.{link_of, links_in};
 ghost use Rattle.node_rules.specs.Kept.{chain_of, ends_at, shows_link, only_kept, kept_in};
 ghost use Rattle.node_rules.specs.KeptCoins.{kept_coin_of};
->>>>>>> 551d8f050431687f6a249df1fdc727a39e1fd4a6:crates/kept_coins/src/reading.rt
 
 use super::kept_coin::KeptCoin;
 use coin_history::{Bundle, HistoryRefusal};
