@@ -184,7 +184,7 @@ impl<H: Hash32 + Copy> Scene<H> {
         Ok(idles(self.alloc, Reply::Watcher))
     }
 
-    // A rogue with this identity is declared, and its key made.
+    // A rogue with this identity is declared. Its key is made when it is first needed.
     fn begin_rogue(&mut self, name: &Bytes, who: &WalletIdentity) -> Result<LineAnswer, StepRefusal>
         requires { is_supported who.now.types ≡ true }
         ensures keeps { OnOk result (may_be_other (world_of self.old) name.now who.now.account ≡ true) }
@@ -200,12 +200,12 @@ impl<H: Hash32 + Copy> Scene<H> {
             return Err(StepRefusal::BadLine);
         }
         let name = name.copy()?;
-        let rogue = Rogue::make(self.alloc, name, who)?;
+        let rogue = Rogue::new(self.alloc, name, who);
         self.add_rogue(rogue)?;
         Ok(idles(self.alloc, Reply::Rogue))
     }
 
-    // A rogue is declared, and its key made, as a wallet's.
+    // A rogue is declared, as a wallet is. Its key is made when it is first needed.
     #[tactic(auto, unfolding(world_rules::specs::Steps::effect_in))]
     pub(crate) fn declare_rogue(
         &mut self,

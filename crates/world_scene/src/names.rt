@@ -1,4 +1,4 @@
-ghost use Rattle.std.specs.Prelude.{◌≡◌, ◌&&◌, find, Some, IfSome, is_some};
+ghost use Rattle.std.specs.Prelude.{◌≡◌, ◌&&◌, find, Some, IfOk, IfSome, is_some};
 ghost use Rattle.std.specs.Option.{option_map, option_copied};
 ghost use Rattle.line_forms.specs.Tokens.{IsHexOrName};
 ghost use Rattle.world_rules.specs.World.{owner_of_rogue, number_of, rogue_named, owner_named, new_owner_of, key_of, is_wallet_role};
@@ -9,7 +9,7 @@ ghost use Rattle.world_scene.specs.Names.{passes, has_kind, is_named_view, is_na
 use super::scene::Scene;
 use super::seeking::{Sought, place_of};
 use line_forms::HexOrName;
-use plasma_base::Hash32;
+use plasma_base::{Hash32, NoMemory};
 use plasma_tx::Owner;
 use world_nodes::{Entry, NodeKind};
 use world_tokens::{Rogue, key_of_hex, owner_of_hex};
@@ -68,12 +68,12 @@ fn wallet_owner<H: Hash32 + Copy>(entries: &[Entry<H>], name: &[u8]) -> Option<O
 }
 
 // The owner that the rogue with the name is.
-fn rogue_owner(rogues: &[Rogue], name: &[u8]) -> Option<Owner>
-    ensures { result ≡ option_map owner_of_rogue (find (is_named_rogue name.now) rogues.now) }
+fn rogue_owner(rogues: &[Rogue], name: &[u8]) -> Result<Option<Owner>, NoMemory>
+    ensures { IfOk result (λ owner. owner ≡ option_map owner_of_rogue (find (is_named_rogue name.now) rogues.now)) }
 {
     match find_rogue(rogues, name) {
-        Some(rogue) => Some(rogue.owner()),
-        None => None,
+        Some(rogue) => Ok(Some(rogue.owner()?)),
+        None => Ok(None),
     }
 }
 
@@ -115,36 +115,36 @@ impl<H: Hash32 + Copy> Scene<H> {
     }
 
     // The owner that a name stands for: a wallet's, or a rogue's.
-    pub(crate) fn owner_named(&self, name: &[u8]) -> Option<Owner>
-        ensures { result ≡ owner_named (world_of self.now) name.now }
+    pub(crate) fn owner_named(&self, name: &[u8]) -> Result<Option<Owner>, NoMemory>
+        ensures { IfOk result (λ owner. owner ≡ owner_named (world_of self.now) name.now) }
     {
         match wallet_owner(&self.entries, name) {
-            Some(owner) => Some(owner),
+            Some(owner) => Ok(Some(owner)),
             None => rogue_owner(&self.rogues, name),
         }
     }
 
     // The owner of a token.
-    pub(crate) fn new_owner_of(&self, token: &HexOrName) -> Option<Owner>
+    pub(crate) fn new_owner_of(&self, token: &HexOrName) -> Result<Option<Owner>, NoMemory>
         requires { IsHexOrName 64 token.now }
-        ensures { result ≡ new_owner_of (world_of self.now) token.now }
+        ensures { IfOk result (λ owner. owner ≡ new_owner_of (world_of self.now) token.now) }
     {
         match token {
-            HexOrName::Hex(bytes) => Some(owner_of_hex(bytes.as_slice())),
+            HexOrName::Hex(bytes) => Ok(Some(owner_of_hex(bytes.as_slice()))),
             HexOrName::Name(name) => self.owner_named(name.as_slice()),
         }
     }
 
     // The key of a token, where its name is a wallet's or a rogue's.
-    pub(crate) fn key_of(&self, token: &HexOrName) -> Option<[u8; 56]>
+    pub(crate) fn key_of(&self, token: &HexOrName) -> Result<Option<[u8; 56]>, NoMemory>
         requires { IsHexOrName 56 token.now }
-        ensures { result ≡ key_of (world_of self.now) token.now }
+        ensures { IfOk result (λ key. key ≡ key_of (world_of self.now) token.now) }
     {
         match token {
-            HexOrName::Hex(bytes) => Some(key_of_hex(bytes.as_slice())),
-            HexOrName::Name(name) => match self.owner_named(name.as_slice()) {
-                Some(owner) => Some(owner.key),
-                None => None,
+            HexOrName::Hex(bytes) => Ok(Some(key_of_hex(bytes.as_slice()))),
+            HexOrName::Name(name) => match self.owner_named(name.as_slice())? {
+                Some(owner) => Ok(Some(owner.key)),
+                None => Ok(None),
             },
         }
     }
