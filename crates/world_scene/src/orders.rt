@@ -91,14 +91,19 @@ impl<H: Hash32 + Copy> Scene<H> {
     }
 
     // The order to send a coin to the owner of a token; none where nobody declared it.
-    fn send_order(&self, coin: u64, to: &HexOrName, last: Option<u64>) -> Option<WalletOrder>
+    fn send_order(
+        &self,
+        coin: u64,
+        to: &HexOrName,
+        last: Option<u64>,
+    ) -> Result<Option<WalletOrder>, NoMemory>
         requires { IsHexOrName 64 to.now }
-        ensures { result
-            ≡ option_map (λ owner. WalletOrder.Send coin owner last) (new_owner_of (world_of self.now) to.now) }
+        ensures { IfOk result (λ order. order
+            ≡ option_map (λ owner. WalletOrder.Send coin owner last) (new_owner_of (world_of self.now) to.now)) }
     {
-        match self.new_owner_of(to) {
-            Some(to) => Some(WalletOrder::Send { coin, to, last }),
-            None => None,
+        match self.new_owner_of(to)? {
+            Some(to) => Ok(Some(WalletOrder::Send { coin, to, last })),
+            None => Ok(None),
         }
     }
 
@@ -111,7 +116,7 @@ impl<H: Hash32 + Copy> Scene<H> {
             WalletCommand::Accept { bundle } => Some(WalletOrder::Accept {
                 bundle: self.bytes_of(bundle)?,
             }),
-            WalletCommand::Send { coin, to, last } => self.send_order(*coin, to, *last),
+            WalletCommand::Send { coin, to, last } => self.send_order(*coin, to, *last)?,
             WalletCommand::Again { coin } => Some(WalletOrder::Again { coin: *coin }),
             WalletCommand::Leave { coin } => Some(WalletOrder::Leave { coin: *coin }),
             WalletCommand::Reclaim { bundle } => Some(WalletOrder::Reclaim {
@@ -154,7 +159,7 @@ impl<H: Hash32 + Copy> Scene<H> {
         requires names { NamesOwner command.now }
         ensures { IfOk result (λ order. OrderAt (world_of self.now) self.now.nodes n command.now order) }
     {
-        let kind = self.entries[n].kind();
+        let kind = self.nodes.at(n).kind();
         self.order_of(kind, command)
     }
 }

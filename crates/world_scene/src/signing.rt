@@ -38,13 +38,13 @@ impl<H: Hash32 + Copy> Scene<H> {
         ensures bad { IsErrOf result StepRefusal.BadLine → keeps_rules_in (world_of self.now)
             (Line.Sign rogue.now leaf coin parent to.now last) ≡ false }
     {
-        let Some(to) = self.new_owner_of(to) else {
+        let Some(to) = self.new_owner_of(to)? else {
             return Err(StepRefusal::BadLine);
         };
         let Some(rogue) = self.rogue_named(rogue) else {
             return Err(StepRefusal::BadLine);
         };
-        if u64::from(rogue.leaves()) <= leaf {
+        if u64::from(rogue.leaves()?) <= leaf {
             return Err(StepRefusal::BadLine);
         }
         let tag = self.contract.log().tag();

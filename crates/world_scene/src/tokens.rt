@@ -20,13 +20,13 @@ impl<H: Hash32 + Copy> Scene<H> {
     }
 
     // The key that a form names, where it is a deposit.
-    fn key_in(&self, form: &CallForm) -> Option<[u8; 56]>
+    fn key_in(&self, form: &CallForm) -> Result<Option<[u8; 56]>, NoMemory>
         requires { IsCallForm form.now }
-        ensures { IsKeyOf (world_of self.now) form.now result }
+        ensures { IfOk result (IsKeyOf (world_of self.now) form.now) }
     {
         match form {
             CallForm::Deposit { key, .. } => self.key_of(key),
-            _ => None,
+            _ => Ok(None),
         }
     }
 
@@ -39,6 +39,7 @@ impl<H: Hash32 + Copy> Scene<H> {
         requires { IsCallForm form.now }
         ensures { IfOk result (λ call. call ≡ call_of (world_of self.now) account form.now) }
     {
-        call_of(self.alloc, &self.mail, account, form, self.key_in(form))
+        let key = self.key_in(form)?;
+        call_of(self.alloc, &self.mail, account, form, key)
     }
 }
