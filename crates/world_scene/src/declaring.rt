@@ -1,10 +1,5 @@
-<<<<<<< HEAD
-ghost use Rattle.std.specs.Prelude.{◌≡◌, ◌&&◌, true, false, length, IfOk, OnOk, IsErrOf, OnErr, Some};
-ghost use Rattle.run_trace.specs.declared.event.LineEvent.{LineEvent};
-=======
 ghost use Rattle.std.specs.Prelude.{◌≡◌, ◌&&◌, true, false, length, IfOk, OnOk, IsErrOf, OnErr, Some, None};
 ghost use Rattle.run_trace.specs.declared.event.LineEvent.{LineEvent};
->>>>>>> 6c776aa7c64b502fb44547c8f5f7973746d7bd02
 ghost use Rattle.node_rules.specs.WalletRecords.{owner_of};
 ghost use Rattle.world_scene.specs.Events.{Tells};
 ghost use Rattle.world_tokens.specs.Tokens.{AreTypes};
