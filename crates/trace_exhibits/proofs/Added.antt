@@ -1,9 +1,7 @@
 -- What stands once the strings of one more opening were added.
-use Rattle.std.proofs.Common.{◌≡◌, ℕ, ◌+◌, ◌<◌, false, List, [], ◌∷◌, ◌++◌, length, drop, slice_index_or, Option, Some, None, option_map, refl, sym, ap, ◌∙◌, subst, append_assoc, arith}
-use Rattle.std.specs.Prelude.{Result, IfOk, MatchOption}
+use Rattle.std.proofs.Common.{◌≡◌, ℕ, ◌+◌, ◌<◌, false, List, [], ◌∷◌, ◌++◌, length, drop, slice_index_or, Some, None, option_map, refl, sym, ap, ◌∙◌, subst, append_assoc, arith}
 use Rattle.std.specs.List.{slice_get}
 use Rattle.std.specs.HashMap.{HashMap}
-use Rattle.std.proofs.lemmas.List.{append-nil}
 use Rattle.std.proofs.lemmas.Option.{slice_get-get_or}
 use Rattle.sparse_merkle.specs.Opening.{hashed_string, hashed_strings}
 use Rattle.watch_duty.proofs.Members.{Has}
@@ -11,12 +9,11 @@ use Rattle.trace_exhibits.proofs.Clashes.{known-strings}
 use Rattle.trace_exhibits.proofs.Strings.{strings-behind, strings-earlier, strings-later, strings_at-one, strings_before-more}
 use Rattle.world_rules.specs.Exhibits.{first_clash, strings_in}
 use Rattle.trace_exhibits.specs.Ways.{pair_of, strings_in_shown, strings_in_all, strings_before, strings_at, strings_below}
-use Rattle.trace_exhibits.specs.Places.{KeepsPlaces, KeepsSeen}
+use Rattle.trace_exhibits.specs.Strings.{KeepsStrings}
 use Rattle.trace_exhibits.specs.declared.shown.Clash.{Clash}
 use Rattle.trace_exhibits.specs.Opened.{Opened, AreMarked}
 use Rattle.trace_exhibits.specs.declared.digest_key.DigestKey.{DigestKey}
-use Rattle.trace_exhibits.specs.declared.shown.Place.{Place}
-use Rattle.trace_exhibits.specs.declared.places.Seen.{Seen}
+use Rattle.trace_exhibits.specs.declared.hashed_string.HashedString.{HashedString}
 
 regroup : (front below behind rest strings : List (List ℕ)) (string : List ℕ) → strings ≡ below ++ string ∷ behind
     → (front ++ strings) ++ rest ≡ (front ++ below) ++ string ∷ (behind ++ rest)
@@ -33,41 +30,25 @@ module _ (dig : List ℕ → List ℕ) where
   -- a clash at a level of a way is one of the whole way
   pub way-clashes : (front : List (List ℕ)) (coin : ℕ) (leaf : List ℕ) (path : List (List ℕ)) (level : ℕ)
       (clash : Clash) → level < 65
-      → ((rest : List (List ℕ)) → first_clash dig [] ((front ++ strings_below dig coin leaf path level)
-      ++ hashed_string dig coin leaf path level ∷ rest) ≡ Some (pair_of clash))
+      → ((rest : List (List ℕ)) → first_clash dig [] (((front ++ strings_below dig coin leaf path level)
+      ++ hashed_string dig coin leaf path level ∷ []) ++ rest) ≡ Some (pair_of clash))
       → (rest : List (List ℕ)) → first_clash dig [] ((front ++ hashed_strings dig coin leaf path) ++ rest)
       ≡ Some (pair_of clash)
   way-clashes front coin leaf path level clash less found rest =
-      ap (first_clash dig []) (regroup front (strings_below dig coin leaf path level)
-      (drop (level + 1) (hashed_strings dig coin leaf path)) rest (hashed_strings dig coin leaf path)
-      (hashed_string dig coin leaf path level) (strings-behind dig coin leaf path level less))
-      ∙ found (drop (level + 1) (hashed_strings dig coin leaf path) ++ rest)
+      let below = strings_below dig coin leaf path level in
+      let string = hashed_string dig coin leaf path level in
+      let behind = drop (level + 1) (hashed_strings dig coin leaf path) in
+      ap (first_clash dig []) (regroup front below behind rest (hashed_strings dig coin leaf path) string
+      (strings-behind dig coin leaf path level less)
+      ∙ sym (append_assoc (front ++ below) (string ∷ []) (behind ++ rest)))
+      ∙ found (behind ++ rest)
 
-  pub found-same : {E : Type 0} (shown : List Opened) (seen : Seen) (before after : List (List ℕ))
-      (result : Result (Option Clash) E) → before ≡ after
-      → IfOk result (λ found. MatchOption found (KeepsSeen dig shown seen before)
-      (λ clash. (rest : List (List ℕ)) → first_clash dig [] (before ++ rest) ≡ Some (pair_of clash)))
-      → IfOk result (λ found. MatchOption found (KeepsSeen dig shown seen after)
-      (λ clash. (rest : List (List ℕ)) → first_clash dig [] (after ++ rest) ≡ Some (pair_of clash)))
-  found-same shown seen before after result is told =
-      subst (λ (all : List (List ℕ)). IfOk result (λ found. MatchOption found (KeepsSeen dig shown seen all)
-      (λ clash. (rest : List (List ℕ)) → first_clash dig [] (all ++ rest) ≡ Some (pair_of clash)))) is told
-
-  pub one-before : (shown : List Opened) (number : ℕ) (one : Opened) (strings : List (List ℕ))
-      → slice_get shown number ≡ Some one → strings_in_shown dig one ≡ strings
-      → strings_before dig shown number ++ strings ≡ strings_before dig shown (number + 1)
-  one-before shown number one strings is same =
-      ap (λ all. strings_before dig shown number ++ all) (sym same ∙ sym (strings_at-one dig shown number one is))
+  pub one-before : (shown : List Opened) (number : ℕ) (one : Opened)
+      → slice_get shown number ≡ Some one
+      → strings_before dig shown number ++ strings_in_shown dig one ≡ strings_before dig shown (number + 1)
+  one-before shown number one is =
+      ap (λ all. strings_before dig shown number ++ all) (sym (strings_at-one dig shown number one is))
       ∙ sym (strings_before-more dig shown number)
-
-  -- an opening without a string
-  pub unread-added : {S : Type 0} (shown : List Opened) (places : HashMap DigestKey Place S) (number : ℕ) (one : Opened)
-      → slice_get shown number ≡ Some one → strings_in_shown dig one ≡ []
-      → KeepsPlaces dig shown places (strings_before dig shown number)
-      → KeepsPlaces dig shown places (strings_before dig shown (number + 1))
-  unread-added shown places number one is none keeps =
-      subst (KeepsPlaces dig shown places)
-      (sym (append-nil (strings_before dig shown number)) ∙ one-before shown number one [] is none) keeps
 
   same-strings : (one other : Opened) → other.coin ≡ one.coin → other.opening ≡ one.opening
       → strings_in_shown dig other ≡ strings_in_shown dig one
@@ -75,26 +56,27 @@ module _ (dig : List ℕ → List ℕ) where
       ap (λ c. strings_in dig c other.opening) coin ∙ ap (strings_in dig one.coin) opening
 
   -- an opening that was shown before adds no string
-  pub known-added : {S : Type 0} (shown : List Opened) (places : HashMap DigestKey Place S) (number : ℕ) (one : Opened)
+  pub known-added : {S : Type 0} (shown : List Opened) (table : HashMap DigestKey HashedString S) (number : ℕ)
+      (one : Opened)
       → AreMarked shown → slice_get shown number ≡ Some one → one.is_new ≡ false
-      → KeepsPlaces dig shown places (strings_before dig shown number)
-      → KeepsPlaces dig shown places (strings_before dig shown (number + 1))
-  known-added shown places number one marked is old keeps =
+      → KeepsStrings dig table (strings_before dig shown number)
+      → KeepsStrings dig table (strings_before dig shown (number + 1))
+  known-added shown table number one marked is old keeps =
       let was = marked number one is old in
       let same : strings_at dig shown was.0 ≡ strings_in_shown dig one =
       strings_at-one dig shown was.0 was.1 was.3 ∙ same-strings one was.1 was.4 was.5 in
-      subst (KeepsPlaces dig shown places) (one-before shown number one (strings_in_shown dig one) is refl)
-      (known-strings dig shown places (strings_before dig shown number) (strings_in_shown dig one) keeps
+      subst (KeepsStrings dig table) (one-before shown number one is)
+      (known-strings dig table (strings_before dig shown number) (strings_in_shown dig one) keeps
       (λ string there. strings-earlier dig shown was.0 number string was.2
       (subst (λ (all : List (List ℕ)). Has all string) (sym same) there)))
 
-  pub none-added : {S : Type 0} (shown : List Opened) (places : HashMap DigestKey Place S) → places.entries ≡ []
-      → KeepsPlaces dig shown places []
+  pub none-added : {S : Type 0} (table : HashMap DigestKey HashedString S) → table.entries ≡ []
+      → KeepsStrings dig table []
   unfolding first_clash
-  none-added shown places empty = record {
+  none-added table empty = record {
     none = refl;
     known = λ string there. absurd (omega (arith, there.1));
-    only = λ digest place is. absurd (let wrong : None ≡ Some place = rw empty at is in cc wrong);
+    only = λ digest kept is. absurd (let wrong : None ≡ Some kept = rw empty at is in cc wrong);
   }
 
   -- a clash among the strings up to a number is one of all

@@ -1,7 +1,7 @@
 -- The first clash of strings that come one after another.
-use Rattle.std.proofs.Common.{◌≡◌, ◌≢◌, ℕ, ◌<◌, not, Bool, true, false, if◌then◌else◌, List, [], ◌∷◌, ◌++◌, find, Option, Some, None, option_map, inl, inr, refl, sym, ap, ◌∙◌, subst, append_assoc}
+use Rattle.std.proofs.Common.{◌≡◌, ◌≢◌, ℕ, not, Bool, true, false, if◌then◌else◌, List, [], ◌∷◌, ◌++◌, find, Option, Some, None, option_map, inl, inr, refl, sym, ap, ◌∙◌, subst, append_assoc}
 use Rattle.std.specs.List.{Contains}
-use Rattle.std.specs.Prelude.{Result, Ok, Err, IfOk, OnOk, MatchOption}
+use Rattle.std.specs.Prelude.{Result, Ok, Err, IfOk}
 use Rattle.std.specs.Option.{option_or}
 use Rattle.std.specs.HashMap.{HashMap, Updates}
 use Rattle.std.specs.Str.{bytes_eq}
@@ -10,13 +10,10 @@ use Rattle.std.proofs.lemmas.List.{append-nil}
 use Rattle.std.proofs.lemmas.Slice.Eq.{bytes_eq-Decides}
 use Rattle.watch_duty.proofs.Members.{Has, has-left, has-right, has-cases, has-contains, contains-has}
 use Rattle.world_rules.specs.Exhibits.{do_clash, clash_with, first_clash}
-use Rattle.trace_exhibits.specs.Ways.{string_at, pair_of, IsLast}
-use Rattle.trace_exhibits.specs.Places.{key_of, is_same_digest, place_of, KeepsPlaces, KeepsSeen}
+use Rattle.trace_exhibits.specs.Strings.{bytes_of, key_of, is_same_digest, string_of, KeepsStrings, IsAdded}
 use Rattle.trace_exhibits.specs.declared.shown.Clash.{Clash}
-use Rattle.trace_exhibits.specs.Opened.{Opened}
 use Rattle.trace_exhibits.specs.declared.digest_key.DigestKey.{DigestKey}
-use Rattle.trace_exhibits.specs.declared.shown.Place.{Place}
-use Rattle.trace_exhibits.specs.declared.places.Seen.{Seen}
+use Rattle.trace_exhibits.specs.declared.hashed_string.HashedString.{HashedString}
 
 -- what is found where one item alone passes, and where none does
 find-only : (p : List ℕ → Bool) (xs : List (List ℕ)) (x : List ℕ) → Has xs x → p x ≡ true
@@ -93,19 +90,19 @@ module _ (dig : List ℕ → List ℕ) where
         | inr apart ↦ rw apart ((bytes_eq-Decides (dig first) (dig string)).1 same)
       ]
 
-  module _ {S : Type 0} (shown : List Opened) (places : HashMap DigestKey Place S) (earlier : List (List ℕ)) where
+  module _ {S : Type 0} (table : HashMap DigestKey HashedString S) (earlier : List (List ℕ)) where
     -- strings of these with one digest are one string
-    one-string : KeepsPlaces dig shown places earlier → (one other : List ℕ) → Has earlier one → Has earlier other
+    one-string : KeepsStrings dig table earlier → (one other : List ℕ) → Has earlier one → Has earlier other
         → dig one ≡ dig other → one ≡ other
     one-string keeps one other is_one is_other same =
         let first = keeps.known one (has-contains earlier one is_one) in
         let second = keeps.known other (has-contains earlier other is_other) in
-        let place : Some first.0 ≡ Some second.0 =
-        sym first.1 ∙ ap (place_of places) same ∙ second.1 in
-        let e : first.0 ≡ second.0 = cc place in
-        sym first.2 ∙ ap (string_at dig shown) e ∙ second.2
+        let both : Some first.0 ≡ Some second.0 =
+        sym first.1 ∙ ap (string_of table) same ∙ second.1 in
+        let e : first.0 ≡ second.0 = cc both in
+        sym first.2 ∙ ap bytes_of e ∙ second.2
 
-    more-none : (string : List ℕ) → KeepsPlaces dig shown places earlier → clash_with dig earlier string ≡ None
+    more-none : (string : List ℕ) → KeepsStrings dig table earlier → clash_with dig earlier string ≡ None
         → first_clash dig [] (earlier ++ string ∷ []) ≡ None
     unfolding first_clash
     more-none string keeps apart =
@@ -113,8 +110,8 @@ module _ (dig : List ℕ → List ℕ) where
         ∙ ap (λ found. option_or found (first_clash dig (earlier ++ string ∷ []) [])) apart
 
     -- a string that was met before
-    pub known-string : (string : List ℕ) → KeepsPlaces dig shown places earlier → Has earlier string
-        → KeepsPlaces dig shown places (earlier ++ string ∷ [])
+    pub known-string : (string : List ℕ) → KeepsStrings dig table earlier → Has earlier string
+        → KeepsStrings dig table (earlier ++ string ∷ [])
     known-string string keeps there = record {
       none = more-none string keeps (clash-none earlier string
           (λ other is_there same. one-string keeps other string is_there there same));
@@ -126,31 +123,29 @@ module _ (dig : List ℕ → List ℕ) where
               | inr wrong ↦ absurd wrong
             ]
           ];
-      only = λ digest place is.
-          let was = keeps.only digest place is in (
-            has-contains (earlier ++ string ∷ []) (string_at dig shown place)
-                (has-left earlier (string ∷ []) (string_at dig shown place)
-                (contains-has earlier (string_at dig shown place) was.0)),
+      only = λ digest kept is.
+          let was = keeps.only digest kept is in (
+            has-contains (earlier ++ string ∷ []) (bytes_of kept)
+                (has-left earlier (string ∷ []) (bytes_of kept) (contains-has earlier (bytes_of kept) was.0)),
             was.1,
-            was.2,
           );
     }
 
-    -- a string whose digest wasn't met before, and whose place was added
-    pub new-string : (new : HashMap DigestKey Place S) (string : List ℕ) (place : Place)
-        → KeepsPlaces dig shown places earlier → place_of places (dig string) ≡ None
-        → Updates is_same_digest places new (key_of (dig string)) (Some place) → string_at dig shown place ≡ string → place.level < 65
-        → KeepsPlaces dig shown new (earlier ++ string ∷ [])
-    new-string new string place keeps absent adds at within = record {
+    -- a string whose digest wasn't met before, and which was put in
+    pub new-string : (new : HashMap DigestKey HashedString S) (string : List ℕ) (kept : HashedString)
+        → KeepsStrings dig table earlier → string_of table (dig string) ≡ None
+        → Updates is_same_digest table new (key_of (dig string)) (Some kept) → bytes_of kept ≡ string
+        → KeepsStrings dig new (earlier ++ string ∷ [])
+    new-string new string kept keeps absent adds of = record {
       none = more-none string keeps (clash-none earlier string (λ other is_there same.
           let was = keeps.known other (has-contains earlier other is_there) in
-          let wrong : None ≡ Some was.0 = sym absent ∙ ap (place_of places) (sym same) ∙ was.1 in
+          let wrong : None ≡ Some was.0 = sym absent ∙ ap (string_of table) (sym same) ∙ was.1 in
           cc wrong));
       known = λ one is_in. elim
           (has-cases earlier (string ∷ []) one (contains-has (earlier ++ string ∷ []) one is_in)) [
             | inl before ↦ known-before one before
             | inr behind ↦ elim behind [
-              | inl same ↦ (place, ap (λ s. place_of new (dig s)) (sym same) ∙ adds.1, at ∙ same)
+              | inl same ↦ (kept, ap (λ s. string_of new (dig s)) (sym same) ∙ adds.1, of ∙ same)
               | inr wrong ↦ absurd wrong
             ]
           ];
@@ -158,106 +153,78 @@ module _ (dig : List ℕ → List ℕ) where
         | inl same ↦ only-here digest one is same
         | inr apart ↦
             let was = keeps.only digest one (sym (adds.2 (key_of digest) apart) ∙ is) in (
-              has-contains (earlier ++ string ∷ []) (string_at dig shown one)
-                  (has-left earlier (string ∷ []) (string_at dig shown one)
-                  (contains-has earlier (string_at dig shown one) was.0)),
+              has-contains (earlier ++ string ∷ []) (bytes_of one)
+                  (has-left earlier (string ∷ []) (bytes_of one) (contains-has earlier (bytes_of one) was.0)),
               was.1,
-              was.2,
             )
       ];
     }
       where
-        known-before : (one : List ℕ) → Has earlier one → (p : Place) × (place_of new (dig one) ≡ Some p)
-            × (string_at dig shown p ≡ one)
+        known-before : (one : List ℕ) → Has earlier one → (k : HashedString)
+            × (string_of new (dig one) ≡ Some k) × (bytes_of k ≡ one)
         known-before one before =
             let was = keeps.known one (has-contains earlier one before) in
             elim (cases_Bool (bytes_eq (dig string) (dig one))) [
               | inl same ↦
                   let wrong : None ≡ Some was.0 =
-                  sym absent ∙ ap (place_of places) (bytes-same (dig string) (dig one) same) ∙ was.1 in
+                  sym absent ∙ ap (string_of table) (bytes-same (dig string) (dig one) same) ∙ was.1 in
                   absurd (cc wrong)
               | inr apart ↦ (was.0, adds.2 (key_of (dig one)) apart ∙ was.1, was.2)
             ]
 
-        only-here : (digest : List ℕ) (one : Place) → place_of new digest ≡ Some one
+        only-here : (digest : List ℕ) (one : HashedString) → string_of new digest ≡ Some one
             → bytes_eq (dig string) digest ≡ true
-            → Contains (earlier ++ string ∷ []) (string_at dig shown one) × (dig (string_at dig shown one) ≡ digest)
-            × (one.level < 65)
+            → Contains (earlier ++ string ∷ []) (bytes_of one) × (dig (bytes_of one) ≡ digest)
         only-here digest one is same =
             let e : dig string ≡ digest = bytes-same (dig string) digest same in
-            let both : Some place ≡ Some one = sym adds.1 ∙ ap (place_of new) e ∙ is in
-            let here : place ≡ one = cc both in
-            let made : string ≡ string_at dig shown one = sym at ∙ ap (string_at dig shown) here in (
-              has-contains (earlier ++ string ∷ []) (string_at dig shown one)
-                  (has-right earlier (string ∷ []) (string_at dig shown one) (inl made)),
+            let both : Some kept ≡ Some one = sym adds.1 ∙ ap (string_of new) e ∙ is in
+            let here : kept ≡ one = cc both in
+            let made : string ≡ bytes_of one = sym of ∙ ap bytes_of here in (
+              has-contains (earlier ++ string ∷ []) (bytes_of one)
+                  (has-right earlier (string ∷ []) (bytes_of one) (inl made)),
               ap dig (sym made) ∙ e,
-              subst (λ (p : Place). p.level < 65) here within,
             )
 
     -- a string whose digest is that of another one
-    pub clashing-string : (string : List ℕ) (place : Place) → KeepsPlaces dig shown places earlier
-        → place_of places (dig string) ≡ Some place → string_at dig shown place ≢ string
-        → (rest : List (List ℕ)) → first_clash dig [] (earlier ++ string ∷ rest)
-        ≡ Some (record { first = string_at dig shown place; second = string })
-    clashing-string string place keeps is differ rest =
-        let was = keeps.only (dig string) place is in
-        let there = contains-has earlier (string_at dig shown place) was.0 in
-        one-more earlier string rest keeps.none
+    clashing-string : (string : List ℕ) (kept : HashedString) → KeepsStrings dig table earlier
+        → string_of table (dig string) ≡ Some kept → bytes_of kept ≢ string
+        → (rest : List (List ℕ)) → first_clash dig [] ((earlier ++ string ∷ []) ++ rest)
+        ≡ Some (record { first = bytes_of kept; second = string })
+    clashing-string string kept keeps is differ rest =
+        let was = keeps.only (dig string) kept is in
+        let there = contains-has earlier (bytes_of kept) was.0 in
+        ap (first_clash dig []) (append_assoc earlier (string ∷ []) rest)
+        ∙ one-more earlier string rest keeps.none
         ∙ ap (λ found. option_or found (first_clash dig (earlier ++ string ∷ []) rest))
-        (clash-some earlier (string_at dig shown place) string there was.1 differ
-        (λ other is_there same. one-string keeps other (string_at dig shown place) is_there there (same ∙ sym was.1)))
+        (clash-some earlier (bytes_of kept) string there was.1 differ
+        (λ other is_there same. one-string keeps other (bytes_of kept) is_there there (same ∙ sym was.1)))
 
-  -- what becomes of a string whose digest was met before
-  pub met-string : {S E : Type 0} (shown : List Opened) (places : HashMap DigestKey Place S) (earlier : List (List ℕ))
-      (string : List ℕ) (place : Place) (result : Result (Option Clash) E)
-      → KeepsPlaces dig shown places earlier → place_of places (dig string) ≡ Some place
-      → IfOk result (λ found. found ≡ (if bytes_eq (string_at dig shown place) string then None
-      else Some (record { first = string_at dig shown place; second = string })))
-      → IfOk result (λ found. MatchOption found (KeepsPlaces dig shown places (earlier ++ string ∷ []))
-      (λ clash. (rest : List (List ℕ)) → first_clash dig [] (earlier ++ string ∷ rest) ≡ Some (pair_of clash)))
-  met-string shown places earlier string place (Err why) keeps is told = tt
-  met-string shown places earlier string place (Ok found) keeps is told =
-      elim (cases_Bool (bytes_eq (string_at dig shown place) string)) [
-        | inl same ↦
-            let e : found ≡ None = rw same at told in
-            rw e (known-string shown places earlier string keeps (subst (Has earlier)
-            (bytes-same (string_at dig shown place) string same)
-            (contains-has earlier (string_at dig shown place) (keeps.only (dig string) place is).0)))
-        | inr apart ↦
-            let e : found ≡ Some (record { first = string_at dig shown place; second = string }) = rw apart at told in
-            rw e (clashing-string shown places earlier string place keeps is
-            (λ same. true≢false (sym ((bytes_eq-Decides (string_at dig shown place) string).1 same) ∙ apart)))
-      ]
-
-  -- and of what is kept beside
-  pub met-seen : {E : Type 0} (shown : List Opened) (seen new : Seen) (earlier : List (List ℕ)) (string : List ℕ)
-      (place : Place) (result : Result (Option Clash) E)
-      → KeepsSeen dig shown seen earlier → place_of seen.places (dig string) ≡ Some place
-      → IfOk result (λ found. found ≡ (if bytes_eq (string_at dig shown place) string then None
-      else Some (record { first = string_at dig shown place; second = string })))
-      → new.places ≡ seen.places → OnOk result (IsLast dig shown new.last)
-      → IfOk result (λ found. MatchOption found (KeepsSeen dig shown new (earlier ++ string ∷ []))
-      (λ clash. (rest : List (List ℕ)) → first_clash dig [] (earlier ++ string ∷ rest) ≡ Some (pair_of clash)))
-  met-seen shown seen new earlier string place (Err why) keeps is told same last = tt
-  met-seen shown seen new earlier string place (Ok found) keeps is told same last =
-      by found (met-string {E = Unit {0}} shown seen.places earlier string place (Ok found) keeps.places is told)
-    where
-      by : (one : Option Clash)
-          → MatchOption one (KeepsPlaces dig shown seen.places (earlier ++ string ∷ []))
-          (λ clash. (rest : List (List ℕ)) → first_clash dig [] (earlier ++ string ∷ rest) ≡ Some (pair_of clash))
-          → MatchOption one (KeepsSeen dig shown new (earlier ++ string ∷ []))
-          (λ clash. (rest : List (List ℕ)) → first_clash dig [] (earlier ++ string ∷ rest) ≡ Some (pair_of clash))
-      by None kept = record { places = rw same kept; last = last }
-      by (Some clash) clashes = clashes
+    -- what becomes of a string whose digest was met before
+    pub met-string : {E : Type 0} (string : List ℕ) (kept : HashedString) (result : Result (Option Clash) E)
+        → KeepsStrings dig table earlier → string_of table (dig string) ≡ Some kept
+        → IfOk result (λ found. found ≡ (if bytes_eq (bytes_of kept) string then None
+        else Some (record { first = bytes_of kept; second = string })))
+        → IfOk result (IsAdded dig table (earlier ++ string ∷ []))
+    met-string string kept (Err why) keeps is told = tt
+    met-string string kept (Ok found) keeps is told = elim (cases_Bool (bytes_eq (bytes_of kept) string)) [
+      | inl same ↦
+          let e : found ≡ None = rw same at told in
+          rw e (known-string string keeps (subst (Has earlier) (bytes-same (bytes_of kept) string same)
+          (contains-has earlier (bytes_of kept) (keeps.only (dig string) kept is).0)))
+      | inr apart ↦
+          let e : found ≡ Some (record { first = bytes_of kept; second = string }) = rw apart at told in
+          rw e (clashing-string string kept keeps is
+          (λ same. true≢false (sym ((bytes_eq-Decides (bytes_of kept) string).1 same) ∙ apart)))
+    ]
 
   -- strings that were met before
-  pub known-strings : {S : Type 0} (shown : List Opened) (places : HashMap DigestKey Place S)
-      (earlier strings : List (List ℕ)) → KeepsPlaces dig shown places earlier
+  pub known-strings : {S : Type 0} (table : HashMap DigestKey HashedString S)
+      (earlier strings : List (List ℕ)) → KeepsStrings dig table earlier
       → ((string : List ℕ) → Has strings string → Has earlier string)
-      → KeepsPlaces dig shown places (earlier ++ strings)
-  known-strings shown places earlier [] keeps there = rw (append-nil earlier) keeps
-  known-strings shown places earlier (string ∷ strings) keeps there =
-      subst (KeepsPlaces dig shown places) (append_assoc earlier (string ∷ []) strings)
-      (known-strings shown places (earlier ++ string ∷ []) strings
-      (known-string shown places earlier string keeps (there string (inl refl)))
+      → KeepsStrings dig table (earlier ++ strings)
+  known-strings table earlier [] keeps there = rw (append-nil earlier) keeps
+  known-strings table earlier (string ∷ strings) keeps there =
+      subst (KeepsStrings dig table) (append_assoc earlier (string ∷ []) strings)
+      (known-strings table (earlier ++ string ∷ []) strings
+      (known-string table earlier string keeps (there string (inl refl)))
       (λ one is. has-left earlier (string ∷ []) one (there one (inr is))))

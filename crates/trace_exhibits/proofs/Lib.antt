@@ -3,7 +3,6 @@ pub mod Strings
 pub mod Added
 pub mod KeptWallets
 pub mod MetLaws
-pub mod SameStrings
 pub mod Reading
 pub mod Lined
 pub mod TestedLaws

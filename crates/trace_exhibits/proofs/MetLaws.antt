@@ -1,5 +1,5 @@
 -- Openings that were met add no string.
-use Rattle.std.proofs.Common.{◌≡◌, Bor, ℕ, ◌+◌, ◌==◌, ◌&&◌, ◌||◌, Bool, true, false, if◌then◌else◌, List, [], ◌∷◌, ◌++◌, Some, inl, inr, refl, sym, ap, ◌∙◌, subst}
+use Rattle.std.proofs.Common.{◌≡◌, Bor, ℕ, ◌+◌, ◌==◌, ◌&&◌, ◌||◌, Bool, true, false, if◌then◌else◌, List, [], ◌∷◌, ◌++◌, Some, inl, inr, sym, ap, ◌∙◌, subst}
 use Rattle.std.specs.Prelude.{Vec}
 use Rattle.std.specs.List.{Contains, list_any, slice_get}
 use Rattle.std.specs.HashMap.{HashMap}
@@ -18,11 +18,11 @@ use Rattle.trace_exhibits.proofs.Added.{one-before}
 use Rattle.trace_exhibits.specs.Ways.{strings_in_shown, strings_before, strings_at}
 use Rattle.trace_exhibits.specs.Opened.{Opened}
 use Rattle.trace_exhibits.specs.Met.{is_same_opening, is_same_spot, openings_at, is_met, KeepsMet}
-use Rattle.trace_exhibits.specs.Places.{KeepsPlaces}
+use Rattle.trace_exhibits.specs.Strings.{KeepsStrings}
 use Rattle.trace_exhibits.specs.declared.met.Spot.{Spot}
 use Rattle.trace_exhibits.specs.declared.met.MetOpenings.{MetOpenings}
 use Rattle.trace_exhibits.specs.declared.digest_key.DigestKey.{DigestKey}
-use Rattle.trace_exhibits.specs.declared.shown.Place.{Place}
+use Rattle.trace_exhibits.specs.declared.hashed_string.HashedString.{HashedString}
 
 -- ---- what is met once one more opening is
 
@@ -120,13 +120,13 @@ module _ (dig : List ℕ → List ℕ) where
         (contains-has (strings_before dig shown number) string (keeps coin opening is string there))))
 
     -- an opening that was met adds no string
-    pub met-known : {S : Type 0} (places : HashMap DigestKey Place S) (one : Opened) (met : MetOpenings)
+    pub met-known : {S : Type 0} (table : HashMap DigestKey HashedString S) (one : Opened) (met : MetOpenings)
         → slice_get shown number ≡ Some one → KeepsMet dig met (strings_before dig shown number)
-        → is_met met one.coin one.opening ≡ true → KeepsPlaces dig shown places (strings_before dig shown number)
-        → KeepsPlaces dig shown places (strings_before dig shown (number + 1))
-    met-known places one met at kept is keeps =
-        subst (KeepsPlaces dig shown places) (one-before dig shown number one (strings_in_shown dig one) at refl)
-        (known-strings dig shown places (strings_before dig shown number) (strings_in_shown dig one) keeps
+        → is_met met one.coin one.opening ≡ true → KeepsStrings dig table (strings_before dig shown number)
+        → KeepsStrings dig table (strings_before dig shown (number + 1))
+    met-known table one met at kept is keeps =
+        subst (KeepsStrings dig table) (one-before dig shown number one at)
+        (known-strings dig table (strings_before dig shown number) (strings_in_shown dig one) keeps
         (λ string there. contains-has (strings_before dig shown number) string
         (kept one.coin one.opening is string (has-contains (strings_in_shown dig one) string there))))
 

@@ -31,6 +31,7 @@ proof-long text is =
 -- what an opening's bytes that are read have behind the leaf
 pub record IsRead (raw : RawOpening) (opening : Opening) : Type 0 where
   pub within : 4 + leaf_length raw.bytes ≤ length raw.bytes
+  pub leaf : leaf_in raw.bytes ≡ opening.leaf
   pub long : has_proof_length (drop (4 + leaf_length raw.bytes) raw.bytes) ≡ true
   pub proof : masked_path_in (drop (4 + leaf_length raw.bytes) raw.bytes) ≡ opening.proof
 
@@ -40,6 +41,13 @@ made-of block leaf (Err why) opening is = cc is
 made-of block leaf (Ok proof) opening is =
     let e : record { block = block; leaf = leaf; proof = proof } ≡ opening = cc is in
     ap (λ (o : Opening). Ok o.proof) e
+
+leaf-of : (block : ℕ) (leaf : List ℕ) (r : Result MaskedPath ProofRefusal) (opening : Opening)
+    → with_proof block leaf r ≡ Ok opening → leaf ≡ opening.leaf
+leaf-of block leaf (Err why) opening is = cc is
+leaf-of block leaf (Ok proof) opening is =
+    let e : record { block = block; leaf = leaf; proof = proof } ≡ opening = cc is in
+    ap (λ (o : Opening). o.leaf) e
 
 taken : (path : MaskedPath) (lowest : Option ℕ) (proof : MaskedPath) → proof_or_refusal path lowest ≡ Ok proof
     → path ≡ proof
@@ -64,6 +72,7 @@ module _ (dig : List ℕ → List ℕ) where
         (made-of raw.block (leaf_in raw.bytes) (proof_in dig text) opening (rw fits at is)) in
         record {
           within = leb-true (4 + leaf_length raw.bytes) (length raw.bytes) fits;
+          leaf = leaf-of raw.block (leaf_in raw.bytes) (proof_in dig text) opening (rw fits at is);
           long = both.0;
           proof = both.1;
         }

@@ -1,7 +1,7 @@
 pub mod Opened
 pub mod Met
 pub mod Ways
-pub mod Places
+pub mod Strings
 pub mod Lines
 pub mod Wallets
 pub mod Tested

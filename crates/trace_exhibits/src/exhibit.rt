@@ -4,9 +4,9 @@ ghost use Rattle.world_rules.specs.Exhibits.{exhibit_of};
 ghost use Rattle.trace_exhibits.specs.Opened.{AreMarked};
 ghost use Rattle.trace_exhibits.specs.Lines.{shown_in, AreLines};
 
+use super::clashing::first_clash;
 use super::forgeries::first_forgery;
 use super::lines::{ExhibitLine, shown_in};
-use super::places::first_clash;
 use plasma_base::{Hash32, NoMemory};
 use std::alloc::Global;
 use world_rules::Exhibit;

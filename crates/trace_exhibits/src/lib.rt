@@ -2,23 +2,24 @@
 //! key never made.
 #![tactic(auto)]
 
+mod clashing;
 mod digest_key;
 mod exhibit;
 mod forgeries;
 mod forging;
+mod hashed_string;
 mod laws;
 mod lines;
 mod met;
-mod places;
 mod shown;
 mod tested;
 mod wallets;
 mod way;
 
+pub use clashing::first_clash;
 pub use exhibit::exhibit_of;
 pub use forgeries::first_forgery;
 pub use forging::forges;
 pub use laws::{lines_grow, marks_grow};
 pub use lines::ExhibitLine;
-pub use places::first_clash;
 pub use shown::{Clash, ShownOpening};

@@ -61,10 +61,3 @@ pub struct Clash {
     pub first: Bytes,
     pub second: Bytes,
 }
-
-/// Where a string stands: the number of the opening, and the level on its way up.
-#[derive(Debug, Clone, Copy)]
-pub(crate) struct Place {
-    pub(crate) number: usize,
-    pub(crate) level: usize,
-}

@@ -2,18 +2,18 @@ use Rattle.std.proofs.Common.{◌≤◌, ◌+◌, length, sym, arith}
 use Rattle.trace_exhibits.proofs.Strings.{strings_before-zero, strings_before-all}
 use Rattle.trace_exhibits.proofs.Added.{none-added, all-clash}
 use Rattle.trace_exhibits.proofs.MetLaws.{met-none}
-use Rattle.trace_exhibits.proofs.places.first_clash.Goals as goal
+use Rattle.trace_exhibits.proofs.clashing.first_clash.Goals as goal
 
 pub loop-number-init : goal.loop-number-init
 loop-number-init g c =
     let dig = g.H.Hash32.digest_of c.args.h.now in
     rw (strings_before-zero dig c.args.shown.now) (record {
-      seen = record { places = none-added dig c.args.shown.now c.new.result c.new.ensures.empty; last = tt };
+      kept = none-added dig c.new-strings.result c.new-strings.ensures.empty;
       met = met-none dig c.new-met.result c.new-met.ensures;
     })
 
 pub add_opening-requires-clause-kept : goal.add_opening-requires-clause-kept
-add_opening-requires-clause-kept g c = c.loop-number.invariant.seen
+add_opening-requires-clause-kept g c = c.loop-number.invariant.kept
 
 pub add_opening-requires-clause-met : goal.add_opening-requires-clause-met
 add_opening-requires-clause-met g c = c.loop-number.invariant.met
@@ -25,7 +25,7 @@ returns-in-Some g c =
 
 pub loop-number-preserved : goal.loop-number-preserved
 loop-number-preserved g c = record {
-  seen = rw c.in_default.is at c.in_ok-clash.ensures.found;
+  kept = rw c.in_default.is at c.in_ok-clash.ensures.found;
   met = c.in_ok-clash.ensures.met;
 }
 
@@ -33,5 +33,4 @@ pub returns : goal.returns
 returns g c =
     let dig = g.H.Hash32.digest_of c.args.h.now in
     let le : length c.args.shown.now ≤ c.loop-number.number = omega arith in
-    sym (rw (strings_before-all dig c.args.shown.now c.loop-number.number le) at
-    c.loop-number.invariant.seen.places.none)
+    sym (rw (strings_before-all dig c.args.shown.now c.loop-number.number le) at c.loop-number.invariant.kept.none)
