@@ -35,7 +35,7 @@ fn push_verdict_counts(out: &mut Vec<u8>, counts: &Counts) -> Result<(), NoMemor
 
 /// Puts the counts of a run at the end, each on a line of its own: its name, a blank and the number. Where memory runs
 /// out nothing changes.
-#[tactic(auto, unfolding(world_rules::specs::Texts::counts_text))]
+#[tactic(auto, unfolding(crate::specs::Texts::counts_text))]
 pub fn print_counts(counts: &Counts, out: &mut Vec<u8>) -> Result<(), NoMemory>
     ensures ok { OnOk result (out.new.items ≡ out.old.items ++ counts_text counts.now) }
     ensures err { OnErr result (out.new.items ≡ out.old.items) }

@@ -9,7 +9,10 @@ use super::words::{push_phrase, push_words};
 use line_forms::push_number;
 use plasma_base::{NoMemory, push_hex};
 
-#[tactic(auto, unfolding(world_rules::specs::Texts::trace_line_text))]
+// The bytes that most lines of a trace have room in, so that room is taken once for each.
+const USUAL_LENGTH: usize = 64;
+
+#[tactic(auto, unfolding(crate::specs::Texts::trace_line_text))]
 fn push_line(out: &mut Vec<u8>, line: &TraceLine) -> Result<(), NoMemory>
     ensures { OnOk result
         (out.new.items ≡ out.old.items ++ trace_line_text line.now.line line.now.done line.now.answer) }
@@ -36,7 +39,7 @@ fn push_kind(out: &mut Vec<u8>, kind: VerdictKind) -> Result<(), NoMemory>
     }
 }
 
-#[tactic(auto, unfolding(world_rules::specs::Texts::verdict_text))]
+#[tactic(auto, unfolding(crate::specs::Texts::verdict_text))]
 fn push_verdict(out: &mut Vec<u8>, verdict: &Verdict) -> Result<(), NoMemory>
     ensures { OnOk result (out.new.items ≡ out.old.items ++ verdict_text verdict.now) }
 {
@@ -47,7 +50,7 @@ fn push_verdict(out: &mut Vec<u8>, verdict: &Verdict) -> Result<(), NoMemory>
     Ok(())
 }
 
-#[tactic(auto, unfolding(world_rules::specs::Texts::exhibit_text))]
+#[tactic(auto, unfolding(crate::specs::Texts::exhibit_text))]
 fn push_exhibit(out: &mut Vec<u8>, exhibit: &Exhibit) -> Result<(), NoMemory>
     ensures { OnOk result (out.new.items ≡ out.old.items ++ exhibit_text exhibit.now) }
 {
@@ -87,7 +90,7 @@ pub fn print_line(line: &TraceLine, out: &mut Vec<u8>) -> Result<(), NoMemory>
         (out.new.items ≡ out.old.items ++ trace_line_text line.now.line line.now.done line.now.answer) }
     ensures err { OnErr result (out.new.items ≡ out.old.items) }
 {
-    let mut text = Vec::new(*out.allocator());
+    let mut text = Vec::with_capacity(*out.allocator(), USUAL_LENGTH)?;
     push_line(&mut text, line)?;
     out.extend_from_slice(text.as_slice())?;
     Ok(())
@@ -99,7 +102,7 @@ pub fn print_reply(reply: &Reply, out: &mut Vec<u8>) -> Result<(), NoMemory>
     ensures ok { OnOk result (out.new.items ≡ out.old.items ++ reply_text reply.now) }
     ensures err { OnErr result (out.new.items ≡ out.old.items) }
 {
-    let mut text = Vec::new(*out.allocator());
+    let mut text = Vec::with_capacity(*out.allocator(), USUAL_LENGTH)?;
     push_reply(&mut text, reply)?;
     out.extend_from_slice(text.as_slice())?;
     Ok(())
@@ -111,7 +114,7 @@ pub fn print_verdict(verdict: &Verdict, out: &mut Vec<u8>) -> Result<(), NoMemor
     ensures ok { OnOk result (out.new.items ≡ out.old.items ++ verdict_text verdict.now) }
     ensures err { OnErr result (out.new.items ≡ out.old.items) }
 {
-    let mut text = Vec::new(*out.allocator());
+    let mut text = Vec::with_capacity(*out.allocator(), USUAL_LENGTH)?;
     push_verdict(&mut text, verdict)?;
     out.extend_from_slice(text.as_slice())?;
     Ok(())

@@ -35,7 +35,7 @@ fn push_refused(out: &mut Vec<u8>, cause: &[u8]) -> Result<(), NoMemory>
 }
 
 /// Puts an answer at the end.
-#[tactic(auto, unfolding(world_rules::specs::Texts::reply_text))]
+#[tactic(auto, unfolding(crate::specs::Texts::reply_text))]
 pub fn push_reply(out: &mut Vec<u8>, reply: &Reply) -> Result<(), NoMemory>
     ensures { OnOk result (out.new.items ≡ out.old.items ++ reply_text reply.now) }
 {
