@@ -12,5 +12,5 @@ invariant_of-self-in-Ok g c =
     right_sealed c.self.inside.hash c.self.inside.notes.notes.records c.add.new.self.notes.records c.in_ok-body.body
     c.self.inside.who c.self.inside.pool c.undo.new.self c.take.new.self c.self.inside.trees c.make_room.new.self
     c.push.new.self c.in_ok-tree.tree c.self.invariant adds c.in-Ok.ensures.did.records c.in_ok-undo.ensures.undone
-    c.undo.ensures.hash c.make_room.ensures.same c.make_room.ensures.hash c.in_ok-tree.ensures.tree c.in_ok-tree.ensures.empty
-    c.push.ensures.added c.push.ensures.hash
+    c.undo.ensures.hash c.make_room.ensures.same c.make_room.ensures.hash c.in_ok-tree.ensures.tree
+    c.in_ok-tree.ensures.empty c.push.ensures.added c.push.ensures.hash
