@@ -1,6 +1,7 @@
 -- A world with one more node.
-use Rattle.std.proofs.Common.{◌≡◌, refl, sym, subst, ap, ◌∙◌, ℕ, nat_lt, Bool, true, false, not, ◌&&◌, ◌||◌, length, take, List, [], ◌∷◌, ◌++◌, map}
-use Rattle.std.specs.List.{All}
+use Rattle.std.proofs.Common.{◌≡◌, refl, sym, subst, ap, ◌∙◌, ℕ, nat_lt, Bool, true, false, not, ◌&&◌, ◌||◌, length, take, List, [], ◌∷◌, ◌++◌, map, Option, Some, None}
+use Rattle.std.specs.Prelude.{is_some}
+use Rattle.std.specs.List.{All, position}
 use Rattle.std.proofs.lemmas.List.{map-append}
 use Rattle.std.proofs.Math.Seq.{take-append_seam}
 use Rattle.node_rules.specs.declared.identity.WalletIdentity.{WalletIdentity}
@@ -9,12 +10,15 @@ use Rattle.world_rules.specs.declared.TheConstants.{MOST_WALLETS}
 use Rattle.plasma_tx.specs.Chain.{Chain}
 use Rattle.line_events.specs.declared.event.LineEvent.{LineEvent}
 use Rattle.world_rules.specs.declared.reply.Reply.{Reply}
-use Rattle.world_rules.specs.World.{World, Node, Rogue}
-use Rattle.world_rules.specs.Declarations.{may_be_wallet, may_be_other, is_used, is_wallet_account, is_new_name, wallet_nodes, is_declared_account, is_caller, is_wallet_key, is_wallet_seed}
+use Rattle.world_rules.specs.World.{World, Node, Rogue, any_role, rogue_named}
+use Rattle.world_rules.specs.Declarations.{may_be_wallet, may_be_other, is_used, is_declared, is_wallet_account, is_new_name, wallet_nodes, is_declared_account, is_caller, is_wallet_key, is_wallet_seed}
 use Rattle.world_rules.specs.Steps.{with_new_node, declares_watcher, operator_node, new_world}
 use Rattle.world_nodes.specs.Nodes.{NodeView, Spells, new_watcher}
 use Rattle.world_scene.specs.declared.answer.LineAnswer.{LineAnswer}
 use Rattle.world_scene.specs.Scenes.{SceneState, world_of, node_in, shown_of}
+use Rattle.world_scene.specs.declared.names.Roles.{Roles}
+use Rattle.world_scene.specs.Names.{is_named_view}
+use Rattle.world_scene.proofs.Views.{number_of_view}
 use Rattle.world_scene.specs.Steps.{may_begin, NodesStay, NodesGrow, AllSpell, answered}
 
 not_all : (a b k s : Bool) → (a && b && not s) ≡ false → (a && b && not (k || s)) ≡ false
@@ -91,6 +95,51 @@ begins chain made views view rogues callers mail is one node none_named none_cal
     ∙ ap (λ named. record (new_world chain) { rogues = named; raw_callers = callers; mail = mail }) none_named
     ∙ ap (λ called. record (new_world chain) { raw_callers = called; mail = mail }) none_called
     ∙ ap (λ items. record (new_world chain) { mail = items }) none_made
+
+-- ---- new names
+
+no_place : (place : Option ℕ) → is_some place ≡ false → place ≡ None
+no_place None none = refl
+no_place (Some n) none = absurd (cc none)
+
+no_rogue : (rogue : Option Rogue) → is_some rogue ≡ false → rogue ≡ None
+no_rogue None none = refl
+no_rogue (Some rogue) none = absurd (cc none)
+
+neither : (a b : Bool) → (a || b) ≡ false → (a ≡ false) × (b ≡ false)
+neither false b is = (refl, is)
+neither true b is = absurd (cc is)
+
+new_of : (a b c d : Bool) → ((not a && b) && c && d) ≡ true → a ≡ false
+new_of false b c d is = refl
+new_of true b c d is = absurd (cc is)
+
+-- no node has a name that isn't declared
+pub not_declared : {H : Type 0} (scene : SceneState H) (name : List ℕ)
+    → is_declared any_role (world_of scene) name ≡ false
+    → position (is_named_view Roles.Any name) scene.nodes ≡ None
+not_declared scene name unused =
+    no_place (position (is_named_view Roles.Any name) scene.nodes)
+    (sym (ap is_some (number_of_view scene Roles.Any name)) ∙ unused)
+
+-- a name that isn't used is no node's, and no rogue's
+pub unused_node : (world : World) (name : List ℕ) → is_used world name ≡ false
+    → is_declared any_role world name ≡ false
+unused_node world name unused =
+    (neither (is_declared any_role world name) (is_some (rogue_named world name)) unused).0
+
+pub unused_rogue : (world : World) (name : List ℕ) → is_used world name ≡ false → rogue_named world name ≡ None
+unused_rogue world name unused =
+    no_rogue (rogue_named world name)
+    (neither (is_declared any_role world name) (is_some (rogue_named world name)) unused).1
+
+-- the name of a wallet that may begin isn't used
+pub begins_unused : (world : World) (name : List ℕ) (who : WalletIdentity) → may_begin world name who ≡ true
+    → is_used world name ≡ false
+begins_unused world name who =
+    new_of (is_used world name) (nat_lt (length (wallet_nodes world)) MOST_WALLETS)
+    (not (is_declared_account world who.account || is_caller world who.account))
+    (not (is_wallet_seed world who.seed))
 
 -- a wallet that may not begin may not be declared
 pub not_begun : (world : World) (name : List ℕ) (who : WalletIdentity)

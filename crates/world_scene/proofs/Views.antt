@@ -1,6 +1,6 @@
 -- What is looked up among nodes with their disks, and among nodes alone.
-use Rattle.std.proofs.Common.{◌≡◌, refl, sym, ap, ◌∙◌, ℕ, ◌+◌, ◌<◌, if◌then◌else◌, get_or, Bool, not, cond, ◌&&◌, ◌||◌, List, [], ◌∷◌, map, filter, length, reverse, find, ◌==◌, Option, Some, None, option_map, arith}
-use Rattle.std.specs.Prelude.{IfSome, is_some}
+use Rattle.std.proofs.Common.{◌≡◌, refl, sym, ap, ◌∙◌, ℕ, ◌+◌, if◌then◌else◌, Bool, not, cond, ◌&&◌, ◌||◌, List, [], ◌∷◌, map, filter, length, reverse, find, ◌==◌, Option, Some, None, option_map, arith}
+use Rattle.std.specs.Prelude.{IfSome, is_some, slice_get}
 use Rattle.std.specs.List.{list_any, count_by, position, prefix_len}
 use Rattle.std.proofs.lemmas.List.{length-map}
 use Rattle.std.proofs.lemmas.List.Sums.{length-filter, sum_by-cons}
@@ -16,7 +16,7 @@ use Rattle.world_nodes.specs.declared.order.NodeKind.TheVariants.{Wallet as Wall
 use Rattle.world_nodes.specs.Nodes.{role_of, NodeView}
 use Rattle.plasma_tx.specs.declared.owner.Owner.{Owner}
 use Rattle.std.proofs.lemmas.Bool.{and_parts}
-use Rattle.std.proofs.lemmas.Option.{slice_get-get_or, same_Some}
+use Rattle.std.proofs.lemmas.Option.{same_Some}
 use Rattle.world_rules.proofs.Existence.{position-is}
 use Rattle.world_scene.proofs.Scans.{found_at_place, found_where_placed}
 use Rattle.world_scene.specs.declared.names.Roles.{Roles}
@@ -110,12 +110,11 @@ owner_named_view scene name =
 -- who the wallet at a place is that the name has
 pub wallet_at : {H : Type 0} (nodes : List (NodeView H)) (name : List ℕ) (n : ℕ) (view : NodeView H)
     (owner : Option Owner)
-    → position (is_named_view Roles.Wallets name) nodes ≡ Some n → n < length nodes → view ≡ get_or nodes n view
+    → position (is_named_view Roles.Wallets name) nodes ≡ Some n → slice_get nodes n ≡ Some view
     → owner ≡ (if is_wallet_role view.node.role then Some (owner_of_node view.node) else None)
     → owner ≡ option_map owner_in_view (find (is_named_view Roles.Wallets name) nodes)
-wallet_at nodes name n view owner place within is owns =
+wallet_at nodes name n view owner place at owns =
     let there = position-is (is_named_view Roles.Wallets name) nodes n place in
-    let at = slice_get-get_or nodes n view within ∙ ap Some (sym is) in
     let same = same_Some _ _ (sym at ∙ there.1) in
     let passes' = ap (is_named_view Roles.Wallets name) same ∙ there.2 in
     let role = (and_parts (bytes_eq view.node.name name) (is_wallet_role view.node.role) passes').1 in

@@ -5,3 +5,5 @@ pub mod Steps
 pub mod Moves
 pub mod Events
 pub mod Seeking
+pub mod Places
+pub mod Indexed

@@ -3,6 +3,8 @@ ghost use Rattle.world_rules.specs.Steps.{new_chain, new_world};
 ghost use Rattle.world_scene.specs.Scenes.{world_of};
 ghost use Rattle.world_scene.specs.Steps.{AllSpell};
 
+use super::node_list::Nodes;
+use super::rogues::Rogues;
 use super::scene::Scene;
 use plasma_base::{Hash32, NoMemory};
 use root_contract::Contract;
@@ -11,13 +13,12 @@ use world_nodes::Entry;
 use world_tokens::padded;
 
 // The nodes of a chain that begins: the operator alone.
-fn only<H: Hash32 + Copy>(alloc: Global, operator: Entry<H>) -> Result<Vec<Entry<H>>, NoMemory>
-    ensures { IfOk result (λ nodes. nodes.items ≡ operator ∷ []) }
+fn only<H: Hash32 + Copy>(alloc: Global, operator: Entry<H>) -> Result<Nodes<H>, NoMemory>
+    ensures { IfOk result (λ nodes. nodes ≡ operator ∷ []) }
 {
-    let mut entries = Vec::new(alloc);
-    entries.reserve(1)?;
-    entries.push(operator).unwrap();
-    Ok(entries)
+    let mut nodes = Nodes::new(alloc);
+    nodes.push(operator)?;
+    Ok(nodes)
 }
 
 impl<H: Hash32 + Copy> Scene<H> {
@@ -35,13 +36,13 @@ impl<H: Hash32 + Copy> Scene<H> {
     {
         let tag = padded(tag);
         let node = Entry::operator(alloc, hash, &tag, operator)?;
-        let entries = only(alloc, node)?;
+        let nodes = only(alloc, node)?;
         Ok(Scene {
             alloc,
             hash,
             contract: Contract::make(alloc, tag, operator, most),
-            entries,
-            rogues: Vec::new(alloc),
+            nodes,
+            rogues: Rogues::new(alloc),
             raw_callers: Vec::new(alloc),
             mail: Vec::new(alloc),
         })

@@ -11,6 +11,7 @@ ghost use Rattle.world_scene.specs.Scenes.{world_of, shows};
 ghost use Rattle.world_scene.specs.Steps.{answered, shown_by, AllHash, AllSpell, RunsAt, FitsAt, with_nodes};
 
 use super::answer::LineAnswer;
+use super::node_list::{Nodes, let_go};
 use super::orders::Chosen;
 use super::refusal::StepRefusal;
 use super::scene::Scene;
@@ -40,6 +41,31 @@ fn run_at<H: Hash32 + Copy>(
     entry.run(log, order)
 }
 
+impl<H: Hash32 + Copy> Nodes<H> {
+    // Runs an order of the node with this number.
+    pub(crate) fn run(
+        &mut self,
+        n: usize,
+        log: &RootLog,
+        order: &NodeOrder,
+    ) -> Result<Given, NoMemory>
+        requires inside { n < length self.old }
+        requires fits { FitsAt self.old n order.now }
+        requires spells { All Spells self.old }
+        ensures runs { IfOk result (λ given. RunsAt H.digest_of log.now.log n order.now self.old given self.new) }
+        ensures spells { OnOk result (All Spells self.new) }
+        ensures hash { (hash : H) → AllHash hash self.old → AllHash hash self.new }
+    {
+        match run_at(&mut self.entries, n, log, order) {
+            Ok(given) => Ok(given),
+            Err(refusal) => {
+                let_go(&mut self.entries, &mut self.wallet_accounts);
+                Err(refusal)
+            }
+        }
+    }
+}
+
 impl<H: Hash32 + Copy> Scene<H> {
     // Runs an order of the node with this number.
     pub(crate) fn run_order(&mut self, n: usize, order: &NodeOrder) -> Result<Given, NoMemory>
@@ -53,7 +79,7 @@ impl<H: Hash32 + Copy> Scene<H> {
         ensures spells { OnOk result (AllSpell self.new) }
     {
         let log = self.contract.log();
-        run_at(&mut self.entries, n, log, order)
+        self.nodes.run(n, log, order)
     }
 }
 

@@ -14,6 +14,7 @@ ghost use Rattle.world_scene.specs.Steps.{answered, AllHash, AllSpell, CrashesAt
 use super::answer::LineAnswer;
 use super::calling::says;
 use super::names::Roles;
+use super::node_list::{Nodes, let_go};
 use super::refusal::StepRefusal;
 use super::scene::Scene;
 use crash_disk::Outcome;
@@ -41,6 +42,26 @@ fn crash_at<H: Hash32 + Copy>(
     entry.crash(outcome)
 }
 
+impl<H: Hash32 + Copy> Nodes<H> {
+    // The node with this number goes down, and its disks crash.
+    pub(crate) fn crash(&mut self, n: usize, outcome: &Outcome) -> Result<(), NoMemory>
+        requires inside { n < length self.old }
+        requires pattern { HasPattern outcome.now }
+        requires spells { All Spells self.old }
+        ensures crashes { OnOk result (CrashesAt n outcome.now self.old self.new) }
+        ensures spells { OnOk result (All Spells self.new) }
+        ensures hash { (hash : H) → AllHash hash self.old → AllHash hash self.new }
+    {
+        match crash_at(&mut self.entries, n, outcome) {
+            Ok(()) => Ok(()),
+            Err(refusal) => {
+                let_go(&mut self.entries, &mut self.wallet_accounts);
+                Err(refusal)
+            }
+        }
+    }
+}
+
 impl<H: Hash32 + Copy> Scene<H> {
     // The node with this number goes down, and its disks crash.
     fn crash_node(&mut self, n: usize, outcome: &Outcome) -> Result<(), NoMemory>
@@ -51,7 +72,7 @@ impl<H: Hash32 + Copy> Scene<H> {
         ensures rest { OnOk result (self.new ≡ with_nodes self.old self.new.nodes) }
         ensures spells { OnOk result (AllSpell self.new) }
     {
-        crash_at(&mut self.entries, n, outcome)
+        self.nodes.crash(n, outcome)
     }
 
     // A node goes down, and its disks crash.

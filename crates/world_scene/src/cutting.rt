@@ -17,6 +17,7 @@ ghost use Rattle.world_scene.specs.Steps.{answered, shown_at_end, AllHash, AllSp
 
 use super::answer::LineAnswer;
 use super::calling::{idles, says};
+use super::node_list::{Nodes, let_go};
 use super::orders::Chosen;
 use super::refusal::StepRefusal;
 use super::scene::Scene;
@@ -52,6 +53,35 @@ fn cut_at<H: Hash32 + Copy>(
 {
     let entry = &mut entries[n];
     entry.cut(log, order, calls, outcome)
+}
+
+impl<H: Hash32 + Copy> Nodes<H> {
+    // Runs an order of the node with this number, of which so many device calls pass, and then its disks crash.
+    pub(crate) fn cut(
+        &mut self,
+        n: usize,
+        log: &RootLog,
+        order: &NodeOrder,
+        calls: u64,
+        outcome: &Outcome,
+    ) -> Result<CutEnd, NoMemory>
+        requires inside { n < length self.old }
+        requires fits { FitsAt self.old n order.now }
+        requires pattern { HasPattern outcome.now }
+        requires spells { All Spells self.old }
+        ensures cuts { IfOk result (λ end.
+            CutsAt H.digest_of log.now.log n calls outcome.now order.now self.old end self.new) }
+        ensures spells { OnOk result (All Spells self.new) }
+        ensures hash { (hash : H) → AllHash hash self.old → AllHash hash self.new }
+    {
+        match cut_at(&mut self.entries, n, log, order, calls, outcome) {
+            Ok(end) => Ok(end),
+            Err(refusal) => {
+                let_go(&mut self.entries, &mut self.wallet_accounts);
+                Err(refusal)
+            }
+        }
+    }
 }
 
 // How a cut of an order ended, as the answer of its line.
@@ -105,14 +135,7 @@ impl<H: Hash32 + Copy> Scene<H> {
         ensures spells { OnOk result (AllSpell self.new) }
     {
         let log = self.contract.log();
-        cut_at(
-            &mut self.entries,
-            chosen.n,
-            log,
-            &chosen.order,
-            calls,
-            outcome,
-        )
+        self.nodes.cut(chosen.n, log, &chosen.order, calls, outcome)
     }
 
     // Cuts the order that a command stands for.

@@ -1,11 +1,11 @@
-ghost use Rattle.std.specs.Prelude.{◌≡◌, ◌&&◌, true, false, length, IfOk, OnOk, IsErrOf, OnErr, Some};
+ghost use Rattle.std.specs.Prelude.{◌≡◌, ◌&&◌, true, false, length, IfOk, OnOk, IsErrOf, OnErr, Some, None};
 ghost use Rattle.line_events.specs.declared.event.LineEvent.{LineEvent};
 ghost use Rattle.node_rules.specs.WalletRecords.{owner_of};
 ghost use Rattle.world_scene.specs.Events.{Tells};
 ghost use Rattle.world_tokens.specs.Tokens.{AreTypes};
 ghost use Rattle.lms_sign.specs.Types.{is_supported};
-ghost use Rattle.world_rules.specs.World.{owner_of_node, is_wallet_role};
-ghost use Rattle.world_rules.specs.Declarations.{may_be_wallet, may_be_other, declared_wallet, is_wallet_key};
+ghost use Rattle.world_rules.specs.World.{any_role, owner_of_node, is_wallet_role, rogue_named};
+ghost use Rattle.world_rules.specs.Declarations.{may_be_wallet, may_be_other, declared_wallet, is_declared, is_wallet_key};
 ghost use Rattle.world_rules.specs.Steps.{declares_wallet, declares_watcher, declares_rogue, with_new_node};
 ghost use Rattle.world_nodes.specs.Nodes.{Spells};
 ghost use Rattle.world_scene.specs.Scenes.{world_of, shown_of, shows};
@@ -53,24 +53,25 @@ impl<H: Hash32 + Copy> Scene<H> {
     {
         match entry.owner() {
             Some(owner) => LineEvent::Declares {
-                wallet: self.entries.len() as u64,
+                wallet: self.nodes.len() as u64,
                 owner,
             },
             None => LineEvent::Idle,
         }
     }
 
-    // One more node.
+    // One more node, whose name is new.
     fn add_node(&mut self, entry: Entry<H>) -> Result<(), NoMemory>
         requires spells { AllSpell self.old }
-        requires new { Spells entry }
+        requires new { is_declared any_role (world_of self.old) entry.node.name ≡ false }
+        requires spelled { Spells entry }
         requires hash { entry.hash ≡ self.old.hash }
         ensures world { OnOk result (world_of self.new ≡ with_new_node (world_of self.old) entry.node) }
         ensures spells { OnOk result (AllSpell self.new) }
         ensures grow { OnOk result (NodesGrow self.old self.new) }
         ensures same { OnErr result (self.new ≡ self.old) }
     {
-        self.entries.push(entry)?;
+        self.nodes.push(entry)?;
         Ok(())
     }
 
@@ -143,13 +144,13 @@ impl<H: Hash32 + Copy> Scene<H> {
         Ok(answer)
     }
 
-    // One more rogue.
+    // One more rogue, whose name is new.
     fn add_rogue(&mut self, rogue: Rogue) -> Result<(), NoMemory>
+        requires { rogue_named (world_of self.old) rogue.name ≡ None }
         ensures ok { OnOk result (self.new ≡ with_new_rogue self.old rogue) }
         ensures err { OnErr result (self.new ≡ self.old) }
     {
-        self.rogues.reserve(1)?;
-        self.rogues.push(rogue).unwrap();
+        self.rogues.push(rogue)?;
         Ok(())
     }
 

@@ -54,7 +54,7 @@ impl<H: Hash32 + Copy> Scene<H> {
         requires { n < length self.now.nodes }
         ensures { IfOk result (λ offer. OfferAt self.now.nodes n number offer) }
     {
-        copied(offer_at(&self.entries, n, number))
+        copied(offer_at(self.nodes.as_slice(), n, number))
     }
 
     // A copy of the call that a node offers by this number.

@@ -53,7 +53,7 @@ impl<H: Hash32 + Copy> Scene<H> {
         ensures { IfOk result (λ wallets.
             map named_of wallets.items ≡ wallets_from 0 (world_of self.now).nodes) }
     {
-        wallets_of(self.alloc, &self.entries)
+        wallets_of(self.alloc, self.nodes.as_slice())
     }
 
     /// Adds a mail item.

@@ -1,13 +1,13 @@
 ghost use Rattle.std.specs.Prelude.{◌≡◌, ◌&&◌, find, Some, IfOk, IfSome, is_some};
 ghost use Rattle.std.specs.Option.{option_map, option_copied};
 ghost use Rattle.line_forms.specs.Tokens.{IsHexOrName};
-ghost use Rattle.world_rules.specs.World.{owner_of_rogue, number_of, rogue_named, owner_named, new_owner_of, key_of, is_wallet_role};
+ghost use Rattle.world_rules.specs.World.{number_of, rogue_named, owner_named, new_owner_of, key_of, is_wallet_role};
 ghost use Rattle.world_rules.specs.Declarations.{is_declared, is_used};
 ghost use Rattle.world_scene.specs.Scenes.{world_of};
-ghost use Rattle.world_scene.specs.Names.{passes, has_kind, is_named_view, is_named_rogue, owner_in_view};
+ghost use Rattle.world_scene.specs.Names.{passes, has_kind, is_named_view, owner_in_view};
 
+use super::node_list::Nodes;
 use super::scene::Scene;
-use super::seeking::{Sought, place_of};
 use line_forms::HexOrName;
 use plasma_base::{Hash32, NoMemory};
 use plasma_tx::Owner;
@@ -49,31 +49,15 @@ pub(crate) fn is_named<H: Hash32 + Copy>(entry: &Entry<H>, may: Roles, name: &[u
     entry.name() == name && has_kind(may, entry.kind())
 }
 
-// The rogue with the name, lent.
-fn find_rogue<'a>(rogues: &'a [Rogue], name: &[u8]) -> Option<&'a Rogue>
-    ensures { option_copied result ≡ find (is_named_rogue name.now) rogues.now }
-{
-    rogues.iter().find(|rogue| rogue.name() == name)
-}
-
-// Who the wallet with the name is.
-fn wallet_owner<H: Hash32 + Copy>(entries: &[Entry<H>], name: &[u8]) -> Option<Owner>
-    ensures { result ≡ option_map owner_in_view (find (is_named_view Roles.Wallets name.now) entries.now) }
-{
-    let may = Roles::Wallets;
-    match place_of(entries, &Sought::Named { may, name }) {
-        Some(n) => entries[n].owner(),
-        None => None,
-    }
-}
-
-// The owner that the rogue with the name is.
-fn rogue_owner(rogues: &[Rogue], name: &[u8]) -> Result<Option<Owner>, NoMemory>
-    ensures { IfOk result (λ owner. owner ≡ option_map owner_of_rogue (find (is_named_rogue name.now) rogues.now)) }
-{
-    match find_rogue(rogues, name) {
-        Some(rogue) => Ok(Some(rogue.owner()?)),
-        None => Ok(None),
+impl<H: Hash32 + Copy> Nodes<H> {
+    // Who the wallet with the name is.
+    fn wallet_owner(&self, name: &[u8]) -> Option<Owner>
+        ensures { result ≡ option_map owner_in_view (find (is_named_view Roles.Wallets name.now) self.now) }
+    {
+        match self.place_of(Roles::Wallets, name) {
+            Some(n) => self.at(n).owner(),
+            None => None,
+        }
     }
 }
 
@@ -82,7 +66,7 @@ impl<H: Hash32 + Copy> Scene<H> {
     pub(crate) fn number_of(&self, may: Roles, name: &[u8]) -> Option<usize>
         ensures { result ≡ number_of (passes may) (world_of self.now) name.now }
     {
-        place_of(&self.entries, &Sought::Named { may, name })
+        self.nodes.place_of(may, name)
     }
 
     // Whether a node with the name is declared, with a role that passes.
@@ -96,7 +80,7 @@ impl<H: Hash32 + Copy> Scene<H> {
     pub(crate) fn rogue_named(&self, name: &[u8]) -> Option<&Rogue>
         ensures { option_copied result ≡ rogue_named (world_of self.now) name.now }
     {
-        find_rogue(&self.rogues, name)
+        self.rogues.named(name)
     }
 
     // Whether the name is a node's or a rogue's.
@@ -111,16 +95,16 @@ impl<H: Hash32 + Copy> Scene<H> {
         ensures declared { is_some result ≡ is_declared is_wallet_role (world_of self.now) name.now }
         ensures owner { IfSome result (λ owner. owner_named (world_of self.now) name.now ≡ Some owner) }
     {
-        wallet_owner(&self.entries, name)
+        self.nodes.wallet_owner(name)
     }
 
     // The owner that a name stands for: a wallet's, or a rogue's.
     pub(crate) fn owner_named(&self, name: &[u8]) -> Result<Option<Owner>, NoMemory>
         ensures { IfOk result (λ owner. owner ≡ owner_named (world_of self.now) name.now) }
     {
-        match wallet_owner(&self.entries, name) {
+        match self.nodes.wallet_owner(name) {
             Some(owner) => Ok(Some(owner)),
-            None => rogue_owner(&self.rogues, name),
+            None => self.rogues.owner_named(name),
         }
     }
 

@@ -159,7 +159,7 @@ impl<H: Hash32 + Copy> Scene<H> {
         requires names { NamesOwner command.now }
         ensures { IfOk result (λ order. OrderAt (world_of self.now) self.now.nodes n command.now order) }
     {
-        let kind = self.entries[n].kind();
+        let kind = self.nodes.at(n).kind();
         self.order_of(kind, command)
     }
 }

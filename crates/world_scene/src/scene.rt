@@ -1,9 +1,9 @@
+use super::node_list::Nodes;
+use super::rogues::Rogues;
 use plasma_base::{Bytes, Hash32};
 use root_contract::Contract;
 use std::alloc::Global;
 use std::marker::Model;
-use world_nodes::Entry;
-use world_tokens::Rogue;
 
 /// The world once the chain has begun: the contract, the nodes with their disks, the strangers that have names,
 /// and the mail. The operator is the first node.
@@ -12,8 +12,8 @@ pub struct Scene<H: Hash32 + Copy> {
     pub(crate) alloc: Global,
     pub(crate) hash: H,
     pub(crate) contract: Contract,
-    pub(crate) entries: Vec<Entry<H>>,
-    pub(crate) rogues: Vec<Rogue>,
+    pub(crate) nodes: Nodes<H>,
+    pub(crate) rogues: Rogues,
     // In the order of their lines.
     pub(crate) raw_callers: Vec<u64>,
     pub(crate) mail: Vec<Bytes>,
@@ -29,11 +29,11 @@ impl<H: Hash32 + Copy> Model for Scene<H> {
     ghost view = { λ s. record {
       hash = s.hash;
       chain = s.contract;
-      nodes = s.entries.items;
-      rogues = s.rogues.items;
+      nodes = s.nodes;
+      rogues = s.rogues;
       raw_callers = reverse s.raw_callers.items;
       mail = s.mail.items;
     } };
 
-    ghost invariant = { λ s. AllHash s.hash s.entries.items };
+    ghost invariant = { λ s. AllHash s.hash s.nodes };
 }

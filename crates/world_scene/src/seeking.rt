@@ -1,21 +1,16 @@
-ghost use Rattle.std.specs.Prelude.{◌≡◌, ◌<◌, length, IfSome};
-ghost use Rattle.std.specs.List.{list_any, position};
-ghost use Rattle.world_scene.specs.Names.{is_wallet_view, is_wallet_with, has_wallet_key, has_wallet_seed};
+ghost use Rattle.std.specs.Prelude.{◌≡◌};
+ghost use Rattle.std.specs.List.{list_any};
+ghost use Rattle.world_scene.specs.Names.{is_wallet_view, has_wallet_key, has_wallet_seed};
 ghost use Rattle.world_scene.specs.Seeking.{is_sought};
 
-use super::names::{Roles, is_named};
 use plasma_base::Hash32;
 use world_nodes::{Entry, NodeKind};
 
-/// What is looked for among the nodes.
+/// What is looked for among the nodes, where a wallet is declared.
 #[derive(Drop)]
 pub enum Sought<'a> {
-    /// A node with the name, whose role passes.
-    Named { may: Roles, name: &'a [u8] },
     /// A node with the account.
     Account { account: u64 },
-    /// A wallet with the account.
-    WalletAccount { account: u64 },
     /// A wallet with the key.
     Key { key: &'a [u8; 56] },
     /// A wallet with the seed.
@@ -27,13 +22,6 @@ pub(crate) fn is_wallet<H: Hash32 + Copy>(entry: &Entry<H>) -> bool
     ensures { result ≡ is_wallet_view entry.now }
 {
     entry.kind() == NodeKind::Wallet
-}
-
-// Whether it is a wallet with this account.
-fn has_account<H: Hash32 + Copy>(entry: &Entry<H>, account: u64) -> bool
-    ensures { result ≡ is_wallet_with account entry.now }
-{
-    is_wallet(entry) && entry.account() == account
 }
 
 // Whether it is a wallet with this key.
@@ -61,30 +49,20 @@ fn is_sought<H: Hash32 + Copy>(entry: &Entry<H>, sought: &Sought<'_>) -> bool
     ensures { result ≡ is_sought sought.now entry.now }
 {
     match sought {
-        Sought::Named { may, name } => is_named(entry, *may, name),
         Sought::Account { account } => entry.account() == *account,
-        Sought::WalletAccount { account } => has_account(entry, *account),
         Sought::Key { key } => has_key(entry, key),
         Sought::Seed { seed } => has_seed(entry, seed),
     }
-}
-
-// The place of the first node that is looked for.
-pub(crate) fn place_of<H: Hash32 + Copy>(entries: &[Entry<H>], sought: &Sought<'_>) -> Option<usize>
-    ensures place { result ≡ position (is_sought sought.now) entries.now }
-    ensures within { IfSome result (λ n. n < length entries.now) }
-{
-    for (i, entry) in entries.iter().enumerate() {
-        if is_sought(entry, sought) {
-            return Some(i);
-        }
-    }
-    None
 }
 
 // Whether there is a node that is looked for.
 pub(crate) fn is_there<H: Hash32 + Copy>(entries: &[Entry<H>], sought: &Sought<'_>) -> bool
     ensures { result ≡ list_any (is_sought sought.now) entries.now }
 {
-    place_of(entries, sought).is_some()
+    for entry in entries {
+        if is_sought(entry, sought) {
+            return true;
+        }
+    }
+    false
 }

@@ -15,8 +15,8 @@ returns-clause-shows g c =
     let before : SceneState g.row.H.Denot = record {
       hash = c.self.inside.hash;
       chain = c.self.inside.contract;
-      nodes = c.self.inside.entries.items;
-      rogues = c.self.inside.rogues.items;
+      nodes = c.self.inside.nodes;
+      rogues = c.self.inside.rogues;
       raw_callers = reverse c.self.inside.raw_callers.items;
       mail = c.self.inside.mail.items;
     } in
@@ -35,8 +35,8 @@ returns-clause-tells g c =
     let before : SceneState g.row.H.Denot = record {
       hash = c.self.inside.hash;
       chain = chain;
-      nodes = c.self.inside.entries.items;
-      rogues = c.self.inside.rogues.items;
+      nodes = c.self.inside.nodes;
+      rogues = c.self.inside.rogues;
       raw_callers = reverse c.self.inside.raw_callers.items;
       mail = c.self.inside.mail.items;
     } in

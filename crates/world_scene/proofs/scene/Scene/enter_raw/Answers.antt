@@ -13,8 +13,8 @@ returns-clause-shows g c =
     let pushed : SceneState g.row.H.Denot = record {
       hash = c.self.inside.hash;
       chain = c.self.inside.contract;
-      nodes = c.self.inside.entries.items;
-      rogues = c.self.inside.rogues.items;
+      nodes = c.self.inside.nodes;
+      rogues = c.self.inside.rogues;
       raw_callers = reverse c.push.new.self.items;
       mail = c.self.inside.mail.items;
     } in
@@ -30,8 +30,8 @@ returns-clause-tells g c =
     let pushed : SceneState g.row.H.Denot = record {
       hash = c.self.inside.hash;
       chain = c.self.inside.contract;
-      nodes = c.self.inside.entries.items;
-      rogues = c.self.inside.rogues.items;
+      nodes = c.self.inside.nodes;
+      rogues = c.self.inside.rogues;
       raw_callers = reverse c.push.new.self.items;
       mail = c.self.inside.mail.items;
     } in

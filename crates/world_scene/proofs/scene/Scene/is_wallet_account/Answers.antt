@@ -1,11 +1,13 @@
-use Rattle.std.proofs.Common.{sym, ap, ◌∙◌}
+use Rattle.std.proofs.Common.{ap, ◌∙◌}
 use Rattle.std.specs.List.{list_any}
-use Rattle.world_scene.specs.Names.{is_wallet_with}
-use Rattle.world_scene.proofs.Views.{wallet_account_view}
+use Rattle.world_scene.specs.Names.{is_same_account}
+use Rattle.world_scene.specs.Indexed.{all_declared, wallet_accounts}
+use Rattle.world_scene.proofs.Index.{account_listed}
 use Rattle.world_scene.proofs.scene.Scene.is_wallet_account.Goals as goal
 
 pub returns : goal.returns
 returns g c =
-    c.is_there.ensures ∙ ap (list_any (is_wallet_with c.args.account)) c.deref.ensures.value
-    ∙ ap (λ scene. list_any (is_wallet_with c.args.account) scene.nodes) c.self.view_is
-    ∙ sym (wallet_account_view c.args.self.now c.args.account)
+    c.is_wallet_account.ensures
+    ∙ ap (λ scene. list_any (is_same_account c.args.account) (wallet_accounts (all_declared scene.nodes)))
+    c.self.view_is
+    ∙ account_listed c.args.self.now c.args.account

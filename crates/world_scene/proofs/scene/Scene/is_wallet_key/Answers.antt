@@ -6,6 +6,6 @@ use Rattle.world_scene.proofs.scene.Scene.is_wallet_key.Goals as goal
 
 pub returns : goal.returns
 returns g c =
-    c.is_there.ensures ∙ ap (list_any (has_wallet_key c.args.key.now)) c.deref.ensures.value
+    c.is_there.ensures ∙ ap (list_any (has_wallet_key c.args.key.now)) c.as_slice.ensures
     ∙ ap (λ scene. list_any (has_wallet_key c.args.key.now) scene.nodes) c.self.view_is
     ∙ sym (wallet_key_view c.args.self.now c.args.key.now)

@@ -10,6 +10,6 @@ returns g c =
     IfOk-weaker c.copied.result (λ copy. copy ≡ option_copied c.offer_at.result)
     (λ offer. OfferAt c.args.self.now.nodes c.args.n c.args.number offer)
     (λ copy is view at. c.offer_at.ensures view
-    (ap (λ entries. slice_get entries c.args.n) c.deref.ensures.value
+    (ap (λ entries. slice_get entries c.args.n) c.as_slice.ensures
     ∙ ap (λ scene. slice_get scene.nodes c.args.n) c.self.view_is ∙ at) ∙ sym is)
     c.copied.ensures

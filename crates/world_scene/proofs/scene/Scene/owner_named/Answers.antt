@@ -13,20 +13,17 @@ returns-in-Some g c =
     let name = c.args.name.now in
     ap (λ o. option_or o (option_map owner_of_rogue (find (is_named_rogue name) c.args.self.now.rogues)))
     (sym c.in-Some.is ∙ c.wallet_owner.ensures
-    ∙ ap (λ nodes. option_map owner_in_view (find (is_named_view Roles.Wallets name) nodes)) c.deref.ensures.value
     ∙ ap (λ scene. option_map owner_in_view (find (is_named_view Roles.Wallets name) scene.nodes)) c.self.view_is)
     ∙ sym (owner_named_view c.args.self.now name)
 
 pub returns-in-None : goal.returns-in-None
 returns-in-None g c =
     let name = c.args.name.now in
-    IfOk-weaker c.rogue_owner.result _ _
+    IfOk-weaker c.owner_named.result _ _
     (λ owner is. is
-    ∙ ap (λ rogues. option_map owner_of_rogue (find (is_named_rogue name) rogues)) c.deref-in-None.ensures.value
     ∙ ap (λ scene. option_map owner_of_rogue (find (is_named_rogue name) scene.rogues)) c.self.view_is
     ∙ ap (λ o. option_or o (option_map owner_of_rogue (find (is_named_rogue name) c.args.self.now.rogues)))
     (sym c.in-None.is ∙ c.wallet_owner.ensures
-    ∙ ap (λ nodes. option_map owner_in_view (find (is_named_view Roles.Wallets name) nodes)) c.deref.ensures.value
     ∙ ap (λ scene. option_map owner_in_view (find (is_named_view Roles.Wallets name) scene.nodes)) c.self.view_is)
     ∙ sym (owner_named_view c.args.self.now name))
-    c.rogue_owner.ensures
+    c.owner_named.ensures

@@ -9,7 +9,6 @@ pub returns-clause-declared : goal.returns-clause-declared
 returns-clause-declared g c =
     let name = c.args.name.now in
     ap is_some (c.wallet_owner.ensures
-    ∙ ap (λ nodes. option_map owner_in_view (find (is_named_view Roles.Wallets name) nodes)) c.deref.ensures.value
     ∙ ap (λ scene. option_map owner_in_view (find (is_named_view Roles.Wallets name) scene.nodes)) c.self.view_is)
     ∙ wallet_is_declared c.args.self.now name
 
@@ -17,5 +16,4 @@ pub returns-clause-owner : goal.returns-clause-owner
 returns-clause-owner g c =
     let name = c.args.name.now in
     owner_is_named c.args.self.now name c.wallet_owner.result (c.wallet_owner.ensures
-    ∙ ap (λ nodes. option_map owner_in_view (find (is_named_view Roles.Wallets name) nodes)) c.deref.ensures.value
     ∙ ap (λ scene. option_map owner_in_view (find (is_named_view Roles.Wallets name) scene.nodes)) c.self.view_is)

@@ -8,8 +8,8 @@ use Rattle.world_scene.proofs.scene.Scene.wallets.Goals as goal
 pub returns : goal.returns
 returns g c =
     IfOk-weaker c.wallets_of.result
-    (λ found. map named_of found.items ≡ wallets_from 0 (map node_in c.deref.result.now))
+    (λ found. map named_of found.items ≡ wallets_from 0 (map node_in c.as_slice.result.now))
     (λ found. map named_of found.items ≡ wallets_from 0 (world_of c.args.self.now).nodes)
-    (λ found are. are ∙ ap (λ entries. wallets_from 0 (map node_in entries)) c.deref.ensures.value
+    (λ found are. are ∙ ap (λ entries. wallets_from 0 (map node_in entries)) c.as_slice.ensures
     ∙ ap (λ scene. wallets_from 0 (map node_in scene.nodes)) c.self.view_is)
     c.wallets_of.ensures

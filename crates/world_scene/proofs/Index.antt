@@ -1,0 +1,213 @@
+-- What is kept of nodes stays true of them.
+use Rattle.std.proofs.Common.{◌≡◌, refl, sym, ap, subst, ◌∙◌, ℕ, Bool, true, false, ◌&&◌, if◌then◌else◌, List, [], ◌∷◌, ◌++◌, map, filter, set, length, Some, None}
+use Rattle.std.specs.Prelude.{MatchBool, option_map, slice_get}
+use Rattle.std.specs.List.{position, list_any}
+use Rattle.std.specs.Str.{bytes_eq}
+use Rattle.std.proofs.Math.Seq.{map-set_same}
+use Rattle.std.proofs.lemmas.Bool.{and_parts}
+use Rattle.std.proofs.lemmas.List.{map-append, length-map}
+use Rattle.std.proofs.lemmas.List.Elements.{filter-append}
+use Rattle.std.proofs.lemmas.Option.{none-some, slice_get-map, get_or_from_slice_get}
+use Rattle.std.proofs.lemmas.Slice.Eq.{bytes_eq-Decides}
+use Rattle.crash_disk.specs.declared.outcome.Outcome.{Outcome}
+use Rattle.plasma_tx.specs.declared.call.RootCall.{RootCall}
+use Rattle.world_rules.specs.World.{Node}
+use Rattle.world_rules.specs.Declarations.{is_wallet_account, wallet_nodes}
+use Rattle.world_rules.specs.Deeds.{Deed}
+use Rattle.world_rules.specs.Steps.{with_records, after_crash}
+use Rattle.world_trace.specs.declared.given.Given.{Given}
+use Rattle.world_nodes.specs.declared.order.NodeOrder.{NodeOrder}
+use Rattle.world_nodes.specs.declared.order.CutEnd.{CutEnd}
+use Rattle.world_nodes.specs.declared.order.CutEnd.TheVariants.{Down, Stopped, Done}
+use Rattle.world_nodes.specs.Orders.{order_deed}
+use Rattle.world_nodes.specs.Nodes.{NodeView, answers_down, Runs, IsDown, IsDone}
+use Rattle.world_nodes.specs.Cuts.{Cuts, is_kept}
+use Rattle.world_scene.specs.declared.names.Roles.{Roles}
+use Rattle.world_scene.specs.declared.places.Places.{Places}
+use Rattle.world_scene.specs.Names.{passes, is_named_view, is_same_account}
+use Rattle.world_scene.specs.Places.{place_in, PutsPlace, FindsEach}
+use Rattle.world_scene.specs.Indexed.{Declared, declared_as, all_declared, is_wallet_there, wallet_accounts, IsIndexed}
+use Rattle.world_scene.specs.Scenes.{SceneState, world_of}
+use Rattle.world_scene.specs.Steps.{RunsAt, CrashesAt, CutsAt}
+use Rattle.world_scene.proofs.Finding.{none_passes, none_named, none_there, other_there, found_there, finds_more}
+use Rattle.world_scene.proofs.Views.{position_map, any_map, any_filter, count_filter, wallets_view, wallet_account_view}
+
+-- ---- looking up
+
+-- a node with the name, and a role that passes, of what it was declared as
+abbrev is_named_there : Roles → List ℕ → Declared → Bool
+is_named_there may name declared = bytes_eq declared.name name && passes may declared.role
+
+module _ {H : Type 0} (places : Places) (views : List (NodeView H))
+    (finds : FindsEach places (λ declared. declared.name) (all_declared views)) (may : Roles) (name : List ℕ) where
+  has_name : (declared : Declared) → is_named_there may name declared ≡ true → declared.name ≡ name
+  has_name declared is =
+      (bytes_eq-Decides declared.name name).0
+      (and_parts (bytes_eq declared.name name) (passes may declared.role) is).0
+
+  of_views : position (is_named_there may name) (all_declared views) ≡ position (is_named_view may name) views
+  of_views = position_map (is_named_there may name) (λ (view : NodeView H). declared_as view.node) views
+
+  of_view : (n : ℕ) → slice_get (all_declared views) n
+      ≡ option_map (λ (view : NodeView H). declared_as view.node) (slice_get views n)
+  of_view n = slice_get-map (λ (view : NodeView H). declared_as view.node) views n
+
+  pub no_place : place_in places name ≡ None → position (is_named_view may name) views ≡ None
+  no_place none =
+      sym of_views
+      ∙ none_named (place_in places) (λ declared. declared.name) (all_declared views) finds name
+      (is_named_there may name) has_name none
+
+  module _ (n : ℕ) (placed : place_in places name ≡ Some n) where
+    pub no_node : slice_get views n ≡ None → position (is_named_view may name) views ≡ None
+    no_node none =
+        sym of_views
+        ∙ none_there (place_in places) (λ declared. declared.name) (all_declared views) finds name
+        (is_named_there may name) has_name n
+        placed (of_view n ∙ ap (option_map (λ (view : NodeView H). declared_as view.node)) none)
+
+    module _ (view : NodeView H) (at : slice_get views n ≡ Some view) where
+      stands : slice_get (all_declared views) n ≡ Some (declared_as view.node)
+      stands = of_view n ∙ ap (option_map (λ (view : NodeView H). declared_as view.node)) at
+
+      pub other_node : is_named_view may name view ≡ false → position (is_named_view may name) views ≡ None
+      other_node fails =
+          sym of_views
+          ∙ other_there (place_in places) (λ declared. declared.name) (all_declared views) finds name
+          (is_named_there may name) has_name n
+          placed (declared_as view.node) stands fails
+
+      pub that_node : is_named_view may name view ≡ true → position (is_named_view may name) views ≡ Some n
+      that_node passes' =
+          sym of_views
+          ∙ found_there (place_in places) (λ declared. declared.name) (all_declared views) finds name
+          (is_named_there may name) has_name n
+          placed (declared_as view.node) stands passes'
+
+-- ---- one more node
+
+with_true : (b : Bool) → b ≡ (b && true)
+with_true true = refl
+with_true false = refl
+
+accounts_more : (all : List Declared) (declared : Declared)
+    → wallet_accounts (all ++ declared ∷ []) ≡ wallet_accounts all ++ wallet_accounts (declared ∷ [])
+accounts_more all declared =
+    ap (map (λ (one : Declared). one.account)) (filter-append is_wallet_there all (declared ∷ []))
+    ∙ map-append (λ (one : Declared). one.account) (filter is_wallet_there all) (filter is_wallet_there (declared ∷ []))
+
+-- the places of names are others that say the same
+pub places_same : (old new : Places) (accounts : List ℕ) (all : List Declared)
+    → ((name : List ℕ) → place_in new name ≡ place_in old name) → IsIndexed old accounts all
+    → IsIndexed new accounts all
+places_same old new accounts all same it = record {
+  names = λ n declared at. same declared.name ∙ it.names n declared at;
+  wallets = it.wallets;
+}
+
+-- nothing is kept of no node
+pub no_nodes : {H : Type 0} (places : Places) (accounts : List ℕ) (views : List (NodeView H)) → accounts ≡ []
+    → views ≡ [] → IsIndexed places accounts (all_declared views)
+no_nodes places accounts views no_accounts none =
+    subst (λ all. IsIndexed places accounts (all_declared all)) (sym none) (record {
+      names = λ n declared at. absurd (none-some declared at);
+      wallets = no_accounts;
+    })
+
+pub one_more : {H : Type 0} (old new : Places) (accounts more : List ℕ) (views : List (NodeView H)) (view : NodeView H)
+    → PutsPlace old view.node.name (length views) new
+    → position (is_named_view Roles.Any view.node.name) views ≡ None
+    → more ≡ accounts ++ wallet_accounts (declared_as view.node ∷ [])
+    → IsIndexed old accounts (all_declared views)
+    → IsIndexed new more (all_declared (views ++ view ∷ []))
+one_more {H} old new accounts more views view puts fresh accounts_are it =
+    let declare = λ (one : NodeView H). declared_as one.node in
+    subst (IsIndexed new more) (sym (map-append declare views (view ∷ []))) (record {
+      names = finds_more old new (λ declared. declared.name) (all_declared views) (declared_as view.node) it.names
+          (subst (λ n. PutsPlace old view.node.name n new) (sym (length-map views declare)) puts)
+          (λ n found at. with_true (bytes_eq found.name view.node.name)
+          ∙ none_passes (is_named_there Roles.Any view.node.name) (all_declared views)
+          (position_map (is_named_there Roles.Any view.node.name) declare views ∙ fresh) n found at);
+      wallets = accounts_are
+          ∙ ap (λ before. before ++ wallet_accounts (declared_as view.node ∷ [])) it.wallets
+          ∙ sym (accounts_more (all_declared views) (declared_as view.node));
+    })
+
+-- ---- what a node does
+
+ran_as : {H : Type 0} (dig : List ℕ → List ℕ) (log : List RootCall) (n : ℕ) (order : NodeOrder) (before : NodeView H)
+    (given : Given) (after : NodeView H) → Runs dig log n order before given after
+    → declared_as after.node ≡ declared_as before.node
+ran_as {H} dig log n order before given after = by (answers_down order before.node)
+  where
+    by : (down : Bool) → MatchBool down (IsDown before given after)
+        (IsDone order (order_deed dig log n before.node order) before given after)
+        → declared_as after.node ≡ declared_as before.node
+    by true it = ap (λ (view : NodeView H). declared_as view.node) it.stays
+    by false it = ap declared_as it.node
+
+stopped_as : (kept : Bool) (node : Node) (deed : Deed)
+    → declared_as (after_crash (if kept then with_records node deed else node)) ≡ declared_as node
+stopped_as true node deed = refl
+stopped_as false node deed = refl
+
+cut_as : {H : Type 0} (dig : List ℕ → List ℕ) (log : List RootCall) (n calls : ℕ) (outcome : Outcome)
+    (order : NodeOrder) (before : NodeView H) (end : CutEnd) (after : NodeView H)
+    → Cuts dig log n calls outcome order before end after
+    → declared_as after.node ≡ declared_as before.node
+cut_as {H} dig log n calls outcome order before Down after it =
+    ap (λ (view : NodeView H). declared_as view.node) it.1
+cut_as dig log n calls outcome order before (Stopped kept) after it =
+    ap declared_as it.node
+    ∙ stopped_as (is_kept calls outcome order) before.node (order_deed dig log n before.node order)
+cut_as dig log n calls outcome order before (Done given) after it = ap declared_as it.1.node
+
+module _ {H : Type 0} (places : Places) (accounts : List ℕ) (old new : List (NodeView H))
+    (it : IsIndexed places accounts (all_declared old)) where
+  set_at : (n : ℕ) (before after : NodeView H) → slice_get old n ≡ Some before → new ≡ set old n after
+      → declared_as after.node ≡ declared_as before.node → IsIndexed places accounts (all_declared new)
+  set_at n before after stood is same =
+      let declare = λ (view : NodeView H). declared_as view.node in
+      subst (IsIndexed places accounts)
+      (sym (ap (all_declared {H = H}) is
+      ∙ map-set_same declare old n after before
+      (same ∙ ap declare (sym (get_or_from_slice_get old n before before stood)))))
+      it
+
+  pub ran_index : (digest : H → List ℕ → List ℕ) (log : List RootCall) (n : ℕ) (order : NodeOrder) (given : Given)
+      → RunsAt digest log n order old given new → IsIndexed places accounts (all_declared new)
+  ran_index digest log n order given ran =
+      set_at n ran.before ran.after ran.stood ran.is
+      (ran_as (digest ran.before.hash) log n order ran.before given ran.after ran.runs)
+
+  pub crashed_index : (n : ℕ) (outcome : Outcome) → CrashesAt n outcome old new
+      → IsIndexed places accounts (all_declared new)
+  crashed_index n outcome crashed =
+      set_at n crashed.before crashed.after crashed.stood crashed.is (ap declared_as crashed.crashes.node)
+
+  pub cut_index : (digest : H → List ℕ → List ℕ) (log : List RootCall) (n calls : ℕ) (outcome : Outcome)
+      (order : NodeOrder) (end : CutEnd) → CutsAt digest log n calls outcome order old end new
+      → IsIndexed places accounts (all_declared new)
+  cut_index digest log n calls outcome order end cut =
+      set_at n cut.before cut.after cut.stood cut.is
+      (cut_as (digest cut.before.hash) log n calls outcome order cut.before end cut.after cut.cuts)
+
+-- ---- wallets
+
+module _ {H : Type 0} (scene : SceneState H) where
+  -- as many accounts as wallets
+  pub wallets_counted : length (wallet_accounts (all_declared scene.nodes)) ≡ length (wallet_nodes (world_of scene))
+  wallets_counted =
+      length-map (filter is_wallet_there (all_declared scene.nodes)) (λ (declared : Declared). declared.account)
+      ∙ count_filter is_wallet_there (λ (view : NodeView H). declared_as view.node) scene.nodes
+      ∙ sym (wallets_view scene)
+
+  -- an account is among them where it is a wallet's
+  pub account_listed : (account : ℕ) → list_any (is_same_account account) (wallet_accounts (all_declared scene.nodes))
+      ≡ is_wallet_account (world_of scene) account
+  account_listed account =
+      any_map (is_same_account account) (λ (declared : Declared). declared.account)
+      (filter is_wallet_there (all_declared scene.nodes))
+      ∙ any_filter (λ (declared : Declared). is_same_account account declared.account) is_wallet_there
+      (λ (view : NodeView H). declared_as view.node) scene.nodes
+      ∙ sym (wallet_account_view scene account)
