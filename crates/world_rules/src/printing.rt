@@ -1,21 +1,19 @@
-ghost use Rattle.std.specs.Prelude.{◌≡◌, ◌++◌, ◌∷◌, codes, OnOk, OnErr};
+ghost use Rattle.std.specs.Prelude.{◌≡◌, ◌++◌, ◌∷◌, codes, length, take, OnOk, OnErr};
 ghost use Rattle.plasma_base.specs.HexText.{hex_text};
 ghost use Rattle.world_rules.specs.Texts.{reply_text, trace_line_text, verdict_kind_text, verdict_text, exhibit_words, exhibit_text};
 
 use super::replies::push_reply;
 use super::reply::{Reply, TraceLine};
 use super::verdict::{Exhibit, Verdict, VerdictKind};
-use super::words::{push_phrase, push_words};
+use super::words::{push_phrase, push_words, whole};
 use line_forms::push_number;
 use plasma_base::{NoMemory, push_hex};
 
-// The bytes that most lines of a trace have room in, so that room is taken once for each.
-const USUAL_LENGTH: usize = 64;
-
-#[tactic(auto, unfolding(crate::specs::Texts::trace_line_text))]
+#[tactic(auto, using(line_forms::proofs::PrintLaws::fronts), unfolding(crate::specs::Texts::trace_line_text))]
 fn push_line(out: &mut Vec<u8>, line: &TraceLine) -> Result<(), NoMemory>
-    ensures { OnOk result
+    ensures ok { OnOk result
         (out.new.items ≡ out.old.items ++ trace_line_text line.now.line line.now.done line.now.answer) }
+    ensures front { take (length out.old.items) out.new.items ≡ out.old.items }
 {
     push_number(out, line.line)?;
     out.push(b' ')?;
@@ -28,7 +26,8 @@ fn push_line(out: &mut Vec<u8>, line: &TraceLine) -> Result<(), NoMemory>
 }
 
 fn push_kind(out: &mut Vec<u8>, kind: VerdictKind) -> Result<(), NoMemory>
-    ensures { OnOk result (out.new.items ≡ out.old.items ++ verdict_kind_text kind) }
+    ensures ok { OnOk result (out.new.items ≡ out.old.items ++ verdict_kind_text kind) }
+    ensures front { take (length out.old.items) out.new.items ≡ out.old.items }
 {
     match kind {
         VerdictKind::Held => push_words(out, b"held"),
@@ -39,9 +38,10 @@ fn push_kind(out: &mut Vec<u8>, kind: VerdictKind) -> Result<(), NoMemory>
     }
 }
 
-#[tactic(auto, unfolding(crate::specs::Texts::verdict_text))]
+#[tactic(auto, using(line_forms::proofs::PrintLaws::fronts), unfolding(crate::specs::Texts::verdict_text))]
 fn push_verdict(out: &mut Vec<u8>, verdict: &Verdict) -> Result<(), NoMemory>
-    ensures { OnOk result (out.new.items ≡ out.old.items ++ verdict_text verdict.now) }
+    ensures ok { OnOk result (out.new.items ≡ out.old.items ++ verdict_text verdict.now) }
+    ensures front { take (length out.old.items) out.new.items ≡ out.old.items }
 {
     push_phrase(out, verdict.wallet.as_slice(), &[verdict.coin])?;
     out.push(b' ')?;
@@ -50,9 +50,10 @@ fn push_verdict(out: &mut Vec<u8>, verdict: &Verdict) -> Result<(), NoMemory>
     Ok(())
 }
 
-#[tactic(auto, unfolding(crate::specs::Texts::exhibit_text))]
+#[tactic(auto, using(line_forms::proofs::PrintLaws::fronts), unfolding(crate::specs::Texts::exhibit_text))]
 fn push_exhibit(out: &mut Vec<u8>, exhibit: &Exhibit) -> Result<(), NoMemory>
-    ensures { OnOk result (out.new.items ≡ out.old.items ++ exhibit_text exhibit.now) }
+    ensures ok { OnOk result (out.new.items ≡ out.old.items ++ exhibit_text exhibit.now) }
+    ensures front { take (length out.old.items) out.new.items ≡ out.old.items }
 {
     push_exhibit_words(out, exhibit)?;
     out.push(b'\n')?;
@@ -60,7 +61,8 @@ fn push_exhibit(out: &mut Vec<u8>, exhibit: &Exhibit) -> Result<(), NoMemory>
 }
 
 fn push_exhibit_words(out: &mut Vec<u8>, exhibit: &Exhibit) -> Result<(), NoMemory>
-    ensures { OnOk result (out.new.items ≡ out.old.items ++ exhibit_words exhibit.now) }
+    ensures ok { OnOk result (out.new.items ≡ out.old.items ++ exhibit_words exhibit.now) }
+    ensures front { take (length out.old.items) out.new.items ≡ out.old.items }
 {
     match exhibit {
         Exhibit::Nothing => push_words(out, b"no exhibit"),
@@ -73,9 +75,11 @@ fn push_exhibit_words(out: &mut Vec<u8>, exhibit: &Exhibit) -> Result<(), NoMemo
     }
 }
 
+#[tactic(auto, using(line_forms::proofs::PrintLaws::fronts))]
 fn push_collision(out: &mut Vec<u8>, first: &[u8], second: &[u8]) -> Result<(), NoMemory>
-    ensures { OnOk result (out.new.items
+    ensures ok { OnOk result (out.new.items
         ≡ out.old.items ++ codes "collision " ++ hex_text first.now ++ 32 ∷ hex_text second.now) }
+    ensures front { take (length out.old.items) out.new.items ≡ out.old.items }
 {
     push_words(out, b"collision ")?;
     push_hex(out, first)?;
@@ -90,10 +94,9 @@ pub fn print_line(line: &TraceLine, out: &mut Vec<u8>) -> Result<(), NoMemory>
         (out.new.items ≡ out.old.items ++ trace_line_text line.now.line line.now.done line.now.answer) }
     ensures err { OnErr result (out.new.items ≡ out.old.items) }
 {
-    let mut text = Vec::with_capacity(*out.allocator(), USUAL_LENGTH)?;
-    push_line(&mut text, line)?;
-    out.extend_from_slice(text.as_slice())?;
-    Ok(())
+    let before = out.len();
+    let put = push_line(out, line);
+    whole(out, before, put)
 }
 
 /// Puts an answer at the end, as a trace line has it behind its number, without a line feed. Where memory runs out
@@ -102,10 +105,9 @@ pub fn print_reply(reply: &Reply, out: &mut Vec<u8>) -> Result<(), NoMemory>
     ensures ok { OnOk result (out.new.items ≡ out.old.items ++ reply_text reply.now) }
     ensures err { OnErr result (out.new.items ≡ out.old.items) }
 {
-    let mut text = Vec::with_capacity(*out.allocator(), USUAL_LENGTH)?;
-    push_reply(&mut text, reply)?;
-    out.extend_from_slice(text.as_slice())?;
-    Ok(())
+    let before = out.len();
+    let put = push_reply(out, reply);
+    whole(out, before, put)
 }
 
 /// Puts a verdict line at the end: the wallet's name, the coin and the kind, each after a blank, and a line
@@ -114,10 +116,9 @@ pub fn print_verdict(verdict: &Verdict, out: &mut Vec<u8>) -> Result<(), NoMemor
     ensures ok { OnOk result (out.new.items ≡ out.old.items ++ verdict_text verdict.now) }
     ensures err { OnErr result (out.new.items ≡ out.old.items) }
 {
-    let mut text = Vec::with_capacity(*out.allocator(), USUAL_LENGTH)?;
-    push_verdict(&mut text, verdict)?;
-    out.extend_from_slice(text.as_slice())?;
-    Ok(())
+    let before = out.len();
+    let put = push_verdict(out, verdict);
+    whole(out, before, put)
 }
 
 /// Puts the exhibit line at the end, with its line feed. Where memory runs out nothing changes.
@@ -125,8 +126,7 @@ pub fn print_exhibit(exhibit: &Exhibit, out: &mut Vec<u8>) -> Result<(), NoMemor
     ensures ok { OnOk result (out.new.items ≡ out.old.items ++ exhibit_text exhibit.now) }
     ensures err { OnErr result (out.new.items ≡ out.old.items) }
 {
-    let mut text = Vec::new(*out.allocator());
-    push_exhibit(&mut text, exhibit)?;
-    out.extend_from_slice(text.as_slice())?;
-    Ok(())
+    let before = out.len();
+    let put = push_exhibit(out, exhibit);
+    whole(out, before, put)
 }

@@ -1,4 +1,4 @@
-ghost use Rattle.std.specs.Prelude.{◌≡◌, ◌++◌, codes, OnOk};
+ghost use Rattle.std.specs.Prelude.{◌≡◌, ◌++◌, codes, length, take, OnOk};
 ghost use Rattle.world_rules.specs.Texts.{kind_text, offers_text, reply_text};
 
 use super::reply::{OfferKind, Reply};
@@ -6,7 +6,8 @@ use super::words::{push_phrase, push_words};
 use plasma_base::NoMemory;
 
 fn push_kind(out: &mut Vec<u8>, kind: OfferKind) -> Result<(), NoMemory>
-    ensures { OnOk result (out.new.items ≡ out.old.items ++ kind_text kind) }
+    ensures ok { OnOk result (out.new.items ≡ out.old.items ++ kind_text kind) }
+    ensures front { take (length out.old.items) out.new.items ≡ out.old.items }
 {
     match kind {
         OfferKind::After => push_words(out, b"after"),
@@ -16,8 +17,10 @@ fn push_kind(out: &mut Vec<u8>, kind: OfferKind) -> Result<(), NoMemory>
     }
 }
 
+#[tactic(auto, using(line_forms::proofs::PrintLaws::fronts))]
 fn push_offers(out: &mut Vec<u8>, kinds: &[OfferKind]) -> Result<(), NoMemory>
-    ensures { OnOk result (out.new.items ≡ out.old.items ++ offers_text kinds.now) }
+    ensures ok { OnOk result (out.new.items ≡ out.old.items ++ offers_text kinds.now) }
+    ensures front { take (length out.old.items) out.new.items ≡ out.old.items }
 {
     push_phrase(out, b"offers", &[kinds.len() as u64])?;
     for kind in kinds {
@@ -27,17 +30,20 @@ fn push_offers(out: &mut Vec<u8>, kinds: &[OfferKind]) -> Result<(), NoMemory>
     Ok(())
 }
 
+#[tactic(auto, using(line_forms::proofs::PrintLaws::fronts))]
 fn push_refused(out: &mut Vec<u8>, cause: &[u8]) -> Result<(), NoMemory>
-    ensures { OnOk result (out.new.items ≡ out.old.items ++ codes "refused " ++ cause.now) }
+    ensures ok { OnOk result (out.new.items ≡ out.old.items ++ codes "refused " ++ cause.now) }
+    ensures front { take (length out.old.items) out.new.items ≡ out.old.items }
 {
     push_words(out, b"refused ")?;
     push_words(out, cause)
 }
 
-/// Puts an answer at the end.
+/// Puts an answer at the end. Where memory runs out some of it may stand there.
 #[tactic(auto, unfolding(crate::specs::Texts::reply_text))]
 pub fn push_reply(out: &mut Vec<u8>, reply: &Reply) -> Result<(), NoMemory>
-    ensures { OnOk result (out.new.items ≡ out.old.items ++ reply_text reply.now) }
+    ensures ok { OnOk result (out.new.items ≡ out.old.items ++ reply_text reply.now) }
+    ensures front { take (length out.old.items) out.new.items ≡ out.old.items }
 {
     match reply {
         Reply::Chain => push_words(out, b"chain"),
