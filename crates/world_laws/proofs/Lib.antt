@@ -39,6 +39,7 @@ pub mod Looks
 pub mod Safe
 pub mod Unseen
 pub mod Attended
+pub mod Often
 pub mod OneHolder
 pub mod DueTaken
 pub mod Exhibited
@@ -54,6 +55,7 @@ pub mod SignedRuns
 pub mod Samples
 pub mod OwnExitSamples
 pub mod AttendanceSamples
+pub mod LookedSamples
 pub mod ExhibitSamples
 pub mod BundleTaken
 pub mod OperatorLines
