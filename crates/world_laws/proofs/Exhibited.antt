@@ -16,7 +16,7 @@ use Rattle.world_rules.specs.Events.{Event, Declares, Joins, Accepts, Guards, Ta
 use Rattle.world_rules.specs.Exhibits.{Pair, openings_of, coin_of, seen, strings_of, strings_shown, all_strings, do_clash, has_clash, clash_with, first_clash, collision_or, forgery_or, forges_one, shows_forgery, is_forged, forges_some, first_forgery, exhibit_of}
 use Rattle.world_laws.proofs.Lists.{none_some, any-none, any-some}
 use Rattle.world_laws.proofs.Clash.{clash-from}
-use Rattle.world_laws.proofs.Safe.{strings-append}
+use Rattle.world_laws.proofs.Before.{strings-append}
 
 pub or-none : {X : Type 0} (o p : Option X) → option_or o p ≡ None → (o ≡ None) × (p ≡ None)
 or-none None p is = (refl, is)

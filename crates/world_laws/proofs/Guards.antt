@@ -2,7 +2,7 @@
 use Rattle.std.proofs.Common.{◌≡◌, ◌⊎◌, ℕ, ◌==◌, ◌||◌, not, true, false, if◌then◌else◌, List, [], ◌∷◌, Option, Some, None, inl, inr, refl, sym, ap, ◌∙◌, subst, filter}
 use Rattle.std.specs.Option.{option_map, option_map_or}
 use Rattle.std.specs.List.{list_any}
-use Rattle.std.proofs.lemmas.Bool.{eqb-true, and_parts, and_from, or_cases, or_left, or_right, not_from_false}
+use Rattle.std.proofs.lemmas.Bool.{eqb-true, and_from, or_cases, or_left, or_right, not_from_false}
 use Rattle.plasma_tx.specs.declared.owner.Owner.{Owner}
 use Rattle.plasma_tx.specs.declared.opening.RawOpening.{RawOpening}
 use Rattle.plasma_tx.specs.declared.links.Links.{Links}
@@ -10,25 +10,28 @@ use Rattle.plasma_tx.specs.declared.call.RootCall.{RootCall}
 use Rattle.plasma_tx.specs.declared.views.CoinView.{CoinView}
 use Rattle.plasma_tx.specs.declared.views.ExitView.{ExitView}
 use Rattle.plasma_tx.specs.Links.{tip_of, last_owner_of}
-use Rattle.plasma_tx.specs.Views.{coin_at, Exit, exits, exits_of}
+use Rattle.plasma_tx.specs.Views.{coin_at, exits_of, block_of}
 use Rattle.plasma_tx.specs.Shown.{Tests, Rules}
 use Rattle.coin_history.specs.declared.bundle.Bundle.{Bundle}
 use Rattle.coin_history.specs.History.{links_in, links_of, IsHistory}
 use Rattle.coin_history.proofs.HistoryLinks.{tip-is, tip_from, none-linked}
 use Rattle.node_rules.specs.Kept.{chain_of, kept_links}
-use Rattle.watch_duty.specs.Duty.{due_for, due_of}
-use Rattle.watch_duty.proofs.Members.{Has, contains-has, has-flat_map, has-filter}
+use Rattle.node_rules.specs.Watcher.{due_for_kept}
+use Rattle.watch_duty.specs.Duty.{tip_shown, due_for, due_of}
+use Rattle.watch_duty.proofs.Members.{Has, contains-has, has-contains, has-flat_map, has-filter}
 use Rattle.watch_duty.proofs.Dues.{IsDue as IsDueFor, DueAfter, DueBetween, DueBefore, DueRespond, due_for-due}
-use Rattle.world_rules.specs.Events.{Event, Guards, Releases, log_of, coin_of_call, wallet_owner, accepted, signed_away_by, is_bundle, guarded_by, watchers, is_command_of}
+use Rattle.world_rules.specs.Events.{Event, Watches, Guards, Releases, log_of, coin_of_call, wallet_owner, accepted, signed_away_by, is_bundle, guarded_by, is_command_of}
 use Rattle.world_rules.specs.Exhibits.{seen, is_forged}
-use Rattle.world_rules.specs.Safety.{was_deposited, holds_with, holds, is_quiet, is_watched_by, is_guarded}
+use Rattle.world_rules.specs.Safety.{was_deposited, holds_with, holds}
 use Rattle.world_laws.specs.Legal.{Taken, Bare, IsGuarding, ShowsGuard, IsLegal}
+use Rattle.world_laws.specs.Looked.{is_guardian}
+use Rattle.world_laws.proofs.Histories.{links-at, shown-tip}
 use Rattle.world_laws.proofs.Lists.{some_same, any-some}
 use Rattle.world_laws.proofs.Clash.{HasOneLeaf}
 use Rattle.world_laws.proofs.Bound.{SignsBy, Holding, is_noted, is_kept}
-use Rattle.world_laws.proofs.Held.{known-from, IsGoodGuard, good_guard, HeldAt, held_top, deposited-coin, empty-walk}
-use Rattle.world_laws.proofs.Nodes.{owner-same, IsUndue, quiet_due}
-use Rattle.world_laws.proofs.Quiet.{IsStill, IsStillGuard, still}
+use Rattle.world_laws.proofs.Held.{known-from, IsGoodGuard, good_guard, held_top, deposited-coin, empty-walk}
+use Rattle.world_laws.proofs.Nodes.{owner-same}
+use Rattle.world_laws.proofs.DueCalls.{OffersDue}
 
 -- ---- the links of a bundle
 
@@ -58,6 +61,7 @@ pub record ShowsGood (tests : Tests) (rules : Rules) (log : List RootCall) (os :
   pub links : Links
   pub kept : kept_links rules.tag log b ≡ Some links
   pub good : IsGoodGuard tests rules log os c made e links
+  pub shown_is : block_of (tip_shown links) ≡ e
 
 module _ (tests : Tests) (rules : Rules) (log : List RootCall) (os : ℕ → List RawOpening) (c : ℕ) (made : CoinView)
     (e : ℕ) (one : HasOneLeaf tests log c (os c)) (found : coin_at log c ≡ Some made) (b : Bundle)
@@ -71,12 +75,14 @@ module _ (tests : Tests) (rules : Rules) (log : List RootCall) (os : ℕ → Lis
       let own : Links = links_of rules made b in
       let same : h.made ≡ made = some_same h.made made (sym h.coin ∙ there) in
       let own_is : links ≡ own = h.shown ∙ ap (λ (m : CoinView). links_of rules m b) same in
+      let tip_is : tip_of own ≡ e = ap tip_of (sym own_is) ∙ h.tip ∙ e_is in
       record {
         links = own;
         kept = kept-some rules log b made there;
         good = good_guard tests rules log (os c) c made one e (last_owner_of links) b.openings
-            (known-from tests rules log os b links c e made h has c_is e_is found) own c_is refl
-            (ap tip_of (sym own_is) ∙ h.tip ∙ e_is) (ap (λ k. links_in rules k b.openings) c_is);
+            (known-from tests rules log os b links c e made h has c_is e_is found) own c_is refl tip_is
+            (ap (λ k. links_in rules k b.openings) c_is);
+        shown_is = shown-tip own (links-at rules b.coin b.openings) ∙ tip_is;
       }
 
   pub bare-good : (me : Owner) → was_deposited me b.tip (coin_at log b.coin) ≡ true → b.openings ≡ []
@@ -88,12 +94,14 @@ module _ (tests : Tests) (rules : Rules) (log : List RootCall) (os : ℕ → Lis
       let deposit : made.deposit ≡ e = ap (λ (m : CoinView). m.deposit) (sym same) ∙ d.2 ∙ e_is in
       let owner : made.owner ≡ me = ap (λ (m : CoinView). m.owner) (sym same) ∙ d.3 in
       let empty : links.spends ≡ [] = ap (links_in rules b.coin) none ∙ none-linked rules b.coin in
+      let tip_is : tip_of links ≡ e = tip-is links ∙ ap (tip_from made.deposit) empty ∙ deposit in
       record {
         links = links;
         kept = kept-some rules log b made there;
         good = good_guard tests rules log (os c) c made one e me []
             (record { walk = empty-walk tests rules log c made e me deposit owner; has = λ o h. absurd h }) links c_is
-            refl (tip-is links ∙ ap (tip_from made.deposit) empty ∙ deposit) (empty ∙ sym (none-linked rules c));
+            refl tip_is (empty ∙ sym (none-linked rules c));
+        shown_is = shown-tip links (links-at rules b.coin b.openings) ∙ tip_is;
       }
 
 -- ---- what is due is of the coin
@@ -111,7 +119,7 @@ due_of-coin log account links call h =
     let r = has-flat_map (due_for log account links) (exits_of log links.coin) call h in
     due-coin log account links r.0 call (due_for-due log account links r.0 call r.2)
 
--- ---- a node that has nothing due
+-- ---- a node's guard
 
 module _ (tests : Tests) (rules : Rules) (events : List Event) (n c : ℕ) (made : CoinView) (e : ℕ)
     (legal : IsLegal tests rules events) (one : HasOneLeaf tests (log_of events) c (seen events c))
@@ -126,20 +134,6 @@ module _ (tests : Tests) (rules : Rules) (events : List Event) (n c : ℕ) (made
       history-good tests rules (log_of events) (seen events) c made e one found b c_is e_is k.links k.history k.is_seen
   shows-good (Some me) b c_is e_is (Bare own none) =
       bare-good tests rules (log_of events) (seen events) c made e one found b c_is e_is me own none
-
-  undue-still : IsUndue rules events n c e → IsStillGuard tests rules events c made e
-  undue-still u =
-      let g = shows-good (wallet_owner events n) u.bundle u.coin_is u.tip_is u.shows in
-      record {
-        account = u.account;
-        links = g.links;
-        good = g.good;
-        none = λ call h. u.none call
-            (subst (λ (k : Option Links). Has (option_map_or
-            (λ (links : Links). due_of (log_of events) u.account (record { links = links })) k []) call)
-            (sym g.kept) h)
-            (due_of-coin (log_of events) u.account g.links call h ∙ g.good.coin_is);
-      }
 
 -- ---- watchers are no wallets
 
@@ -195,7 +189,7 @@ no_wallet tests rules (Releases v c e ∷ events) g b legal h =
 no_wallet tests rules (event ∷ events) g b legal h =
     no_wallet-after tests rules event events g b legal h (no_wallet tests rules events g b legal.1 h)
 
--- ---- a guarded coin's exits are still
+-- ---- a guardian's watch
 
 pub holds-from : (events : List Event) (w c e : ℕ) → Holding events w c e → holds events w c e ≡ true
 unfolding holds
@@ -209,28 +203,41 @@ holds-from events w c e h =
     either (inl l) = or_left _ _ l
     either (inr r) = or_right _ _ r
 
-pub guarded_still : (tests : Tests) (rules : Rules) → SignsBy tests → (events : List Event) (w c e : ℕ)
+-- a watch offers what is due for a coin that its node guards
+pub watch-due : (tests : Tests) (rules : Rules) (events : List Event) (n : ℕ) (offers : List RootCall) (c : ℕ)
+    (made : CoinView) (e : ℕ) → IsLegal tests rules (Watches n offers ∷ events)
+    → HasOneLeaf tests (log_of events) c (seen events c) → coin_at (log_of events) c ≡ Some made
+    → IsGuarding events n (wallet_owner events n) c e → OffersDue tests rules events c made e offers
+unfolding IsLegal
+watch-due tests rules events n offers c made e legal one found guarding =
+    let has = legal.0.all c e guarding in
+    let g = shows-good tests rules events n c made e legal.1 one found (wallet_owner events n) has.bundle has.coin_is
+    has.tip_is has.shows in
+    record {
+      account = legal.0.account;
+      links = g.links;
+      good = g.good;
+      shown_is = g.shown_is;
+      due = λ call h. contains-has offers call (has.due call (has-contains
+          (due_for_kept rules.tag (log_of events) legal.0.account has.bundle) call
+          (subst (λ (k : Option Links). Has (option_map_or
+          (λ (links : Links). due_of (log_of events) legal.0.account (record { links = links })) k []) call)
+          (sym g.kept) h)));
+    }
+
+-- a guardian guards the coin that the wallet holds
+pub guardian-guards : (tests : Tests) (rules : Rules) → SignsBy tests → (events : List Event) (w c e n : ℕ)
     → IsLegal tests rules events → HasOneLeaf tests (log_of events) c (seen events c)
-    → is_forged rules.tag events w c ≡ false → (h : Holding events w c e)
-    → (held : HeldAt tests rules events w c e h.me) → is_guarded events w c e ≡ true → (x : Exit)
-    → Has (exits (log_of events)) x → x.coin ≡ c → IsStill tests rules events c held.made e x
-unfolding is_guarded
-guarded_still tests rules signs events w c e legal one unforged h held guarded x there c_is =
-    elim (or_cases (is_quiet events w c) (list_any (is_watched_by events c e) (watchers events)) guarded) [
+    → is_forged rules.tag events w c ≡ false → Holding events w c e → is_guardian events w c e n ≡ true
+    → IsGuarding events n (wallet_owner events n) c e
+guardian-guards tests rules signs events w c e n legal one unforged h guardian =
+    elim (or_cases (n == w) (list_any (is_bundle c e) (guarded_by events n)) guardian) [
       | inl own ↦
-          let guarding : IsGuarding events w (wallet_owner events w) c e =
+          let at_top : IsGuarding events w (wallet_owner events w) c e =
           subst (λ o. IsGuarding events w o c e) (sym h.me_is)
           (record { held = holds-from events w c e h; top = held_top tests rules signs events w c e legal one h unforged }) in
-          still tests rules events c held.made e
-          (undue-still tests rules events w c held.made e legal one held.made_is
-          (quiet_due tests rules events w c e legal own guarding)) x there c_is
-      | inr some ↦
-          let g = any-some (is_watched_by events c e) (watchers events) some in
-          let parts = and_parts (is_quiet events g.0 c) (list_any (is_bundle c e) (guarded_by events g.0)) g.2 in
-          let b = any-some (is_bundle c e) (guarded_by events g.0) parts.1 in
-          let guarding : IsGuarding events g.0 (wallet_owner events g.0) c e =
-          subst (λ o. IsGuarding events g.0 o c e) (sym (no_wallet tests rules events g.0 b.0 legal b.1)) parts.1 in
-          still tests rules events c held.made e
-          (undue-still tests rules events g.0 c held.made e legal one held.made_is
-          (quiet_due tests rules events g.0 c e legal parts.0 guarding)) x there c_is
+          subst (λ k. IsGuarding events k (wallet_owner events k) c e) (sym (eqb-true n w own)) at_top
+      | inr kept ↦
+          let b = any-some (is_bundle c e) (guarded_by events n) kept in
+          subst (λ o. IsGuarding events n o c e) (sym (no_wallet tests rules events n b.0 legal b.1)) kept
     ]

@@ -22,7 +22,7 @@ use Rattle.world_rules.specs.Events.{Event, log_of, wallet_owner, bound_by}
 use Rattle.world_rules.specs.Exhibits.{seen, forges_one}
 use Rattle.world_rules.specs.Safety.{is_mine, is_own, finish_harms, call_harms}
 use Rattle.world_laws.specs.Legal.{IsLegal}
-use Rattle.world_laws.proofs.Lists.{all-from, found-has, challenge-has, all_answered-from, answered-has}
+use Rattle.world_laws.proofs.Lists.{all-from, found-has, challenge-has, all_answered-from, passes-has}
 use Rattle.world_laws.proofs.Walk.{Spent, walk-order}
 use Rattle.world_laws.proofs.Histories.{place_of}
 use Rattle.world_laws.proofs.Shown.{Deposited, Transferred, IsShownChallenge, IsBegun, OfDeposit, OfSpend}
@@ -195,7 +195,7 @@ module _ (tests : Tests) (rules : Rules) (signs : SignsBy tests) (events : List 
             | None ↦ λ is no. true≢false no
             | Some ch ↦ λ is no.
                 let h = challenge-has e chs ch is in
-                true≢false (sym (answered-has chs ch answered h.0)
+                true≢false (sym (passes-has (λ (x : Challenge). x.answered) chs ch answered h.0)
                 ∙ all-has (λ (z : Challenge). z.block ≡ e → z.answered ≡ false) chs ch open_tip h.0 h.1)
           ]) refl there
 

@@ -1,5 +1,5 @@
 -- Histories as walks, absences block by block, and that both stay as the log grows.
-use Rattle.std.proofs.Common.{◌≡◌, ℕ, suc, ◌<◌, ◌≤◌, ◌==◌, ◌||◌, true, false, List, [], ◌∷◌, Option, Some, None, inl, inr, refl, sym, ap, ◌∙◌, subst, arith}
+use Rattle.std.proofs.Common.{◌≡◌, ℕ, suc, ◌-◌, length, ◌<◌, ◌≤◌, ◌==◌, ◌||◌, true, false, List, [], ◌∷◌, Option, Some, None, inl, inr, refl, sym, ap, ◌∙◌, subst, arith}
 use Rattle.std.specs.Prelude.{is_some}
 use Rattle.std.specs.Option.{option_map, option_map_or}
 use Rattle.std.specs.List.{AllByRecursion, cons_option}
@@ -11,7 +11,10 @@ use Rattle.plasma_tx.specs.declared.links.Link.{Link}
 use Rattle.plasma_tx.specs.declared.links.Links.{Links}
 use Rattle.plasma_tx.specs.declared.call.RootCall.{RootCall}
 use Rattle.plasma_tx.specs.declared.views.CoinView.{CoinView}
-use Rattle.plasma_tx.specs.Links.{tip_of, last_owner_of}
+use Rattle.plasma_tx.specs.Links.{last_spend, tip_of, last_owner_of}
+use Rattle.plasma_tx.specs.declared.call.Shown.TheVariants.{Deposit as AtDeposit, Spend}
+use Rattle.plasma_tx.specs.Views.{block_of}
+use Rattle.watch_duty.specs.Duty.{tip_shown}
 use Rattle.plasma_tx.specs.Shown.{Tests, Rules, root_at}
 use Rattle.coin_history.specs.declared.bundle.Bundle.{Bundle}
 use Rattle.coin_history.specs.History.{is_empty, is_absent, leaf_of_opening, transfer_of, opens_block, links_in, links_of, AreLinked, IsHistory, IsAbsent}
@@ -20,7 +23,7 @@ use Rattle.coin_history.proofs.HistoryOpenings.{up-each, below-none, past-head, 
 use Rattle.coin_history.proofs.HistoryLinks.{tip_from, owner_from, tip-is, last_owner-is, with_tx}
 use Rattle.coin_history.proofs.HistoryGrow.{root_at-grown, committed-le}
 use Rattle.watch_duty.proofs.Members.{Has, all-has}
-use Rattle.world_laws.proofs.Lists.{find-has}
+use Rattle.world_laws.proofs.Lists.{find-has, got-has}
 use Rattle.world_laws.proofs.Clash.{IsOpened}
 use Rattle.world_laws.proofs.Walk.{Place, IsGap, Absent, Moves, IsWalk}
 
@@ -197,3 +200,29 @@ absent-covers tests log c low high os is m root above under root_is = by_found (
           opened = opened-from tests log c o (all-has (λ x. opens_block tests log c x ≡ true) os o
               (recursion_from_All (λ x. opens_block tests log c x ≡ true) os is.opened) r.0);
         }
+
+-- ---- the block of a link
+
+-- a link is in the block of its opening
+pub links-at : (rules : Rules) (c : ℕ) (os : List RawOpening)
+    → AllByRecursion (λ link. link.opening.block ≡ link.block) (links_in rules c os)
+unfolding links_in
+links-at rules c [] = tt
+links-at rules c (o ∷ os) =
+    elim (transfer_of rules c o) as (λ t. AllByRecursion (λ (link : Link). link.opening.block ≡ link.block)
+    (cons_option (option_map (with_tx o) t) (links_in rules c os))) [
+      | None ↦ links-at rules c os
+      | Some tx ↦ (refl, links-at rules c os)
+    ]
+
+-- so what shows the tip of these links is in the tip's block
+pub shown-tip : (links : Links) → AllByRecursion (λ link. link.opening.block ≡ link.block) links.spends
+    → block_of (tip_shown links) ≡ tip_of links
+shown-tip links at = by_last (last_spend links) refl
+  where
+    by_last : (o : Option Link) → last_spend links ≡ o
+        → block_of (option_map_or (λ link. Spend link.opening) o (AtDeposit links.deposit))
+        ≡ option_map_or (λ link. link.block) o links.deposit
+    by_last None none = refl
+    by_last (Some link) some = all-has (λ (l : Link). l.opening.block ≡ l.block) links.spends link at
+        (got-has links.spends (length links.spends - 1) link some)

@@ -42,7 +42,8 @@ use Rattle.world_rules.proofs.KeptWallet.{KeptWallet, with_note}
 use Rattle.world_rules.proofs.KeptNode.{IsFitWallet, Feeds, token-small}
 use Rattle.world_rules.proofs.WalletSends.{words}
 use Rattle.world_laws.proofs.Lists.{some_same}
-use Rattle.world_laws.proofs.Offers.{StartsAt, start-at, links-at}
+use Rattle.world_laws.proofs.Offers.{StartsAt, start-at}
+use Rattle.world_laws.proofs.Histories.{links-at}
 
 -- ---- one more note
 

@@ -16,9 +16,10 @@ pub mod Absences
 pub mod Bound
 pub mod Held
 pub mod Nodes
-pub mod Quiet
+pub mod DueCalls
 pub mod Guards
 pub mod Watched
+pub mod Earlier
 pub mod Steps
 pub mod Harms
 pub mod Offers
@@ -33,10 +34,16 @@ pub mod LeftNotes
 pub mod LeftRuns
 pub mod LegalCoins
 pub mod CoinEvents
+pub mod Before
+pub mod Looks
 pub mod Safe
+pub mod Unseen
+pub mod Attended
+pub mod Often
 pub mod OneHolder
 pub mod DueTaken
 pub mod Exhibited
+pub mod Words
 pub mod Takings
 pub mod OwnExits
 pub mod Lost
@@ -48,6 +55,7 @@ pub mod SignedRuns
 pub mod Samples
 pub mod OwnExitSamples
 pub mod AttendanceSamples
+pub mod LookedSamples
 pub mod ExhibitSamples
 pub mod BundleTaken
 pub mod OperatorLines
@@ -60,5 +68,4 @@ pub mod BundleMade
 pub mod BundleHistories
 pub mod NoteLengths
 pub mod BundlesTaken
-pub mod Words
 pub mod Promises

@@ -1,5 +1,6 @@
 -- Lists: what is in one, what holds of each, and finding.
-use Rattle.std.proofs.Common.{◌≡◌, ℕ, ◌==◌, Bool, true, false, if◌then◌else◌, List, [], ◌∷◌, ◌++◌, map, Some, None, inl, inr, refl, sym, ap, ◌∙◌, subst, find}
+use Rattle.std.proofs.Common.{◌≡◌, ◌⊎◌, ℕ, zero, suc, ◌||◌, ◌==◌, ◌&&◌, not, Bool, true, false, if◌then◌else◌, List, [], ◌∷◌, ◌++◌, map, Some, None, inl, inr, refl, sym, ap, ◌∙◌, subst, find}
+use Rattle.std.specs.Prelude.{slice_get}
 use Rattle.std.specs.List.{AllByRecursion, list_any, list_all}
 use Rattle.std.proofs.lemmas.Bool.{eqb-true, and_parts, and_from, or_cases, true≢false, false≢true, false_from_ne_true}
 use Rattle.plasma_tx.specs.declared.call.RootCall.{RootCall}
@@ -12,6 +13,19 @@ some_same x y e = cc
 
 pub none_some : {A : Type 0} (x : A) → None ≡ Some x → ⊥
 none_some x e = cc
+
+-- ---- two truth values
+
+pub and-seen : (a b : Bool) → (a && not b) ≡ false → a ≡ true → b ≡ true
+and-seen true true off on = refl
+and-seen true false off on = absurd (true≢false off)
+and-seen false b off on = absurd (false≢true on)
+
+pub and-off : (a b : Bool) → (a && b) ≡ false → a ≡ true → b ≡ false
+and-off true b off on = off
+and-off false b off on = absurd (false≢true on)
+
+-- ---- lists
 
 pub any-none : {A : Type 0} (p : A → Bool) (xs : List A) (x : A) → list_any p xs ≡ false → Has xs x → p x ≡ false
 any-none p xs x none h = false_from_ne_true (p x) (λ is. true≢false (sym (any-has p xs x h is) ∙ none))
@@ -102,11 +116,23 @@ pub all_answered-from : (xs : List Challenge) → AllByRecursion (λ ch. ch.answ
 all_answered-from [] h = refl
 all_answered-from (ch ∷ chs) h = and_from _ _ h.0 (all_answered-from chs h.1)
 
-pub answered-has : (xs : List Challenge) (ch : Challenge) → list_all (λ x. x.answered) xs ≡ true → Has xs ch
-    → ch.answered ≡ true
-answered-has [] ch all h = absurd h
-answered-has (x ∷ xs) ch all (inl is) =
-    subst (λ (y : Challenge). y.answered ≡ true) is
-    (and_parts x.answered (list_all (λ (y : Challenge). y.answered) xs) all).0
-answered-has (x ∷ xs) ch all (inr h) =
-    answered-has xs ch (and_parts x.answered (list_all (λ (y : Challenge). y.answered) xs) all).1 h
+-- what holds of all holds of each
+pub passes-has : {A : Type 0} (p : A → Bool) (xs : List A) (x : A) → list_all p xs ≡ true → Has xs x → p x ≡ true
+passes-has p [] x all h = absurd h
+passes-has p (y ∷ ys) x all (inl is) = ap p (sym is) ∙ (and_parts (p y) (list_all p ys) all).0
+passes-has p (y ∷ ys) x all (inr h) = passes-has p ys x (and_parts (p y) (list_all p ys) all).1 h
+
+-- one of two tests passes somewhere
+pub any-either : {A : Type 0} (p q : A → Bool) (xs : List A) → list_any (λ x. p x || q x) xs ≡ true
+    → (list_any p xs ≡ true) ⊎ (list_any q xs ≡ true)
+any-either p q xs is =
+    let r = any-some (λ x. p x || q x) xs is in
+    elim (or_cases (p r.0) (q r.0) r.2) [
+      | inl one ↦ inl (any-has p xs r.0 r.1 one)
+      | inr other ↦ inr (any-has q xs r.0 r.1 other)
+    ]
+
+pub got-has : {A : Type 0} (xs : List A) (i : ℕ) (x : A) → slice_get xs i ≡ Some x → Has xs x
+got-has [] i x is = absurd (none_some x is)
+got-has (y ∷ ys) zero x is = inl (some_same y x is)
+got-has (y ∷ ys) (suc i) x is = inr (got-has ys i x is)

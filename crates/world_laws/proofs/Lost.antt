@@ -1,6 +1,6 @@
 -- A verdict `lost` stands only above an exhibit.
-use Rattle.std.proofs.Common.{◌≡◌, ◌⊎◌, ℕ, ◌+◌, ◌==◌, ◌&&◌, not, Bool, true, false, if◌then◌else◌, List, [], ◌∷◌, length, Option, Some, None, inl, inr, refl, sym, ap, ◌∙◌, subst}
-use Rattle.std.specs.Prelude.{nat_le}
+use Rattle.std.proofs.Common.{◌≡◌, ◌⊎◌, ℕ, ◌+◌, ◌==◌, ◌&&◌, not, Bool, true, false, if◌then◌else◌, List, [], ◌∷◌, Option, Some, None, inl, inr, refl, sym, ap, ◌∙◌, subst}
+use Rattle.std.specs.Prelude.{nat_le, is_none}
 use Rattle.std.specs.Option.{option_or}
 use Rattle.std.specs.List.{list_any}
 use Rattle.std.proofs.lemmas.Bool.{cases_Bool, eq-eqb, eqb-true, le-leb, and_parts, and_from, or_parts, or_cases, or_from, or_right, not-true, not_from_false, true≢false, false≢true, false_from_ne_true}
@@ -21,16 +21,20 @@ use Rattle.world_rules.specs.declared.verdict.VerdictKind.{VerdictKind}
 use Rattle.world_rules.specs.Laws.{IsDigest}
 use Rattle.world_rules.specs.Events.{Event, Declares, Joins, Accepts, log_of, wallet_owner, accepted, bound_by, taken_back, signed_away_by, is_sent_from, is_bundle, offers_of}
 use Rattle.world_rules.specs.Exhibits.{seen, strings_of, has_clash, is_forged}
-use Rattle.world_rules.specs.Safety.{was_deposited, holds, is_attended, goes_unattended, is_mine, is_own, finish_harms, call_harms, harms}
+use Rattle.world_rules.specs.Safety.{was_deposited, holds, is_mine, is_own, finish_harms, call_harms, harms}
 use Rattle.world_rules.specs.Verdicts.{is_others, is_finish_paid, pays_own, pays_other, ends_own, takes_from, before_taking, first_unattended, exit_was_paid, lost_or, taken_or, verdict_at}
 use Rattle.world_laws.specs.Legal.{starts_by, is_tip, LegalCall, IsLegal}
+use Rattle.world_laws.specs.Looked.{is_looked_after}
 use Rattle.world_laws.specs.LegalLaws.{LegalLostIsExhibited}
+use Rattle.world_laws.proofs.Attended.{attended_are_looked_after}
+use Rattle.world_laws.proofs.Words.{attended_is_none_unattended}
 use Rattle.world_laws.proofs.Lists.{some_same, none_some, found-has}
 use Rattle.world_laws.proofs.Bound.{owner-stays, holding}
 use Rattle.world_laws.proofs.Guards.{holds-from}
 use Rattle.world_laws.proofs.Offers.{offered_start, start-any, coin-stays}
 use Rattle.world_laws.proofs.Watched.{IfOf, AllWatched}
-use Rattle.world_laws.proofs.Safe.{none-before, forged-parts, attended-parts, legal-before, watched, safe-event}
+use Rattle.world_laws.proofs.Before.{none-before, forged-parts, legal-before}
+use Rattle.world_laws.proofs.Safe.{looked-parts, watched, safe-event}
 use Rattle.world_laws.proofs.OwnExits.{IsOwnAt, IfOwn, IsStartedBy, came-from, undeclared-none, own_kept}
 use Rattle.world_laws.proofs.Exhibited.{or-none, no-clash, no-forgery, nothing-exhibited}
 
@@ -223,16 +227,16 @@ module _ (dig : List ℕ → List ℕ) (digest : IsDigest dig) (rules : Rules) (
   -- after an accepted call that pays neither another's exit nor the own one
   held-call : (call : RootCall) (events : List Event) → IsLegal (tests_by dig) rules (Joins call ∷ events)
       → has_clash dig (strings_of dig c (seen events c)) ≡ false → is_forged rules.tag events w c ≡ false
-      → is_attended events w c e ≡ true → wallet_owner events w ≡ Some me
+      → is_looked_after events w c e ≡ true → wallet_owner events w ≡ Some me
       → takes_from (tests_by dig) rules events me w c e (Joins call) ≡ false
       → pays_own (tests_by dig) rules (log_of events) me c e (Joins call) ≡ false
       → is_sent_from (signed_away_by (Joins call ∷ events) w) c e ≡ false → holds events w c e ≡ true
       → holds (Joins call ∷ events) w c e ≡ true
   unfolding IsLegal log_of
-  held-call call events legal none unforged attended me_is untaken unpaid not_away is =
+  held-call call events legal none unforged looked me_is untaken unpaid not_away is =
       let h = holding events w c e is in
       let mine : h.me ≡ me = some_same h.me me (sym h.me_is ∙ me_is) in
-      let all = watched dig digest rules w c e events legal.1 none unforged attended h in
+      let all = watched dig digest rules w c e events legal.1 none unforged looked h in
       let no_other : pays_other (tests_by dig) rules (log_of events) me c (Joins call) ≡ false =
       false_from_ne_true _ (λ pays. true≢false (sym (and_from _ _ pays is) ∙ (or_parts _ _ untaken).0)) in
       holds-on (tests_by dig) rules (Joins call) events w c e legal is not_away
@@ -242,12 +246,12 @@ module _ (dig : List ℕ → List ℕ) (digest : IsDigest dig) (rules : Rules) (
   -- while an own exit stands, the coin is held
   own_held : (events : List Event) → IsLegal (tests_by dig) rules events
       → has_clash dig (strings_of dig c (seen events c)) ≡ false → is_forged rules.tag events w c ≡ false
-      → is_attended events w c e ≡ true → before_taking (tests_by dig) rules events me w c e ≡ None
+      → is_looked_after events w c e ≡ true → before_taking (tests_by dig) rules events me w c e ≡ None
       → exit_was_paid (tests_by dig) rules events me c e ≡ false → wallet_owner events w ≡ Some me → (x : Exit)
       → Has (exits (log_of events)) x → IsOwnAt me c e x → holds events w c e ≡ true
   unfolding IsLegal log_of exits wallet_owner taken_back bound_by
-  own_held [] legal none unforged attended untaken unpaid me_is x there own = absurd there
-  own_held (Declares v other ∷ events) legal none unforged attended untaken unpaid me_is x there own =
+  own_held [] legal none unforged looked untaken unpaid me_is x there own = absurd there
+  own_held (Declares v other ∷ events) legal none unforged looked untaken unpaid me_is x there own =
       let taken = taking-parts (Declares v other) events untaken in
       let paid = unpaid-parts (Declares v other) events unpaid in
       (elim (v == w) as (λ b. (v == w) ≡ b → (if b then Some other else wallet_owner events w) ≡ Some me
@@ -260,17 +264,17 @@ module _ (dig : List ℕ → List ℕ) (digest : IsDigest dig) (rules : Rules) (
         | false ↦ λ apart mine.
             let is = own_held events legal.1 (none-before dig (Declares v other) events c none)
             (forged-parts rules.tag (Declares v other) events w c unforged).1
-            (attended-parts (Declares v other) events w c e attended).1 taken.0 paid.1 mine x there own in
+            (looked-parts (Declares v other) events w c e looked).1 taken.0 paid.1 mine x there own in
             holds-on (tests_by dig) rules (Declares v other) events w c e legal is
             (own_kept (tests_by dig) rules w c e (Declares v other ∷ events) legal me me_is x there own)
             (holding events w c e is).not_withdrawn
       ]) refl me_is
-  own_held (Joins call ∷ events) legal none unforged attended untaken unpaid me_is x there own =
+  own_held (Joins call ∷ events) legal none unforged looked untaken unpaid me_is x there own =
       let taken = taking-parts (Joins call) events untaken in
       let paid = unpaid-parts (Joins call) events unpaid in
       let before = none-before dig (Joins call) events c none in
       let honest = (forged-parts rules.tag (Joins call) events w c unforged).1 in
-      let watches = (attended-parts (Joins call) events w c e attended).1 in
+      let watches = (looked-parts (Joins call) events w c e looked).1 in
       let kept = own_kept (tests_by dig) rules w c e (Joins call ∷ events) legal me me_is x there own in
       held-call call events legal before honest watches me_is taken.1 paid.0 kept
       (elim (all-has (IfOwn (log_of events) me c e call) (exits (call ∷ log_of events)) x
@@ -284,9 +288,9 @@ module _ (dig : List ℕ → List ℕ) (digest : IsDigest dig) (rules : Rules) (
           not_withdrawn = s.not_withdrawn;
         })
       ])
-  own_held (event ∷ events) legal none unforged attended untaken unpaid me_is x there own =
+  own_held (event ∷ events) legal none unforged looked untaken unpaid me_is x there own =
       let is = own_held events legal.1 (none-before dig event events c none)
-      (forged-parts rules.tag event events w c unforged).1 (attended-parts event events w c e attended).1
+      (forged-parts rules.tag event events w c unforged).1 (looked-parts event events w c e looked).1
       (taking-parts event events untaken).0 (unpaid-parts event events unpaid).1 me_is x there own in
       holds-on (tests_by dig) rules event events w c e legal is
       (own_kept (tests_by dig) rules w c e (event ∷ events) legal me me_is x there own)
@@ -327,14 +331,14 @@ module _ (dig : List ℕ → List ℕ) (digest : IsDigest dig) (rules : Rules) (
   -- where the coin is held, an event that harms can't be
   harm-none : (event : Event) (events : List Event) → IsLegal (tests_by dig) rules (event ∷ events)
       → has_clash dig (strings_of dig c (seen (event ∷ events) c)) ≡ false
-      → is_forged rules.tag (event ∷ events) w c ≡ false → is_attended events w c e ≡ true → Knows events
+      → is_forged rules.tag (event ∷ events) w c ≡ false → is_looked_after events w c e ≡ true → Knows events
       → holds events w c e ≡ true → harms (tests_by dig) rules (log_of events) (Some me) c e event ≡ true → ⊥
-  harm-none event events legal none unforged attended k held harm =
+  harm-none event events legal none unforged looked k held harm =
       let h = holding events w c e held in
       let owner : wallet_owner events w ≡ Some me = h.me_is ∙ ap (λ (o : Owner). Some o) (k.same h.me h.me_is) in
       true≢false (sym (and_from _ _ held
       (ap (λ o. harms (tests_by dig) rules (log_of events) o c e event) owner ∙ harm))
-      ∙ safe-event dig digest rules w c e event events legal attended none unforged)
+      ∙ safe-event dig digest rules w c e event events legal looked none unforged)
 
   pays-harm : (event : Event) (events : List Event)
       → pays_other (tests_by dig) rules (log_of events) me c event ≡ true
@@ -353,17 +357,17 @@ module _ (dig : List ℕ → List ℕ) (digest : IsDigest dig) (rules : Rules) (
 
   untaken : (event : Event) (events : List Event) → IsLegal (tests_by dig) rules (event ∷ events)
       → has_clash dig (strings_of dig c (seen (event ∷ events) c)) ≡ false
-      → is_forged rules.tag (event ∷ events) w c ≡ false → is_attended events w c e ≡ true → Knows events
+      → is_forged rules.tag (event ∷ events) w c ≡ false → is_looked_after events w c e ≡ true → Knows events
       → before_taking (tests_by dig) rules events me w c e ≡ None
       → exit_was_paid (tests_by dig) rules events me c e ≡ false
       → takes_from (tests_by dig) rules events me w c e event ≡ true → ⊥
-  untaken event events legal none unforged attended k before unpaid takes =
+  untaken event events legal none unforged looked k before unpaid takes =
       elim (or_cases (pays_other (tests_by dig) rules (log_of events) me c event && holds events w c e)
       (ends_own (tests_by dig) rules (log_of events) me c e event) takes) [
         | inl paid ↦
             let parts = and_parts (pays_other (tests_by dig) rules (log_of events) me c event) (holds events w c e)
             paid in
-            harm-none event events legal none unforged attended k parts.1 (pays-harm event events parts.0)
+            harm-none event events legal none unforged looked k parts.1 (pays-harm event events parts.0)
         | inr ended ↦
             let r = ends-harm event events legal ended in
             by_owner (wallet_owner events w) refl r.0.0 r.0.1 r.0.2 r.1
@@ -375,27 +379,14 @@ module _ (dig : List ℕ → List ℕ) (digest : IsDigest dig) (rules : Rules) (
           undeclared-none (tests_by dig) rules w c e events me x (k.none o_is) there own.1
       by_owner (Some other) o_is x there own harm =
           let owner : wallet_owner events w ≡ Some me = o_is ∙ ap (λ (o : Owner). Some o) (k.same other o_is) in
-          harm-none event events legal none unforged attended k
+          harm-none event events legal none unforged looked k
           (own_held events (legal-before (tests_by dig) rules event events legal) (none-before dig event events c none)
-          (forged-parts rules.tag event events w c unforged).1 attended before unpaid owner x there own) harm
-
-  -- where no deadline went unattended, each was attended
-  all-attended : (events : List Event) → first_unattended events w c e ≡ None → is_attended events w c e ≡ true
-  unfolding first_unattended is_attended
-  all-attended [] none = refl
-  all-attended (event ∷ events) none =
-      let parts = or-none (first_unattended events w c e)
-      (if goes_unattended events w c e event then Some (length events + 1) else None) none in
-      and_from _ _ (not_from_false _ (off (goes_unattended events w c e event) parts.1)) (all-attended events parts.0)
-    where
-      off : (b : Bool) → (if b then Some (length events + 1) else None) ≡ None → b ≡ false
-      off true wrong = absurd (none_some (length events + 1) (sym wrong))
-      off false is = refl
+          (forged-parts rules.tag event events w c unforged).1 looked before unpaid owner x there own) harm
 
   never-lost : (events : List Event) → IsLegal (tests_by dig) rules events
       → has_clash dig (strings_of dig c (seen events c)) ≡ false → is_forged rules.tag events w c ≡ false
       → Knows events → exit_was_paid (tests_by dig) rules events me c e ≡ false → (before : List Event)
-      → before_taking (tests_by dig) rules events me w c e ≡ Some before → first_unattended before w c e ≡ None → ⊥
+      → before_taking (tests_by dig) rules events me w c e ≡ Some before → is_looked_after before w c e ≡ true → ⊥
   unfolding before_taking
   never-lost [] legal none unforged k unpaid before taken watches = none_some before taken
   never-lost (event ∷ events) legal none unforged k unpaid before taken watches =
@@ -415,7 +406,7 @@ module _ (dig : List ℕ → List ℕ) (digest : IsDigest dig) (rules : Rules) (
               | true ↦ λ takes same.
                   let is : events ≡ before = some_same events before same in
                   untaken event events legal none unforged
-                  (all-attended events (ap (λ (l : List Event). first_unattended l w c e) is ∙ watches)) known first paid
+                  (ap (λ (l : List Event). is_looked_after l w c e) is ∙ watches) known first paid
                   takes
               | false ↦ λ not wrong. none_some before wrong
             ]) refl here
@@ -445,7 +436,8 @@ lost_is_exhibited dig rules events w c e me digest legal me_is lost nothing =
                             (record {
                               same = λ other other_is. some_same other me (sym other_is ∙ me_is);
                               none = λ undeclared. absurd (none_some me (sym undeclared ∙ me_is));
-                            }) unpaid before taken watches
+                            }) unpaid before taken (attended_are_looked_after before w c e
+                            (attended_is_none_unattended before w c e ∙ ap is_none watches))
                       ]) refl at
                 ]) refl is
           ]) refl rest

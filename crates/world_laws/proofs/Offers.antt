@@ -1,11 +1,10 @@
 -- A start that a wallet offers is the start of an exit at its tip.
-use Rattle.std.proofs.Common.{◌≡◌, ◌⊎◌, ℕ, zero, suc, ◌-◌, ◌≤◌, ◌||◌, true, false, if◌then◌else◌, List, [], ◌∷◌, length, Option, Some, None, inl, inr, refl, sym, ap, ◌∙◌, subst}
+use Rattle.std.proofs.Common.{◌≡◌, ◌⊎◌, ℕ, ◌-◌, ◌≤◌, ◌||◌, true, false, if◌then◌else◌, List, [], ◌∷◌, length, Option, Some, None, inl, inr, refl, sym, ap, ◌∙◌, subst}
 use Rattle.std.specs.Prelude.{slice_get}
-use Rattle.std.specs.Option.{option_map, option_map_or}
-use Rattle.std.specs.List.{AllByRecursion, list_any, cons_option}
+use Rattle.std.specs.Option.{option_map_or}
+use Rattle.std.specs.List.{AllByRecursion, list_any}
 use Rattle.std.proofs.lemmas.Bool.{eqb-true, or_left, or_right, true≢false, false≢true}
 use Rattle.plasma_tx.specs.declared.owner.Owner.{Owner}
-use Rattle.plasma_tx.specs.declared.opening.RawOpening.{RawOpening}
 use Rattle.plasma_tx.specs.declared.links.Link.{Link}
 use Rattle.plasma_tx.specs.declared.links.Links.{Links}
 use Rattle.plasma_tx.specs.declared.call.RootCall.{RootCall}
@@ -16,9 +15,9 @@ use Rattle.plasma_tx.specs.Links.{last_spend, tip_of}
 use Rattle.plasma_tx.specs.Views.{coin_at, exits_of}
 use Rattle.plasma_tx.specs.Shown.{Tests, Rules}
 use Rattle.coin_history.specs.declared.bundle.Bundle.{Bundle}
-use Rattle.coin_history.specs.History.{transfer_of, links_in, links_of}
+use Rattle.coin_history.specs.History.{links_in, links_of}
 use Rattle.coin_history.proofs.HistoryGrow.{coin_at-grown}
-use Rattle.coin_history.proofs.HistoryLinks.{with_tx, none-linked}
+use Rattle.coin_history.proofs.HistoryLinks.{none-linked}
 use Rattle.node_rules.specs.Kept.{kept_links}
 use Rattle.node_rules.specs.Wallet.{start_by, start_of}
 use Rattle.node_rules.specs.Watcher.{due_for_kept}
@@ -30,7 +29,8 @@ use Rattle.world_rules.specs.Deeds.{exit_block}
 use Rattle.world_rules.specs.Safety.{was_deposited}
 use Rattle.world_laws.specs.Headline.{is_start}
 use Rattle.world_laws.specs.Legal.{starts_by, is_tip, ShowsTip, Taken, Bare, LegalLeave, IsLegal}
-use Rattle.world_laws.proofs.Lists.{some_same}
+use Rattle.world_laws.proofs.Lists.{some_same, got-has}
+use Rattle.world_laws.proofs.Histories.{links-at}
 use Rattle.world_laws.proofs.Bound.{owner-stays, Holding, holding, is_noted}
 use Rattle.world_laws.proofs.Held.{held_at, deposited-coin}
 use Rattle.world_laws.proofs.Nodes.{same-node, tip-same}
@@ -71,23 +71,6 @@ start-any account (RootCall.Respond by coin exit challenged spend) is = absurd (
 start-any account (RootCall.Finish by coin exit) is = absurd (false≢true is)
 
 -- ---- the start at the end of links
-
--- a link is in the block of its opening
-pub links-at : (rules : Rules) (c : ℕ) (os : List RawOpening)
-    → AllByRecursion (λ link. link.opening.block ≡ link.block) (links_in rules c os)
-unfolding links_in
-links-at rules c [] = tt
-links-at rules c (o ∷ os) =
-    elim (transfer_of rules c o) as (λ t. AllByRecursion (λ (link : Link). link.opening.block ≡ link.block)
-    (cons_option (option_map (with_tx o) t) (links_in rules c os))) [
-      | None ↦ links-at rules c os
-      | Some tx ↦ (refl, links-at rules c os)
-    ]
-
-pub got-has : (xs : List Link) (i : ℕ) (link : Link) → slice_get xs i ≡ Some link → Has xs link
-got-has [] i link is = absurd (cc is)
-got-has (x ∷ xs) zero link is = inl (some_same x link is)
-got-has (x ∷ xs) (suc i) link is = inr (got-has xs i link is)
 
 -- the call starts the exit of this coin at this block
 pub record StartsAt (call : RootCall) (c e : ℕ) : Type 0 where

@@ -23,7 +23,7 @@ use Rattle.world_laws.proofs.Shown.{IsShownAt}
 use Rattle.world_laws.proofs.Absences.{parted}
 use Rattle.world_laws.proofs.Bound.{SignsBy, owners_apart, Holding, holding, is_noted, IsSince, owner-some, owner-stays, bound_since, unspent}
 use Rattle.world_laws.proofs.Held.{held_at, end_shown, shown_same, successor_in}
-use Rattle.world_laws.proofs.Safe.{legal-before}
+use Rattle.world_laws.proofs.Before.{legal-before}
 
 module _ (tests : Tests) (rules : Rules) where
   declared-stays : (event : Event) (events : List Event) (w : ℕ) → IsLegal tests rules (event ∷ events)

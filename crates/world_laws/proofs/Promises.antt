@@ -15,7 +15,10 @@ use Rattle.world_rules.specs.Steps.{Run, events_of}
 use Rattle.world_rules.specs.Safety.{is_watch, is_joined}
 use Rattle.world_laws.specs.Headline.{IsRun, HeldCoinsAreSafe, OneWalletHolds, lacks_bond, DueCallsAreTaken, HarmsAreTakings, LostIsExhibited, IsTaken, StartsAreTaken}
 use Rattle.world_laws.specs.LegalLaws.{was_declared_before, fresh_offers}
+use Rattle.world_laws.specs.Looked.{LookedAfterCoinsAreSafe, LookingOftenIsEnough}
+use Rattle.world_laws.proofs.Often.{often_looked_after}
 use Rattle.world_laws.specs.Legal.{IsLegal}
+use Rattle.world_laws.proofs.Attended.{attended_are_looked_after}
 use Rattle.world_rules.proofs.RunLaws.{logs_are_of_events}
 use Rattle.world_laws.proofs.CoinEvents.{runs-legal}
 use Rattle.world_laws.proofs.Safe.{legal_coins_are_safe}
@@ -90,12 +93,23 @@ legal : (dig : List ℕ → List ℕ) (lines : List Line) (run : Run) (world : W
     → IsRun dig lines run world → IsLegal (tests_by dig) (rules_of world.chain) (events_of run.entries)
 legal = runs-legal
 
-pub held_coins_are_safe : HeldCoinsAreSafe
-held_coins_are_safe dig lines run world later events event w c e is split attended whole honest =
+pub looked_after_are_safe : LookedAfterCoinsAreSafe
+looked_after_are_safe dig lines run world later events event w c e is split looked whole honest =
     legal_coins_are_safe dig (rules_of world.chain) event events w c e is.digest
     (suffix-legal (tests_by dig) (rules_of world.chain) later (event ∷ events)
     (subst (IsLegal (tests_by dig) (rules_of world.chain)) split (legal dig lines run world is)))
-    attended whole honest
+    looked whole honest
+
+pub held_coins_are_safe : HeldCoinsAreSafe
+held_coins_are_safe dig lines run world later events event w c e is split attended =
+    looked_after_are_safe dig lines run world later events event w c e is split
+    (attended_are_looked_after events w c e attended)
+
+pub often_is_enough : LookingOftenIsEnough
+often_is_enough dig lines run world later events w c e is split often =
+    often_looked_after (tests_by dig) (rules_of world.chain) events w c e
+    (suffix-legal (tests_by dig) (rules_of world.chain) later events
+    (subst (IsLegal (tests_by dig) (rules_of world.chain)) split (legal dig lines run world is))) often
 
 pub one_holds : OneWalletHolds
 one_holds dig lines run world v w c d e is apart before whole honest other held also =

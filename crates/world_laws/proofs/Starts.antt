@@ -41,11 +41,11 @@ use Rattle.world_rules.specs.Deeds.{exit_block}
 use Rattle.world_laws.specs.Headline.{is_start, starter, IsTakenAt, IsTaken}
 use Rattle.world_laws.specs.Legal.{ShowsTip, Taken, Bare, LegalLeave, IsLegal}
 use Rattle.world_laws.specs.LegalLaws.{LegalStartsAreTaken}
-use Rattle.world_laws.proofs.Lists.{some_same}
+use Rattle.world_laws.proofs.Lists.{some_same, got-has}
 use Rattle.world_laws.proofs.Bound.{owner-stays, holding, is_noted, IsKept, kept-grow}
 use Rattle.world_laws.proofs.Held.{deposited-coin}
 use Rattle.world_laws.proofs.Guards.{kept-some}
-use Rattle.world_laws.proofs.Offers.{kept-no_start, got-has}
+use Rattle.world_laws.proofs.Offers.{kept-no_start}
 use Rattle.world_laws.proofs.DueTaken.{bare-history}
 use Rattle.node_rules.specs.Watcher.{due_for_kept}
 

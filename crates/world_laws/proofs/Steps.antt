@@ -1,10 +1,11 @@
 -- An accepted call keeps what holds of each exit of a held coin.
-use Rattle.std.proofs.Common.{◌≡◌, ◌≢◌, ℕ, ◌+◌, ◌<◌, ◌≤◌, ◌==◌, ◌&&◌, not, Bool, true, false, if◌then◌else◌, List, [], ◌∷◌, ◌++◌, Some, inl, inr, refl, sym, ap, ◌∙◌, subst, arith}
+use Rattle.std.proofs.Common.{◌≡◌, ◌≢◌, ◌⊎◌, ℕ, ◌+◌, ◌<◌, ◌≤◌, ◌==◌, ◌&&◌, not, Bool, true, false, if◌then◌else◌, List, [], ◌∷◌, ◌++◌, Some, inl, inr, refl, sym, ap, ◌∙◌, subst, arith}
 use Rattle.std.specs.Prelude.{is_some, is_none, nat_lt}
-use Rattle.std.specs.List.{AllByRecursion, list_any}
-use Rattle.std.proofs.lemmas.Bool.{eqb-true, cases_eq, cases_order, eq-eqb, lt-ltb, ltb-true, le-leb, and_parts, and_from, or_left, or_right, not_from_false, true≢false, false_from_ne_true}
+use Rattle.std.specs.List.{AllByRecursion}
+use Rattle.std.proofs.lemmas.Bool.{eqb-true, cases_Bool, cases_eq, cases_order, eq-eqb, ltb-true, and_parts, and_from, true≢false, false_from_ne_true}
 use Rattle.plasma_tx.specs.declared.owner.Owner.{Owner}
 use Rattle.plasma_tx.specs.declared.opening.RawOpening.{RawOpening}
+use Rattle.plasma_tx.specs.declared.links.Link.{Link}
 use Rattle.plasma_tx.specs.declared.call.Shown.{Shown}
 use Rattle.plasma_tx.specs.declared.call.Shown.TheVariants.{Deposit as AtDeposit, Spend}
 use Rattle.plasma_tx.specs.declared.call.RootCall.{RootCall}
@@ -22,21 +23,20 @@ use Rattle.plasma_tx.proofs.Bounds.{exits_are_their_owners, responds_answer}
 use Rattle.plasma_tx.proofs.Each.{all-append, all-filter}
 use Rattle.plasma_tx.proofs.RuleNames.{exits-distinct}
 use Rattle.watch_duty.specs.Laws.{shown_openings, openings_of_call}
-use Rattle.watch_duty.proofs.Members.{Has, has-left, has-right, all-has, any-has, only-found}
-use Rattle.world_rules.specs.Events.{Event, Joins, log_of, coin_of_call, wallet_owner, bound_by}
+use Rattle.watch_duty.proofs.Members.{Has, has-left, has-right, all-has, only-found}
+use Rattle.world_rules.specs.Events.{Event, log_of, coin_of_call, wallet_owner, bound_by}
 use Rattle.world_rules.specs.Deeds.{exit_block}
-use Rattle.world_rules.specs.Exhibits.{seen, forges_one, is_forged}
-use Rattle.world_rules.specs.Safety.{is_met, meets_challenge, meets_exit, meets_deadline, is_guarded, is_mine}
+use Rattle.world_rules.specs.Exhibits.{seen, forges_one}
+use Rattle.world_rules.specs.Safety.{is_mine}
 use Rattle.world_laws.specs.Legal.{starts_by, IsLegal}
-use Rattle.world_laws.proofs.Lists.{some_same, none_some, all-from, all-changed, found-has, challenge-has}
+use Rattle.world_laws.proofs.Lists.{some_same, none_some, all-changed, found-has, challenge-has}
 use Rattle.world_laws.proofs.Walk.{walk-passes}
 use Rattle.world_laws.proofs.Histories.{place_of}
 use Rattle.world_laws.proofs.Shown.{IsShownAt, Deposited, Transferred, IsShownChallenge, IsBegun, OfDeposit, OfSpend, legal-log, legal-table, all_shown, parent_shown}
 use Rattle.world_laws.proofs.Bound.{SignsBy}
 use Rattle.world_laws.proofs.Held.{HeldAt, shown_same}
-use Rattle.world_laws.proofs.Quiet.{IsStill}
-use Rattle.world_laws.proofs.Guards.{guarded_still}
-use Rattle.world_laws.proofs.Watched.{IfOf, AllWatched, IsSpend, is_spend, AtEvent, owner_is, tip_before, tip_unspent, new-watched, challenged-watched, answered-watched, ticked-watched}
+use Rattle.world_laws.proofs.DueCalls.{OffersDue, Due, due-offered, due-old, due-later, due-planted, due-answer}
+use Rattle.world_laws.proofs.Watched.{IfOf, AllWatched, IsSpend, is_spend, AtEvent, owner_is, tip_before, tip_unspent, new-watched, challenged-watched, answered-watched}
 
 -- a coin's deposit block isn't 0
 deposit-above : (log : List RootCall) (c : ℕ) (made : CoinView) → coin_at log c ≡ Some made → 0 < made.deposit
@@ -101,6 +101,11 @@ of_held tests rules events w c e me legal held x there c_is =
           (legal-table tests rules log (legal-log tests rules events legal)) (stands log x there);
     }
 
+-- what an accepted tick keeps
+abbrev pub KeepsTick : ℕ → Owner → ℕ → List RootCall → RootCall → Type 0
+KeepsTick c me e log (Tick time) = AllWatched c me e (now log) (exits log) → AllWatched c me e time (exits log)
+KeepsTick c me e log call = Unit {0}
+
 -- the openings of a call of the coin
 pub own-openings : (k c : ℕ) (os : List RawOpening) (o : RawOpening) → k ≡ c → Has os o
     → Has (if k == c then os else []) o
@@ -135,33 +140,58 @@ module _ (tests : Tests) (rules : Rules) (signs : SignsBy tests) (events : List 
       (subst (λ k. IsShownAt tests rules (log_of events) (seen events c) c at.held.made k owner) is shown)
       (tip_before tests rules signs events w c e more at)
 
-  -- another's exit that is still while its window is open is challenged at the tip
-  others-still : (x : Exit) → OfHeld tests rules events c at.held.made x
-      → IsStill tests rules events c at.held.made e x → x.parent ≢ e → is_mine at.hold.me x ≡ false
-      → now (log_of events) < x.start + CHALLENGE_WINDOW → is_none (challenge_at e x.challenges) ≡ false
-  others-still x of quiet unspent other inside = by_begun of.begun
+  -- Another's exit is challenged at the tip while its window is open, or a call is due for it. What each due call gives
+  -- is given, if only because the exit would be at the tip.
+  pub others-due : (offers : List RootCall) (g : OffersDue tests rules events c at.held.made e offers) (x : Exit)
+      (there : Has (exits (log_of events)) x) (c_is : x.coin ≡ c) → x.parent ≢ e → is_mine at.hold.me x ≡ false
+      → now (log_of events) < x.start + CHALLENGE_WINDOW → (A : Type 0)
+      → ((call : RootCall) → Has (Due tests rules events c at.held.made e offers g x there c_is) call
+      → A ⊎ (x.block ≡ e))
+      → A ⊎ (is_none (challenge_at e x.challenges) ≡ false)
+  others-due offers g x there c_is unspent other inside A gives = by_begun of.begun
     where
+      of : OfHeld tests rules events c at.held.made x
+      of = of_held tests rules events w c e at.hold.me legal at.held x there c_is
+
+      apart-from : x.block ≢ e → A ⊎ (x.block ≡ e) → A ⊎ (is_none (challenge_at e x.challenges) ≡ false)
+      apart-from apart (inl given) = inl given
+      apart-from apart (inr same) = absurd (apart same)
+
+      old : (o : Owner) → IsShownAt tests rules (log_of events) (seen events c) c at.held.made x.block o → x.block < e
+          → A ⊎ (is_none (challenge_at e x.challenges) ≡ false)
+      old o shown below =
+          apart-from (λ same. absurd (omega (arith, same, below)))
+          (due-old tests rules events c at.held.made e offers g x there c_is (A ⊎ (x.block ≡ e)) inside gives o shown
+          below)
+
       by_begun : IsBegun tests rules (log_of events) (seen events c) c at.held.made x.block x.parent x.owner
-          x.parent_owner → is_none (challenge_at e x.challenges) ≡ false
+          x.parent_owner → A ⊎ (is_none (challenge_at e x.challenges) ≡ false)
       by_begun (OfDeposit block parent owner) =
           let up = walk-passes tests rules (log_of events) c at.held.made.deposit (place_of at.held.made)
           at.held.openings (record { block = e; owner = at.hold.me }) at.held.known.walk in
           elim (cases_eq x.block e) [
             | inl same ↦ absurd (mine-owner x of.account (owner-before x.owner x.block (Deposited block owner) same)
                 other)
-            | inr apart ↦ absurd (quiet.old x.owner (Deposited block owner) (omega (arith, up, block)) inside)
+            | inr apart ↦ old x.owner (Deposited block owner) (omega (arith, up, block))
           ]
       by_begun (OfSpend s opened low parent shown below) =
           elim (cases_order x.block e) [
             | inl same ↦ absurd (mine-owner x of.account
                 (owner-before x.owner x.block (Transferred s opened low) same) other)
             | inr apart ↦ elim apart [
-              | inl under ↦ absurd (quiet.old x.owner (Transferred s opened low) under inside)
+              | inl under ↦ old x.owner (Transferred s opened low) under
               | inr over ↦ elim (cases_order x.parent e) [
                 | inl same ↦ absurd (unspent same)
                 | inr elsewhere ↦ elim elsewhere [
-                  | inl before ↦ absurd (quiet.later x.parent_owner over shown before inside)
-                  | inr after ↦ false_from_ne_true _ (λ free. quiet.planted after free inside)
+                  | inl before ↦ apart-from (λ same. absurd (omega (arith, same, over)))
+                      (due-later tests rules events c at.held.made e offers g x there c_is (A ⊎ (x.block ≡ e)) inside
+                      gives x.parent_owner over shown before)
+                  | inr after ↦ elim (cases_Bool (is_none (challenge_at e x.challenges))) [
+                    | inl free ↦ apart-from (λ same. absurd (omega (arith, same, over)))
+                        (due-planted tests rules events c at.held.made e offers g x there c_is (A ⊎ (x.block ≡ e))
+                        inside gives after free)
+                    | inr challenged ↦ inr challenged
+                  ]
                 ]
               ]
             ]
@@ -175,41 +205,23 @@ module _ (tests : Tests) (rules : Rules) (signs : SignsBy tests) (events : List 
       by_begun (OfDeposit block parent owner) = omega arith
       by_begun (OfSpend s opened low parent shown below) = omega arith
 
-  -- the own exit that is still has no open challenge in its window
-  mine-still : (x : Exit) → OfHeld tests rules events c at.held.made x → IsStill tests rules events c at.held.made e x
-      → x.block ≡ e → (ch : Challenge) → Has x.challenges ch → ch.answered ≡ false
-      → now (log_of events) < ch.at + RESPONSE_WINDOW → ⊥
-  mine-still x of quiet at_tip ch there unanswered inside =
+  -- the answer to an open challenge of the own exit is due in its time
+  pub mine-due : (offers : List RootCall) (g : OffersDue tests rules events c at.held.made e offers) (x : Exit)
+      (there : Has (exits (log_of events)) x) (c_is : x.coin ≡ c) → x.block ≡ e → (ch : Challenge)
+      → Has x.challenges ch → ch.answered ≡ false → now (log_of events) < ch.at + RESPONSE_WINDOW
+      → (link : Link) × Has offers (Respond g.account g.links.coin x.block ch.block link.opening)
+  mine-due offers g x there c_is at_tip ch has unanswered inside =
+      let of = of_held tests rules events w c e at.hold.me legal at.held x there c_is in
       let k = all-has
       (IsShownChallenge tests rules (log_of events) (seen events c) c at.held.made x.parent x.start) x.challenges ch
-      of.challenges there in
+      of.challenges has in
       let low = parent-le x of at_tip in
-      quiet.mine ch ch.owner at_tip low there unanswered k.shown (omega (arith, k.below, low)) inside
-
-  -- a tick
-  keeps-Tick : (time : ℕ) → is_forged rules.tag events w c ≡ false
-      → (meets_deadline (log_of events) c (Joins (Tick time)) ≡ true → is_guarded events w c e ≡ true)
-      → AllWatched c at.hold.me e (now (log_of events)) (exits (log_of events))
-      → AllWatched c at.hold.me e time (exits (log_of events))
-  keeps-Tick time unforged attends all =
-      all-from (IfOf c at.hold.me e time) (exits (log_of events))
-      (λ x there c_is.
-      let was = all-has (IfOf c at.hold.me e (now (log_of events))) (exits (log_of events)) x all there c_is in
-      let of = of_held tests rules events w c e at.hold.me legal at.held x there c_is in
-      let quiet_at : meets_exit (now (log_of events)) time x ≡ true → IsStill tests rules events c at.held.made e x =
-      λ met. guarded_still tests rules signs events w c e legal at.one_before unforged at.hold at.held
-      (attends (any-has (λ (y : Exit). (y.coin == c) && meets_exit (now (log_of events)) time y)
-      (exits (log_of events)) x there (and_from _ _ (eq-eqb x.coin c c_is) met))) x there c_is in
-      ticked-watched c at.hold.me e (now (log_of events)) time x was
-      (λ other inside over. others-still x of
-      (quiet_at (or_left (is_met (now (log_of events)) time (x.start + CHALLENGE_WINDOW)) _
-      (and_from _ _ (lt-ltb _ _ inside) (le-leb _ _ over)))) was.unspent other inside)
-      (λ own at_tip ch is_there unanswered inside over. mine-still x of
-      (quiet_at (or_right (is_met (now (log_of events)) time (x.start + CHALLENGE_WINDOW))
-      (list_any (meets_challenge (now (log_of events)) time) x.challenges)
-      (any-has (meets_challenge (now (log_of events)) time) x.challenges ch is_there
-      (and_from _ _ (not_from_false _ unanswered) (and_from _ _ (lt-ltb _ _ inside) (le-leb _ _ over))))))
-      at_tip ch is_there unanswered inside))
+      let d = due-answer tests rules events c at.held.made e offers g x there c_is ch ch.owner at_tip low has unanswered
+      k.shown (omega (arith, k.below, low)) inside in (
+        d.0,
+        due-offered tests rules events c at.held.made e offers g x there c_is
+            (Respond g.account g.links.coin x.block ch.block d.0.opening) d.1,
+      )
 
   -- a start of a deposit's exit
   keeps-StartDeposit : (account k block : ℕ) → (account == at.hold.me.account ≡ true → k ≡ c → block ≡ e)
@@ -329,34 +341,33 @@ module _ (tests : Tests) (rules : Rules) (signs : SignsBy tests) (events : List 
       → (starts_by at.hold.me.account call ≡ true → coin_of_call call ≡ c → exit_block call ≡ e)
       → ((o : RawOpening) → Has (openings_of_call c call) o → Has more o)
       → forges_one rules.tag (wallet_owner events w) (bound_by events w) c (openings_of_call c call) ≡ false
-      → is_forged rules.tag events w c ≡ false
-      → (meets_deadline (log_of events) c (Joins call) ≡ true → is_guarded events w c e ≡ true)
+      → KeepsTick c at.hold.me e (log_of events) call
       → is_accepted (answer_to tests rules (log_of events) call) ≡ true
       → AllWatched c at.hold.me e (now (log_of events)) (exits (log_of events))
       → AllWatched c at.hold.me e (now (call ∷ log_of events)) (exits (call ∷ log_of events))
   unfolding exits now
-  keeps (Fund account amount) own has none unforged attends is all = all
-  keeps (Tick time) own has none unforged attends is all = keeps-Tick time unforged attends all
-  keeps (Deposit account amount key) own has none unforged attends is all = all
-  keeps (Commit account root) own has none unforged attends is all = all
-  keeps (StartDeposit account k block) own has none unforged attends is all =
+  keeps (Fund account amount) own has none ticks is all = all
+  keeps (Tick time) own has none ticks is all = ticks all
+  keeps (Deposit account amount key) own has none ticks is all = all
+  keeps (Commit account root) own has none ticks is all = all
+  keeps (StartDeposit account k block) own has none ticks is all =
       keeps-StartDeposit account k block own
       (accepted_calls_show tests rules (log_of events) (StartDeposit account k block) is) all
-  keeps (StartSpend account k parent exit) own has none unforged attends is all =
+  keeps (StartSpend account k parent exit) own has none ticks is all =
       keeps-StartSpend account k parent exit own has none
       (accepted_calls_show tests rules (log_of events) (StartSpend account k parent exit) is) all
-  keeps (After account k f spend) own has none unforged attends is all =
+  keeps (After account k f spend) own has none ticks is all =
       all-filter (IfOf c at.hold.me e (now (log_of events))) (λ (x : Exit). not (is_exit k f x))
       (exits (log_of events)) all
-  keeps (Between account k f spend) own has none unforged attends is all =
+  keeps (Between account k f spend) own has none ticks is all =
       all-filter (IfOf c at.hold.me e (now (log_of events))) (λ (x : Exit). not (is_exit k f x))
       (exits (log_of events)) all
-  keeps (Before account k f shown) own has none unforged attends is all =
+  keeps (Before account k f shown) own has none ticks is all =
       keeps-Before account k f shown
       (accepted_calls_show tests rules (log_of events) (Before account k f shown) is) all
-  keeps (Respond account k f challenged spend) own has none unforged attends is all =
+  keeps (Respond account k f challenged spend) own has none ticks is all =
       keeps-Respond account k f challenged spend has none
       (accepted_calls_show tests rules (log_of events) (Respond account k f challenged spend) is) all
-  keeps (Finish account k f) own has none unforged attends is all =
+  keeps (Finish account k f) own has none ticks is all =
       all-filter (IfOf c at.hold.me e (now (log_of events))) (λ (x : Exit). not (is_exit k f x))
       (exits (log_of events)) all

@@ -47,7 +47,7 @@ AllWatched c me e time xs = AllByRecursion (IfOf c me e time) xs
 
 -- ---- challenges
 
-is_none-push : (block : ℕ) (chs : List Challenge) (new : Challenge) → is_none (challenge_at block chs) ≡ false
+pub is_none-push : (block : ℕ) (chs : List Challenge) (new : Challenge) → is_none (challenge_at block chs) ≡ false
     → is_none (challenge_at block (chs ++ new ∷ [])) ≡ false
 is_none-push block [] new was = absurd (true≢false was)
 is_none-push block (first ∷ rest) new was =
@@ -57,7 +57,7 @@ is_none-push block (first ∷ rest) new was =
       | false ↦ λ is. is_none-push block rest new is
     ]) was
 
-is_none-answered : (block other : ℕ) (chs : List Challenge)
+pub is_none-answered : (block other : ℕ) (chs : List Challenge)
     → is_none (challenge_at block (map (with_answer_at other) chs)) ≡ is_none (challenge_at block chs)
 is_none-answered block other [] = refl
 is_none-answered block other (first ∷ rest) =

@@ -11,11 +11,12 @@ use Rattle.plasma_tx.specs.Views.{coins}
 use Rattle.world_rules.specs.Events.{Event, log_of, coin_of_call, wallet_owner, offers_of, Joins, is_command_of, offered}
 use Rattle.world_rules.specs.Deeds.{exit_block}
 use Rattle.world_rules.specs.Exhibits.{collides, is_forged, exhibit_of}
-use Rattle.world_rules.specs.Safety.{holds, is_attended, is_safe, is_watch, is_joined}
+use Rattle.world_rules.specs.Safety.{holds, is_safe, is_watch, is_joined}
 use Rattle.world_rules.specs.Verdicts.{verdict_at}
 use Rattle.world_rules.specs.Laws.{IsDigest}
 use Rattle.world_laws.specs.Headline.{lacks_bond, starter, IsTaken}
 use Rattle.world_laws.specs.Legal.{IsLegal}
+use Rattle.world_laws.specs.Looked.{is_looked_after}
 
 -- the wallet was declared before the deposit of the coin
 unfoldable pub was_declared_before : List Event → ℕ → ℕ → Bool
@@ -35,11 +36,11 @@ fresh_offers (event ∷ events) n =
 -- The coin that a wallet holds is safe at each event. Unless the events up to it show, at this coin, two byte strings
 -- with one digest, or a signature that is valid under the wallet's key and that the wallet never made, no exit of
 -- another account was paid while the wallet held the coin at e, and its own exit at e wasn't cancelled or dropped, and
--- paid where it was finished at its end; where each tick before the event that met a deadline of the coin was attended.
+-- paid where it was finished at its end; where the coin was looked after at each tick before the event.
 abbrev pub LegalCoinsAreSafe : Type 0
 LegalCoinsAreSafe = (dig : List ℕ → List ℕ) (rules : Rules) (event : Event) (events : List Event) (w c e : ℕ)
     → IsDigest dig → IsLegal (tests_by dig) rules (event ∷ events)
-    → is_attended events w c e ≡ true
+    → is_looked_after events w c e ≡ true
     → collides dig (event ∷ events) c ≡ false
     → is_forged rules.tag (event ∷ events) w c ≡ false
     → is_safe (tests_by dig) rules (event ∷ events) w c e ≡ true

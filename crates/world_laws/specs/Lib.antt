@@ -1,4 +1,5 @@
 pub mod Headline
 pub mod Legal
+pub mod Looked
 pub mod LegalLaws
 pub mod Bundles

@@ -7,7 +7,8 @@ mod signed_laws;
 
 pub use bundle_laws::honest_bundles_are_taken;
 pub use laws::{
-    due_calls_are_taken, held_coins_are_safe, lost_is_exhibited, one_wallet_holds,
+    attended_coins_are_looked_after, due_calls_are_taken, held_coins_are_safe,
+    looked_after_coins_are_safe, looking_often_is_enough, lost_is_exhibited, one_wallet_holds,
     starts_are_taken, words_are_printed,
 };
 pub use signed_laws::leaves_sign_one_message;

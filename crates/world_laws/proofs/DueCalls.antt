@@ -1,4 +1,4 @@
--- The exits of a coin that a quiet node guards are still: nothing is due for them.
+-- What is due for the exits of a coin that a node guards, and so is among the calls that it offers.
 use Rattle.std.proofs.Common.{◌≡◌, ℕ, ◌+◌, ◌<◌, ◌≤◌, ◌==◌, ◌&&◌, ◌||◌, cond, not, Bool, true, false, if◌then◌else◌, List, [], ◌∷◌, map, Option, Some, None, inl, inr, refl, sym, ap, ◌∙◌, subst, arith, find, filter}
 use Rattle.std.specs.Prelude.{is_some, is_none, nat_lt, unwrap_or}
 use Rattle.std.specs.Option.{option_map, option_map_or, option_or}
@@ -13,7 +13,7 @@ use Rattle.plasma_tx.specs.declared.views.ChallengeView.{ChallengeView}
 use Rattle.plasma_tx.specs.declared.views.CoinView.{CoinView}
 use Rattle.plasma_tx.specs.ChallengeLists.{is_challenged}
 use Rattle.plasma_tx.specs.Links.{tip_of}
-use Rattle.plasma_tx.specs.Views.{now, Challenge, Exit, exits, challenge_at, challenge_view, exit_view, exits_of}
+use Rattle.plasma_tx.specs.Views.{now, Challenge, Exit, exits, challenge_at, challenge_view, exit_view, exits_of, block_of}
 use Rattle.plasma_tx.specs.declared.rules.TheConstants.{CHALLENGE_WINDOW, RESPONSE_WINDOW}
 use Rattle.plasma_tx.specs.Shown.{Tests, Rules}
 use Rattle.watch_duty.specs.Duty.{link_after, tip_shown, within, answer, due_for, due_of}
@@ -63,7 +63,7 @@ module _ (log : List RootCall) (account : ℕ) (links : Links) where
       subst (λ (b : Bool). Has (if b then [] else call ∷ []) call) (sym (lt-leb (time + window) (now log) inside))
       (inl refl)
 
-  module _ (x : Exit) (inside : now log < x.start + CHALLENGE_WINDOW) where
+  module _ (A : Type 0) (x : Exit) (inside : now log < x.start + CHALLENGE_WINDOW) where
     abbrev after : Link → List RootCall
     after link = within log x.start CHALLENGE_WINDOW (After account links.coin x.block link.opening)
 
@@ -82,36 +82,37 @@ module _ (log : List RootCall) (account : ℕ) (links : Links) where
     between-has link = within-has x.start CHALLENGE_WINDOW (Between account links.coin x.block link.opening) inside
 
     by_first : (o : Option Link) (b : Bool) (l : Option Link) (rest : Option (List RootCall)) → is_some o ≡ true
-        → ((call : RootCall) → Has (Calls o b l rest) call → ⊥) → ⊥
-    by_first None b l rest some none = false≢true some
-    by_first (Some link) b l rest some none = none (After account links.coin x.block link.opening) (after-has link)
+        → ((call : RootCall) → Has (Calls o b l rest) call → A) → A
+    by_first None b l rest some gives = absurd (false≢true some)
+    by_first (Some link) b l rest some gives = gives (After account links.coin x.block link.opening) (after-has link)
 
     by_second : (o : Option Link) (b : Bool) (l : Option Link) (rest : Option (List RootCall)) → b ≡ true
-        → is_some l ≡ true → ((call : RootCall) → Has (Calls o b l rest) call → ⊥) → ⊥
-    by_second (Some link) b l rest on some none =
-        none (After account links.coin x.block link.opening) (after-has link)
-    by_second None false l rest on some none = false≢true on
-    by_second None true None rest on some none = false≢true some
-    by_second None true (Some link) rest on some none =
-        none (Between account links.coin x.block link.opening) (between-has link)
+        → is_some l ≡ true → ((call : RootCall) → Has (Calls o b l rest) call → A) → A
+    by_second (Some link) b l rest on some gives =
+        gives (After account links.coin x.block link.opening) (after-has link)
+    by_second None false l rest on some gives = absurd (false≢true on)
+    by_second None true None rest on some gives = absurd (false≢true some)
+    by_second None true (Some link) rest on some gives =
+        gives (Between account links.coin x.block link.opening) (between-has link)
 
     by_third : (o : Option Link) (b : Bool) (l : Option Link) (calls : List RootCall) (call : RootCall)
-        → Has calls call → ((call : RootCall) → Has (Calls o b l (Some calls)) call → ⊥) → ⊥
-    by_third (Some link) b l calls call has none =
-        none (After account links.coin x.block link.opening) (after-has link)
-    by_third None true (Some link) calls call has none =
-        none (Between account links.coin x.block link.opening) (between-has link)
-    by_third None true None calls call has none = none call has
-    by_third None false l calls call has none = none call has
+        → Has calls call → ((call : RootCall) → Has (Calls o b l (Some calls)) call → A) → A
+    by_third (Some link) b l calls call has gives =
+        gives (After account links.coin x.block link.opening) (after-has link)
+    by_third None true (Some link) calls call has gives =
+        gives (Between account links.coin x.block link.opening) (between-has link)
+    by_third None true None calls call has gives = gives call has
+    by_third None false l calls call has gives = gives call has
 
-  -- an open challenge in its window is answered
+  -- the answer to an open challenge in its window
   answer-has : (x : Exit) (ch : Challenge) (o : Option Link) → link_after links ch.block ≡ o → is_some o ≡ true
       → ch.answered ≡ false → now log < ch.at + RESPONSE_WINDOW
-      → (call : RootCall) × Has (answer log account links (exit_view x) (challenge_view ch)) call
+      → (link : Link) × Has (answer log account links (exit_view x) (challenge_view ch))
+      (Respond account links.coin x.block ch.block link.opening)
   answer-has x ch None o_is some unanswered inside = absurd (false≢true some)
   answer-has x ch (Some link) o_is some unanswered inside =
       let call : RootCall = Respond account links.coin x.block ch.block link.opening in (
-        call,
+        link,
         subst (λ (b : Bool). Has (if b then [] else option_map_or
             (λ (l : Link). within log ch.at RESPONSE_WINDOW
             (Respond account links.coin x.block ch.block l.opening))
@@ -122,40 +123,26 @@ module _ (log : List RootCall) (account : ℕ) (links : Links) where
             (within-has ch.at RESPONSE_WINDOW call inside)),
       )
 
--- nothing is due for the exit
-pub record IsStill (tests : Tests) (rules : Rules) (events : List Event) (c : ℕ) (made : CoinView) (e : ℕ) (x : Exit)
-    : Type 0 where
-  -- of an exit before the tip, of one of a later block with a parent before the tip, and of one with a parent after
-  -- the tip that isn't challenged there, the window is over
-  pub old : (o : Owner) → IsShownAt tests rules (log_of events) (seen events c) c made x.block o → x.block < e
-      → now (log_of events) < x.start + CHALLENGE_WINDOW → ⊥
-  pub later : (o : Owner) → e < x.block → IsShownAt tests rules (log_of events) (seen events c) c made x.parent o
-      → x.parent < e → now (log_of events) < x.start + CHALLENGE_WINDOW → ⊥
-  pub planted : e < x.parent → is_none (challenge_at e x.challenges) ≡ true
-      → now (log_of events) < x.start + CHALLENGE_WINDOW → ⊥
-  -- so it is of an open challenge before the tip, on the exit at the tip
-  pub mine : (ch : Challenge) (o : Owner) → x.block ≡ e → x.parent ≤ e → Has x.challenges ch → ch.answered ≡ false
-      → IsShownAt tests rules (log_of events) (seen events c) c made ch.block o → ch.block < e
-      → now (log_of events) < ch.at + RESPONSE_WINDOW → ⊥
-
--- a node's guard of the coin at the tip, by which nothing is due
-pub record IsStillGuard (tests : Tests) (rules : Rules) (events : List Event) (c : ℕ) (made : CoinView) (e : ℕ)
-    : Type 0 where
+-- a good guard of the coin at the tip, by which the calls have all that is due
+pub record OffersDue (tests : Tests) (rules : Rules) (events : List Event) (c : ℕ) (made : CoinView) (e : ℕ)
+    (offers : List RootCall) : Type 0 where
   pub account : ℕ
   pub links : Links
   pub good : IsGoodGuard tests rules (log_of events) (seen events c) c made e links
-  pub none : (call : RootCall) → Has (due_of (log_of events) account (record { links = links })) call → ⊥
+  pub shown_is : block_of (tip_shown links) ≡ e
+  pub due : (call : RootCall) → Has (due_of (log_of events) account (record { links = links })) call
+      → Has offers call
 
 module _ (tests : Tests) (rules : Rules) (events : List Event) (c : ℕ) (made : CoinView) (e : ℕ)
-    (g : IsStillGuard tests rules events c made e) (x : Exit) (there : Has (exits (log_of events)) x)
-    (c_is : x.coin ≡ c) where
-  abbrev Due : List RootCall
+    (offers : List RootCall) (g : OffersDue tests rules events c made e offers) (x : Exit)
+    (there : Has (exits (log_of events)) x) (c_is : x.coin ≡ c) where
+  abbrev pub Due : List RootCall
   Due = due_for (log_of events) g.account g.links (exit_view x)
 
-  none-due : (call : RootCall) → Has Due call → ⊥
+  pub due-offered : (call : RootCall) → Has Due call → Has offers call
   unfolding exits_of
-  none-due call h =
-      g.none call
+  due-offered call h =
+      g.due call
       (has-flat (due_for (log_of events) g.account g.links) (exits_of (log_of events) g.links.coin) (exit_view x) call
       (has-mapped exit_view (filter (λ exit. exit.coin == g.links.coin) (exits (log_of events))) x
       (has-kept (λ (exit : Exit). exit.coin == g.links.coin) (exits (log_of events)) x there
@@ -183,49 +170,66 @@ module _ (tests : Tests) (rules : Rules) (events : List Event) (c : ℕ) (made :
       ∙ any-map challenge_view (λ (v : ChallengeView). v.block == e) x.challenges
       ∙ none-any (λ (ch : Challenge). ch.block == e) x.challenges none
 
-  pub still : IsStill tests rules events c made e x
-  still = record {
-    old = λ o shown below inside.
-        by_first (log_of events) g.account g.links x inside (link_after g.links x.block)
+  -- what each due call gives, where one is due: in the window of an exit before the tip, of one of a later block with a
+  -- parent before the tip, and of one with a parent after the tip that isn't challenged there
+  module _ (A : Type 0) (inside : now (log_of events) < x.start + CHALLENGE_WINDOW)
+      (gives : (call : RootCall) → Has Due call → A) where
+    pub due-old : (o : Owner) → IsShownAt tests rules (log_of events) (seen events c) c made x.block o → x.block < e
+        → A
+    due-old o shown below =
+        by_first (log_of events) g.account g.links A x inside (link_after g.links x.block)
         (nat_lt (tip_of g.links) x.block) (link_after g.links x.parent) Rest
-        (g.good.reaches x.block o shown below) none-due;
-    later = λ o above shown below inside.
-        by_second (log_of events) g.account g.links x inside (link_after g.links x.block)
+        (g.good.reaches x.block o shown below) gives
+
+    pub due-later : (o : Owner) → e < x.block
+        → IsShownAt tests rules (log_of events) (seen events c) c made x.parent o → x.parent < e → A
+    due-later o above shown below =
+        by_second (log_of events) g.account g.links A x inside (link_after g.links x.block)
         (nat_lt (tip_of g.links) x.block) (link_after g.links x.parent) Rest
         (lt-ltb (tip_of g.links) x.block (omega (arith, above, g.good.tip_is)))
-        (g.good.reaches x.parent o shown below) none-due;
-    planted = λ above free inside.
+        (g.good.reaches x.parent o shown below) gives
+
+    pub due-planted : e < x.parent → is_none (challenge_at e x.challenges) ≡ true → A
+    due-planted above free =
         let on : Planted ≡ true = and_from _ _ (lt-ltb (tip_of g.links) x.parent (omega (arith, above, g.good.tip_is)))
         (not_from_false _ (unchallenged free)) in
-        by_third (log_of events) g.account g.links x inside (link_after g.links x.block)
+        by_third (log_of events) g.account g.links A x inside (link_after g.links x.block)
         (nat_lt (tip_of g.links) x.block) (link_after g.links x.parent) Before_call
         (Before g.account g.links.coin x.block (tip_shown g.links))
         (within-has (log_of events) g.account g.links x.start CHALLENGE_WINDOW
         (Before g.account g.links.coin x.block (tip_shown g.links)) inside)
-        (subst (λ (b : Bool). (call : RootCall) → Has (Calls (log_of events) g.account g.links x inside
+        (subst (λ (b : Bool). (call : RootCall) → Has (Calls (log_of events) g.account g.links A x inside
         (link_after g.links x.block) (nat_lt (tip_of g.links) x.block) (link_after g.links x.parent)
-        (option_or (if b then Some Before_call else None) Answers)) call → ⊥) on none-due);
-    mine = λ ch o at_tip low has unanswered shown below inside.
-        let first : link_after g.links x.block ≡ None = ap (link_after g.links) at_tip ∙ g.good.none_after in
-        let second : nat_lt (tip_of g.links) x.block ≡ false =
-        le-ltb (tip_of g.links) x.block (omega (arith, at_tip, g.good.tip_is)) in
-        let third : Planted ≡ false =
-        ap (λ (b : Bool). b && not (is_challenged (tip_of g.links) (map challenge_view x.challenges)))
-        (le-ltb (tip_of g.links) x.parent (omega (arith, low, g.good.tip_is))) in
-        let fourth : x.block == tip_of g.links ≡ true =
-        eq-eqb x.block (tip_of g.links) (at_tip ∙ sym g.good.tip_is) in
-        let calls : List RootCall =
-        flat_map (answer (log_of events) g.account g.links (exit_view x)) (map challenge_view x.challenges) in
-        let all : Due ≡ calls = λ i. unwrap_or (option_or (option_map
-        (λ (link : Link). within (log_of events) x.start CHALLENGE_WINDOW
-        (After g.account g.links.coin x.block link.opening)) (first i))
-        (option_or (if second i then option_map
-        (λ (link : Link). within (log_of events) x.start CHALLENGE_WINDOW
-        (Between g.account g.links.coin x.block link.opening)) (link_after g.links x.parent) else None)
-        (option_or (if third i then Some Before_call else None) (if fourth i then Some calls else None)))) [] in
-        let a = answer-has (log_of events) g.account g.links x ch (link_after g.links ch.block) refl
-        (g.good.reaches ch.block o shown below) unanswered inside in
-        none-due a.0 (subst (λ (l : List RootCall). Has l a.0) (sym all)
-        (has-flat (answer (log_of events) g.account g.links (exit_view x)) (map challenge_view x.challenges)
-        (challenge_view ch) a.0 (has-mapped challenge_view x.challenges ch has) a.1));
-  }
+        (option_or (if b then Some Before_call else None) Answers)) call → A) on gives)
+
+  -- to an open challenge before the tip, of the exit at the tip, the answer is due in its time
+  pub due-answer : (ch : Challenge) (o : Owner) → x.block ≡ e → x.parent ≤ e → Has x.challenges ch
+      → ch.answered ≡ false → IsShownAt tests rules (log_of events) (seen events c) c made ch.block o → ch.block < e
+      → now (log_of events) < ch.at + RESPONSE_WINDOW
+      → (link : Link) × Has Due (Respond g.account g.links.coin x.block ch.block link.opening)
+  due-answer ch o at_tip low has unanswered shown below inside =
+      let first : link_after g.links x.block ≡ None = ap (link_after g.links) at_tip ∙ g.good.none_after in
+      let second : nat_lt (tip_of g.links) x.block ≡ false =
+      le-ltb (tip_of g.links) x.block (omega (arith, at_tip, g.good.tip_is)) in
+      let third : Planted ≡ false =
+      ap (λ (b : Bool). b && not (is_challenged (tip_of g.links) (map challenge_view x.challenges)))
+      (le-ltb (tip_of g.links) x.parent (omega (arith, low, g.good.tip_is))) in
+      let fourth : x.block == tip_of g.links ≡ true =
+      eq-eqb x.block (tip_of g.links) (at_tip ∙ sym g.good.tip_is) in
+      let calls : List RootCall =
+      flat_map (answer (log_of events) g.account g.links (exit_view x)) (map challenge_view x.challenges) in
+      let all : Due ≡ calls = λ i. unwrap_or (option_or (option_map
+      (λ (link : Link). within (log_of events) x.start CHALLENGE_WINDOW
+      (After g.account g.links.coin x.block link.opening)) (first i))
+      (option_or (if second i then option_map
+      (λ (link : Link). within (log_of events) x.start CHALLENGE_WINDOW
+      (Between g.account g.links.coin x.block link.opening)) (link_after g.links x.parent) else None)
+      (option_or (if third i then Some Before_call else None) (if fourth i then Some calls else None)))) [] in
+      let a = answer-has (log_of events) g.account g.links x ch (link_after g.links ch.block) refl
+      (g.good.reaches ch.block o shown below) unanswered inside in
+      let call : RootCall = Respond g.account g.links.coin x.block ch.block a.0.opening in (
+        a.0,
+        subst (λ (l : List RootCall). Has l call) (sym all)
+            (has-flat (answer (log_of events) g.account g.links (exit_view x)) (map challenge_view x.challenges)
+            (challenge_view ch) call (has-mapped challenge_view x.challenges ch has) a.1),
+      )

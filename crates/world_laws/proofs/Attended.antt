@@ -1,0 +1,137 @@
+-- What is attended is looked after.
+use Rattle.std.proofs.Common.{◌≡◌, ℕ, ◌+◌, ◌==◌, ◌&&◌, ◌||◌, not, Bool, true, false, if◌then◌else◌, List, [], ◌∷◌, inl, inr, refl, sym, ap, ◌∙◌}
+use Rattle.std.specs.List.{list_any}
+use Rattle.std.proofs.lemmas.Bool.{eqb-true, eq-eqb, and_parts, and_from, or_parts, or_cases, or_left, or_right, not-true, not_from_false, true≢false, false≢true, false_from_ne_true}
+use Rattle.plasma_tx.specs.declared.call.RootCall.{RootCall}
+use Rattle.plasma_tx.specs.declared.call.RootCall.TheVariants.{Tick, After, Between, Before, Respond}
+use Rattle.plasma_tx.specs.Views.{now, Exit, exits}
+use Rattle.plasma_tx.specs.Laws.{is_start, is_respond}
+use Rattle.plasma_tx.specs.declared.rules.TheConstants.{CHALLENGE_WINDOW}
+use Rattle.watch_duty.proofs.Members.{any-has}
+use Rattle.world_rules.specs.Events.{Event, Joins, Watches, log_of, is_bundle, guarded_by, watchers, is_command_of, offered}
+use Rattle.world_rules.specs.Safety.{holds, is_met, meets_challenge, meets_exit, meets_deadline, offers_none, is_watch, is_joined, is_quiet, is_watched_by, is_guarded, needs_guardian, goes_unattended, is_attended}
+use Rattle.world_laws.specs.Looked.{is_before, is_on_exit, is_on_coin, settles, are_settled, is_guardian, has_look, goes_unseen, is_looked_after, AttendedCoinsAreLookedAfter}
+use Rattle.world_laws.proofs.Lists.{and-seen, any-some}
+use Rattle.world_laws.proofs.Nodes.{same-node}
+use Rattle.world_laws.proofs.Unseen.{EndsUnseen, OfExit, OfChallenge, IsUnseen, is_unseen}
+
+-- ---- calls of the coin
+
+-- what is asked for is on the coin
+abbrev pub AsksOf : ℕ → (RootCall → Bool) → Type 0
+AsksOf c is_asked = (call : RootCall) → is_asked call ≡ true → is_on_coin c call ≡ true
+
+pub exit-asks : (c b : ℕ) → AsksOf c (is_on_exit c b)
+exit-asks c b (After account coin exit spend) is = (and_parts (coin == c) (exit == b) is).0
+exit-asks c b (Between account coin exit spend) is = (and_parts (coin == c) (exit == b) is).0
+exit-asks c b (Before account coin exit shown) is = (and_parts (coin == c) (exit == b) is).0
+exit-asks c b (Respond account coin exit challenged spend) is = (and_parts (coin == c) (exit == b) is).0
+exit-asks c b call is = absurd (false≢true is)
+
+pub respond-asks : (c e n : ℕ) → AsksOf c (is_respond c e n)
+respond-asks c e n (Respond account coin exit challenged spend) is =
+    (and_parts (coin == c) (exit == e) (and_parts ((coin == c) && (exit == e)) (challenged == n) is).0).0
+respond-asks c e n call is = absurd (false≢true is)
+
+-- ---- a quiet guardian looked
+
+module _ (opens is_asked : RootCall → Bool) (w c e : ℕ) (asks : AsksOf c is_asked) where
+  none-settled : (since offers : List RootCall) → list_any (is_on_coin c) offers ≡ false
+      → are_settled is_asked since offers ≡ true
+  none-settled since [] none = refl
+  none-settled since (offer ∷ offers) none =
+      let parts = or_parts (is_on_coin c offer) (list_any (is_on_coin c) offers) none in
+      and_from (not (is_asked offer) || list_any (settles offer) since) (are_settled is_asked since offers)
+      (or_left (not (is_asked offer)) (list_any (settles offer) since)
+      (not_from_false (is_asked offer)
+      (false_from_ne_true (is_asked offer) (λ on. true≢false (sym (asks offer on) ∙ parts.0)))))
+      (none-settled since offers parts.1)
+
+  quiet-looked : (events : List Event) (n : ℕ) → is_quiet events n c ≡ true → is_guardian events w c e n ≡ true
+      → has_look opens is_asked [] events w c e ≡ true
+  unfolding is_quiet has_look guarded_by
+  quiet-looked [] n quiet guardian = absurd (false≢true quiet)
+  quiet-looked (Joins call ∷ events) n quiet guardian = absurd (false≢true quiet)
+  quiet-looked (Watches m offers ∷ events) n quiet guardian =
+      (elim (m == n) as (λ b. (m == n) ≡ b
+      → (if b then true && offers_none c offers else not false && is_quiet events n c) ≡ true
+      → ((is_guardian events w c e m && are_settled is_asked [] offers)
+      || has_look opens is_asked [] events w c e) ≡ true) [
+        | true ↦ λ same none.
+            or_left (is_guardian events w c e m && are_settled is_asked [] offers)
+            (has_look opens is_asked [] events w c e)
+            (and_from (is_guardian events w c e m) (are_settled is_asked [] offers)
+            (ap (is_guardian events w c e) (eqb-true m n same) ∙ guardian)
+            (none-settled [] offers (not-true _ none)))
+        | false ↦ λ other rest.
+            or_right (is_guardian events w c e m && are_settled is_asked [] offers)
+            (has_look opens is_asked [] events w c e) (quiet-looked events n rest guardian)
+      ]) refl quiet
+  quiet-looked (event ∷ events) n quiet guardian =
+      (elim (is_command_of n event) as (λ b. is_command_of n event ≡ b
+      → (if b then is_watch event && offers_none c (offered event)
+      else not (is_joined event) && is_quiet events n c) ≡ true
+      → has_look opens is_asked [] events w c e ≡ true) [
+        | true ↦ λ own wrong. absurd (false≢true wrong)
+        | false ↦ λ other rest. quiet-looked events n rest
+            (ap (λ l. (n == w) || list_any (is_bundle c e) l) (sym (same-node event events n other refl).guards)
+            ∙ guardian)
+      ]) refl quiet
+
+-- where a guardian is quiet, it looked
+guarded-looked : (opens is_asked : RootCall → Bool) (events : List Event) (w c e : ℕ) → AsksOf c is_asked
+    → is_guarded events w c e ≡ true → has_look opens is_asked [] events w c e ≡ true
+unfolding is_guarded
+guarded-looked opens is_asked events w c e asks guarded =
+    elim (or_cases (is_quiet events w c) (list_any (is_watched_by events c e) (watchers events)) guarded) [
+      | inl own ↦ quiet-looked opens is_asked w c e asks events w own
+          (or_left (w == w) (list_any (is_bundle c e) (guarded_by events w)) (eq-eqb w w refl))
+      | inr some ↦
+          let g = any-some (is_watched_by events c e) (watchers events) some in
+          let parts = and_parts (is_quiet events g.0 c) (list_any (is_bundle c e) (guarded_by events g.0)) g.2 in
+          quiet-looked opens is_asked w c e asks events g.0 parts.0
+          (or_right (g.0 == w) (list_any (is_bundle c e) (guarded_by events g.0)) parts.1)
+    ]
+
+-- ---- ticks
+
+met-deadline : (events : List Event) (w c e time : ℕ) → EndsUnseen events w c e time
+    → meets_deadline (log_of events) c (Joins (Tick time)) ≡ true
+met-deadline events w c e time (OfExit x there c_is met unseen) =
+    any-has (λ (y : Exit). (y.coin == c) && meets_exit (now (log_of events)) time y) (exits (log_of events)) x there
+    (and_from (x.coin == c) (meets_exit (now (log_of events)) time x) (eq-eqb x.coin c c_is)
+    (or_left (is_met (now (log_of events)) time (x.start + CHALLENGE_WINDOW))
+    (list_any (meets_challenge (now (log_of events)) time) x.challenges) met))
+met-deadline events w c e time (OfChallenge x there c_is at_tip ch has met unseen) =
+    any-has (λ (y : Exit). (y.coin == c) && meets_exit (now (log_of events)) time y) (exits (log_of events)) x there
+    (and_from (x.coin == c) (meets_exit (now (log_of events)) time x) (eq-eqb x.coin c c_is)
+    (or_right (is_met (now (log_of events)) time (x.start + CHALLENGE_WINDOW))
+    (list_any (meets_challenge (now (log_of events)) time) x.challenges)
+    (any-has (meets_challenge (now (log_of events)) time) x.challenges ch has met)))
+
+guarded-none : (events : List Event) (w c e time : ℕ) → is_guarded events w c e ≡ true
+    → EndsUnseen events w c e time → ⊥
+guarded-none events w c e time guarded (OfExit x there c_is met unseen) =
+    true≢false (sym (guarded-looked (is_start c x.block) (is_on_exit c x.block) events w c e
+    (exit-asks c x.block) guarded) ∙ unseen)
+guarded-none events w c e time guarded (OfChallenge x there c_is at_tip ch has met unseen) =
+    true≢false (sym (guarded-looked (is_before c e ch.block) (is_respond c e ch.block) events w c e
+    (respond-asks c e ch.block) guarded) ∙ unseen)
+
+pub attended_are_looked_after : AttendedCoinsAreLookedAfter
+unfolding is_attended is_looked_after
+attended_are_looked_after [] w c e is = refl
+attended_are_looked_after (event ∷ events) w c e is =
+    let parts = and_parts (not (goes_unattended events w c e event)) (is_attended events w c e) is in
+    and_from (not (goes_unseen events w c e event)) (is_looked_after events w c e)
+    (not_from_false _ (false_from_ne_true (goes_unseen events w c e event) (λ unseen.
+    seen (is_unseen events w c e event unseen) (not-true _ parts.0))))
+    (attended_are_looked_after events w c e parts.1)
+  where
+    seen : IsUnseen events w c e event → goes_unattended events w c e event ≡ false → ⊥
+    seen u attended =
+        let met : needs_guardian events w c e event ≡ true =
+        and_from (meets_deadline (log_of events) c event) (holds events w c e)
+        (ap (meets_deadline (log_of events) c) u.event_is ∙ met-deadline events w c e u.time u.ends) u.held in
+        guarded-none events w c e u.time
+        (and-seen (needs_guardian events w c e event) (is_guarded events w c e) attended met) u.ends

@@ -1,0 +1,295 @@
+-- What was before an event: no exhibit, and the coin held by the same owner, or no exit of it stands after the event.
+use Rattle.std.proofs.Common.{◌≡◌, ◌≢◌, ◌⊎◌, ℕ, ◌+◌, ◌==◌, ◌&&◌, true, false, if◌then◌else◌, List, [], ◌∷◌, ◌++◌, Option, Some, None, inl, inr, refl, sym, ap, ◌∙◌, subst, arith, filter}
+use Rattle.std.specs.List.{list_any, flat_map}
+use Rattle.std.proofs.lemmas.Bool.{cases_eq, ne_eqb, eq-eqb, eqb-true, and_parts, or_parts, or_cases, or_left, or_right, true≢false, false≢true, false_from_ne_true}
+use Rattle.plasma_tx.specs.declared.owner.Owner.{Owner}
+use Rattle.plasma_tx.specs.declared.body.Body.{Body}
+use Rattle.plasma_tx.specs.declared.opening.RawOpening.{RawOpening}
+use Rattle.plasma_tx.specs.declared.call.RootCall.{RootCall}
+use Rattle.plasma_tx.specs.declared.call.RootCall.TheVariants.{Deposit, Finish}
+use Rattle.plasma_tx.specs.declared.views.CoinView.{CoinView}
+use Rattle.plasma_tx.specs.declared.views.ExitView.{ExitView}
+use Rattle.plasma_tx.specs.Views.{coins, coin_at, new_coin, Exit, exits, exit_at, exit_view, exits_of, is_withdrawn, has_no_open_challenge}
+use Rattle.plasma_tx.specs.Shown.{Tests, Rules, tests_by}
+use Rattle.plasma_tx.proofs.Bounds.{coin_at-le}
+use Rattle.watch_duty.proofs.Members.{Has}
+use Rattle.wallet_core.specs.State.{is_owner}
+use Rattle.world_rules.specs.Laws.{IsDigest}
+use Rattle.world_rules.specs.Events.{Event, Declares, Joins, Accepts, Binds, TakesBack, log_of, wallet_owner, accepted, bound_by, taken_back, not_taken, leaf_at, is_sent_from, is_bundle}
+use Rattle.world_rules.specs.Exhibits.{openings_of, seen, strings_in, strings_of, has_clash, forges_one, is_forged}
+use Rattle.world_rules.specs.Safety.{was_deposited}
+use Rattle.world_laws.specs.Legal.{deposits_by, IsLegal}
+use Rattle.world_laws.proofs.Lists.{some_same, none_some, any-some, append-assoc}
+use Rattle.world_laws.proofs.Clash.{one_leaf}
+use Rattle.world_laws.proofs.Shown.{all_shown, seen-grow}
+use Rattle.world_laws.proofs.Absences.{names, away-untake, away-unbind, parted, back-more}
+use Rattle.world_laws.proofs.Bound.{Holding, is_noted, owner-is}
+use Rattle.world_laws.proofs.Held.{held_at}
+use Rattle.world_laws.proofs.DueCalls.{has-mapped, has-kept}
+use Rattle.world_laws.proofs.Watched.{AtEvent}
+
+-- ---- events that don't exhibit didn't before
+
+pub strings-append : (dig : List ℕ → List ℕ) (c : ℕ) (xs ys : List RawOpening)
+    → strings_of dig c (xs ++ ys) ≡ strings_of dig c xs ++ strings_of dig c ys
+unfolding strings_of
+strings-append dig c [] ys = refl
+strings-append dig c (x ∷ xs) ys =
+    ap (λ l. strings_in dig c x ++ l) (strings-append dig c xs ys)
+    ∙ append-assoc (strings_in dig c x) (flat_map (strings_in dig c) xs) (flat_map (strings_in dig c) ys)
+
+clash-before : (dig : List ℕ → List ℕ) (xs ys : List (List ℕ)) → has_clash dig (xs ++ ys) ≡ false
+    → has_clash dig ys ≡ false
+unfolding has_clash
+clash-before dig [] ys none = none
+clash-before dig (x ∷ xs) ys none = clash-before dig xs ys (or_parts _ _ none).1
+
+pub none-before : (dig : List ℕ → List ℕ) (event : Event) (events : List Event) (c : ℕ)
+    → has_clash dig (strings_of dig c (seen (event ∷ events) c)) ≡ false
+    → has_clash dig (strings_of dig c (seen events c)) ≡ false
+unfolding seen
+none-before dig event events c none =
+    clash-before dig (strings_of dig c (openings_of c event)) (strings_of dig c (seen events c))
+    (subst (λ l. has_clash dig l ≡ false) (strings-append dig c (openings_of c event) (seen events c)) none)
+
+pub forged-parts : (tag : List ℕ) (event : Event) (events : List Event) (w c : ℕ)
+    → is_forged tag (event ∷ events) w c ≡ false
+    → (forges_one tag (wallet_owner events w) (bound_by events w) c (openings_of c event) ≡ false)
+    × (is_forged tag events w c ≡ false)
+unfolding is_forged
+forged-parts tag event events w c none = or_parts _ _ none
+
+-- ---- holding, before the event
+
+withdrawn-before : (call : RootCall) (log : List RootCall) (c : ℕ) → is_withdrawn (call ∷ log) c ≡ false
+    → is_withdrawn log c ≡ false
+unfolding is_withdrawn
+withdrawn-before (Finish account k f) log c none =
+    (or_parts ((k == c) && has_no_open_challenge (exit_at log k f)) (is_withdrawn log c) none).1
+withdrawn-before call log c none = none
+
+deposit-caller : (log : List RootCall) (c : ℕ) (made : CoinView) → coin_at log c ≡ Some made
+    → list_any (deposits_by made.owner.account) log ≡ true
+unfolding coin_at
+deposit-caller [] c made is = absurd (none_some made is)
+deposit-caller (Deposit account amount key ∷ log) c made is =
+    (elim (c == coins log + 1) as (λ b. (if b then Some (new_coin log account amount key) else coin_at log c)
+    ≡ Some made → list_any (deposits_by made.owner.account) (Deposit account amount key ∷ log) ≡ true) [
+      | true ↦ λ same. or_left (account == made.owner.account) (list_any (deposits_by made.owner.account) log)
+          (eq-eqb account made.owner.account
+          (ap (λ (x : CoinView). x.owner.account) (some_same (new_coin log account amount key) made same)))
+      | false ↦ λ later. or_right (account == made.owner.account) (list_any (deposits_by made.owner.account) log)
+          (deposit-caller log c made later)
+    ]) is
+deposit-caller (call ∷ log) c made is =
+    or_right (deposits_by made.owner.account call) (list_any (deposits_by made.owner.account) log)
+    (deposit-caller log c made is)
+
+abbrev pub NoneStands : List RootCall → ℕ → Type 0
+NoneStands log c = (x : Exit) → Has (exits log) x → x.coin ≡ c → ⊥
+
+pub none-stands : (log : List RootCall) (k c : ℕ) → exits_of log k ≡ [] → k ≡ c → NoneStands log c
+unfolding exits_of
+none-stands log k c none same x there c_is =
+    subst (λ (l : List ExitView). Has l (exit_view x)) none
+    (has-mapped exit_view (filter (λ exit. exit.coin == k) (exits log)) x
+    (has-kept (λ (exit : Exit). exit.coin == k) (exits log) x there (eq-eqb x.coin k (c_is ∙ sym same))))
+
+abbrev pub HeldBefore : (event : Event) (events : List Event) (w c e : ℕ) → Owner → Type 0
+HeldBefore event events w c e me =
+    ((h : Holding events w c e) × (h.me ≡ me)) ⊎ NoneStands (log_of (event ∷ events)) c
+
+before-deposit : (tests : Tests) (rules : Rules) (account amount : ℕ) (key : List ℕ) (events : List Event)
+    (w c e : ℕ) → IsLegal tests rules events → (h : Holding (Joins (Deposit account amount key) ∷ events) w c e)
+    → HeldBefore (Joins (Deposit account amount key)) events w c e h.me
+unfolding log_of wallet_owner accepted bound_by taken_back coin_at exits
+before-deposit tests rules account amount key events w c e legal h =
+    elim (cases_eq c (coins (log_of events) + 1)) [
+      | inl new ↦ inr (λ x there c_is.
+          let s = all_shown tests rules events legal x there in
+          let low = coin_at-le (log_of events) x.coin s.made s.made_is in
+          absurd (omega (arith, low, c_is)))
+      | inr apart ↦ inl (
+        record {
+          me = h.me;
+          me_is = h.me_is;
+          source = simp (ne_eqb c (coins (log_of events) + 1) apart) at h.source;
+          not_away = h.not_away;
+          not_withdrawn = withdrawn-before (Deposit account amount key) (log_of events) c h.not_withdrawn;
+        },
+        refl,
+      )
+    ]
+
+-- a coin that is held after an event was held before it by the same owner, or no exit of it stands after the event
+pub held_before : (tests : Tests) (rules : Rules) (event : Event) (events : List Event) (w c e : ℕ)
+    → IsLegal tests rules (event ∷ events) → (h : Holding (event ∷ events) w c e)
+    → HeldBefore event events w c e h.me
+unfolding log_of wallet_owner accepted bound_by taken_back coin_at exits IsLegal
+held_before tests rules (Declares v me) events w c e legal h =
+    (elim (v == w) as (λ b. (v == w) ≡ b → (if b then Some me else wallet_owner events w) ≡ Some h.me
+    → HeldBefore (Declares v me) events w c e h.me) [
+      | true ↦ λ same is. absurd (new-one (eqb-true v w same) (some_same me h.me is) h.source)
+      | false ↦ λ apart is. inl (
+        record {
+          me = h.me;
+          me_is = is;
+          source = h.source;
+          not_away = h.not_away;
+          not_withdrawn = h.not_withdrawn;
+        },
+        refl,
+      )
+    ]) refl h.me_is
+  where
+    new-one : v ≡ w → me ≡ h.me
+        → (was_deposited h.me e (coin_at (log_of events) c) ≡ true)
+        ⊎ (list_any (is_bundle c e) (accepted events w) ≡ true) → ⊥
+    new-one same mine (inl deposited) = by_coin (coin_at (log_of events) c) refl deposited
+      where
+        by_coin : (o : Option CoinView) → coin_at (log_of events) c ≡ o → was_deposited h.me e o ≡ true → ⊥
+        by_coin None is was = false≢true was
+        by_coin (Some made) is was =
+            let owner = owner-is made.owner h.me (and_parts (made.deposit == e) (is_owner made.owner h.me) was).1 in
+            let account : made.owner.account ≡ me.account = ap (λ (x : Owner). x.account) (owner ∙ sym mine) in
+            true≢false (sym (deposit-caller (log_of events) c made is)
+            ∙ ap (λ a. list_any (deposits_by a) (log_of events)) account ∙ legal.0.no_deposit)
+    new-one same mine (inr was) =
+        let r = any-some (is_bundle c e) (accepted events w) was in
+        let n = is_noted tests rules events w r.0 legal.1 r.1 in
+        none_some n.me (sym legal.0.new ∙ ap (wallet_owner events) same ∙ n.me_is)
+held_before tests rules (Joins (Deposit account amount key)) events w c e legal h =
+    before-deposit tests rules account amount key events w c e legal.1 h
+held_before tests rules (Joins call) events w c e legal h = inl (
+  record {
+    me = h.me;
+    me_is = h.me_is;
+    source = h.source;
+    not_away = h.not_away;
+    not_withdrawn = withdrawn-before call (log_of events) c h.not_withdrawn;
+  },
+  refl,
+)
+held_before tests rules (Accepts v bundle) events w c e legal h =
+    (elim (v == w) as (λ b. (was_deposited h.me e (coin_at (log_of events) c) ≡ true)
+    ⊎ (list_any (is_bundle c e) (if b then bundle ∷ accepted events w else accepted events w) ≡ true)
+    → HeldBefore (Accepts v bundle) events w c e h.me) [
+      | false ↦ λ source. inl (
+        record {
+          me = h.me;
+          me_is = h.me_is;
+          source = source;
+          not_away = h.not_away;
+          not_withdrawn = h.not_withdrawn;
+        },
+        refl,
+      )
+      | true ↦ λ source. elim source [
+        | inl deposited ↦ inl (
+          record {
+            me = h.me;
+            me_is = h.me_is;
+            source = inl deposited;
+            not_away = h.not_away;
+            not_withdrawn = h.not_withdrawn;
+          },
+          refl,
+        )
+        | inr was ↦ elim (or_cases (is_bundle c e bundle) (list_any (is_bundle c e) (accepted events w)) was) [
+          | inr earlier ↦ inl (
+            record {
+              me = h.me;
+              me_is = h.me_is;
+              source = inr earlier;
+              not_away = h.not_away;
+              not_withdrawn = h.not_withdrawn;
+            },
+            refl,
+          )
+          | inl this ↦ inr (none-stands (log_of events) bundle.coin c legal.0.none_stands
+              (eqb-true bundle.coin c (and_parts (bundle.coin == c) (bundle.tip == e) this).0))
+        ]
+      ]
+    ]) h.source
+held_before tests rules (Binds v body) events w c e legal h = inl (
+  record {
+    me = h.me;
+    me_is = h.me_is;
+    source = h.source;
+    not_away = away-unbind (v == w) c e (taken_back events w) body (bound_by events w) h.not_away;
+    not_withdrawn = h.not_withdrawn;
+  },
+  refl,
+)
+held_before tests rules (TakesBack v q bundle) events w c e legal h =
+    (elim (v == w) as (λ b. (v == w) ≡ b
+    → is_sent_from (not_taken (if b then q ∷ taken_back events w else taken_back events w) (bound_by events w)) c e
+    ≡ false → HeldBefore (TakesBack v q bundle) events w c e h.me) [
+      | false ↦ λ apart off. inl (
+        record {
+          me = h.me;
+          me_is = h.me_is;
+          source = h.source;
+          not_away = off;
+          not_withdrawn = h.not_withdrawn;
+        },
+        refl,
+      )
+      | true ↦ λ same off. elim (cases_eq bundle.coin c) [
+        | inl this ↦ inr (none-stands (log_of events) bundle.coin c legal.0.none_stands this)
+        | inr other ↦ inl (
+          record {
+            me = h.me;
+            me_is = h.me_is;
+            source = h.source;
+            not_away = away-untake q c e (taken_back events w) (bound_by events w) (named other (eqb-true v w same)) off;
+            not_withdrawn = h.not_withdrawn;
+          },
+          refl,
+        )
+      ]
+    ]) refl h.not_away
+  where
+    -- the leaf is of another coin
+    named : bundle.coin ≢ c → v ≡ w → (body : Body) → leaf_at q (bound_by events w) ≡ Some body
+        → names c e body ≡ false
+    named other same body is =
+        let r : legal.0.body ≡ body =
+        some_same legal.0.body body (sym legal.0.leaf_is ∙ ap (λ x. leaf_at q (bound_by events x)) same ∙ is) in
+        false_from_ne_true ((body.coin == c) && (body.parent == e)) (λ on. other (sym legal.0.coin_is
+        ∙ ap (λ (x : Body). x.coin) r
+        ∙ eqb-true body.coin c (and_parts (body.coin == c) (body.parent == e) on).0))
+held_before tests rules event events w c e legal h = inl (
+  record {
+    me = h.me;
+    me_is = h.me_is;
+    source = h.source;
+    not_away = h.not_away;
+    not_withdrawn = h.not_withdrawn;
+  },
+  refl,
+)
+
+pub legal-before : (tests : Tests) (rules : Rules) (event : Event) (events : List Event)
+    → IsLegal tests rules (event ∷ events) → IsLegal tests rules events
+unfolding IsLegal
+legal-before tests rules event events legal = legal.1
+
+-- ---- what is known at an event on a held coin
+
+module _ (dig : List ℕ → List ℕ) (digest : IsDigest dig) (rules : Rules) (w c e : ℕ) where
+  unfoldable pub at_event : (event : Event) (events : List Event) → IsLegal (tests_by dig) rules events
+      → has_clash dig (strings_of dig c (seen (event ∷ events) c)) ≡ false → (h : Holding events w c e)
+      → AtEvent (tests_by dig) rules events w c e (seen (event ∷ events) c)
+  at_event event events legal none h = record {
+    hold = h;
+    held = held_at (tests_by dig) rules events w c e legal h;
+    one_before = one_leaf dig digest (log_of events) c (seen events c) (none-before dig event events c none);
+    one = one_leaf dig digest (log_of events) c (seen (event ∷ events) c) none;
+    has = seen-grow event events c;
+    parts = λ body b c_is. elim (parted (tests_by dig) rules events w c legal body b c_is) [
+      | inl l ↦ inl l
+      | inr k ↦ inr (back-more (tests_by dig) (log_of events) (seen events c) (seen (event ∷ events) c) body
+          (seen-grow event events c) k)
+    ];
+  }

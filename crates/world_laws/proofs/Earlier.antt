@@ -1,0 +1,322 @@
+-- One step back along the log: where a standing exit and its open challenges come from, and that the clock doesn't go
+-- back.
+use Rattle.std.proofs.Common.{◌≡◌, ◌⊎◌, ℕ, ◌≤◌, ◌==◌, ◌&&◌, not, Bool, true, false, if◌then◌else◌, List, [], ◌∷◌, ◌++◌, Some, None, inl, inr, refl, sym, ap, ◌∙◌, subst}
+use Rattle.std.specs.Prelude.{is_some, is_none}
+use Rattle.std.proofs.Math.Nat.{le_refl}
+use Rattle.std.proofs.lemmas.Bool.{eqb-true, eq-eqb, and_parts, and_from, not-true, true≢false, false_from_ne_true}
+use Rattle.plasma_tx.specs.declared.opening.RawOpening.{RawOpening}
+use Rattle.plasma_tx.specs.declared.call.Shown.{Shown}
+use Rattle.plasma_tx.specs.declared.call.RootCall.{RootCall}
+use Rattle.plasma_tx.specs.declared.call.RootCall.TheVariants.{Fund, Tick, Deposit, Commit, StartDeposit, StartSpend, After, Between, Before, Respond, Finish}
+use Rattle.plasma_tx.specs.Views.{now, block_of, Challenge, Exit, is_exit, exits, exit_at, without_exit, deposit_exit, spend_exit, challenge_at, with_challenge, with_answer, with_answer_at, new_challenge}
+use Rattle.plasma_tx.specs.Laws.{is_start, is_end, is_respond}
+use Rattle.plasma_tx.specs.Shown.{Tests, Rules}
+use Rattle.plasma_tx.specs.Table.{is_accepted, answer_to}
+use Rattle.plasma_tx.proofs.Accepted.{accepted_calls_show}
+use Rattle.plasma_tx.proofs.RuleNames.{exits-distinct}
+use Rattle.watch_duty.proofs.Members.{Has, has-cases, has-filter, has-map, only-found}
+use Rattle.world_laws.specs.Looked.{is_before}
+use Rattle.world_laws.proofs.Lists.{some_same, exit-named}
+use Rattle.world_laws.proofs.Watched.{is_none-push, is_none-answered}
+
+-- ---- an exit
+
+-- an open challenge of the exit was open before, and the call neither makes nor answers it
+pub record WasOpen (call : RootCall) (x y : Exit) (ch : Challenge) : Type 0 where
+  pub old : Challenge
+  pub there : Has y.challenges old
+  pub block : old.block ≡ ch.block
+  pub at : old.at ≡ ch.at
+  pub unanswered : old.answered ≡ false
+  pub not_made : is_before x.coin x.block ch.block call ≡ false
+  pub not_answered : is_respond x.coin x.block ch.block call ≡ false
+
+-- the call makes the challenge
+abbrev pub IsMade : List RootCall → RootCall → Exit → Challenge → Type 0
+IsMade log call x ch = (is_before x.coin x.block ch.block call ≡ true) × (ch.at ≡ now log)
+
+-- the exit stood before the call, which neither starts nor ends it
+pub record StoodBefore (log : List RootCall) (call : RootCall) (x : Exit) : Type 0 where
+  pub y : Exit
+  pub there : Has (exits log) y
+  pub coin : y.coin ≡ x.coin
+  pub block : y.block ≡ x.block
+  pub parent : y.parent ≡ x.parent
+  pub account : y.account ≡ x.account
+  pub start : y.start ≡ x.start
+  pub not_started : is_start x.coin x.block call ≡ false
+  pub not_ended : is_end x.coin x.block call ≡ false
+  -- it is challenged where it was, and where the call challenges it
+  pub challenged : (n : ℕ) → is_none (challenge_at n y.challenges) ≡ false
+      → is_none (challenge_at n x.challenges) ≡ false
+  pub by_it : (n : ℕ) → is_before x.coin x.block n call ≡ true → is_none (challenge_at n x.challenges) ≡ false
+  pub opened : (ch : Challenge) → Has x.challenges ch → ch.answered ≡ false
+      → IsMade log call x ch ⊎ WasOpen call x y ch
+
+-- the call starts the exit
+pub record IsNew (log : List RootCall) (call : RootCall) (x : Exit) : Type 0 where
+  pub started : is_start x.coin x.block call ≡ true
+  pub start : x.start ≡ now log
+  pub unchallenged : x.challenges ≡ []
+
+-- ---- names
+
+-- an exit of another name isn't meant
+other-name : (k f : ℕ) (x : Exit) → is_exit k f x ≡ false → ((k == x.coin) && (f == x.block)) ≡ false
+other-name k f x other =
+    false_from_ne_true ((k == x.coin) && (f == x.block)) (λ is.
+    let parts = and_parts (k == x.coin) (f == x.block) is in
+    true≢false (sym (and_from (x.coin == k) (x.block == f) (eq-eqb x.coin k (sym (eqb-true k x.coin parts.0)))
+    (eq-eqb x.block f (sym (eqb-true f x.block parts.1)))) ∙ other))
+
+own-name : (k f : ℕ) (x : Exit) → is_exit k f x ≡ true → ((k == x.coin) && (f == x.block)) ≡ true
+own-name k f x is =
+    let name = exit-named k f x is in
+    and_from (k == x.coin) (f == x.block) (eq-eqb k x.coin (sym name.0)) (eq-eqb f x.block (sym name.1))
+
+-- ---- challenges
+
+none-at : (n : ℕ) (chs : List Challenge) (ch : Challenge) → is_some (challenge_at n chs) ≡ false → Has chs ch
+    → n ≡ ch.block → ⊥
+none-at n [] ch none h same = absurd h
+none-at n (first ∷ rest) ch none (inl is) same =
+    true≢false (sym (ap (λ (b : Bool). is_some (if b then Some first else challenge_at n rest))
+    (eq-eqb first.block n (ap (λ (z : Challenge). z.block) is ∙ sym same))) ∙ none)
+none-at n (first ∷ rest) ch none (inr h) same =
+    (elim (first.block == n) as (λ b. is_some (if b then Some first else challenge_at n rest) ≡ false → ⊥) [
+      | true ↦ λ wrong. true≢false wrong
+      | false ↦ λ later. none-at n rest ch later h same
+    ]) none
+
+is_none-new : (n : ℕ) (chs : List Challenge) (new : Challenge) → new.block ≡ n
+    → is_none (challenge_at n (chs ++ new ∷ [])) ≡ false
+is_none-new n [] new same =
+    ap (λ (b : Bool). is_none (if b then Some new else None)) (eq-eqb new.block n same)
+is_none-new n (first ∷ rest) new same =
+    elim (first.block == n) as (λ b.
+    is_none (if b then Some first else challenge_at n (rest ++ new ∷ [])) ≡ false) [
+      | true ↦ refl
+      | false ↦ is_none-new n rest new same
+    ]
+
+-- ---- one call
+
+module _ (tests : Tests) (rules : Rules) (log : List RootCall) where
+  -- a call that does nothing to the exit
+  still : (call : RootCall) (x : Exit) → Has (exits log) x → is_start x.coin x.block call ≡ false
+      → is_end x.coin x.block call ≡ false → ((n : ℕ) → is_before x.coin x.block n call ≡ false)
+      → ((n : ℕ) → is_respond x.coin x.block n call ≡ false) → StoodBefore log call x
+  still call x there not_started not_ended not_made not_answered = record {
+    y = x;
+    there = there;
+    coin = refl;
+    block = refl;
+    parent = refl;
+    account = refl;
+    start = refl;
+    not_started = not_started;
+    not_ended = not_ended;
+    challenged = λ n was. was;
+    by_it = λ n on. absurd (true≢false (sym on ∙ not_made n));
+    opened = λ ch has unanswered. inr (record {
+      old = ch;
+      there = has;
+      block = refl;
+      at = refl;
+      unanswered = unanswered;
+      not_made = not_made ch.block;
+      not_answered = not_answered ch.block;
+    });
+  }
+
+  -- what a filter by a name keeps is of another name
+  kept-other : (k f : ℕ) (x : Exit) → Has (without_exit k f (exits log)) x
+      → Has (exits log) x × (((k == x.coin) && (f == x.block)) ≡ false)
+  kept-other k f x h =
+      let r = has-filter (λ (exit : Exit). not (is_exit k f exit)) (exits log) x h in
+      (r.0, other-name k f x (not-true _ r.1))
+
+  challenged-before : (account k f : ℕ) (shown : Shown)
+      → is_accepted (answer_to tests rules log (Before account k f shown)) ≡ true → (y : Exit) → Has (exits log) y
+      → is_exit k f y ≡ true
+      → StoodBefore log (Before account k f shown) (with_challenge (new_challenge log account k f shown) y)
+  unfolding exit_at
+  challenged-before account k f shown is y there named =
+      subst (λ (b : Bool). StoodBefore log (Before account k f shown)
+      (if b then y else record y { challenges = y.challenges ++ new_challenge log account k f shown ∷ [] }))
+      (sym free) stood
+    where
+      free : is_some (challenge_at (block_of shown) y.challenges) ≡ false
+      free =
+          let s = accepted_calls_show tests rules log (Before account k f shown) is in
+          let same : y ≡ s.exit = some_same y s.exit
+          (sym (only-found (is_exit k f) (exits log) y (exits-distinct log k f) there named) ∙ s.stands) in
+          ap (λ (z : Exit). is_some (challenge_at (block_of shown) z.challenges)) same ∙ ap is_some s.none_there
+
+      names : ((k == y.coin) && (f == y.block)) ≡ true
+      names = own-name k f y named
+
+      made : (n : ℕ) → block_of shown ≡ n → is_before y.coin y.block n (Before account k f shown) ≡ true
+      made n same = and_from ((k == y.coin) && (f == y.block)) (block_of shown == n) names
+          (eq-eqb (block_of shown) n same)
+
+      at-block : (n : ℕ) → is_before y.coin y.block n (Before account k f shown) ≡ true → block_of shown ≡ n
+      at-block n on = eqb-true (block_of shown) n
+          (and_parts ((k == y.coin) && (f == y.block)) (block_of shown == n) on).1
+
+      from-open : (ch : Challenge) → Has y.challenges ch ⊎ Has (new_challenge log account k f shown ∷ []) ch
+          → ch.answered ≡ false
+          → IsMade log (Before account k f shown)
+          (record y { challenges = y.challenges ++ new_challenge log account k f shown ∷ [] }) ch
+          ⊎ WasOpen (Before account k f shown)
+          (record y { challenges = y.challenges ++ new_challenge log account k f shown ∷ [] }) y ch
+      from-open ch (inl has) unanswered = inr (record {
+        old = ch;
+        there = has;
+        block = refl;
+        at = refl;
+        unanswered = unanswered;
+        not_made = false_from_ne_true _ (λ on. none-at (block_of shown) y.challenges ch free has (at-block ch.block on));
+        not_answered = refl;
+      })
+      from-open ch (inr (inl same)) unanswered = inl (
+        made ch.block (ap (λ (z : Challenge). z.block) same),
+        ap (λ (z : Challenge). z.at) (sym same),
+      )
+      from-open ch (inr (inr none)) unanswered = absurd none
+
+      stood : StoodBefore log (Before account k f shown)
+          (record y { challenges = y.challenges ++ new_challenge log account k f shown ∷ [] })
+      stood = record {
+        y = y;
+        there = there;
+        coin = refl;
+        block = refl;
+        parent = refl;
+        account = refl;
+        start = refl;
+        not_started = refl;
+        not_ended = refl;
+        challenged = λ n was. is_none-push n y.challenges (new_challenge log account k f shown) was;
+        by_it = λ n on. is_none-new n y.challenges (new_challenge log account k f shown) (at-block n on);
+        opened = λ ch has unanswered.
+            from-open ch (has-cases y.challenges (new_challenge log account k f shown ∷ []) ch has) unanswered;
+      }
+
+  answered-before : (account k f n : ℕ) (spend : RawOpening) (y : Exit) → Has (exits log) y
+      → StoodBefore log (Respond account k f n spend) (with_answer n y)
+  answered-before account k f n spend y there = record {
+    y = y;
+    there = there;
+    coin = refl;
+    block = refl;
+    parent = refl;
+    account = refl;
+    start = refl;
+    not_started = refl;
+    not_ended = refl;
+    challenged = λ m was. is_none-answered m n y.challenges ∙ was;
+    by_it = λ m on. absurd (true≢false (sym on));
+    opened = λ ch has unanswered.
+        let r = has-map (with_answer_at n) y.challenges ch has in
+        inr (unanswered-old r.0 ch r.1 r.2 unanswered);
+  }
+    where
+      unanswered-old : (old ch : Challenge) → Has y.challenges old → with_answer_at n old ≡ ch
+          → ch.answered ≡ false → WasOpen (Respond account k f n spend) (with_answer n y) y ch
+      unanswered-old old ch has is unanswered =
+          (elim (old.block == n) as (λ b. (old.block == n) ≡ b
+          → (if b then record old { answered = true } else old) ≡ ch
+          → WasOpen (Respond account k f n spend) (with_answer n y) y ch) [
+            | true ↦ λ here same.
+                absurd (true≢false (ap (λ (z : Challenge). z.answered) same ∙ unanswered))
+            | false ↦ λ other same. record {
+              old = old;
+              there = has;
+              block = ap (λ (z : Challenge). z.block) same;
+              at = ap (λ (z : Challenge). z.at) same;
+              unanswered = ap (λ (z : Challenge). z.answered) same ∙ unanswered;
+              not_made = refl;
+              not_answered = false_from_ne_true _ (λ on.
+                  let at = eqb-true n ch.block
+                  (and_parts ((k == y.coin) && (f == y.block)) (n == ch.block) on).1 in
+                  true≢false (sym (eq-eqb old.block n (ap (λ (z : Challenge). z.block) same ∙ sym at)) ∙ other));
+            }
+          ]) refl is
+
+  -- a standing exit is new with the call, or stood before it
+  pub stood-before : (call : RootCall) → is_accepted (answer_to tests rules log call) ≡ true → (x : Exit)
+      → Has (exits (call ∷ log)) x → IsNew log call x ⊎ StoodBefore log call x
+  unfolding exits
+  stood-before (Fund account amount) is x h =
+      inr (still (Fund account amount) x h refl refl (λ n. refl) (λ n. refl))
+  stood-before (Tick time) is x h = inr (still (Tick time) x h refl refl (λ n. refl) (λ n. refl))
+  stood-before (Deposit account amount key) is x h =
+      inr (still (Deposit account amount key) x h refl refl (λ n. refl) (λ n. refl))
+  stood-before (Commit account root) is x h =
+      inr (still (Commit account root) x h refl refl (λ n. refl) (λ n. refl))
+  stood-before (StartDeposit account k block) is x h =
+      elim (has-cases (without_exit k block (exits log)) (deposit_exit log account k block ∷ []) x h) [
+        | inl old ↦
+            let r = kept-other k block x old in
+            inr (still (StartDeposit account k block) x r.0 r.1 refl (λ n. refl) (λ n. refl))
+        | inr last ↦ elim last [
+          | inl same ↦ inl (subst (IsNew log (StartDeposit account k block)) same (record {
+            started = and_from (k == k) (block == block) (eq-eqb k k refl) (eq-eqb block block refl);
+            start = refl;
+            unchallenged = refl;
+          }))
+          | inr none ↦ absurd none
+        ]
+      ]
+  stood-before (StartSpend account k parent exit) is x h =
+      elim (has-cases (without_exit k exit.block (exits log)) (spend_exit log account k parent exit ∷ []) x h) [
+        | inl old ↦
+            let r = kept-other k exit.block x old in
+            inr (still (StartSpend account k parent exit) x r.0 r.1 refl (λ n. refl) (λ n. refl))
+        | inr last ↦ elim last [
+          | inl same ↦ inl (subst (IsNew log (StartSpend account k parent exit)) same (record {
+            started = and_from (k == k) (exit.block == exit.block) (eq-eqb k k refl)
+                (eq-eqb exit.block exit.block refl);
+            start = refl;
+            unchallenged = refl;
+          }))
+          | inr none ↦ absurd none
+        ]
+      ]
+  stood-before (After account k f spend) is x h =
+      let r = kept-other k f x h in
+      inr (still (After account k f spend) x r.0 refl r.1 (λ n. refl) (λ n. refl))
+  stood-before (Between account k f spend) is x h =
+      let r = kept-other k f x h in
+      inr (still (Between account k f spend) x r.0 refl r.1 (λ n. refl) (λ n. refl))
+  stood-before (Finish account k f) is x h =
+      let r = kept-other k f x h in
+      inr (still (Finish account k f) x r.0 refl r.1 (λ n. refl) (λ n. refl))
+  stood-before (Before account k f shown) is x h =
+      let change : Exit → Exit = with_challenge (new_challenge log account k f shown) in
+      let r = has-map (λ (exit : Exit). if is_exit k f exit then change exit else exit) (exits log) x h in
+      inr (subst (StoodBefore log (Before account k f shown)) r.2
+      ((elim (is_exit k f r.0) as (λ b. is_exit k f r.0 ≡ b
+      → StoodBefore log (Before account k f shown) (if b then change r.0 else r.0)) [
+        | true ↦ λ named. challenged-before account k f shown is r.0 r.1 named
+        | false ↦ λ other. still (Before account k f shown) r.0 r.1 refl refl
+            (λ n. ap (λ b. b && (block_of shown == n)) (other-name k f r.0 other)) (λ n. refl)
+      ]) refl))
+  stood-before (Respond account k f challenged spend) is x h =
+      let change : Exit → Exit = with_answer challenged in
+      let r = has-map (λ (exit : Exit). if is_exit k f exit then change exit else exit) (exits log) x h in
+      inr (subst (StoodBefore log (Respond account k f challenged spend)) r.2
+      ((elim (is_exit k f r.0) as (λ b. is_exit k f r.0 ≡ b
+      → StoodBefore log (Respond account k f challenged spend) (if b then change r.0 else r.0)) [
+        | true ↦ λ named. answered-before account k f challenged spend r.0 r.1
+        | false ↦ λ other. still (Respond account k f challenged spend) r.0 r.1 refl refl (λ n. refl)
+            (λ n. ap (λ b. b && (challenged == n)) (other-name k f r.0 other))
+      ]) refl))
+
+  -- the clock doesn't go back
+  pub clock-before : (call : RootCall) → is_accepted (answer_to tests rules log call) ≡ true
+      → now log ≤ now (call ∷ log)
+  unfolding now
+  clock-before (Tick time) is = (accepted_calls_show tests rules log (Tick time) is).0
+  clock-before call is = le_refl (now log)
