@@ -20,14 +20,14 @@ use Rattle.world_rules.specs.Safety.{is_safe}
 use Rattle.world_rules.specs.Verdicts.{verdicts_in, verdicts_of, exhibit_of_run}
 use Rattle.world_rules.specs.Laws.{IsDigest}
 use Rattle.world_laws.specs.Headline.{IsRun}
-use Rattle.world_laws.proofs.Promises.{held_coins_are_safe, one_holds, due_are_taken, lost_is_shown, starts_taken}
+use Rattle.world_laws.proofs.Promises.{looked_after_are_safe, held_coins_are_safe, one_holds, due_are_taken, lost_is_shown, starts_taken}
 use Rattle.world_laws.proofs.BundlesTaken.{honest_bundles_are_taken}
 use Rattle.world_laws.proofs.SignedRuns.{leaves_sign_one_message}
 use Rattle.streamed_lines.specs.Lines.{lines_in, text_of}
 use Rattle.replay_run.specs.Replays.{replay_of}
 use Rattle.replay_run.specs.Laws.{lines_spelled}
 use Rattle.replay_run.specs.Offers.{TakesItsOffers}
-use Rattle.replay_run.specs.Headline.{KeepsCoins, KeepsThePromise, ReplaysKeepThePromise}
+use Rattle.replay_run.specs.Headline.{KeepsCoins, KeepsLookedAfter, KeepsThePromise, ReplaysKeepThePromise}
 use Rattle.replay_run.proofs.EndingLaws.{answered-are_a_run}
 
 -- ---- the lines of a run are in the grammar
@@ -83,6 +83,12 @@ module _ (dig : List ℕ → List ℕ) (bytes : List ℕ) (ended : Bool) (is_dig
       (is_safe (tests_by dig) (rules_of world.chain) (event ∷ events) w c e)
       (held_coins_are_safe dig lines run world later events event w c e (ran world is) all attended)
 
+  looked_after-kept : (world : World) → run.world ≡ Some world → KeepsLookedAfter dig (events_of run.entries) world
+  looked_after-kept world is later events event w c e all looked =
+      either (collides dig (event ∷ events) c) (is_forged world.chain.tag (event ∷ events) w c)
+      (is_safe (tests_by dig) (rules_of world.chain) (event ∷ events) w c e)
+      (looked_after_are_safe dig lines run world later events event w c e (ran world is) all looked)
+
   no-verdicts : run.world ≡ None → verdicts_of dig run ≡ []
   unfolding verdicts_of
   no-verdicts is = ap (λ o. option_map_or (λ world. verdicts_in dig world (events_of run.entries)) o []) is
@@ -99,6 +105,7 @@ module _ (dig : List ℕ → List ℕ) (bytes : List ℕ) (ended : Bool) (is_dig
   replay-keeps = record {
     one_message = λ world one other is. leaves_sign_one_message dig lines run world (ran world is) world one other is;
     coins = coins-kept;
+    looked_after = looked_after-kept;
     lost = lost-shown run.world refl;
   }
 

@@ -22,6 +22,7 @@ use Rattle.run_words.specs.declared.form.Form.TheVariants.{Replay, Brief}
 use Rattle.run_endings.specs.declared.status.Status.{Status}
 use Rattle.run_endings.specs.Outputs.{Output, EndsAs}
 use Rattle.node_runs.specs.Sessions.{Outside}
+use Rattle.world_laws.specs.Looked.{is_looked_after}
 use Rattle.replay_run.specs.declared.ending.NoCause.{NoCause}
 use Rattle.replay_run.specs.Text.{closing_text, brief_text, last_text}
 use Rattle.replay_run.specs.Output.{status_of}
@@ -42,10 +43,22 @@ KeepsCoins dig all world = (later events : List Event) (event : Event) (w c e : 
     ⊎ (is_forged world.chain.tag (event ∷ events) w c ≡ true)
     ⊎ (is_safe (tests_by dig) (rules_of world.chain) (event ∷ events) w c e ≡ true)
 
--- No leaf of a wallet's key signs two messages; coins are kept; and a verdict `lost` stands only above an exhibit.
+-- The same where the coin was looked after: since another account's exit of it began, and since each challenge of the
+-- wallet's own exit, somebody watched who guards the coin, and what this watch offered for it was made since, before the
+-- first tick past the end of its window. Whatever is attended is looked after.
+abbrev pub KeepsLookedAfter : (List ℕ → List ℕ) → List Event → World → Type 0
+KeepsLookedAfter dig all world = (later events : List Event) (event : Event) (w c e : ℕ)
+    → all ≡ later ++ event ∷ events → is_looked_after events w c e ≡ true
+    → (collides dig (event ∷ events) c ≡ true)
+    ⊎ (is_forged world.chain.tag (event ∷ events) w c ≡ true)
+    ⊎ (is_safe (tests_by dig) (rules_of world.chain) (event ∷ events) w c e ≡ true)
+
+-- No leaf of a wallet's key signs two messages; coins are kept that are attended, and those that are looked after; and a
+-- verdict `lost` stands only above an exhibit.
 pub record KeepsThePromise (dig : List ℕ → List ℕ) (run : Run) : Type 0 where
   pub one_message : SignsOneMessage run
   pub coins : ForSome run.world (KeepsCoins dig (events_of run.entries))
+  pub looked_after : ForSome run.world (KeepsLookedAfter dig (events_of run.entries))
   pub lost : (verdict : Verdict) → Contains (verdicts_of dig run) verdict → verdict.kind ≡ VerdictKind.Lost
       → exhibit_of_run dig run ≢ Exhibit.Nothing
 
