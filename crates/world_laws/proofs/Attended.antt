@@ -10,7 +10,7 @@ use Rattle.plasma_tx.specs.declared.rules.TheConstants.{CHALLENGE_WINDOW}
 use Rattle.watch_duty.proofs.Members.{any-has}
 use Rattle.world_rules.specs.Events.{Event, Joins, Watches, log_of, is_bundle, guarded_by, watchers, is_command_of, offered}
 use Rattle.world_rules.specs.Safety.{holds, is_met, meets_challenge, meets_exit, meets_deadline, offers_none, is_watch, is_joined, is_quiet, is_watched_by, is_guarded, needs_guardian, goes_unattended, is_attended}
-use Rattle.world_laws.specs.Looked.{is_before, is_on_exit, is_on_coin, settles, are_settled, is_guardian, has_look, goes_unseen, is_looked_after, AttendedCoinsAreLookedAfter}
+use Rattle.world_laws.specs.Looked.{is_before, is_on_exit, is_on_coin, fulfils, are_fulfilled, is_guardian, has_look, goes_unseen, is_looked_after, AttendedCoinsAreLookedAfter}
 use Rattle.world_laws.proofs.Lists.{and-seen, any-some}
 use Rattle.world_laws.proofs.Nodes.{same-node}
 use Rattle.world_laws.proofs.Unseen.{EndsUnseen, OfExit, OfChallenge, IsUnseen, is_unseen}
@@ -36,16 +36,16 @@ respond-asks c e n call is = absurd (false≢true is)
 -- ---- a quiet guardian looked
 
 module _ (opens is_asked : RootCall → Bool) (w c e : ℕ) (asks : AsksOf c is_asked) where
-  none-settled : (since offers : List RootCall) → list_any (is_on_coin c) offers ≡ false
-      → are_settled is_asked since offers ≡ true
-  none-settled since [] none = refl
-  none-settled since (offer ∷ offers) none =
+  none-fulfilled : (since offers : List RootCall) → list_any (is_on_coin c) offers ≡ false
+      → are_fulfilled is_asked since offers ≡ true
+  none-fulfilled since [] none = refl
+  none-fulfilled since (offer ∷ offers) none =
       let parts = or_parts (is_on_coin c offer) (list_any (is_on_coin c) offers) none in
-      and_from (not (is_asked offer) || list_any (settles offer) since) (are_settled is_asked since offers)
-      (or_left (not (is_asked offer)) (list_any (settles offer) since)
+      and_from (not (is_asked offer) || list_any (fulfils offer) since) (are_fulfilled is_asked since offers)
+      (or_left (not (is_asked offer)) (list_any (fulfils offer) since)
       (not_from_false (is_asked offer)
       (false_from_ne_true (is_asked offer) (λ on. true≢false (sym (asks offer on) ∙ parts.0)))))
-      (none-settled since offers parts.1)
+      (none-fulfilled since offers parts.1)
 
   quiet-looked : (events : List Event) (n : ℕ) → is_quiet events n c ≡ true → is_guardian events w c e n ≡ true
       → has_look opens is_asked [] events w c e ≡ true
@@ -55,16 +55,16 @@ module _ (opens is_asked : RootCall → Bool) (w c e : ℕ) (asks : AsksOf c is_
   quiet-looked (Watches m offers ∷ events) n quiet guardian =
       (elim (m == n) as (λ b. (m == n) ≡ b
       → (if b then true && offers_none c offers else not false && is_quiet events n c) ≡ true
-      → ((is_guardian events w c e m && are_settled is_asked [] offers)
+      → ((is_guardian events w c e m && are_fulfilled is_asked [] offers)
       || has_look opens is_asked [] events w c e) ≡ true) [
         | true ↦ λ same none.
-            or_left (is_guardian events w c e m && are_settled is_asked [] offers)
+            or_left (is_guardian events w c e m && are_fulfilled is_asked [] offers)
             (has_look opens is_asked [] events w c e)
-            (and_from (is_guardian events w c e m) (are_settled is_asked [] offers)
+            (and_from (is_guardian events w c e m) (are_fulfilled is_asked [] offers)
             (ap (is_guardian events w c e) (eqb-true m n same) ∙ guardian)
-            (none-settled [] offers (not-true _ none)))
+            (none-fulfilled [] offers (not-true _ none)))
         | false ↦ λ other rest.
-            or_right (is_guardian events w c e m && are_settled is_asked [] offers)
+            or_right (is_guardian events w c e m && are_fulfilled is_asked [] offers)
             (has_look opens is_asked [] events w c e) (quiet-looked events n rest guardian)
       ]) refl quiet
   quiet-looked (event ∷ events) n quiet guardian =

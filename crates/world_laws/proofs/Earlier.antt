@@ -176,7 +176,8 @@ module _ (tests : Tests) (rules : Rules) (log : List RootCall) where
         block = refl;
         at = refl;
         unanswered = unanswered;
-        not_made = false_from_ne_true _ (λ on. none-at (block_of shown) y.challenges ch free has (at-block ch.block on));
+        not_made = false_from_ne_true _
+            (λ on. none-at (block_of shown) y.challenges ch free has (at-block ch.block on));
         not_answered = refl;
       })
       from-open ch (inr (inl same)) unanswered = inl (

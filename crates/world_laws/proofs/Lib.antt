@@ -47,6 +47,7 @@ pub mod Words
 pub mod Takings
 pub mod OwnExits
 pub mod Lost
+pub mod Taken
 pub mod Starts
 pub mod SignedMessages
 pub mod SignedDeeds

@@ -5,7 +5,7 @@ use Rattle.plasma_tx.specs.declared.call.RootCall.TheVariants.{Fund, Tick, Start
 use Rattle.plasma_tx.specs.Views.{now, blocks, coins, coin_at, responses, exits, exit_at, is_withdrawn}
 use Rattle.world_rules.specs.Events.{Event, Joins, Bounces, Guards, Releases, Binds, Watches, Other, log_of, wallet_owner, accepted, bound_by, taken_back, not_taken, guarded_by, watchers}
 use Rattle.world_rules.specs.Safety.{holds, is_quiet, is_guarded, is_attended}
-use Rattle.world_laws.specs.Looked.{has_look, is_looked_after, has_fresh_look, is_looked_often}
+use Rattle.world_laws.specs.Looked.{has_look, is_looked_after, has_recent_look, is_looked_often}
 use Rattle.world_laws.proofs.Samples.{bundle, blank, sends, spend, deposited, received, started}
 use Rattle.world_laws.proofs.OwnExitSamples.{own_started, challenged, answered}
 
@@ -69,16 +69,16 @@ anew-looked-not = refl
 abbrev pub offered_before : List Event
 offered_before = Watches 1 (Before 21 1 5 (AtDeposit 1) ∷ []) ∷ started
 
-pub unsettled-looked-not : seen_at offered_before ≡ record { attended = false; looked = false }
+pub unfulfilled-looked-not : seen_at offered_before ≡ record { attended = false; looked = false }
 unfolding is_looked_after has_look is_attended is_guarded is_quiet guarded_by watchers holds log_of wallet_owner
     accepted bound_by taken_back not_taken now blocks coins coin_at responses exits exit_at is_withdrawn
-unsettled-looked-not = refl
+unfulfilled-looked-not = refl
 
-pub settled-looked : seen_at (Joins (Before 40 1 5 (AtDeposit 1)) ∷ offered_before)
+pub fulfilled-looked : seen_at (Joins (Before 40 1 5 (AtDeposit 1)) ∷ offered_before)
     ≡ record { attended = false; looked = true }
 unfolding is_looked_after has_look is_attended is_guarded is_quiet guarded_by watchers holds log_of wallet_owner
     accepted bound_by taken_back not_taken now blocks coins coin_at responses exits exit_at is_withdrawn
-settled-looked = refl
+fulfilled-looked = refl
 
 pub elsewhere-looked-not : seen_at (Joins (Before 40 1 5 (Spend (blank 2))) ∷ offered_before)
     ≡ record { attended = false; looked = false }
@@ -99,15 +99,15 @@ unfolding is_looked_after has_look is_attended is_guarded is_quiet guarded_by wa
     accepted bound_by taken_back not_taken now blocks coins coin_at responses exits exit_at is_withdrawn
 other-offer-looked = refl
 
--- an earlier watch looked too; a later one, with an offer that nobody settled, doesn't undo that
+-- an earlier watch looked too; a later one, with an offer that nobody fulfilled, doesn't undo that
 pub twice-looked : seen_at (Watches 1 (Before 21 1 5 (AtDeposit 1) ∷ []) ∷ Watches 1 [] ∷ started)
     ≡ record { attended = false; looked = true }
 unfolding is_looked_after has_look is_attended is_guarded is_quiet guarded_by watchers holds log_of wallet_owner
     accepted bound_by taken_back not_taken now blocks coins coin_at responses exits exit_at is_withdrawn
 twice-looked = refl
 
--- a watcher with a guard of the coin watched, and let the coin go later; one with a guard of another tip, or that took up
--- the guard later, or without a guard, didn't look
+-- a watcher with a guard of the coin watched, and let the coin go later; one with a guard of another tip, or that took
+-- up the guard later, or without a guard, didn't look
 pub guard-looked : seen_at (Releases 2 1 1 ∷ Watches 2 [] ∷ Guards 2 (bundle 1 1) ∷ started)
     ≡ record { attended = false; looked = true }
 unfolding is_looked_after has_look is_attended is_guarded is_quiet guarded_by watchers holds log_of wallet_owner
@@ -197,36 +197,36 @@ often_at events = record {
 }
 
 pub watch-often : often_at (Watches 1 [] ∷ started) ≡ record { inside = true; past = false }
-unfolding is_looked_often has_fresh_look guarded_by holds log_of wallet_owner accepted bound_by taken_back not_taken
+unfolding is_looked_often has_recent_look guarded_by holds log_of wallet_owner accepted bound_by taken_back not_taken
     now blocks coins coin_at responses exits exit_at is_withdrawn
 watch-often = refl
 
 pub nobody-often : often_at started ≡ record { inside = false; past = false }
-unfolding is_looked_often has_fresh_look guarded_by holds log_of wallet_owner accepted bound_by taken_back not_taken
+unfolding is_looked_often has_recent_look guarded_by holds log_of wallet_owner accepted bound_by taken_back not_taken
     now blocks coins coin_at responses exits exit_at is_withdrawn
 nobody-often = refl
 
 -- a look before the exit began counts, since the exit can't end so soon
 pub early-often : often_at (Joins (StartSpend 30 1 (AtDeposit 1) (blank 5)) ∷ Watches 1 [] ∷ deposited)
     ≡ record { inside = true; past = false }
-unfolding is_looked_often has_fresh_look guarded_by holds log_of wallet_owner accepted bound_by taken_back not_taken
+unfolding is_looked_often has_recent_look guarded_by holds log_of wallet_owner accepted bound_by taken_back not_taken
     now blocks coins coin_at responses exits exit_at is_withdrawn
 early-often = refl
 
--- what it was offered for the coin was not settled; then it was
-pub unsettled-often : often_at offered_before ≡ record { inside = false; past = false }
-unfolding is_looked_often has_fresh_look guarded_by holds log_of wallet_owner accepted bound_by taken_back not_taken
+-- what it was offered for the coin was not fulfilled; then it was
+pub unfulfilled-often : often_at offered_before ≡ record { inside = false; past = false }
+unfolding is_looked_often has_recent_look guarded_by holds log_of wallet_owner accepted bound_by taken_back not_taken
     now blocks coins coin_at responses exits exit_at is_withdrawn
-unsettled-often = refl
+unfulfilled-often = refl
 
-pub settled-often : often_at (Joins (Before 40 1 5 (AtDeposit 1)) ∷ offered_before)
+pub fulfilled-often : often_at (Joins (Before 40 1 5 (AtDeposit 1)) ∷ offered_before)
     ≡ record { inside = true; past = false }
-unfolding is_looked_often has_fresh_look guarded_by holds log_of wallet_owner accepted bound_by taken_back not_taken
+unfolding is_looked_often has_recent_look guarded_by holds log_of wallet_owner accepted bound_by taken_back not_taken
     now blocks coins coin_at responses exits exit_at is_withdrawn
-settled-often = refl
+fulfilled-often = refl
 
 -- while no exit of the coin stands, nobody needs to look
 pub quiet-often : often_at deposited ≡ record { inside = true; past = true }
-unfolding is_looked_often has_fresh_look guarded_by holds log_of wallet_owner accepted bound_by taken_back not_taken
+unfolding is_looked_often has_recent_look guarded_by holds log_of wallet_owner accepted bound_by taken_back not_taken
     now blocks coins coin_at responses exits exit_at is_withdrawn
 quiet-often = refl

@@ -1,6 +1,6 @@
 -- What a look shows: of an exit that somebody looked after, another account's is challenged at the tip while its window
--- is open, and the own one's challenges are answered in their time. So a tick that doesn't go unseen keeps what holds of
--- each exit of a held coin.
+-- is open, and the challenges of the own one are answered in their time. So a tick that doesn't go unseen keeps what
+-- holds of each exit of a held coin.
 use Rattle.std.proofs.Common.{◌≡◌, ◌≢◌, ◌⊎◌, ℕ, ◌+◌, ◌<◌, ◌==◌, ◌&&◌, ◌||◌, not, Bool, true, false, if◌then◌else◌, List, [], ◌∷◌, inl, inr, refl, sym, ap, ◌∙◌, subst, arith}
 use Rattle.std.specs.Prelude.{is_none}
 use Rattle.std.specs.List.{list_any}
@@ -23,7 +23,7 @@ use Rattle.world_rules.specs.Events.{Event, Joins, Watches, log_of, wallet_owner
 use Rattle.world_rules.specs.Exhibits.{seen, strings_of, has_clash, is_forged}
 use Rattle.world_rules.specs.Safety.{holds, is_met, meets_challenge, is_mine}
 use Rattle.world_laws.specs.Legal.{IsLegal}
-use Rattle.world_laws.specs.Looked.{is_before, is_on_exit, settles, are_settled, is_guardian, has_look, exit_has_look, challenge_has_look, passes_unseen, goes_unseen}
+use Rattle.world_laws.specs.Looked.{is_before, is_on_exit, fulfils, are_fulfilled, is_guardian, has_look, exit_has_look, challenge_has_look, passes_unseen, goes_unseen}
 use Rattle.world_laws.proofs.Lists.{and-seen, and-off, all-from, any-none, passes-has, any-either}
 use Rattle.world_laws.proofs.Clash.{one_leaf}
 use Rattle.world_laws.proofs.Bound.{Holding}
@@ -35,16 +35,16 @@ use Rattle.world_laws.proofs.Earlier.{stood-before, clock-before}
 use Rattle.world_laws.proofs.Steps.{others-due, mine-due}
 use Rattle.world_laws.proofs.Before.{none-before, forged-parts, held_before, at_event}
 
--- ---- what was settled
+-- ---- what was fulfilled
 
-settled-one : (is_asked : RootCall → Bool) (since offers : List RootCall)
-    → are_settled is_asked since offers ≡ true → (offer : RootCall) → Has offers offer → is_asked offer ≡ true
-    → list_any (settles offer) since ≡ true
-settled-one is_asked since offers all offer has asked =
-    elim (or_cases (not (is_asked offer)) (list_any (settles offer) since)
-    (passes-has (λ (o : RootCall). not (is_asked o) || list_any (settles o) since) offers offer all has)) [
+fulfilled-one : (is_asked : RootCall → Bool) (since offers : List RootCall)
+    → are_fulfilled is_asked since offers ≡ true → (offer : RootCall) → Has offers offer → is_asked offer ≡ true
+    → list_any (fulfils offer) since ≡ true
+fulfilled-one is_asked since offers all offer has asked =
+    elim (or_cases (not (is_asked offer)) (list_any (fulfils offer) since)
+    (passes-has (λ (o : RootCall). not (is_asked o) || list_any (fulfils o) since) offers offer all has)) [
       | inl off ↦ absurd (true≢false (sym asked ∙ not-true _ off))
-      | inr settled ↦ settled
+      | inr fulfilled ↦ fulfilled
     ]
 
 module _ (tests : Tests) (rules : Rules) (events : List Event) (c : ℕ) (made : CoinView) (e : ℕ)
@@ -55,11 +55,11 @@ module _ (tests : Tests) (rules : Rules) (events : List Event) (c : ℕ) (made :
   not-ended is =
       true≢false (sym is ∙ ap (λ k. list_any (is_end k x.block) since) g.good.coin_is ∙ unended)
 
-  -- what is due for the exit was settled, so the exit was challenged at the tip; if it isn't at the tip
-  exit-settled : are_settled (is_on_exit c x.block) since offers ≡ true → (call : RootCall)
+  -- what is due for the exit was fulfilled, so the exit was challenged at the tip; if it isn't at the tip
+  exit-fulfilled : are_fulfilled (is_on_exit c x.block) since offers ≡ true → (call : RootCall)
       → Has (Due tests rules events c made e offers g x there c_is) call
       → (list_any (is_before c x.block e) since ≡ true) ⊎ (x.block ≡ e)
-  exit-settled settled call h =
+  exit-fulfilled fulfilled call h =
       by_due (due_for-due (log_of events) g.account g.links (exit_view x) call h)
       (due-offered tests rules events c made e offers g x there c_is call h)
     where
@@ -70,15 +70,15 @@ module _ (tests : Tests) (rules : Rules) (events : List Event) (c : ℕ) (made :
       by_due : IsDue (log_of events) g.account g.links (exit_view x) call → Has offers call
           → (list_any (is_before c x.block e) since ≡ true) ⊎ (x.block ≡ e)
       by_due (DueAfter link next early same) has =
-          absurd (not-ended (settled-one (is_on_exit c x.block) since offers settled
+          absurd (not-ended (fulfilled-one (is_on_exit c x.block) since offers fulfilled
           (After g.account g.links.coin x.block link.opening) (subst (λ k. Has offers k) (sym same) has) on-it))
       by_due (DueBetween link later next early same) has =
-          absurd (not-ended (settled-one (is_on_exit c x.block) since offers settled
+          absurd (not-ended (fulfilled-one (is_on_exit c x.block) since offers fulfilled
           (Between g.account g.links.coin x.block link.opening) (subst (λ k. Has offers k) (sym same) has) on-it))
       by_due (DueBefore later free early same) has =
           elim (any-either (is_end g.links.coin x.block)
           (is_before g.links.coin x.block (block_of (tip_shown g.links))) since
-          (settled-one (is_on_exit c x.block) since offers settled
+          (fulfilled-one (is_on_exit c x.block) since offers fulfilled
           (Before g.account g.links.coin x.block (tip_shown g.links)) (subst (λ k. Has offers k) (sym same) has)
           on-it)) [
             | inl ended ↦ absurd (not-ended ended)
@@ -87,14 +87,14 @@ module _ (tests : Tests) (rules : Rules) (events : List Event) (c : ℕ) (made :
           ]
       by_due (DueRespond view link at has_view still next early same) has = inr (at ∙ g.good.tip_is)
 
-  -- what is due for a challenge of the own exit was settled, so the challenge was answered
-  challenge-settled : (n : ℕ) → are_settled (is_respond c e n) since offers ≡ true → x.block ≡ e → (ch : Challenge)
+  -- what is due for a challenge of the own exit was fulfilled, so the challenge was answered
+  challenge-fulfilled : (n : ℕ) → are_fulfilled (is_respond c e n) since offers ≡ true → x.block ≡ e → (ch : Challenge)
       → ch.block ≡ n → (spend : RawOpening)
       → Has offers (Respond g.account g.links.coin x.block ch.block spend)
       → list_any (is_respond c e n) since ≡ true
-  challenge-settled n settled at_tip ch n_is spend has =
+  challenge-fulfilled n fulfilled at_tip ch n_is spend has =
       elim (any-either (is_end g.links.coin x.block) (is_respond g.links.coin x.block ch.block) since
-      (settled-one (is_respond c e n) since offers settled
+      (fulfilled-one (is_respond c e n) since offers fulfilled
       (Respond g.account g.links.coin x.block ch.block spend) has
       (and_from ((g.links.coin == c) && (x.block == e)) (ch.block == n)
       (and_from (g.links.coin == c) (x.block == e) (eq-eqb g.links.coin c g.good.coin_is) (eq-eqb x.block e at_tip))
@@ -170,12 +170,12 @@ module _ (dig : List ℕ → List ℕ) (digest : IsDigest dig) (rules : Rules) (
       let mine = (λ i. x.account == (before.1 i).account) ∙ other in
       let whole = none-before dig (Watches n offers) events c none in
       let honest = (forged-parts rules.tag (Watches n offers) events w c unforged).1 in
-      elim (or_cases (is_guardian events w c e n && are_settled (is_on_exit c b) since offers)
+      elim (or_cases (is_guardian events w c e n && are_fulfilled (is_on_exit c b) since offers)
       (has_look (is_start c b) (is_on_exit c b) since events w c e) look) [
         | inr rest ↦ exit-looked events since x b legal.1 whole honest before.0 there c_is b_is mine unspent inside
             unended rest
         | inl now_seen ↦
-            let parts = and_parts (is_guardian events w c e n) (are_settled (is_on_exit c b) since offers) now_seen in
+            let parts = and_parts (is_guardian events w c e n) (are_fulfilled (is_on_exit c b) since offers) now_seen in
             let at = at_event dig digest rules w c e (Watches n offers) events legal.1 none before.0 in
             let g = guardian-offers n offers events legal whole honest before.0 at.held parts.0 in
             subst (λ k. (list_any (is_before c k e) since ≡ true)
@@ -183,9 +183,9 @@ module _ (dig : List ℕ → List ℕ) (digest : IsDigest dig) (rules : Rules) (
             (others-due (tests_by dig) rules (λ tx owner is. is) events w c e legal.1
             (seen (Watches n offers ∷ events) c) at offers g x there c_is unspent mine inside
             (list_any (is_before c x.block e) since ≡ true)
-            (exit-settled (tests_by dig) rules events c at.held.made e offers g x there c_is since
+            (exit-fulfilled (tests_by dig) rules events c at.held.made e offers g x there c_is since
             (ap (λ k. list_any (is_end c k) since) b_is ∙ unended)
-            (ap (λ k. are_settled (is_on_exit c k) since offers) b_is ∙ parts.1)))
+            (ap (λ k. are_fulfilled (is_on_exit c k) since offers) b_is ∙ parts.1)))
       ]
   exit-looked (event ∷ events) since x b legal none unforged h there c_is b_is other unspent inside unended look =
       let before = held-still event events legal h x there c_is in
@@ -233,18 +233,18 @@ module _ (dig : List ℕ → List ℕ) (digest : IsDigest dig) (rules : Rules) (
       let before = held-still (Watches m offers) events legal h x there c_is in
       let whole = none-before dig (Watches m offers) events c none in
       let honest = (forged-parts rules.tag (Watches m offers) events w c unforged).1 in
-      elim (or_cases (is_guardian events w c e m && are_settled (is_respond c e n) since offers)
+      elim (or_cases (is_guardian events w c e m && are_fulfilled (is_respond c e n) since offers)
       (has_look (is_before c e n) (is_respond c e n) since events w c e) look) [
         | inr rest ↦ challenge-looked events since x n ch legal.1 whole honest before.0 there c_is at_tip has n_is
             still inside unended unanswered rest
         | inl now_seen ↦
-            let parts = and_parts (is_guardian events w c e m) (are_settled (is_respond c e n) since offers)
+            let parts = and_parts (is_guardian events w c e m) (are_fulfilled (is_respond c e n) since offers)
             now_seen in
             let at = at_event dig digest rules w c e (Watches m offers) events legal.1 none before.0 in
             let g = guardian-offers m offers events legal whole honest before.0 at.held parts.0 in
             let due = mine-due (tests_by dig) rules (λ tx owner is. is) events w c e legal.1
             (seen (Watches m offers ∷ events) c) at offers g x there c_is at_tip ch has still inside in
-            true≢false (sym (challenge-settled (tests_by dig) rules events c at.held.made e offers g x there c_is since
+            true≢false (sym (challenge-fulfilled (tests_by dig) rules events c at.held.made e offers g x there c_is since
             (ap (λ k. list_any (is_end c k) since) at_tip ∙ unended) n parts.1 at_tip ch n_is due.0.opening due.1)
             ∙ unanswered)
       ]

@@ -1,6 +1,6 @@
--- A verdict `lost` stands only above an exhibit.
+-- A coin that was looked after isn't taken.
 use Rattle.std.proofs.Common.{◌≡◌, ◌⊎◌, ℕ, ◌+◌, ◌==◌, ◌&&◌, not, Bool, true, false, if◌then◌else◌, List, [], ◌∷◌, Option, Some, None, inl, inr, refl, sym, ap, ◌∙◌, subst}
-use Rattle.std.specs.Prelude.{nat_le, is_none}
+use Rattle.std.specs.Prelude.{nat_le}
 use Rattle.std.specs.Option.{option_or}
 use Rattle.std.specs.List.{list_any}
 use Rattle.std.proofs.lemmas.Bool.{cases_Bool, eq-eqb, eqb-true, le-leb, and_parts, and_from, or_parts, or_cases, or_from, or_right, not-true, not_from_false, true≢false, false≢true, false_from_ne_true}
@@ -17,17 +17,13 @@ use Rattle.plasma_tx.specs.RuleLaws.{is_paid}
 use Rattle.plasma_tx.proofs.Accepted.{accepted_calls_show}
 use Rattle.plasma_tx.proofs.Ends.{paid_exactly}
 use Rattle.watch_duty.proofs.Members.{Has, all-has, contains-has}
-use Rattle.world_rules.specs.declared.verdict.VerdictKind.{VerdictKind}
 use Rattle.world_rules.specs.Laws.{IsDigest}
 use Rattle.world_rules.specs.Events.{Event, Declares, Joins, Accepts, log_of, wallet_owner, accepted, bound_by, taken_back, signed_away_by, is_sent_from, is_bundle, offers_of}
 use Rattle.world_rules.specs.Exhibits.{seen, strings_of, has_clash, is_forged}
 use Rattle.world_rules.specs.Safety.{was_deposited, holds, is_mine, is_own, finish_harms, call_harms, harms}
-use Rattle.world_rules.specs.Verdicts.{is_others, is_finish_paid, pays_own, pays_other, ends_own, takes_from, before_taking, first_unattended, exit_was_paid, lost_or, taken_or, verdict_at}
+use Rattle.world_rules.specs.Verdicts.{is_others, is_finish_paid, pays_own, pays_other, ends_own, takes_from, before_taking, exit_was_paid}
 use Rattle.world_laws.specs.Legal.{starts_by, is_tip, LegalCall, IsLegal}
 use Rattle.world_laws.specs.Looked.{is_looked_after}
-use Rattle.world_laws.specs.LegalLaws.{LegalLostIsExhibited}
-use Rattle.world_laws.proofs.Attended.{attended_are_looked_after}
-use Rattle.world_laws.proofs.Words.{attended_is_none_unattended}
 use Rattle.world_laws.proofs.Lists.{some_same, none_some, found-has}
 use Rattle.world_laws.proofs.Bound.{owner-stays, holding}
 use Rattle.world_laws.proofs.Guards.{holds-from}
@@ -36,7 +32,7 @@ use Rattle.world_laws.proofs.Watched.{IfOf, AllWatched}
 use Rattle.world_laws.proofs.Before.{none-before, forged-parts, legal-before}
 use Rattle.world_laws.proofs.Safe.{looked-parts, watched, safe-event}
 use Rattle.world_laws.proofs.OwnExits.{IsOwnAt, IfOwn, IsStartedBy, came-from, undeclared-none, own_kept}
-use Rattle.world_laws.proofs.Exhibited.{or-none, no-clash, no-forgery, nothing-exhibited}
+use Rattle.world_laws.proofs.Exhibited.{or-none}
 
 -- ---- holding goes on
 
@@ -299,9 +295,9 @@ module _ (dig : List ℕ → List ℕ) (digest : IsDigest dig) (rules : Rules) (
   -- ---- nothing takes the coin
 
   -- who the wallet is, if it is declared; before that nobody starts an exit by its account
-  record Knows (events : List Event) : Type 0 where
-    same : (other : Owner) → wallet_owner events w ≡ Some other → other ≡ me
-    none : wallet_owner events w ≡ None → list_any (starts_by me.account) (log_of events) ≡ false
+  pub record Knows (events : List Event) : Type 0 where
+    pub same : (other : Owner) → wallet_owner events w ≡ Some other → other ≡ me
+    pub none : wallet_owner events w ≡ None → list_any (starts_by me.account) (log_of events) ≡ false
 
   knows-none : (event : Event) (events : List Event) → IsLegal (tests_by dig) rules (event ∷ events)
       → Knows (event ∷ events) → wallet_owner events w ≡ None
@@ -383,7 +379,7 @@ module _ (dig : List ℕ → List ℕ) (digest : IsDigest dig) (rules : Rules) (
           (own_held events (legal-before (tests_by dig) rules event events legal) (none-before dig event events c none)
           (forged-parts rules.tag event events w c unforged).1 looked before unpaid owner x there own) harm
 
-  never-lost : (events : List Event) → IsLegal (tests_by dig) rules events
+  pub never-lost : (events : List Event) → IsLegal (tests_by dig) rules events
       → has_clash dig (strings_of dig c (seen events c)) ≡ false → is_forged rules.tag events w c ≡ false
       → Knows events → exit_was_paid (tests_by dig) rules events me c e ≡ false → (before : List Event)
       → before_taking (tests_by dig) rules events me w c e ≡ Some before → is_looked_after before w c e ≡ true → ⊥
@@ -411,34 +407,3 @@ module _ (dig : List ℕ → List ℕ) (digest : IsDigest dig) (rules : Rules) (
               | false ↦ λ not wrong. none_some before wrong
             ]) refl here
       ]) refl taken
-
-pub lost_is_exhibited : LegalLostIsExhibited
-unfolding verdict_at
-lost_is_exhibited dig rules events w c e me digest legal me_is lost nothing =
-    let shown = nothing-exhibited dig rules.tag events nothing in
-    let none = no-clash dig events c shown.0 in
-    let unforged = no-forgery rules.tag events w c shown.1 in
-    (elim (is_sent_from (signed_away_by events w) c e) as (λ b. (if b then VerdictKind.Away
-    else if exit_was_paid (tests_by dig) rules events me c e then VerdictKind.Paid
-    else taken_or (before_taking (tests_by dig) rules events me w c e) w c e) ≡ VerdictKind.Lost → ⊥) [
-      | true ↦ λ wrong. absurd (cc wrong)
-      | false ↦ λ rest. (elim (exit_was_paid (tests_by dig) rules events me c e) as (λ b.
-          exit_was_paid (tests_by dig) rules events me c e ≡ b → (if b then VerdictKind.Paid
-          else taken_or (before_taking (tests_by dig) rules events me w c e) w c e) ≡ VerdictKind.Lost → ⊥) [
-            | true ↦ λ paid wrong. absurd (cc wrong)
-            | false ↦ λ unpaid is. (elim (before_taking (tests_by dig) rules events me w c e) as (λ o.
-                before_taking (tests_by dig) rules events me w c e ≡ o → taken_or o w c e ≡ VerdictKind.Lost → ⊥) [
-                  | None ↦ λ none_taken wrong. absurd (cc wrong)
-                  | Some before ↦ λ taken at. (elim (first_unattended before w c e) as (λ f.
-                      first_unattended before w c e ≡ f → lost_or f ≡ VerdictKind.Lost → ⊥) [
-                        | Some line ↦ λ some wrong. absurd (cc wrong)
-                        | None ↦ λ watches here. never-lost dig digest rules me w c e events legal none unforged
-                            (record {
-                              same = λ other other_is. some_same other me (sym other_is ∙ me_is);
-                              none = λ undeclared. absurd (none_some me (sym undeclared ∙ me_is));
-                            }) unpaid before taken (attended_are_looked_after before w c e
-                            (attended_is_none_unattended before w c e ∙ ap is_none watches))
-                      ]) refl at
-                ]) refl is
-          ]) refl rest
-    ]) lost

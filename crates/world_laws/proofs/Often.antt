@@ -1,5 +1,5 @@
--- What is looked at often is looked after: an exit or a challenge that is newer than a fresh look has more time yet than
--- the look is old.
+-- What is looked at often is looked after: an exit or a challenge that is newer than a recent look has more time left
+-- than the look is old.
 use Rattle.std.proofs.Common.{◌≡◌, ℕ, ◌+◌, ◌<◌, ◌≤◌, ◌==◌, ◌&&◌, ◌||◌, not, Bool, true, false, List, [], ◌∷◌, inl, inr, refl, sym, ap, ◌∙◌, subst, arith}
 use Rattle.std.specs.Prelude.{nat_lt}
 use Rattle.std.specs.List.{list_any}
@@ -14,143 +14,143 @@ use Rattle.watch_duty.proofs.Members.{Has, any-has}
 use Rattle.world_rules.specs.Events.{Event, Joins, Watches, log_of}
 use Rattle.world_rules.specs.Safety.{holds, is_met}
 use Rattle.world_laws.specs.Legal.{IsLegal}
-use Rattle.world_laws.specs.Looked.{is_before, is_on_exit, is_on_coin, settles, are_settled, is_guardian, has_look, goes_unseen, is_looked_after, has_fresh_look, is_exited, is_looked_often}
+use Rattle.world_laws.specs.Looked.{is_before, is_on_exit, is_on_coin, fulfils, are_fulfilled, is_guardian, has_look, goes_unseen, is_looked_after, has_recent_look, is_exited, is_looked_often}
 use Rattle.world_laws.proofs.Lists.{and-seen}
 use Rattle.world_laws.proofs.Earlier.{stood-before, clock-before}
 use Rattle.world_laws.proofs.Unseen.{EndsUnseen, OfExit, OfChallenge, IsUnseen, is_unseen}
 use Rattle.world_laws.proofs.Attended.{AsksOf, exit-asks, respond-asks}
 
--- what settles more settles less
-settled-less : (c : ℕ) (is_asked : RootCall → Bool) → AsksOf c is_asked → (since offers : List RootCall)
-    → are_settled (is_on_coin c) since offers ≡ true → are_settled is_asked since offers ≡ true
-settled-less c is_asked asks since [] all = refl
-settled-less c is_asked asks since (offer ∷ offers) all =
-    let parts = and_parts (not (is_on_coin c offer) || list_any (settles offer) since)
-    (are_settled (is_on_coin c) since offers) all in
-    and_from (not (is_asked offer) || list_any (settles offer) since) (are_settled is_asked since offers)
-    (elim (or_cases (not (is_on_coin c offer)) (list_any (settles offer) since) parts.0) [
-      | inl off ↦ or_left (not (is_asked offer)) (list_any (settles offer) since)
+-- what fulfils more fulfils less
+fulfilled-less : (c : ℕ) (is_asked : RootCall → Bool) → AsksOf c is_asked → (since offers : List RootCall)
+    → are_fulfilled (is_on_coin c) since offers ≡ true → are_fulfilled is_asked since offers ≡ true
+fulfilled-less c is_asked asks since [] all = refl
+fulfilled-less c is_asked asks since (offer ∷ offers) all =
+    let parts = and_parts (not (is_on_coin c offer) || list_any (fulfils offer) since)
+    (are_fulfilled (is_on_coin c) since offers) all in
+    and_from (not (is_asked offer) || list_any (fulfils offer) since) (are_fulfilled is_asked since offers)
+    (elim (or_cases (not (is_on_coin c offer)) (list_any (fulfils offer) since) parts.0) [
+      | inl off ↦ or_left (not (is_asked offer)) (list_any (fulfils offer) since)
           (not_from_false (is_asked offer) (false_from_ne_true (is_asked offer)
           (λ on. true≢false (sym (asks offer on) ∙ not-true _ off))))
-      | inr settled ↦ or_right (not (is_asked offer)) (list_any (settles offer) since) settled
+      | inr fulfilled ↦ or_right (not (is_asked offer)) (list_any (fulfils offer) since) fulfilled
     ])
-    (settled-less c is_asked asks since offers parts.1)
+    (fulfilled-less c is_asked asks since offers parts.1)
 
 module _ (tests : Tests) (rules : Rules) (w c e time : ℕ) where
-  -- a fresh look isn't newer than the clock
-  fresh-clock : (events : List Event) (since : List RootCall) → IsLegal tests rules events
-      → has_fresh_look time since events w c e ≡ true → time < now (log_of events) + RESPONSE_WINDOW
-  unfolding IsLegal log_of has_fresh_look
-  fresh-clock [] since legal fresh = absurd (false≢true fresh)
-  fresh-clock (Joins call ∷ events) since legal fresh =
+  -- a recent look isn't newer than the clock
+  recent-clock : (events : List Event) (since : List RootCall) → IsLegal tests rules events
+      → has_recent_look time since events w c e ≡ true → time < now (log_of events) + RESPONSE_WINDOW
+  unfolding IsLegal log_of has_recent_look
+  recent-clock [] since legal recent = absurd (false≢true recent)
+  recent-clock (Joins call ∷ events) since legal recent =
       let clock = clock-before tests rules (log_of events) call legal.0.accepted in
-      let earlier = fresh-clock events (call ∷ since) legal.1 fresh in
+      let earlier = recent-clock events (call ∷ since) legal.1 recent in
       omega (arith, clock, earlier)
-  fresh-clock (Watches n offers ∷ events) since legal fresh =
+  recent-clock (Watches n offers ∷ events) since legal recent =
       elim (or_cases (nat_lt time (now (log_of events) + RESPONSE_WINDOW) && is_guardian events w c e n
-      && are_settled (is_on_coin c) since offers) (has_fresh_look time since events w c e) fresh) [
+      && are_fulfilled (is_on_coin c) since offers) (has_recent_look time since events w c e) recent) [
         | inl here ↦
             let whole = and_parts (nat_lt time (now (log_of events) + RESPONSE_WINDOW) && is_guardian events w c e n)
-            (are_settled (is_on_coin c) since offers) here in
+            (are_fulfilled (is_on_coin c) since offers) here in
             ltb-true time (now (log_of events) + RESPONSE_WINDOW)
             (and_parts (nat_lt time (now (log_of events) + RESPONSE_WINDOW)) (is_guardian events w c e n) whole.0).0
-        | inr earlier ↦ fresh-clock events since legal.1 earlier
+        | inr earlier ↦ recent-clock events since legal.1 earlier
       ]
-  fresh-clock (event ∷ events) since legal fresh = fresh-clock events since legal.1 fresh
+  recent-clock (event ∷ events) since legal recent = recent-clock events since legal.1 recent
 
-  -- a fresh look of a guardian, at what is asked of the coin
-  watch-fresh : (is_asked : RootCall → Bool) → AsksOf c is_asked → (n : ℕ)
+  -- a recent look of a guardian, at what is asked of the coin
+  watch-recent : (is_asked : RootCall → Bool) → AsksOf c is_asked → (n : ℕ)
       (offers since : List RootCall) (events : List Event)
       → (nat_lt time (now (log_of events) + RESPONSE_WINDOW) && is_guardian events w c e n
-      && are_settled (is_on_coin c) since offers) ≡ true
-      → (is_guardian events w c e n && are_settled is_asked since offers) ≡ true
-  watch-fresh is_asked asks n offers since events here =
+      && are_fulfilled (is_on_coin c) since offers) ≡ true
+      → (is_guardian events w c e n && are_fulfilled is_asked since offers) ≡ true
+  watch-recent is_asked asks n offers since events here =
       let whole = and_parts (nat_lt time (now (log_of events) + RESPONSE_WINDOW) && is_guardian events w c e n)
-      (are_settled (is_on_coin c) since offers) here in
-      and_from (is_guardian events w c e n) (are_settled is_asked since offers)
+      (are_fulfilled (is_on_coin c) since offers) here in
+      and_from (is_guardian events w c e n) (are_fulfilled is_asked since offers)
       (and_parts (nat_lt time (now (log_of events) + RESPONSE_WINDOW)) (is_guardian events w c e n) whole.0).1
-      (settled-less c is_asked asks since offers whole.1)
+      (fulfilled-less c is_asked asks since offers whole.1)
 
   -- an exit whose window is over by then began before the look
-  exit-fresh : (events : List Event) (since : List RootCall) (x : Exit) (b : ℕ) → IsLegal tests rules events
+  exit-recent : (events : List Event) (since : List RootCall) (x : Exit) (b : ℕ) → IsLegal tests rules events
       → Has (exits (log_of events)) x → x.coin ≡ c → x.block ≡ b → x.start + CHALLENGE_WINDOW ≤ time
-      → has_fresh_look time since events w c e ≡ true
+      → has_recent_look time since events w c e ≡ true
       → has_look (is_start c b) (is_on_exit c b) since events w c e ≡ true
-  unfolding IsLegal log_of has_look has_fresh_look
-  exit-fresh [] since x b legal there c_is b_is over fresh = absurd (false≢true fresh)
-  exit-fresh (Joins call ∷ events) since x b legal there c_is b_is over fresh =
+  unfolding IsLegal log_of has_look has_recent_look
+  exit-recent [] since x b legal there c_is b_is over recent = absurd (false≢true recent)
+  exit-recent (Joins call ∷ events) since x b legal there c_is b_is over recent =
       elim (stood-before tests rules (log_of events) call legal.0.accepted x there) [
         | inl new ↦
-            let late = fresh-clock events (call ∷ since) legal.1 fresh in
+            let late = recent-clock events (call ∷ since) legal.1 recent in
             let less : RESPONSE_WINDOW ≤ CHALLENGE_WINDOW = omega arith in
             absurd (omega (arith, late, over, new.start, less))
         | inr s ↦ and_from (not (is_start c b call))
             (has_look (is_start c b) (is_on_exit c b) (call ∷ since) events w c e)
             (not_from_false _ ((λ i. is_start (sym c_is i) (sym b_is i) call) ∙ s.not_started))
-            (exit-fresh events (call ∷ since) s.y b legal.1 s.there (s.coin ∙ c_is) (s.block ∙ b_is)
-            (omega (arith, over, s.start)) fresh)
+            (exit-recent events (call ∷ since) s.y b legal.1 s.there (s.coin ∙ c_is) (s.block ∙ b_is)
+            (omega (arith, over, s.start)) recent)
       ]
-  exit-fresh (Watches n offers ∷ events) since x b legal there c_is b_is over fresh =
+  exit-recent (Watches n offers ∷ events) since x b legal there c_is b_is over recent =
       elim (or_cases (nat_lt time (now (log_of events) + RESPONSE_WINDOW) && is_guardian events w c e n
-      && are_settled (is_on_coin c) since offers) (has_fresh_look time since events w c e) fresh) [
-        | inl here ↦ or_left (is_guardian events w c e n && are_settled (is_on_exit c b) since offers)
+      && are_fulfilled (is_on_coin c) since offers) (has_recent_look time since events w c e) recent) [
+        | inl here ↦ or_left (is_guardian events w c e n && are_fulfilled (is_on_exit c b) since offers)
             (has_look (is_start c b) (is_on_exit c b) since events w c e)
-            (watch-fresh (is_on_exit c b) (exit-asks c b) n offers since events here)
-        | inr earlier ↦ or_right (is_guardian events w c e n && are_settled (is_on_exit c b) since offers)
+            (watch-recent (is_on_exit c b) (exit-asks c b) n offers since events here)
+        | inr earlier ↦ or_right (is_guardian events w c e n && are_fulfilled (is_on_exit c b) since offers)
             (has_look (is_start c b) (is_on_exit c b) since events w c e)
-            (exit-fresh events since x b legal.1 there c_is b_is over earlier)
+            (exit-recent events since x b legal.1 there c_is b_is over earlier)
       ]
-  exit-fresh (event ∷ events) since x b legal there c_is b_is over fresh =
-      exit-fresh events since x b legal.1 there c_is b_is over fresh
+  exit-recent (event ∷ events) since x b legal there c_is b_is over recent =
+      exit-recent events since x b legal.1 there c_is b_is over recent
 
   -- so was an open challenge made, whose time is over by then
-  challenge-fresh : (events : List Event) (since : List RootCall) (x : Exit) (n : ℕ) (ch : Challenge)
+  challenge-recent : (events : List Event) (since : List RootCall) (x : Exit) (n : ℕ) (ch : Challenge)
       → IsLegal tests rules events → Has (exits (log_of events)) x → x.coin ≡ c → x.block ≡ e
       → Has x.challenges ch → ch.block ≡ n → ch.answered ≡ false → ch.at + RESPONSE_WINDOW ≤ time
-      → has_fresh_look time since events w c e ≡ true
+      → has_recent_look time since events w c e ≡ true
       → has_look (is_before c e n) (is_respond c e n) since events w c e ≡ true
-  unfolding IsLegal log_of has_look has_fresh_look
-  challenge-fresh [] since x n ch legal there c_is e_is has n_is still over fresh = absurd (false≢true fresh)
-  challenge-fresh (Joins call ∷ events) since x n ch legal there c_is e_is has n_is still over fresh =
+  unfolding IsLegal log_of has_look has_recent_look
+  challenge-recent [] since x n ch legal there c_is e_is has n_is still over recent = absurd (false≢true recent)
+  challenge-recent (Joins call ∷ events) since x n ch legal there c_is e_is has n_is still over recent =
       elim (stood-before tests rules (log_of events) call legal.0.accepted x there) [
         | inl new ↦ absurd (subst (λ (l : List Challenge). Has l ch) new.unchallenged has)
         | inr s ↦ elim (s.opened ch has still) [
           | inl made ↦
-              let late = fresh-clock events (call ∷ since) legal.1 fresh in
+              let late = recent-clock events (call ∷ since) legal.1 recent in
               absurd (omega (arith, late, over, made.1))
           | inr was ↦ and_from (not (is_before c e n call))
               (has_look (is_before c e n) (is_respond c e n) (call ∷ since) events w c e)
               (not_from_false _ ((λ i. is_before (sym c_is i) (sym e_is i) (sym n_is i) call) ∙ was.not_made))
-              (challenge-fresh events (call ∷ since) s.y n was.old legal.1 s.there (s.coin ∙ c_is) (s.block ∙ e_is)
-              was.there (was.block ∙ n_is) was.unanswered (omega (arith, over, was.at)) fresh)
+              (challenge-recent events (call ∷ since) s.y n was.old legal.1 s.there (s.coin ∙ c_is) (s.block ∙ e_is)
+              was.there (was.block ∙ n_is) was.unanswered (omega (arith, over, was.at)) recent)
         ]
       ]
-  challenge-fresh (Watches m offers ∷ events) since x n ch legal there c_is e_is has n_is still over fresh =
+  challenge-recent (Watches m offers ∷ events) since x n ch legal there c_is e_is has n_is still over recent =
       elim (or_cases (nat_lt time (now (log_of events) + RESPONSE_WINDOW) && is_guardian events w c e m
-      && are_settled (is_on_coin c) since offers) (has_fresh_look time since events w c e) fresh) [
-        | inl here ↦ or_left (is_guardian events w c e m && are_settled (is_respond c e n) since offers)
+      && are_fulfilled (is_on_coin c) since offers) (has_recent_look time since events w c e) recent) [
+        | inl here ↦ or_left (is_guardian events w c e m && are_fulfilled (is_respond c e n) since offers)
             (has_look (is_before c e n) (is_respond c e n) since events w c e)
-            (watch-fresh (is_respond c e n) (respond-asks c e n) m offers since events here)
-        | inr earlier ↦ or_right (is_guardian events w c e m && are_settled (is_respond c e n) since offers)
+            (watch-recent (is_respond c e n) (respond-asks c e n) m offers since events here)
+        | inr earlier ↦ or_right (is_guardian events w c e m && are_fulfilled (is_respond c e n) since offers)
             (has_look (is_before c e n) (is_respond c e n) since events w c e)
-            (challenge-fresh events since x n ch legal.1 there c_is e_is has n_is still over earlier)
+            (challenge-recent events since x n ch legal.1 there c_is e_is has n_is still over earlier)
       ]
-  challenge-fresh (event ∷ events) since x n ch legal there c_is e_is has n_is still over fresh =
-      challenge-fresh events since x n ch legal.1 there c_is e_is has n_is still over fresh
+  challenge-recent (event ∷ events) since x n ch legal there c_is e_is has n_is still over recent =
+      challenge-recent events since x n ch legal.1 there c_is e_is has n_is still over recent
 
-  -- a tick with a fresh look ends nothing unseen
-  fresh-none : (events : List Event) → IsLegal tests rules events → has_fresh_look time [] events w c e ≡ true
+  -- a tick with a recent look ends nothing unseen
+  recent-none : (events : List Event) → IsLegal tests rules events → has_recent_look time [] events w c e ≡ true
       → EndsUnseen events w c e time → ⊥
-  fresh-none events legal fresh (OfExit x there c_is met unseen) =
+  recent-none events legal recent (OfExit x there c_is met unseen) =
       let over = leb-true (x.start + CHALLENGE_WINDOW) time
       (and_parts (nat_lt (now (log_of events)) (x.start + CHALLENGE_WINDOW)) _ met).1 in
-      true≢false (sym (exit-fresh events [] x x.block legal there c_is refl over fresh) ∙ unseen)
-  fresh-none events legal fresh (OfChallenge x there c_is e_is ch has met unseen) =
+      true≢false (sym (exit-recent events [] x x.block legal there c_is refl over recent) ∙ unseen)
+  recent-none events legal recent (OfChallenge x there c_is e_is ch has met unseen) =
       let parts = and_parts (not ch.answered) (is_met (now (log_of events)) time (ch.at + RESPONSE_WINDOW)) met in
       let over = leb-true (ch.at + RESPONSE_WINDOW) time
       (and_parts (nat_lt (now (log_of events)) (ch.at + RESPONSE_WINDOW)) _ parts.1).1 in
-      true≢false (sym (challenge-fresh events [] x ch.block ch legal there c_is e_is has refl (not-true _ parts.0) over
-      fresh) ∙ unseen)
+      true≢false (sym (challenge-recent events [] x ch.block ch legal there c_is e_is has refl (not-true _ parts.0) over
+      recent) ∙ unseen)
 
 -- an exit of the coin stands where a tick ends something unseen
 ends-exited : (events : List Event) (w c e time : ℕ) → EndsUnseen events w c e time → is_exited events c ≡ true
@@ -163,7 +163,7 @@ often-before : (event : Event) (events : List Event) (w c e : ℕ) → is_looked
     → is_looked_often events w c e ≡ true
 unfolding is_looked_often
 often-before (Joins (Tick time)) events w c e often =
-    (and_parts (not (holds events w c e && is_exited events c && not (has_fresh_look time [] events w c e)))
+    (and_parts (not (holds events w c e && is_exited events c && not (has_recent_look time [] events w c e)))
     (is_looked_often events w c e) often).1
 often-before event events w c e often = often
 
@@ -182,9 +182,9 @@ often_looked_after tests rules (event ∷ events) w c e legal often =
         let often_then : is_looked_often (Joins (Tick u.time) ∷ events) w c e ≡ true =
         ap (λ k. is_looked_often (k ∷ events) w c e) (sym u.event_is) ∙ often in
         let off = not-true _ (and_parts
-        (not (holds events w c e && is_exited events c && not (has_fresh_look u.time [] events w c e)))
+        (not (holds events w c e && is_exited events c && not (has_recent_look u.time [] events w c e)))
         (is_looked_often events w c e) often_then).0 in
-        fresh-none tests rules w c e u.time events legal.1
-        (and-seen (holds events w c e && is_exited events c) (has_fresh_look u.time [] events w c e) off
+        recent-none tests rules w c e u.time events legal.1
+        (and-seen (holds events w c e && is_exited events c) (has_recent_look u.time [] events w c e) off
         (and_from (holds events w c e) (is_exited events c) u.held
         (ends-exited events w c e u.time u.ends))) u.ends

@@ -1,6 +1,7 @@
 -- The promises of every schedule, from those of legal events: the events of a run are legal, and so are those up to
 -- each line.
-use Rattle.std.proofs.Common.{◌≡◌, ◌≤◌, ℕ, ◌+◌, ◌||◌, true, false, if◌then◌else◌, List, [], ◌∷◌, ◌++◌, is_some, Contains, refl, sym, ap, ◌∙◌, subst, arith}
+use Rattle.std.proofs.Common.{◌≡◌, ◌⊎◌, inl, inr, ◌≤◌, ℕ, ◌+◌, ◌||◌, true, false, if◌then◌else◌, List, [], ◌∷◌, ◌++◌, is_some, Contains, refl, sym, ap, ◌∙◌, subst, arith}
+use Rattle.std.specs.Prelude.{◌≢◌}
 use Rattle.std.specs.List.{list_any}
 use Rattle.std.proofs.Math.Nat.{le_refl}
 use Rattle.std.proofs.lemmas.Bool.{or_parts, ne_eqb, eq-eqb}
@@ -15,7 +16,7 @@ use Rattle.world_rules.specs.Steps.{Run, events_of}
 use Rattle.world_rules.specs.Safety.{is_watch, is_joined}
 use Rattle.world_laws.specs.Headline.{IsRun, HeldCoinsAreSafe, OneWalletHolds, lacks_bond, DueCallsAreTaken, HarmsAreTakings, LostIsExhibited, IsTaken, StartsAreTaken}
 use Rattle.world_laws.specs.LegalLaws.{was_declared_before, fresh_offers}
-use Rattle.world_laws.specs.Looked.{LookedAfterCoinsAreSafe, LookingOftenIsEnough}
+use Rattle.world_laws.specs.Looked.{LookedAfterCoinsAreSafe, LookingOftenIsEnough, is_taken_kind, WentUnseen, TakenCoinsWentUnseen}
 use Rattle.world_laws.proofs.Often.{often_looked_after}
 use Rattle.world_laws.specs.Legal.{IsLegal}
 use Rattle.world_laws.proofs.Attended.{attended_are_looked_after}
@@ -27,9 +28,10 @@ use Rattle.world_rules.specs.declared.verdict.Exhibit.{Exhibit}
 use Rattle.world_rules.specs.Exhibits.{exhibit_of}
 use Rattle.world_rules.specs.Verdicts.{exhibit_of_run}
 use Rattle.std.specs.Option.{option_map_or}
+use Rattle.world_rules.specs.Laws.{IsOfHeld}
 use Rattle.world_rules.proofs.VerdictLaws.{verdicts_are_of_held_coins}
 use Rattle.world_laws.proofs.Starts.{starts_are_taken}
-use Rattle.world_laws.proofs.Lost.{lost_is_exhibited}
+use Rattle.world_laws.proofs.Taken.{lost_is_exhibited, taken_unseen}
 use Rattle.world_laws.proofs.Takings.{legal-takings}
 use Rattle.world_laws.proofs.DueTaken.{due_calls_are_taken}
 
@@ -149,6 +151,37 @@ lost_is_shown dig lines run world verdict is has lost nothing =
     is.digest (legal dig lines run world is) held.is_owner (sym held.kind ∙ lost)
     (sym (ap (λ w. option_map_or (λ world. exhibit_of dig world.chain.tag (events_of run.entries)) w
     Exhibit.Nothing) is.world_is) ∙ nothing)
+
+pub taken_went_unseen : TakenCoinsWentUnseen
+unfolding exhibit_of_run
+taken_went_unseen dig lines run world verdict is has taken =
+    let held = verdicts_are_of_held_coins dig lines run world verdict is.run_is is.world_is has in
+    let shown = ap (λ w. option_map_or (λ world. exhibit_of dig world.chain.tag (events_of run.entries)) w
+    Exhibit.Nothing) is.world_is in
+    by_exhibit (exhibit_of dig world.chain.tag (events_of run.entries)) refl held shown
+  where
+    by_exhibit : (exhibit : Exhibit) → exhibit_of dig world.chain.tag (events_of run.entries) ≡ exhibit
+        → IsOfHeld dig run world verdict
+        → exhibit_of_run dig run ≡ exhibit_of dig world.chain.tag (events_of run.entries)
+        → WentUnseen run world verdict ⊎ (exhibit_of_run dig run ≢ Exhibit.Nothing)
+    by_exhibit Exhibit.Nothing nothing held shown =
+        let u = taken_unseen dig (rules_of world.chain) (events_of run.entries) held.number verdict.coin held.tip
+        held.owner is.digest (legal dig lines run world is) held.is_owner nothing
+        (ap is_taken_kind (sym held.kind) ∙ taken) in
+        inl (record {
+          number = held.number;
+          node = held.node;
+          tip = held.tip;
+          later = u.later;
+          event = u.event;
+          earlier = u.earlier;
+          is_node = held.is_node;
+          name = held.name;
+          events_are = u.events_are;
+          unseen = u.unseen;
+        })
+    by_exhibit (Exhibit.Collision one other) some held shown = inr (λ none. cc)
+    by_exhibit (Exhibit.Forgery line) some held shown = inr (λ none. cc)
 
 pub starts_taken : StartsAreTaken
 starts_taken dig lines run world w account call is offer start held =

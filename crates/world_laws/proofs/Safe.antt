@@ -94,7 +94,8 @@ module _ (dig : List ℕ → List ℕ) (digest : IsDigest dig) (rules : Rules) (
       let at = at_event dig digest rules w c e (Joins call) events legal.1 none h in
       keeps (tests_by dig) rules (λ tx owner is. is) events w c e legal.1 (seen (Joins call ∷ events) c) at call
       (own_start call events legal.1 whole forged.1 h legal.0) (seen-call call events c) forged.0
-      (ticks-kept call events legal.1 whole forged.1 h (looked-parts (Joins call) events w c e looked).0) legal.0.accepted all
+      (ticks-kept call events legal.1 whole forged.1 h (looked-parts (Joins call) events w c e looked).0)
+      legal.0.accepted all
   kept-event event events legal none unforged looked h all = all
 
   -- while it is held, what is to hold of each of its exits holds

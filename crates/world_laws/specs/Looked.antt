@@ -1,7 +1,7 @@
--- Who looked after a coin. A tick is attended only where a guardian watched as the last thing before it. A look is less:
--- a guardian watched at some time since the exit began, and what it was then offered for this exit was settled since, by
--- whomever. Calls for other coins, money, ticks and the guardian's later commands don't matter. What is looked after is
--- safe, and what is attended is looked after.
+-- Who looked after a coin. A tick is attended only where a guardian watched as the last thing before it. To look is
+-- less: a guardian watched at some time since the exit began, and what it was then offered for this exit was fulfilled
+-- since, by whomever. Calls for other coins, money, ticks and the guardian's later commands don't matter. What is looked
+-- after is safe, and what is attended is looked after.
 use Rattle.std.specs.Prelude.{◌≡◌, ◌≢◌, ◌⊎◌, ℕ, ◌+◌, ◌==◌, ◌&&◌, ◌||◌, not, Bool, true, false, if◌then◌else◌, nat_lt, List, [], ◌∷◌, ◌++◌, slice_get, Some}
 use Rattle.std.specs.List.{Contains, list_any, list_all}
 use Rattle.std.specs.Option.{option_map_or}
@@ -39,32 +39,32 @@ is_on_exit c e (Before account coin exit shown) = (coin == c) && (exit == e)
 is_on_exit c e (Respond account coin exit challenged spend) = (coin == c) && (exit == e)
 is_on_exit c e call = false
 
--- An accepted call settles an offered one: it ends the same exit, or challenges it at the same block, or answers the
+-- An accepted call fulfils an offered one: it ends the same exit, or challenges it at the same block, or answers the
 -- same challenge; whoever makes it, and whatever he shows.
-abbrev pub settles : RootCall → RootCall → Bool
-settles (After account coin exit spend) call = is_end coin exit call
-settles (Between account coin exit spend) call = is_end coin exit call
-settles (Before account coin exit shown) call = is_end coin exit call || is_before coin exit (block_of shown) call
-settles (Respond account coin exit challenged spend) call =
+abbrev pub fulfils : RootCall → RootCall → Bool
+fulfils (After account coin exit spend) call = is_end coin exit call
+fulfils (Between account coin exit spend) call = is_end coin exit call
+fulfils (Before account coin exit shown) call = is_end coin exit call || is_before coin exit (block_of shown) call
+fulfils (Respond account coin exit challenged spend) call =
     is_end coin exit call || is_respond coin exit challenged call
-settles offer call = false
+fulfils offer call = false
 
--- each of the offered calls that is asked for was settled since
-abbrev pub are_settled : (RootCall → Bool) → List RootCall → List RootCall → Bool
-are_settled is_asked since offers = list_all (λ offer. not (is_asked offer) || list_any (settles offer) since) offers
+-- each of the offered calls that is asked for was fulfilled since
+abbrev pub are_fulfilled : (RootCall → Bool) → List RootCall → List RootCall → Bool
+are_fulfilled is_asked since offers = list_all (λ offer. not (is_asked offer) || list_any (fulfils offer) since) offers
 
 -- node n is a guardian of the coin that wallet w holds at e: the wallet itself, or a watcher that guards it at that tip
 abbrev pub is_guardian : List Event → ℕ → ℕ → ℕ → ℕ → Bool
 is_guardian events w c e n = (n == w) || list_any (is_bundle c e) (guarded_by events n)
 
 -- Since the last call that opens it a guardian watched, and each call that is asked for and that this watch offered was
--- settled since. `since` are the calls that joined the log behind these events.
+-- fulfilled since. `since` are the calls that joined the log behind these events.
 unfoldable pub has_look : (RootCall → Bool) → (RootCall → Bool) → List RootCall → List Event → ℕ → ℕ → ℕ → Bool
 has_look opens is_asked since [] w c e = false
 has_look opens is_asked since (Joins call ∷ events) w c e =
     not (opens call) && has_look opens is_asked (call ∷ since) events w c e
 has_look opens is_asked since (Watches n offers ∷ events) w c e =
-    (is_guardian events w c e n && are_settled is_asked since offers)
+    (is_guardian events w c e n && are_fulfilled is_asked since offers)
     || has_look opens is_asked since events w c e
 has_look opens is_asked since (event ∷ events) w c e = has_look opens is_asked since events w c e
 
@@ -113,25 +113,25 @@ abbrev pub is_on_coin : ℕ → RootCall → Bool
 is_on_coin c call = coin_of_call call == c
 
 -- Less than the time to answer a challenge before this time a guardian watched, and each call for the coin that this
--- watch offered was settled since.
-unfoldable pub has_fresh_look : ℕ → List RootCall → List Event → ℕ → ℕ → ℕ → Bool
-has_fresh_look time since [] w c e = false
-has_fresh_look time since (Joins call ∷ events) w c e = has_fresh_look time (call ∷ since) events w c e
-has_fresh_look time since (Watches n offers ∷ events) w c e =
+-- watch offered was fulfilled since.
+unfoldable pub has_recent_look : ℕ → List RootCall → List Event → ℕ → ℕ → ℕ → Bool
+has_recent_look time since [] w c e = false
+has_recent_look time since (Joins call ∷ events) w c e = has_recent_look time (call ∷ since) events w c e
+has_recent_look time since (Watches n offers ∷ events) w c e =
     (nat_lt time (now (log_of events) + RESPONSE_WINDOW) && is_guardian events w c e n
-    && are_settled (is_on_coin c) since offers)
-    || has_fresh_look time since events w c e
-has_fresh_look time since (event ∷ events) w c e = has_fresh_look time since events w c e
+    && are_fulfilled (is_on_coin c) since offers)
+    || has_recent_look time since events w c e
+has_recent_look time since (event ∷ events) w c e = has_recent_look time since events w c e
 
 -- an exit of the coin stands
 abbrev pub is_exited : List Event → ℕ → Bool
 is_exited events c = list_any (λ exit. exit.coin == c) (exits (log_of events))
 
--- at each tick while the wallet holds the coin at e and an exit of it stands, some such look is fresh
+-- at each tick while the wallet holds the coin at e and an exit of it stands, some such look is recent
 unfoldable pub is_looked_often : List Event → ℕ → ℕ → ℕ → Bool
 is_looked_often [] w c e = true
 is_looked_often (Joins (Tick time) ∷ events) w c e =
-    not (holds events w c e && is_exited events c && not (has_fresh_look time [] events w c e))
+    not (holds events w c e && is_exited events c && not (has_recent_look time [] events w c e))
     && is_looked_often events w c e
 is_looked_often (event ∷ events) w c e = is_looked_often events w c e
 
@@ -153,7 +153,7 @@ abbrev pub AttendedCoinsAreLookedAfter : Type 0
 AttendedCoinsAreLookedAfter = (events : List Event) (w c e : ℕ)
     → is_attended events w c e ≡ true → is_looked_after events w c e ≡ true
 
--- so is, in a run, what is looked at so often that some look is always fresh while an exit of the coin stands
+-- so is, in a run, what is looked at so often that some look is always recent while an exit of the coin stands
 abbrev pub LookingOftenIsEnough : Type 0
 LookingOftenIsEnough = (dig : List ℕ → List ℕ) (lines : List Line) (run : Run) (world : World)
     (later events : List Event) (w c e : ℕ)
