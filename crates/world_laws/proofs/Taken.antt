@@ -4,7 +4,7 @@ use Rattle.std.specs.Prelude.{is_none}
 use Rattle.std.specs.Option.{option_or}
 use Rattle.std.proofs.lemmas.Bool.{cases_Bool, and_from, not_from_false, false≢true}
 use Rattle.plasma_tx.specs.declared.owner.Owner.{Owner}
-use Rattle.root_rules.specs.Shown.{Rules, tests_by}
+use Rattle.plasma_tx.specs.Shown.{Rules, tests_by}
 use Rattle.world_rules.specs.declared.verdict.VerdictKind.{VerdictKind}
 use Rattle.world_rules.specs.declared.verdict.Exhibit.{Exhibit}
 use Rattle.world_rules.specs.Laws.{IsDigest}
