@@ -66,7 +66,7 @@ module _ (dig : List ℕ → List ℕ) (is_digest : IsDigest dig) (outside : Out
           wrote = ends;
           keeps = keeps;
           lost_text = λ verdict has lost. shown-text _ (keeps.lost verdict has lost);
-          takes = offers-taken dig bytes ended is_digest;
+          at_end = offers-taken dig bytes ended is_digest;
         }
 
     nothing-written : outside.after ≡ outside.taken → (written : List ℕ) → WroteFront outside.taken outside.after written

@@ -26,7 +26,7 @@ use Rattle.world_laws.proofs.SignedRuns.{leaves_sign_one_message}
 use Rattle.streamed_lines.specs.Lines.{lines_in, text_of}
 use Rattle.replay_run.specs.Replays.{replay_of}
 use Rattle.replay_run.specs.Laws.{lines_spelled}
-use Rattle.replay_run.specs.Offers.{TakesItsOffers}
+use Rattle.replay_run.specs.Ends.{HoldsAtTheEnd}
 use Rattle.replay_run.specs.Headline.{KeepsCoins, KeepsLookedAfter, KeepsThePromise, ReplaysKeepThePromise}
 use Rattle.replay_run.proofs.EndingLaws.{answered-are_a_run}
 
@@ -109,7 +109,7 @@ module _ (dig : List ℕ → List ℕ) (bytes : List ℕ) (ended : Bool) (is_dig
     lost = lost-shown run.world refl;
   }
 
-  pub offers-taken : (world : World) → run.world ≡ Some world → TakesItsOffers dig lines run world
+  pub offers-taken : (world : World) → run.world ≡ Some world → HoldsAtTheEnd dig lines run world
   offers-taken world is = record {
     one_holder = λ v w c d e differ declared first second.
         not-all (collides dig (events_of run.entries) c) (is_forged world.chain.tag (events_of run.entries) v c)

@@ -28,7 +28,7 @@ use Rattle.replay_run.specs.Text.{closing_text, brief_text, last_text}
 use Rattle.replay_run.specs.Output.{status_of}
 use Rattle.replay_run.specs.Laws.{lines_spelled}
 use Rattle.replay_run.specs.Endings.{EndsBy}
-use Rattle.replay_run.specs.Offers.{TakesItsOffers}
+use Rattle.replay_run.specs.Ends.{HoldsAtTheEnd}
 use Rattle.replay_run.specs.Replays.{replay_of}
 
 -- Coins are kept at each line of these events, the newest first: where each tick before it that met a deadline of coin
@@ -43,9 +43,10 @@ KeepsCoins dig all world = (later events : List Event) (event : Event) (w c e : 
     ⊎ (is_forged world.chain.tag (event ∷ events) w c ≡ true)
     ⊎ (is_safe (tests_by dig) (rules_of world.chain) (event ∷ events) w c e ≡ true)
 
--- The same where the coin was looked after: since another account's exit of it began, and since each challenge of the
--- wallet's own exit, somebody watched who guards the coin, and what this watch offered for it was made since, before the
--- first tick past the end of its window. Whatever is attended is looked after.
+-- The same where the coin was looked after: at no tick before the line that reached the end of the window of another
+-- account's exit of it, or of an open challenge of the wallet's own exit, it went unseen. It was seen where a guardian
+-- watched since that exit began, or that challenge was made, and what this watch offered for it was fulfilled since, by
+-- whomever. Whatever is attended is looked after, by a law, so the sentence with attended coins follows from this one.
 abbrev pub KeepsLookedAfter : (List ℕ → List ℕ) → List Event → World → Type 0
 KeepsLookedAfter dig all world = (later events : List Event) (event : Event) (w c e : ℕ)
     → all ≡ later ++ event ∷ events → is_looked_after events w c e ≡ true
@@ -84,7 +85,8 @@ run_brief dig run ending =
 -- lines that the first lines of the bytes spell, by the rules of the world; the next line, or the end of the input, says
 -- why it has no more. The sink took the text of that run, or with the statuses WriteFault and NoMemory a beginning of it.
 -- No leaf of it signs two messages, and its coins are kept; where a verdict is `lost` its text doesn't say `no exhibit`.
--- And what is offered in it is taken.
+-- Where source and sink tell, `gave` and `wrote` say what they did; over others a run is the same, since its body can't
+-- see which they are. That a run keeps the promise, and what holds at its end, follows for each run by the rules.
 pub record AnswersByTheRules
     (dig : List ℕ → List ℕ)
     (text : (List ℕ → List ℕ) → Run → Ending NoCause → Output)
@@ -103,7 +105,7 @@ pub record AnswersByTheRules
   pub keeps : KeepsThePromise dig run
   pub lost_text : (verdict : Verdict) → Contains (verdicts_of dig run) verdict → verdict.kind ≡ VerdictKind.Lost
       → exhibit_text (exhibit_of_run dig run) ≢ codes "no exhibit" ++ 10 ∷ []
-  pub takes : ForSome run.world (TakesItsOffers dig (lines_spelled bytes (length run.entries)) run)
+  pub at_end : ForSome run.world (HoldsAtTheEnd dig (lines_spelled bytes (length run.entries)) run)
 
 -- so it is of each form that reads a schedule
 abbrev pub KeepsByForm : (List ℕ → List ℕ) → Outside → Type 0 → Status → Option Form → Type 0

@@ -8,5 +8,5 @@ pub mod Does
 pub mod Reading
 pub mod Laws
 pub mod Endings
-pub mod Offers
+pub mod Ends
 pub mod Headline

@@ -1,6 +1,6 @@
--- Who looked after a coin. A tick is attended only where a guardian watched as the last thing before it. To look is
--- less: a guardian watched at some time since the exit began, and what it was then offered for this exit was fulfilled
--- since, by whomever. Calls for other coins, money, ticks and the guardian's later commands don't matter. What is looked
+-- Who looked after a coin. A tick is attended only where a guardian's last command was a watch that offered nothing for
+-- the coin, and no call was accepted since. To look is less: a guardian watched at some time since the exit began, and
+-- what it then offered for this exit was fulfilled since, by whomever. Calls for other coins, money, ticks and the guardian's later commands don't matter. What is looked
 -- after is safe, and what is attended is looked after.
 use Rattle.std.specs.Prelude.{◌≡◌, ◌≢◌, ◌⊎◌, ℕ, ◌+◌, ◌==◌, ◌&&◌, ◌||◌, not, Bool, true, false, if◌then◌else◌, nat_lt, List, [], ◌∷◌, ◌++◌, slice_get, Some}
 use Rattle.std.specs.List.{Contains, list_any, list_all}
@@ -31,7 +31,7 @@ abbrev pub is_before : ℕ → ℕ → ℕ → RootCall → Bool
 is_before c e n (Before account coin exit shown) = (coin == c) && (exit == e) && (block_of shown == n)
 is_before c e n call = false
 
--- the call is made against the exit of coin c at block e, or for it
+-- the call is an After, a Between, a Before or a Respond of the exit of coin c at block e
 abbrev pub is_on_exit : ℕ → ℕ → RootCall → Bool
 is_on_exit c e (After account coin exit spend) = (coin == c) && (exit == e)
 is_on_exit c e (Between account coin exit spend) = (coin == c) && (exit == e)
@@ -57,8 +57,9 @@ are_fulfilled is_asked since offers = list_all (λ offer. not (is_asked offer) |
 abbrev pub is_guardian : List Event → ℕ → ℕ → ℕ → ℕ → Bool
 is_guardian events w c e n = (n == w) || list_any (is_bundle c e) (guarded_by events n)
 
--- Since the last call that opens it a guardian watched, and each call that is asked for and that this watch offered was
--- fulfilled since. `since` are the calls that joined the log behind these events.
+-- Since the last call that `opens` what is looked after, a guardian watched, and each call that is asked for and that this
+-- watch offered was fulfilled since. Where no call opens it any such watch counts. `since` are the calls that joined the
+-- log behind these events.
 unfoldable pub has_look : (RootCall → Bool) → (RootCall → Bool) → List RootCall → List Event → ℕ → ℕ → ℕ → Bool
 has_look opens is_asked since [] w c e = false
 has_look opens is_asked since (Joins call ∷ events) w c e =
@@ -78,8 +79,8 @@ challenge_has_look events w c e n = has_look (is_before c e n) (is_respond c e n
 
 -- ---- ticks
 
--- A tick to this time ends the time in which another account's exit may be challenged, or the time to answer an open
--- challenge of the owner's exit at e, after which nobody looked.
+-- A tick to this time ends the window of another account's exit, or of an open challenge of the owner's exit at e, and
+-- nobody looked since that exit began, or since that challenge was made.
 abbrev pub passes_unseen : Owner → List Event → ℕ → ℕ → ℕ → ℕ → Exit → Bool
 passes_unseen me events w c e time exit =
     if is_mine me exit
@@ -112,8 +113,8 @@ is_looked_after (event ∷ events) w c e = not (goes_unseen events w c e event) 
 abbrev pub is_on_coin : ℕ → RootCall → Bool
 is_on_coin c call = coin_of_call call == c
 
--- Less than the time to answer a challenge before this time a guardian watched, and each call for the coin that this
--- watch offered was fulfilled since.
+-- A guardian watched less than the window of a challenge before this time, and each call for the coin that this watch
+-- offered was fulfilled since.
 unfoldable pub has_recent_look : ℕ → List RootCall → List Event → ℕ → ℕ → ℕ → Bool
 has_recent_look time since [] w c e = false
 has_recent_look time since (Joins call ∷ events) w c e = has_recent_look time (call ∷ since) events w c e
@@ -166,7 +167,7 @@ is_taken_kind VerdictKind.Lost = true
 is_taken_kind (VerdictKind.Unattended line) = true
 is_taken_kind kind = false
 
--- a tick of the run went unseen of the wallet with that name, which held the coin at a tip
+-- a tick of the run at which the coin went unseen, while the wallet with that name held it at some tip
 pub record WentUnseen (run : Run) (world : World) (verdict : Verdict) : Type 0 where
   pub number : ℕ
   pub node : Node

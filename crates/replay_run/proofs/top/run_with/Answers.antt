@@ -1,4 +1,5 @@
-use Rattle.std.proofs.Common.{inl, inr, refl}
+use Rattle.std.proofs.Common.{inl, inr, refl, subst}
+use Rattle.replay_run.specs.Headline.{KeepsByForm}
 use Rattle.replay_run.proofs.FaultLaws.{does-count}
 use Rattle.replay_run.proofs.ByTheRules.{keeps-by_form}
 use Rattle.replay_run.proofs.top.run_with.Goals as goal
@@ -11,9 +12,9 @@ returns-in-Ok-clause-disk_faults g c =
 
 pub returns-in-Ok-clause-headline : goal.returns-in-Ok-clause-headline
 returns-in-Ok-clause-headline g c =
-    keeps-by_form _ (λ bytes. (g.met.H.Hash32.length_is c.args.h.now bytes, g.met.H.Hash32.bytes_are c.args.h.now bytes))
+    subst (KeepsByForm _ _ _ _) c.in-Ok.ensures.form (keeps-by_form _ (λ bytes. (g.met.H.Hash32.length_is c.args.h.now bytes, g.met.H.Hash32.bytes_are c.args.h.now bytes))
     _ _ g.D.Disk.told g.D.Disk.plan g.D.Disk.faults c.args.notes c.args.leaves c.run_form.result.notes
-    c.run_form.result.leaves c.run_form.result.status c.in-Ok.form (inl c.run_form.ensures.output)
+    c.run_form.result.leaves c.run_form.result.status c.in-Ok.form (inl c.run_form.ensures.output))
 
 pub returns-in-Err-clause-headline : goal.returns-in-Err-clause-headline
 returns-in-Err-clause-headline g c =

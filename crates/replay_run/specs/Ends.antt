@@ -1,4 +1,5 @@
--- What is offered in a run is taken: calls by the contract, and an honest operator's bundles by wallets.
+-- What holds at the end of a run: a coin has one holder, and what is on offer would be accepted, calls by the contract and
+-- an honest operator's bundles by wallets.
 use Rattle.std.specs.Prelude.{◌≡◌, ◌≢◌, ◌⊎◌, ℕ, true, false, List, slice_get, Some}
 use Rattle.std.specs.List.{Contains}
 use Rattle.line_forms.specs.declared.tokens.HexOrItem.{HexOrItem}
@@ -21,8 +22,9 @@ use Rattle.world_rules.specs.Safety.{holds}
 use Rattle.world_laws.specs.Headline.{AreDeclaredBefore, lacks_bond, IsFreshWatch, starter, IsTaken}
 use Rattle.world_laws.specs.Bundles.{IsHonestSoFar, WasBundled, IsTakenBundle}
 
--- So it is at the end of a run of these lines, the newest first, with this world.
-pub record TakesItsOffers (dig : List ℕ → List ℕ) (lines : List Line) (run : Run) (world : World) : Type 0 where
+-- So it is at the end of a run of these lines, the newest first, with this world. A beginning of a schedule is a schedule,
+-- so it is at each line of it.
+pub record HoldsAtTheEnd (dig : List ℕ → List ℕ) (lines : List Line) (run : Run) (world : World) : Type 0 where
   -- two wallets that were declared before its deposit don't both hold a coin, unless the trace exhibits
   pub one_holder : (v w c d e : ℕ) → v ≢ w → AreDeclaredBefore (events_of run.entries) v w c
       → holds (events_of run.entries) v c d ≡ true → holds (events_of run.entries) w c e ≡ true
