@@ -95,7 +95,7 @@ class Spelling:
         raise Unreadable(f"docs/FORMATS.md spells a token as '{self.said}', which tools/grammar.py doesn't know")
 
     def hex_or_name(self, word, size, may_be_name):
-        if may_be_name and not word.startswith(("0x", "0X")):
+        if may_be_name and not word.startswith(("0x", "0X")) and len(word) != 2 * size:
             wrong = self.grammar.no_name(word)
             return wrong and f"a hex of {size} bytes or a declared name stands here: {wrong}"
         return self.grammar.no_hex(word, size)
