@@ -17,11 +17,11 @@ class Unknown(Exception):
 
 
 class Run:
-    """A run: its words and input, whether calls fail in it, the status that it ends with, and the lines that are expected."""
+    """A run: its words and input, whether these aren't known, the status that it ends with, and the lines that are expected."""
 
     def __init__(self, case, words):
         self.case, self.words = case, words
-        self.input, self.fails = bytearray(), False
+        self.input, self.unknown = bytearray(), False
         self.status, self.lines, self.has_text = "Done", [], False
 
 
@@ -118,11 +118,11 @@ class Played:
         return done
 
     def ask(self, text, times):
-        if self.run and not self.run.fails:
+        if self.run and not self.run.unknown:
             try:
                 self.run.input += (expand(text, self.names) + "\n").encode() * times
             except Unknown:
-                self.run.fails = True
+                self.run.unknown = True
 
     def answer(self, answer):
         """The answer to the last line of the input. A bad line ends a replay."""
@@ -142,7 +142,7 @@ class Played:
                 self.run = Run(self.case, [word for word in expand(rest, self.names).split(" ") if word])
             except Unknown:
                 self.run = Run(self.case, [])
-                self.run.fails = True
+                self.run.unknown = True
         if first == "let":
             name, _, value = rest.partition(" = ")
             try:
@@ -151,8 +151,8 @@ class Played:
                 self.names[name] = None
 
     def note(self, first, rest):
-        if first in ("fail", "output"):
-            self.run.fails = True
+        if first == "output":
+            self.run.unknown = True
         elif first == "unended":
             del self.run.input[-1:]
         elif first == "ends":
@@ -180,8 +180,7 @@ def combinations(tables):
 
 
 def runs(file):
-    """The runs of a file of cases, each with its last line that is expected; without those whose input isn't known, or
-    in which a call fails."""
+    """The runs of a file of cases, each with its last line that is expected; without those whose input isn't known."""
     texts = []
     for name in (NAMES, file):
         with open(f"{DATA}/{name}", encoding="utf-8", newline="") as it:
@@ -199,7 +198,7 @@ def runs(file):
             for line in [*body, "let end = "]:
                 last = played.last_line() if played.run and line.split(" ")[0] in CHANGES else None
                 run = played.take(line)
-                if run and not run.fails:
+                if run and not run.unknown:
                     run.last = last
                     yield run
 

@@ -9,6 +9,8 @@ import re
 TOP = os.path.dirname(os.path.dirname(os.path.realpath(__file__)))
 PAGE = f"{TOP}/docs/FORMATS.md"
 CODE = re.compile(r"`([^`]+)`")
+# A word with more letters is near none, and with more digits it is no number.
+MOST_LETTERS = 40
 # The tokens that are names, each of them of one kind of node.
 NAMES = ("name", "wallet", "watcher", "rogue", "node")
 
@@ -197,8 +199,9 @@ class Grammar:
         if not re.fullmatch(r"[0-9]+", word):
             return self.number_spelling(word, whole)
         if len(word) > 1 and word[0] == "0":
-            return f"{shown(word)} has a zero in front, and a number has one spelling: {int(word)}"
-        if int(word) > most:
+            return f"{shown(word)} has a zero in front, and a number has one spelling" + (
+                f": {int(word)}" if len(word) <= MOST_LETTERS else "")
+        if len(word) > MOST_LETTERS or int(word) > most:
             of = ", the last one that 8 bytes hold" if most == self.last_number else ""
             return f"{shown(word)} is more than {most}{of}"
         return f"{shown(word)} is less than {least}" if int(word) < least else None
@@ -207,7 +210,7 @@ class Grammar:
         bare = word.replace(",", "").replace("_", "").replace("'", "").lstrip("+")
         if re.fullmatch(r"-[0-9]+", word):
             return f"{shown(word)} is below 0, and {whole} stands here"
-        if re.fullmatch(r"[0-9]+", bare):
+        if re.fullmatch(r"[0-9]+", bare) and len(bare) <= MOST_LETTERS:
             return f"{shown(word)} has more than digits in it: write {int(bare)}"
         if word.startswith(("0x", "0X")):
             return f"{shown(word)} is a hex, and {whole} in decimal digits stands here"
@@ -260,6 +263,8 @@ class Grammar:
 
 def near(word, known):
     """The known word that is nearest, if one is near: one letter more, less, other or changed in place is one step."""
+    if len(word) > MOST_LETTERS:
+        return None
     best = min(known, key=lambda it: (steps(word.lower(), it), it), default=None)
     return best if best is not None and steps(word.lower(), best) <= max(1, len(best) // 3) else None
 
