@@ -7,4 +7,4 @@ use Rattle.wallet_node.proofs.node.WalletNode.noted.Goals as goal
 pub returns : goal.returns
 returns g c =
     c.noted.ensures ∙ ap (λ (m : MemoryState). m.noted) c.self.invariant.0.is_memory
-    ∙ ap (λ (s : WalletState _ _). noted (g.H.Hash32.digest_of c.self.inside.hash) s.records) c.self.view_is
+    ∙ ap (λ (s : WalletState _ _). noted (g.H.Hash32.digest_of s.hash) s.records) c.self.view_is
