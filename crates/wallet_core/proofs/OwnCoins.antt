@@ -76,7 +76,6 @@ not_own me (Deposit account amount key ∷ log) coin none =
         (sym (list_any-append (λ x. x == coin) (deposits_of log me.account) ((coins log + 1) ∷ [])) ∙ without)).1 in
         absurd (let wrong : true ≡ false = ap (λ b. b || false) (sym (eq-eqb (coins log + 1) coin (sym last)))
         ∙ last_is in cc)
-
 not_own me (call ∷ log) coin none = not_own me log coin none
 
 pub others_are_nothing : OtherCoinsAreNothing
@@ -84,8 +83,8 @@ others_are_nothing notes leaves log coin none =
     let parts = or_parts (noted coin notes.accepted) (among coin (deposits_of log notes.me.account)) none in
     (nothing_is notes leaves log coin).1
     (inr (inr (
-      ap (λ (l : List ℕ). l ++ noted_tips coin notes.accepted) (not_own notes.me log coin parts.1)
-      ∙ no_tips coin notes.accepted parts.0)))
+    ap (λ (l : List ℕ). l ++ noted_tips coin notes.accepted) (not_own notes.me log coin parts.1)
+    ∙ no_tips coin notes.accepted parts.0)))
 
 -- ---- the set, number by number
 
