@@ -1,5 +1,6 @@
 -- The clock is the last Tick; a block's number is its call's place, and a coin's its Deposit's.
-use Rattle.std.proofs.Common.{◌≡◌, ℕ, suc, ◌+◌, ◌==◌, Bool, if◌then◌else◌, List, [], ◌∷◌, ◌++◌, length, reverse, filter, slice_get, Option, Some, None, inl, inr, refl, sym, ap, ◌∙◌, arith}
+use Rattle.std.proofs.Common.{◌≡◌, ℕ, zero, suc, ◌+◌, ◌==◌, Bool, true, false, if◌then◌else◌, List, [], ◌∷◌, ◌++◌, length, reverse, filter, find, slice_get, Option, Some, None, inl, inr, refl, sym, ap, ◌∙◌, arith}
+use Rattle.std.specs.Option.{option_map_or}
 use Rattle.std.proofs.lemmas.Bool.{cases_eq, eq-eqb, ne_eqb}
 use Rattle.std.proofs.lemmas.List.{length-append, reverse-append, append-nil}
 use Rattle.std.proofs.lemmas.List.Elements.{filter-append}
@@ -9,7 +10,7 @@ use Rattle.plasma_tx.specs.declared.views.BlockView.{BlockView}
 use Rattle.plasma_tx.specs.declared.views.BlockView.TheVariants.{DepositOf, Root}
 use Rattle.plasma_tx.specs.declared.views.CoinView.{CoinView}
 use Rattle.plasma_tx.specs.Views.{now, blocks, coins, block_at, new_coin, coin_at}
-use Rattle.plasma_tx.specs.Laws.{ClocksAreTicks, is_block_call, block_calls, blocks_made, coins_made, BlocksAreCalls, CoinsAreDeposits}
+use Rattle.plasma_tx.specs.Laws.{is_tick, time_of, ClocksAreTicks, is_block_call, block_calls, blocks_made, coins_made, AreNumbered, BlocksAreCalls, CoinsAreDeposits}
 use Rattle.plasma_tx.proofs.Keeps.{slice_get-push}
 
 -- ---- the clock
