@@ -25,7 +25,7 @@ use Rattle.plasma_tx.specs.Standing.{no_standing, standing_after, change_of}
 use Rattle.plasma_tx.specs.Keeps.{item_at, standing_in, deposits_in, AreExiting, Keeps}
 use Rattle.plasma_tx.proofs.CoinExits.{after-change}
 
-slice_get-push : {X : Type 0} (xs : List X) (x : X) (m : ℕ) → slice_get (xs ++ x ∷ []) m
+pub slice_get-push : {X : Type 0} (xs : List X) (x : X) (m : ℕ) → slice_get (xs ++ x ∷ []) m
     ≡ (if m == length xs then Some x else slice_get xs m)
 slice_get-push [] x zero = refl
 slice_get-push [] x (suc m) = simp (ne_eqb (suc m) 0 (omega arith))

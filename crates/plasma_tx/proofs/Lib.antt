@@ -24,3 +24,4 @@ pub mod Sums
 pub mod Held
 pub mod Below
 pub mod MoneyKept
+pub mod Numbered

@@ -1,10 +1,71 @@
 -- What holds of the views of every list of calls, in the words of the calls themselves.
-use Rattle.std.specs.Prelude.{◌≡◌, ℕ, ◌<◌, ◌==◌, ◌&&◌, ◌||◌, not, Bool, true, false, if◌then◌else◌, List, [], ◌∷◌, length, Option, Some, None, is_some}
+use Rattle.std.specs.Prelude.{◌≡◌, ℕ, ◌+◌, ◌<◌, ◌==◌, ◌&&◌, ◌||◌, not, Bool, true, false, if◌then◌else◌, List, [], ◌∷◌, length, reverse, filter, find, slice_get, Option, Some, None, is_some}
 use Rattle.std.specs.List.{AllPairs}
-use Rattle.std.specs.Option.{option_map, option_or}
+use Rattle.std.specs.Option.{option_map, option_map_or, option_or}
 use Rattle.plasma_tx.specs.declared.call.RootCall.{RootCall}
-use Rattle.plasma_tx.specs.declared.call.RootCall.TheVariants.{StartDeposit, StartSpend, After, Between, Before, Respond, Finish}
-use Rattle.plasma_tx.specs.Views.{now, Challenge, Exit, block_of, owner_of, deposit_exit, spend_exit, challenge_at, exits, exit_at, has_no_open_challenge, is_withdrawn, is_responded, responses}
+use Rattle.plasma_tx.specs.declared.call.RootCall.TheVariants.{Tick, Deposit, Commit, StartDeposit, StartSpend, After, Between, Before, Respond, Finish}
+use Rattle.plasma_tx.specs.declared.views.BlockView.{BlockView}
+use Rattle.plasma_tx.specs.declared.views.BlockView.TheVariants.{DepositOf, Root}
+use Rattle.plasma_tx.specs.declared.views.CoinView.{CoinView}
+use Rattle.plasma_tx.specs.Views.{now, blocks, coins, block_at, coin_at, Challenge, Exit, block_of, owner_of, deposit_exit, spend_exit, challenge_at, exits, exit_at, has_no_open_challenge, is_withdrawn, is_responded, responses}
+
+-- ---- the clock, blocks and coins
+
+-- the call sets the clock, and to what time
+abbrev pub is_tick : RootCall → Bool
+is_tick (Tick time) = true
+is_tick call = false
+
+abbrev pub time_of : RootCall → ℕ
+time_of (Tick time) = time
+time_of call = 0
+
+-- the clock is the time of the last Tick, or 0
+abbrev pub ClocksAreTicks : Type 0
+ClocksAreTicks = (log : List RootCall) → now log ≡ option_map_or time_of (find is_tick log) 0
+
+-- the call makes a block
+abbrev pub is_block_call : RootCall → Bool
+is_block_call (Deposit account amount key) = true
+is_block_call (Commit account root) = true
+is_block_call call = false
+
+-- the Deposit and Commit calls, the oldest first
+abbrev pub block_calls : List RootCall → List RootCall
+block_calls log = filter is_block_call (reverse log)
+
+-- what such calls make as blocks: a Commit its root, and a Deposit a coin, of which the first has this number
+unfoldable pub blocks_made : ℕ → List RootCall → List BlockView
+blocks_made c [] = []
+blocks_made c (Deposit account amount key ∷ calls) = DepositOf c ∷ blocks_made (c + 1) calls
+blocks_made c (Commit account root ∷ calls) = Root root ∷ blocks_made c calls
+blocks_made c (call ∷ calls) = blocks_made c calls
+
+-- the coins that the Deposits of such calls make, each in the block of its call's place, which for the first call is n
+unfoldable pub coins_made : ℕ → List RootCall → List CoinView
+coins_made n [] = []
+coins_made n (Deposit account amount key ∷ calls) =
+    record { deposit = n; amount = amount; owner = record { account = account; key = key } } ∷ coins_made (n + 1) calls
+coins_made n (call ∷ calls) = coins_made (n + 1) calls
+
+-- what these are, counted from 1
+abbrev pub AreNumbered : {A : Type 0} → (ℕ → Option A) → List A → Type 0
+AreNumbered at items = (at 0 ≡ None) × ((n : ℕ) → at (n + 1) ≡ slice_get items n)
+
+-- There are as many blocks as Deposits and Commits. Block n is the n-th of these calls: the root of a Commit, or the
+-- coin of a Deposit, which has the number that the Deposit has among the Deposits.
+abbrev pub BlocksAreCalls : Type 0
+BlocksAreCalls = (log : List RootCall)
+    → (blocks log ≡ length (block_calls log)) × AreNumbered (block_at log) (blocks_made 1 (block_calls log))
+
+-- There are as many coins as Deposits. Coin c is the c-th Deposit: its amount and its owner are those of that call, and
+-- its deposit block is the call's place among the Deposits and Commits.
+abbrev pub CoinsAreDeposits : Type 0
+CoinsAreDeposits = (log : List RootCall)
+    → (coins log ≡ length (coins_made 1 (block_calls log)))
+    × AreNumbered (coin_at log) (coins_made 1 (block_calls log))
+
+-- ---- exits and challenges
 
 -- the exit that the call, after these calls, starts; None where it doesn't start that of coin c at block e
 abbrev pub start_by : List RootCall → ℕ → ℕ → RootCall → Option Exit

@@ -1,4 +1,4 @@
-ghost use Rattle.plasma_tx.specs.Laws.{ExitsStand, ChallengesStand, ExitsAreInOrder, ChallengesAreInOrder, NewChallengesAreOpen, WithdrawnIsPaid};
+ghost use Rattle.plasma_tx.specs.Laws.{ClocksAreTicks, BlocksAreCalls, CoinsAreDeposits, ExitsStand, ChallengesStand, ExitsAreInOrder, ChallengesAreInOrder, NewChallengesAreOpen, WithdrawnIsPaid};
 ghost use Rattle.plasma_tx.specs.Openings.{LeavesAreShown, OpeningsAreReadBack, OpeningsHaveOneSpelling};
 ghost use Rattle.plasma_tx.specs.Spelling.{OwnersAreReadBack, OwnersHaveOneSpelling, TransfersAreReadBack, TransfersHaveOneSpelling};
 ghost use Rattle.plasma_tx.specs.Transfer.{EmptyLeavesAreNone, TransfersAreRead, RecipientsAreNamed};
@@ -31,9 +31,25 @@ pub fn transfers_are_read()
     ensures empty { EmptyLeavesAreNone }
 {}
 
+/// A law: the clock is the time of the last Tick of a log, or 0. So it is in every list of calls, also
+/// one that no contract accepted; and so are the laws below.
+pub fn clocks_are_ticks()
+    ensures { ClocksAreTicks }
+{}
+
+/// A law: block n is the n-th Deposit or Commit of a log, and there are no others.
+pub fn blocks_are_calls()
+    ensures { BlocksAreCalls }
+{}
+
+/// A law: coin c is the c-th Deposit of a log, and there are no others. Its deposit block is that call's
+/// place among the Deposits and Commits.
+pub fn coins_are_deposits()
+    ensures { CoinsAreDeposits }
+{}
+
 /// A law: an exit stands exactly where the last call that starts, cancels or finishes it is a start,
-/// from which it has its account, parent, owners and time. So it is in every list of calls, also one
-/// that no contract accepted; and so are the laws below.
+/// from which it has its account, parent, owners and time.
 pub fn exits_stand()
     ensures { ExitsStand }
 {}

@@ -29,9 +29,9 @@ pub use answer::{Answer, Refusal};
 pub use body::{Body, BodyBytes};
 pub use call::{RootCall, Shown};
 pub use laws::{
-    challenges_stand, exits_are_in_order, exits_stand, new_challenges_are_open,
-    openings_have_one_spelling, owners_have_one_spelling, transfers_are_read,
-    transfers_have_one_spelling, withdrawn_is_paid,
+    blocks_are_calls, challenges_stand, clocks_are_ticks, coins_are_deposits, exits_are_in_order,
+    exits_stand, new_challenges_are_open, openings_have_one_spelling, owners_have_one_spelling,
+    transfers_are_read, transfers_have_one_spelling, withdrawn_is_paid,
 };
 pub use leaf::leaf_tx;
 pub use links::{Link, Links, Spends};
