@@ -9,6 +9,7 @@ use Rattle.std.proofs.lemmas.List.Elements.{All-head, All-tail}
 use Rattle.lms_sign.specs.declared.types.LmsTypes.{LmsTypes}
 use Rattle.lms_sign.specs.Types.{chains, height, is_supported, leaf_count, signature_length, u32_at}
 use Rattle.lms_sign.specs.Valid.{types_of, type_place, is_formed, is_valid}
+use Rattle.node_journal.specs.Image.{most}
 use Rattle.sparse_merkle.specs.declared.tree.Entry.{Entry}
 use Rattle.sparse_merkle.specs.TreeDigest.{leaf_of, root_of, path_to, IsMap}
 use Rattle.sparse_merkle.specs.MaskedPath.{MaskedPath, IsMaskedPath, proof_text, proof_path}
@@ -102,7 +103,7 @@ proof-short proof is =
       length-append (to_be_bytes w64 proof.mask) (concat proof.siblings),
     )
 
-text-short : (opening : Opening) → IsMaskedPath opening.proof → length opening.leaf ≤ 2632
+text-short : (opening : Opening) → IsMaskedPath opening.proof → length opening.leaf ≤ most
     → length (opening_text opening) < 2 ^ 32
 unfolding opening_text
 text-short opening is short =
@@ -117,6 +118,16 @@ text-short opening is short =
       length-append (to_be_bytes w32 (length opening.leaf)) opening.leaf,
       length-append opening.leaf (proof_text opening.proof),
     )
+
+-- an opening of a tree has few bytes, where the leaf fits a journal's record
+pub opening-short : (dig : List ℕ → List ℕ) (c n : ℕ) (tree : List Entry)
+    → ((bytes : List ℕ) → length (dig bytes) ≡ 32) → length (leaf_of tree c) ≤ most
+    → length (opening_in_tree dig c n tree).bytes < 2 ^ 32
+opening-short dig c n tree long short =
+    let proof : MaskedPath = proof_of_path dig (path_to dig c tree) in
+    text-short (record { block = n; leaf = leaf_of tree c; proof = proof })
+    (IsMaskedPath-proof_of_path dig (path_to dig c tree) (length-path_to dig c tree) (All-path_to-long dig c tree long))
+    short
 
 -- the opening shows the tree's leaf, opens the tree's root at the coin, and has few bytes
 pub record IsShown (dig : List ℕ → List ℕ) (log : List RootCall) (c n : ℕ) (tree : List Entry) : Type 0 where
@@ -146,5 +157,5 @@ shown dig log c n tree long narrow map short =
           ∙ ap (is_opening dig root c (leaf_of tree c)) stands
           ∙ ap (λ (r : List ℕ). is_opening dig r c (leaf_of tree c) path) (sym is)
           ∙ is_opening-path_to dig c tree narrow map.small;
-      short = text-short opening masked short;
+      short = text-short opening masked (omega (arith, short));
     }

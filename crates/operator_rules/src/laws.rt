@@ -1,5 +1,8 @@
+ghost use Rattle.std.specs.Prelude.{◌≡◌};
 ghost use Rattle.operator_rules.specs.Acts.{BundlesAreHistories, PresentBundlesAreHistories, ZeroAsksForThePresentTip, CommandsKeepTheRole, CommandsAddTheirNotes};
 ghost use Rattle.operator_rules.specs.Laws.{IdentitiesAreReadBack, IdentitiesHaveOneSpelling, NotesAreReadBack, NotesHaveOneSpelling};
+
+use super::MOST_LAID;
 
 /// A law: where the operator laid nothing and kept the rules, the bundle of a coin that it makes for a
 /// tip that the walk over its trees passed, or for the deposit block, has bytes and is a history under
@@ -31,4 +34,9 @@ pub fn records_have_one_spelling()
     ensures identities_spelled { IdentitiesHaveOneSpelling }
     ensures notes_read { NotesAreReadBack }
     ensures notes_spelled { NotesHaveOneSpelling }
+{}
+
+/// The most bytes that are laid at a coin are 65,536.
+pub fn the_limit_is_this_number()
+    ensures { MOST_LAID ≡ 65536 }
 {}

@@ -8,7 +8,7 @@ mod sealed;
 
 pub use laws::{
     bundles_are_histories, commands_keep_the_role, records_have_one_spelling,
-    zero_asks_for_the_present_tip,
+    the_limit_is_this_number, zero_asks_for_the_present_tip,
 };
 pub use refusal::{LayRefusal, OfferRefusal, ProveRefusal, SealRefusal};
 pub use sealed::Sealed;

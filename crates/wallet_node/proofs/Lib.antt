@@ -12,3 +12,4 @@ pub mod LeafBodies
 pub mod Unbound
 pub mod Behind
 pub mod OneMessage
+pub mod OneDisk

@@ -1,4 +1,5 @@
 pub mod State
 pub mod Opening
+pub mod Faults
 pub mod Inside
 pub mod Lives

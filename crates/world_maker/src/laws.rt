@@ -1,4 +1,7 @@
+ghost use Rattle.std.specs.Prelude.{◌≡◌};
 ghost use Rattle.world_maker.specs.Laws.{TextsAreOfTheirLines, LinesAreInTheGrammar, LinesKeepTheRules};
+
+use super::generator::MOST_ROUNDS;
 
 /// A law: a text that is made is cut at its line feeds into the texts of its lines, and each is read as that
 /// line, which is in the grammar.
@@ -11,4 +14,9 @@ pub fn lines_are_in_the_grammar()
 /// of the lines before it, and none breaks a rule of declarations.
 pub fn lines_keep_the_rules()
     ensures { LinesKeepTheRules }
+{}
+
+/// A schedule that is made has at most 10,000 rounds.
+pub fn the_limit_is_this_number()
+    ensures { MOST_ROUNDS ≡ 10000 }
 {}

@@ -8,4 +8,4 @@ mod lines;
 mod round;
 
 pub use generator::{MOST_ROUNDS, make};
-pub use laws::{lines_are_in_the_grammar, lines_keep_the_rules};
+pub use laws::{lines_are_in_the_grammar, lines_keep_the_rules, the_limit_is_this_number};

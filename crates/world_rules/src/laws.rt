@@ -1,4 +1,7 @@
+ghost use Rattle.std.specs.Prelude.{◌≡◌};
 ghost use Rattle.world_rules.specs.Laws.{LinesThatKeepTheRulesStep, StepsKeepTheLog, LogsAreOfEvents, RecordsGrow, CrashesLeaveTheRecords, ItemsAreMade, DownNodesStay, CutsKeepAsAppendsDo, CutOpeningsLeaveTheRecords, OffersAreOfEvents, DownNodesOfferNothing};
+
+use super::{MOST_MAIL, MOST_WALLETS};
 
 /// A law: a line has a step exactly where it keeps the rules of declarations. It has one, since a step is a
 /// function.
@@ -41,4 +44,10 @@ pub fn cuts_keep_as_appends_do()
 pub fn offers_are_of_events()
     ensures offers { OffersAreOfEvents }
     ensures down { DownNodesOfferNothing }
+{}
+
+/// The limits of a schedule: 64 wallets, and 268,435,456 bytes of all mail items together.
+pub fn the_limits_are_these_numbers()
+    ensures wallets { MOST_WALLETS ≡ 64 }
+    ensures mail { MOST_MAIL ≡ 268435456 }
 {}

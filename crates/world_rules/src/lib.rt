@@ -24,7 +24,7 @@ pub use given::{Given, makes, offers, refused, says};
 pub use kept_laws::events_are_what_disks_keep;
 pub use laws::{
     cuts_keep_as_appends_do, down_nodes_stay, items_are_made, lines_that_keep_the_rules_step,
-    offers_are_of_events, records_grow, steps_keep_the_log,
+    offers_are_of_events, records_grow, steps_keep_the_log, the_limits_are_these_numbers,
 };
 pub use offering::offer_kinds;
 pub use printing::{print_exhibit, print_line, print_reply, print_verdict};
