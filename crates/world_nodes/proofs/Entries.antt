@@ -33,7 +33,7 @@ use Rattle.world_nodes.specs.Nodes.{NodeView, role_of, Spells, IsDone, Crashes}
 use Rattle.world_nodes.specs.Cuts.{is_kept, Ends, Cuts}
 use Rattle.world_nodes.specs.Inside.{Halves, crashed, leaves_of, bare_node, down_kind, down_halves, with_disks, up_kind, up_halves, up_hash, taken_down, Opens, UpDid, IsDownOf, stop_in, IsCutShort, IsCutOpening, opening_gives, counts_of, kept_behind, end_in, member_kind, is_up, halves_of, view_in, view_of, IsOf, IsWhole}
 use Rattle.world_nodes.proofs.Members.{stays_of}
-use Rattle.world_nodes.proofs.Runs.{KeepsAll, view_keeps, keeps_view, adds_few, same_deed, UpRan, up_ran, ran_keeps, done, whole_ran, up_opened, opened_keeps, opened_same, whole_opened, opening_done, opened_none}
+use Rattle.world_nodes.proofs.Runs.{KeepsAll, up_has, down_has, view_keeps, keeps_view, adds_few, same_deed, UpRan, up_ran, ran_keeps, done, whole_ran, up_opened, opened_keeps, opened_same, whole_opened, opening_done, opened_none}
 use Rattle.world_nodes.proofs.Cuts.{down_same, whole_down, AreLeft, left_keeps, whole_left, crash_left, crash_done, with_kind, CutLeaves, node_cut, left_node, cut_kind, up_left, taken_kind, left_records}
 use Rattle.world_nodes.proofs.CutOpenings.{refused_cut, fused_keeps, fused_listed, fused_same}
 
@@ -75,12 +75,13 @@ command_done {H} digest hash name account member offers more old site node new l
     done hash name account role (up_halves node) (up_halves new) offers order deed given ran.halves gives' in
     let done'' : IsDone order deed view given (view_of hash name account member (Up new) more) =
     subst (λ (os : List RootCall). IsDone order deed view given
-    (view_in hash name account role true (up_halves new) os)) (sym (copied ∙ gives'.offers)) done' in (
+    (view_in hash name account role true (up_halves new) os)) (sym (copied ∙ gives'.offers)) done' in
+    let after : IsWhole hash member (Up new) = whole_ran hash member deed node new whole' ran in (
       subst (λ (v : NodeView H). IsDone order (order_deed (digest v.hash) log n v.node order) v given
           (view_of hash name account member (Up new) more)) is' done'',
-      keeps_view hash name account role true (up_halves new) more (ran_keeps deed (up_halves node) (up_halves
-          new) ran.halves keeps),
-      whole_ran hash member deed node new whole' ran,
+      keeps_view hash name account role true (up_halves new) more (up_has hash member new after)
+          (ran_keeps deed (up_halves node) (up_halves new) ran.halves keeps),
+      after,
     )
 
 -- an opening of a node that is down
@@ -113,11 +114,13 @@ opening_comes {H} digest hash name account member offers more old site down up l
     let done'' : IsDone Open (order_deed (digest hash) log n view.node Open) view given (view_of hash name
     account member (Up up) more) =
     subst (λ (os : List RootCall). IsDone Open (order_deed (digest hash) log n view.node Open) view given
-    (view_in hash name account role true (up_halves up) os)) (sym none) done' in (
+    (view_in hash name account role true (up_halves up) os)) (sym none) done' in
+    let after : IsWhole hash member (Up up) = whole_opened hash member down up whole' opened same in (
       subst (λ (v : NodeView H). IsDone Open (order_deed (digest v.hash) log n v.node Open) v given
           (view_of hash name account member (Up up) more)) is' done'',
-      keeps_view hash name account role true (up_halves up) more (opened_keeps down up opened),
-      whole_opened hash member down up whole' opened same,
+      keeps_view hash name account role true (up_halves up) more (up_has hash member up after)
+          (opened_keeps down up opened),
+      after,
     )
 
 -- ---- a crash
@@ -140,13 +143,15 @@ crash_comes {H} hash name account member offers more old site down new outcome i
     let after = with_disks (crashed outcome) down in
     let left = crash_left outcome down keeps' whole'.none_listed in
     let done' = crash_done hash name account role (is_up site) offers outcome down keeps' whole'.none_listed in
+    let whole'' : IsWhole hash member (Down after) =
+    whole_left hash member after (down_halves down).notes.records (leaves_of (down_halves down))
+    (with_kind (crashed outcome) down ∙ whole'.is_site) left whole'.identity in
     let all : Crashes outcome old (view_of hash name account member (Down after) [])
     × Spells (view_of hash name account member (Down after) []) × IsWhole hash member (Down after) = (
       subst (λ (v : NodeView H). Crashes outcome v (view_of hash name account member (Down after) [])) base done',
-      keeps_view hash name account role false (down_halves after) []
+      keeps_view hash name account role false (down_halves after) [] (down_has hash member after whole'')
           (left_keeps (down_halves down).notes.records (leaves_of (down_halves down)) (down_halves after) left),
-      whole_left hash member after (down_halves down).notes.records (leaves_of (down_halves down))
-          (with_kind (crashed outcome) down ∙ whole'.is_site) left whole'.identity,
+      whole'',
     ) in
     let at_new = subst (λ (d : DownNode). Crashes outcome old (view_of hash name account member (Down d) [])
     × Spells (view_of hash name account member (Down d) []) × IsWhole hash member (Down d)) (sym crashes) all in
@@ -318,8 +323,11 @@ cut_comes {H} digest hash name account member offers more old site down fused ra
     end_is ended) in
     subst (λ (os : List RootCall). Cuts (digest old.hash) log n calls outcome order old end
     (view_of hash name account member (Down new) os)
-    × Spells (view_of hash name account member (Down new) os) × IsWhole hash member (Down new)) (sym none)
-    (cuts, keeps_view hash name account role false (down_halves new) [] comes.0, comes.1)
+    × Spells (view_of hash name account member (Down new) os) × IsWhole hash member (Down new)) (sym none) (
+      cuts,
+      keeps_view hash name account role false (down_halves new) [] (down_has hash member new comes.1) comes.0,
+      comes.1,
+    )
 
 -- how an opening ended that was cut, and what is left of it
 opening_ends : {H : Type 0} (digest : H → List ℕ → List ℕ) (hash : H) (name : List ℕ) (account : ℕ)
@@ -411,12 +419,14 @@ cut_opening_comes {H} digest hash name account member offers more old site down 
     after) []) =
     subst (λ (v : NodeView H). Cuts (digest v.hash) log n calls outcome Open v end
     (view_of hash name account member (Down after) [])) is' by.0 in
+    let whole'' : IsWhole hash member (Down after) = whole_left hash member after N L by.1 by.2 whole'.identity in
     let all : Cuts (digest old.hash) log n calls outcome Open old end (view_of hash name account member (Down
     after) [])
     × Spells (view_of hash name account member (Down after) []) × IsWhole hash member (Down after) = (
       cuts,
-      keeps_view hash name account role false (down_halves after) [] (left_keeps N L (down_halves after) by.2),
-      whole_left hash member after N L by.1 by.2 whole'.identity,
+      keeps_view hash name account role false (down_halves after) [] (down_has hash member after whole'')
+          (left_keeps N L (down_halves after) by.2),
+      whole'',
     ) in
     let at_new = subst (λ (d : DownNode). Cuts (digest old.hash) log n calls outcome Open old end
     (view_of hash name account member (Down d) [])
