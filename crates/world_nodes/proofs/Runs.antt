@@ -351,7 +351,7 @@ opened_records (Some old) (Some new) opened = opened.records
 opened_records None (Some new) opened = absurd opened
 opened_records (Some old) None opened = absurd opened
 
-opened_told : (old new : Option Half) → LeavesOpened old new
+pub opened_told : (old new : Option Half) → LeavesOpened old new
     → option_map (λ (half : Half). half.disk.history) new
     ≡ option_map with_opening (option_map (λ (half : Half). half.disk.history) old)
 opened_told None None opened = refl
