@@ -61,7 +61,7 @@ module _ (calls : ℕ) (few : nat_lt calls 3 ≡ true) (outcome : Outcome) where
       kept_left (kept_of disk.history) outcome left by.0 by.1
 
   -- the notes' journal isn't opened: too few calls pass
-  never_opened : (records : List (List ℕ)) (disk : MemState) (new : NotesState MemState) → NoneListed disk
+  pub never_opened : (records : List (List ℕ)) (disk : MemState) (new : NotesState MemState) → NoneListed disk
       → HalfOpened records (with_fuse calls disk) new → ⊥
   never_opened records disk new none opened =
       let all : 3 ≡ min 3 calls =

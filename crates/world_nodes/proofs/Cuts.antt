@@ -162,14 +162,14 @@ with_kind change (WalletDown notes leaves key) = refl
 with_kind change (WatcherDown notes) = refl
 with_kind change (OperatorDown notes) = refl
 
-crash_told : (outcome : Outcome) (down : DownNode)
+pub crash_told : (outcome : Outcome) (down : DownNode)
     → option_map (λ (half : Half). half.disk.history) (down_halves (with_disks (crashed outcome) down)).leaves
     ≡ option_map (crashed_disk outcome) (option_map (λ (half : Half). half.disk.history) (down_halves down).leaves)
 crash_told outcome (WalletDown notes leaves key) = refl
 crash_told outcome (WatcherDown notes) = refl
 crash_told outcome (OperatorDown notes) = refl
 
-crash_notes : (outcome : Outcome) (down : DownNode)
+pub crash_notes : (outcome : Outcome) (down : DownNode)
     → (down_halves (with_disks (crashed outcome) down)).notes.disk.history
     ≡ crashed_disk outcome (down_halves down).notes.disk.history
 crash_notes outcome (WalletDown notes leaves key) = refl

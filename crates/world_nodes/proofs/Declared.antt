@@ -25,7 +25,7 @@ use Rattle.world_nodes.specs.declared.entry.Member.{Member}
 use Rattle.world_nodes.specs.Nodes.{EachKeeps, Spells, role_of}
 use Rattle.world_nodes.specs.Inside.{mem_told, mem_plan, mem_faults, NoneListed, Half, kept_half, leaves_of, down_kind, down_halves, up_halves, up_hash, Opens, empty_disk, member_kind, view_of, IsOf, IsWho, IsWhole, IsBegun, AreBegun, first_note, IsDeclared}
 use Rattle.world_nodes.proofs.Halves.{planned_listed}
-use Rattle.world_nodes.proofs.Runs.{KeepsAll, keeps_view, up_opened, opened_keeps, opened_same, whole_opened}
+use Rattle.world_nodes.proofs.Runs.{KeepsAll, up_has, keeps_view, up_opened, opened_keeps, opened_same, whole_opened}
 
 -- a disk that is settled with these records
 pub begun_half : (records : List (List ℕ)) (disk : MemState) → IsSettled disk.history records → NoneListed disk
@@ -90,7 +90,8 @@ declared_comes {H} digest hash name account member down up is opens same =
     let notes : (up_halves up).notes.records ≡ first_note down ∷ [] =
     opened.notes.records ∙ is.begun.notes.records_are in
     let leaves : leaves_of (up_halves up) ≡ [] =
-    (λ i. (records i).leaves) ∙ begun_records (down_halves down).leaves is.begun.leaves in (
+    (λ i. (records i).leaves) ∙ begun_records (down_halves down).leaves is.begun.leaves in
+    let after : IsWhole hash member (Up up) = whole_opened hash member down up whole opened same in (
       (λ i. record {
         name = name;
         account = account;
@@ -100,9 +101,9 @@ declared_comes {H} digest hash name account member down up is opens same =
         leaves = leaves i;
         offers = [];
       }),
-      keeps_view hash name account (role_of (member_kind member)) true (up_halves up) [] (opened_keeps down up
-          opened),
-      whole_opened hash member down up whole opened same,
+      keeps_view hash name account (role_of (member_kind member)) true (up_halves up) [] (up_has hash member up after)
+          (opened_keeps down up opened),
+      after,
     )
 
 -- a wallet's identity is read from its record

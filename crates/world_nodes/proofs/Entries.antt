@@ -30,12 +30,13 @@ use Rattle.world_nodes.specs.declared.entry.Site.TheVariants.{Up, Down}
 use Rattle.world_nodes.specs.declared.entry.Member.{Member}
 use Rattle.world_nodes.specs.Orders.{fits, is_opening_order, order_deed}
 use Rattle.world_nodes.specs.Nodes.{NodeView, role_of, Spells, IsDone, Crashes}
-use Rattle.world_nodes.specs.Cuts.{is_kept, Ends, Cuts}
+use Rattle.world_nodes.specs.Cuts.{is_kept, DisksCrash, Ends, Cuts}
 use Rattle.world_nodes.specs.Inside.{Halves, crashed, leaves_of, bare_node, down_kind, down_halves, with_disks, up_kind, up_halves, up_hash, taken_down, Opens, UpDid, IsDownOf, stop_in, IsCutShort, IsCutOpening, opening_gives, counts_of, kept_behind, end_in, member_kind, is_up, halves_of, view_in, view_of, IsOf, IsWhole}
 use Rattle.world_nodes.proofs.Members.{stays_of}
-use Rattle.world_nodes.proofs.Runs.{KeepsAll, view_keeps, keeps_view, adds_few, same_deed, UpRan, up_ran, ran_keeps, done, whole_ran, up_opened, opened_keeps, opened_same, whole_opened, opening_done, opened_none}
+use Rattle.world_nodes.proofs.Runs.{KeepsAll, up_has, down_has, view_keeps, keeps_view, adds_few, same_deed, UpRan, up_ran, ran_keeps, done, whole_ran, up_opened, opened_keeps, opened_same, whole_opened, opening_done, opened_none}
 use Rattle.world_nodes.proofs.Cuts.{down_same, whole_down, AreLeft, left_keeps, whole_left, crash_left, crash_done, with_kind, CutLeaves, node_cut, left_node, cut_kind, up_left, taken_kind, left_records}
 use Rattle.world_nodes.proofs.CutOpenings.{refused_cut, fused_keeps, fused_listed, fused_same}
+use Rattle.world_nodes.proofs.CutDisks.{TellCut, node_tells, command_crashed, opening_crashed, opened_notes_told, opened_leaves_told, refused_tells}
 
 -- ---- orders
 
@@ -75,12 +76,13 @@ command_done {H} digest hash name account member offers more old site node new l
     done hash name account role (up_halves node) (up_halves new) offers order deed given ran.halves gives' in
     let done'' : IsDone order deed view given (view_of hash name account member (Up new) more) =
     subst (λ (os : List RootCall). IsDone order deed view given
-    (view_in hash name account role true (up_halves new) os)) (sym (copied ∙ gives'.offers)) done' in (
+    (view_in hash name account role true (up_halves new) os)) (sym (copied ∙ gives'.offers)) done' in
+    let after : IsWhole hash member (Up new) = whole_ran hash member deed node new whole' ran in (
       subst (λ (v : NodeView H). IsDone order (order_deed (digest v.hash) log n v.node order) v given
           (view_of hash name account member (Up new) more)) is' done'',
-      keeps_view hash name account role true (up_halves new) more (ran_keeps deed (up_halves node) (up_halves
-          new) ran.halves keeps),
-      whole_ran hash member deed node new whole' ran,
+      keeps_view hash name account role true (up_halves new) more (up_has hash member new after)
+          (ran_keeps deed (up_halves node) (up_halves new) ran.halves keeps),
+      after,
     )
 
 -- an opening of a node that is down
@@ -113,11 +115,13 @@ opening_comes {H} digest hash name account member offers more old site down up l
     let done'' : IsDone Open (order_deed (digest hash) log n view.node Open) view given (view_of hash name
     account member (Up up) more) =
     subst (λ (os : List RootCall). IsDone Open (order_deed (digest hash) log n view.node Open) view given
-    (view_in hash name account role true (up_halves up) os)) (sym none) done' in (
+    (view_in hash name account role true (up_halves up) os)) (sym none) done' in
+    let after : IsWhole hash member (Up up) = whole_opened hash member down up whole' opened same in (
       subst (λ (v : NodeView H). IsDone Open (order_deed (digest v.hash) log n v.node Open) v given
           (view_of hash name account member (Up up) more)) is' done'',
-      keeps_view hash name account role true (up_halves up) more (opened_keeps down up opened),
-      whole_opened hash member down up whole' opened same,
+      keeps_view hash name account role true (up_halves up) more (up_has hash member up after)
+          (opened_keeps down up opened),
+      after,
     )
 
 -- ---- a crash
@@ -140,13 +144,15 @@ crash_comes {H} hash name account member offers more old site down new outcome i
     let after = with_disks (crashed outcome) down in
     let left = crash_left outcome down keeps' whole'.none_listed in
     let done' = crash_done hash name account role (is_up site) offers outcome down keeps' whole'.none_listed in
+    let whole'' : IsWhole hash member (Down after) =
+    whole_left hash member after (down_halves down).notes.records (leaves_of (down_halves down))
+    (with_kind (crashed outcome) down ∙ whole'.is_site) left whole'.identity in
     let all : Crashes outcome old (view_of hash name account member (Down after) [])
     × Spells (view_of hash name account member (Down after) []) × IsWhole hash member (Down after) = (
       subst (λ (v : NodeView H). Crashes outcome v (view_of hash name account member (Down after) [])) base done',
-      keeps_view hash name account role false (down_halves after) []
+      keeps_view hash name account role false (down_halves after) [] (down_has hash member after whole'')
           (left_keeps (down_halves down).notes.records (leaves_of (down_halves down)) (down_halves after) left),
-      whole_left hash member after (down_halves down).notes.records (leaves_of (down_halves down))
-          (with_kind (crashed outcome) down ∙ whole'.is_site) left whole'.identity,
+      whole'',
     ) in
     let at_new = subst (λ (d : DownNode). Crashes outcome old (view_of hash name account member (Down d) [])
     × Spells (view_of hash name account member (Down d) []) × IsWhole hash member (Down d)) (sym crashes) all in
@@ -195,9 +201,11 @@ ends : {H : Type 0} (hash : H) (name : List ℕ) (account : ℕ) (role : Role) (
     (outcome : Outcome) (order : NodeOrder) (deed : Deed) (base halves : Halves) (given : Option Given)
     → is_opening_order order ≡ false → IfSome given (IsGiven deed.gives)
     → CutLeaves calls outcome deed given base.notes.records (leaves_of base) halves
+    → DisksCrash calls outcome order deed (view_in hash name account role true base offers)
+    (view_in hash name account role false halves [])
     → Ends calls outcome order deed (view_in hash name account role true base offers)
     (end_in (counts_of base) halves given) (view_in hash name account role false halves [])
-ends hash name account role offers calls outcome order deed base halves (Some given) command gives left = (
+ends hash name account role offers calls outcome order deed base halves (Some given) command gives left disks = (
   gives,
   record {
     is_up = refl;
@@ -205,10 +213,11 @@ ends hash name account role offers calls outcome order deed base halves (Some gi
         command ∙ left.0;
     node = left_node hash name account role true base halves offers (with_record base.notes.records deed.note)
         (with_record (leaves_of base) deed.leaf) left.1;
+    disks = disks;
     hash = refl;
   },
 )
-ends hash name account role offers calls outcome order deed base halves None command gives left =
+ends hash name account role offers calls outcome order deed base halves None command gives left disks =
     let node = (view_in hash name account role true base offers).node in
     let added = is_added calls outcome in
     let kept : is_kept calls outcome order ≡ added = ap (λ (b : Bool). not b && added) command in
@@ -225,6 +234,7 @@ ends hash name account role offers calls outcome order deed base halves None com
           ∙ sym (ap (λ (b : Bool). cond b (option_or deed.note deed.leaf) None) kept);
       node = there ∙ (node_if added node deed ∙ sym (ap (λ (b : Bool). after_crash (cond b (with_records node
           deed) node)) kept));
+      disks = disks;
       hash = refl;
     }
 
@@ -306,8 +316,17 @@ cut_comes {H} digest hash name account member offers more old site down fused ra
     (stop_in given) cut.did ∙ (opened.kind ∙ (with_kind (with_fuse fuse) down ∙ whole'.is_site)))) in
     let comes = left_comes hash member calls outcome deed given (down_halves down).notes.records
     (leaves_of (down_halves down)) new kind whole'.identity left in
+    let tells : TellCut calls deed (down_halves down) (down_halves (taken_down cut.ran)) =
+    subst (λ (d : Deed). TellCut calls d (down_halves down) (down_halves (taken_down cut.ran))) as_deed
+    (node_tells calls fuse fuses outcome pattern (digest hash) deed' down cut.opened cut.ran given keeps'
+    whole'.none_listed few opens cut.did) in
+    let disks : DisksCrash calls outcome order deed view (view_in hash name account role false (down_halves new) []) =
+    subst (λ (d : DownNode). DisksCrash calls outcome order deed view
+    (view_in hash name account role false (down_halves d) [])) after
+    (command_crashed hash name account role true offers calls outcome order deed (down_halves down)
+    (taken_down cut.ran) command tells) in
     let ended = ends hash name account role offers calls outcome order deed (down_halves down) (down_halves new) given
-    command gives left in
+    command gives left disks in
     let end_is : end_in (counts_of (down_halves down)) (down_halves new) given ≡ end =
     ap (λ (b : Counts). end_in b (down_halves new) given) (sym counted) ∙ sym ending in
     let cuts : Cuts (digest old.hash) log n calls outcome order old end (view_of hash name account member (Down
@@ -318,8 +337,11 @@ cut_comes {H} digest hash name account member offers more old site down fused ra
     end_is ended) in
     subst (λ (os : List RootCall). Cuts (digest old.hash) log n calls outcome order old end
     (view_of hash name account member (Down new) os)
-    × Spells (view_of hash name account member (Down new) os) × IsWhole hash member (Down new)) (sym none)
-    (cuts, keeps_view hash name account role false (down_halves new) [] comes.0, comes.1)
+    × Spells (view_of hash name account member (Down new) os) × IsWhole hash member (Down new)) (sym none) (
+      cuts,
+      keeps_view hash name account role false (down_halves new) [] (down_has hash member new comes.1) comes.0,
+      comes.1,
+    )
 
 -- how an opening ended that was cut, and what is left of it
 opening_ends : {H : Type 0} (digest : H → List ℕ → List ℕ) (hash : H) (name : List ℕ) (account : ℕ)
@@ -335,6 +357,8 @@ opening_ends digest hash name account member offers down left log n calls outcom
 opening_ends digest hash name account member offers down left log n calls outcome (CutStopped kept) keeps whole cut =
     let role = role_of (member_kind member) in
     let by = refused_cut calls cut.0 outcome (digest hash) down left keeps whole.none_listed cut.2 in
+    let told = refused_tells calls cut.0 (digest hash) down left keeps whole.none_listed cut.2 in
+    let deed = order_deed (digest hash) log n (view_of hash name account member (Down down) offers).node Open in
     let after = with_disks (crashed outcome) left in (
       record {
         is_up = refl;
@@ -342,6 +366,7 @@ opening_ends digest hash name account member offers down left log n calls outcom
         keeps = cut.1;
         node = left_node hash name account role false (down_halves down) (down_halves after) offers
             (down_halves down).notes.records (leaves_of (down_halves down)) by.1;
+        disks = opening_crashed hash name account role offers calls outcome deed (down_halves down) left told.0 told.1;
         hash = refl;
       },
       with_kind (crashed outcome) left ∙ (by.0 ∙ whole.is_site),
@@ -361,7 +386,14 @@ opening_ends digest hash name account member offers down left log n calls outcom
     subst (λ (d : DownNode). AreLeft (down_halves down).notes.records (leaves_of (down_halves down))
     (down_halves (with_disks (crashed outcome) d))) back
     (subst (λ (w : WalletRecords). AreLeft w.notes w.leaves
-    (down_halves (with_disks (crashed outcome) (taken_down up)))) records there) in (
+    (down_halves (with_disks (crashed outcome) (taken_down up)))) records there) in
+    let view = view_of hash name account member (Down down) offers in
+    let deed = order_deed (digest hash) log n view.node Open in
+    let disks : DisksCrash calls outcome Open deed view (view_in hash name account role false (down_halves after) []) =
+    subst (λ (d : DownNode). DisksCrash calls outcome Open deed view
+    (view_in hash name account role false (down_halves (with_disks (crashed outcome) d)) [])) back
+    (opening_crashed hash name account role offers calls outcome deed (down_halves down) (taken_down up)
+    (opened_notes_told calls cut.0 down up opened) (opened_leaves_told calls cut.0 down up opened)) in (
       (
         record {
           reply = cut.1.3.reply
@@ -374,6 +406,7 @@ opening_ends digest hash name account member offers down left log n calls outcom
           passed = cut.0;
           node = left_node hash name account role false (down_halves down) (down_halves after) offers
               (down_halves down).notes.records (leaves_of (down_halves down)) here;
+          disks = disks;
           hash = refl;
         },
       ),
@@ -411,12 +444,14 @@ cut_opening_comes {H} digest hash name account member offers more old site down 
     after) []) =
     subst (λ (v : NodeView H). Cuts (digest v.hash) log n calls outcome Open v end
     (view_of hash name account member (Down after) [])) is' by.0 in
+    let whole'' : IsWhole hash member (Down after) = whole_left hash member after N L by.1 by.2 whole'.identity in
     let all : Cuts (digest old.hash) log n calls outcome Open old end (view_of hash name account member (Down
     after) [])
     × Spells (view_of hash name account member (Down after) []) × IsWhole hash member (Down after) = (
       cuts,
-      keeps_view hash name account role false (down_halves after) [] (left_keeps N L (down_halves after) by.2),
-      whole_left hash member after N L by.1 by.2 whole'.identity,
+      keeps_view hash name account role false (down_halves after) [] (down_has hash member after whole'')
+          (left_keeps N L (down_halves after) by.2),
+      whole'',
     ) in
     let at_new = subst (λ (d : DownNode). Cuts (digest old.hash) log n calls outcome Open old end
     (view_of hash name account member (Down d) [])

@@ -7,4 +7,5 @@ pub mod Entries
 pub mod Declared
 pub mod Places
 pub mod CutOpenings
+pub mod CutDisks
 pub mod SameDeeds

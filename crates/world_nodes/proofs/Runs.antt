@@ -1,6 +1,6 @@
 -- What orders and openings do to the halves of a node, and so to the node.
 use Rattle.std.proofs.Common.{◌≡◌, ◌⊎◌, [], ℕ, Bool, true, false, List, Option, Some, None, inl, inr, refl, sym, ◌∙◌, ap, subst}
-use Rattle.std.specs.Option.{ForSome, option_map, option_map_or}
+use Rattle.std.specs.Option.{ForSome, option_map, option_map_or, is_some}
 use Rattle.crash_disk.specs.Disk.{History}
 use Rattle.crash_disk.specs.Memory.{MemState}
 use Rattle.node_journal.specs.Notes.{NotesState}
@@ -12,7 +12,7 @@ use Rattle.node_rules.specs.Watcher.{watcher_kinds}
 use Rattle.node_rules.specs.WalletOpening.{leaves_of as key_leaves}
 use Rattle.operator_rules.specs.Records.{operator_kinds}
 use Rattle.wallet_node.specs.State.{WalletState, notes_part, leaves_part}
-use Rattle.world_rules.specs.World.{Role, Node, wallet_of}
+use Rattle.world_rules.specs.World.{Role, Node, is_wallet_role, wallet_of}
 use Rattle.world_rules.specs.Deeds.{Deed, with_record}
 use Rattle.world_rules.specs.declared.given.Given.{Given}
 use Rattle.world_rules.specs.Given.{IsGiven}
@@ -32,7 +32,7 @@ use Rattle.world_nodes.specs.declared.entry.Site.TheVariants.{Up, Down}
 use Rattle.world_nodes.specs.declared.entry.Member.{Member}
 use Rattle.world_nodes.specs.Orders.{fits, is_opening_order, order_deed}
 use Rattle.world_nodes.specs.Nodes.{role_of, EachKeeps, Spells, with_append, with_opening, IsDone}
-use Rattle.world_nodes.specs.Inside.{mem_told, mem_plan, mem_faults, NoneListed, Half, Halves, half_of, kept_of, kept_half, NoneListedOf, bare_node, down_kind, down_halves, up_kind, up_halves, up_hash, up_closed, Opens, UpDid, view_in, IsOf, IsWhole}
+use Rattle.world_nodes.specs.Inside.{mem_told, mem_plan, mem_faults, NoneListed, Half, Halves, half_of, kept_of, kept_half, NoneListedOf, bare_node, down_kind, down_halves, up_kind, up_halves, up_hash, up_closed, Opens, UpDid, member_kind, view_in, IsOf, IsWhole}
 use Rattle.world_nodes.proofs.Halves.{HalfRan, half_stays, half_ran, stays_open, HalfOpened, half_opened, opened_listed, role_reads, leaf_reads}
 use Rattle.world_nodes.proofs.Members.{stays_of}
 
@@ -60,6 +60,35 @@ each_keeps (Some leaves) keeps = λ disk is.
     (let same : leaves.disk.history ≡ disk = cc is in
     subst (λ (h : History). EachKeeps leaves.records h) same (keeps leaves refl))
 
+-- wallets alone have leaves, and so a disk of them
+abbrev pub HaveLeaves : Role → Halves → Type 0
+HaveLeaves role halves = is_some halves.leaves ≡ is_wallet_role role
+
+disk_there : (leaves : Option Half) → is_some (option_map (λ (half : Half). half.disk.history) leaves) ≡ is_some leaves
+disk_there None = refl
+disk_there (Some leaves) = refl
+
+up_leaves : {H : Type 0} (node : UpNode H) → HaveLeaves (role_of (up_kind node)) (up_halves node)
+up_leaves (WalletUp node) = refl
+up_leaves (WatcherUp node) = refl
+up_leaves (OperatorUp node) = refl
+
+down_leaves : (down : DownNode) → HaveLeaves (role_of (down_kind down)) (down_halves down)
+down_leaves (WalletDown notes leaves key) = refl
+down_leaves (WatcherDown notes) = refl
+down_leaves (OperatorDown notes) = refl
+
+-- so it is of an entry that is whole
+pub up_has : {H : Type 0} (hash : H) (member : Member) (node : UpNode H) → IsWhole hash member (Up node)
+    → HaveLeaves (role_of (member_kind member)) (up_halves node)
+up_has hash member node whole =
+    subst (λ k. HaveLeaves (role_of k) (up_halves node)) whole.is_site.0 (up_leaves node)
+
+pub down_has : {H : Type 0} (hash : H) (member : Member) (down : DownNode) → IsWhole hash member (Down down)
+    → HaveLeaves (role_of (member_kind member)) (down_halves down)
+down_has hash member down whole =
+    subst (λ k. HaveLeaves (role_of k) (down_halves down)) whole.is_site (down_leaves down)
+
 -- over the parts of a node that stay
 module _ {H : Type 0} (hash : H) (name : List ℕ) (account : ℕ) (role : Role) where
   pub view_keeps : (is_up : Bool) (halves : Halves) (offers : List RootCall)
@@ -67,10 +96,13 @@ module _ {H : Type 0} (hash : H) (name : List ℕ) (account : ℕ) (role : Role)
   view_keeps is_up halves offers spells =
       record { notes = spells.notes; leaves = all_keep halves.leaves spells.leaves }
 
-  pub keeps_view : (is_up : Bool) (halves : Halves) (offers : List RootCall) → KeepsAll halves
+  pub keeps_view : (is_up : Bool) (halves : Halves) (offers : List RootCall) → HaveLeaves role halves → KeepsAll halves
       → Spells (view_in hash name account role is_up halves offers)
-  keeps_view is_up halves offers keeps =
-      record { notes = keeps.notes; leaves = each_keeps halves.leaves keeps.leaves }
+  keeps_view is_up halves offers has keeps = record {
+    notes = keeps.notes;
+    has_leaves = disk_there halves.leaves ∙ has;
+    leaves = each_keeps halves.leaves keeps.leaves;
+  }
 
 -- ---- orders
 
@@ -319,7 +351,7 @@ opened_records (Some old) (Some new) opened = opened.records
 opened_records None (Some new) opened = absurd opened
 opened_records (Some old) None opened = absurd opened
 
-opened_told : (old new : Option Half) → LeavesOpened old new
+pub opened_told : (old new : Option Half) → LeavesOpened old new
     → option_map (λ (half : Half). half.disk.history) new
     ≡ option_map with_opening (option_map (λ (half : Half). half.disk.history) old)
 opened_told None None opened = refl

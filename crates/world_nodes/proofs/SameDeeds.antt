@@ -22,7 +22,7 @@ use Rattle.world_nodes.specs.declared.order.CutEnd.{CutEnd}
 use Rattle.world_nodes.specs.declared.order.CutEnd.TheVariants.{Down, Stopped, Done}
 use Rattle.world_nodes.specs.Orders.{order_deed}
 use Rattle.world_nodes.specs.Nodes.{NodeView, Runs, IsDown, IsDone, answers_down}
-use Rattle.world_nodes.specs.Cuts.{Cuts, Ends}
+use Rattle.world_nodes.specs.Cuts.{DisksCrash, Cuts, Ends}
 
 -- what is given out, as another event; and a deed
 abbrev as_event : Gives → Event → Gives
@@ -143,14 +143,31 @@ module _ {H : Type 0} (order : NodeOrder) (deed : Deed) (event : Event) (old new
     hash = it.hash;
   }
 
+  disks_alike : (calls : ℕ) (outcome : Outcome) → DisksCrash calls outcome order (with_event deed event) old new
+      → DisksCrash calls outcome order deed old new
+  disks_alike calls outcome it = record { notes_disk = it.notes_disk; leaves_disk = it.leaves_disk }
+
   ends_alike : (calls : ℕ) (outcome : Outcome) (end : CutEnd) → Ends calls outcome order (with_event deed event) old end new
       → Ends calls outcome order deed old end new
   ends_alike calls outcome Down it = it
   ends_alike calls outcome (Stopped kept) it =
-      record { is_up = it.is_up; stopped = it.stopped; keeps = it.keeps; node = it.node; hash = it.hash }
+      record {
+        is_up = it.is_up;
+        stopped = it.stopped;
+        keeps = it.keeps;
+        node = it.node;
+        disks = disks_alike calls outcome it.disks;
+        hash = it.hash;
+      }
   ends_alike calls outcome (Done given) it = (
     record { reply = it.0.reply; made = it.0.made; offers = it.0.offers },
-    record { is_up = it.1.is_up; passed = it.1.passed; node = it.1.node; hash = it.1.hash },
+    record {
+      is_up = it.1.is_up;
+      passed = it.1.passed;
+      node = it.1.node;
+      disks = disks_alike calls outcome it.1.disks;
+      hash = it.1.hash;
+    },
   )
 
 -- what is said of one number is said of each

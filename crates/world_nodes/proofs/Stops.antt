@@ -1,5 +1,5 @@
 -- What a crash leaves of a command of which a fuse lets so many device calls pass.
-use Rattle.std.proofs.Common.{◌≡◌, ◌<◌, ◌≤◌, ◌+◌, ◌-◌, ◌∷◌, ◌++◌, [], ℕ, Bool, true, false, cond, min, nat_le, nat_lt, List, length, Option, Some, None, refl, sym, ◌∙◌, ap, subst, arith}
+use Rattle.std.proofs.Common.{◌≡◌, ◌<◌, ◌≤◌, ◌+◌, ◌-◌, ◌∷◌, ◌++◌, [], ℕ, zero, suc, Bool, true, false, cond, min, nat_le, nat_lt, List, length, Option, Some, None, refl, sym, ◌∙◌, ap, subst, arith}
 use Rattle.std.specs.Prelude.{◌&&◌, ◌||◌}
 use Rattle.std.specs.Option.{is_some}
 use Rattle.std.proofs.lemmas.Bool.Decides.{nat_tests}
@@ -17,6 +17,8 @@ use Rattle.node_journal.proofs.Crash.{stopped_appends}
 use Rattle.node_journal.specs.Notes.{NotesState, Did}
 use Rattle.node_journal.specs.declared.stop.Stop.TheVariants.{DeviceFault}
 use Rattle.world_rules.specs.Deeds.{with_record}
+use Rattle.world_nodes.specs.Nodes.{with_opening}
+use Rattle.world_nodes.specs.Cuts.{with_cut_append}
 use Rattle.world_nodes.specs.Inside.{IsBegun as IsLeft, mem_told, mem_plan, mem_faults, NoneListed, kept_half, crashed}
 use Rattle.world_nodes.proofs.Halves.{planned_listed, HalfOpened, opened_listed, left_half, kept_left}
 
@@ -26,6 +28,17 @@ added_by calls outcome =
     let four : nat_le 4 (min 4 calls) ≡ nat_le 4 calls = grind (arith, nat_tests) in
     let two : nat_le 2 (min 4 calls) ≡ nat_le 2 calls = grind (arith, nat_tests) in
     (λ i. four i || (two i && opens_gate outcome))
+
+-- so many of the calls of an append, which are four
+made_by : (calls gate : ℕ) (body : List ℕ) (history : History)
+    → with_made (min 4 calls) (append_steps gate body) history ≡ with_made calls (append_steps gate body) history
+made_by zero gate body history = refl
+made_by (suc zero) gate body history = refl
+made_by (suc (suc zero)) gate body history = refl
+made_by (suc (suc (suc zero))) gate body history = refl
+made_by (suc (suc (suc (suc calls)))) gate body history =
+    let four : min 4 (suc (suc (suc (suc calls)))) ≡ 4 = omega arith in
+    ap (λ (n : ℕ). with_made n (append_steps gate body) history) four
 
 pub same_if : {A : Type 0} (b : Bool) (x : A) → cond b x x ≡ x
 same_if true x = refl
@@ -67,6 +80,33 @@ module _ (calls fuse : ℕ) (fused : min 4 (fuse - 3) ≡ min 4 calls) (outcome 
       left_half after outcome new
       (subst (λ (h : History). Keeps after (image_after outcome h)) (sym told') here)
       (planned_listed count state.disk new planned unlisted)
+
+  -- what the disk tells after an append of which so many calls passed
+  made_told : (body : List ℕ) (passed : ℕ) (new : MemState) → passed ≡ min 4 calls
+      → new.history ≡ with_made passed (append_steps (length (spelled state.records)) body) state.disk.history
+      → new.history ≡ with_cut_append calls records (Some body) (with_opening disk.history)
+  made_told body passed new is told =
+      told
+      ∙ ((λ i. with_made (is i) (append_steps (length (spelled (opened.records_are i))) body) (opened.told i))
+      ∙ made_by calls (length (spelled records)) body (with_opening disk.history))
+
+  -- after a command that went through, and after one that met the fuse
+  pub went_told : (added : Option (List ℕ)) (new : NotesState MemState)
+      → Did mem_told mem_plan mem_faults added state None new
+      → new.disk.history ≡ with_cut_append calls records added (with_opening disk.history)
+  went_told None new did = ap (λ (s : NotesState MemState). s.disk.history) did.1 ∙ opened.told
+  went_told (Some body) new did =
+      let four : 4 ≡ min 4 calls = sym (did.made.planned.0 (plan_of state.disk) refl) ∙ pass in
+      made_told body 4 new.disk four (cc did.made.calls)
+
+  pub met_told : (added : Option (List ℕ)) (new : NotesState MemState)
+      → Did mem_told mem_plan mem_faults added state (Some DeviceFault) new
+      → new.disk.history ≡ with_cut_append calls records added (with_opening disk.history)
+  met_told None new did = absurd did
+  met_told (Some body) new did =
+      let passed : did.passed ≡ min 4 calls =
+      sym (did.made.planned.1 (plan_of state.disk) refl) ∙ pass in
+      made_told body did.passed new.disk passed (cc did.made.calls)
 
   -- a disk to which nothing was added
   pub idle : (new : MemState) → new ≡ state.disk → IsLeft records (kept_half (crashed outcome new))

@@ -1,7 +1,11 @@
 -- What an order does of which so many device calls may pass before its node's disks crash.
-use Rattle.std.specs.Prelude.{◌≡◌, ℕ, Bool, true, false, ◌&&◌, not, nat_lt, if◌then◌else◌, List, Option, None}
+use Rattle.std.specs.Prelude.{◌≡◌, ℕ, Bool, true, false, ◌&&◌, ◌||◌, not, nat_lt, if◌then◌else◌, List, length, Option, Some, None, option_map}
 use Rattle.std.specs.Option.{option_or}
+use Rattle.crash_disk.specs.Disk.{History, content}
+use Rattle.crash_disk.specs.Calls.{with_made}
 use Rattle.crash_disk.specs.declared.outcome.Outcome.{Outcome}
+use Rattle.node_journal.specs.Image.{spelled}
+use Rattle.node_journal.specs.Steps.{append_steps, open_steps}
 use Rattle.node_journal.specs.JournalLaws.{is_added}
 use Rattle.plasma_tx.specs.declared.call.RootCall.{RootCall}
 use Rattle.world_rules.specs.World.{Node}
@@ -12,7 +16,7 @@ use Rattle.world_nodes.specs.declared.order.NodeOrder.{NodeOrder}
 use Rattle.world_nodes.specs.declared.order.CutEnd.{CutEnd}
 use Rattle.world_nodes.specs.declared.order.CutEnd.TheVariants.{Down, Stopped, Done}
 use Rattle.world_nodes.specs.Orders.{is_opening_order, order_deed}
-use Rattle.world_nodes.specs.Nodes.{NodeView, answers_down}
+use Rattle.world_nodes.specs.Nodes.{NodeView, answers_down, with_opening, crashed_disk}
 
 -- The opening of a node that is down makes three calls on each disk, and an append four on its one. An order of which
 -- so many calls pass is stopped where it needs more.
@@ -34,6 +38,41 @@ abbrev pub after_stop : ℕ → Outcome → NodeOrder → Node → Deed → Node
 after_stop calls outcome order node deed =
     after_crash (if is_kept calls outcome order then with_records node deed else node)
 
+-- ---- disks
+
+-- what a disk tells after an opening of which so many calls may pass: the calls up to the first that failed
+abbrev pub with_cut_opening : ℕ → History → History
+with_cut_opening calls disk = with_made calls (open_steps (content disk)) disk
+
+-- what it tells after the append of a record behind these, if there is one, of which so many calls may pass
+abbrev pub with_cut_append : ℕ → List (List ℕ) → Option (List ℕ) → History → History
+with_cut_append calls records None disk = disk
+with_cut_append calls records (Some body) disk = with_made calls (append_steps (length (spelled records)) body) disk
+
+-- What the notes' disk tells when it crashes: it was opened for a command, which then made its append as far as its calls
+-- passed; an order that opens a node that is down opened it as far as the calls passed, and one that is up made none.
+abbrev pub cut_notes : ℕ → NodeOrder → Deed → Node → History → History
+cut_notes calls order deed node disk =
+    if is_opening_order order
+    then (if node.is_up then disk else with_cut_opening calls disk)
+    else with_cut_append calls node.notes deed.note (with_opening disk)
+
+-- What the leaves' disk tells then: the same, but that it is opened behind the notes' one, where that was opened.
+abbrev pub cut_leaves : ℕ → NodeOrder → Deed → Node → History → History
+cut_leaves calls order deed node disk =
+    if is_opening_order order
+    then (if node.is_up || nat_lt calls 3 then disk else with_opening disk)
+    else with_cut_append calls node.leaves deed.leaf (with_opening disk)
+
+-- each disk of a node whose order was cut holds the image that the outcome leaves of it
+pub record DisksCrash {H : Type 0} (calls : ℕ) (outcome : Outcome) (order : NodeOrder) (deed : Deed)
+    (old new : NodeView H) : Type 0 where
+  pub notes_disk : new.notes_disk ≡ crashed_disk outcome (cut_notes calls order deed old.node old.notes_disk)
+  pub leaves_disk : new.leaves_disk
+      ≡ option_map (λ disk. crashed_disk outcome (cut_leaves calls order deed old.node disk)) old.leaves_disk
+
+-- ---- ends
+
 -- an order that was stopped, and what is kept of it
 pub record IsStopped {H : Type 0} (calls : ℕ) (outcome : Outcome) (order : NodeOrder) (deed : Deed) (old : NodeView H)
     (kept : Option (List ℕ)) (new : NodeView H) : Type 0 where
@@ -41,21 +80,23 @@ pub record IsStopped {H : Type 0} (calls : ℕ) (outcome : Outcome) (order : Nod
   pub stopped : is_stopped calls old.node order deed ≡ true
   pub keeps : kept ≡ kept_record calls outcome order deed
   pub node : new.node ≡ after_stop calls outcome order old.node deed
+  pub disks : DisksCrash calls outcome order deed old new
   pub hash : new.hash ≡ old.hash
 
 -- an order that was done before the crash
-pub record IsFinished {H : Type 0} (calls : ℕ) (order : NodeOrder) (deed : Deed) (old : NodeView H) (new : NodeView H)
-    : Type 0 where
+pub record IsFinished {H : Type 0} (calls : ℕ) (outcome : Outcome) (order : NodeOrder) (deed : Deed)
+    (old new : NodeView H) : Type 0 where
   pub is_up : answers_down order old.node ≡ false
   pub passed : is_stopped calls old.node order deed ≡ false
   pub node : new.node ≡ after_crash (with_records old.node deed)
+  pub disks : DisksCrash calls outcome order deed old new
   pub hash : new.hash ≡ old.hash
 
 -- how a cut ended, by what the order does
 abbrev pub Ends : {H : Type 0} → ℕ → Outcome → NodeOrder → Deed → NodeView H → CutEnd → NodeView H → Type 0
 Ends calls outcome order deed old Down new = (answers_down order old.node ≡ true) × (new ≡ old)
 Ends calls outcome order deed old (Stopped kept) new = IsStopped calls outcome order deed old kept new
-Ends calls outcome order deed old (Done given) new = IsGiven deed.gives given × IsFinished calls order deed old new
+Ends calls outcome order deed old (Done given) new = IsGiven deed.gives given × IsFinished calls outcome order deed old new
 
 -- what a cut of an order of a node did, of which the node has number n
 abbrev pub Cuts : {H : Type 0} → (List ℕ → List ℕ) → List RootCall → ℕ → ℕ → Outcome → NodeOrder → NodeView H → CutEnd

@@ -1,7 +1,7 @@
 -- A node of a world over disks in memory, and what may be said of it: what its disks leave, and what an order, a crash
 -- and a declaration do.
 use Rattle.std.specs.Prelude.{◌≡◌, ℕ, Bool, true, false, ◌&&◌, not, List, length, codes, Option, Some, None, option_map, MatchBool}
-use Rattle.std.specs.Option.{ForSome}
+use Rattle.std.specs.Option.{ForSome, is_some}
 use Rattle.crash_disk.specs.Disk.{History, fresh_history, content, MayLeave}
 use Rattle.crash_disk.specs.Calls.{with_made}
 use Rattle.crash_disk.specs.Outcomes.{image_after}
@@ -16,7 +16,7 @@ use Rattle.node_rules.specs.Watcher.{identity_text as watcher_text}
 use Rattle.operator_rules.specs.Records.{identity_text as operator_text}
 use Rattle.world_rules.specs.declared.reply.Reply.{Reply}
 use Rattle.world_rules.specs.Events.{Idle}
-use Rattle.world_rules.specs.World.{Role, Wallet, Watcher, Operator, Node}
+use Rattle.world_rules.specs.World.{Role, Wallet, Watcher, Operator, Node, is_wallet_role}
 use Rattle.world_rules.specs.Deeds.{Deed, says}
 use Rattle.world_rules.specs.Steps.{new_node, after_command, after_crash}
 use Rattle.world_rules.specs.declared.given.Given.{Given}
@@ -26,8 +26,8 @@ use Rattle.world_nodes.specs.declared.order.NodeKind.TheVariants.{Wallet as Wall
 use Rattle.world_nodes.specs.declared.order.NodeOrder.{NodeOrder}
 use Rattle.world_nodes.specs.Orders.{is_opening_order, order_deed}
 
--- a node, what the disk of its notes and that of its leaves tell, and the digest that it is opened with; wallets alone
--- have a disk of leaves
+-- a node, what the disk of its notes and that of its leaves tell, and the digest that it is opened with; where the disks
+-- spell the node's records (Spells), wallets alone have one of leaves
 pub record NodeView (H : Type 0) : Type 0 where
   pub node : Node
   pub notes_disk : History
@@ -44,9 +44,11 @@ role_of OperatorKind = Operator
 abbrev pub EachKeeps : List (List ℕ) → History → Type 0
 EachKeeps records disk = (image : List ℕ) → MayLeave disk image → Keeps records image
 
--- each image that a crash now may leave of the notes' disk keeps the node's notes, and of the leaves' disk its leaves
+-- Each image that a crash now may leave of the notes' disk keeps the node's notes, and of the leaves' disk its leaves. A
+-- wallet has both disks, and another node has its notes' disk alone.
 pub record Spells {H : Type 0} (view : NodeView H) : Type 0 where
   pub notes : EachKeeps view.node.notes view.notes_disk
+  pub has_leaves : is_some view.leaves_disk ≡ is_wallet_role view.node.role
   pub leaves : ForSome view.leaves_disk (EachKeeps view.node.leaves)
 
 -- ---- declarations
