@@ -60,6 +60,21 @@ module _ (a b c : Option (List ℕ)) (put text last : List ℕ) (failed : Type 0
   ends-more output NotJournal why ends = (ends.0, whole-more ends.1)
   ends-more output AlreadyMade why ends = (ends.0, whole-more ends.1)
 
+-- whatever a run ends as, it wrote something behind what was there
+pub ends-wrote : (output : Output) (status : Status) (before after : Option (List ℕ)) (failed : Type 0)
+    → EndsAs output status before after failed → (more : List ℕ) × Wrote before after more
+ends-wrote output WriteFault before after failed ends = (ends.front.front, ends.front.wrote)
+ends-wrote output NoMemory before after failed ends = (ends.front.front, ends.front.wrote)
+ends-wrote output ReadFaultStatus before after failed ends = (output.answers ++ output.last, ends.0.1)
+ends-wrote output Done before after failed ends = (output.answers ++ output.last, ends.1)
+ends-wrote output Refused before after failed ends = (output.answers ++ output.last, ends.1)
+ends-wrote output Usage before after failed ends = (output.answers ++ output.last, ends.1)
+ends-wrote output BadLineStatus before after failed ends = (output.answers ++ output.last, ends.1)
+ends-wrote output DeviceFault before after failed ends = (output.answers ++ output.last, ends.1)
+ends-wrote output TooLongStatus before after failed ends = (output.answers ++ output.last, ends.1)
+ends-wrote output NotJournal before after failed ends = (output.answers ++ output.last, ends.1)
+ends-wrote output AlreadyMade before after failed ends = (output.answers ++ output.last, ends.1)
+
 -- the reading of a session, by what ended it
 module _ (Reads : Bool → Type 0) where
   pub failed-of : (ending : Ending (List ℕ)) → Reads (is_read_fault (Ok ending)) → status_of ending ≡ ReadFaultStatus

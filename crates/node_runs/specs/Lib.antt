@@ -4,3 +4,4 @@ pub mod Sessions
 pub mod Runs
 pub mod Inits
 pub mod Faults
+pub mod Prompt

@@ -12,10 +12,11 @@ use Rattle.operator_rules.specs.Records.{operator_kinds, who_is as operator_is}
 use Rattle.wallet_node.specs.State.{WalletState}
 use Rattle.wallet_node.specs.Opening.{OpensWallet, RefusesWallet}
 use Rattle.node_answers.specs.Answers.{Outcome, watcher_outcome, operator_outcome, wallet_outcome}
-use Rattle.node_roles.specs.Notes.{with_note}
+use Rattle.node_roles.specs.Notes.{NodeAt, NotesAt, with_note}
 use Rattle.node_roles.specs.Deeds.{notes_do}
-use Rattle.node_roles.specs.Wallets.{records_of, with_either, wallet_does}
-use Rattle.node_sessions.specs.Sessions.{session_rules}
+use Rattle.node_roles.specs.Wallets.{WalletAt, records_of, with_either, wallet_does}
+use Rattle.node_sessions.specs.Sessions.{SessionState, session_rules}
+use Rattle.streamed_lines.specs.Streams.{Rules}
 use Rattle.streamed_lines.specs.Outside.{Gave}
 use Rattle.run_endings.specs.declared.status.Status.{Status}
 use Rattle.run_endings.specs.Outputs.{EndsAs}
@@ -36,14 +37,22 @@ module _ {D : Type 0} (told : D → Option History) (plan : D → Option FaultPl
   module _ {L : Type 0} (read : List ℕ → Result (List (List ℕ)) ℕ) (tag : List (List ℕ) → List ℕ)
       (command_in : List ℕ → Option L)
       (outcome : (List ℕ → List ℕ) → List RootCall → List (List ℕ) → L → Outcome) where
+    -- the rules of the session of notes that were opened, and where it finds the node
+    abbrev pub notes_rules : NotesState D → Rules (SessionState (NodeAt NotesAt)) (List ℕ)
+    notes_rules opened =
+        session_rules (tag opened.records) command_in
+        (λ log at line. notes_do at (outcome at.dig log at.kept.records line))
+
+    abbrev pub notes_found : NotesState D → NodeAt NotesAt
+    notes_found opened = record { kept = opened_at told faults opened; dig = dig }
+
     -- the session of notes that were opened, whose disk is handed back
     abbrev pub NotesSession : NotesState D → D → Outside → Type 0 → Status → Type 0
     NotesSession opened disk outside failed status =
         RunsSession
-        (session_rules (tag opened.records) command_in
-        (λ log at line. notes_do at (outcome at.dig log at.kept.records line)))
+        (notes_rules opened)
         command_in
-        (record { kept = opened_at told faults opened; dig = dig })
+        (notes_found opened)
         (λ at. Keeps told faults at.kept disk)
         (λ log at line. Failed told faults (outcome at.dig log at.kept.records line).note at.kept disk)
         (λ log at line. Keeps told faults (with_note at.kept (outcome at.dig log at.kept.records line).note) disk)
@@ -67,13 +76,20 @@ module _ {D : Type 0} (told : D → Option History) (plan : D → Option FaultPl
       RunsNotes (role_in operator_kinds) (λ records. (operator_is records).tag) operator_line_in operator_outcome
       old new outside failed status
 
+  -- the rules of the session of a wallet that was opened, and where it finds the wallet
+  abbrev pub wallet_rules : {H : Type 0} → WalletState D H → Rules (SessionState (NodeAt WalletAt)) (List ℕ)
+  wallet_rules opened = session_rules (wallet_is opened.records).tag wallet_line_in wallet_does
+
+  abbrev pub wallet_found : {H : Type 0} → WalletState D H → NodeAt WalletAt
+  wallet_found opened = record { kept = both_opened told faults opened; dig = dig }
+
   -- the session of a wallet that was opened, whose disks are handed back
   abbrev pub WalletSession : {H : Type 0} → WalletState D H → D → D → Outside → Type 0 → Status → Type 0
   WalletSession opened notes leaves outside failed status =
       RunsSession
-      (session_rules (wallet_is opened.records).tag wallet_line_in wallet_does)
+      (wallet_rules opened)
       wallet_line_in
-      (record { kept = both_opened told faults opened; dig = dig })
+      (wallet_found opened)
       (λ at. KeepsBoth told faults at.kept notes leaves)
       (λ log at line. EitherFailed told faults (wallet_outcome at.dig log (records_of at.kept) line).leaf
       (wallet_outcome at.dig log (records_of at.kept) line).note at.kept notes leaves)

@@ -3,6 +3,7 @@ ghost use Rattle.plasma_base.specs.Causes.{faults_after};
 ghost use Rattle.streamed_lines.specs.Outside.{ReadsToFault};
 ghost use Rattle.run_endings.specs.Statuses.{is_write_fault, ReadsBy};
 ghost use Rattle.node_runs.specs.Runs.{RunsOperator};
+ghost use Rattle.node_runs.specs.Prompt.{OperatorPromptly};
 
 use super::opening::put_refusal;
 use super::session::run_session;
@@ -33,6 +34,9 @@ pub fn run_operator<D: Disk, H: Hash32 + Copy, S: Source, K: Sink>(
     ensures runs { RunsOperator D.told D.plan D.faults (H.digest_of h) notes result.0
         (record { left = S.left source.old; later = S.left source.new; taken = K.taken sink.old; after = K.taken sink.new })
         (ReadsToFault (S.faults source.old) (S.faults source.new) (S.failed_last source.new) true) result.1 }
+    ensures prompt { OperatorPromptly
+        (record { left = S.left source.old; later = S.left source.new; taken = K.taken sink.old; after = K.taken sink.new })
+        (S.failed_last source.new) D.told D.plan D.faults (H.digest_of h) notes }
     ensures source_faults { ReadsBy result.1
         (ReadsToFault (S.faults source.old) (S.faults source.new) (S.failed_last source.new)) }
     ensures sink_faults { K.faults sink.new ≡ faults_after (K.faults sink.old) (is_write_fault result.1) }

@@ -2,7 +2,8 @@ ghost use Rattle.std.specs.Prelude.{◌≡◌, true, List, ℕ};
 ghost use Rattle.plasma_base.specs.Causes.{faults_after};
 ghost use Rattle.node_journal.specs.declared.stop.Stop.{Stop};
 ghost use Rattle.streamed_lines.specs.Outside.{ReadsToFault};
-ghost use Rattle.node_sessions.specs.Sessions.{session_rules};
+ghost use Rattle.streamed_lines.specs.Prompt.{AnswersPromptly, answers_so_far};
+ghost use Rattle.node_sessions.specs.Sessions.{begun, session_rules};
 ghost use Rattle.run_endings.specs.Statuses.{is_write_fault, ReadsBy};
 ghost use Rattle.node_runs.specs.Sessions.{RunsSession};
 
@@ -30,6 +31,9 @@ pub fn run_session<N: Commanded, S: Source, K: Sink>(
         (λ log at command. N.is_stopped result.0 log at command Stop.NoMemory)
         (record { left = S.left source.old; later = S.left source.new; taken = K.taken sink.old; after = K.taken sink.new })
         (ReadsToFault (S.faults source.old) (S.faults source.new) (S.failed_last source.new) true) result.1 }
+    ensures prompt { AnswersPromptly
+        (answers_so_far (session_rules (N.tag node) (N.command_in node) (N.does node)) (begun found))
+        (S.left source.old) (S.left source.new) (S.failed_last source.new) (K.taken sink.old) (K.taken sink.new) }
     ensures source_faults { ReadsBy result.1
         (ReadsToFault (S.faults source.old) (S.faults source.new) (S.failed_last source.new)) }
     ensures sink_faults { K.faults sink.new ≡ faults_after (K.faults sink.old) (is_write_fault result.1) }

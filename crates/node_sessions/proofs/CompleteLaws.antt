@@ -1,5 +1,5 @@
 -- A session whose commands are all done is complete.
-use Rattle.std.proofs.Common.{◌≡◌, inl, inr, ℕ, ◌+◌, Bool, true, false, List, [], ◌∷◌, ◌++◌, if◌then◌else◌, length, Option, Some, None, Result, Ok, Err, refl, ap, ◌∙◌, subst, arith}
+use Rattle.std.proofs.Common.{◌≡◌, inl, inr, ℕ, ◌+◌, Bool, true, false, List, [], ◌∷◌, ◌++◌, if◌then◌else◌, length, Option, Some, None, Result, Ok, Err, refl, sym, ap, ◌∙◌, subst, arith}
 use Rattle.std.proofs.lemmas.Slice.Eq.{bytes_eq-Decides}
 use Rattle.plasma_tx.specs.declared.call.RootCall.{RootCall}
 use Rattle.plasma_tx.specs.Chain.{Chain}
@@ -85,3 +85,52 @@ module _ {A L : Type 0} (tag : List ℕ) (command_in : List ℕ → Option L)
   pub done-are_answered : DoneCommandsAreAnswered tag command_in does
   unfolding stream_of
   done-are_answered found bytes keep = begins found (lines_in bytes) keep
+
+-- The same lines are done by a node of which this is a part, where each command that the part does the node does too.
+module _ {A B L : Type 0} (tag : List ℕ) (command_in : List ℕ → Option L)
+    (does : List RootCall → A → L → Result (A × List ℕ) (List ℕ))
+    (part_does : List RootCall → B → L → Result (B × List ℕ) (List ℕ)) (part : A → B)
+    (so : (log : List RootCall) (at : A) (command : L) (left : B) (text : List ℕ)
+    → part_does log (part at) command ≡ Ok (left, text)
+    → (next : A) × (does log at command ≡ Ok (next, text)) × (part next ≡ left)) where
+  done-by_part : (log : List RootCall) (at : A) (n start : ℕ) (lines : List (List ℕ))
+      → AreDone tag command_in part_does log (part at) n start lines
+      → AreDone tag command_in does log at n start lines
+  unfolding AreDone
+  done-by_part log at n start [] are = tt
+  done-by_part log at n start (line ∷ lines) are =
+      let next = so log at are.1.0 are.1.1 are.1.2 are.1.4 in (
+        are.0,
+        (
+          are.1.0,
+          next.0,
+          are.1.2,
+          are.1.3,
+          next.1,
+          done-by_part log next.0 (n + 1) (start + length line) lines
+              (subst (λ b. AreDone tag command_in part_does log b (n + 1) (start + length line) lines)
+              (sym next.2) are.1.5),
+        ),
+      )
+
+  log-by_part : (chain : Chain) (at : A) (n start : ℕ) (lines : List (List ℕ))
+      → EndLogAndAreDone tag command_in part_does chain (part at) n start lines
+      → EndLogAndAreDone tag command_in does chain at n start lines
+  unfolding EndLogAndAreDone
+  log-by_part chain at n start [] never = never
+  log-by_part chain at n start (line ∷ lines) (fits, inl ends) =
+      (fits, inl (ends.0, done-by_part chain.log at (n + 1) (start + length line) lines ends.1))
+  log-by_part chain at n start (line ∷ lines) (fits, inr goes) = (
+    fits,
+    inr (
+      goes.0,
+      (goes.1.0, goes.1.1, log-by_part goes.1.0 at (n + 1) (start + length line) lines goes.1.2),
+    ),
+  )
+
+  pub keep-by_part : (at : A) (lines : List (List ℕ)) → KeepTheRules tag command_in part_does (part at) lines
+      → KeepTheRules tag command_in does at lines
+  unfolding KeepTheRules
+  keep-by_part at [] never = never
+  keep-by_part at (line ∷ lines) keep =
+      (keep.0, (keep.1.0, keep.1.1, keep.1.2, log-by_part keep.1.0 at 2 (length line) lines keep.1.3))

@@ -1,3 +1,3 @@
 mod SessionLaws
-mod CompleteLaws
+pub mod CompleteLaws
 pub mod StayLaws

@@ -8,7 +8,7 @@ use Rattle.plasma_outside.specs.declared.sink.SinkRefusal.TheVariants.{Failed, N
 use Rattle.streamed_lines.specs.Outside.{Wrote, WroteFront, ReadsToFault}
 use Rattle.run_endings.specs.declared.status.Status.{Status}
 use Rattle.run_endings.specs.declared.status.Status.TheVariants.{Done, Refused, Usage, BadLine, ReadFault, WriteFault, DeviceFault, NoMemory, TooLong, NotJournal, AlreadyMade}
-use Rattle.run_endings.specs.Statuses.{status_of_refusal, ReadsBy}
+use Rattle.run_endings.specs.Statuses.{status_of_refusal, ReadsBy, IsDoneUnlessFailed}
 use Rattle.run_endings.specs.Outputs.{Output, Stops, EndsAs}
 
 -- a text that was written whole ends a run with any status but one that stopped it
@@ -73,3 +73,18 @@ reads-unfailed AlreadyMade Reads no_fault reads = reads
 -- a source that wasn't touched
 pub reads-none : (faults : ℕ) (failed_last : Bool) → ReadsToFault faults faults failed_last false
 reads-none faults failed_last = record { count = refl; last = λ wrong. absurd (false≢true wrong) }
+
+-- a run whose output says that it was done, or what failed
+pub ends-done : (output : Output) (status : Status) (before after : Option (List ℕ)) (failed : Type 0)
+    → IsDoneUnlessFailed output.status → EndsAs output status before after failed → IsDoneUnlessFailed status
+ends-done output Done before after failed is ends = tt
+ends-done output ReadFault before after failed is ends = tt
+ends-done output WriteFault before after failed is ends = tt
+ends-done output DeviceFault before after failed is ends = tt
+ends-done output NoMemory before after failed is ends = tt
+ends-done output Refused before after failed is ends = subst IsDoneUnlessFailed ends.0 is
+ends-done output Usage before after failed is ends = subst IsDoneUnlessFailed ends.0 is
+ends-done output BadLine before after failed is ends = subst IsDoneUnlessFailed ends.0 is
+ends-done output TooLong before after failed is ends = subst IsDoneUnlessFailed ends.0 is
+ends-done output NotJournal before after failed is ends = subst IsDoneUnlessFailed ends.0 is
+ends-done output AlreadyMade before after failed is ends = subst IsDoneUnlessFailed ends.0 is

@@ -67,3 +67,12 @@ FaultsBy ReadFault Met = Met false
 FaultsBy TooLong Met = Met false
 FaultsBy NotJournal Met = Met false
 FaultsBy AlreadyMade Met = Met false
+
+-- the run was done, or something failed that it stands on: the source, the sink, a disk or memory
+abbrev pub IsDoneUnlessFailed : Status → Type 0
+IsDoneUnlessFailed Done = Unit {0}
+IsDoneUnlessFailed ReadFault = Unit {0}
+IsDoneUnlessFailed WriteFault = Unit {0}
+IsDoneUnlessFailed DeviceFault = Unit {0}
+IsDoneUnlessFailed NoMemory = Unit {0}
+IsDoneUnlessFailed status = ⊥

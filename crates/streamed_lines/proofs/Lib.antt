@@ -4,4 +4,6 @@ pub mod StreamLaws
 mod StopLaws
 mod ReadLaws
 mod GoingLaws
-mod BeginningLaws
+pub mod BeginningLaws
+pub mod PromptLaws
+pub mod CompleteLaws

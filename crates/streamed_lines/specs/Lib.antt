@@ -4,3 +4,4 @@ pub mod Bounds
 pub mod Outside
 pub mod Reading
 pub mod Laws
+pub mod Prompt

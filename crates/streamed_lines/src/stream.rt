@@ -6,6 +6,7 @@ ghost use Rattle.streamed_lines.specs.Lines.{limit_of};
 ghost use Rattle.streamed_lines.specs.Streams.{Stream, next_number, end_of_input};
 ghost use Rattle.streamed_lines.specs.Bounds.{room};
 ghost use Rattle.streamed_lines.specs.Outside.{Gave, GaveAll, Wrote, WroteFront, ReadsToFault};
+ghost use Rattle.streamed_lines.specs.Prompt.{AnswersPromptly, answers_so_far};
 ghost use Rattle.streamed_lines.specs.Reading.{IsKept, Reads, Answers, BrokeOff, EndsAs, BreaksOff, HaltsWith, is_read_fault, is_write_fault};
 
 use super::answerer::Answerer;
@@ -41,6 +42,7 @@ fn take_some<S: Source>(source: &mut S, room: &mut [u8], size: usize) -> Result<
     ensures same { length room.new ≡ length room.old }
     ensures reads { ReadsToFault (S.faults source.old) (S.faults source.new) (S.failed_last source.new)
         (is_err result) }
+    ensures last { S.failed_last source.new ≡ is_err result }
 {
     source.take(&mut room[..size])
 }
@@ -144,6 +146,8 @@ pub fn answer_lines<A: Answerer, S: Source, K: Sink>(
         (S.left source.new) (K.taken sink.old) (K.taken sink.new) text.new.items ending answerer.new) }
     ensures broken { IfErr result (λ why. BrokeOff (A.rules answerer.old) first A.ran A.halted (S.left source.old)
         (S.left source.new) (K.taken sink.old) (K.taken sink.new) text.new.items why answerer.new) }
+    ensures prompt { AnswersPromptly (answers_so_far (A.rules answerer.old) first) (S.left source.old) (S.left source.new)
+        (S.failed_last source.new) (K.taken sink.old) (K.taken sink.new) }
     ensures reads { ReadsToFault (S.faults source.old) (S.faults source.new) (S.failed_last source.new)
         (is_read_fault result) }
     ensures cause { K.faults sink.new ≡ faults_after (K.faults sink.old) (is_write_fault result) }

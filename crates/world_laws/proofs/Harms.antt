@@ -28,7 +28,8 @@ use Rattle.world_laws.proofs.Histories.{place_of}
 use Rattle.world_laws.proofs.Shown.{Deposited, Transferred, IsShownChallenge, IsBegun, OfDeposit, OfSpend}
 use Rattle.world_laws.proofs.Bound.{SignsBy}
 use Rattle.world_laws.proofs.Held.{Known, shown-ge, link_in}
-use Rattle.world_laws.proofs.Watched.{IsWatched, IfOf, AllWatched, IsSpend, is_spend, AtEvent, tip_unspent}
+use Rattle.world_laws.specs.Invariant.{IsWatched, IfOf, AllWatched}
+use Rattle.world_laws.proofs.Watched.{IsSpend, is_spend, AtEvent, tip_unspent}
 use Rattle.world_laws.proofs.Steps.{OfHeld, of_held, owner-before, own-openings}
 
 -- the answer to a Finish of what was found

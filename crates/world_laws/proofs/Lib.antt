@@ -70,3 +70,4 @@ pub mod BundleHistories
 pub mod NoteLengths
 pub mod BundlesTaken
 pub mod Promises
+pub mod Invariant

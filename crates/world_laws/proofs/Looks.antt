@@ -30,7 +30,8 @@ use Rattle.world_laws.proofs.Bound.{Holding}
 use Rattle.world_laws.proofs.Held.{HeldAt}
 use Rattle.world_laws.proofs.DueCalls.{OffersDue, Due, due-offered}
 use Rattle.world_laws.proofs.Guards.{holds-from, watch-due, guardian-guards}
-use Rattle.world_laws.proofs.Watched.{IfOf, AllWatched, ticked-watched}
+use Rattle.world_laws.specs.Invariant.{IfOf, AllWatched}
+use Rattle.world_laws.proofs.Watched.{ticked-watched}
 use Rattle.world_laws.proofs.Earlier.{stood-before, clock-before}
 use Rattle.world_laws.proofs.Steps.{others-due, mine-due}
 use Rattle.world_laws.proofs.Before.{none-before, forged-parts, held_before, at_event}

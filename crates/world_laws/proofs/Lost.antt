@@ -28,7 +28,7 @@ use Rattle.world_laws.proofs.Lists.{some_same, none_some, found-has}
 use Rattle.world_laws.proofs.Bound.{owner-stays, holding}
 use Rattle.world_laws.proofs.Guards.{holds-from}
 use Rattle.world_laws.proofs.Offers.{offered_start, start-any, coin-stays}
-use Rattle.world_laws.proofs.Watched.{IfOf, AllWatched}
+use Rattle.world_laws.specs.Invariant.{IfOf, AllWatched}
 use Rattle.world_laws.proofs.Before.{none-before, forged-parts, legal-before}
 use Rattle.world_laws.proofs.Safe.{looked-parts, watched, safe-event}
 use Rattle.world_laws.proofs.OwnExits.{IsOwnAt, IfOwn, IsStartedBy, came-from, undeclared-none, own_kept}

@@ -36,7 +36,7 @@ use Rattle.world_laws.proofs.Takings.{legal-takings}
 use Rattle.world_laws.proofs.DueTaken.{due_calls_are_taken}
 
 -- the earlier of legal events are legal
-suffix-legal : (tests : Tests) (rules : Rules) (later events : List Event) → IsLegal tests rules (later ++ events)
+pub suffix-legal : (tests : Tests) (rules : Rules) (later events : List Event) → IsLegal tests rules (later ++ events)
     → IsLegal tests rules events
 unfolding IsLegal
 suffix-legal tests rules [] events legal = legal

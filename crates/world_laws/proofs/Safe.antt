@@ -20,7 +20,7 @@ use Rattle.world_laws.proofs.Shown.{seen-call}
 use Rattle.world_laws.proofs.Bound.{Holding, holding}
 use Rattle.world_laws.proofs.Held.{held_top}
 use Rattle.world_laws.proofs.Offers.{start-any, offered_start}
-use Rattle.world_laws.proofs.Watched.{IfOf, AllWatched}
+use Rattle.world_laws.specs.Invariant.{IfOf, AllWatched}
 use Rattle.world_laws.specs.Looked.{goes_unseen, is_looked_after}
 use Rattle.world_laws.proofs.Before.{none-before, forged-parts, HeldBefore, held_before, legal-before, at_event}
 use Rattle.world_laws.proofs.Looks.{tick-keeps}
@@ -82,21 +82,21 @@ module _ (dig : List ℕ → List ℕ) (digest : IsDigest dig) (rules : Rules) (
       tick-keeps dig digest rules w c e events time legal none unforged h unseen
   ticks-kept call events legal none unforged h unseen = tt
 
-  kept-event : (event : Event) (events : List Event) → IsLegal (tests_by dig) rules (event ∷ events)
+  pub kept-event : (event : Event) (events : List Event) → IsLegal (tests_by dig) rules (event ∷ events)
       → has_clash dig (strings_of dig c (seen (event ∷ events) c)) ≡ false
-      → is_forged rules.tag (event ∷ events) w c ≡ false → is_looked_after (event ∷ events) w c e ≡ true
+      → is_forged rules.tag (event ∷ events) w c ≡ false → goes_unseen events w c e event ≡ false
       → (h : Holding events w c e) → AllWatched c h.me e (now (log_of events)) (exits (log_of events))
       → AllWatched c h.me e (now (log_of (event ∷ events))) (exits (log_of (event ∷ events)))
   unfolding log_of IsLegal openings_of at_event
-  kept-event (Joins call) events legal none unforged looked h all =
+  kept-event (Joins call) events legal none unforged unseen h all =
       let forged = forged-parts rules.tag (Joins call) events w c unforged in
       let whole = none-before dig (Joins call) events c none in
       let at = at_event dig digest rules w c e (Joins call) events legal.1 none h in
       keeps (tests_by dig) rules (λ tx owner is. is) events w c e legal.1 (seen (Joins call ∷ events) c) at call
       (own_start call events legal.1 whole forged.1 h legal.0) (seen-call call events c) forged.0
-      (ticks-kept call events legal.1 whole forged.1 h (looked-parts (Joins call) events w c e looked).0)
+      (ticks-kept call events legal.1 whole forged.1 h unseen)
       legal.0.accepted all
-  kept-event event events legal none unforged looked h all = all
+  kept-event event events legal none unforged unseen h all = all
 
   -- while it is held, what is to hold of each of its exits holds
   pub watched : (events : List Event) → IsLegal (tests_by dig) rules events
@@ -118,9 +118,9 @@ module _ (dig : List ℕ → List ℕ) (digest : IsDigest dig) (rules : Rules) (
           (λ x there c_is. absurd (new x there c_is))
       later (inl r) before =
           subst (λ m. AllWatched c m e (now (log_of (event ∷ events))) (exits (log_of (event ∷ events)))) r.1
-          (kept-event event events legal none unforged looked r.0 (before r.0))
+          (kept-event event events legal none unforged (looked-parts event events w c e looked).0 r.0 (before r.0))
 
-  harmless : (event : Event) (events : List Event) → IsLegal (tests_by dig) rules (event ∷ events)
+  pub harmless : (event : Event) (events : List Event) → IsLegal (tests_by dig) rules (event ∷ events)
       → has_clash dig (strings_of dig c (seen (event ∷ events) c)) ≡ false
       → forges_one rules.tag (wallet_owner events w) (bound_by events w) c (openings_of c event) ≡ false
       → (h : Holding events w c e) → AllWatched c h.me e (now (log_of events)) (exits (log_of events))

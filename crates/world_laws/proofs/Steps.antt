@@ -36,7 +36,8 @@ use Rattle.world_laws.proofs.Shown.{IsShownAt, Deposited, Transferred, IsShownCh
 use Rattle.world_laws.proofs.Bound.{SignsBy}
 use Rattle.world_laws.proofs.Held.{HeldAt, shown_same}
 use Rattle.world_laws.proofs.DueCalls.{OffersDue, Due, due-offered, due-old, due-later, due-planted, due-answer}
-use Rattle.world_laws.proofs.Watched.{IfOf, AllWatched, IsSpend, is_spend, AtEvent, owner_is, tip_before, tip_unspent, new-watched, challenged-watched, answered-watched}
+use Rattle.world_laws.specs.Invariant.{IfOf, AllWatched}
+use Rattle.world_laws.proofs.Watched.{IsSpend, is_spend, AtEvent, owner_is, tip_before, tip_unspent, new-watched, challenged-watched, answered-watched}
 
 -- a coin's deposit block isn't 0
 deposit-above : (log : List RootCall) (c : ℕ) (made : CoinView) → coin_at log c ≡ Some made → 0 < made.deposit

@@ -17,33 +17,13 @@ use Rattle.watch_duty.proofs.Members.{Has, all-has}
 use Rattle.world_rules.specs.Events.{Event, log_of, wallet_owner, bound_by, signed_away_by}
 use Rattle.world_rules.specs.Exhibits.{seen, forges_one}
 use Rattle.world_rules.specs.Safety.{is_mine}
+use Rattle.world_laws.specs.Invariant.{IsWatched}
 use Rattle.world_laws.proofs.Lists.{all-from, all-answered}
 use Rattle.world_laws.proofs.Clash.{IsOpened, HasOneLeaf}
 use Rattle.world_laws.proofs.Shown.{IsShownAt, shown_at-grow}
 use Rattle.world_laws.proofs.Absences.{IsParted}
 use Rattle.world_laws.proofs.Bound.{SignsBy, Holding, line_bound, unspent}
 use Rattle.world_laws.proofs.Held.{HeldAt, shown_same, end_shown}
-
--- what holds of each standing exit of the coin while it is held at e
-pub record IsWatched (me : Owner) (e time : ℕ) (x : Exit) : Type 0 where
-  -- it doesn't spend the tip
-  pub unspent : x.parent ≢ e
-  -- no challenge at the tip is answered
-  pub open_tip : AllByRecursion (λ ch. ch.block ≡ e → ch.answered ≡ false) x.challenges
-  -- past its window, an exit of another account is challenged at the tip
-  pub in_time : is_mine me x ≡ false → x.start + CHALLENGE_WINDOW ≤ time
-      → is_none (challenge_at e x.challenges) ≡ false
-  -- the own exit is at the tip
-  pub own_block : is_mine me x ≡ true → x.block ≡ e
-  -- no open challenge of the own exit at the tip is past its window
-  pub own_time : is_mine me x ≡ true → x.block ≡ e
-      → AllByRecursion (λ ch. ch.answered ≡ false → time < ch.at + RESPONSE_WINDOW) x.challenges
-
-abbrev pub IfOf : ℕ → Owner → ℕ → ℕ → Exit → Type 0
-IfOf c me e time x = x.coin ≡ c → IsWatched me e time x
-
-abbrev pub AllWatched : ℕ → Owner → ℕ → ℕ → List Exit → Type 0
-AllWatched c me e time xs = AllByRecursion (IfOf c me e time) xs
 
 -- ---- challenges
 

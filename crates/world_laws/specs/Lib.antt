@@ -3,3 +3,4 @@ pub mod Legal
 pub mod Looked
 pub mod LegalLaws
 pub mod Bundles
+pub mod Invariant

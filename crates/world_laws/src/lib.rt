@@ -2,10 +2,12 @@
 #![tactic(auto)]
 
 mod bundle_laws;
+mod invariant_laws;
 mod laws;
 mod signed_laws;
 
 pub use bundle_laws::honest_bundles_are_taken;
+pub use invariant_laws::held_coins_stay_watched;
 pub use laws::{
     attended_coins_are_looked_after, due_calls_are_taken, held_coins_are_safe,
     looked_after_coins_are_safe, looking_often_is_enough, lost_is_exhibited, one_wallet_holds,

@@ -1,8 +1,10 @@
-use Rattle.std.proofs.Common.{inl, refl}
+use Rattle.std.proofs.Common.{inl, inr, refl}
 use contract.BorrowLft.{⊑_meet, ⊑_static}
 use Rattle.node_answers.specs.Answers.{operator_outcome}
 use Rattle.node_roles.specs.Notes.{with_note}
+use Rattle.streamed_lines.proofs.OutsideLaws.{gave-none}
 use Rattle.node_runs.specs.Runs.{RunsOperator}
+use Rattle.node_runs.specs.Prompt.{OperatorPromptly}
 use Rattle.node_runs.specs.Disks.{Keeps, Failed}
 use Rattle.node_runs.proofs.DiskLaws.{opened-there, stays-keeps, fails-failed, starved-keeps}
 use Rattle.node_runs.proofs.SessionLaws.{in-words}
@@ -49,3 +51,12 @@ returns-in-Ok-clause-runs g c =
           (λ log at line is. starved-keeps told faults _ at.kept notes is)
           _ _ _ runs),
     )
+
+pub returns-in-Ok-clause-prompt : goal.returns-in-Ok-clause-prompt
+unfolding OperatorPromptly
+returns-in-Ok-clause-prompt g c =
+    inl (c.in-Ok.node.notes, c.in-Ok.ensures.opened, rw c.in-Ok.ensures.hash at c.run_session-run.ensures.prompt)
+
+pub returns-in-Err-clause-prompt : goal.returns-in-Err-clause-prompt
+unfolding OperatorPromptly
+returns-in-Err-clause-prompt g c = inr (gave-none _)

@@ -1,5 +1,8 @@
 use Rattle.node_sessions.specs.Commands.{IsSession, IsHaltedSession}
 use Rattle.streamed_lines.specs.Outside.{ReadsToFault}
+use Rattle.streamed_lines.proofs.PromptLaws.{prompt-more}
+use Rattle.node_runs.specs.Endings.{status_of, last_text, fault_output}
+use Rattle.node_runs.proofs.EndLaws.{ends-wrote}
 use Rattle.node_runs.proofs.SessionLaws.{answered-runs, faulted-runs, refused-runs, starved-runs}
 use Rattle.node_runs.proofs.session.run_session.Goals as goal
 
@@ -37,3 +40,27 @@ returns-clause-runs g c =
     (λ session. IsHaltedSession g.N.Commanded.is_at g.N.Commanded.is_stopped (g.N.Commanded.command_in session.node) session)
     g.N.Commanded.is_at g.N.Commanded.is_stopped
     _ _ c.take_node-in-Err-NoMemory.ensures.ran c.take_node-in-Err-NoMemory.ensures.halted _ _ _ _ _ _ _ c.in-Err-NoMemory.field-0-is c.in-Err-NoMemory.ensures.broken)
+
+-- ---- the answers are written before more is read
+
+pub returns-in-Ok-clause-prompt : goal.returns-in-Ok-clause-prompt
+returns-in-Ok-clause-prompt g c =
+    let wrote =
+    ends-wrote (record {
+      status = status_of c.in-Ok.ending;
+      answers = c.answer_lines.new.text.items;
+      last = last_text c.in-Ok.ending;
+    }) _ _ _ (Unit {0}) c.put_ending-status.ensures.ends in
+    rw (← c.new-session.ensures.rules) (prompt-more _ _ _ _ _ _ _ wrote.0 c.in-Ok.ensures.prompt wrote.1)
+
+pub returns-in-Err-Failed-clause-prompt : goal.returns-in-Err-Failed-clause-prompt
+returns-in-Err-Failed-clause-prompt g c =
+    let wrote =
+    ends-wrote (fault_output c.answer_lines.new.text.items) _ _ _ (Unit {0}) c.put_fault-status.ensures.ends in
+    rw (← c.new-session.ensures.rules) (prompt-more _ _ _ _ _ _ _ wrote.0 c.in-Err-Failed.ensures.prompt wrote.1)
+
+pub returns-in-Err-WriteFault-clause-prompt : goal.returns-in-Err-WriteFault-clause-prompt
+returns-in-Err-WriteFault-clause-prompt g c = rw (← c.new-session.ensures.rules) c.in-Err-WriteFault.ensures.prompt
+
+pub returns-clause-prompt : goal.returns-clause-prompt
+returns-clause-prompt g c = rw (← c.new-session.ensures.rules) c.in-Err-NoMemory.ensures.prompt

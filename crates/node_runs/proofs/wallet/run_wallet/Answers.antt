@@ -1,8 +1,10 @@
-use Rattle.std.proofs.Common.{inl, refl}
+use Rattle.std.proofs.Common.{inl, inr, refl}
 use contract.BorrowLft.{⊑_meet, ⊑_static}
 use Rattle.node_answers.specs.Answers.{wallet_outcome}
 use Rattle.node_roles.specs.Wallets.{records_of, with_either}
+use Rattle.streamed_lines.proofs.OutsideLaws.{gave-none}
 use Rattle.node_runs.specs.Runs.{RunsWallet}
+use Rattle.node_runs.specs.Prompt.{WalletPromptly}
 use Rattle.node_runs.specs.Disks.{KeepsBoth, EitherFailed}
 use Rattle.node_runs.proofs.DiskLaws.{opened-both, wallet-keeps, either-failed, starved-both}
 use Rattle.node_runs.proofs.SessionLaws.{in-words}
@@ -57,3 +59,23 @@ returns-in-Ok-clause-runs g c =
           (λ log at line is. starved-both told faults _ _ at.kept wallet is)
           _ _ _ runs),
     )
+
+pub returns-in-Ok-clause-prompt : goal.returns-in-Ok-clause-prompt
+unfolding WalletPromptly
+returns-in-Ok-clause-prompt g c =
+    let opened = c.in-Ok.ensures.opened in
+    inl (
+      record {
+        notes_disk = c.in-Ok.node.notes_disk;
+        leaves_disk = c.in-Ok.node.leaves_disk;
+        closed = c.in-Ok.node.closed;
+        records = c.in-Ok.node.records;
+        hash = tt;
+      },
+      record { opens_notes = opened.opens_notes; opens_leaves = opened.opens_leaves; bound = opened.bound },
+      rw c.in-Ok.ensures.hash at c.run_session-run.ensures.prompt,
+    )
+
+pub returns-in-Err-clause-prompt : goal.returns-in-Err-clause-prompt
+unfolding WalletPromptly
+returns-in-Err-clause-prompt g c = inr (gave-none _)

@@ -1,8 +1,9 @@
-use Rattle.std.proofs.Common.{◌∙◌, refl}
+use Rattle.std.proofs.Common.{◌∙◌, [], refl, arith}
 use Rattle.streamed_lines.specs.Reading.{break_of}
-use Rattle.streamed_lines.proofs.OutsideLaws.{gave-part}
+use Rattle.streamed_lines.proofs.OutsideLaws.{gave-part, wrote-none}
 use Rattle.streamed_lines.proofs.StreamLaws.{err-given}
 use Rattle.streamed_lines.proofs.GoingLaws.{going-none, going-faults, going-ends, going-breaks, going-reads, going-on, halt-ends, halt-breaks, put-breaks}
+use Rattle.streamed_lines.proofs.PromptLaws.{promptly, took-few, unfailed}
 use Rattle.streamed_lines.proofs.stream.answer_lines.Goals as goal
 
 pub loop-answerer-init : goal.loop-answerer-init
@@ -68,3 +69,30 @@ returns-in-Err-answer_taken-clause-broken g c =
     halt-breaks _ _ _ _ _ _ _ _ _ _ _ _ c.loop-answerer.invariant.going g.A.Answerer.halted _ _ _ _ _
     c.in-Err-answer_taken.halt (g.A.Answerer.rules c.loop-answerer.answerer) _ c.outcome.ensures
     c.loop-answerer.invariant.rules (gave-part _ _ _ c.in-Ok.ensures.ok) c.in-Err-answer_taken.ensures.halts
+
+-- ---- the answers are written before more is read
+
+pub returns-in-Err-clause-prompt : goal.returns-in-Err-clause-prompt
+returns-in-Err-clause-prompt g c =
+    promptly _ _ _ _ _ _ _ _ _ _ _ _ c.loop-answerer.invariant.going _ _ [] [] _ c.in-Err.ensures.err
+    (omega arith) (λ failed. refl) (wrote-none _)
+
+pub returns-in-Ok-eq0-clause-prompt : goal.returns-in-Ok-eq0-clause-prompt
+returns-in-Ok-eq0-clause-prompt g c =
+    promptly _ _ _ _ _ _ _ _ _ _ _ _ c.loop-answerer.invariant.going _ _ _ [] _
+    (gave-part _ _ _ c.in-Ok-eq0.ensures.ok) (took-few _ _ _ c.in-Ok-eq0.ensures.bound c.size_to_lend-size.ensures.most)
+    (unfailed _ _ c.in-Ok-eq0.ensures.last) (wrote-none _)
+
+pub returns-in_err-put_text-in-Ok-answer_taken-clause-prompt :
+    goal.returns-in_err-put_text-in-Ok-answer_taken-clause-prompt
+returns-in_err-put_text-in-Ok-answer_taken-clause-prompt g c =
+    let front = c.in_err-put_text-in-Ok-answer_taken.ensures.err in
+    promptly _ _ _ _ _ _ _ _ _ _ _ _ c.loop-answerer.invariant.going _ _ _ front.front _
+    (gave-part _ _ _ c.in-Ok.ensures.ok) (took-few _ _ _ c.in-Ok.ensures.bound c.size_to_lend-size.ensures.most)
+    (unfailed _ _ c.in-Ok.ensures.last) front.wrote
+
+pub returns-in-Err-answer_taken-clause-prompt : goal.returns-in-Err-answer_taken-clause-prompt
+returns-in-Err-answer_taken-clause-prompt g c =
+    promptly _ _ _ _ _ _ _ _ _ _ _ _ c.loop-answerer.invariant.going _ _ _ [] _
+    (gave-part _ _ _ c.in-Ok.ensures.ok) (took-few _ _ _ c.in-Ok.ensures.bound c.size_to_lend-size.ensures.most)
+    (unfailed _ _ c.in-Ok.ensures.last) (wrote-none _)
