@@ -1,4 +1,4 @@
-# Completes the words of plasma in bash. It is read from a folder of completions, or by `source completions/plasma.bash`.
+# Completes the words of plasma in bash: read from a folder of completions, or by `source completions/plasma.bash`.
 _plasma() {
     local word=${COMP_WORDS[COMP_CWORD]} words=''
     COMPREPLY=()

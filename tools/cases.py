@@ -1,5 +1,5 @@
-"""Reads the cases of crates/run_cases/data (docs/CASES.md has their form), and gives the input of each run that they make
-and what is expected of it. No program is run: a run that takes what an earlier one printed is left out.
+"""Reads the cases of crates/run_cases/data (docs/CASES.md has their form), and gives the input of each run that they
+make and what is expected of it. No program is run: a run that takes what an earlier one printed is left out.
 """
 import os
 import re
@@ -17,7 +17,8 @@ class Unknown(Exception):
 
 
 class Run:
-    """A run: its words and input, whether these aren't known, the status that it ends with, and the lines that are expected."""
+    """A run: its words and input, whether these aren't known, the status that it ends with, and the lines that are
+    expected."""
 
     def __init__(self, case, words):
         self.case, self.words = case, words

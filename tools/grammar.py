@@ -1,7 +1,9 @@
-"""The grammar that docs/FORMATS.md has in its tables, read for tools/why and tools/forms: there is no other copy of it.
+"""The grammar that docs/FORMATS.md has in its tables, read for tools/why and tools/forms: there is no other copy of
+it.
 
-Of `## Lines and words` the table of tokens, of `## The lines of a schedule` the three tables of lines, of `## Words of the
-program` the forms and the words of each, and the numbers of `## Limits`. A token without a row of its own is a number.
+Of `## Lines and words` the table of tokens, of `## The lines of a schedule` the three tables of lines, of `## Words of
+the program` the forms and the words of each, and the numbers of `## Limits`. A token without a row of its own is a
+number.
 """
 import os
 import re
@@ -230,7 +232,8 @@ class Grammar:
                 return f"{shown(word)} has a big letter, '{found[0]}': the digits of a hex are 0 to 9 and a to f"
             return f"{shown(word)} has {shown(found[0])} in it, which is no digit of a hex (0 to 9, a to f)"
         if size is not None and len(digits) != 2 * size:
-            return f"{shown(word)} has {count(len(digits), 'digit')} behind 0x, and {2 * size} stand here, for {size} bytes"
+            has = f"{shown(word)} has {count(len(digits), 'digit')} behind 0x"
+            return f"{has}, and {2 * size} stand here, for {size} bytes"
         if len(digits) % 2:
             return f"{shown(word)} has {count(len(digits), 'digit')} behind 0x, and a byte has two"
         return None
