@@ -1,11 +1,12 @@
 -- How what a node's command answered and did becomes what an order gives out and does.
-use Rattle.std.proofs.Common.{◌≡◌, ℕ, Bool, List, Option, Some, None, Ok, Err, refl, sym, ap, subst}
+use Rattle.std.proofs.Common.{◌≡◌, ◌⊎◌, ℕ, Bool, false, List, Option, Some, None, Ok, Err, inl, inr, refl, sym, ap, subst}
 use Rattle.std.specs.Prelude.{Result, IfOk}
 use Rattle.crash_disk.specs.Disk.{History, FaultPlan}
 use Rattle.node_journal.specs.declared.stop.Stop.{Stop}
 use Rattle.node_journal.specs.declared.stop.Stop.TheVariants.{Closed, NoMemory, DeviceFault}
 use Rattle.node_journal.specs.Notes.{NotesState, Did, stopped_by}
 use Rattle.node_rules.specs.declared.refusal.WalletRefusal.{WalletRefusal}
+use Rattle.node_rules.specs.declared.refusal.WalletRefusal.TheVariants.{NoMemory as RefusedMemory}
 use Rattle.wallet_node.specs.State.{WalletState, notes_part, leaves_part, stop_in, DidNote, DidLeaf}
 use Rattle.world_rules.specs.Causes.{wallet_cause}
 use Rattle.world_rules.specs.Deeds.{Gives, answered}
@@ -117,3 +118,27 @@ module _ {D H : Type 0} (told : D → Option History) (plan : D → Option Fault
       at None (Err other) bare on did =
           subst (λ s. DoesIt leaf note (Some s)) (sym on)
           (unchanged leaf note (bare refl).0 (bare refl).1 did)
+
+-- a command that adds nothing leaves an open wallet as it was, where memory alone may have stopped it
+pub unasked : {D H : Type 0} (told : D → Option History) (plan : D → Option FaultPlan) (faults : D → ℕ)
+    (wallet : WalletState D H) (why : WalletRefusal) (result : Result Given Stop) → wallet.closed ≡ false
+    → (stop_in why ≡ None) ⊎ (why ≡ RefusedMemory) → HandsOn (stop_in why) (wallet_cause why) result
+    → DidEither told plan faults None None wallet (stopped_by result) wallet
+unasked told plan faults wallet why result is_open ends on = at (stop_in why) result (free ends) on
+  where
+    free : (stop_in why ≡ None) ⊎ (why ≡ RefusedMemory) → (stop_in why ≡ None) ⊎ (stop_in why ≡ Some NoMemory)
+    free (inl none) = inl none
+    free (inr starved) = inr (ap stop_in starved)
+
+    at : (stop : Option Stop) (r : Result Given Stop) → (stop ≡ None) ⊎ (stop ≡ Some NoMemory)
+        → HandsOn stop (wallet_cause why) r → DidNote told plan faults None wallet (stopped_by r) wallet
+    at (Some stop) (Ok given) free on = absurd (cc on)
+    at (Some stop) (Err other) (inl none) on = absurd (cc none)
+    at (Some stop) (Err other) (inr starved) on =
+        let memory : NoMemory ≡ other = cc (on, starved) in
+        subst (λ s. DidNote told plan faults None wallet (Some s) wallet) memory
+        (record { did = (is_open, refl); disk = refl; leaves = refl; hash = refl })
+    at None (Ok given) free on = record { did = (is_open, refl); disk = refl; leaves = refl; hash = refl }
+    at None (Err other) free on =
+        subst (λ s. DidNote told plan faults None wallet (Some s) wallet) (sym on)
+        (record { did = (is_open, refl); disk = refl; leaves = refl; hash = refl })

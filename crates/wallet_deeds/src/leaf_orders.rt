@@ -68,10 +68,7 @@ pub fn again<D: Disk, H: Hash32 + Copy>(
 {
     match node.again(coin) {
         Ok(Sent { q, bytes }) => Ok(makes(alloc, Reply::Sent { leaf: q }, bytes)),
-        Err(why) => match refuse(alloc, &why) {
-            Ok(given) => Ok(given),
-            Err(_) => Err(Stop::NoMemory),
-        },
+        Err(why) => refuse(alloc, &why),
     }
 }
 

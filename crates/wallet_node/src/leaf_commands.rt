@@ -1,4 +1,4 @@
-ghost use Rattle.std.specs.Prelude.{◌≡◌, ◌<◌, false, None, Some, IfSome};
+ghost use Rattle.std.specs.Prelude.{◌≡◌, ◌⊎◌, ◌<◌, false, None, Some, IfSome, IfErr};
 ghost use Rattle.node_journal.specs.Effect.{first_cause};
 ghost use Rattle.node_rules.specs.WalletRecords.{leaves_in};
 ghost use Rattle.node_rules.specs.Wallet.{send_causes, send_effect, names_coin, last_leaf, again_answer, migrate_effect};
@@ -129,10 +129,12 @@ impl<D: Disk, H: Hash32 + Copy> WalletNode<D, H> {
     }
 
     /// The transfer of a coin that was signed last, with the same bytes. `NotSending` where no leaf names the
-    /// coin. It makes no device call, also after a device fault. `NoMemory` may come.
+    /// coin. It makes no device call, also after a device fault, so it answers neither `Closed` nor
+    /// `DeviceFault`. `NoMemory` may come.
     #[tactic(auto, unfolding(node_rules::specs::Wallet::again_answer))]
     pub fn again(&self, coin: u64) -> Result<Sent, WalletRefusal>
-        ensures { wallet_stop result ≡ None → result ≡ again_answer self.now.records coin }
+        ensures answer { wallet_stop result ≡ None → result ≡ again_answer self.now.records coin }
+        ensures stops { IfErr result (λ why. (stop_in why ≡ None) ⊎ (why ≡ WalletRefusal.NoMemory)) }
     {
         match self.last_leaf(coin) {
             Some(q) => self.signed_again(q),

@@ -1,11 +1,11 @@
-ghost use Rattle.std.specs.Prelude.{◌≡◌, ◌+◌, ◌<◌, false, true, length, take, None, Some, IfOk, IfSome};
+ghost use Rattle.std.specs.Prelude.{◌≡◌, ◌⊎◌, ◌+◌, ◌<◌, false, true, length, take, None, Some, IfOk, IfErr, IfSome};
 ghost use Rattle.lms_sign.specs.Types.{leaf_count, signature_length};
 ghost use Rattle.lms_sign.specs.Tree.{public_key_of};
 ghost use Rattle.leaf_journal.specs.Records.{is_marked};
 ghost use Rattle.plasma_tx.specs.Spelling.{body_text, body_at_start};
 ghost use Rattle.node_rules.specs.WalletRecords.{secret_of, is_body};
 ghost use Rattle.node_rules.specs.Wallet.{who, used, sent_by, again_by, send_body};
-ghost use Rattle.wallet_node.specs.State.{wallet_stop, DidLeaf};
+ghost use Rattle.wallet_node.specs.State.{stop_in, wallet_stop, DidLeaf};
 ghost use Rattle.wallet_node.specs.Inside.{bind_refusal};
 
 use super::node::WalletNode;
@@ -81,7 +81,8 @@ impl<D: Disk, H: Hash32 + Copy> WalletNode<D, H> {
     // The transfer that a bound leaf signs, again.
     pub(crate) fn signed_again(&self, q: u32) -> Result<Sent, WalletRefusal>
         requires { q < used self.now.records }
-        ensures { wallet_stop result ≡ None → result ≡ again_by self.now.records (Some q) }
+        ensures answer { wallet_stop result ≡ None → result ≡ again_by self.now.records (Some q) }
+        ensures stops { IfErr result (λ why. (stop_in why ≡ None) ⊎ (why ≡ WalletRefusal.NoMemory)) }
     {
         let Some(bound) = self.leaves.again(q) else {
             return Err(WalletRefusal::NotSending);

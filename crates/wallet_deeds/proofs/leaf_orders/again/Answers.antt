@@ -1,9 +1,12 @@
-use Rattle.std.proofs.Common.{Ok}
 use Rattle.world_rules.specs.Deeds.{on_sent_again}
-use Rattle.wallet_deeds.proofs.Outcomes.{err-gives}
+use Rattle.wallet_deeds.proofs.Outcomes.{err-gives, unasked}
 use Rattle.wallet_deeds.proofs.leaf_orders.again.Goals as goal
 
-pub returns-in-Ok-refuse-clause-gives : goal.returns-in-Ok-refuse-clause-gives
-returns-in-Ok-refuse-clause-gives g c = λ n.
-    err-gives n (on_sent_again n) _ c.in-Err.why (Ok c.in-Ok-refuse.given) c.in-Err.ensures
-    c.in-Ok-refuse.ensures
+pub returns-in-Err-clause-gives : goal.returns-in-Err-clause-gives
+returns-in-Err-clause-gives g c = λ n.
+    err-gives n (on_sent_again n) _ c.in-Err.why _ c.in-Err.ensures.answer c.refuse.ensures
+
+pub returns-in-Err-clause-did : goal.returns-in-Err-clause-did
+returns-in-Err-clause-did g c = λ n.
+    unasked g.D.Disk.told g.D.Disk.plan g.D.Disk.faults c.args.node.now c.in-Err.why _ c.requires
+    c.in-Err.ensures.stops c.refuse.ensures
