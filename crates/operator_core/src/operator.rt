@@ -12,10 +12,10 @@ ghost use Rattle.operator_rules.specs.Commands.{offer_effect, lay_effect, seal_e
 
 use super::offering::offer_of;
 use super::pool::Pool;
-use super::rebuild::read_records;
+use super::rebuild::{long_record, read_records};
 use super::records::{Who, laid_record, offered_record, sealed_record};
 use super::role::OperatorRole;
-use super::showing::{bundle_between, bundle_of, opening_at};
+use super::showing::{bundle_between, bundle_of, is_narrow, opening_at};
 use super::trees::Trees;
 use coin_history::Bundle;
 use crash_disk::Disk;
@@ -101,7 +101,7 @@ impl<D: Disk, H: Hash32 + Copy> Operator<D, H> {
     ///
     /// `NotJournal` comes where the image spells no records, or not those of an operator. A refusal hands
     /// the disk back.
-    #[tactic(auto, using(crate::proofs::Opening::given_up))]
+    #[tactic(auto, using(crate::proofs::Opening::given_up, crate::proofs::Opening::not_long))]
     pub fn open_with(alloc: Global, notes: D, h: H) -> Result<Operator<D, H>, Returned<D>>
         ensures opened { IfOk result (λ opened.
             Opened D.told D.plan D.faults (role_in operator_kinds) notes opened.notes) }
@@ -114,6 +114,12 @@ impl<D: Disk, H: Hash32 + Copy> Operator<D, H> {
             Err(returned) => return Err(returned),
         };
         notes.is_whole();
+        if let Some(place) = long_record(notes.records()) {
+            return Err(Returned {
+                disk: notes.take_disk(),
+                why: JournalRefusal::NotJournal { place },
+            });
+        }
         match read_records(alloc, h, notes.records()) {
             Ok((who, pool, trees)) => Ok(Operator {
                 alloc,
@@ -179,7 +185,7 @@ impl<D: Disk, H: Hash32 + Copy> Operator<D, H> {
     /// What block `block` has at a coin, by its tree. It makes no digest.
     ///
     /// `UnknownBlock` comes where no sealed tree has the root of the block, or it isn't a committed one.
-    #[tactic(auto, unfolding(operator_rules::specs::Commands::prove_answer))]
+    #[tactic(auto, using(crate::proofs::Short::short_trees), unfolding(operator_rules::specs::Commands::prove_answer))]
     pub fn prove(&self, log: &RootLog, coin: u64, block: u64) -> Result<RawOpening, ProveRefusal>
         ensures { result ≢ Err ProveRefusal.NoMemory → result
             ≡ prove_answer (H.digest_of self.now.hash) self.now.notes.records log.now.log coin block }
@@ -193,7 +199,7 @@ impl<D: Disk, H: Hash32 + Copy> Operator<D, H> {
     /// `NoCoin` comes where the log has no such coin; then `UnknownBlock` where the tip is neither the
     /// deposit block nor a committed one after it, and where no sealed tree has the root of a committed
     /// block on the way.
-    #[tactic(auto, unfolding(operator_rules::specs::Commands::bundle_answer))]
+    #[tactic(auto, using(crate::proofs::Short::short_trees), unfolding(operator_rules::specs::Commands::bundle_answer))]
     pub fn bundle(&self, log: &RootLog, coin: u64, tip: u64) -> Result<Bundle, ProveRefusal>
         ensures value { result ≢ Err ProveRefusal.NoMemory → result
             ≡ bundle_answer (H.digest_of self.now.hash) self.now.notes.records log.now.log coin tip }
@@ -201,6 +207,9 @@ impl<D: Disk, H: Hash32 + Copy> Operator<D, H> {
         ensures count { IfOk result (λ bundle. length bundle.openings < 2 ^ 32) }
         ensures lengths { IfOk result (λ bundle. All (λ opening. length opening.bytes < 2 ^ 32) bundle.openings) }
     {
+        if !is_narrow(log) {
+            return Err(ProveRefusal::NoMemory);
+        }
         bundle_of(self.alloc, &self.trees, log, &self.who.tag, coin, tip)
     }
 
@@ -209,7 +218,7 @@ impl<D: Disk, H: Hash32 + Copy> Operator<D, H> {
     ///
     /// `UnknownBlock` comes where there are fewer blocks than the last, and where no sealed tree has the
     /// root of a committed block between.
-    #[tactic(auto, unfolding(operator_rules::specs::Commands::absences_answer))]
+    #[tactic(auto, using(crate::proofs::Short::short_trees), unfolding(operator_rules::specs::Commands::absences_answer))]
     pub fn absences(
         &self,
         log: &RootLog,
@@ -225,6 +234,9 @@ impl<D: Disk, H: Hash32 + Copy> Operator<D, H> {
     {
         if log.blocks() < last {
             return Err(ProveRefusal::UnknownBlock { n: last });
+        }
+        if !is_narrow(log) {
+            return Err(ProveRefusal::NoMemory);
         }
         bundle_between(self.alloc, &self.trees, log, coin, after, last)
     }
@@ -376,6 +388,7 @@ impl<D: Disk, H: Hash32 + Copy> Operator<D, H> {
     }
 
     // Adds a record that puts a leaf.
+    #[tactic(auto, using(crate::proofs::Adds::fits_more))]
     fn add_put(&mut self, coin: u64, leaf: &[u8], body: Bytes) -> Result<(), Stop>
         requires { AddsRecord self.old.notes.records body (Some (coin, leaf.now)) }
         ensures did { Did D.told D.plan D.faults (Some body) self.old.notes (stopped_by result) self.new.notes }
