@@ -99,9 +99,10 @@ impl<D: Disk, H: Hash32 + Copy> Operator<D, H> {
     /// the notes, with 65 digests, and one for each node of a sealed tree's part with a leaf. Device calls:
     /// those of `Journal::open`.
     ///
-    /// `NotJournal` comes where the image spells no records, or not those of an operator. A refusal hands
-    /// the disk back.
-    #[tactic(auto, using(crate::proofs::Opening::given_up, crate::proofs::Opening::not_long))]
+    /// `NotJournal` comes where the image spells no records, or not those of an operator. It comes also for a
+    /// record of more than 2^24 bytes, which no disk that tells what it holds gives. A refusal hands the disk
+    /// back.
+    #[tactic(auto, using(crate::proofs::Opening::given_up))]
     pub fn open_with(alloc: Global, notes: D, h: H) -> Result<Operator<D, H>, Returned<D>>
         ensures opened { IfOk result (λ opened.
             Opened D.told D.plan D.faults (role_in operator_kinds) notes opened.notes) }
@@ -185,7 +186,7 @@ impl<D: Disk, H: Hash32 + Copy> Operator<D, H> {
     /// What block `block` has at a coin, by its tree. It makes no digest.
     ///
     /// `UnknownBlock` comes where no sealed tree has the root of the block, or it isn't a committed one.
-    #[tactic(auto, using(crate::proofs::Short::short_trees), unfolding(operator_rules::specs::Commands::prove_answer))]
+    #[tactic(auto, unfolding(operator_rules::specs::Commands::prove_answer))]
     pub fn prove(&self, log: &RootLog, coin: u64, block: u64) -> Result<RawOpening, ProveRefusal>
         ensures { result ≢ Err ProveRefusal.NoMemory → result
             ≡ prove_answer (H.digest_of self.now.hash) self.now.notes.records log.now.log coin block }
@@ -198,8 +199,8 @@ impl<D: Disk, H: Hash32 + Copy> Operator<D, H> {
     ///
     /// `NoCoin` comes where the log has no such coin; then `UnknownBlock` where the tip is neither the
     /// deposit block nor a committed one after it, and where no sealed tree has the root of a committed
-    /// block on the way.
-    #[tactic(auto, using(crate::proofs::Short::short_trees), unfolding(operator_rules::specs::Commands::bundle_answer))]
+    /// block on the way. `NoMemory` may come, and comes before these where the log has 2^32 blocks or more.
+    #[tactic(auto, unfolding(operator_rules::specs::Commands::bundle_answer))]
     pub fn bundle(&self, log: &RootLog, coin: u64, tip: u64) -> Result<Bundle, ProveRefusal>
         ensures value { result ≢ Err ProveRefusal.NoMemory → result
             ≡ bundle_answer (H.digest_of self.now.hash) self.now.notes.records log.now.log coin tip }
@@ -217,8 +218,9 @@ impl<D: Disk, H: Hash32 + Copy> Operator<D, H> {
     /// no digest.
     ///
     /// `UnknownBlock` comes where there are fewer blocks than the last, and where no sealed tree has the
-    /// root of a committed block between.
-    #[tactic(auto, using(crate::proofs::Short::short_trees), unfolding(operator_rules::specs::Commands::absences_answer))]
+    /// root of a committed block between. `NoMemory` may come, and comes before the second where the log has
+    /// 2^32 blocks or more.
+    #[tactic(auto, unfolding(operator_rules::specs::Commands::absences_answer))]
     pub fn absences(
         &self,
         log: &RootLog,
