@@ -2,7 +2,9 @@
 use Rattle.std.proofs.Common.{◌≡◌, ℕ, ◌^◌, ◌<◌, true, false, List, [], ◌∷◌, ◌++◌, length, length-append, Some, None, Ok, Err, refl, sym, ap, ◌∙◌, arith}
 use Rattle.std.specs.Prelude.{nat_lt, ◌≤◌}
 use Rattle.std.proofs.lemmas.Bool.{le-ltb, lt-ltb}
+use Rattle.std.proofs.lemmas.List.Elements.{All-push}
 use Rattle.node_journal.specs.Effect.{only}
+use Rattle.node_journal.specs.Image.{most}
 use Rattle.node_journal.specs.Role.{are_of}
 use Rattle.plasma_tx.specs.declared.call.RootCall.{RootCall}
 use Rattle.plasma_tx.specs.Spelling.{number_text}
@@ -18,7 +20,7 @@ use Rattle.node_journal.specs.declared.stop.Stop.{Stop}
 use Rattle.node_journal.specs.declared.stop.Stop.TheVariants.{Closed, NoMemory, DeviceFault}
 use Rattle.operator_core.specs.declared.records.Who.{Who}
 use Rattle.operator_core.specs.State.{lay_stop}
-use Rattle.operator_core.specs.Inside.{PoolState, TreesState, IsRight, AddsRecord, lay_refusal}
+use Rattle.operator_core.specs.Inside.{PoolState, TreesState, FitJournal, IsRight, AddsRecord, lay_refusal}
 use Rattle.operator_core.specs.Texts.{put_of, with_put}
 use Rattle.operator_core.proofs.Rebuilt.{with_put-is}
 
@@ -110,6 +112,10 @@ lay_stop-refusal DeviceFault = refl
 
 -- ---- what is kept, once the pool was sealed
 
+pub fits_more : (records : List (List ℕ)) (body : List ℕ) → FitJournal records → length body ≤ most
+    → FitJournal (records ++ body ∷ [])
+fits_more = All-push (λ (body : List ℕ). length body ≤ most)
+
 pub right_sealed : {H : Type 0} (hash : H) (records now : List (List ℕ)) (body : List ℕ) (who : Who)
     (pool undone taken : PoolState H) (trees roomy pushed : TreesState H) (tree : HashedMap H)
     → IsRight hash records who pool trees → AddsRecord records body None → now ≡ records ++ body ∷ []
@@ -131,4 +137,5 @@ right_sealed hash records now body who pool undone taken trees roomy pushed tree
           ∙ sym (ap (λ (f : Forest). f.sealed) adds.forest);
       pool_hash = same_pool ∙ right.pool_hash;
       trees_hash = same_pushed ∙ same_trees ∙ right.trees_hash;
+      fits = fits_more records body right.fits adds.fits;
     })

@@ -2,6 +2,7 @@ pub mod Texts
 pub mod Undone
 pub mod Places
 pub mod Rebuilt
+pub mod Short
 pub mod Ways
 pub mod Opening
 pub mod Adds

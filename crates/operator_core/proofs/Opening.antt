@@ -1,12 +1,14 @@
 -- Openings and beginnings that are given up for want of memory.
-use Rattle.std.proofs.Common.{◌≡◌, ℕ, List, [], length, Option, Some, None, option_map, Result, Err, refl, inl, arith}
+use Rattle.std.proofs.Common.{◌≡◌, ℕ, List, [], length, Option, Some, None, option_map, Result, Err, refl, ap, ◌∙◌, inl, arith}
 use Rattle.crash_disk.specs.Disk.{Step, History, content, FaultPlan}
-use Rattle.crash_disk.specs.Calls.{stopped_after, after_course, Made}
+use Rattle.crash_disk.specs.Calls.{passed, stopped_after, after_course, Made}
 use Rattle.crash_disk.proofs.Calls.{made_stop}
-use Rattle.node_journal.specs.declared.refusal.JournalRefusal.TheVariants.{NoMemory as JournalNoMemory}
+use Rattle.node_journal.specs.declared.refusal.JournalRefusal.TheVariants.{NotJournal, NoMemory as JournalNoMemory}
 use Rattle.node_journal.specs.declared.refusal.InitRefusal.TheVariants.{NoMemory}
 use Rattle.node_journal.specs.Begin.{Inits, BeginsPair}
 use Rattle.node_journal.specs.Notes.{NotesState, Opened, RefusesRole}
+use Rattle.node_journal.specs.Steps.{open_steps}
+use Rattle.operator_core.specs.Inside.{FitJournal}
 
 pub given_up : {D : Type 0} (told : D → Option History) (plan : D → Option FaultPlan) (faults : D → ℕ)
     (read : List ℕ → Result (List (List ℕ)) ℕ) (old : D) (new : NotesState D)
@@ -19,6 +21,22 @@ given_up told plan faults read old new opened = record {
       calls = opened.made.calls;
       planned = (omega arith, opened.made.planned.0, opened.made.planned.1);
     },
+  );
+  count = opened.count;
+}
+
+-- records that were read from a disk that tells what it holds fit a journal
+pub not_long : {D : Type 0} (told : D → Option History) (plan : D → Option FaultPlan) (faults : D → ℕ)
+    (read : List ℕ → Result (List (List ℕ)) ℕ) (old : D) (new : NotesState D) (records : List (List ℕ)) (place : ℕ)
+    → Opened told plan faults read old new → records ≡ new.records → (FitJournal records → ⊥)
+    → RefusesRole told plan faults read old (NotJournal place) new.disk
+not_long told plan faults read old new records place opened same long = record {
+  refused = (
+    opened.made,
+    λ before is. absurd (long (rw same (opened.settled
+        (after_course passed (open_steps (content before)) before)
+        (opened.made.calls ∙ ap (λ (t : Option History). option_map (λ (b : History). after_course passed
+        (open_steps (content b)) b) t) is)).kept.fits)),
   );
   count = opened.count;
 }

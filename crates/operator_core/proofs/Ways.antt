@@ -1,8 +1,9 @@
 -- The committed blocks one after another.
-use Rattle.std.proofs.Common.{◌≡◌, ℕ, zero, suc, ◌+◌, ◌-◌, ◌<◌, ◌≤◌, ◌^◌, Bool, true, false, if◌then◌else◌, List, [], ◌∷◌, ◌++◌, length, filter, Option, Some, None, Result, Ok, Err, refl, sym, ap, ◌∙◌, inl, inr, arith, append-nil}
+use Rattle.std.proofs.Common.{◌≡◌, ℕ, zero, suc, ◌+◌, ◌-◌, ◌<◌, ◌≤◌, ◌^◌, not, Bool, true, false, if◌then◌else◌, List, [], ◌∷◌, ◌++◌, length, filter, Option, Some, None, Result, Ok, Err, refl, sym, ap, ◌∙◌, inl, inr, arith, append-nil}
 use Rattle.std.specs.List.{range_with_len, All, AllPairs}
 use Rattle.std.proofs.lemmas.List.{get_or-map, length-map}
 use Rattle.std.proofs.lemmas.List.FromFn.{length-range_with_len, get_or-range_with_len}
+use Rattle.std.proofs.lemmas.List.Filters.{length-filter_both}
 use Rattle.std.proofs.lemmas.List.Kept.{AllPairs-filter}
 use Rattle.std.proofs.lemmas.Bool.{cases_lt, lt-ltb, le-ltb}
 use Rattle.std.proofs.lemmas.List.Elements.{filter-append, All-nil, All-push}
@@ -13,6 +14,7 @@ use Rattle.plasma_tx.specs.declared.views.CoinView.{CoinView}
 use Rattle.plasma_tx.specs.Views.{blocks}
 use Rattle.coin_history.specs.History.{is_committed, committed_blocks, blocks_of}
 use Rattle.coin_history.specs.Bundles.{AreRising}
+use Rattle.coin_history.proofs.HistoryGrow.{committed-le}
 use Rattle.operator_rules.specs.declared.refusal.ProveRefusal.{ProveRefusal}
 use Rattle.operator_rules.specs.Trees.{tree_at, opening_in_tree}
 use Rattle.operator_rules.specs.Walk.{start_of, moved_by, transfer_at, place_at, present}
@@ -223,7 +225,10 @@ module _ (dig : List ℕ → List ℕ) (log : List RootCall) (sealed : List (Lis
 
 pub ruleset openings_steps = (openings_none, openings_skip, openings_more, openings_fail, openings_last)
 
--- ---- openings are short
+-- ---- openings are few, and short
+
+pub within_blocks : (log : List RootCall) (n : ℕ) → is_committed log n ≡ true → n ≤ blocks log
+within_blocks = committed-le
 
 abbrev AreShort : List RawOpening → Type 0
 AreShort openings = All (λ opening. length opening.bytes < 2 ^ 32) openings
@@ -264,6 +269,22 @@ module _ (dig : List ℕ → List ℕ) (log : List RootCall) (sealed : List (Lis
       openings is in
       ap (λ (os : List RawOpening). blocks_of os) (sym p.whole)
       ∙ (λ i. opening-block n (tree_at dig log sealed n) p.first p.first_is i ∷ blocks-are ns p.rest p.rest_is i)
+
+  pub few_openings : (after last : ℕ) (openings : List RawOpening)
+      → openings_of dig log sealed coin (committed_blocks log after last) ≡ Ok openings → length openings ≤ last
+  unfolding committed_blocks
+  few_openings after last openings is =
+      let blocks-is = blocks-are (committed_blocks log after last) openings is in
+      let long : length (blocks_of openings) ≡ length (committed_blocks log after last) =
+      ap (λ (ns : List ℕ). length ns) blocks-is in
+      omega (
+        arith,
+        long,
+        length-map openings (λ (opening : RawOpening). opening.block),
+        length-filter_both (is_committed log) (λ n. not (is_committed log n)) (λ n. refl)
+            (range_with_len (after + 1) (last - after)),
+        length-range_with_len (after + 1) (last - after),
+      )
 
   pub between_rise : (after last : ℕ) (openings : List RawOpening)
       → openings_of dig log sealed coin (committed_blocks log after last) ≡ Ok openings → AreRising openings

@@ -1,11 +1,11 @@
 -- The pool and the sealed trees as the operator keeps them.
 use Rattle.std.specs.Prelude.{◌≡◌, ◌≤◌, ◌&&◌, not, ℕ, Bool, true, [], ◌∷◌, ◌++◌, if◌then◌else◌, List, length, map, reverse, Option, Some, None}
 use Rattle.std.specs.HashMap.{HashMap, get}
-use Rattle.std.specs.List.{All, filter_map, position_from}
+use Rattle.std.specs.List.{All, AllByRecursion, filter_map, position_from}
 use Rattle.std.specs.Str.{bytes_eq}
 use Rattle.merkle_pages.specs.Nodes.{HashedMap}
 use Rattle.sparse_merkle.specs.declared.tree.Entry.{Entry}
-use Rattle.sparse_merkle.specs.TreeDigest.{root_of}
+use Rattle.sparse_merkle.specs.TreeDigest.{leaf_of, root_of}
 use Rattle.node_journal.specs.Image.{most}
 use Rattle.node_journal.specs.Role.{may_follow}
 use Rattle.node_journal.specs.declared.stop.Stop.{Stop}
@@ -63,8 +63,19 @@ forest_now pool trees = record { pool = pool.entries; sealed = trees.sealed }
 abbrev pub notes_among : List ℕ → List (List ℕ) → List Note
 notes_among tag records = reverse (filter_map (note_in tag) records)
 
+-- each record fits a journal
+abbrev pub FitJournal : List (List ℕ) → Type 0
+FitJournal records = All (λ body. length body ≤ most) records
+
+-- each leaf of a tree, and of each of these, fits a journal's record
+abbrev pub HasShortLeaves : List Entry → Type 0
+HasShortLeaves tree = (coin : ℕ) → length (leaf_of tree coin) ≤ most
+
+abbrev pub AreShortTrees : List (List Entry) → Type 0
+AreShortTrees sealed = AllByRecursion HasShortLeaves sealed
+
 -- what an operator keeps beside its records is of them: the identity, the pool and the sealed trees; both were made
--- with its digest
+-- with its digest; and each record fits a journal
 pub record IsRight {H : Type 0} (hash : H) (records : List (List ℕ)) (who : Who) (pool : PoolState H)
     (trees : TreesState H) : Type 0 where
   pub who_is : identity_of_who who ≡ who_is records
@@ -72,6 +83,7 @@ pub record IsRight {H : Type 0} (hash : H) (records : List (List ℕ)) (who : Wh
   pub sealed_is : trees.sealed ≡ (forest_in records).sealed
   pub pool_hash : pool.hash ≡ hash
   pub trees_hash : trees.hash ≡ hash
+  pub fits : FitJournal records
 
 -- the record fits a journal, may be added to these, and does so much to what they leave
 pub record AddsRecord (records : List (List ℕ)) (body : List ℕ) (put : Option (ℕ × List ℕ)) : Type 0 where

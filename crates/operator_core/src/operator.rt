@@ -12,10 +12,10 @@ ghost use Rattle.operator_rules.specs.Commands.{offer_effect, lay_effect, seal_e
 
 use super::offering::offer_of;
 use super::pool::Pool;
-use super::rebuild::read_records;
+use super::rebuild::{long_record, read_records};
 use super::records::{Who, laid_record, offered_record, sealed_record};
 use super::role::OperatorRole;
-use super::showing::{bundle_between, bundle_of, opening_at};
+use super::showing::{bundle_between, bundle_of, is_narrow, opening_at};
 use super::trees::Trees;
 use coin_history::Bundle;
 use crash_disk::Disk;
@@ -99,8 +99,9 @@ impl<D: Disk, H: Hash32 + Copy> Operator<D, H> {
     /// the notes, with 65 digests, and one for each node of a sealed tree's part with a leaf. Device calls:
     /// those of `Journal::open`.
     ///
-    /// `NotJournal` comes where the image spells no records, or not those of an operator. A refusal hands
-    /// the disk back.
+    /// `NotJournal` comes where the image spells no records, or not those of an operator. It comes also for a
+    /// record of more than 2^24 bytes, which no disk that tells what it holds gives. A refusal hands the disk
+    /// back.
     #[tactic(auto, using(crate::proofs::Opening::given_up))]
     pub fn open_with(alloc: Global, notes: D, h: H) -> Result<Operator<D, H>, Returned<D>>
         ensures opened { IfOk result (λ opened.
@@ -114,6 +115,12 @@ impl<D: Disk, H: Hash32 + Copy> Operator<D, H> {
             Err(returned) => return Err(returned),
         };
         notes.is_whole();
+        if let Some(place) = long_record(notes.records()) {
+            return Err(Returned {
+                disk: notes.take_disk(),
+                why: JournalRefusal::NotJournal { place },
+            });
+        }
         match read_records(alloc, h, notes.records()) {
             Ok((who, pool, trees)) => Ok(Operator {
                 alloc,
@@ -192,7 +199,7 @@ impl<D: Disk, H: Hash32 + Copy> Operator<D, H> {
     ///
     /// `NoCoin` comes where the log has no such coin; then `UnknownBlock` where the tip is neither the
     /// deposit block nor a committed one after it, and where no sealed tree has the root of a committed
-    /// block on the way.
+    /// block on the way. `NoMemory` may come, and comes before these where the log has 2^32 blocks or more.
     #[tactic(auto, unfolding(operator_rules::specs::Commands::bundle_answer))]
     pub fn bundle(&self, log: &RootLog, coin: u64, tip: u64) -> Result<Bundle, ProveRefusal>
         ensures value { result ≢ Err ProveRefusal.NoMemory → result
@@ -201,6 +208,9 @@ impl<D: Disk, H: Hash32 + Copy> Operator<D, H> {
         ensures count { IfOk result (λ bundle. length bundle.openings < 2 ^ 32) }
         ensures lengths { IfOk result (λ bundle. All (λ opening. length opening.bytes < 2 ^ 32) bundle.openings) }
     {
+        if !is_narrow(log) {
+            return Err(ProveRefusal::NoMemory);
+        }
         bundle_of(self.alloc, &self.trees, log, &self.who.tag, coin, tip)
     }
 
@@ -208,7 +218,8 @@ impl<D: Disk, H: Hash32 + Copy> Operator<D, H> {
     /// no digest.
     ///
     /// `UnknownBlock` comes where there are fewer blocks than the last, and where no sealed tree has the
-    /// root of a committed block between.
+    /// root of a committed block between. `NoMemory` may come, and comes before the second where the log has
+    /// 2^32 blocks or more.
     #[tactic(auto, unfolding(operator_rules::specs::Commands::absences_answer))]
     pub fn absences(
         &self,
@@ -225,6 +236,9 @@ impl<D: Disk, H: Hash32 + Copy> Operator<D, H> {
     {
         if log.blocks() < last {
             return Err(ProveRefusal::UnknownBlock { n: last });
+        }
+        if !is_narrow(log) {
+            return Err(ProveRefusal::NoMemory);
         }
         bundle_between(self.alloc, &self.trees, log, coin, after, last)
     }
@@ -376,6 +390,7 @@ impl<D: Disk, H: Hash32 + Copy> Operator<D, H> {
     }
 
     // Adds a record that puts a leaf.
+    #[tactic(auto, using(crate::proofs::Adds::fits_more))]
     fn add_put(&mut self, coin: u64, leaf: &[u8], body: Bytes) -> Result<(), Stop>
         requires { AddsRecord self.old.notes.records body (Some (coin, leaf.now)) }
         ensures did { Did D.told D.plan D.faults (Some body) self.old.notes (stopped_by result) self.new.notes }

@@ -1,9 +1,9 @@
-ghost use Rattle.std.specs.Prelude.{◌≡◌, [], true, drop, IfOk, OnOk, option_map};
+ghost use Rattle.std.specs.Prelude.{◌≡◌, [], true, drop, None, IfOk, IfSome, OnOk, option_map};
 ghost use Rattle.std.specs.Option.{unwrap_or};
 ghost use Rattle.operator_rules.specs.Trees.{forest_of};
 ghost use Rattle.node_journal.specs.Role.{are_of};
 ghost use Rattle.operator_rules.specs.Records.{operator_kinds, who_is};
-ghost use Rattle.operator_core.specs.Inside.{forest_now, notes_among, IsRight};
+ghost use Rattle.operator_core.specs.Inside.{forest_now, notes_among, FitJournal, IsRight};
 ghost use Rattle.operator_core.specs.Texts.{identity_of_who, put_of_change, changed};
 
 use super::pool::Pool;
@@ -12,6 +12,9 @@ use super::trees::Trees;
 use merkle_pages::Defaults;
 use plasma_base::{Bytes, Hash32, NoMemory};
 use std::alloc::Global;
+
+// The most bytes of a journal's record.
+const MOST_BYTES: usize = 1 << 24;
 
 // What a note does to the pool and the trees. Where memory runs out no tree changes.
 fn apply<H: Hash32 + Copy>(
@@ -76,13 +79,30 @@ fn who_is(records: &[Bytes]) -> Who
     who
 }
 
+/// The place of the gate of the first record that is longer than those of a journal, if there is one. A disk
+/// that tells what it holds never gives one; of another disk nothing that is known of its records says so.
+pub fn long_record(records: &[Bytes]) -> Option<u64>
+    ensures none { result ≡ None → FitJournal records.now }
+    ensures some { IfSome result (λ place. FitJournal records.now → ⊥) }
+{
+    let mut place = 4u64;
+    'records: for record in records {
+        if record.len() > MOST_BYTES {
+            return Some(place);
+        }
+        place = place.saturating_add(5 + record.len() as u64);
+    }
+    None
+}
+
 /// What records of the role leave: whose they are, the pool and the trees.
 pub fn read_records<H: Hash32 + Copy>(
     alloc: Global,
     h: H,
     records: &[Bytes],
 ) -> Result<(Who, Pool<H>, Trees<H>), NoMemory>
-    requires { are_of operator_kinds records.now ≡ true }
+    requires role { are_of operator_kinds records.now ≡ true }
+    requires fits { FitJournal records.now }
     ensures { IfOk result (λ read. IsRight h records.now read.0 read.1 read.2) }
 {
     let who = who_is(records);

@@ -1,5 +1,7 @@
-ghost use Rattle.std.specs.Prelude.{◌≡◌, ◌≢◌, ◌<◌, ◌^◌, ◌++◌, ◌∷◌, [], length, IfOk, IfErr, OnOk, OnErr, Ok, Err};
+ghost use Rattle.std.specs.Prelude.{◌≡◌, ◌≢◌, ◌<◌, ◌≤◌, ◌^◌, ◌+◌, ◌++◌, ◌∷◌, [], true, false, length, IfOk, IfErr, OnOk, OnErr, Ok, Err};
 ghost use Rattle.std.specs.List.{All};
+ghost use Rattle.node_journal.specs.Image.{most};
+ghost use Rattle.sparse_merkle.specs.TreeDigest.{leaf_of};
 ghost use Rattle.plasma_tx.specs.Views.{blocks, coin_at};
 ghost use Rattle.coin_history.specs.History.{committed_blocks};
 ghost use Rattle.coin_history.specs.Bundles.{AreRising};
@@ -7,6 +9,7 @@ ghost use Rattle.coin_history.specs.Checking.{may_be_tip};
 ghost use Rattle.operator_rules.specs.Walk.{present};
 ghost use Rattle.operator_rules.specs.Trees.{opening_in_tree, tree_at};
 ghost use Rattle.operator_rules.specs.Commands.{prove_by, openings_of, bundle_between, tip_asked, bundle_of};
+ghost use Rattle.operator_core.specs.Inside.{AreShortTrees};
 
 use super::pool::copy_of;
 use super::trees::Trees;
@@ -18,34 +21,36 @@ use plasma_base::{Hash32, NoMemory};
 use plasma_tx::{CoinView, Opening, RawOpening, RootLog};
 use std::alloc::Global;
 
-// What a tree has at a coin, as the opening of block n. A leaf or an opening of 2^32 bytes or more, which no
-// journal's record leaves, is answered as want of memory: nothing that is kept says how long a leaf is.
+// What a tree has at a coin, as the opening of block n.
 fn opening_in_tree<H: Hash32 + Copy>(
     alloc: Global,
     tree: &PagedTree<H>,
     coin: u64,
     n: u64,
 ) -> Result<RawOpening, NoMemory>
+    requires { length (leaf_of tree.now.entries coin) ≤ most }
     ensures is { IfOk result (λ raw. raw ≡ opening_in_tree (H.digest_of tree.now.hash) coin n tree.now.entries) }
     ensures short { IfOk result (λ raw. length raw.bytes < 2 ^ 32) }
 {
-    let leaf = tree.leaf(coin);
-    if leaf.len() > u32::MAX as usize {
-        return Err(NoMemory);
-    }
     let opening = Opening {
         block: n,
-        leaf: copy_of(alloc, leaf)?,
+        leaf: copy_of(alloc, tree.leaf(coin))?,
         proof: tree.prove(coin)?,
     };
-    let raw = opening.write(alloc)?;
-    if raw.bytes.len() > u32::MAX as usize {
-        return Err(NoMemory);
-    }
-    Ok(raw)
+    Ok(opening.write(alloc)?)
+}
+
+/// Whether a log has so few blocks that the count of a bundle, which is 32 bits, tells as many openings. The most
+/// blocks that a chain may allow are so few; a log that was read from outside may have more than its chain allows.
+pub fn is_narrow(log: &RootLog) -> bool
+    ensures narrow { result ≡ true → blocks log.now.log < 2 ^ 32 }
+    ensures wide { result ≡ false → 2 ^ 32 ≤ blocks log.now.log }
+{
+    log.blocks() < 4_294_967_296
 }
 
 /// What the tree of block n has at a coin.
+#[tactic(auto, using(crate::proofs::Short::short_found))]
 pub fn opening_at<H: Hash32 + Copy>(
     alloc: Global,
     trees: &Trees<H>,
@@ -53,6 +58,7 @@ pub fn opening_at<H: Hash32 + Copy>(
     coin: u64,
     n: u64,
 ) -> Result<RawOpening, ProveRefusal>
+    requires { AreShortTrees trees.now.sealed }
     ensures value { result ≢ Err ProveRefusal.NoMemory → result ≡ prove_by (H.digest_of trees.now.hash) coin n
         (tree_at (H.digest_of trees.now.hash) log.now.log trees.now.sealed n) }
     ensures short { IfOk result (λ raw. length raw.bytes < 2 ^ 32) }
@@ -66,16 +72,13 @@ pub fn opening_at<H: Hash32 + Copy>(
     }
 }
 
-// Adds an opening at the end. Where there are 2^32 - 1 already, no bundle has bytes with one more, which is
-// answered as want of memory; a log's type allows more blocks.
+// Adds an opening at the end.
 fn push(openings: &mut Vec<RawOpening>, opening: RawOpening) -> Result<(), ProveRefusal>
+    requires { length openings.old.items + 1 < 2 ^ 32 }
     ensures ok { OnOk result (openings.new.items ≡ openings.old.items ++ opening ∷ []) }
     ensures count { OnOk result (length openings.new.items < 2 ^ 32) }
     ensures err { OnErr result (result ≡ Err ProveRefusal.NoMemory) }
 {
-    if openings.len() >= u32::MAX as usize {
-        return Err(ProveRefusal::NoMemory);
-    }
     match openings.push(opening) {
         Ok(()) => Ok(()),
         Err(_) => Err(ProveRefusal::NoMemory),
@@ -92,6 +95,8 @@ fn openings_between<H: Hash32 + Copy>(
     after: u64,
     last: u64,
 ) -> Result<Vec<RawOpening>, ProveRefusal>
+    requires short { AreShortTrees trees.now.sealed }
+    requires narrow { blocks log.now.log < 2 ^ 32 }
     ensures count { IfOk result (λ openings. length openings.items < 2 ^ 32) }
     ensures lengths { IfOk result (λ openings. All (λ opening. length opening.bytes < 2 ^ 32) openings.items) }
     ensures made { IfOk result (λ openings.
@@ -123,6 +128,8 @@ pub fn bundle_between<H: Hash32 + Copy>(
     after: u64,
     last: u64,
 ) -> Result<Bundle, ProveRefusal>
+    requires short { AreShortTrees trees.now.sealed }
+    requires narrow { blocks log.now.log < 2 ^ 32 }
     ensures value { result ≢ Err ProveRefusal.NoMemory → result
         ≡ bundle_between (H.digest_of trees.now.hash) log.now.log trees.now.sealed coin after last }
     ensures rising { IfOk result (λ bundle. AreRising bundle.openings) }
@@ -177,6 +184,8 @@ pub fn bundle_of<H: Hash32 + Copy>(
     coin: u64,
     tip: u64,
 ) -> Result<Bundle, ProveRefusal>
+    requires short { AreShortTrees trees.now.sealed }
+    requires narrow { blocks log.now.log < 2 ^ 32 }
     ensures value { result ≢ Err ProveRefusal.NoMemory → result
         ≡ bundle_of (H.digest_of trees.now.hash) tag.now log.now.log trees.now.sealed coin tip
         (coin_at log.now.log coin) }

@@ -18,4 +18,5 @@ returns g c =
       sealed_is = ap (λ (f : Forest). f.sealed) forest;
       pool_hash = c.in_ok-pool.ensures.pool_hash;
       trees_hash = c.in_ok-pool.ensures.trees_hash;
+      fits = c.requires.fits;
     }

@@ -1,0 +1,130 @@
+-- The leaves of a pool and of sealed trees fit a journal's record, as the records do that they come from.
+use Rattle.std.proofs.Common.{◌≡◌, ◌≢◌, ◌⊎◌, ℕ, ◌≤◌, ◌==◌, ◌&&◌, Bool, true, false, if◌then◌else◌, List, [], ◌∷◌, ◌++◌, length, drop, All, Option, Some, None, refl, sym, ap, ◌∙◌, subst, inl, inr, append-nil, append_assoc, length-drop, arith}
+use Rattle.std.specs.Prelude.{IfSome, nat_le}
+use Rattle.std.specs.List.{AllByRecursion}
+use Rattle.std.specs.Option.{option_map, option_and_then}
+use Rattle.std.specs.Str.{bytes_eq}
+use Rattle.std.proofs.lemmas.Bool.{cases_eq}
+use Rattle.std.proofs.lemmas.List.Elements.{All-nil, All-head, All-tail}
+use Rattle.node_journal.specs.Image.{most}
+use Rattle.sparse_merkle.specs.declared.tree.Entry.{Entry}
+use Rattle.sparse_merkle.specs.TreeDigest.{leaf_of, with_leaf, root_of}
+use Rattle.sparse_merkle.proofs.TreeLaws.{leaf_of-with_leaf, leaf_of-with_other}
+use Rattle.plasma_tx.specs.declared.call.RootCall.{RootCall}
+use Rattle.plasma_tx.specs.Shown.{root_at}
+use Rattle.plasma_tx.specs.Spelling.{number_at}
+use Rattle.plasma_tx.proofs.Each.{all-append, all-found}
+use Rattle.operator_rules.specs.Records.{Note, Offered, Laid, Sealed, note_in, notes_of, who_is, spells_transfer}
+use Rattle.operator_rules.specs.Trees.{Forest, forest_of, after_note, tree_of, tree_at, coin_named}
+use Rattle.operator_rules.specs.Commands.{forest_in}
+use Rattle.operator_core.specs.declared.records.Who.{Who}
+use Rattle.operator_core.specs.Inside.{PoolState, TreesState, FitJournal, HasShortLeaves, AreShortTrees, IsRight, notes_among}
+use Rattle.operator_core.specs.Texts.{put_of, changed}
+use Rattle.operator_core.proofs.Rebuilt.{with_put-is, forest-push}
+
+-- the leaf that a note puts fits
+NoteFits : Note → Type 0
+NoteFits (Offered bytes) = length bytes ≤ most
+NoteFits (Laid coin bytes) = length bytes ≤ most
+NoteFits Sealed = Unit {0}
+
+note-fits : (tag body : List ℕ) → length body ≤ most → IfSome (note_in tag body) NoteFits
+unfolding note_in NoteFits
+note-fits tag [] le = tt
+note-fits tag (mark ∷ bytes) le =
+    elim ((mark == 34) && spells_transfer tag bytes) as (λ b. IfSome (if b then Some (Offered bytes)
+    else if (mark == 35) && nat_le 8 (length bytes) then Some (Laid (number_at bytes 0) (drop 8 bytes))
+    else if (mark == 36) && (length bytes == 0) then Some Sealed else None) NoteFits) [
+      | true ↦ omega arith
+      | false ↦ elim ((mark == 35) && nat_le 8 (length bytes)) as (λ b. IfSome (if b
+          then Some (Laid (number_at bytes 0) (drop 8 bytes))
+          else if (mark == 36) && (length bytes == 0) then Some Sealed else None) NoteFits) [
+            | true ↦ omega (arith, length-drop 8 bytes)
+            | false ↦ elim ((mark == 36) && (length bytes == 0)) as (λ b. IfSome (if b then Some Sealed else None)
+                NoteFits) [
+                  | true ↦ tt
+                  | false ↦ tt
+                ]
+          ]
+    ]
+
+-- the leaves of the pool, and of each sealed tree
+record IsShort (forest : Forest) : Type 0 where
+  pool : HasShortLeaves forest.pool
+  sealed : AreShortTrees forest.sealed
+
+none-short : HasShortLeaves []
+unfolding leaf_of
+none-short coin = omega arith
+
+with-short : (entries : List Entry) (coin : ℕ) (leaf : List ℕ) → HasShortLeaves entries → length leaf ≤ most
+    → HasShortLeaves (with_leaf entries coin leaf)
+with-short entries coin leaf short fits other = elim (cases_eq other coin) [
+  | inl here ↦
+      subst (λ (c : ℕ). length (leaf_of (with_leaf entries coin leaf) c) ≤ most) (sym here)
+      (subst (λ (l : List ℕ). length l ≤ most) (sym (leaf_of-with_leaf entries coin leaf)) fits)
+  | inr apart ↦
+      subst (λ (l : List ℕ). length l ≤ most) (sym (leaf_of-with_other entries coin other leaf apart)) (short other)
+]
+
+short-note : (note : Note) (forest : Forest) → NoteFits note → IsShort forest → IsShort (after_note note forest)
+unfolding NoteFits
+short-note (Offered bytes) forest fits short =
+    record { pool = with-short forest.pool (coin_named bytes) bytes short.pool fits; sealed = short.sealed }
+short-note (Laid coin bytes) forest fits short =
+    record { pool = with-short forest.pool coin bytes short.pool fits; sealed = short.sealed }
+short-note Sealed forest fits short = record {
+  pool = none-short;
+  sealed = all-append HasShortLeaves forest.sealed forest.pool short.sealed short.pool;
+}
+
+short-change : (found : Option Note) (forest : Forest) → IfSome found NoteFits → IsShort forest
+    → IsShort (changed (option_map put_of found) forest)
+short-change None forest fits short = short
+short-change (Some note) forest fits short =
+    subst IsShort (sym (with_put-is note forest)) (short-note note forest fits short)
+
+short-more : (tag : List ℕ) (front rest : List (List ℕ)) → IsShort (forest_of (notes_among tag front))
+    → FitJournal rest → IsShort (forest_of (notes_among tag (front ++ rest)))
+short-more tag front [] short fits =
+    subst (λ (bodies : List (List ℕ)). IsShort (forest_of (notes_among tag bodies))) (sym (append-nil front)) short
+short-more tag front (body ∷ rest) short fits =
+    let here : length body ≤ most = All-head (λ (b : List ℕ). length b ≤ most) body rest fits in
+    let more : IsShort (forest_of (notes_among tag (front ++ body ∷ []))) =
+    subst IsShort (sym (forest-push tag front body))
+    (short-change (note_in tag body) (forest_of (notes_among tag front)) (note-fits tag body here) short) in
+    subst (λ (bodies : List (List ℕ)). IsShort (forest_of (notes_among tag bodies)))
+    (append_assoc front (body ∷ []) rest)
+    (short-more tag (front ++ body ∷ []) rest more (All-tail (λ (b : List ℕ). length b ≤ most) body rest fits))
+
+no-notes : (tag : List ℕ) → IsShort (forest_of (notes_among tag []))
+unfolding forest_of
+no-notes tag = record { pool = none-short; sealed = tt }
+
+fits-behind : (records : List (List ℕ)) → FitJournal records → FitJournal (drop 1 records)
+fits-behind [] fits = fits
+fits-behind (body ∷ bodies) fits = All-tail (λ (b : List ℕ). length b ≤ most) body bodies fits
+
+short-records : (records : List (List ℕ)) → FitJournal records → IsShort (forest_in records)
+unfolding notes_of
+short-records records fits =
+    short-more (who_is records).tag [] (drop 1 records) (no-notes (who_is records).tag) (fits-behind records fits)
+
+-- of what an operator keeps
+pub short_trees : {H : Type 0} (hash : H) (records : List (List ℕ)) (who : Who) (pool : PoolState H)
+    (trees : TreesState H) → IsRight hash records who pool trees → AreShortTrees trees.sealed
+short_trees hash records who pool trees right =
+    subst AreShortTrees (sym right.sealed_is) (short-records records right.fits).sealed
+
+-- and of the tree of a block
+pub short_found : (dig : List ℕ → List ℕ) (log : List RootCall) (sealed : List (List Entry)) (n coin : ℕ)
+    (tree : List Entry) → AreShortTrees sealed → Some tree ≡ tree_at dig log sealed n
+    → length (leaf_of tree coin) ≤ most
+unfolding tree_of
+short_found dig log sealed n coin tree short is = at (root_at log n) is
+  where
+    at : (root : Option (List ℕ)) → Some tree ≡ option_and_then (tree_of dig sealed) root
+        → length (leaf_of tree coin) ≤ most
+    at None is = absurd (cc is)
+    at (Some root) is =
+        (all-found HasShortLeaves (λ (t : List Entry). bytes_eq (root_of dig t) root) sealed tree short (sym is)).0 coin
