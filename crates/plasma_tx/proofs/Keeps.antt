@@ -1,8 +1,8 @@
 -- What is kept beside the calls stays what the views have.
 use Rattle.std.proofs.Common.{◌≡◌, ℕ, zero, suc, ◌+◌, ◌-◌, ◌==◌, Bool, true, false, cond, ◌||◌, if◌then◌else◌, List, [], ◌∷◌, ◌++◌, length, Option, Some, None, inl, inr, refl, sym, ap, subst, ◌∙◌, arith}
 use Rattle.std.specs.Prelude.{slice_get, unwrap_or}
-use Rattle.std.specs.Ordering.{nat_cmp}
 use Rattle.std.specs.Map.{lookup}
+use Rattle.std.specs.Ordering.{nat_cmp}
 use Rattle.std.specs.Cmp.Lexicographic.{slice_cmp}
 use Rattle.std.specs.List.{list_any}
 use Rattle.std.specs.List.Sorted.{IsStrictlySortedBy}
@@ -17,11 +17,12 @@ use Rattle.plasma_tx.specs.declared.call.RootCall.TheVariants.{Fund, Tick, Depos
 use Rattle.plasma_tx.specs.declared.views.BlockView.{BlockView}
 use Rattle.plasma_tx.specs.declared.views.BlockView.TheVariants.{DepositOf, Root}
 use Rattle.plasma_tx.specs.declared.views.CoinView.{CoinView}
+use Rattle.plasma_tx.specs.declared.coin_states.States.{States}
 use Rattle.plasma_tx.specs.declared.standing.Change.{Change}
 use Rattle.plasma_tx.specs.declared.kept.Kept.{Kept}
-use Rattle.plasma_tx.specs.Views.{now, blocks, coins, block_at, new_coin, coin_at, exits, responses, exits_of, is_withdrawn, has_exits, is_root_committed}
-use Rattle.plasma_tx.specs.Standing.{Standing, no_standing, standing_after, change_of}
-use Rattle.plasma_tx.specs.Keeps.{item_at, standing_in, AreExiting, Keeps}
+use Rattle.plasma_tx.specs.Views.{now, blocks, coins, block_at, new_coin, coin_at, exits, responses, exits_of, is_withdrawn, has_exits, is_root_committed, deposits_of}
+use Rattle.plasma_tx.specs.Standing.{no_standing, standing_after, change_of}
+use Rattle.plasma_tx.specs.Keeps.{item_at, standing_in, deposits_in, AreExiting, Keeps}
 use Rattle.plasma_tx.proofs.CoinExits.{after-change}
 
 pub slice_get-push : {X : Type 0} (xs : List X) (x : X) (m : ℕ) → slice_get (xs ++ x ∷ []) m
@@ -37,7 +38,7 @@ slice_get-push (y ∷ ys) x (suc m) =
     ]
 
 -- a new item has the next number
-item_at-push : {X : Type 0} (items : List X) (item : X) (n : ℕ) → item_at (items ++ item ∷ []) n
+pub item_at-push : {X : Type 0} (items : List X) (item : X) (n : ℕ) → item_at (items ++ item ∷ []) n
     ≡ (if n == length items + 1 then Some item else item_at items n)
 item_at-push items item n =
     elim (cases_eq n 0) [
@@ -60,22 +61,34 @@ item_at-push items item n =
       ]
     ]
 
--- the same states and the same coins
-same-exiting : (old new : BTreeMap ℕ Standing) (before after : BTreeSet ℕ) → new ≡ old → after ≡ before
+-- the same states, and the same coins
+same-exiting : (old new : States) (before after : BTreeSet ℕ)
+    → ((c : ℕ) → standing_in new c ≡ standing_in old c) → after ≡ before
     → AreExiting old before → AreExiting new after
 same-exiting old new before after states exiting are c =
-    ap (λ (s : BTreeSet ℕ). contains nat_cmp s c) exiting ∙ are c
-    ∙ ap (λ (m : BTreeMap ℕ Standing). has_exits (standing_in m c).exits) (sym states)
+    ap (λ (s : BTreeSet ℕ). contains nat_cmp s c) exiting ∙ are c ∙ sym (λ i. has_exits (states c i).exits)
 
 -- a set with one more root, and a log with one more Commit
 one-more : (at is had has : Bool) → at ≡ is → had ≡ has → cond at true had ≡ (is || has)
 one-more at true had has same before = ap (λ (b : Bool). cond b true had) same
 one-more at false had has same before = ap (λ (b : Bool). cond b true had) same ∙ before
 
+-- an account with one more coin
+one-more-coin : (account number next : ℕ) (had of : ℕ → List ℕ) (a : ℕ) → number ≡ next
+    → ((b : ℕ) → had b ≡ of b)
+    → (if a == account then had account ++ number ∷ [] else had a) ≡ (if a == account then of a ++ next ∷ [] else of a)
+one-more-coin account number next had of a is same = elim (cases_eq a account) [
+  | inl here ↦ ap (λ b. if b then had account ++ number ∷ [] else had a) (eq-eqb a account here)
+      ∙ (λ i. same account i ++ is i ∷ []) ∙ ap (λ b. of b ++ next ∷ []) (sym here)
+      ∙ ap (λ b. if b then of a ++ next ∷ [] else of a) (sym (eq-eqb a account here))
+  | inr other ↦ ap (λ b. if b then had account ++ number ∷ [] else had a) (ne_eqb a account other) ∙ same a
+      ∙ ap (λ b. if b then of a ++ next ∷ [] else of a) (sym (ne_eqb a account other))
+]
+
 -- each part of what is kept after a call
 pub keeps-Fund : (log : List RootCall) (account amount : ℕ) (old : Kept) → Keeps log old
     → Keeps (Fund account amount ∷ log) old
-unfolding now blocks coins block_at coin_at exits responses exits_of is_withdrawn
+unfolding now blocks coins block_at coin_at deposits_of exits responses exits_of is_withdrawn
 keeps-Fund log account amount old k = record {
   clock = k.clock;
   block_count = k.block_count;
@@ -86,11 +99,12 @@ keeps-Fund log account amount old k = record {
   exiting_are = k.exiting_are;
   exiting_rise = k.exiting_rise;
   roots_are = k.roots_are;
+  deposits_are = k.deposits_are;
 }
 
 pub keeps-Tick : (log : List RootCall) (time : ℕ) (old : Kept) → Keeps log old
     → Keeps (Tick time ∷ log) (record old { clock = time })
-unfolding now blocks coins block_at coin_at exits responses exits_of is_withdrawn
+unfolding now blocks coins block_at coin_at deposits_of exits responses exits_of is_withdrawn
 keeps-Tick log time old k = record {
   clock = refl;
   block_count = k.block_count;
@@ -101,11 +115,13 @@ keeps-Tick log time old k = record {
   exiting_are = k.exiting_are;
   exiting_rise = k.exiting_rise;
   roots_are = k.roots_are;
+  deposits_are = k.deposits_are;
 }
 
 pub keeps-Deposit : (log : List RootCall) (account amount : ℕ) (key : List ℕ) (old new : Kept) (coin : CoinView)
     (number : ℕ)
-    → new.clock ≡ old.clock → new.states ≡ old.states → new.exiting ≡ old.exiting → new.roots ≡ old.roots
+    → new.clock ≡ old.clock → ((c : ℕ) → standing_in new.states c ≡ standing_in old.states c)
+    → new.exiting ≡ old.exiting → new.roots ≡ old.roots
     → coin ≡ record {
       deposit = length old.blocks.items + 1;
       amount = amount;
@@ -114,9 +130,11 @@ pub keeps-Deposit : (log : List RootCall) (account amount : ℕ) (key : List ℕ
     }
     → number ≡ length old.coins.items + 1
     → new.coins.items ≡ old.coins.items ++ coin ∷ [] → new.blocks.items ≡ old.blocks.items ++ DepositOf number ∷ []
+    → ((a : ℕ) → deposits_in new.deposits a ≡ (if a == account then deposits_in old.deposits account ++ number ∷ []
+    else deposits_in old.deposits a))
     → Keeps log old → Keeps (Deposit account amount key ∷ log) new
-unfolding now blocks coins block_at coin_at exits responses exits_of is_withdrawn
-keeps-Deposit log account amount key old new coin number clock states exiting roots made counted coins_are blocks_are k =
+unfolding now blocks coins block_at coin_at deposits_of exits responses exits_of is_withdrawn
+keeps-Deposit log account amount key old new coin number clock states exiting roots made counted coins_are blocks_are deposited k =
     let coin_is : coin ≡ new_coin log account amount key = made
     ∙ (λ i. record {
       deposit = k.block_count i + 1;
@@ -136,21 +154,23 @@ keeps-Deposit log account amount key old new coin number clock states exiting ro
           ∙ ap (λ n. n + 1) k.coin_count;
       coins_are = λ c. ap (λ (l : List CoinView). item_at l c) coins_are ∙ item_at-push old.coins.items coin c
           ∙ (λ i. if c == k.coin_count i + 1 then Some (coin_is i) else k.coins_are c i);
-      states_are = λ c. ap (λ (m : BTreeMap ℕ Standing). standing_in m c) states ∙ k.states_are c;
+      states_are = λ c. states c ∙ k.states_are c;
       exiting_are = same-exiting old.states new.states old.exiting new.exiting states exiting k.exiting_are;
       exiting_rise = subst (λ (s : BTreeSet ℕ). IsOrdered nat_cmp s) (sym exiting) k.exiting_rise;
       roots_are = λ root. ap (λ (s : BTreeSet (List ℕ)). contains (slice_cmp nat_cmp) s root) roots
           ∙ k.roots_are root;
+      deposits_are = λ a. deposited a ∙ one-more-coin account number (coins log + 1) _ (deposits_of log) a number_is
+          k.deposits_are;
     }
 
 pub keeps-Commit : (log : List RootCall) (account : ℕ) (root : List ℕ) (old new : Kept)
     → new.clock ≡ old.clock → new.states ≡ old.states → new.exiting ≡ old.exiting → new.coins ≡ old.coins
-    → new.blocks.items ≡ old.blocks.items ++ Root root ∷ []
+    → new.deposits ≡ old.deposits → new.blocks.items ≡ old.blocks.items ++ Root root ∷ []
     → ((other : List ℕ) → contains (slice_cmp nat_cmp) new.roots other
     ≡ cond (is_at (slice_cmp nat_cmp root) other) true (contains (slice_cmp nat_cmp) old.roots other))
     → Keeps log old → Keeps (Commit account root ∷ log) new
-unfolding now blocks coins block_at coin_at exits responses exits_of is_withdrawn
-keeps-Commit log account root old new clock states exiting coins_same blocks_are added k = record {
+unfolding now blocks coins block_at coin_at deposits_of exits responses exits_of is_withdrawn
+keeps-Commit log account root old new clock states exiting coins_same deposits blocks_are added k = record {
   clock = clock ∙ k.clock;
   block_count = ap (λ (l : List BlockView). length l) blocks_are ∙ length-append old.blocks.items (Root root ∷ [])
       ∙ ap (λ n. n + 1) k.block_count;
@@ -158,12 +178,14 @@ keeps-Commit log account root old new clock states exiting coins_same blocks_are
       ∙ (λ i. if n == k.block_count i + 1 then Some (Root root) else k.blocks_are n i);
   coin_count = ap (λ (v : _). length v.items) coins_same ∙ k.coin_count;
   coins_are = λ c. ap (λ (v : _). item_at v.items c) coins_same ∙ k.coins_are c;
-  states_are = λ c. ap (λ (m : BTreeMap ℕ Standing). standing_in m c) states ∙ k.states_are c;
-  exiting_are = same-exiting old.states new.states old.exiting new.exiting states exiting k.exiting_are;
+  states_are = λ c. ap (λ (m : States). standing_in m c) states ∙ k.states_are c;
+  exiting_are = same-exiting old.states new.states old.exiting new.exiting
+      (λ c. ap (λ (m : States). standing_in m c) states) exiting k.exiting_are;
   exiting_rise = subst (λ (s : BTreeSet ℕ). IsOrdered nat_cmp s) (sym exiting) k.exiting_rise;
   roots_are = λ other. added other
       ∙ one-more (is_at (slice_cmp nat_cmp root) other) (bytes_eq root other) _ _ (is_eq-slice_cmp root other)
       (k.roots_are other);
+  deposits_are = λ a. ap (λ (m : BTreeMap ℕ (List ℕ)). deposits_in m a) deposits ∙ k.deposits_are a;
 }
 
 -- the other calls change no block, no coin and no clock
@@ -174,30 +196,31 @@ record IsQuiet (log : List RootCall) (call : RootCall) : Type 0 where
   coins_same : coins (call ∷ log) ≡ coins log
   coin_same : (c : ℕ) → coin_at (call ∷ log) c ≡ coin_at log c
   roots_same : (root : List ℕ) → is_root_committed (call ∷ log) root ≡ is_root_committed log root
+  deposits_same : (a : ℕ) → deposits_of (call ∷ log) a ≡ deposits_of log a
 
 quiet : (log : List RootCall) (call : RootCall) (p : ℕ × Change) → change_of (now log) call ≡ Some p → IsQuiet log call
-unfolding now blocks coins block_at coin_at
+unfolding now blocks coins block_at coin_at deposits_of
 quiet log (StartDeposit account k m) p is =
-    record { clock = refl; blocks_same = refl; block_same = λ n. refl; coins_same = refl; coin_same = λ c. refl; roots_same = λ r. refl }
+    record { clock = refl; blocks_same = refl; block_same = λ n. refl; coins_same = refl; coin_same = λ c. refl; roots_same = λ r. refl; deposits_same = λ a. refl }
 quiet log (StartSpend account k parent exit) p is =
-    record { clock = refl; blocks_same = refl; block_same = λ n. refl; coins_same = refl; coin_same = λ c. refl; roots_same = λ r. refl }
+    record { clock = refl; blocks_same = refl; block_same = λ n. refl; coins_same = refl; coin_same = λ c. refl; roots_same = λ r. refl; deposits_same = λ a. refl }
 quiet log (After account k m spend) p is =
-    record { clock = refl; blocks_same = refl; block_same = λ n. refl; coins_same = refl; coin_same = λ c. refl; roots_same = λ r. refl }
+    record { clock = refl; blocks_same = refl; block_same = λ n. refl; coins_same = refl; coin_same = λ c. refl; roots_same = λ r. refl; deposits_same = λ a. refl }
 quiet log (Between account k m spend) p is =
-    record { clock = refl; blocks_same = refl; block_same = λ n. refl; coins_same = refl; coin_same = λ c. refl; roots_same = λ r. refl }
+    record { clock = refl; blocks_same = refl; block_same = λ n. refl; coins_same = refl; coin_same = λ c. refl; roots_same = λ r. refl; deposits_same = λ a. refl }
 quiet log (Before account k m shown) p is =
-    record { clock = refl; blocks_same = refl; block_same = λ n. refl; coins_same = refl; coin_same = λ c. refl; roots_same = λ r. refl }
+    record { clock = refl; blocks_same = refl; block_same = λ n. refl; coins_same = refl; coin_same = λ c. refl; roots_same = λ r. refl; deposits_same = λ a. refl }
 quiet log (Respond account k m n spend) p is =
-    record { clock = refl; blocks_same = refl; block_same = λ n. refl; coins_same = refl; coin_same = λ c. refl; roots_same = λ r. refl }
+    record { clock = refl; blocks_same = refl; block_same = λ n. refl; coins_same = refl; coin_same = λ c. refl; roots_same = λ r. refl; deposits_same = λ a. refl }
 quiet log (Finish account k m) p is =
-    record { clock = refl; blocks_same = refl; block_same = λ n. refl; coins_same = refl; coin_same = λ c. refl; roots_same = λ r. refl }
+    record { clock = refl; blocks_same = refl; block_same = λ n. refl; coins_same = refl; coin_same = λ c. refl; roots_same = λ r. refl; deposits_same = λ a. refl }
 quiet log (Fund account amount) p is = absurd (cc is)
 quiet log (Tick time) p is = absurd (cc is)
 quiet log (Deposit account amount key) p is = absurd (cc is)
 quiet log (Commit account root) p is = absurd (cc is)
 
 pub keeps-change : (log : List RootCall) (call : RootCall) (coin : ℕ) (change : Change) (old : Kept)
-    (states : BTreeMap ℕ Standing) (exiting : BTreeSet ℕ)
+    (states : States) (exiting : BTreeSet ℕ)
     → change_of old.clock call ≡ Some (coin, change)
     → ((c : ℕ) → standing_in states c
     ≡ (if c == coin then standing_after coin change (standing_in old.states coin) else standing_in old.states c))
@@ -218,24 +241,26 @@ keeps-change log call coin change old states exiting is becomes are rise k =
       exiting_are = are k.exiting_are;
       exiting_rise = rise;
       roots_are = λ root. k.roots_are root ∙ sym (same.roots_same root);
+      deposits_are = λ a. k.deposits_are a ∙ sym (same.deposits_same a);
     }
 
 -- what is kept of no calls
 pub keeps-nothing : (kept : Kept) → kept.clock ≡ 0 → kept.blocks.items ≡ [] → kept.coins.items ≡ []
-    → kept.states.entries ≡ [] → kept.exiting.keys ≡ [] → kept.roots.keys ≡ [] → Keeps [] kept
-unfolding now blocks coins block_at coin_at exits responses exits_of is_withdrawn IsStrictlySortedBy
-keeps-nothing kept clock no_blocks no_coins no_states no_exits no_roots = record {
+    → ((c : ℕ) → standing_in kept.states c ≡ no_standing) → kept.exiting.keys ≡ [] → kept.roots.keys ≡ []
+    → kept.deposits.entries ≡ [] → Keeps [] kept
+unfolding now blocks coins block_at coin_at deposits_of exits responses exits_of is_withdrawn IsStrictlySortedBy
+keeps-nothing kept clock no_blocks no_coins no_states no_exits no_roots no_deposits = record {
   clock = clock;
   block_count = ap (λ (l : List BlockView). length l) no_blocks;
   blocks_are = λ n. ap (λ (l : List BlockView). item_at l n) no_blocks ∙ none n;
   coin_count = ap (λ (l : List CoinView). length l) no_coins;
   coins_are = λ c. ap (λ (l : List CoinView). item_at l c) no_coins ∙ none c;
-  states_are = λ c. ap (λ (es : List (ℕ × Standing)). unwrap_or (lookup (is_at (nat_cmp c)) es) no_standing) no_states;
+  states_are = no_states;
   exiting_are = λ c. ap (λ (ks : List ℕ). list_any (is_at (nat_cmp c)) ks) no_exits
-      ∙ ap (λ (es : List (ℕ × Standing)). has_exits (unwrap_or (lookup (is_at (nat_cmp c)) es) no_standing).exits)
-      (sym no_states);
+      ∙ sym (λ i. has_exits (no_states c i).exits);
   exiting_rise = subst (λ (ks : List ℕ). IsStrictlySortedBy nat_cmp ks) (sym no_exits) tt;
   roots_are = λ root. ap (λ (ks : List (List ℕ)). list_any (is_at (slice_cmp nat_cmp root)) ks) no_roots;
+  deposits_are = λ a. ap (λ (es : List (ℕ × List ℕ)). unwrap_or (lookup (is_at (nat_cmp a)) es) []) no_deposits;
 }
   where
     none : {X : Type 0} (n : ℕ) → item_at {X = X} [] n ≡ None

@@ -1,18 +1,21 @@
 -- A map of coins after a write at one coin, and a list of exits after a change of one.
-use Rattle.std.proofs.Common.{◌≡◌, ℕ, suc, ◌+◌, ◌<◌, ◌≤◌, ◌==◌, ◌||◌, cond, not, Bool, true, false, if◌then◌else◌, List, [], ◌∷◌, ◌++◌, length, slice_set, slice_index_or, Some, None, inl, inr, refl, sym, ap, ◌∙◌, subst, position, arith}
-use Rattle.std.specs.Prelude.{Result, Ok, Err, OnOk, OnErr}
+use Rattle.std.proofs.Common.{◌≡◌, ℕ, suc, ◌+◌, ◌-◌, ◌<◌, ◌≤◌, ◌==◌, ◌||◌, cond, not, Bool, true, false, if◌then◌else◌, List, [], ◌∷◌, ◌++◌, length, slice_set, slice_index_or, Some, None, inl, inr, refl, sym, ap, ◌∙◌, subst, position, arith}
+use Rattle.std.specs.Prelude.{Result, Ok, Err, Option, OnOk, OnErr, unwrap_or}
 use Rattle.std.specs.List.{list_any, position_or_len}
 use Rattle.std.specs.Ordering.{nat_cmp}
-use Rattle.std.specs.BTreeMap.{BTreeMap, is_at}
+use Rattle.std.specs.BTreeMap.{BTreeMap, get, is_at}
 use Rattle.std.specs.BTreeSet.{BTreeSet, contains}
 use Rattle.std.proofs.lemmas.Bool.{cases_lt, cases_eq, eq-eqb, ne_eqb, eqb-true, lt-ltb, le-ltb}
 use Rattle.std.proofs.lemmas.List.Folds.{list_any-append}
+use Rattle.std.proofs.lemmas.Option.{slice_get_past}
+use Rattle.plasma_tx.specs.declared.coin_states.States.{States}
 use Rattle.plasma_tx.specs.declared.views.ExitView.{ExitView}
-use Rattle.plasma_tx.specs.Standing.{Standing, AreDistinct, without_view, with_view_changed, with_challenge_view}
+use Rattle.plasma_tx.specs.Standing.{Standing, no_standing, AreDistinct, without_view, with_view_changed, with_challenge_view}
 use Rattle.plasma_tx.specs.declared.views.ChallengeView.{ChallengeView}
 use Rattle.plasma_tx.specs.ChallengeLists.{is_challenged}
 use Rattle.plasma_tx.specs.Views.{has_exits}
-use Rattle.plasma_tx.specs.Keeps.{AreExiting, standing_in}
+use Rattle.plasma_tx.specs.Keeps.{AreExiting, item_at, other_in, standing_in}
+use Rattle.plasma_tx.proofs.Keeps.{item_at-push}
 use Rattle.plasma_tx.proofs.Names.{eqb-flip, some_same}
 
 -- a number compares as equal to itself alone
@@ -26,7 +29,7 @@ is_at-nat k c = elim (cases_lt k c) [
 ]
 
 -- another coin's state stays, whether memory ran out or not
-pub state-apart : {X Y : Type 0} (old new : BTreeMap ℕ Standing) (k : ℕ) (state : Standing) (result : Result X Y)
+pub state-apart : {X Y : Type 0} (old new : States) (k : ℕ) (state : Standing) (result : Result X Y)
     → OnOk result ((c : ℕ) → standing_in new c ≡ (if c == k then state else standing_in old c))
     → OnErr result ((c : ℕ) → standing_in new c ≡ standing_in old c)
     → (c : ℕ) → (c == k) ≡ false → standing_in new c ≡ standing_in old c
@@ -35,7 +38,7 @@ state-apart old new k state (Ok x) ok err c other =
 state-apart old new k state (Err e) ok err c other = err c
 
 -- a state and its coin's place among those of which an exit stands, changed together
-pub exiting-changed : (old new : BTreeMap ℕ Standing) (before after : BTreeSet ℕ) (k : ℕ)
+pub exiting-changed : (old new : States) (before after : BTreeSet ℕ) (k : ℕ)
     → contains nat_cmp after k ≡ has_exits (standing_in new k).exits
     → ((c : ℕ) → is_at (nat_cmp k) c ≡ false → contains nat_cmp after c ≡ contains nat_cmp before c)
     → ((c : ℕ) → (c == k) ≡ false → standing_in new c ≡ standing_in old c)
@@ -46,6 +49,30 @@ exiting-changed old new before after k here apart same are c =
       | inr other ↦ apart c (is_at-nat k c ∙ ne_eqb c k other) ∙ are c
           ∙ ap (λ (s : Standing). has_exits s.exits) (sym (same c (ne_eqb c k other)))
     ]
+
+-- one more coin has its place, with what was kept of its number
+pub standing-added : (made after : List Standing) (others less : BTreeMap ℕ Standing) (state : Standing) (k : ℕ)
+    → after ≡ made ++ state ∷ [] → k ≡ length made + 1 → state ≡ other_in others k
+    → ((c : ℕ) → is_at (nat_cmp k) c ≡ false → get nat_cmp less c ≡ get nat_cmp others c) → (c : ℕ)
+    → unwrap_or (item_at after c) (other_in less c) ≡ unwrap_or (item_at made c) (other_in others c)
+standing-added made after others less state k after_is k_is state_is apart c =
+    ap (λ (l : List Standing). unwrap_or (item_at l c) (other_in less c)) after_is
+    ∙ ap (λ (s : Option Standing). unwrap_or s (other_in less c)) (item_at-push made state c)
+    ∙ (elim (cases_eq c k) [
+      | inl is ↦
+          ap (λ b. unwrap_or (if b then Some state else item_at made c) (other_in less c))
+          (eq-eqb c (length made + 1) (is ∙ k_is))
+          ∙ state_is ∙ ap (λ n. other_in others n) (sym is)
+          ∙ ap (λ (s : Option Standing). unwrap_or s (other_in others c)) (sym (past c (is ∙ k_is)))
+      | inr other ↦
+          ap (λ b. unwrap_or (if b then Some state else item_at made c) (other_in less c))
+          (ne_eqb c (length made + 1) (λ e. other (e ∙ sym k_is)))
+          ∙ ap (λ (s : Option Standing). unwrap_or (item_at made c) (unwrap_or s no_standing))
+          (apart c (is_at-nat k c ∙ ne_eqb c k other))
+    ])
+  where
+    past : (n : ℕ) → n ≡ length made + 1 → item_at made n ≡ None
+    past n is = simp (ne_eqb n 0 (λ e. absurd (omega arith)), slice_get_past made (n - 1) (omega arith))
 
 -- ---- lists of exits
 

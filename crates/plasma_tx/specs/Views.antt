@@ -68,6 +68,13 @@ coin_at (Deposit account amount key ∷ log) c =
     if c == coins log + 1 then Some (new_coin log account amount key) else coin_at log c
 coin_at (call ∷ log) c = coin_at log c
 
+-- the coins that an account deposited, rising
+unfoldable pub deposits_of : List RootCall → ℕ → List ℕ
+deposits_of [] a = []
+deposits_of (Deposit account amount key ∷ log) a =
+    if a == account then deposits_of log a ++ (coins log + 1) ∷ [] else deposits_of log a
+deposits_of (call ∷ log) a = deposits_of log a
+
 -- ---- exits and challenges
 
 -- a challenge of an exit at a block: who owned the coin after that block, who made it and when, and whether it is

@@ -1,30 +1,33 @@
-ghost use Rattle.std.specs.Prelude.{◌≡◌, ◌∷◌, [], List, ℕ, true, false, OnOk, OnErr, IsSome, if◌then◌else◌, ◌==◌};
+ghost use Rattle.std.specs.Prelude.{◌≡◌, ◌∷◌, [], List, ℕ, true, false, OnOk, OnErr, if◌then◌else◌, ◌==◌};
 ghost use Rattle.std.specs.Ordering.{nat_cmp};
-ghost use Rattle.std.specs.BTreeMap.{get, is_at};
+ghost use Rattle.std.specs.BTreeMap.{is_at};
 ghost use Rattle.std.specs.BTreeSet.{contains, IsOrdered};
 ghost use Rattle.plasma_tx.specs.Views.{has_exits};
 ghost use Rattle.plasma_tx.specs.Standing.{change_of, standing_after, new_exit};
 ghost use Rattle.plasma_tx.specs.Keeps.{Keeps, AreExiting, standing_in};
 
 use super::call::RootCall;
+use super::coin_states::States;
+use super::deposits::{Deposited, add_deposit};
 use super::exits::push_reserved;
 use super::owner::Owner;
-use super::standing::{Change, CoinState};
+use super::standing::Change;
 use super::views::{BlockView, Challenges, CoinView, ExitView};
 use plasma_base::NoMemory;
 use std::alloc::Global;
 use std::collections::{BTreeMap, BTreeSet};
 
 /// What a log keeps beside its calls: the clock, the blocks, the coins, by coin what its exits are, the
-/// coins of which an exit stands, and the roots of the blocks.
+/// coins of which an exit stands, the roots of the blocks, and by account the coins that it deposited.
 #[derive(Drop)]
 pub struct Kept {
     pub clock: u64,
     pub blocks: Vec<BlockView>,
     pub coins: Vec<CoinView>,
-    pub states: BTreeMap<u64, CoinState>,
+    pub states: States,
     pub exiting: BTreeSet<u64>,
     pub roots: BTreeSet<[u8; 32]>,
+    pub deposits: BTreeMap<u64, Deposited>,
 }
 
 impl Kept {
@@ -36,9 +39,10 @@ impl Kept {
             clock: 0,
             blocks: Vec::new(alloc),
             coins: Vec::new(alloc),
-            states: BTreeMap::new(alloc),
+            states: States::new(alloc),
             exiting: BTreeSet::new(alloc),
             roots: BTreeSet::new(alloc),
+            deposits: BTreeMap::new(alloc),
         }
     }
 
@@ -69,7 +73,7 @@ impl Kept {
                 match change_of(alloc, self.clock, call) {
                     None => Ok(()),
                     Some((coin, change)) => {
-                        change_coin(&mut self.states, &mut self.exiting, alloc, coin, change)?;
+                        change_coin(&mut self.states, &mut self.exiting, coin, change)?;
                         Ok(())
                     }
                 }
@@ -83,15 +87,18 @@ impl Kept {
             → Keeps (RootCall.Deposit owner.account amount owner.key ∷ log) self.new) }
         ensures err { OnErr result ((log : List RootCall) → Keeps log self.old → Keeps log self.new) }
     {
+        let alloc = *self.blocks.allocator();
         self.blocks.reserve(1)?;
         self.coins.reserve(1)?;
-        let coin = CoinView {
+        self.states.add()?;
+        let coin = self.coins.len() as u64 + 1;
+        add_deposit(&mut self.deposits, alloc, owner.account, coin)?;
+        let view = CoinView {
             deposit: self.blocks.len() as u64 + 1,
             amount,
             owner,
         };
-        push_reserved(&mut self.coins, coin);
-        let coin = self.coins.len() as u64;
+        push_reserved(&mut self.coins, view);
         push_reserved(&mut self.blocks, BlockView::DepositOf { coin });
         Ok(())
     }
@@ -112,9 +119,8 @@ impl Kept {
 /// What is kept of the coin after the change, and whether it is one of those of which an exit stands.
 /// `NoMemory` changes nothing.
 fn change_coin(
-    states: &mut BTreeMap<u64, CoinState>,
+    states: &mut States,
     exiting: &mut BTreeSet<u64>,
-    alloc: Global,
     coin: u64,
     change: Change,
 ) -> Result<(), NoMemory>
@@ -126,7 +132,7 @@ fn change_coin(
 {
     // First, so that no memory is wanted once the state is changed.
     exiting.insert(coin)?;
-    let changed = change_state(states, alloc, coin, change);
+    let changed = states.change(coin, change);
     let stands = has_exits(states, coin);
     keep_if(exiting, coin, stands);
     changed
@@ -146,43 +152,13 @@ fn keep_if(exiting: &mut BTreeSet<u64>, coin: u64, stands: bool)
 }
 
 /// Whether an exit of the coin is kept.
-fn has_exits(states: &BTreeMap<u64, CoinState>, coin: u64) -> bool
+fn has_exits(states: &States, coin: u64) -> bool
     ensures { result ≡ has_exits (standing_in states.now coin).exits }
 {
-    match states.get(&coin) {
+    match states.state(coin) {
         None => false,
         Some(state) => !state.exits().is_empty(),
     }
-}
-
-/// What is kept of the coin after the change. `NoMemory` changes nothing.
-fn change_state(
-    states: &mut BTreeMap<u64, CoinState>,
-    alloc: Global,
-    coin: u64,
-    change: Change,
-) -> Result<(), NoMemory>
-    ensures ok { OnOk result ((c : ℕ) → standing_in states.new c
-        ≡ (if c == coin then standing_after coin change (standing_in states.old coin) else standing_in states.old c)) }
-    ensures err { OnErr result ((c : ℕ) → standing_in states.new c ≡ standing_in states.old c) }
-{
-    know(states, alloc, coin)?;
-    match states.get_mut(&coin) {
-        Some(state) => state.apply(coin, change),
-        None => unreachable!(),
-    }
-}
-
-/// Makes the coin's entry, which says nothing where there was none.
-fn know(states: &mut BTreeMap<u64, CoinState>, alloc: Global, coin: u64) -> Result<(), NoMemory>
-    ensures same { (c : ℕ) → standing_in states.new c ≡ standing_in states.old c }
-    ensures known { OnOk result (IsSome (get nat_cmp states.new coin)) }
-{
-    if states.contains_key(&coin) {
-        return Ok(());
-    }
-    states.insert(coin, CoinState::new(alloc))?;
-    Ok(())
 }
 
 /// The coin whose exits the call changes at that time, and how; `None` where it changes none.

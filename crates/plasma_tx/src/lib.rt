@@ -6,6 +6,8 @@
 mod answer;
 mod body;
 mod call;
+mod coin_states;
+mod deposits;
 mod exits;
 mod fields;
 mod kept;

@@ -4,9 +4,10 @@ ghost use Rattle.std.specs.BTreeSet.{contains, IsOrdered};
 ghost use Rattle.plasma_tx.specs.Chain.{with_log};
 ghost use Rattle.plasma_tx.specs.Keeps.{item_at};
 ghost use Rattle.plasma_tx.specs.Transfer.{is_signed_by};
-ghost use Rattle.plasma_tx.specs.Views.{now, blocks, coins, block_at, coin_at, is_withdrawn, exits_of, is_exiting, is_root_committed};
+ghost use Rattle.plasma_tx.specs.Views.{now, blocks, coins, block_at, coin_at, is_withdrawn, exits_of, is_exiting, is_root_committed, deposits_of};
 
 use super::call::RootCall;
+use super::deposits::deposits_in;
 use super::exits::push_reserved;
 use super::kept::Kept;
 use super::owner::Owner;
@@ -145,7 +146,7 @@ impl RootLog {
     pub fn withdrawn(&self, c: u64) -> bool
         ensures { result ≡ is_withdrawn self.now.log c }
     {
-        match self.kept.states.get(&c) {
+        match self.kept.states.state(c) {
             None => false,
             Some(state) => state.is_withdrawn(),
         }
@@ -156,7 +157,7 @@ impl RootLog {
     pub fn exits(&self, coin: u64) -> &[ExitView]
         ensures { result.now ≡ exits_of self.now.log coin }
     {
-        match self.kept.states.get(&coin) {
+        match self.kept.states.state(coin) {
             None => &[],
             Some(state) => state.exits(),
         }
@@ -169,6 +170,13 @@ impl RootLog {
         ensures rising { IsOrdered nat_cmp result.now }
     {
         &self.kept.exiting
+    }
+
+    /// The coins that an account deposited, rising; none exactly where it deposited none. It takes no memory.
+    pub fn deposits(&self, account: u64) -> &[u64]
+        ensures { result.now ≡ deposits_of self.now.log account }
+    {
+        deposits_in(&self.kept.deposits, account)
     }
 
     /// Whether a block has this root.

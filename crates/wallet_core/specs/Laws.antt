@@ -6,7 +6,7 @@ use Rattle.plasma_tx.specs.Views.{coin_at, is_withdrawn}
 use Rattle.wallet_core.specs.declared.notes.LeafRecord.{LeafRecord}
 use Rattle.wallet_core.specs.declared.notes.Notes.{Notes}
 use Rattle.wallet_core.specs.declared.coin_state.CoinState.TheVariants.{Nothing, Sending, Leaving, Held}
-use Rattle.wallet_core.specs.State.{tips_of, sends_by, is_noted, state_of, holds}
+use Rattle.wallet_core.specs.State.{tips_of, sends_by, is_noted, may_have, state_of, holds}
 
 -- the log has the coin, which isn't withdrawn, and this is the greatest block at which the wallet came to have it
 pub record IsTip (notes : Notes) (log : List RootCall) (coin tip : ℕ) : Type 0 where
@@ -67,3 +67,8 @@ abbrev pub HeldCoinsAreKept : Type 0
 HeldCoinsAreKept = (notes : Notes) (leaves : List LeafRecord) (log : List RootCall) (coin tip : ℕ)
     → IsTip notes log coin tip → holds notes leaves log coin tip ≡ true
     → (state_of notes leaves log coin ≡ Held tip) ⊎ (state_of notes leaves log coin ≡ Leaving tip)
+
+-- a coin is Nothing to a wallet that neither accepted it nor has its depositor's account
+abbrev pub OtherCoinsAreNothing : Type 0
+OtherCoinsAreNothing = (notes : Notes) (leaves : List LeafRecord) (log : List RootCall) (coin : ℕ)
+    → may_have notes log coin ≡ false → state_of notes leaves log coin ≡ Nothing

@@ -6,7 +6,7 @@ use Rattle.std.specs.Str.{bytes_eq}
 use Rattle.plasma_tx.specs.declared.owner.Owner.{Owner}
 use Rattle.plasma_tx.specs.declared.call.RootCall.{RootCall}
 use Rattle.plasma_tx.specs.declared.views.CoinView.{CoinView}
-use Rattle.plasma_tx.specs.Views.{coin_at, is_withdrawn}
+use Rattle.plasma_tx.specs.Views.{coin_at, is_withdrawn, deposits_of}
 use Rattle.wallet_core.specs.declared.notes.CoinTip.{CoinTip}
 use Rattle.wallet_core.specs.declared.notes.LeafRecord.{LeafRecord}
 use Rattle.wallet_core.specs.declared.notes.Notes.{Notes}
@@ -29,6 +29,12 @@ noted_tips coin notes = map (λ note. note.tip) (filter (λ note. note.coin == c
 -- the blocks at which the wallet came to have the coin: the deposit, where it is its own, and the accepted tips
 abbrev pub tips_of : Notes → List RootCall → ℕ → List ℕ
 tips_of notes log coin = own_deposit notes.me (coin_at log coin) ++ noted_tips coin notes.accepted
+
+-- the wallet accepted the coin, or its account deposited it
+abbrev pub may_have : Notes → List RootCall → ℕ → Bool
+may_have notes log coin =
+    list_any (λ note. note.coin == coin) notes.accepted
+    || list_any (λ other. other == coin) (deposits_of log notes.me.account)
 
 -- the greatest of some numbers
 unfoldable pub greatest : List ℕ → Option ℕ

@@ -58,6 +58,13 @@ impl Tips {
         self.items.pop();
     }
 
+    /// The tips, in the order in which they were noted.
+    pub fn as_slice(&self) -> &[CoinTip]
+        ensures { result.now ≡ self.now }
+    {
+        self.items.as_slice()
+    }
+
     /// Whether a tip of the coin is noted at the block.
     pub fn has(&self, coin: u64, tip: u64) -> bool
         ensures { result ≡ is_noted coin tip self.now }

@@ -12,8 +12,11 @@ use Rattle.plasma_tx.specs.declared.call.RootCall.TheVariants.{Deposit}
 use Rattle.plasma_tx.specs.declared.views.ExitView.{ExitView}
 use Rattle.plasma_tx.specs.Views.{coins, coin_at, exits_of, has_exits, is_exiting}
 use Rattle.plasma_tx.proofs.States.{is_at-nat}
-use Rattle.wallet_core.specs.State.{state_of}
-use Rattle.node_rules.specs.Wallet.{WalletRecords, coin_state, due_in, watch_answer}
+use Rattle.wallet_core.specs.State.{state_of, may_have}
+use Rattle.wallet_core.proofs.OwnCoins.{others_are_nothing}
+use Rattle.node_rules.specs.WalletRecords.{leaves_in}
+use Rattle.node_rules.specs.Wallet.{WalletRecords, noted, coin_state, due_in, watch_answer}
+use Rattle.wallet_node.specs.Inside.{due_of_coin}
 use Rattle.wallet_node.proofs.Spends.{due-none}
 
 -- ---- rising numbers, and a range
@@ -100,9 +103,6 @@ no-exits : (views : List ExitView) → has_exits views ≡ false → views ≡ [
 no-exits [] none = refl
 no-exits (view ∷ views) some = absurd (cc some)
 
-abbrev pub due_of_coin : (List ℕ → List ℕ) → WalletRecords → List RootCall → ℕ → List RootCall
-due_of_coin dig wallet log coin = due_in dig wallet log coin (coin_state dig wallet log coin)
-
 unmade-due : (dig : List ℕ → List ℕ) (wallet : WalletRecords) (log : List RootCall) (coin : ℕ)
     → coin_at log coin ≡ None → due_of_coin dig wallet log coin ≡ []
 unfolding coin_state state_of
@@ -113,17 +113,35 @@ still-due : (dig : List ℕ → List ℕ) (wallet : WalletRecords) (log : List R
 still-due dig wallet log coin still =
     due-none dig wallet log coin (coin_state dig wallet log coin) (no-exits (exits_of log coin) still)
 
-pub watched-exiting : (dig : List ℕ → List ℕ) (wallet : WalletRecords) (log : List RootCall) (exiting : BTreeSet ℕ)
-    → ((c : ℕ) → contains nat_cmp exiting c ≡ is_exiting log c) → IsOrdered nat_cmp exiting
-    → flat_map (due_of_coin dig wallet log) exiting.keys ≡ watch_answer dig wallet log
+-- rising coins, beside which nothing is due
+watched-but : (dig : List ℕ → List ℕ) (wallet : WalletRecords) (log : List RootCall) (some : BTreeSet ℕ)
+    → ((c : ℕ) → contains nat_cmp some c ≡ false → due_of_coin dig wallet log c ≡ []) → IsOrdered nat_cmp some
+    → flat_map (due_of_coin dig wallet log) some.keys ≡ watch_answer dig wallet log
 unfolding watch_answer
-watched-exiting dig wallet log exiting exactly rising =
-    over-range due (suc (coins log)) 0 exiting.keys (rise-from 0 exiting.keys (all-from-none exiting.keys) rising)
-    (λ c from none. still-due dig wallet log c
-    (sym (exactly c) ∙ (λ i. list_any (λ coin. is_at-nat c coin i) exiting.keys) ∙ none))
+watched-but dig wallet log some still rising =
+    over-range due (suc (coins log)) 0 some.keys (rise-from 0 some.keys (all-from-none some.keys) rising)
+    (λ c from none. still c ((λ i. list_any (λ coin. is_at-nat c coin i) some.keys) ∙ none))
     (λ c past. unmade-due dig wallet log c (coin_at-none log c (λ some. omega arith)))
     ∙ ap (λ (calls : List RootCall). calls ++ flat_map due (range_with_len 1 (coins log)))
     (unmade-due dig wallet log 0 (coin_at-none log 0 (λ wrong. absurd (omega arith))))
   where
     due : ℕ → List RootCall
     due = due_of_coin dig wallet log
+
+pub watched-exiting : (dig : List ℕ → List ℕ) (wallet : WalletRecords) (log : List RootCall) (exiting : BTreeSet ℕ)
+    → ((c : ℕ) → contains nat_cmp exiting c ≡ is_exiting log c) → IsOrdered nat_cmp exiting
+    → flat_map (due_of_coin dig wallet log) exiting.keys ≡ watch_answer dig wallet log
+watched-exiting dig wallet log exiting exactly rising =
+    watched-but dig wallet log exiting (λ c none. still-due dig wallet log c (sym (exactly c) ∙ none)) rising
+
+other-due : (dig : List ℕ → List ℕ) (wallet : WalletRecords) (log : List RootCall) (coin : ℕ)
+    → may_have (noted dig wallet) log coin ≡ false → due_of_coin dig wallet log coin ≡ []
+unfolding coin_state
+other-due dig wallet log coin other =
+    ap (due_in dig wallet log coin) (others_are_nothing (noted dig wallet) (leaves_in wallet.leaves) log coin other)
+
+pub watched-own : (dig : List ℕ → List ℕ) (wallet : WalletRecords) (log : List RootCall) (own : BTreeSet ℕ)
+    → ((c : ℕ) → contains nat_cmp own c ≡ may_have (noted dig wallet) log c) → IsOrdered nat_cmp own
+    → flat_map (due_of_coin dig wallet log) own.keys ≡ watch_answer dig wallet log
+watched-own dig wallet log own exactly rising =
+    watched-but dig wallet log own (λ c none. other-due dig wallet log c (sym (exactly c) ∙ none)) rising

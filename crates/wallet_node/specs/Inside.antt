@@ -9,6 +9,7 @@ use Rattle.lms_sign.specs.declared.secret.Secret.{Secret}
 use Rattle.lms_sign.specs.declared.types.LmsTypes.{LmsTypes}
 use Rattle.lms_sign.specs.Tree.{public_key_of}
 use Rattle.plasma_tx.specs.declared.body.Body.{Body}
+use Rattle.plasma_tx.specs.declared.call.RootCall.{RootCall}
 use Rattle.plasma_tx.specs.declared.owner.Owner.{Owner}
 use Rattle.plasma_tx.specs.declared.links.Link.{Link}
 use Rattle.plasma_tx.specs.Transfer.{nobody}
@@ -33,7 +34,7 @@ use Rattle.node_rules.specs.declared.refusal.WalletRefusal.{WalletRefusal}
 use Rattle.node_rules.specs.declared.refusal.WalletRefusal.TheVariants.{History, NoMemory, KeySpent, DeviceFault, Closed, AlreadyNew}
 use Rattle.node_rules.specs.WalletRecords.{Note, Accepts, LeavesWith, Reclaims, secret_of, owner_of, coin_tip, notes_of, accepted_of, state_notes, leaves_in, is_body, may_reclaim, who_is}
 use Rattle.node_rules.specs.Kept.{chain_of}
-use Rattle.node_rules.specs.Wallet.{WalletRecords, kept_at}
+use Rattle.node_rules.specs.Wallet.{WalletRecords, kept_at, coin_state, due_in}
 use Rattle.node_rules.specs.WalletOpening.{are_bound}
 use Rattle.wallet_node.specs.declared.memory.Undo.{Undo}
 use Rattle.wallet_node.specs.declared.memory.Undo.TheVariants.{Coin, Leaving, Reclaimed}
@@ -96,6 +97,10 @@ memory_in dig records = memory_of (owner_of (who_is records)) (who_is records).t
 abbrev pub is_bound_change : List LeafRecord → Change → Bool
 is_bound_change bodies (TakesBack coin tip q) = option_map_or (may_reclaim coin tip) (slice_get bodies q) false
 is_bound_change bodies change = true
+
+-- what is due for a coin
+abbrev pub due_of_coin : (List ℕ → List ℕ) → WalletRecords → List RootCall → ℕ → List RootCall
+due_of_coin dig wallet log coin = due_in dig wallet log coin (coin_state dig wallet log coin)
 
 -- what a wallet keeps in memory beside its records
 pub record IsKept (dig : List ℕ → List ℕ) (records : WalletRecords) (who : WalletIdentity) (secret : Secret)

@@ -1,16 +1,18 @@
 ghost use Rattle.std.specs.Prelude.{◌≡◌, ◌++◌, true, is_some, None, Err, IfOk, OnOk, OnErr};
+ghost use Rattle.std.specs.List.{flat_map};
 ghost use Rattle.plasma_tx.specs.Views.{coin_at};
 ghost use Rattle.watch_duty.specs.Duty.{tip_shown};
-ghost use Rattle.node_rules.specs.Wallet.{start_of, exit_start, coin_state, due_at, due_in, watch_answer};
+ghost use Rattle.node_rules.specs.Wallet.{start_of, exit_start, due_at, noted, watch_answer};
 ghost use Rattle.wallet_node.specs.State.{wallet_stop};
-ghost use Rattle.wallet_node.specs.Inside.{links_behind, spends_at};
+ghost use Rattle.wallet_node.specs.Inside.{links_behind, spends_at, due_of_coin};
 
 use super::node::WalletNode;
 use crash_disk::Disk;
 use node_rules::WalletRefusal;
 use plasma_base::{Hash32, NoMemory};
 use plasma_tx::{Link, RootCall, RootLog, Shown};
-use wallet_core::CoinState;
+use std::collections::BTreeSet;
+use wallet_core::{CoinState, Notes, own_coins};
 use watch_duty::push_due;
 
 // What shows the block that the links end at, behind this deposit block.
@@ -106,8 +108,7 @@ impl<D: Disk, H: Hash32 + Copy> WalletNode<D, H> {
     // Adds what is due for a coin.
     fn push_for(&self, log: &RootLog, coin: u64, calls: &mut Vec<RootCall>) -> Result<(), NoMemory>
         ensures { OnOk result (calls.new.items ≡ calls.old.items
-            ++ due_in (H.digest_of self.now.hash) self.now.records log.now.log coin
-            (coin_state (H.digest_of self.now.hash) self.now.records log.now.log coin)) }
+            ++ due_of_coin (H.digest_of self.now.hash) self.now.records log.now.log coin) }
     {
         match self.state(log, coin) {
             CoinState::Held { tip } => self.push_at(log, coin, tip, calls),
@@ -116,17 +117,40 @@ impl<D: Disk, H: Hash32 + Copy> WalletNode<D, H> {
         }
     }
 
+    // What it noted.
+    fn noted(&self) -> &Notes
+        ensures { result.now ≡ noted (H.digest_of self.now.hash) self.now.records }
+    {
+        self.memory.noted()
+    }
+
+    // What is due for these coins, in their order.
+    fn due_for(&self, log: &RootLog, coins: &BTreeSet<u64>) -> Result<Vec<RootCall>, NoMemory>
+        ensures { IfOk result (λ calls. calls.items
+            ≡ flat_map (due_of_coin (H.digest_of self.now.hash) self.now.records log.now.log) coins.now.keys) }
+    {
+        let mut calls = Vec::new(self.alloc);
+        for coin in coins {
+            self.push_for(log, *coin, &mut calls)?;
+        }
+        Ok(calls)
+    }
+
     /// What is due for the coins that the wallet holds or leaves with, by rising coin, for its account. It
-    /// reads no record anew, and makes no device call, also after a device fault. Of the coins it asks those alone
-    /// of which an exit stands.
+    /// reads no record anew, and makes no device call, also after a device fault. It asks the coins of which an
+    /// exit stands, or those that the wallet may have, whichever are fewer.
     pub fn watch(&self, log: &RootLog) -> Result<Vec<RootCall>, NoMemory>
         ensures { IfOk result (λ calls. calls.items
             ≡ watch_answer (H.digest_of self.now.hash) self.now.records log.now.log) }
     {
-        let mut calls = Vec::new(self.alloc);
-        for coin in log.exiting() {
-            self.push_for(log, *coin, &mut calls)?;
+        let noted = self.noted();
+        let exiting = log.exiting();
+        let accepted = noted.accepted.as_slice().len();
+        let deposited = log.deposits(noted.me.account).len();
+        if accepted.saturating_add(deposited) < exiting.len() {
+            let own = own_coins(self.alloc, noted, log)?;
+            return self.due_for(log, &own);
         }
-        Ok(calls)
+        self.due_for(log, exiting)
     }
 }

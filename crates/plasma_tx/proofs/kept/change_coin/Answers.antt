@@ -11,8 +11,8 @@ returns-in_err-insert-clause-exiting c =
 
 pub returns-clause-exiting : goal.returns-clause-exiting
 returns-clause-exiting c =
-    exiting-changed c.args.states.now c.change_state-changed.new.states c.args.exiting.now c.keep_if.new.exiting
+    exiting-changed c.args.states.now c.change-changed.new.self c.args.exiting.now c.keep_if.new.exiting
     c.args.coin (c.keep_if.ensures.coin c.in_ok-insert.ensures.updates.1 ∙ c.has_exits-stands.ensures)
     (λ n other. c.keep_if.ensures.others n other ∙ c.in_ok-insert.ensures.updates.2 n other)
-    (state-apart c.args.states.now c.change_state-changed.new.states c.args.coin _ c.change_state-changed.result
-    c.change_state-changed.ensures.ok c.change_state-changed.ensures.err)
+    (state-apart c.args.states.now c.change-changed.new.self c.args.coin _ c.change-changed.result
+    c.change-changed.ensures.ok c.change-changed.ensures.err)

@@ -31,13 +31,14 @@ returns-in_err-insert-clause-err c =
       exiting_rise = k.exiting_rise;
       roots_are = λ root. ap (λ (keys : List (List ℕ)). list_any (is_at (slice_cmp nat_cmp root)) keys)
           c.in_err-insert.ensures.err ∙ k.roots_are root;
+      deposits_are = k.deposits_are;
     }
     in
     on_err _ same
 
 pub returns-clause-ok : goal.returns-clause-ok
 returns-clause-ok c =
-    λ log k. keeps-Commit log c.args.account c.args.root c.args.self.now _ refl refl refl refl
+    λ log k. keeps-Commit log c.args.account c.args.root c.args.self.now _ refl refl refl refl refl
     (c.push_reserved.ensures
     ∙ ap (λ (l : List BlockView). l ++ Root c.args.root ∷ []) c.in_ok-reserve.ensures.items)
     c.in_ok-insert.ensures.updates.0 k

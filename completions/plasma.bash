@@ -1,0 +1,14 @@
+# Completes the words of plasma in bash. It is read from a folder of completions, or by `source completions/plasma.bash`.
+_plasma() {
+    local word=${COMP_WORDS[COMP_CWORD]} words=''
+    COMPREPLY=()
+    case $COMP_CWORD in
+        1) words='replay brief make verify init wallet operator watcher --help --where' ;;
+        2) [ "${COMP_WORDS[1]}" != init ] || words='wallet operator watcher' ;;
+        6) [ "${COMP_WORDS[1]} ${COMP_WORDS[2]}" != 'init wallet' ] || words='5 6' ;;
+        7) [ "${COMP_WORDS[1]} ${COMP_WORDS[2]}" != 'init wallet' ] || words='3 4' ;;
+    esac
+    # (behind < and > bash completes names of files by itself)
+    mapfile -t COMPREPLY < <(compgen -W "$words" -- "$word")
+}
+complete -F _plasma plasma
