@@ -45,12 +45,12 @@ opening_causes tests log coin asked opening =
     )
 
 -- An opening is looked at, the one at this place: its block has to be opened, and nothing is wrong at a block before.
-pub record IsLookedAt (asked : ℕ → Bool) (failure : ℕ → Option HistoryRefusal) (openings : List RawOpening) : Type 0
+pub record IsLookedAt (asks : ℕ → Bool) (failure : ℕ → Option HistoryRefusal) (openings : List RawOpening) : Type 0
   where
     pub place : ℕ
     pub opening : RawOpening
     pub is : slice_get openings place ≡ Some opening
-    pub asked : asked opening.block ≡ true
+    pub asked : asks opening.block ≡ true
     pub clear : (n : ℕ) → n < opening.block → failure n ≡ None
 
 -- ---- histories

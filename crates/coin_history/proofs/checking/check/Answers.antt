@@ -1,4 +1,4 @@
-use Rattle.std.proofs.Common.{List, ℕ, ◌∙◌, ap, sym, subst}
+use Rattle.std.proofs.Common.{List, ℕ, ◌∙◌, ap, subst}
 use Rattle.plasma_tx.specs.Shown.{tests_by, rules_of}
 use Rattle.coin_history.specs.History.{tagged}
 use Rattle.coin_history.specs.Checking.{history_of, LooksAtHistory}

@@ -1,7 +1,14 @@
 use Rattle.std.proofs.lemmas.Result.{err_from_is_err_and}
-use Rattle.coin_history.proofs.BundleItems.{low_of, HaveRead-refused, HaveRead-all, HaveRead-whole}
+use Rattle.coin_history.proofs.BundleItems.{low_of, HaveRead-more, HaveRead-refused, HaveRead-all, HaveRead-whole}
 use Rattle.coin_history.proofs.HistoryRefusals.{item-own}
 use Rattle.coin_history.proofs.reading.items_at.Goals as goal
+
+pub loop-preserved : goal.loop-preserved
+loop-preserved c =
+    HaveRead-more c.args.bytes.now c.args.place c.args.count c.loop.openings.items c.loop.end (low_of c.loop.before)
+    c.loop.counter c.loop.invariant c.push_opening.new.openings.items
+    (record { block = c.in_ok-item.item.block; bytes = c.in_ok-item.item.opening.now }) c.in_ok-item.item.end
+    c.loop-test.true c.in_ok-item.ensures.within c.in_ok-push_opening.ensures c.in_ok-item.ensures.ok
 
 pub returns-in_err-item-clause-err : goal.returns-in_err-item-clause-err
 returns-in_err-item-clause-err c =
