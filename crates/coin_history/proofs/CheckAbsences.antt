@@ -8,9 +8,9 @@ use Rattle.coin_history.specs.History.{leaf_of_opening, is_absent}
 use Rattle.coin_history.specs.declared.refusal.HistoryRefusal.{HistoryRefusal}
 use Rattle.coin_history.specs.declared.refusal.HistoryRefusal.TheVariants.{MissingBlock, NotAbsent}
 use Rattle.coin_history.specs.Bundles.{AreRising}
-use Rattle.coin_history.specs.Checking.{first_cause, is_asked, opening_at, lowest_failure, above, unless_failed, opening_causes, failure_of_absence}
+use Rattle.coin_history.specs.Checking.{first_cause, is_asked, opening_at, lowest_failure, above, unless_failed, opening_causes, failure_of_absence, IsLookedAt}
 use Rattle.coin_history.specs.Inside.{NoneIsAsked, IsFirstAsked}
-use Rattle.coin_history.proofs.CheckFacts.{Passed, first-here, first-later, failed-none, failed-some, absent-from, missing-next, failing-next, holding-next, missing-last, holding-last, passed-start, asked-high}
+use Rattle.coin_history.proofs.CheckFacts.{Passed, first-here, first-later, failed-none, failed-some, absent-from, missing-next, failing-next, holding-next, looked-at, missing-last, holding-last, passed-start, asked-high}
 
 -- what is answered of a bundle whose tip is the last block
 abbrev pub absence_by : Tests → List RootCall → ℕ → ℕ → ℕ → List RawOpening → Result Unit HistoryRefusal
@@ -45,6 +45,17 @@ cleared-missing {tests} {log} {coin} {after} {last} {openings} {items} {i} {numb
     missing-next (failure_of_absence tests log coin after last) (is_asked log after last) (λ m. refl) openings
     items last tt i
     o number n (record { same = cleared.same; inside = inside; is = is }) cleared.passed first
+
+-- the next opening is looked at
+pub cleared-looked : {tests : Tests} {log : List RootCall} {coin after last : ℕ} {openings items : List RawOpening}
+    {i number : ℕ} → Cleared tests log coin after last openings items i number
+    → (o : RawOpening) → i < length items → o ≡ get_or items i o
+    → NoneIsAsked (is_asked log after last) number o.block → is_asked log after last o.block ≡ true
+    → IsLookedAt (is_asked log after last)
+    (λ n. failure_of_absence tests log coin after last n (opening_at openings n)) openings
+cleared-looked {tests} {log} {coin} {after} {last} {openings} {items} {i} {number} cleared o inside is none asked =
+    looked-at (failure_of_absence tests log coin after last) (is_asked log after last) (λ m. refl) openings items last i
+    o number (record { same = cleared.same; inside = inside; is = is }) cleared.passed none asked
 
 -- the next opening isn't asked, or doesn't open its block's root
 pub cleared-unopened : {tests : Tests} {log : List RootCall} {coin after last : ℕ} {openings items : List RawOpening}

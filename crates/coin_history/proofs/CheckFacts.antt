@@ -1,8 +1,9 @@
 -- What the check of a bundle rests on: the blocks that are asked for, and the openings that were passed.
 use Rattle.std.proofs.Common.{◌≡◌, ℕ, zero, suc, ◌+◌, ◌<◌, ◌≤◌, ◌==◌, Bool, true, false, if◌then◌else◌, List, [], ◌∷◌, ◌++◌, length, get_or, drop, Option, Some, None, Ok, Err, inl, inr, refl, sym, ap, ◌∙◌, subst, arith}
-use Rattle.std.specs.Prelude.{is_some, nat_lt, Result}
+use Rattle.std.specs.Prelude.{is_some, nat_lt, slice_get, Result}
 use Rattle.std.specs.Option.{option_or, option_and_then}
 use Rattle.std.proofs.lemmas.List.{drop_more, drop_all}
+use Rattle.std.proofs.lemmas.Option.{slice_get_read}
 use Rattle.std.proofs.lemmas.Bool.{cases_eq, cases_lt, eq-eqb, ne_eqb, and_parts, false_from_ne_true}
 use Rattle.plasma_tx.specs.declared.call.RootCall.{RootCall}
 use Rattle.plasma_tx.specs.declared.opening.RawOpening.{RawOpening}
@@ -22,7 +23,7 @@ use Rattle.coin_history.specs.History.{is_committed, opens_block, leaf_of_openin
 use Rattle.coin_history.specs.declared.refusal.HistoryRefusal.{HistoryRefusal}
 use Rattle.coin_history.specs.declared.refusal.HistoryRefusal.TheVariants.{MissingBlock}
 use Rattle.coin_history.specs.Bundles.{AreRising}
-use Rattle.coin_history.specs.Checking.{Cause, first_cause, is_asked, opening_at, missing, lowest_failure, above, unless_failed, may_be_tip, history_of}
+use Rattle.coin_history.specs.Checking.{Cause, first_cause, is_asked, opening_at, missing, lowest_failure, above, unless_failed, may_be_tip, history_of, opening_causes, IsLookedAt, LooksAtHistory}
 use Rattle.coin_history.specs.Inside.{NoneIsAsked, IsFirstAsked}
 pub use Rattle.coin_history.proofs.HistoryOpenings.{asked-parts, lowest-none_from, lowest-some_from, Up, up-rising, up-weaker, at-head, past-head, below-none, above-block}
 
@@ -99,6 +100,13 @@ pub failed-some : {A : Type 0} (failure : Option HistoryRefusal) (answer : A) (w
 failed-some None answer why is = absurd (cc is)
 failed-some (Some other) answer why is = cc
 
+-- an opening whose leaf was read has to be opened
+pub opened-asked : (tests : Tests) (log : List RootCall) (coin : ℕ) (asked : Bool) (o : RawOpening)
+    (leaf read : List ℕ) → unless_failed (first_cause (opening_causes tests log coin asked o)) leaf ≡ Ok read
+    → asked ≡ true
+opened-asked tests log coin true o leaf read is = refl
+opened-asked tests log coin false o leaf read is = absurd (cc is)
+
 -- ---- the lowest failure
 
 -- ---- rising blocks
@@ -147,7 +155,7 @@ module _ (failure : ℕ → Option RawOpening → Option HistoryRefusal) (asked 
   unasked n is = unopened n ∙ ap (λ (b : Bool). missing b n) is
 
   -- nothing fails below a number where the rest begins there or above, and none was asked between
-  clear-below : (rest : List RawOpening) (passed to : ℕ) → Passed failure openings rest passed → Up to rest
+  pub clear-below : (rest : List RawOpening) (passed to : ℕ) → Passed failure openings rest passed → Up to rest
       → NoneIsAsked asked passed to → (n : ℕ) → n < to → failure n (opening_at openings n) ≡ None
   clear-below rest passed to are up none n less = elim (cases_lt n passed) [
     | inl below ↦ are.clear n below
@@ -248,6 +256,22 @@ module _ (failure : ℕ → Option RawOpening → Option HistoryRefusal) (asked 
   holding-next i o passed at are none holds =
       passed-next failure asked unopened openings o (drop (i + 1) items) passed (at-index i o passed at are) none holds
 
+  -- where it has to be opened it is looked at
+  pub looked-at : (i : ℕ) (o : RawOpening) (passed : ℕ) → IsAt openings items i o
+      → Passed failure openings (drop i items) passed → NoneIsAsked asked passed o.block → asked o.block ≡ true
+      → IsLookedAt asked (λ n. failure n (opening_at openings n)) openings
+  looked-at i o passed at are none is =
+      let here = at-index i o passed at are in
+      record {
+        place = i;
+        opening = o;
+        is = subst (λ (xs : List RawOpening). slice_get xs i ≡ Some o) at.same
+            (slice_get_read items (length items) i o refl at.inside at.is);
+        asked = is;
+        clear = clear-below failure asked unopened openings (o ∷ drop (i + 1) items) passed o.block here
+            (omega arith, here.up.1) none;
+      }
+
   all-passed : (i passed : ℕ) → length items ≤ i → Passed failure openings (drop i items) passed
       → Passed failure openings [] passed
   all-passed i passed long are =
@@ -328,3 +352,19 @@ pub tagged-same : (tests : Tests) (rules : Rules) (log : List RootCall) (bundle 
     → history_of tests (tagged rules.tag) log bundle ≡ history_of tests rules log bundle
 unfolding history_of links_in
 tagged-same tests rules log bundle = refl
+
+pub tagged-looks : (tests : Tests) (rules : Rules) (log : List RootCall) (bundle : Bundle)
+    → LooksAtHistory tests (tagged rules.tag) log bundle → LooksAtHistory tests rules log bundle
+unfolding links_in
+tagged-looks tests rules log bundle is = record {
+  made = is.made;
+  coin = is.coin;
+  tip = is.tip;
+  looks = record {
+    place = is.looks.place;
+    opening = is.looks.opening;
+    is = is.looks.is;
+    asked = is.looks.asked;
+    clear = is.looks.clear;
+  };
+}

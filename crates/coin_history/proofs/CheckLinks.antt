@@ -21,9 +21,9 @@ use Rattle.coin_history.specs.History.{leaf_of_opening, is_absent, transfer_of, 
 use Rattle.coin_history.specs.declared.refusal.HistoryRefusal.{HistoryRefusal}
 use Rattle.coin_history.specs.declared.refusal.HistoryRefusal.TheVariants.{MissingBlock, NotLink, BadSignature}
 use Rattle.coin_history.specs.Bundles.{AreRising}
-use Rattle.coin_history.specs.Checking.{first_cause, is_asked, opening_at, lowest_failure, above, unless_failed, opening_causes, links_before, link_causes, failure_in}
+use Rattle.coin_history.specs.Checking.{first_cause, is_asked, opening_at, lowest_failure, above, unless_failed, opening_causes, links_before, link_causes, failure_in, IsLookedAt}
 use Rattle.coin_history.specs.Inside.{NoneIsAsked, IsFirstAsked, links_with}
-use Rattle.coin_history.proofs.CheckFacts.{Up, Passed, IsAt, at-index, rest-at, first-append, failed-none, failed-some, empty-is, missing-next, failing-next, holding-next, missing-last, holding-last, passed-start, asked-high}
+use Rattle.coin_history.proofs.CheckFacts.{Up, Passed, IsAt, at-index, rest-at, first-append, failed-none, failed-some, empty-is, missing-next, failing-next, holding-next, looked-at, missing-last, holding-last, passed-start, asked-high}
 
 -- ---- links
 
@@ -281,6 +281,21 @@ walked-missing {tests} {rules} {log} {made} {bundle} {items} {i} {number} walked
     (is_asked log made.deposit bundle.tip) (λ m. refl) bundle.openings items bundle.tip (links_of rules made
     bundle) i o
     number n (record { same = walked.same; inside = inside; is = is }) walked.passed first
+
+-- the next opening is looked at
+pub walked-looked : {tests : Tests} {rules : Rules} {log : List RootCall} {made : CoinView} {bundle : Bundle}
+    {items : List RawOpening} {i number : ℕ} {spends : List Link}
+    → Walked tests rules log made bundle items i number spends
+    → (o : RawOpening) → i < length items → o ≡ get_or items i o
+    → NoneIsAsked (is_asked log made.deposit bundle.tip) number o.block
+    → is_asked log made.deposit bundle.tip o.block ≡ true
+    → IsLookedAt (is_asked log made.deposit bundle.tip)
+    (λ n. failure_in tests rules log bundle.tip (links_of rules made bundle) n (opening_at bundle.openings n))
+    bundle.openings
+walked-looked {tests} {rules} {log} {made} {bundle} {items} {i} {number} walked o inside is none asked =
+    looked-at (failure_in tests rules log bundle.tip (links_of rules made bundle))
+    (is_asked log made.deposit bundle.tip) (λ m. refl) bundle.openings items bundle.tip i o number
+    (record { same = walked.same; inside = inside; is = is }) walked.passed none asked
 
 -- the next opening isn't asked, or doesn't open its block's root
 pub walked-unopened : {tests : Tests} {rules : Rules} {log : List RootCall} {made : CoinView} {bundle : Bundle}

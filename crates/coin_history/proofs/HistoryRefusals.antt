@@ -2,6 +2,7 @@
 use Rattle.std.proofs.Common.{◌≡◌, ℕ, zero, suc, ◌+◌, ◌==◌, Bool, true, false, if◌then◌else◌, List, [], ◌∷◌, ◌++◌, length, Option, Some, None, Ok, Err, refl, sym, ap, ◌∙◌}
 use Rattle.std.specs.Prelude.{Result, nat_lt, not, slice_range}
 use Rattle.std.specs.List.{AllByRecursion}
+use Rattle.std.proofs.lemmas.Bool.{true≢false}
 use Rattle.plasma_tx.specs.declared.opening.RawOpening.{RawOpening}
 use Rattle.plasma_tx.specs.declared.links.Links.{Links}
 use Rattle.plasma_tx.specs.declared.call.RootCall.{RootCall}
@@ -10,7 +11,7 @@ use Rattle.plasma_tx.specs.Views.{coin_at}
 use Rattle.plasma_tx.specs.Shown.{Tests, Rules}
 use Rattle.coin_history.specs.declared.bundle.Bundle.{Bundle}
 use Rattle.coin_history.specs.declared.refusal.HistoryRefusal.{HistoryRefusal}
-use Rattle.coin_history.specs.declared.refusal.HistoryRefusal.TheVariants.{BadBundle, NoCoin, UnknownBlock, MissingBlock, NotAbsent}
+use Rattle.coin_history.specs.declared.refusal.HistoryRefusal.TheVariants.{BadBundle, NoCoin, UnknownBlock, MissingBlock, NotAbsent, NoMemory}
 use Rattle.coin_history.specs.Bundles.{length_at, Items, with_item, items_in, bundle_of, bundle_in}
 use Rattle.coin_history.specs.History.{is_absent, links_of}
 use Rattle.coin_history.specs.Checking.{Cause, first_cause, is_asked, opening_at, missing, opening_causes, links_before, link_causes, failure_in, lowest_failure, above, unless_failed, may_be_tip, checked, where_made, history_of, failure_of_absence, absence_of}
@@ -71,7 +72,7 @@ refused-item : (opening : RawOpening) (rest : Result Items HistoryRefusal) → R
 refused-item opening (Err other) rest = λ why is. rest why (cc is)
 refused-item opening (Ok items) rest = refused-ok is_of_reader _
 
-refused-items : (bytes : List ℕ) (place low count : ℕ) → Refused is_of_reader (items_in bytes place low count)
+pub refused-items : (bytes : List ℕ) (place low count : ℕ) → Refused is_of_reader (items_in bytes place low count)
 unfolding items_in
 refused-items bytes place low zero = refused-ok is_of_reader _
 refused-items bytes place low (suc count) =
@@ -84,6 +85,13 @@ refused-items bytes place low (suc count) =
     (refused-bad (nat_lt (length bytes) (place + 12)) (place + 8) _
     (refused-bad (nat_lt (length bytes) end) (place + 12) (with_item opening further)
     (refused-item opening further (refused-items bytes end (block + 1) count)))))
+
+-- so not for want of memory
+pub item-own : (bytes : List ℕ) (place low count : ℕ) (why : HistoryRefusal)
+    → items_in bytes place low count ≡ Err why → why ≡ NoMemory → ⊥
+item-own bytes place low count why is e =
+    let own : is_of_reader why ≡ true = refused-items bytes place low count why is in
+    true≢false (sym own ∙ ap is_of_reader e)
 
 refused-bundle : (bytes : List ℕ) (items : Result Items HistoryRefusal) → Refused is_of_reader items
     → Refused is_of_reader (bundle_of bytes items)

@@ -1,3 +1,4 @@
+pub mod BundleItems
 pub mod BundleLaws
 pub mod HistoryOpenings
 pub mod HistoryLinks
@@ -10,3 +11,4 @@ pub mod CheckAbsences
 pub mod CheckLinks
 pub mod HistoryShape
 pub mod HistoryRefusals
+pub mod HistoryFailures

@@ -1,6 +1,6 @@
 -- The bytes of a bundle: the coin, the tip and the number of items, then the items and nothing after them. An item is
 -- a block number, the length of its opening's bytes and these bytes. Block numbers rise strictly.
-use Rattle.std.specs.Prelude.{◌≡◌, ℕ, zero, suc, ◌+◌, ◌^◌, ◌<◌, ◌==◌, nat_lt, if◌then◌else◌, List, [], ◌∷◌, ◌++◌, length, slice_range, Result, Ok, Err}
+use Rattle.std.specs.Prelude.{◌≡◌, ℕ, zero, suc, ◌+◌, ◌^◌, ◌<◌, ◌≤◌, ◌==◌, true, nat_lt, if◌then◌else◌, List, [], ◌∷◌, ◌++◌, length, slice_range, Result, Ok, Err, is_ok}
 use Rattle.std.specs.Int.{w32, to_be_bytes, from_be_bytes}
 use Rattle.std.specs.List.{All, AllPairs, flat_map}
 use Rattle.plasma_tx.specs.declared.opening.RawOpening.{RawOpening}
@@ -69,6 +69,12 @@ bundle_in bytes =
     else if nat_lt (length bytes) 16 then Err (BadBundle 8)
     else if nat_lt (length bytes) 20 then Err (BadBundle 16)
     else bundle_of bytes (items_in bytes 20 0 (length_at bytes 16))
+
+-- The bytes have the three numbers that a bundle begins with, and behind them, of at least one item, the first whole.
+pub record HasFirstItem (bytes : List ℕ) : Type 0 where
+  pub numbers : 20 ≤ length bytes
+  pub counted : 1 ≤ length_at bytes 16
+  pub whole : is_ok (items_in bytes 20 0 1) ≡ true
 
 -- the blocks of openings rise strictly
 abbrev pub AreRising : List RawOpening → Type 0

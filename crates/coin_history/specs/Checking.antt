@@ -1,6 +1,6 @@
 -- What a bundle is refused for: the coin and the tip come first; then, at the lowest block at which something is
 -- wrong, the first cause that holds there.
-use Rattle.std.specs.Prelude.{ℕ, zero, suc, ◌==◌, ◌&&◌, ◌||◌, not, Bool, if◌then◌else◌, nat_lt, nat_le, max, List, [], ◌∷◌, ◌++◌, filter, find, Option, Some, None, Result, Ok, Err}
+use Rattle.std.specs.Prelude.{◌≡◌, ℕ, ◌<◌, zero, suc, ◌==◌, ◌&&◌, ◌||◌, not, Bool, true, if◌then◌else◌, nat_lt, nat_le, max, List, [], ◌∷◌, ◌++◌, filter, find, slice_get, Option, Some, None, Result, Ok, Err}
 use Rattle.std.specs.Option.{option_or}
 use Rattle.plasma_tx.specs.declared.opening.RawOpening.{RawOpening}
 use Rattle.plasma_tx.specs.declared.links.Links.{Links}
@@ -43,6 +43,15 @@ opening_causes tests log coin asked opening =
     ∷ (not (opens_block tests log coin opening), BadOpening opening.block)
     ∷ []
     )
+
+-- An opening is looked at, the one at this place: its block has to be opened, and nothing is wrong at a block before.
+pub record IsLookedAt (asks : ℕ → Bool) (failure : ℕ → Option HistoryRefusal) (openings : List RawOpening) : Type 0
+  where
+    pub place : ℕ
+    pub opening : RawOpening
+    pub is : slice_get openings place ≡ Some opening
+    pub asked : asks opening.block ≡ true
+    pub clear : (n : ℕ) → n < opening.block → failure n ≡ None
 
 -- ---- histories
 
@@ -119,6 +128,15 @@ unfoldable pub history_of : Tests → Rules → List RootCall → Bundle → Res
 history_of tests rules log bundle =
     where_made (coin_at log bundle.coin) (λ made. checked tests rules log bundle (links_of rules made bundle))
 
+-- the log has the coin, the tip may be one, and an opening is looked at
+pub record LooksAtHistory (tests : Tests) (rules : Rules) (log : List RootCall) (bundle : Bundle) : Type 0 where
+  pub made : CoinView
+  pub coin : coin_at log bundle.coin ≡ Some made
+  pub tip : may_be_tip log made.deposit bundle.tip ≡ true
+  pub looks : IsLookedAt (is_asked log made.deposit bundle.tip)
+      (λ n. failure_in tests rules log bundle.tip (links_of rules made bundle) n (opening_at bundle.openings n))
+      bundle.openings
+
 -- ---- absences
 
 -- what is wrong at block n where the coin has to be absent after a block and up to the last
@@ -139,3 +157,9 @@ absence_of tests log after last bundle =
     (above last bundle.openings))
     tt
     else Err (UnknownBlock bundle.tip)
+
+-- the tip is the last block, and an opening is looked at
+pub record LooksAtAbsence (tests : Tests) (log : List RootCall) (after last : ℕ) (bundle : Bundle) : Type 0 where
+  pub tip : bundle.tip ≡ last
+  pub looks : IsLookedAt (is_asked log after last)
+      (λ n. failure_of_absence tests log bundle.coin after last n (opening_at bundle.openings n)) bundle.openings

@@ -1,20 +1,22 @@
 -- What holds of histories and absences.
-use Rattle.std.specs.Prelude.{◌≡◌, ◌≢◌, ◌⊎◌, ℕ, ◌<◌, ◌≤◌, ◌&&◌, Bool, true, false, nat_lt, nat_le, List, [], ◌∷◌, map, filter, length, take, Some, Ok, Err}
+use Rattle.std.specs.Prelude.{◌≡◌, ◌≢◌, ◌⊎◌, ℕ, ◌-◌, ◌<◌, ◌≤◌, ◌&&◌, ◌||◌, not, Bool, true, false, nat_lt, nat_le, List, [], ◌∷◌, map, filter, length, take, slice_get, Option, Some, None, is_some, Ok, Err}
 use Rattle.std.specs.List.{All, AllPairs, Contains}
+use Rattle.std.specs.Option.{option_map_or}
 use Rattle.plasma_tx.specs.declared.opening.RawOpening.{RawOpening}
 use Rattle.plasma_tx.specs.declared.signed_tx.SignedTx.{SignedTx}
 use Rattle.plasma_tx.specs.declared.links.Link.{Link}
 use Rattle.plasma_tx.specs.declared.links.Links.{Links}
 use Rattle.plasma_tx.specs.declared.call.RootCall.{RootCall}
-use Rattle.plasma_tx.specs.Links.{tip_of}
-use Rattle.plasma_tx.specs.Views.{blocks}
+use Rattle.plasma_tx.specs.declared.views.CoinView.{CoinView}
+use Rattle.plasma_tx.specs.Links.{tip_of, last_owner_of}
+use Rattle.plasma_tx.specs.Views.{blocks, coin_at, owner_of_opening}
 use Rattle.plasma_tx.specs.Shown.{Tests, Rules, root_at}
 use Rattle.coin_history.specs.declared.bundle.Bundle.{Bundle}
 use Rattle.coin_history.specs.declared.refusal.HistoryRefusal.{HistoryRefusal}
 use Rattle.coin_history.specs.declared.refusal.HistoryRefusal.TheVariants.{BadBundle, NoCoin, UnknownBlock, MissingBlock, BadOpening, NotLink, BadSignature, NotAbsent}
 use Rattle.coin_history.specs.Bundles.{AreRising, bundle_in}
-use Rattle.coin_history.specs.History.{is_absent, leaf_of_opening, IsHistory, IsAbsent}
-use Rattle.coin_history.specs.Checking.{history_of, absence_of}
+use Rattle.coin_history.specs.History.{committed_blocks, blocks_of, opens_block, is_absent, leaf_of_opening, transfer_of, links_of, AreLinked, IsHistory, IsAbsent}
+use Rattle.coin_history.specs.Checking.{opening_at, links_before, failure_in, may_be_tip, history_of, absence_of}
 
 -- a bundle whose blocks rise is answered its links exactly where it is a history with these links
 abbrev pub OnlyHistoriesPass : Type 0
@@ -122,6 +124,48 @@ abbrev pub TipsAreLinks : Type 0
 TipsAreLinks = (tests : Tests) (rules : Rules) (log : List RootCall) (bundle : Bundle) (links : Links)
     → IsHistory tests rules log bundle links
     → All (λ opening. opening.block ≡ bundle.tip → is_absent opening ≡ false) bundle.openings
+
+-- ---- the lowest failing block
+
+-- the openings of the blocks before block n, and the last of them whose leaf isn't empty
+abbrev pub openings_before : ℕ → List RawOpening → List RawOpening
+openings_before n openings = filter (λ opening. nat_lt opening.block n) openings
+
+abbrev pub last_shown : List RawOpening → Option RawOpening
+last_shown openings =
+    let shown = filter (λ opening. not (is_absent opening)) openings in slice_get shown (length shown - 1)
+
+-- A bundle of a coin that was made fails at block n, and at none before. Before n it is as a history is: each committed
+-- block after the deposit up to the tip has one opening, which opens its root at the coin, and there are no other
+-- openings; a leaf is empty, or is the next link, which the owner before signed. So the last link before n, which the
+-- opening at n is held against, is the transfer in the last leaf there that isn't empty; without one it is the deposit.
+pub record FailsFirstAt (tests : Tests) (rules : Rules) (log : List RootCall) (bundle : Bundle) (made : CoinView)
+    (n : ℕ) (why : HistoryRefusal) : Type 0 where
+  pub fails : failure_in tests rules log bundle.tip (links_of rules made bundle) n (opening_at bundle.openings n)
+      ≡ Some why
+  pub lowest : (m : ℕ) → m < n
+      → failure_in tests rules log bundle.tip (links_of rules made bundle) m (opening_at bundle.openings m) ≡ None
+  pub blocks : blocks_of (openings_before n bundle.openings)
+      ≡ filter (λ block. nat_lt block n) (committed_blocks log made.deposit bundle.tip)
+  pub opened : All (λ opening. opens_block tests log bundle.coin opening ≡ true) (openings_before n bundle.openings)
+  pub leaves : All (λ opening. (is_absent opening || is_some (transfer_of rules bundle.coin opening)) ≡ true)
+      (openings_before n bundle.openings)
+  pub shown : links_before n (links_of rules made bundle)
+      ≡ links_of rules made (record bundle { openings = openings_before n bundle.openings })
+  pub linked : AreLinked tests made.deposit made.owner (links_before n (links_of rules made bundle)).spends
+  pub tip : tip_of (links_before n (links_of rules made bundle))
+      ≡ option_map_or (λ opening. opening.block) (last_shown (openings_before n bundle.openings)) made.deposit
+  pub owner : last_owner_of (links_before n (links_of rules made bundle))
+      ≡ option_map_or owner_of_opening (last_shown (openings_before n bundle.openings)) made.owner
+
+-- a bundle whose blocks rise, of a coin that was made and to a tip that may be one, is refused for its lowest failing
+-- block
+abbrev pub RefusalsComeBehindLinks : Type 0
+RefusalsComeBehindLinks = (tests : Tests) (rules : Rules) (log : List RootCall) (bundle : Bundle) (made : CoinView)
+    (why : HistoryRefusal)
+    → AreRising bundle.openings → coin_at log bundle.coin ≡ Some made
+    → may_be_tip log made.deposit bundle.tip ≡ true → history_of tests rules log bundle ≡ Err why
+    → (n : ℕ) × FailsFirstAt tests rules log bundle made n why
 
 -- ---- refusals
 

@@ -2,7 +2,7 @@ ghost use Rattle.std.specs.Prelude.{◌≡◌, ◌≢◌, ◌≤◌, Err};
 ghost use Rattle.plasma_tx.specs.Views.{blocks};
 ghost use Rattle.plasma_tx.specs.Shown.{tests_by};
 ghost use Rattle.coin_history.specs.Bundles.{AreRising};
-ghost use Rattle.coin_history.specs.Checking.{opening_at, lowest_failure, above, unless_failed, failure_of_absence, absence_of};
+ghost use Rattle.coin_history.specs.Checking.{is_asked, opening_at, lowest_failure, above, unless_failed, failure_of_absence, absence_of, IsLookedAt, LooksAtAbsence};
 
 use super::bundle::Bundle;
 use super::coverage::{Span, first_asked, leaf_at, next_block};
@@ -18,7 +18,8 @@ use std::alloc::Global;
 /// `UnknownBlock`. Else the lowest block at which something is wrong is refused: `MissingBlock`
 /// where it has to be opened and isn't, `UnknownBlock` where it is opened and doesn't have to be,
 /// `BadOpening` where the opening doesn't read or doesn't open the root, `NotAbsent` where its leaf
-/// isn't empty. Each opening is read once, and memory is taken only while it is looked at.
+/// isn't empty. Each opening is read once, and memory is taken only while it is looked at: its block has
+/// to be opened, and nothing is wrong at a block before.
 #[tactic(auto, unfolding(crate::specs::Checking::absence_of))]
 pub fn absent<H: Hash32>(
     alloc: Global,
@@ -30,8 +31,11 @@ pub fn absent<H: Hash32>(
 ) -> Result<(), HistoryRefusal>
     requires rising { AreRising bundle.now.openings }
     requires made { last ≤ blocks log.now.log }
-    ensures { result ≢ Err HistoryRefusal.NoMemory
+    ensures value { result ≢ Err HistoryRefusal.NoMemory
         → result ≡ absence_of (tests_by (H.digest_of h.now)) log.now.log after last bundle.now }
+    ensures tip { bundle.now.tip ≢ last → result ≡ Err (HistoryRefusal.UnknownBlock bundle.now.tip) }
+    ensures memory { result ≡ Err HistoryRefusal.NoMemory
+        → LooksAtAbsence (tests_by (H.digest_of h.now)) log.now.log after last bundle.now }
 {
     if bundle.tip != last {
         return Err(HistoryRefusal::UnknownBlock { n: bundle.tip });
@@ -53,12 +57,16 @@ fn are_absent<H: Hash32>(
 ) -> Result<(), HistoryRefusal>
     requires rising { AreRising bundle.now.openings }
     requires made { span.high ≤ blocks log.now.log }
-    ensures { result ≢ Err HistoryRefusal.NoMemory → result ≡ unless_failed
+    ensures value { result ≢ Err HistoryRefusal.NoMemory → result ≡ unless_failed
         (lowest_failure (λ n. failure_of_absence (tests_by (H.digest_of h.now)) log.now.log bundle.now.coin
         span.low span.high
         n (opening_at bundle.now.openings n))
         (above span.high bundle.now.openings))
         tt }
+    ensures memory { result ≡ Err HistoryRefusal.NoMemory → IsLookedAt (is_asked log.now.log span.low span.high)
+        (λ n. failure_of_absence (tests_by (H.digest_of h.now)) log.now.log bundle.now.coin span.low span.high
+        n (opening_at bundle.now.openings n))
+        bundle.now.openings }
 {
     let defaults = defaults(h);
     let mut passed = 0;

@@ -62,7 +62,7 @@ pub struct Bundle {
 
 impl Bundle {
     ghost use Rattle.std.specs.List.{All};
-    ghost use Rattle.coin_history.specs.Bundles.{AreRising, bundle_in, bundle_text};
+    ghost use Rattle.coin_history.specs.Bundles.{AreRising, HasFirstItem, bundle_in, bundle_text};
 
     /// The bundle that the bytes spell: the coin and the tip as u64, the number of items as a u32, the
     /// items and nothing after them. An item is a block number as a u64, the length of its opening as a
@@ -73,6 +73,8 @@ impl Bundle {
     #[tactic(auto, unfolding(crate::specs::Bundles::bundle_in))]
     pub fn read(alloc: Global, bytes: &[u8]) -> Result<Bundle, HistoryRefusal>
         ensures value { result ≢ Err HistoryRefusal.NoMemory → result ≡ bundle_in bytes.now }
+        ensures short { length bytes.now < 20 → result ≡ bundle_in bytes.now }
+        ensures memory { result ≡ Err HistoryRefusal.NoMemory → HasFirstItem bytes.now }
         ensures rising { IfOk result (λ bundle. AreRising bundle.openings) }
         ensures count { IfOk result (λ bundle. length bundle.openings < 2 ^ 32) }
         ensures lengths { IfOk result (λ bundle. All (λ opening. length opening.bytes < 2 ^ 32) bundle.openings) }

@@ -1,11 +1,12 @@
-ghost use Rattle.std.specs.Prelude.{◌≡◌, ◌≢◌, ◌≤◌, ◌++◌, ℕ, List, Err, OnOk};
+ghost use Rattle.std.specs.Prelude.{◌≡◌, ◌≢◌, ◌≤◌, ◌++◌, ℕ, false, List, Some, None, Err, OnOk};
 ghost use Rattle.std.specs.Option.{option_map, option_to_list};
 ghost use Rattle.plasma_tx.specs.Links.{tip_of, last_owner_of};
-ghost use Rattle.plasma_tx.specs.Views.{blocks};
+ghost use Rattle.plasma_tx.specs.Views.{blocks, coin_at};
+ghost use Rattle.plasma_tx.specs.declared.views.CoinView.{CoinView};
 ghost use Rattle.plasma_tx.specs.Shown.{tests_by, rules_of};
 ghost use Rattle.coin_history.specs.Bundles.{AreRising};
 ghost use Rattle.coin_history.specs.History.{tagged, leaf_of_opening, transfer_of, links_of};
-ghost use Rattle.coin_history.specs.Checking.{opening_at, lowest_failure, above, unless_failed, first_cause, link_causes, failure_in, may_be_tip, history_of};
+ghost use Rattle.coin_history.specs.Checking.{is_asked, opening_at, lowest_failure, above, unless_failed, first_cause, link_causes, failure_in, may_be_tip, history_of, IsLookedAt, LooksAtHistory};
 ghost use Rattle.coin_history.specs.Inside.{links_with};
 
 use super::bundle::Bundle;
@@ -23,7 +24,8 @@ use std::alloc::Global;
 /// doesn't have to be, `BadOpening` where the opening doesn't read or doesn't open the root,
 /// `NotLink` where its leaf is neither empty nor the next transfer, or is empty at the tip, and
 /// `BadSignature` where the owner before didn't sign the transfer. Each opening is read once, and
-/// memory is taken for the links and for the opening that is looked at.
+/// memory is taken for the links and for the opening that is looked at: its block has to be opened, and
+/// nothing is wrong at a block before.
 pub fn check<H: Hash32>(
     alloc: Global,
     h: &H,
@@ -31,8 +33,14 @@ pub fn check<H: Hash32>(
     bundle: &Bundle,
 ) -> Result<Links, HistoryRefusal>
     requires rising { AreRising bundle.now.openings }
-    ensures { result ≢ Err HistoryRefusal.NoMemory
+    ensures value { result ≢ Err HistoryRefusal.NoMemory
         → result ≡ history_of (tests_by (H.digest_of h.now)) (rules_of log.now) log.now.log bundle.now }
+    ensures coin { coin_at log.now.log bundle.now.coin ≡ None → result ≡ Err HistoryRefusal.NoCoin }
+    ensures tip { (made : CoinView) → coin_at log.now.log bundle.now.coin ≡ Some made
+        → may_be_tip log.now.log made.deposit bundle.now.tip ≡ false
+        → result ≡ Err (HistoryRefusal.UnknownBlock bundle.now.tip) }
+    ensures memory { result ≡ Err HistoryRefusal.NoMemory
+        → LooksAtHistory (tests_by (H.digest_of h.now)) (rules_of log.now) log.now.log bundle.now }
 {
     check_tagged(alloc, h, &log.tag(), log, bundle)
 }
@@ -47,8 +55,14 @@ pub fn check_tagged<H: Hash32>(
     bundle: &Bundle,
 ) -> Result<Links, HistoryRefusal>
     requires rising { AreRising bundle.now.openings }
-    ensures { result ≢ Err HistoryRefusal.NoMemory
+    ensures value { result ≢ Err HistoryRefusal.NoMemory
         → result ≡ history_of (tests_by (H.digest_of h.now)) (tagged tag.now) log.now.log bundle.now }
+    ensures coin { coin_at log.now.log bundle.now.coin ≡ None → result ≡ Err HistoryRefusal.NoCoin }
+    ensures tip { (made : CoinView) → coin_at log.now.log bundle.now.coin ≡ Some made
+        → may_be_tip log.now.log made.deposit bundle.now.tip ≡ false
+        → result ≡ Err (HistoryRefusal.UnknownBlock bundle.now.tip) }
+    ensures memory { result ≡ Err HistoryRefusal.NoMemory
+        → LooksAtHistory (tests_by (H.digest_of h.now)) (tagged tag.now) log.now.log bundle.now }
 {
     let Some(made) = log.coin(bundle.coin) else {
         return Err(HistoryRefusal::NoCoin);
@@ -77,12 +91,17 @@ fn links_of<H: Hash32>(
 ) -> Result<Links, HistoryRefusal>
     requires rising { AreRising bundle.now.openings }
     requires made { bundle.now.tip ≤ blocks log.now.log }
-    ensures { result ≢ Err HistoryRefusal.NoMemory → let links = links_of (tagged tag.now) made.now bundle.now in
+    ensures value { result ≢ Err HistoryRefusal.NoMemory → let links = links_of (tagged tag.now) made.now bundle.now in
         result ≡ unless_failed
         (lowest_failure (λ n. failure_in (tests_by (H.digest_of h.now)) (tagged tag.now) log.now.log bundle.now.tip
         links n (opening_at bundle.now.openings n))
         (above bundle.now.tip bundle.now.openings))
         links }
+    ensures memory { result ≡ Err HistoryRefusal.NoMemory
+        → IsLookedAt (is_asked log.now.log made.now.deposit bundle.now.tip)
+        (λ n. failure_in (tests_by (H.digest_of h.now)) (tagged tag.now) log.now.log bundle.now.tip
+        (links_of (tagged tag.now) made.now bundle.now) n (opening_at bundle.now.openings n))
+        bundle.now.openings }
 {
     let defaults = defaults(h);
     let span = Span {

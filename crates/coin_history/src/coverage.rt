@@ -1,4 +1,4 @@
-ghost use Rattle.std.specs.Prelude.{◌≡◌, ◌≢◌, ◌≤◌, ◌+◌, IfOk, MatchOption, Err, Some, None, if◌then◌else◌};
+ghost use Rattle.std.specs.Prelude.{◌≡◌, ◌≢◌, ◌≤◌, ◌+◌, IfOk, MatchOption, true, Err, Some, None, if◌then◌else◌};
 ghost use Rattle.sparse_merkle.specs.TreeDigest.{AreDefaults};
 ghost use Rattle.plasma_tx.specs.Views.{blocks};
 ghost use Rattle.plasma_tx.specs.Shown.{tests_by, root_at};
@@ -66,7 +66,7 @@ pub fn next_block(log: &RootLog, block: u64) -> u64
 
 /// The leaf of an opening: `UnknownBlock` where its block doesn't have to be opened, `BadOpening` where it
 /// doesn't open the block's root at the coin. It is read once, with the 64 defaults of the digest that the
-/// caller made, and takes the memory of the leaf.
+/// caller made, and takes the memory of the leaf, where its block has to be opened.
 pub fn leaf_at<H: Hash32>(
     alloc: Global,
     h: &H,
@@ -77,10 +77,12 @@ pub fn leaf_at<H: Hash32>(
     opening: &RawOpening,
 ) -> Result<Bytes, HistoryRefusal>
     requires { AreDefaults (H.digest_of h.now) defaults.now }
-    ensures { result ≢ Err HistoryRefusal.NoMemory → result ≡ unless_failed
+    ensures value { result ≢ Err HistoryRefusal.NoMemory → result ≡ unless_failed
         (first_cause (opening_causes (tests_by (H.digest_of h.now)) log.now.log coin
         (is_asked log.now.log span.low span.high opening.now.block) opening.now))
         (leaf_of_opening opening.now) }
+    ensures memory { result ≡ Err HistoryRefusal.NoMemory
+        → is_asked log.now.log span.low span.high opening.now.block ≡ true }
 {
     let n = opening.block;
     if !is_asked(log, span, n) {

@@ -1,4 +1,4 @@
-ghost use Rattle.coin_history.specs.Laws.{OnlyAbsencesPass, AbsencesExcludeLinks, AbsencesPass, AbsencesRefusals, AbsencesStay, DepositsAreBare, HistoriesAgree, OnlyHistoriesPass, HistoriesHaveBeginnings, HistoriesHaveOneMeaning, HistoriesPass, HistoriesRefusals, HistoriesStay, LinksRise, ReadersRefusals, TipsAreLinks};
+ghost use Rattle.coin_history.specs.Laws.{OnlyAbsencesPass, AbsencesExcludeLinks, AbsencesPass, AbsencesRefusals, AbsencesStay, DepositsAreBare, HistoriesAgree, OnlyHistoriesPass, HistoriesHaveBeginnings, HistoriesHaveOneMeaning, HistoriesPass, HistoriesRefusals, HistoriesStay, LinksRise, ReadersRefusals, RefusalsComeBehindLinks, TipsAreLinks};
 
 /// A law: the check answers a bundle whose blocks rise its links exactly where the bundle is a history
 /// with these links.
@@ -51,6 +51,15 @@ pub fn a_history_has_its_shape()
     ensures rise { LinksRise }
     ensures deposit { DepositsAreBare }
     ensures tip { TipsAreLinks }
+{}
+
+/// A law: a bundle of a coin that was made, to a tip that may be one, is refused for what is wrong at the
+/// lowest block at which something is. Before that block it is as a history is: the openings are those
+/// of the committed blocks, and each leaf is empty or is the next link. So the last link there, which
+/// the failing opening is held against, is the transfer in the last leaf before that isn't empty, or the
+/// deposit.
+pub fn refusals_come_behind_links()
+    ensures { RefusalsComeBehindLinks }
 {}
 
 /// A law: bytes are refused only as a bad bundle; a history only for its coin, for a block that is

@@ -18,7 +18,7 @@ pub use coverage::{Span, first_asked, is_asked, leaf_at, next_block, root_at};
 pub use laws::{
     a_history_has_its_shape, absences_are_checked, absences_exclude_links, histories_agree,
     histories_are_checked, histories_have_beginnings, histories_have_one_meaning, histories_stay,
-    refusals_are_their_own,
+    refusals_are_their_own, refusals_come_behind_links,
 };
 pub use refusal::HistoryRefusal;
 pub use spelling::bundles_have_one_spelling;

@@ -1,4 +1,4 @@
-ghost use Rattle.std.specs.Prelude.{◌≡◌, ◌≢◌, ◌+◌, ◌≤◌, ◌<◌, ◌++◌, ◌∷◌, [], ℕ, suc, length, ◌↔◌, IsTrue, IfOk, IfErr, OnOk, MatchResult, Ok, Err};
+ghost use Rattle.std.specs.Prelude.{◌≡◌, ◌≢◌, ◌+◌, ◌≤◌, ◌<◌, ◌++◌, ◌∷◌, [], ℕ, suc, length, ◌↔◌, IsTrue, IfOk, IfErr, OnOk, MatchResult, Ok, Err, is_ok, true};
 ghost use Rattle.std.specs.Option.{option_map_or};
 ghost use Rattle.plasma_tx.specs.Spelling.{number_at};
 ghost use Rattle.coin_history.specs.Bundles.{length_at, items_in, with_item};
@@ -98,6 +98,8 @@ pub fn items_at(
     ensures ok { IfOk result (λ items.
         items_in bytes.now place 0 count ≡ Ok (record { openings = items.0; place = items.1 })) }
     ensures err { IfErr result (λ why. why ≢ HistoryRefusal.NoMemory → items_in bytes.now place 0 count ≡ Err why) }
+    ensures memory { IfErr result (λ why. why ≡ HistoryRefusal.NoMemory
+        → (1 ≤ count) × (is_ok (items_in bytes.now place 0 1) ≡ true)) }
 {
     let mut openings = Vec::new(alloc);
     let mut end = place;

@@ -4,3 +4,4 @@ pub mod Dues
 pub mod GuardLinks
 pub mod Accepts
 pub mod OneChallenge
+pub mod Places

@@ -1,22 +1,27 @@
 -- What holds of the calls that are due.
-use Rattle.std.specs.Prelude.{◌≡◌, ℕ, ◌≤◌, ◌==◌, Bool, true, false, if◌then◌else◌, nat_lt, List, [], ◌∷◌, ◌++◌, filter, length, Some}
-use Rattle.std.specs.List.{Contains, flat_map}
+use Rattle.std.specs.Prelude.{◌≡◌, ℕ, ◌≤◌, ◌==◌, ◌&&◌, not, Bool, true, false, if◌then◌else◌, nat_lt, List, [], ◌∷◌, ◌++◌, filter, map, length, slice_get, Option, Some, is_some}
+use Rattle.std.specs.List.{Contains, flat_map, position}
+use Rattle.std.specs.Option.{option_and_then, option_map_or}
 use Rattle.plasma_tx.specs.declared.opening.RawOpening.{RawOpening}
+use Rattle.plasma_tx.specs.declared.links.Link.{Link}
 use Rattle.plasma_tx.specs.declared.links.Links.{Links}
 use Rattle.plasma_tx.specs.declared.call.Shown.{Shown}
 use Rattle.plasma_tx.specs.declared.call.Shown.TheVariants.{Deposit as AtDeposit, Spend}
 use Rattle.plasma_tx.specs.declared.call.RootCall.{RootCall}
 use Rattle.plasma_tx.specs.declared.call.RootCall.TheVariants.{StartSpend, After, Between, Before, Respond}
+use Rattle.plasma_tx.specs.declared.views.ChallengeView.{ChallengeView}
 use Rattle.plasma_tx.specs.declared.views.ExitView.{ExitView}
+use Rattle.plasma_tx.specs.ChallengeLists.{is_challenged}
+use Rattle.plasma_tx.specs.Links.{tip_of}
 use Rattle.plasma_tx.specs.Views.{exits_of}
-use Rattle.plasma_tx.specs.declared.rules.TheConstants.{CHALLENGE_BOND}
+use Rattle.plasma_tx.specs.declared.rules.TheConstants.{CHALLENGE_BOND, CHALLENGE_WINDOW, RESPONSE_WINDOW}
 use Rattle.plasma_tx.specs.Shown.{Tests, Rules, root_at}
 use Rattle.plasma_tx.specs.Table.{answer_to, is_accepted}
 use Rattle.plasma_tx.specs.Money.{balance_of}
 use Rattle.coin_history.specs.declared.bundle.Bundle.{Bundle}
 use Rattle.coin_history.specs.History.{leaf_of_opening, IsHistory}
 use Rattle.watch_duty.specs.declared.guard.Guard.{Guard}
-use Rattle.watch_duty.specs.Duty.{due_for, due_of}
+use Rattle.watch_duty.specs.Duty.{link_after, tip_shown, within, due_for, due_of, due_calls}
 
 -- each call of the log was accepted after those before it, under these tests
 unfoldable pub IsLegalBy : Tests → Rules → List RootCall → Type 0
@@ -75,3 +80,56 @@ is_challenge call = false
 abbrev pub OneChallengeIsDue : Type 0
 OneChallengeIsDue = (log : List RootCall) (account : ℕ) (links : Links) (exit : ExitView)
     → length (filter is_challenge (due_for log account links exit)) ≤ 1
+
+-- ---- the rules, by the places of a guard's blocks
+
+-- b0, b1, .., bk: the deposit block, and the blocks of the links in order
+abbrev pub guard_blocks : Links → List ℕ
+guard_blocks links = links.deposit ∷ map (λ link. link.block) links.spends
+
+-- link i + 1, for the lowest i at which bi is the block: links are counted from 1. None where the block is no bi with
+-- i < k.
+abbrev pub link_by_place : Links → ℕ → Option Link
+link_by_place links block =
+    option_and_then (λ i. slice_get links.spends i) (position (λ b. b == block) (guard_blocks links))
+
+-- the link that spent a block of the guard is the one of that place
+abbrev pub LinksAreByPlace : Type 0
+LinksAreByPlace = (links : Links) (block : ℕ) → link_after links block ≡ link_by_place links block
+
+-- the call that is made by a link, if there is one, inside a window that was opened at that time
+abbrev pub by_link : List RootCall → ℕ → ℕ → Option Link → (RawOpening → RootCall) → List RootCall
+by_link log time window link call =
+    option_map_or (λ found. within log time window (call found.opening)) link []
+
+-- a Respond by link i + 1 to an open challenge at a bi with i < k
+abbrev pub response_by_place : List RootCall → ℕ → Links → ExitView → ChallengeView → List RootCall
+response_by_place log account links exit challenge =
+    if challenge.answered then []
+    else by_link log challenge.at RESPONSE_WINDOW (link_by_place links challenge.block)
+    (Respond account links.coin exit.block challenge.block)
+
+-- What is due for an exit with block e and parent p, by the first of the five rules whose condition holds: where e is a
+-- bi with i < k an After by link i + 1; where e is later than bk, and p is a bi with i < k, a Between by link i + 1;
+-- where p is later than bk, and the exit wasn't challenged there, a Before at bk; where e is bk the responses; else
+-- nothing.
+abbrev pub due_by_place : List RootCall → ℕ → Links → ExitView → List RootCall
+due_by_place log account links exit =
+    if is_some (link_by_place links exit.block)
+    then by_link log exit.start CHALLENGE_WINDOW (link_by_place links exit.block)
+    (After account links.coin exit.block)
+    else if nat_lt (tip_of links) exit.block && is_some (link_by_place links exit.parent)
+    then by_link log exit.start CHALLENGE_WINDOW (link_by_place links exit.parent)
+    (Between account links.coin exit.block)
+    else if nat_lt (tip_of links) exit.parent && not (is_challenged (tip_of links) exit.challenges)
+    then within log exit.start CHALLENGE_WINDOW (Before account links.coin exit.block (tip_shown links))
+    else if exit.block == tip_of links then flat_map (response_by_place log account links exit) exit.challenges
+    else []
+
+-- What is due for guards are these calls, in the order of the guards, and of the standing exits of each guard's coin.
+abbrev pub DueCallsAreByPlace : Type 0
+DueCallsAreByPlace = (log : List RootCall) (account : ℕ) (guards : List Guard)
+    → due_calls log account guards
+    ≡ flat_map
+    (λ guard. flat_map (due_by_place log account guard.links) (exits_of log guard.links.coin))
+    guards

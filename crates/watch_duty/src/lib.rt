@@ -8,4 +8,7 @@ mod watch;
 
 pub use due::{duty, push_due};
 pub use guard::Guard;
-pub use laws::{due_calls_are_accepted, nothing_is_due_without_exits, one_challenge_is_due};
+pub use laws::{
+    due_calls_are_accepted, due_calls_are_by_place, links_are_by_place,
+    nothing_is_due_without_exits, one_challenge_is_due,
+};

@@ -2,7 +2,7 @@ use Rattle.std.proofs.Common.{◌≡◌, ◌≤◌, ◌<◌, ℕ, Bool, false, I
 use Rattle.std.proofs.lemmas.Bool.{cases_lt, both_ways}
 use Rattle.std.proofs.lemmas.Result.{err_from_is_err_and}
 use Rattle.plasma_tx.specs.Spelling.{number_at}
-use Rattle.coin_history.proofs.BundleLaws.{low_of, first-no_block, first-fallen, first-no_length, first-no_bytes, first-item}
+use Rattle.coin_history.proofs.BundleItems.{low_of, first-no_block, first-fallen, first-no_length, first-no_bytes, first-item}
 use Rattle.coin_history.proofs.reading.item_at.Goals as goal
 
 -- a block that isn't after the one before

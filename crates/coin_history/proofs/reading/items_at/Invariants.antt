@@ -1,5 +1,5 @@
 use Rattle.std.proofs.Common.{◌-◌}
-use Rattle.coin_history.proofs.BundleLaws.{low_of, HaveRead}
+use Rattle.coin_history.proofs.BundleItems.{low_of, HaveRead}
 use Rattle.coin_history.proofs.reading.items_at.Given as goal
 
 abbrev pub invariant-loop : goal.invariant-loop

@@ -3,7 +3,7 @@ use Rattle.std.specs.List.{flat_map}
 use Rattle.std.proofs.lemmas.Result.{IfOk-equal}
 use Rattle.plasma_tx.specs.Spelling.{number_text}
 use Rattle.coin_history.specs.Bundles.{length_text, item_text, bundle_text}
-use Rattle.coin_history.proofs.BundleLaws.{front_kept, header_put, bundle_put}
+use Rattle.coin_history.proofs.BundleItems.{front_kept, header_put, bundle_put}
 use Rattle.coin_history.proofs.spelling.push_bundle.Goals as goal
 
 pub returns-clause-ok : goal.returns-clause-ok

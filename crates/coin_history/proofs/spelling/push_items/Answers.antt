@@ -1,7 +1,7 @@
 use Rattle.std.proofs.Common.{take}
 use Rattle.std.specs.List.{flat_map}
 use Rattle.coin_history.specs.Bundles.{item_text}
-use Rattle.coin_history.proofs.BundleLaws.{front_kept, item_put}
+use Rattle.coin_history.proofs.BundleItems.{front_kept, item_put}
 use Rattle.coin_history.proofs.spelling.push_items.Goals as goal
 
 pub returns-in_err-push_item-clause-front : goal.returns-in_err-push_item-clause-front

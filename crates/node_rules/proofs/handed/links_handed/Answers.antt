@@ -12,7 +12,7 @@ returns-in-Ok-check_tagged-clause-spelled g c =
     let read : bundle_in c.args.bytes.now ≡ Ok c.in-Ok.bundle = sym (c.in-Ok.ensures.value (λ wrong. cc wrong)) in
     (handed-back dig c.args.tag.now c.args.log.now.log c.args.bytes.now c.in-Ok-check_tagged.links small
     (ap (checked_by dig c.args.tag.now c.args.log.now.log) read
-    ∙ sym (c.in-Ok-check_tagged.ensures (λ wrong. cc wrong)))).is_kept.is_bundle
+    ∙ sym (c.in-Ok-check_tagged.ensures.value (λ wrong. cc wrong)))).is_kept.is_bundle
 
 pub returns-in-Ok-check_tagged-clause-shown : goal.returns-in-Ok-check_tagged-clause-shown
 returns-in-Ok-check_tagged-clause-shown g c =
@@ -21,5 +21,5 @@ returns-in-Ok-check_tagged-clause-shown g c =
     let read : bundle_in c.args.bytes.now ≡ Ok c.in-Ok.bundle = sym (c.in-Ok.ensures.value (λ wrong. cc wrong)) in
     let back = handed-back dig c.args.tag.now c.args.log.now.log c.args.bytes.now c.in-Ok-check_tagged.links small
     (ap (checked_by dig c.args.tag.now c.args.log.now.log) read
-    ∙ sym (c.in-Ok-check_tagged.ensures (λ wrong. cc wrong))) in
+    ∙ sym (c.in-Ok-check_tagged.ensures.value (λ wrong. cc wrong))) in
     record { read = back.read; shown = back.shown }

@@ -1,4 +1,7 @@
-use Rattle.std.proofs.Common.{◌<◌, ◌≤◌, length, arith}
+use Rattle.std.proofs.Common.{◌≡◌, ◌<◌, ◌≤◌, length, Err, sym, ap, ◌∙◌, arith}
+use Rattle.std.proofs.lemmas.Result.{err_from_is_err_and}
+use Rattle.coin_history.specs.declared.refusal.HistoryRefusal.TheVariants.{NoMemory}
+use Rattle.coin_history.proofs.CheckFacts.{refusal-same}
 use Rattle.std.proofs.lemmas.List.Elements.{All-from_get_or}
 use Rattle.coin_history.proofs.BundleLaws.{items_in-ok, items_in-spelled}
 use Rattle.coin_history.proofs.bundle.Bundle.read.Goals as goal
@@ -25,3 +28,14 @@ returns-clause-lengths c =
     (items_in-spelled c.args.bytes.now small 20 0 c.in_ok-count.count
     (record { openings = c.in_ok-openings.openings; place = c.in_ok-openings.end }) long
     c.in_ok-openings.ensures.ok).lengths
+
+pub returns-in_err-openings-clause-memory : goal.returns-in_err-openings-clause-memory
+returns-in_err-openings-clause-memory c given =
+    let p = err_from_is_err_and c.from_residual-in_err-openings.result c.from_residual-in_err-openings.ensures.1 in
+    let is : c.from_residual-in_err-openings.result ≡ Err c.in_err-openings.field-0.0 = p.1 ∙ ap Err p.2 in
+    let first = c.in_err-openings.ensures.memory (refusal-same c.in_err-openings.field-0.0 NoMemory (sym is ∙ given)) in
+    record {
+      numbers = omega (arith, c.in_ok-count.ensures.0);
+      counted = omega (arith, first.0, c.in_ok-count.ensures.1);
+      whole = first.1;
+    }

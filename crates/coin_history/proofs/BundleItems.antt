@@ -1,0 +1,207 @@
+-- The items of a bundle's bytes, one after another, and what is written of a bundle.
+use Rattle.std.proofs.Common.{◌≡◌, ℕ, suc, ◌+◌, ◌-◌, ◌<◌, ◌≤◌, List, [], ◌∷◌, ◌++◌, Option, Ok, Err, length, get_or, take, drop, refl, sym, ap, ◌∙◌, inl, inr, append_assoc, append-nil, arith}
+use Rattle.std.specs.Prelude.{◌⊎◌, true, is_ok, Result}
+use Rattle.std.specs.List.{slice_range, flat_map}
+use Rattle.std.specs.Option.{option_map_or}
+use Rattle.std.proofs.lemmas.Bool.{lt-ltb, le-ltb}
+use Rattle.std.proofs.lemmas.List.{take_at, take_more, take-append-drop, flat_map_more}
+use Rattle.plasma_tx.specs.Spelling.{number_text, number_at}
+use Rattle.plasma_tx.specs.declared.opening.RawOpening.{RawOpening}
+use Rattle.coin_history.specs.declared.bundle.Bundle.{Bundle}
+use Rattle.coin_history.specs.declared.refusal.HistoryRefusal.{HistoryRefusal}
+use Rattle.coin_history.specs.declared.refusal.HistoryRefusal.TheVariants.{BadBundle}
+use Rattle.coin_history.specs.Bundles.{length_text, length_at, item_text, bundle_text, Items, with_item, items_in}
+
+-- ---- the first of some items
+
+module _ (bytes : List ℕ) (place low count : ℕ) where
+  pub first-no_block : length bytes < place + 8 → items_in bytes place low (suc count) ≡ Err (BadBundle place)
+  unfolding items_in
+  first-no_block short = rw (lt-ltb (length bytes) (place + 8) short) refl
+
+  pub first-fallen : place + 8 ≤ length bytes → number_at bytes place < low
+      → items_in bytes place low (suc count) ≡ Err (BadBundle place)
+  unfolding items_in
+  first-fallen long fallen =
+      rw (le-ltb (length bytes) (place + 8) long, lt-ltb (number_at bytes place) low fallen) refl
+
+  pub first-no_length : place + 8 ≤ length bytes → low ≤ number_at bytes place → length bytes < place + 12
+      → items_in bytes place low (suc count) ≡ Err (BadBundle (place + 8))
+  unfolding items_in
+  first-no_length long rises short =
+      rw (
+        le-ltb (length bytes) (place + 8) long,
+        le-ltb (number_at bytes place) low rises,
+        lt-ltb (length bytes) (place + 12) short,
+      ) refl
+
+  pub first-no_bytes : place + 12 ≤ length bytes → low ≤ number_at bytes place
+      → length bytes < place + 12 + length_at bytes (place + 8)
+      → items_in bytes place low (suc count) ≡ Err (BadBundle (place + 12))
+  unfolding items_in
+  first-no_bytes long rises short =
+      rw (
+        le-ltb (length bytes) (place + 8) (omega arith),
+        le-ltb (number_at bytes place) low rises,
+        le-ltb (length bytes) (place + 12) long,
+        lt-ltb (length bytes) (place + 12 + length_at bytes (place + 8)) short,
+      ) refl
+
+  pub first-item : low ≤ number_at bytes place → place + 12 + length_at bytes (place + 8) ≤ length bytes
+      → items_in bytes place low (suc count)
+      ≡ with_item (record {
+        block = number_at bytes place;
+        bytes = slice_range bytes (place + 12) (place + 12 + length_at bytes (place + 8));
+      }) (items_in bytes (place + 12 + length_at bytes (place + 8)) (number_at bytes place + 1) count)
+  unfolding items_in
+  first-item rises long =
+      rw (
+        le-ltb (length bytes) (place + 8) (omega arith),
+        le-ltb (number_at bytes place) low rises,
+        le-ltb (length bytes) (place + 12) (omega arith),
+        le-ltb (length bytes) (place + 12 + length_at bytes (place + 8)) long,
+      ) refl
+
+pub items_in-none : (bytes : List ℕ) (place low : ℕ)
+    → items_in bytes place low 0 ≡ Ok (record { openings = []; place = place })
+unfolding items_in
+items_in-none bytes place low = refl
+
+-- the lowest block after one
+abbrev pub low_of : Option ℕ → ℕ
+low_of before = option_map_or (λ block. block + 1) before 0
+
+-- ---- items that are read one after another
+
+-- items before others that were read
+abbrev pub with_items : List RawOpening → Result Items HistoryRefusal → Result Items HistoryRefusal
+with_items openings (Err why) = Err why
+with_items openings (Ok items) = Ok (record items { openings = openings ++ items.openings })
+
+with_items-nil : (read : Result Items HistoryRefusal) → read ≡ with_items [] read
+with_items-nil (Err why) = refl
+with_items-nil (Ok items) = refl
+
+with_items-with_item : (openings : List RawOpening) (opening : RawOpening) (read : Result Items HistoryRefusal)
+    → with_items openings (with_item opening read) ≡ with_items (openings ++ opening ∷ []) read
+with_items-with_item openings opening (Err why) = refl
+with_items-with_item openings opening (Ok items) =
+    let joined = append_assoc openings (opening ∷ []) items.openings in
+    λ i. Ok (record { openings = sym joined i; place = items.place })
+
+-- the first item at a place stands there whole
+abbrev pub IsFirstWhole : List ℕ → ℕ → Type 0
+IsFirstWhole bytes place = is_ok (items_in bytes place 0 1) ≡ true
+
+-- Of so many items at a place these were read up to an end, and so many are left. None was read, or the first stands
+-- there whole.
+pub record HaveRead (bytes : List ℕ) (place count : ℕ) (openings : List RawOpening) (end low left : ℕ) : Type 0 where
+  pub within : end ≤ length bytes
+  pub rest : items_in bytes place 0 count ≡ with_items openings (items_in bytes end low left)
+  pub first : ((end ≡ place) × (low ≡ 0)) ⊎ IsFirstWhole bytes place
+
+-- an item that stands at the end, where none was read, or the first is whole, is behind a first one that is whole
+first-whole : (bytes : List ℕ) (place end low next : ℕ) (opening : RawOpening)
+    → ((end ≡ place) × (low ≡ 0)) ⊎ IsFirstWhole bytes place
+    → ((left : ℕ) → items_in bytes end low (suc left)
+    ≡ with_item opening (items_in bytes next (opening.block + 1) left)) → IsFirstWhole bytes place
+unfolding items_in
+first-whole bytes place end low next opening (inr whole) item = whole
+first-whole bytes place end low next opening (inl none) item =
+    let here : items_in bytes place 0 1 ≡ items_in bytes end low 1 =
+    λ i. items_in bytes (sym none.0 i) (sym none.1 i) 1 in
+    ap (λ (r : Result Items HistoryRefusal). is_ok r) (here ∙ item 0)
+
+module _ (bytes : List ℕ) (place count : ℕ) where
+  pub HaveRead-none : (openings : List RawOpening) → openings ≡ [] → place ≤ length bytes
+      → HaveRead bytes place count openings place 0 count
+  HaveRead-none openings none within = record {
+    within = within;
+    rest = rw none (with_items-nil (items_in bytes place 0 count));
+    first = inl (refl, refl);
+  }
+
+  module _ (openings : List RawOpening) (end low i : ℕ)
+      (known : HaveRead bytes place count openings end low (count - i)) where
+    pub HaveRead-more : (now : List RawOpening) (opening : RawOpening) (next : ℕ) → i < count → next ≤ length bytes
+        → now ≡ openings ++ opening ∷ []
+        → ((left : ℕ) → items_in bytes end low (suc left)
+        ≡ with_item opening (items_in bytes next (opening.block + 1) left))
+        → HaveRead bytes place count now next (opening.block + 1) (count - (i + 1))
+    HaveRead-more now opening next lt within pushed first = record {
+      within = within;
+      rest =
+          let left = count - (i + 1) in
+          let e : count - i ≡ suc left = omega arith in
+          known.rest ∙ ap (λ n. with_items openings (items_in bytes end low n)) e
+          ∙ ap (with_items openings) (first left)
+          ∙ with_items-with_item openings opening (items_in bytes next (opening.block + 1) left)
+          ∙ ap (λ os. with_items os (items_in bytes next (opening.block + 1) left)) (sym pushed);
+      first = inr (first-whole bytes place end low next opening known.first first);
+    }
+
+    -- where an item stands behind those that were read, there is a first one, and it stands there whole
+    pub HaveRead-whole : (opening : RawOpening) (next : ℕ) → i < count
+        → ((left : ℕ) → items_in bytes end low (suc left)
+        ≡ with_item opening (items_in bytes next (opening.block + 1) left))
+        → (1 ≤ count) × IsFirstWhole bytes place
+    HaveRead-whole opening next lt first =
+        (omega arith, first-whole bytes place end low next opening known.first first)
+
+    pub HaveRead-refused : (why : HistoryRefusal) → i < count
+        → ((left : ℕ) → items_in bytes end low (suc left) ≡ Err why) → items_in bytes place 0 count ≡ Err why
+    HaveRead-refused why lt first =
+        let left = count - (i + 1) in
+        let e : count - i ≡ suc left = omega arith in
+        known.rest ∙ ap (λ n. with_items openings (items_in bytes end low n)) e
+        ∙ ap (with_items openings) (first left)
+
+    pub HaveRead-all : count ≤ i → items_in bytes place 0 count ≡ Ok (record { openings = openings; place = end })
+    unfolding items_in
+    HaveRead-all le =
+        let e : count - i ≡ 0 = omega arith in
+        let nil = append-nil openings in
+        known.rest ∙ ap (λ n. with_items openings (items_in bytes end low n)) e
+        ∙ (λ j. Ok (record { openings = nil j; place = end }))
+
+-- ---- what is written
+
+-- what was at the front stays there, where more was put after it
+pub front_kept : (out now last more : List ℕ) → now ≡ out ++ more → take (length now) last ≡ now
+    → take (length out) last ≡ out
+front_kept out now last more put kept =
+    let rest = drop (length now) last in
+    let whole : last ≡ out ++ (more ++ rest) = sym (take-append-drop (length now) last)
+    ∙ ap (λ (l : List ℕ). l ++ rest) (kept ∙ put) ∙ append_assoc out more rest in
+    ap (λ (l : List ℕ). take (length out) l) whole ∙ take_at out (more ++ rest) (length out) refl
+
+-- one more item
+pub item_put : (out now new : List ℕ) (openings : List RawOpening) (opening : RawOpening) (i : ℕ) → i < length openings
+    → opening ≡ get_or openings i opening → now ≡ out ++ flat_map item_text (take i openings)
+    → new ≡ now ++ item_text opening → new ≡ out ++ flat_map item_text (take (i + 1) openings)
+item_put out now new openings opening i lt is known put =
+    let more : take (i + 1) openings ≡ take i openings ++ opening ∷ [] = take_more openings i opening lt
+    ∙ ap (λ o. take i openings ++ o ∷ []) (sym is) in
+    put ∙ ap (λ (l : List ℕ). l ++ item_text opening) known ∙ flat_map_more item_text out (take i openings) opening
+    ∙ ap (λ os. out ++ flat_map item_text os) (sym more)
+
+-- the numbers that a bundle begins with
+pub header_put : (out one two three coin tip count : List ℕ) → one ≡ out ++ coin → two ≡ one ++ tip
+    → three ≡ two ++ count → three ≡ out ++ (coin ++ tip ++ count)
+header_put out one two three coin tip count is_one is_two is_three =
+    rw (is_three, is_two, is_one) (joined coin tip)
+  where
+    joined : (a b : List ℕ) → out ++ a ++ b ++ count ≡ out ++ (a ++ b ++ count)
+    joined a b = simp append_assoc
+
+-- these numbers and the items
+pub bundle_put : (out now : List ℕ) (bundle : Bundle) (openings : List RawOpening) → openings ≡ bundle.openings
+    → now ≡ out ++ (number_text bundle.coin ++ number_text bundle.tip ++ length_text (length openings))
+    → now ++ flat_map item_text openings ≡ out ++ bundle_text bundle
+unfolding bundle_text
+bundle_put out now bundle openings same known =
+    let header : List ℕ = number_text bundle.coin ++ number_text bundle.tip ++ length_text (length openings) in
+    ap (λ (l : List ℕ). l ++ flat_map item_text openings) known
+    ∙ append_assoc out header (flat_map item_text openings)
+    ∙ ap (λ (os : List RawOpening). out ++ (number_text bundle.coin ++ number_text bundle.tip
+    ++ length_text (length os) ++ flat_map item_text os)) same

@@ -1,0 +1,156 @@
+-- What is due, by the places of a guard's blocks.
+use Rattle.std.proofs.Common.{◌≡◌, ℕ, suc, ◌+◌, ◌==◌, ◌&&◌, not, cond, Bool, true, false, if◌then◌else◌, List, [], ◌∷◌, map, length, Option, Some, None, inl, inr, refl, sym, ap, ◌∙◌, arith}
+use Rattle.std.specs.Prelude.{is_some, nat_lt, slice_get, unwrap_or}
+use Rattle.std.specs.List.{flat_map, position, position_or_len}
+use Rattle.std.specs.Option.{option_map, option_map_or, option_or, option_and_then}
+use Rattle.std.proofs.lemmas.Bool.{cases_lt, lt-ltb, le-ltb}
+use Rattle.plasma_tx.specs.declared.links.Link.{Link}
+use Rattle.plasma_tx.specs.declared.links.Links.{Links}
+use Rattle.plasma_tx.specs.declared.call.RootCall.{RootCall}
+use Rattle.plasma_tx.specs.declared.call.RootCall.TheVariants.{After, Between, Before, Respond}
+use Rattle.plasma_tx.specs.declared.views.ChallengeView.{ChallengeView}
+use Rattle.plasma_tx.specs.declared.views.ExitView.{ExitView}
+use Rattle.plasma_tx.specs.ChallengeLists.{is_challenged}
+use Rattle.plasma_tx.specs.Links.{tip_of}
+use Rattle.plasma_tx.specs.Views.{exits_of}
+use Rattle.plasma_tx.specs.declared.rules.TheConstants.{CHALLENGE_WINDOW, RESPONSE_WINDOW}
+use Rattle.watch_duty.specs.declared.guard.Guard.{Guard}
+use Rattle.watch_duty.specs.Duty.{next_link, link_after, tip_shown, within, due_for, due_of, due_calls}
+use Rattle.watch_duty.specs.Laws.{link_by_place, by_link, response_by_place, due_by_place, LinksAreByPlace, DueCallsAreByPlace}
+
+-- ---- links
+
+-- what the second list has at the first place of the first list that passes
+abbrev at_place : {X Y : Type 0} → (X → Bool) → List X → List Y → Option Y
+at_place test xs ys = option_and_then (λ i. slice_get ys i) (position test xs)
+
+-- nothing is at a place of an empty list
+none-there : {Y : Type 0} (place : Option ℕ) → option_and_then (λ i. slice_get {X = Y} [] i) place ≡ None
+none-there None = refl
+none-there (Some i) = refl
+
+-- a place in the rest is one later
+place-later : {Y : Type 0} (k place count : ℕ) (y : Y) (ys : List Y) → place ≡ suc k
+    → option_and_then (λ i. slice_get (y ∷ ys) i) (cond (nat_lt place (suc count)) (Some place) None)
+    ≡ option_and_then (λ i. slice_get ys i) (cond (nat_lt k count) (Some k) None)
+place-later k place count y ys e = elim (cases_lt k count) [
+  | inl less ↦
+      ap (λ (b : Bool). option_and_then (λ i. slice_get (y ∷ ys) i) (cond b (Some place) None))
+      (lt-ltb place (suc count) (omega arith))
+      ∙ ap (λ (n : ℕ). slice_get (y ∷ ys) n) e
+      ∙ sym (ap (λ (b : Bool). option_and_then (λ i. slice_get ys i) (cond b (Some k) None)) (lt-ltb k count less))
+  | inr more ↦
+      ap (λ (b : Bool). option_and_then (λ i. slice_get (y ∷ ys) i) (cond b (Some place) None))
+      (le-ltb place (suc count) (omega arith))
+      ∙ sym (ap (λ (b : Bool). option_and_then (λ i. slice_get ys i) (cond b (Some k) None)) (le-ltb k count more))
+]
+
+-- the link that comes next after a block, where the links come after the last one
+next-at : (block last : ℕ) (links : List Link) → next_link block last links
+    ≡ at_place (λ b. b == block) (last ∷ map (λ link. link.block) links) links
+unfolding next_link
+next-at block last [] = sym (none-there (position (λ b. b == block) (last ∷ [])))
+next-at block last (link ∷ links) =
+    let rest = map (λ (l : Link). l.block) links in
+    let k = position_or_len (λ n. n == block) (link.block ∷ rest) in
+    let count = length (link.block ∷ rest) in
+    elim (last == block) as (λ b. (if b then Some link else next_link block link.block links)
+    ≡ option_and_then (λ i. slice_get (link ∷ links) i)
+    (cond (nat_lt (cond (not b) (1 + k) 0) (suc count)) (Some (cond (not b) (1 + k) 0)) None)) [
+      | true ↦ sym (ap (λ (x : Bool). option_and_then (λ i. slice_get (link ∷ links) i) (cond x (Some 0) None))
+          (lt-ltb 0 (suc count) (omega arith)))
+      | false ↦ next-at block link.block links ∙ sym (place-later k (1 + k) count link links (omega arith))
+    ]
+
+pub links-are : LinksAreByPlace
+links-are links block = next-at block links.deposit links.spends
+
+-- ---- the rules
+
+module _ (log : List RootCall) (account : ℕ) (links : Links) (exit : ExitView) where
+  -- the rules in their order, where the links after the exit's block and after its parent are these, and these calls
+  -- answer
+  abbrev by_rules : Option Link → Option Link → List RootCall → List RootCall
+  by_rules left parted responses =
+      unwrap_or
+      (option_or
+      (option_map
+      (λ link. within log exit.start CHALLENGE_WINDOW (After account links.coin exit.block link.opening)) left)
+      (option_or
+      (if nat_lt (tip_of links) exit.block
+      then option_map
+      (λ link. within log exit.start CHALLENGE_WINDOW (Between account links.coin exit.block link.opening)) parted
+      else None)
+      (option_or
+      (if nat_lt (tip_of links) exit.parent && not (is_challenged (tip_of links) exit.challenges)
+      then Some (within log exit.start CHALLENGE_WINDOW (Before account links.coin exit.block (tip_shown links)))
+      else None)
+      (if exit.block == tip_of links then Some responses else None))))
+      []
+
+  abbrev by_table : Option Link → Option Link → List RootCall → List RootCall
+  by_table left parted responses =
+      if is_some left
+      then by_link log exit.start CHALLENGE_WINDOW left (After account links.coin exit.block)
+      else if nat_lt (tip_of links) exit.block && is_some parted
+      then by_link log exit.start CHALLENGE_WINDOW parted (Between account links.coin exit.block)
+      else if nat_lt (tip_of links) exit.parent && not (is_challenged (tip_of links) exit.challenges)
+      then within log exit.start CHALLENGE_WINDOW (Before account links.coin exit.block (tip_shown links))
+      else if exit.block == tip_of links then responses
+      else []
+
+  -- the last two rules
+  last-rules : (planted own : Bool) (calls responses : List RootCall)
+      → unwrap_or (option_or (if planted then Some calls else None) (if own then Some responses else None)) []
+      ≡ (if planted then calls else if own then responses else [])
+  last-rules true own calls responses = refl
+  last-rules false true calls responses = refl
+  last-rules false false calls responses = refl
+
+  rules-table : (left parted : Option Link) (responses : List RootCall)
+      → by_rules left parted responses ≡ by_table left parted responses
+  rules-table (Some link) parted responses = refl
+  rules-table None parted responses =
+      let planted = nat_lt (tip_of links) exit.parent && not (is_challenged (tip_of links) exit.challenges) in
+      let own = exit.block == tip_of links in
+      let calls = within log exit.start CHALLENGE_WINDOW (Before account links.coin exit.block (tip_shown links)) in
+      let made = λ (link : Link).
+      within log exit.start CHALLENGE_WINDOW (Between account links.coin exit.block link.opening) in
+      second (nat_lt (tip_of links) exit.block) parted planted own calls made
+    where
+      second : (later : Bool) (found : Option Link) (planted own : Bool) (calls : List RootCall)
+          (made : Link → List RootCall)
+          → unwrap_or (option_or (if later then option_map made found else None)
+          (option_or (if planted then Some calls else None) (if own then Some responses else None))) []
+          ≡ (if later && is_some found then option_map_or made found []
+          else if planted then calls else if own then responses else [])
+      second true (Some link) planted own calls made = refl
+      second true None planted own calls made = last-rules planted own calls responses
+      second false found planted own calls made = last-rules planted own calls responses
+
+-- what is due for an exit, by what gives the link after a block
+module _ (log : List RootCall) (account : ℕ) (links : Links) (exit : ExitView) where
+  abbrev response_with : (ℕ → Option Link) → ChallengeView → List RootCall
+  response_with at challenge =
+      if challenge.answered then []
+      else by_link log challenge.at RESPONSE_WINDOW (at challenge.block)
+      (Respond account links.coin exit.block challenge.block)
+
+  abbrev due_with : (ℕ → Option Link) → List RootCall
+  due_with at =
+      by_rules log account links exit (at exit.block) (at exit.parent) (flat_map (response_with at) exit.challenges)
+
+  due-by : due_for log account links exit ≡ due_by_place log account links exit
+  due-by =
+      let same : link_after links ≡ link_by_place links = λ i block. links-are links block i in
+      ap due_with same
+      ∙ rules-table log account links exit (link_by_place links exit.block) (link_by_place links exit.parent)
+      (flat_map (response_by_place log account links exit) exit.challenges)
+
+pub due-are : DueCallsAreByPlace
+unfolding due_calls
+due-are log account guards =
+    let same : due_of log account ≡ (λ (guard : Guard).
+    flat_map (due_by_place log account guard.links) (exits_of log guard.links.coin)) =
+    λ i guard. flat_map (λ exit. due-by log account guard.links exit i) (exits_of log guard.links.coin) in
+    ap (λ (due : Guard → List RootCall). flat_map due guards) same
