@@ -1,5 +1,5 @@
 -- The answers on a coin, by its cell.
-use Rattle.std.proofs.Common.{◌≡◌, ℕ, ◌==◌, Bool, true, false, if◌then◌else◌, List, [], ◌∷◌, ◌++◌, map, reverse, Option, Some, None, Result, Ok, Err, refl, sym, ap, ◌∙◌, subst}
+use Rattle.std.proofs.Common.{◌≡◌, ℕ, ◌==◌, Bool, true, false, if◌then◌else◌, List, [], ◌∷◌, ◌++◌, map, reverse, Option, Some, None, Ok, Err, refl, sym, ap, ◌∙◌, subst}
 use Rattle.std.specs.Prelude.{◌||◌}
 use Rattle.std.specs.List.{list_any}
 use Rattle.std.specs.Option.{option_map_or, option_and_then}
@@ -23,14 +23,13 @@ use Rattle.coin_history.proofs.HistoryFound.{histories_pass, history-rises}
 use Rattle.coin_history.proofs.HistoryGrow.{histories_stay}
 use Rattle.plasma_tx.proofs.Names.{some_same}
 use Rattle.proof_archive.specs.declared.coin.LinkEnd.{LinkEnd}
-use Rattle.proof_archive.specs.declared.refusal.ArchiveRefusal.{ArchiveRefusal}
 use Rattle.proof_archive.specs.declared.refusal.ArchiveRefusal.TheVariants.{NoCoin, NotTip}
-use Rattle.proof_archive.specs.Scan.{Scan, scan_of}
+use Rattle.proof_archive.specs.Scan.{Scan}
 use Rattle.proof_archive.specs.Archives.{scan_in, tip_answer, broken_answer, is_tip, openings_up_to, links_up_to, bundle_to, bundle_answer}
-use Rattle.proof_archive.specs.Carried.{Carried, carried_by, CoinCell, no_cell, end_of, tip_in, IsCell, IsCellOf}
+use Rattle.proof_archive.specs.Carried.{carried_by, CoinCell, end_of, tip_in, IsCell, IsCellOf}
 use Rattle.proof_archive.specs.Laws.{StaysAHistory}
 use Rattle.proof_archive.proofs.Scans.{scan-carried, scan-broken, scan-begins}
-use Rattle.proof_archive.proofs.CellLaws.{ends-tip, ends-any, cell-made}
+use Rattle.proof_archive.proofs.CellLaws.{ends-tip, ends-any}
 
 -- a history stays one as many calls come
 stays-history : (tests : Tests) (rules : Rules) (log more : List RootCall) (bundle : Bundle) (links : Links)

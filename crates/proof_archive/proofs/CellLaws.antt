@@ -5,7 +5,7 @@ use Rattle.std.specs.List.{list_any}
 use Rattle.std.specs.Map.{lookup}
 use Rattle.std.specs.Option.{option_map, option_map_or, unwrap_or}
 use Rattle.std.specs.Ordering.{nat_cmp}
-use Rattle.std.specs.BTreeMap.{BTreeMap, get, is_at}
+use Rattle.std.specs.BTreeMap.{BTreeMap, is_at}
 use Rattle.std.proofs.lemmas.Bool.{cases_eq, eq-eqb, ne_eqb}
 use Rattle.std.proofs.lemmas.List.{reverse-append, map-append}
 use Rattle.std.proofs.lemmas.Map.Made.{lookup-map_values}
@@ -27,8 +27,8 @@ use Rattle.coin_history.proofs.HistoryLinks.{last_from, tip_from, owner_from, ti
 use Rattle.coin_history.proofs.HistoryGrow.{coin_at-grown}
 use Rattle.proof_archive.specs.declared.coin.LinkEnd.{LinkEnd}
 use Rattle.proof_archive.specs.declared.coin.Move.{Move}
-use Rattle.proof_archive.specs.declared.coin.Move.TheVariants.{Stays, Links as MovesTo, Breaks}
-use Rattle.proof_archive.specs.Carried.{Carried, next_tx, moved, step, carried_by, AreKept, CoinCell, no_cell, end_of, tip_in, owner_in, move_by, next_in, move_of, with_opening, IsCell, IsCellOf, cell_in, openings_of, AreCells, IsWhole}
+use Rattle.proof_archive.specs.declared.coin.Move.TheVariants.{Stays}
+use Rattle.proof_archive.specs.Carried.{Carried, next_tx, moved, step, carried_by, AreKept, CoinCell, no_cell, end_of, tip_in, owner_in, move_by, next_in, move_of, with_opening, IsCell, IsCellOf, cell_in, openings_of, IsWhole}
 use Rattle.proof_archive.proofs.Kept.{kept-grown}
 
 -- ---- where links lead

@@ -2,25 +2,21 @@
 use Rattle.std.proofs.Common.{◌≡◌, ℕ, zero, suc, ◌+◌, ◌-◌, ◌<◌, ◌≤◌, ◌==◌, ◌&&◌, not, Bool, true, false, if◌then◌else◌, List, [], ◌∷◌, ◌++◌, map, reverse, filter, find, Option, Some, None, Result, Ok, Err, inl, inr, refl, sym, ap, ◌∙◌, subst, arith}
 use Rattle.std.specs.Prelude.{nat_lt, nat_le, ◌||◌}
 use Rattle.std.specs.List.{list_any, range_with_len}
-use Rattle.std.proofs.lemmas.Bool.{cases_eq, cases_lt, eq-eqb, ne_eqb, true≢false, false_from_ne_true, and_from, le-leb, eqb-true}
+use Rattle.std.proofs.lemmas.Bool.{cases_eq, cases_lt, eq-eqb, ne_eqb, true≢false, false_from_ne_true, and_from, le-leb}
 use Rattle.std.proofs.lemmas.List.{reverse-append, reverse-reverse}
 use Rattle.plasma_tx.specs.declared.opening.RawOpening.{RawOpening}
-use Rattle.plasma_tx.specs.declared.links.Link.{Link}
-use Rattle.plasma_tx.specs.declared.links.Links.{Links}
 use Rattle.plasma_tx.specs.declared.call.RootCall.{RootCall}
 use Rattle.plasma_tx.specs.declared.views.CoinView.{CoinView}
-use Rattle.plasma_tx.specs.Chain.{Chain, with_log}
-use Rattle.plasma_tx.specs.Links.{tip_of}
+use Rattle.plasma_tx.specs.Chain.{Chain}
 use Rattle.plasma_tx.specs.Views.{coin_at}
-use Rattle.plasma_tx.specs.Shown.{Tests, Rules, tests_by, rules_of}
+use Rattle.plasma_tx.specs.Shown.{Tests, tests_by, rules_of}
 use Rattle.coin_history.specs.declared.bundle.Bundle.{Bundle}
 use Rattle.coin_history.specs.History.{is_committed, committed_blocks, opens_block}
 use Rattle.coin_history.specs.Checking.{is_asked}
-use Rattle.coin_history.specs.Inside.{NoneIsAsked}
 use Rattle.coin_history.proofs.HistoryOpenings.{asked-parts}
 use Rattle.coin_history.proofs.HistoryGrow.{coin_at-grown}
 use Rattle.proof_archive.specs.declared.refusal.ArchiveRefusal.{ArchiveRefusal}
-use Rattle.proof_archive.specs.declared.refusal.ArchiveRefusal.TheVariants.{NoCoin, UnknownBlock, HaveBlock, NotTip}
+use Rattle.proof_archive.specs.declared.refusal.ArchiveRefusal.TheVariants.{NoCoin, UnknownBlock, HaveBlock}
 use Rattle.proof_archive.specs.declared.coin.LinkEnd.{LinkEnd}
 use Rattle.proof_archive.specs.Scan.{newest_block}
 use Rattle.proof_archive.specs.Archives.{has_block, first_gap, placed_behind, place_at, opened_at, put_at, put_answer, after_put, tip_answer, openings_up_to, bundle_answer}

@@ -1,23 +1,21 @@
 -- Openings that are kept, the newest first: their blocks, and one more of them.
-use Rattle.std.proofs.Common.{◌≡◌, ◌≢◌, ℕ, zero, suc, ◌+◌, ◌-◌, ◌<◌, ◌≤◌, ◌==◌, not, Bool, true, false, if◌then◌else◌, List, [], ◌∷◌, ◌++◌, reverse, filter, find, Option, Some, None, inl, inr, refl, sym, ap, ◌∙◌, subst, arith}
-use Rattle.std.specs.Prelude.{is_some, nat_le, nat_lt, ◌&&◌}
+use Rattle.std.proofs.Common.{◌≡◌, ℕ, zero, suc, ◌+◌, ◌-◌, ◌<◌, ◌≤◌, ◌==◌, not, Bool, true, false, if◌then◌else◌, List, [], ◌∷◌, ◌++◌, reverse, filter, find, Option, Some, None, inl, inr, refl, sym, ap, ◌∙◌, subst, arith}
+use Rattle.std.specs.Prelude.{is_some}
 use Rattle.std.specs.List.{AllByRecursion, range_with_len}
 use Rattle.std.specs.Option.{option_or}
-use Rattle.std.proofs.lemmas.Bool.{cases_eq, cases_lt, eq-eqb, ne_eqb, true≢false, false_from_ne_true, true_from_ne_false, le-leb, lt-ltb, and_from, and_parts}
+use Rattle.std.proofs.lemmas.Bool.{cases_eq, cases_lt, true≢false, false_from_ne_true}
 use Rattle.std.proofs.lemmas.List.Folds.{find-append}
 use mathlib.Core.List.{reverse-cons}
 use Rattle.plasma_tx.specs.declared.opening.RawOpening.{RawOpening}
 use Rattle.plasma_tx.specs.declared.call.RootCall.{RootCall}
 use Rattle.plasma_tx.specs.declared.views.CoinView.{CoinView}
-use Rattle.plasma_tx.specs.Views.{blocks}
 use Rattle.plasma_tx.specs.Shown.{Tests}
 use Rattle.coin_history.specs.History.{is_committed, blocks_of, committed_blocks, opens_block}
 use Rattle.coin_history.specs.Checking.{is_asked, opening_at}
 use Rattle.coin_history.specs.Inside.{NoneIsAsked, IsFirstAsked}
-use Rattle.coin_history.proofs.HistoryOpenings.{Up, up-each, up-weaker, found-each, found-block, asked-parts, asked-from, AreAsked, blocks-from_asked, asked-from_blocks, rising-up, are-asked, at-head}
+use Rattle.coin_history.proofs.HistoryOpenings.{Up, found-each, asked-parts, asked-from, AreAsked, blocks-from_asked, asked-from_blocks, at-head}
 use Rattle.coin_history.proofs.HistoryLinks.{every-weaker}
 use Rattle.coin_history.proofs.HistoryGrow.{opens-le, opens-grown, committed_blocks-grown}
-use Rattle.proof_archive.specs.declared.refusal.ArchiveRefusal.{ArchiveRefusal}
 use Rattle.proof_archive.specs.Scan.{newest_block}
 use Rattle.proof_archive.specs.Archives.{has_block, first_gap}
 use Rattle.proof_archive.specs.Carried.{AreKept}

@@ -1,5 +1,5 @@
 -- How an opening moves a cell, by what is tested in turn.
-use Rattle.std.proofs.Common.{◌≡◌, ℕ, ◌==◌, ◌&&◌, Bool, true, false, if◌then◌else◌, List, Option, Some, None, refl, sym, ap, ◌∙◌}
+use Rattle.std.proofs.Common.{◌≡◌, ℕ, ◌==◌, ◌&&◌, Bool, true, false, if◌then◌else◌, List, Option, Some, None, sym, ap, ◌∙◌}
 use Rattle.std.specs.Prelude.{is_some, ◌||◌}
 use Rattle.std.proofs.lemmas.Bool.{or_left, or_right, or_from, and_left, and_right, and_from}
 use Rattle.plasma_tx.specs.declared.opening.RawOpening.{RawOpening}
@@ -8,8 +8,6 @@ use Rattle.plasma_tx.specs.declared.views.CoinView.{CoinView}
 use Rattle.plasma_tx.specs.Shown.{Tests, Rules, spends, signs}
 use Rattle.plasma_tx.specs.Transfer.{transfer_in}
 use Rattle.coin_history.specs.History.{leaf_of_opening, is_absent, transfer_of}
-use Rattle.proof_archive.specs.declared.coin.LinkEnd.{LinkEnd}
-use Rattle.proof_archive.specs.declared.coin.Move.{Move}
 use Rattle.proof_archive.specs.declared.coin.Move.TheVariants.{Stays, Links as MovesTo, Breaks}
 use Rattle.proof_archive.specs.Carried.{CoinCell, tip_in, owner_in, move_by, next_in, move_of}
 

@@ -1,9 +1,9 @@
 -- What is carried forward, opening by opening, is what a scan of all openings finds.
-use Rattle.std.proofs.Common.{◌≡◌, ℕ, suc, ◌-◌, ◌<◌, ◌≤◌, ◌==◌, ◌&&◌, not, Bool, true, false, if◌then◌else◌, List, [], ◌∷◌, ◌++◌, reverse, filter, find, Option, Some, None, Result, Ok, Err, inl, inr, refl, sym, ap, ◌∙◌, subst, arith, append-nil}
-use Rattle.std.specs.Prelude.{is_some, nat_le, nat_lt, ◌||◌, ◌⊎◌}
+use Rattle.std.proofs.Common.{◌≡◌, ℕ, suc, ◌<◌, ◌≤◌, ◌==◌, ◌&&◌, not, Bool, true, false, if◌then◌else◌, List, [], ◌∷◌, ◌++◌, reverse, filter, find, Option, Some, None, Ok, Err, inl, inr, refl, sym, ap, ◌∙◌, subst, arith, append-nil}
+use Rattle.std.specs.Prelude.{nat_le, nat_lt, ◌||◌, ◌⊎◌}
 use Rattle.std.specs.List.{AllByRecursion, list_any}
 use Rattle.std.specs.Option.{option_map, option_or}
-use Rattle.std.proofs.lemmas.Bool.{eqb-true, eq-eqb, true≢false, cases_lt, le-leb, lt-leb, le-ltb, lt-ltb, or_cases, or_left, or_right, and_parts, and_from, and_left, and_right, false_from_ne_true}
+use Rattle.std.proofs.lemmas.Bool.{eqb-true, eq-eqb, true≢false, le-leb, lt-leb, le-ltb, lt-ltb, or_cases, or_left, or_right, and_parts, and_from, and_left, and_right}
 use Rattle.std.proofs.lemmas.List.Elements.{All-from_recursion, recursion_from_All, filter-append}
 use Rattle.std.proofs.lemmas.List.Folds.{find-append}
 use mathlib.Core.List.{reverse-cons}
@@ -18,16 +18,15 @@ use Rattle.plasma_tx.specs.Views.{coin_at}
 use Rattle.plasma_tx.specs.Shown.{Tests, Rules, spends, signs}
 use Rattle.plasma_tx.proofs.Names.{some_same}
 use Rattle.coin_history.specs.declared.bundle.Bundle.{Bundle}
-use Rattle.coin_history.specs.declared.refusal.HistoryRefusal.{HistoryRefusal}
 use Rattle.coin_history.specs.Bundles.{AreRising}
-use Rattle.coin_history.specs.History.{is_absent, opens_block, transfer_of, links_in, links_of, committed_blocks, blocks_of, AreLinked, IsHistory}
+use Rattle.coin_history.specs.History.{is_absent, opens_block, transfer_of, links_in, links_of, committed_blocks, AreLinked, IsHistory}
 use Rattle.coin_history.specs.Checking.{history_of}
 use Rattle.coin_history.specs.Inside.{links_with}
-use Rattle.coin_history.proofs.HistoryOpenings.{rising-up, asked-from_blocks}
-use Rattle.coin_history.proofs.HistoryLinks.{every-weaker, tip_from, owner_from, last-push, tip-is, last_owner-is, with_tx, absent-none, none-linked, links-block, IsLeaf}
+use Rattle.coin_history.proofs.HistoryOpenings.{rising-up}
+use Rattle.coin_history.proofs.HistoryLinks.{every-weaker, tip_from, last-push, tip-is, last_owner-is, with_tx, absent-none, none-linked, IsLeaf}
 use Rattle.coin_history.proofs.HistoryFound.{histories_are_found, histories_pass}
 use Rattle.coin_history.proofs.HistoryShape.{tips_are_links}
-use Rattle.proof_archive.specs.Scan.{Scan, newest_block, bundle_up_to_newest, links_or, is_astray, broken_behind, longest_history, scan_of}
+use Rattle.proof_archive.specs.Scan.{newest_block, bundle_up_to_newest, links_or, is_astray, broken_behind, longest_history, scan_of}
 use Rattle.proof_archive.specs.Archives.{is_tip, openings_up_to, links_up_to}
 use Rattle.proof_archive.specs.Carried.{Carried, next_tx, moved, step, carried_by, AreKept}
 use Rattle.proof_archive.proofs.Fine.{every-push, every-last, links-none, links-some, IsFine, IsNextLink, fine-none, fine-absent, fine-next, fine-front, fine-last}

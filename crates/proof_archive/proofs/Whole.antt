@@ -1,5 +1,5 @@
 -- What callers see of an archive, by its cells.
-use Rattle.std.proofs.Common.{◌≡◌, ℕ, ◌==◌, Bool, true, false, if◌then◌else◌, List, [], ◌∷◌, ◌++◌, map, Option, Some, None, Result, Ok, Err, inl, inr, refl, sym, ap, ◌∙◌, subst}
+use Rattle.std.proofs.Common.{◌≡◌, ℕ, ◌==◌, Bool, true, false, if◌then◌else◌, List, [], ◌∷◌, ◌++◌, map, Some, None, Result, Ok, Err, inl, inr, sym, ap, ◌∙◌, subst}
 use Rattle.std.specs.Prelude.{◌||◌}
 use Rattle.std.specs.List.{list_any}
 use Rattle.std.specs.Map.{lookup}
@@ -16,7 +16,6 @@ use Rattle.coin_history.specs.declared.bundle.Bundle.{Bundle}
 use Rattle.coin_history.specs.Bundles.{AreRising}
 use Rattle.proof_archive.specs.declared.coin.LinkEnd.{LinkEnd}
 use Rattle.proof_archive.specs.declared.coin.Move.{Move}
-use Rattle.proof_archive.specs.declared.coin.Move.TheVariants.{Stays, Links as MovesTo, Breaks}
 use Rattle.proof_archive.specs.declared.refusal.ArchiveRefusal.{ArchiveRefusal}
 use Rattle.proof_archive.specs.declared.refusal.ArchiveRefusal.TheVariants.{NoCoin, NotTip}
 use Rattle.proof_archive.specs.Archives.{put_at, put_answer, tip_answer, broken_answer, openings_up_to, bundle_answer}

@@ -1,6 +1,6 @@
-use Rattle.std.proofs.Common.{◌≡◌, List, Err, sym, ap, ◌∙◌}
+use Rattle.std.proofs.Common.{◌≡◌, Err, sym, ap, ◌∙◌}
 use Rattle.std.proofs.lemmas.Result.{err_from_is_err_and}
-use Rattle.plasma_tx.specs.Shown.{Tests, Rules, tests_by, rules_of}
+use Rattle.plasma_tx.specs.Shown.{Tests, tests_by, rules_of}
 use Rattle.proof_archive.specs.declared.refusal.ArchiveRefusal.{ArchiveRefusal}
 use Rattle.proof_archive.proofs.Places.{put-uncoined, put-unplaced, put-unopened, put-opened, put-kept}
 use Rattle.proof_archive.proofs.CellLaws.{cell-made, cell-judged}

@@ -1,4 +1,4 @@
-use Rattle.std.proofs.Common.{◌≡◌, true, false, sym, ap, ◌∙◌, Some, None}
+use Rattle.std.proofs.Common.{true, false, sym, ap, ◌∙◌, Some, None}
 use Rattle.std.proofs.lemmas.Bool.{eq-eqb, ne_eqb}
 use Rattle.plasma_tx.specs.Transfer.{is_signed_by}
 use Rattle.plasma_tx.specs.Shown.{tests_by, rules_of}

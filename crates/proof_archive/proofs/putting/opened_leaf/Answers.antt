@@ -1,4 +1,3 @@
-use Rattle.std.proofs.Common.{◌≡◌, Err}
 use Rattle.plasma_tx.specs.Shown.{tests_by}
 use Rattle.coin_history.specs.History.{leaf_of_opening}
 use Rattle.coin_history.specs.Checking.{is_asked}

@@ -1,7 +1,6 @@
-use Rattle.std.proofs.Common.{◌≡◌, ℕ, ◌≤◌, ◌<◌, true, false, reverse, sym, ◌∙◌, subst, arith}
+use Rattle.std.proofs.Common.{ℕ, sym, ◌∙◌, subst, arith}
 use Rattle.coin_history.specs.Checking.{is_asked}
 use Rattle.coin_history.specs.Inside.{NoneIsAsked, IsFirstAsked}
-use Rattle.proof_archive.specs.Scan.{newest_block}
 use Rattle.proof_archive.proofs.Places.{asked-le, place-unknown, place-have, place-gap}
 use Rattle.proof_archive.proofs.putting.place_of.Goals as goal
 

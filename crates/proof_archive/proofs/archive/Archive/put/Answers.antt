@@ -1,4 +1,4 @@
-use Rattle.std.proofs.Common.{◌≡◌, List, Ok, Err, refl, ap, ◌∙◌}
+use Rattle.std.proofs.Common.{◌≡◌, Ok, Err, refl, ap, ◌∙◌}
 use Rattle.std.proofs.lemmas.Result.{err_from_is_err_and}
 use Rattle.proof_archive.specs.declared.refusal.ArchiveRefusal.{ArchiveRefusal}
 use Rattle.proof_archive.specs.declared.refusal.ArchiveRefusal.TheVariants.{NoMemory}
