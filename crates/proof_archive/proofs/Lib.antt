@@ -1,0 +1,10 @@
+pub mod SpellLaws
+pub mod Fine
+pub mod Kept
+pub mod Scans
+pub mod Places
+pub mod CellLaws
+pub mod Moves
+pub mod ByCell
+pub mod Whole
+pub mod Held

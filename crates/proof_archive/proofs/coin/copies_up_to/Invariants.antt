@@ -1,0 +1,6 @@
+use Rattle.std.proofs.Common.{◌≡◌, take}
+use Rattle.proof_archive.specs.Archives.{openings_up_to}
+use Rattle.proof_archive.proofs.coin.copies_up_to.Given as goal
+
+abbrev pub invariant-loop-opening : goal.invariant-loop-opening
+invariant-loop-opening l = l.copied.items ≡ openings_up_to l.tip (take l.opening-index l.openings)

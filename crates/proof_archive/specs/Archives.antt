@@ -1,0 +1,115 @@
+-- An archive: a chain's log, and the openings that were kept of its coins. Each answer on a coin is a function of the
+-- log and of the coin's openings alone.
+use Rattle.std.specs.Prelude.{ℕ, ◌-◌, ◌==◌, ◌&&◌, ◌||◌, not, Bool, nat_lt, nat_le, if◌then◌else◌, List, [], ◌∷◌, ◌++◌, filter, find, is_some, Option, Some, None, Result, Ok, Err}
+use Rattle.std.specs.List.{list_any}
+use Rattle.std.specs.Map.{lookup}
+use Rattle.std.specs.Option.{option_and_then, option_map_or, unwrap_or}
+use Rattle.std.specs.Ordering.{nat_cmp}
+use Rattle.std.specs.BTreeMap.{is_at}
+use Rattle.plasma_tx.specs.declared.opening.RawOpening.{RawOpening}
+use Rattle.plasma_tx.specs.declared.links.Links.{Links}
+use Rattle.plasma_tx.specs.declared.call.RootCall.{RootCall}
+use Rattle.plasma_tx.specs.declared.views.CoinView.{CoinView}
+use Rattle.plasma_tx.specs.Chain.{Chain}
+use Rattle.plasma_tx.specs.Links.{tip_of}
+use Rattle.plasma_tx.specs.Views.{coin_at}
+use Rattle.plasma_tx.specs.Shown.{Tests, tests_by, rules_of}
+use Rattle.coin_history.specs.declared.bundle.Bundle.{Bundle}
+use Rattle.coin_history.specs.History.{committed_blocks, is_committed, opens_block}
+use Rattle.coin_history.specs.Checking.{opening_at}
+use Rattle.proof_archive.specs.declared.refusal.ArchiveRefusal.{ArchiveRefusal}
+use Rattle.proof_archive.specs.declared.refusal.ArchiveRefusal.TheVariants.{NoCoin, UnknownBlock, HaveBlock, Gap, BadOpening, NotTip}
+use Rattle.proof_archive.specs.Scan.{Scan, scan_of}
+
+-- what callers see: the chain, the digest, and the openings that were kept of coins, in rising order of these
+pub record ArchiveState (H : Type 0) : Type 0 where
+  pub chain : Chain
+  pub hash : H
+  pub kept : List (ℕ × List RawOpening)
+
+-- the openings that were kept of a coin, in the order in which they were put
+abbrev pub kept_in : {H : Type 0} → ArchiveState H → ℕ → List RawOpening
+kept_in state coin = unwrap_or (lookup (is_at (nat_cmp coin)) state.kept) []
+
+-- ---- put
+
+-- an opening of the block is among these
+abbrev pub has_block : List RawOpening → ℕ → Bool
+has_block kept n = is_some (opening_at kept n)
+
+-- the lowest committed block after the deposit and before this one that isn't among these
+abbrev pub first_gap : List RootCall → ℕ → List RawOpening → ℕ → Option ℕ
+first_gap log deposit kept n = find (λ m. not (has_block kept m)) (committed_blocks log deposit (n - 1))
+
+-- an opening of block n is placed, unless there is a gap before it
+abbrev pub placed_behind : Option ℕ → ℕ → Result ℕ ArchiveRefusal
+placed_behind None n = Ok n
+placed_behind (Some gap) n = Err (Gap gap)
+
+-- whether block n is the next one of a coin of which these are kept: a committed one after the deposit, which isn't
+-- kept, without a gap before it
+abbrev pub place_at : List RootCall → ℕ → List RawOpening → ℕ → Result ℕ ArchiveRefusal
+place_at log deposit kept n =
+    if not (is_committed log n && nat_lt deposit n) then Err (UnknownBlock n)
+    else if has_block kept n then Err (HaveBlock n)
+    else placed_behind (first_gap log deposit kept n) n
+
+-- an opening that is placed has to open the root of its block
+abbrev pub opened_at : Bool → Result ℕ ArchiveRefusal → Result ℕ ArchiveRefusal
+opened_at opens (Err why) = Err why
+opened_at opens (Ok n) = if opens then Ok n else Err (BadOpening n)
+
+-- the answer to an opening of a coin of which these are kept
+abbrev pub put_at : Tests → List RootCall → ℕ → List RawOpening → RawOpening → Option CoinView → Result ℕ ArchiveRefusal
+put_at tests log coin kept opening None = Err NoCoin
+put_at tests log coin kept opening (Some made) =
+    opened_at (opens_block tests log coin opening) (place_at log made.deposit kept opening.block)
+
+-- the answer to an opening that is put
+unfoldable pub put_answer : (List ℕ → List ℕ) → Chain → List RawOpening → ℕ → RawOpening → Result ℕ ArchiveRefusal
+put_answer dig chain kept coin opening =
+    put_at (tests_by dig) chain.log coin kept opening (coin_at chain.log coin)
+
+-- what is kept of the coin after a put that was answered so: a refused one changes nothing
+abbrev pub after_put : List RawOpening → RawOpening → Result ℕ ArchiveRefusal → List RawOpening
+after_put kept opening (Ok n) = kept ++ opening ∷ []
+after_put kept opening (Err why) = kept
+
+-- ---- tip, broken and bundle, by a scan from scratch
+
+-- what the kept openings of a coin show
+abbrev pub scan_in : (List ℕ → List ℕ) → Chain → List RawOpening → ℕ → CoinView → Scan
+scan_in dig chain kept coin made = scan_of (tests_by dig) (rules_of chain) chain.log coin made kept
+
+-- the greatest tip of a coin
+unfoldable pub tip_answer : (List ℕ → List ℕ) → Chain → List RawOpening → ℕ → Result ℕ ArchiveRefusal
+tip_answer dig chain kept coin =
+    option_map_or (λ made. Ok (tip_of (scan_in dig chain kept coin made).links)) (coin_at chain.log coin)
+    (Err NoCoin)
+
+-- its broken block
+unfoldable pub broken_answer : (List ℕ → List ℕ) → Chain → List RawOpening → ℕ → Option ℕ
+broken_answer dig chain kept coin =
+    option_and_then (λ made. (scan_in dig chain kept coin made).broken) (coin_at chain.log coin)
+
+-- the block is the deposit, or that of a link
+abbrev pub is_tip : Links → ℕ → Bool
+is_tip links tip = (links.deposit == tip) || list_any (λ link. link.block == tip) links.spends
+
+-- the openings and the links up to a block
+abbrev pub openings_up_to : ℕ → List RawOpening → List RawOpening
+openings_up_to tip openings = filter (λ opening. nat_le opening.block tip) openings
+
+abbrev pub links_up_to : ℕ → Links → Links
+links_up_to tip links = record links { spends = filter (λ link. nat_le link.block tip) links.spends }
+
+-- the bundle of the kept openings up to a tip, where it is one
+abbrev pub bundle_to : Links → List RawOpening → ℕ → ℕ → Result Bundle ArchiveRefusal
+bundle_to links kept coin tip =
+    if is_tip links tip then Ok (record { coin = coin; tip = tip; openings = openings_up_to tip kept })
+    else Err (NotTip tip)
+
+unfoldable pub bundle_answer : (List ℕ → List ℕ) → Chain → List RawOpening → ℕ → ℕ → Result Bundle ArchiveRefusal
+bundle_answer dig chain kept coin tip =
+    option_map_or (λ made. bundle_to (scan_in dig chain kept coin made).links kept coin tip)
+    (coin_at chain.log coin) (Err NoCoin)

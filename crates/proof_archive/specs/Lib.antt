@@ -1,0 +1,4 @@
+pub mod Scan
+pub mod Archives
+pub mod Laws
+pub mod Carried
