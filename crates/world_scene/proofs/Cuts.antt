@@ -160,7 +160,8 @@ module _ {H : Type 0} (digest : H → List ℕ → List ℕ) (scene : SceneState
       ∙ ap (λ one. Some (shown_at_end (Stopped kept) (with_node (world_of scene) n one))) (sym it.node)
       ∙ ap (λ world. Some (shown_at_end (Stopped kept) world)) after_is
 
-  when_done : (given : Given) → IsGiven deed.gives given → IsFinished calls (outcome_of token) order deed was.before was.after
+  when_done : (given : Given) → IsGiven deed.gives given
+      → IsFinished calls (outcome_of token) order deed was.before was.after
       → shows dig (world_of scene) line ≡ Some (shown_at_end (Done given) after)
   when_done given gives it =
       when_up (down_at ∙ it.is_up)
