@@ -26,6 +26,7 @@ use Rattle.proof_archive.specs.Scan.{newest_block}
 
 -- ---- the links and the broken block, opening by opening
 
+-- what is carried of a coin behind its kept openings: its links, and the block at which they broke, if they did
 pub record Carried : Type 0 where
   pub spends : List Link
   pub broken : Option ℕ
