@@ -84,8 +84,9 @@ impl<H: Hash32> Archive<H> {
     /// coin; `UnknownBlock` where the block isn't a committed one after the deposit; `HaveBlock` where it is
     /// kept; `Gap` with the lowest committed block after the deposit and before this one that isn't kept;
     /// `BadOpening` where the opening doesn't read or doesn't open the block's root at the coin. A refusal
-    /// changes nothing. It makes the digests of one opening, at most 65, and tests at most one signature,
-    /// whatever is kept.
+    /// changes nothing. `NoMemory` comes last, and also of an opening that no bundle could have: of 2^32 bytes
+    /// or more, or the coin's 2^32nd. It makes the digests of one opening, at most 65, and tests at most one
+    /// signature, whatever is kept.
     pub fn put(&mut self, coin: u64, opening: RawOpening) -> Result<u64, ArchiveRefusal>
         ensures answer { result ≢ Err ArchiveRefusal.NoMemory
             → result ≡ put_answer (H.digest_of self.old.hash) self.old.chain (kept_in self.old coin) coin opening }
