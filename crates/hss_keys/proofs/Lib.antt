@@ -1,0 +1,10 @@
+pub mod Spelling
+pub mod Counts
+pub mod Form
+pub mod Lives
+pub mod Adding
+pub mod Validity
+pub mod Effects
+pub mod Opening
+pub mod Sounding
+pub mod Bounds

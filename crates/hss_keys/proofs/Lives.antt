@@ -1,0 +1,137 @@
+-- What a journal of a two-level signer keeps through its life.
+use Rattle.std.proofs.Common.{◌≡◌, ◌≤◌, ℕ, true, false, cond, List, [], ◌∷◌, ◌++◌, length, get_or, Option, Some, None, Result, Ok, Err, refl, sym, ◌∙◌, ap, arith, length-append}
+use Rattle.std.specs.List.{slice_get}
+use Rattle.std.specs.Option.{unwrap_or}
+use Rattle.std.specs.Result.{is_ok, result_ok}
+use Rattle.std.proofs.lemmas.Option.{same_Some, slice_get_within, slice_get-get_or, get_or_from_slice_get}
+use Rattle.std.proofs.lemmas.List.{get_or_append_left}
+use Rattle.std.proofs.lemmas.List.Elements.{filter_map-append}
+use Rattle.crash_disk.specs.Disk.{content}
+use Rattle.crash_disk.specs.Calls.{with_made}
+use Rattle.crash_disk.specs.Outcomes.{image_after}
+use Rattle.crash_disk.proofs.Left.{content_may_be_left}
+use Rattle.node_journal.specs.Image.{most, journal_in, spelled}
+use Rattle.node_journal.specs.Steps.{append_steps}
+use Rattle.node_journal.specs.Journal.{Keeps}
+use Rattle.node_journal.specs.JournalLaws.{is_added}
+use Rattle.node_journal.specs.Life.{records_in, Continue}
+use Rattle.node_journal.proofs.Lives.{in_keeps, records_stay, made_journals_stay}
+use Rattle.node_journal.proofs.Crash.{stopped_appends}
+use Rattle.hss_keys.specs.declared.seed.HssSeed.{HssSeed}
+use Rattle.hss_keys.specs.Entries.{entry_in, entry_text, entries_of, key_in, keys_of, message_at, message_under, messages_under, key_at}
+use Rattle.hss_keys.specs.Form.{are_level_records, level_records, level_records_in, level_records_read, may_follow}
+use Rattle.hss_keys.specs.Levels.{HssBoundState, KeepsBound}
+use Rattle.hss_keys.specs.Laws.{NoLeafSignsTwoMessages, BoundsStay, KeptBoundsStay, LevelJournalsStay, StoppedLevelAppends, life_after}
+use Rattle.hss_keys.proofs.Spelling.{entries_are_read_back, text-short}
+use Rattle.hss_keys.proofs.Counts.{entries-more, follows_from}
+use Rattle.hss_keys.proofs.Form.{all_same, one_more}
+
+-- an image that keeps records of the signer
+pub in_image : (seed : HssSeed) (image : List ℕ) (records : List (List ℕ)) → Keeps records image
+    → level_records seed records ≡ Ok records → level_records_in seed image ≡ Ok records
+in_image seed image records keeps are = at (journal_in image) keeps
+  where
+    at : (r : Result (List (List ℕ)) ℕ) → result_ok r ≡ Some records → level_records_read seed r ≡ Ok records
+    at (Ok read) is = (let same : read ≡ records = cc is in ap (level_records seed) same ∙ are)
+    at (Err place) is = absurd (cc is)
+
+are_kind : (seed : HssSeed) (records : List (List ℕ)) → are_level_records seed records ≡ true
+    → level_records seed records ≡ Ok records
+are_kind seed records is = at (level_records seed records) refl is
+  where
+    at : (r : Result (List (List ℕ)) ℕ) → level_records seed records ≡ r → is_ok r ≡ true
+        → level_records seed records ≡ Ok records
+    at (Ok all) read is = read ∙ ap (λ (l : List (List ℕ)). Ok l) (sym (all_same seed records all read))
+    at (Err place) read is = absurd (cc is)
+
+in_life : (seed : HssSeed) (image : List ℕ) (records : List (List ℕ))
+    → records_in (are_level_records seed) image ≡ Some records → level_records_in seed image ≡ Ok records
+in_life seed image records is =
+    let parts = in_keeps (are_level_records seed) image records is in
+    in_image seed image records parts.0 (are_kind seed records parts.1)
+
+pub bounds_stay : BoundsStay
+bounds_stay seed disk earlier later records may is =
+    let stays = records_stay (are_level_records seed) disk earlier later records may is in (
+      λ image left. (let kept = stays.0 image left in (kept.0, in_life seed image kept.0 kept.1, kept.2)),
+      λ others also. stays.1 others also,
+    )
+
+pub level_journals_stay : LevelJournalsStay
+level_journals_stay seed disk earlier later may stay =
+    let stays = made_journals_stay (are_level_records seed) disk earlier later may stay in
+    let now = (life_after seed disk (later ++ earlier)).history in
+    let kept = stays.0 (content now) (content_may_be_left now) in
+    let is = in_life seed (content now) kept.0 kept.1 in
+    (stays.0, λ place not. absurd (cc (not, is)))
+
+-- bottom keys and messages of records that go on go on
+keys_continue : (records later : List (List ℕ)) → Continue records later
+    → Continue (keys_of (entries_of records)) (keys_of (entries_of later))
+keys_continue records later on = (
+  keys_of (entries_of on.0),
+  ap (λ (l : List (List ℕ)). keys_of (entries_of l)) on.1
+      ∙ ap keys_of (filter_map-append entry_in records on.0)
+      ∙ filter_map-append key_in (entries_of records) (entries_of on.0),
+)
+
+messages_continue : (j : ℕ) (records later : List (List ℕ)) → Continue records later
+    → Continue (messages_under j (entries_of records)) (messages_under j (entries_of later))
+messages_continue j records later on = (
+  messages_under j (entries_of on.0),
+  ap (λ (l : List (List ℕ)). messages_under j (entries_of l)) on.1
+      ∙ ap (messages_under j) (filter_map-append entry_in records on.0)
+      ∙ filter_map-append (message_under j) (entries_of records) (entries_of on.0),
+)
+
+-- and so stand at their places
+stands : (earlier later : List (List ℕ)) (i : ℕ) (x : List ℕ) → Continue earlier later
+    → slice_get earlier i ≡ Some x → slice_get later i ≡ Some x
+stands earlier later i x on is =
+    let within = slice_get_within earlier i x is in
+    ap (λ (l : List (List ℕ)). slice_get l i) on.1
+    ∙ slice_get-get_or (earlier ++ on.0) i [] (omega (arith, within, length-append earlier on.0))
+    ∙ ap (λ (l : List ℕ). Some l) (get_or_append_left earlier on.0 [] i within ∙ get_or_from_slice_get earlier i x [] is)
+
+pub kept_bounds_stay : KeptBoundsStay
+kept_bounds_stay records later bound on keeps = (
+  stands (keys_of (entries_of records)) (keys_of (entries_of later)) bound.top_leaf bound.bottom
+      (keys_continue records later on) keeps.0,
+  stands (messages_under bound.top_leaf (entries_of records)) (messages_under bound.top_leaf (entries_of later))
+      bound.leaf bound.message (messages_continue bound.top_leaf records later on) keeps.1,
+)
+
+-- a node that has a bound has records
+has_records : (records : Option (List (List ℕ))) (bound : HssBoundState) → KeepsBound (unwrap_or records []) bound
+    → (kept : List (List ℕ)) × (records ≡ Some kept) × KeepsBound kept bound
+has_records None bound keeps = absurd (let none = keeps.0 in cc none)
+has_records (Some kept) bound keeps = (kept, refl, keeps)
+
+pub no_leaf_signs_two_messages : NoLeafSignsTwoMessages
+no_leaf_signs_two_messages seed disk earlier later one other may was is same =
+    let first = has_records (life_after seed disk earlier).records one was in
+    let second = has_records (life_after seed disk (later ++ earlier)).records other is in
+    let on = (bounds_stay seed disk earlier later first.0 may first.1).1 second.0 second.1 in
+    let stays = kept_bounds_stay first.0 second.0 one on first.2 in
+    let entries = entries_of second.0 in (
+      same_Some _ _ (sym stays.0 ∙ ap (key_at entries) same ∙ second.2.0),
+      λ same_leaf. same_Some _ _ (sym stays.1 ∙ (λ i. message_at entries (same i) (same_leaf i)) ∙ second.2.1),
+    )
+
+pub stopped_level_appends : StoppedLevelAppends
+stopped_level_appends seed history records entry count outcome settled are is follows pattern =
+    let body = entry_text entry in
+    let read = entries_are_read_back entry is in
+    let may : may_follow seed records body ≡ true = follows_from seed records body entry read ∙ follows in
+    let short : length body ≤ most = omega (arith, text-short entry body read) in
+    let image = image_after outcome (with_made count (append_steps (length (spelled records)) body) history) in
+    elim (is_added count outcome) as (λ b. Keeps (cond b (records ++ body ∷ []) records) image
+    → (kept : List (List ℕ)) × (level_records_in seed image ≡ Ok kept)
+    × (entries_of kept ≡ cond b (entries_of records ++ entry ∷ []) (entries_of records))) [
+      | true ↦ λ keeps. (
+        records ++ body ∷ [],
+        in_image seed image (records ++ body ∷ []) keeps (one_more seed records body are may),
+        entries-more records body entry read,
+      )
+      | false ↦ λ keeps. (records, in_image seed image records keeps are, refl)
+    ] (stopped_appends history records body count outcome settled.kept settled.synced short pattern)

@@ -1,0 +1,128 @@
+-- What an opening of a two-level signer did, in the words of a node's notes.
+use Rattle.std.proofs.Common.{◌≡◌, ◌≢◌, ◌≤◌, ◌+◌, ℕ, true, false, List, length, Option, Some, Result, Ok, Err, refl, sym, ◌∙◌, ap, subst, arith}
+use Rattle.std.specs.Result.{result_ok}
+use Rattle.plasma_base.specs.Causes.{faults_after}
+use Rattle.crash_disk.specs.Disk.{History, content, FaultPlan}
+use Rattle.crash_disk.specs.Calls.{WhereTold, IsStill, passed, stopped_after, Made}
+use Rattle.node_journal.specs.Image.{journal_in}
+use Rattle.node_journal.specs.Steps.{open_steps}
+use Rattle.node_journal.specs.Journal.{JournalState, Keeps, IsSettled, RefusesOpen, is_device_fault, fresh_journal, with_spare}
+use Rattle.node_journal.specs.Notes.{NotesState, Opened, RefusesRole}
+use Rattle.node_journal.specs.declared.refusal.JournalRefusal.{JournalRefusal}
+use Rattle.node_journal.specs.declared.refusal.JournalRefusal.TheVariants.{AlreadyMade, NotJournal, RecordTooLong, DeviceFault, Closed, NoMemory}
+use Rattle.lms_sign.specs.Types.{leaf_count}
+use Rattle.hss_keys.specs.declared.seed.HssSeed.{HssSeed}
+use Rattle.hss_keys.specs.Keys.{hss_key_of}
+use Rattle.hss_keys.specs.Entries.{entries_of}
+use Rattle.hss_keys.specs.Form.{level_records, level_records_in, level_records_read}
+use Rattle.hss_keys.specs.Levels.{leaves_left}
+use Rattle.hss_keys.specs.Sound.{LevelRecordsState, IsFormRefusal, IsSound}
+use Rattle.hss_keys.proofs.Counts.{left-most}
+use Rattle.hss_keys.proofs.Form.{all_same}
+use Rattle.hss_keys.proofs.Lives.{in_image}
+use Rattle.hss_keys.proofs.Adding.{notes_over, opened_kept, opened_settled, reserved_room}
+
+-- what an image keeps is read by the signer's reader
+read-refused : (seed : HssSeed) (bodies : List (List ℕ)) (place : ℕ) (r : Result (List (List ℕ)) ℕ)
+    → level_records seed bodies ≡ Err place → result_ok r ≡ Some bodies → level_records_read seed r ≡ Err place
+read-refused seed bodies place (Ok read) form is =
+    (let same : read ≡ bodies = cc is in ap (level_records seed) same ∙ form)
+read-refused seed bodies place (Err other) form is = absurd (cc is)
+
+module _ {D : Type 0} (told : D → Option History) (plan : D → Option FaultPlan) (faults : D → ℕ) (seed : HssSeed)
+  where
+    -- a refusal of the journal's opening
+    refuses_level : (old new : D) (why : JournalRefusal) → RefusesOpen journal_in told plan old why new
+        → RefusesOpen (level_records_in seed) told plan old why new
+    refuses_level old new DeviceFault did = did
+    refuses_level old new NoMemory did = did
+    refuses_level old new (NotJournal place) did = (did.0, λ before is. ap (level_records_read seed) (did.1 before is))
+    refuses_level old new (AlreadyMade count) did = absurd did
+    refuses_level old new (RecordTooLong count) did = absurd did
+    refuses_level old new Closed did = absurd did
+
+    pub refused_by_journal : {old new : D} (why : JournalRefusal) → RefusesOpen journal_in told plan old why new
+        → faults new ≡ faults_after (faults old) (is_device_fault why)
+        → RefusesRole told plan faults (level_records_in seed) old why new
+    refused_by_journal {old = old} {new = new} why did count =
+        record { refused = refuses_level old new why did; count = count }
+
+    made_still : {old mid new : D} → Made told plan open_steps 3 passed old mid → IsStill told plan faults mid new
+        → Made told plan open_steps 3 passed old new
+    made_still made still = record {
+      calls = still.same_calls ∙ made.calls;
+      planned = (made.planned.0, still.same_plan ∙ made.planned.1);
+    }
+
+    stopped : {old new : D} → Made told plan open_steps 3 passed old new
+        → Made told plan open_steps 3 (stopped_after 3) old new
+    stopped made = record { calls = made.calls; planned = (omega arith, made.planned.0, made.planned.1) }
+
+    -- a refusal by the form of the records, or for want of memory
+    refuses_form : {old new : D} (bodies : List (List ℕ)) (why : JournalRefusal) → IsFormRefusal seed bodies why
+        → Made told plan open_steps 3 passed old new
+        → WhereTold (told old) (λ before. Keeps bodies (content before))
+        → RefusesOpen (level_records_in seed) told plan old why new
+    refuses_form bodies (NotJournal place) form made kept =
+        (made, λ before is. read-refused seed bodies place (journal_in (content before)) form (kept before is))
+    refuses_form bodies NoMemory form made kept = (3, (λ one. absurd (omega (arith, one))), stopped made)
+    refuses_form bodies DeviceFault form made kept = absurd form
+    refuses_form bodies (AlreadyMade count) form made kept = absurd form
+    refuses_form bodies (RecordTooLong count) form made kept = absurd form
+    refuses_form bodies Closed form made kept = absurd form
+
+    no_fault : (bodies : List (List ℕ)) (why : JournalRefusal) → IsFormRefusal seed bodies why
+        → is_device_fault why ≡ false
+    no_fault bodies (NotJournal place) form = refl
+    no_fault bodies NoMemory form = refl
+    no_fault bodies DeviceFault form = absurd form
+    no_fault bodies (AlreadyMade count) form = absurd form
+    no_fault bodies (RecordTooLong count) form = absurd form
+    no_fault bodies Closed form = absurd form
+
+    pub refused_by_form : {old mid new : D} (bodies : List (List ℕ)) (why : JournalRefusal)
+        → IsFormRefusal seed bodies why → Made told plan open_steps 3 passed old mid
+        → WhereTold (told old) (λ before. Keeps bodies (content before)) → faults mid ≡ faults old
+        → IsStill told plan faults mid new → RefusesRole told plan faults (level_records_in seed) old why new
+    refused_by_form {old = old} bodies why form made kept count still = record {
+      refused = refuses_form bodies why form (made_still made still) kept;
+      count = still.same_count ∙ count ∙ ap (λ b. faults_after (faults old) b) (sym (no_fault bodies why form));
+    }
+
+    -- an opening that went through
+    module _ (disk : D) (old new : JournalState D) (kept : LevelRecordsState) (bodies : List (List ℕ))
+        (of_seed : kept.seed ≡ seed) (read : level_records seed bodies ≡ Ok kept.records)
+        (is : new ≡ with_spare (leaf_count kept.seed.bottom) 137 new.disk old)
+        (fresh : old ≡ fresh_journal old.disk bodies)
+        (settled : WhereTold (told old.disk) (λ now. IsSettled now bodies))
+        (still : IsStill told plan faults old.disk new.disk)
+      where
+        here : level_records kept.seed bodies ≡ Ok kept.records
+        here = ap (λ (s : HssSeed). level_records s bodies) of_seed ∙ read
+
+        settled_now : WhereTold (told new.disk) (λ now. IsSettled now bodies)
+        settled_now now some = settled now (sym still.same_calls ∙ some)
+
+        pub opened_level : Made told plan open_steps 3 passed disk old.disk
+            → WhereTold (told disk) (λ before. Keeps bodies (content before)) → faults old.disk ≡ faults disk
+            → Opened told plan faults (level_records_in seed) disk (notes_over new kept.records)
+        opened_level made keeps count =
+            let same : bodies ≡ kept.records = all_same kept.seed bodies kept.records here in
+            let are : level_records seed kept.records ≡ Ok kept.records = ap (level_records seed) (sym same) ∙ read in
+            record {
+              kept = λ before some. in_image seed (content before) kept.records
+                  (subst (λ (l : List (List ℕ)). Keeps l (content before)) same (keeps before some)) are;
+              made = made_still made still;
+              count = still.same_count ∙ count;
+              is_open = ap (λ (j : JournalState D). j.closed) is ∙ ap (λ (j : JournalState D). j.closed) fresh;
+              settled = opened_settled told new kept bodies here settled_now;
+            }
+
+        pub opened_sound : {key : List ℕ} → key ≡ hss_key_of seed
+            → leaves_left kept.seed (entries_of kept.records) ≤ kept.spare → IsSound (told new.disk) new key kept
+        opened_sound is_key spare = record {
+          key_is = is_key ∙ ap hss_key_of (sym of_seed);
+          is_kept = opened_kept told new kept bodies here settled_now (leaf_count kept.seed.bottom) is fresh;
+          room = λ open'. reserved_room old new.disk (leaf_count kept.seed.bottom) (leaves_left kept.seed (entries_of kept.records))
+              is (left-most kept.seed (entries_of kept.records)) spare;
+        }

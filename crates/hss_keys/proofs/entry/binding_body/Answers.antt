@@ -1,0 +1,15 @@
+use Rattle.std.proofs.Common.{◌≡◌, ◌+◌, ◌∙◌, refl, arith, length}
+use Rattle.lms_sign.proofs.Lists.{length-u32str, put_first, put_on}
+use Rattle.hss_keys.specs.Entries.{entry_text}
+use Rattle.hss_keys.proofs.entry.binding_body.Goals as goal
+
+pub returns : goal.returns
+unfolding entry_text
+returns c =
+    let four : length c.u32str.result ≡ 4 = rw c.u32str.ensures (length-u32str c.args.top_leaf) in
+    let also_four : length c.u32str-2.result ≡ 4 = rw c.u32str-2.ensures (length-u32str c.args.leaf) in
+    let first = put_first c.put.new.out _ 1 c.put.ensures refl in
+    let second = put_on _ c.put-2.new.out _ _ 1 5 first c.put-2.ensures (omega (arith, four)) in
+    let third = put_on _ c.put-3.new.out _ _ 5 9 second c.put-3.ensures (omega (arith, also_four)) in
+    let fourth = put_on _ c.put-4.new.out _ _ 9 (9 + length c.args.message.now) third c.put-4.ensures refl in
+    fourth ∙ rw (c.u32str.ensures, c.u32str-2.ensures) refl

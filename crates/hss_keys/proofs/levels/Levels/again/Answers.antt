@@ -1,0 +1,14 @@
+use Rattle.std.proofs.Common.{◌≡◌, ◌∙◌, Some, sym, subst}
+use Rattle.hss_keys.specs.Entries.{entries_of, message_at}
+use Rattle.hss_keys.specs.Levels.{LevelsState}
+use Rattle.hss_keys.proofs.Bounds.{bound-kept}
+use Rattle.hss_keys.proofs.levels.Levels.again.Goals as goal
+
+pub returns-clause-kept : goal.returns-clause-kept
+returns-clause-kept g c =
+    let old = c.args.self.now in
+    let message = c.in_ok-message.message in
+    let value = subst (λ (s : LevelsState _). Some message ≡ message_at (entries_of s.records) c.args.j c.args.q)
+    c.self.view_is c.in_ok-message.ensures.value in
+    bound-kept old.seed old.records c.args.j c.args.q message c.bound.result c.bound.ensures.value
+    c.bound.ensures.key (sym value)

@@ -1,0 +1,10 @@
+use Rattle.std.proofs.Common.{◌≡◌, ◌∙◌, false, refl, sym, ap}
+use Rattle.lms_sign.specs.Types.{is_supported}
+use Rattle.lms_sign.specs.Valid.{is_valid, types_of}
+use Rattle.hss_keys.proofs.verify.is_valid.Goals as goal
+
+pub returns-in-Err : goal.returns-in-Err
+unfolding is_valid
+returns-in-Err c =
+    let key : is_supported (types_of c.args.key.now) ≡ false = rw (c.copy_from_slice.ensures.after) at c.in-Err.ensures
+    in sym (rw key refl)
