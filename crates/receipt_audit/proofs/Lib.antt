@@ -1,0 +1,7 @@
+pub mod PromiseTexts
+pub mod CheckBreaches
+pub mod Breaches
+pub mod Convictions
+pub mod Audits
+pub mod Refusals
+pub mod Desks
