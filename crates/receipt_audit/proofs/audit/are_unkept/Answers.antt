@@ -23,24 +23,24 @@ returns-in_err-leaf g c given =
     let is : c.from_residual.result ≡ Err c.in_err-leaf.field-0.0 = p.1 ∙ ap Err p.2 in
     is ∙ sym (cleared-unopened c.loop-opening.invariant c.opening-item.result c.loop-opening-test.true
     c.opening-item.is c.in_default.ensures c.in_err-leaf.field-0.0
-    (c.in_err-leaf.ensures (λ wrong. given (is ∙ ap Err (refusal-same c.in_err-leaf.field-0.0 NoMemory wrong)))))
+    (c.in_err-leaf.ensures.value (λ wrong. given (is ∙ ap Err (refusal-same c.in_err-leaf.field-0.0 NoMemory wrong)))))
 
 pub is_kept-requires : goal.is_kept-requires
 is_kept-requires g c =
     c.as_slice.ensures
     ∙ opened-leaf (tests_by (g.H.Hash32.digest_of c.args.h.now)) c.args.log.now.log c.args.promise.now
-    c.opening-item.result c.in_ok-leaf.leaf (c.in_ok-leaf.ensures (λ wrong. cc wrong))
+    c.opening-item.result c.in_ok-leaf.leaf (c.in_ok-leaf.ensures.value (λ wrong. cc wrong))
 
 pub returns-then-is_kept : goal.returns-then-is_kept
 returns-then-is_kept g c given =
     sym (cleared-kept c.loop-opening.invariant c.opening-item.result c.loop-opening-test.true c.opening-item.is
-    c.in_default.ensures c.in_ok-leaf.leaf (c.in_ok-leaf.ensures (λ wrong. cc wrong))
+    c.in_default.ensures c.in_ok-leaf.leaf (c.in_ok-leaf.ensures.value (λ wrong. cc wrong))
     (sym c.is_kept.ensures ∙ c.if-is_kept.true))
 
 pub loop-opening-preserved : goal.loop-opening-preserved
 loop-opening-preserved g c =
     cleared-next c.loop-opening.invariant c.opening-item.result c.loop-opening-test.true c.opening-item.is
-    c.in_default.ensures c.in_ok-leaf.leaf (c.in_ok-leaf.ensures (λ wrong. cc wrong))
+    c.in_default.ensures c.in_ok-leaf.leaf (c.in_ok-leaf.ensures.value (λ wrong. cc wrong))
     (sym c.is_kept.ensures ∙ c.if-is_kept.false) c.next_block-passed.result c.next_block-passed.ensures
 
 pub returns-in-Some-first_asked : goal.returns-in-Some-first_asked
