@@ -1,5 +1,5 @@
 -- A conviction shows a broken promise.
-use Rattle.std.proofs.Common.{◌≡◌, ◌≢◌, ℕ, ◌^◌, ◌<◌, ◌≤◌, ◌==◌, ◌&&◌, not, Bool, true, false, if◌then◌else◌, List, [], ◌∷◌, ◌++◌, length, Option, Some, None, Ok, Err, inl, inr, refl, sym, ap, ◌∙◌, subst, arith}
+use Rattle.std.proofs.Common.{◌≡◌, ◌≢◌, ℕ, ◌^◌, ◌<◌, ◌≤◌, ◌==◌, not, Bool, true, false, if◌then◌else◌, List, [], ◌∷◌, ◌++◌, length, Option, Some, None, Ok, Err, inl, inr, refl, sym, ap, ◌∙◌, subst}
 use Rattle.std.specs.Prelude.{◌⊎◌, Result, nat_lt, is_some}
 use Rattle.std.specs.Option.{option_map_or}
 use Rattle.std.specs.List.{All, Contains}
@@ -21,7 +21,6 @@ use Rattle.plasma_tx.specs.declared.opening.OpeningRefusal.{OpeningRefusal}
 use Rattle.plasma_tx.specs.declared.call.RootCall.{RootCall}
 use Rattle.plasma_tx.specs.Chain.{Chain}
 use Rattle.plasma_tx.specs.Openings.{opening_in}
-use Rattle.plasma_tx.specs.Spelling.{AreBytes}
 use Rattle.plasma_tx.specs.Views.{blocks}
 use Rattle.plasma_tx.specs.Shown.{tests_by, root_at, opens_root}
 use Rattle.plasma_tx.proofs.Names.{some_same}
@@ -37,8 +36,8 @@ use Rattle.receipt_audit.specs.declared.promise.Promise.{Promise}
 use Rattle.receipt_audit.specs.declared.audit.Conviction.{Conviction}
 use Rattle.receipt_audit.specs.declared.refusal.AuditRefusal.{AuditRefusal}
 use Rattle.receipt_audit.specs.declared.refusal.AuditRefusal.TheVariants.{BadKey, NotSigned, NotYet, OtherCoin}
-use Rattle.receipt_audit.specs.Promises.{promise_in, promise_text, promised_part, signature_part, IsPromise, Honours}
-use Rattle.receipt_audit.specs.Audit.{is_kept, breach_of, convicted, shown_by, audited, conviction_answer, ClashesAt, IsBroken, ShowsBreach}
+use Rattle.receipt_audit.specs.Promises.{promise_in, promise_text, promised_part, signature_part, Honours}
+use Rattle.receipt_audit.specs.Audit.{is_kept, breach_of, convicted, shown_by, audited, conviction_answer, ClashesAt, ShowsBreach}
 use Rattle.receipt_audit.specs.Laws.{ConvictionsShowBrokenPromises, KeptPromisesAreNotConvicted}
 use Rattle.receipt_audit.proofs.Breaches.{breaches_are_found}
 use Rattle.receipt_audit.proofs.PromiseTexts.{promises_are_read_back, promises_have_one_spelling}

@@ -1,5 +1,5 @@
 -- What a migration leaves of a desk.
-use Rattle.std.proofs.Common.{◌≡◌, ℕ, Option, Ok, Err, ap}
+use Rattle.std.proofs.Common.{◌≡◌, Option, Ok, Err, ap}
 use Rattle.std.specs.Prelude.{Result}
 use Rattle.crash_disk.specs.Disk.{History, FaultPlan}
 use Rattle.leaf_journal.specs.Leaves.{LeavesState, Migrates}

@@ -1,4 +1,4 @@
-use Rattle.std.proofs.Common.{◌≡◌, ℕ, List, ◌<◌, ◌≤◌, true, false, ap, ◌∙◌, subst}
+use Rattle.std.proofs.Common.{ℕ, List, ◌<◌, ◌≤◌, true, false, ap, ◌∙◌, subst}
 use Rattle.receipt_audit.specs.Promises.{promise_in}
 use Rattle.receipt_audit.proofs.AuditTests.{verified, unsigned-answer, early-answer, due-answer}
 use Rattle.receipt_audit.proofs.audit.audited.Goals as goal

@@ -1,6 +1,4 @@
-use Rattle.plasma_tx.specs.Shown.{tests_by}
 use Rattle.coin_history.specs.Bundles.{bundle_in}
-use Rattle.receipt_audit.specs.Audit.{breach_of}
 use Rattle.receipt_audit.proofs.Audits.{unread-answer}
 use Rattle.receipt_audit.proofs.audit.shown_by.Goals as goal
 

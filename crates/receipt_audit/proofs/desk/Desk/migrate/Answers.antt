@@ -1,4 +1,4 @@
-use Rattle.std.proofs.Common.{◌≡◌, None, ap, ◌∙◌, subst}
+use Rattle.std.proofs.Common.{ap, ◌∙◌, subst}
 use Rattle.node_journal.specs.Notes.{Did}
 use Rattle.leaf_journal.specs.Leaves.{LeavesState}
 use Rattle.leaf_journal.specs.NodeWords.{migrate_answer, migrate_note, migrate_stop, notes_of}
