@@ -9,7 +9,7 @@ returns-in-Ok-clause-ok g c =
     opened-ok (tests_by (g.H.Hash32.digest_of c.args.h.now)) c.args.log.now.log c.args.coin
     (is_asked c.args.log.now.log c.args.made.now.deposit c.args.opening.now.block c.args.opening.now.block)
     c.args.opening.now c.in-Ok.leaf (leaf_of_opening c.args.opening.now) c.requires.asked
-    (c.in-Ok.ensures (λ wrong. absurd (cc)))
+    (c.in-Ok.ensures.value (λ wrong. absurd (cc)))
 
 pub returns-in-Err-clause-err : goal.returns-in-Err-clause-err
 returns-in-Err-clause-err g c given = (
@@ -17,5 +17,5 @@ returns-in-Err-clause-err g c given = (
   opened-err (tests_by (g.H.Hash32.digest_of c.args.h.now)) c.args.log.now.log c.args.coin
       (is_asked c.args.log.now.log c.args.made.now.deposit c.args.opening.now.block c.args.opening.now.block)
       c.args.opening.now c.in-Err.why (leaf_of_opening c.args.opening.now) c.requires.asked
-      (c.in-Err.ensures (λ wrong. given (c.unopened.ensures.memory cc))),
+      (c.in-Err.ensures.value (λ wrong. given (c.unopened.ensures.memory cc))),
 )
