@@ -1,0 +1,4 @@
+pub mod Promises
+pub mod Audit
+pub mod Desk
+pub mod Laws
