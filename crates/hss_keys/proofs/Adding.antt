@@ -1,5 +1,5 @@
 -- What an append and an opening tell of a two-level signer's records.
-use Rattle.std.proofs.Common.{◌≡◌, ◌≤◌, ◌<◌, ◌+◌, ◌-◌, max, ℕ, true, false, List, [], ◌∷◌, ◌++◌, length, Option, Some, None, Result, Ok, Err, refl, sym, ◌∙◌, ap, subst, inl, inr, arith, append-nil}
+use Rattle.std.proofs.Common.{◌≡◌, ◌≤◌, ◌+◌, ◌-◌, max, ℕ, true, false, List, [], ◌∷◌, ◌++◌, length, Option, Some, None, Result, Ok, Err, refl, sym, ◌∙◌, ap, subst, inl, inr, arith, append-nil}
 use Rattle.std.specs.Option.{option_map}
 use Rattle.std.specs.Result.{is_err, is_ok, IfErr, OnErr, OnOk}
 use Rattle.std.proofs.lemmas.Bool.{lt-ltb, le-leb}
@@ -7,10 +7,10 @@ use Rattle.plasma_base.specs.Causes.{faults_after}
 use Rattle.crash_disk.specs.Disk.{Step, History, content, MayLeave, FaultPlan, LeavesOnly}
 use Rattle.crash_disk.specs.Calls.{WhereTold, IsStill, Course, passed, failed_after, after_course, Made}
 use Rattle.crash_disk.proofs.Calls.{made_from}
-use Rattle.node_journal.specs.Image.{most, spelled}
+use Rattle.node_journal.specs.Image.{spelled}
 use Rattle.node_journal.specs.Steps.{append_steps}
 use Rattle.node_journal.specs.Journal.{JournalState, Keeps, KeepsWithOrWithout, IsSettled, fresh_journal, with_spare, has_spare, is_fault, Appended, AppendFailed, Appends}
-use Rattle.node_journal.specs.Notes.{NotesState, KeepsAtAnyMoment, note_steps, stopped_by, Added, AddFailed, Did}
+use Rattle.node_journal.specs.Notes.{NotesState, KeepsAtAnyMoment, stopped_by, Added, AddFailed, Did}
 use Rattle.node_journal.specs.Life.{Stay}
 use Rattle.node_journal.specs.declared.refusal.JournalRefusal.{JournalRefusal}
 use Rattle.node_journal.specs.declared.refusal.JournalRefusal.TheVariants.{AlreadyMade, NotJournal, RecordTooLong, DeviceFault, Closed, NoMemory}
@@ -315,8 +315,8 @@ kept_reserved {D = D} told {journal = journal} {new = new} {kept = kept} more is
     let gate : new.gate ≡ journal.gate = ap (λ (j : JournalState D). j.gate) is in
     record {
       are = is_kept.are;
-      stay = subst (λ (t : Option History). WhereTold t (Stay (are_level_records kept.seed) kept.records)) (sym told_same)
-          is_kept.stay;
+      stay = subst (λ (t : Option History). WhereTold t (Stay (are_level_records kept.seed) kept.records))
+          (sym told_same) is_kept.stay;
       settled = λ still. subst (λ (t : Option History). WhereTold t (λ history. IsSettled history kept.records))
           (sym told_same) (is_kept.settled (sym closed ∙ still));
       gate = λ still. gate ∙ is_kept.gate (sym closed ∙ still);

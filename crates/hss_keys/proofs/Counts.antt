@@ -1,9 +1,8 @@
 -- The bottom keys and the messages of entries, and what one more entry does to them.
-use Rattle.std.proofs.Common.{◌≡◌, ◌≢◌, ◌<◌, ◌≤◌, ◌+◌, ◌-◌, ℕ, suc, Bool, true, false, cond, List, [], ◌∷◌, ◌++◌, length, drop, get_or, Option, Some, None, refl, sym, ◌∙◌, ap, inl, inr, arith, eqb, ltb, append-nil, length-append}
-use Rattle.std.specs.Prelude.{◌&&◌}
+use Rattle.std.proofs.Common.{◌≡◌, ◌≢◌, ◌<◌, ◌≤◌, ◌+◌, ◌-◌, ℕ, suc, true, false, cond, List, [], ◌∷◌, ◌++◌, length, drop, get_or, Option, Some, None, refl, sym, ◌∙◌, ap, inl, inr, arith, eqb, append-nil, length-append}
 use Rattle.std.specs.Option.{option_and_then, option_map_or}
 use Rattle.std.specs.List.{cons_option, slice_get}
-use Rattle.std.proofs.lemmas.Bool.{cases_Bool, cases_eq, cases_lt, and_parts, eq-eqb, eqb-true, lt-ltb, ltb-true, le-ltb, ne_eqb}
+use Rattle.std.proofs.lemmas.Bool.{cases_eq, cases_lt, and_parts, eq-eqb, eqb-true, lt-ltb, ltb-true, ne_eqb}
 use Rattle.std.proofs.lemmas.List.{drop_all, get_or_append_left, get_or_at}
 use Rattle.std.proofs.lemmas.Option.{slice_get_within}
 use Rattle.std.proofs.lemmas.List.Elements.{filter_map-append}
@@ -262,7 +261,8 @@ messages-first j body rest = elim (entry_in body)
 pub messages-at : (j : ℕ) (records : List (List ℕ)) (i : ℕ) (body : List ℕ) → i < length records
     → body ≡ get_or records i []
     → messages_under j (entries_of (drop i records))
-    ≡ cons_option (option_and_then (message_under j) (entry_in body)) (messages_under j (entries_of (drop (i + 1) records)))
+    ≡ cons_option (option_and_then (message_under j) (entry_in body))
+    (messages_under j (entries_of (drop (i + 1) records)))
 messages-at j records i body within is =
     let next : suc i ≡ i + 1 = omega arith in
     ap (λ (l : List (List ℕ)). messages_under j (entries_of l)) (drop-cons records i [] within)
@@ -284,7 +284,8 @@ message-here j records i before leaf body message within is some none invariant 
     none' = sym none
 
     first : messages_under j (entries_of (drop i records))
-        ≡ cons_option (option_and_then (message_under j) (entry_in body)) (messages_under j (entries_of (drop (i + 1) records)))
+        ≡ cons_option (option_and_then (message_under j) (entry_in body))
+        (messages_under j (entries_of (drop (i + 1) records)))
     first = messages-at j records i body within is
 
 pub message-later : (j : ℕ) (records : List (List ℕ)) (i before less leaf : ℕ) (body message : List ℕ)
@@ -302,7 +303,8 @@ message-later j records i before less leaf body message within is some more inva
     more' = sym more
 
     first : messages_under j (entries_of (drop i records))
-        ≡ cons_option (option_and_then (message_under j) (entry_in body)) (messages_under j (entries_of (drop (i + 1) records)))
+        ≡ cons_option (option_and_then (message_under j) (entry_in body))
+        (messages_under j (entries_of (drop (i + 1) records)))
     first = messages-at j records i body within is
 
 pub message-other : (j : ℕ) (records : List (List ℕ)) (i before leaf : ℕ) (body : List ℕ) → i < length records

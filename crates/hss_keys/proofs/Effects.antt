@@ -4,7 +4,6 @@ use Rattle.std.proofs.lemmas.Bool.{lt-ltb, le-ltb}
 use Rattle.node_journal.specs.Effect.{Effect, only, first_cause}
 use Rattle.lms_sign.specs.Types.{leaf_count}
 use Rattle.hss_keys.specs.declared.seed.HssSeed.{HssSeed}
-use Rattle.hss_keys.specs.declared.entry.Entry.{Entry}
 use Rattle.hss_keys.specs.declared.entry.Entry.TheVariants.{Opens, Binds}
 use Rattle.hss_keys.specs.declared.refusal.LevelRefusal.{LevelRefusal}
 use Rattle.hss_keys.specs.declared.refusal.LevelRefusal.TheVariants.{LevelOpen, LevelSpent, KeySpent}

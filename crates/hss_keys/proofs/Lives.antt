@@ -1,5 +1,5 @@
 -- What a journal of a two-level signer keeps through its life.
-use Rattle.std.proofs.Common.{◌≡◌, ◌≤◌, ℕ, true, false, cond, List, [], ◌∷◌, ◌++◌, length, get_or, Option, Some, None, Result, Ok, Err, refl, sym, ◌∙◌, ap, arith, length-append}
+use Rattle.std.proofs.Common.{◌≡◌, ◌≤◌, ℕ, true, false, cond, List, [], ◌∷◌, ◌++◌, length, Option, Some, None, Result, Ok, Err, refl, sym, ◌∙◌, ap, arith, length-append}
 use Rattle.std.specs.List.{slice_get}
 use Rattle.std.specs.Option.{unwrap_or}
 use Rattle.std.specs.Result.{is_ok, result_ok}
@@ -91,7 +91,8 @@ stands earlier later i x on is =
     let within = slice_get_within earlier i x is in
     ap (λ (l : List (List ℕ)). slice_get l i) on.1
     ∙ slice_get-get_or (earlier ++ on.0) i [] (omega (arith, within, length-append earlier on.0))
-    ∙ ap (λ (l : List ℕ). Some l) (get_or_append_left earlier on.0 [] i within ∙ get_or_from_slice_get earlier i x [] is)
+    ∙ ap (λ (l : List ℕ). Some l)
+    (get_or_append_left earlier on.0 [] i within ∙ get_or_from_slice_get earlier i x [] is)
 
 pub kept_bounds_stay : KeptBoundsStay
 kept_bounds_stay records later bound on keeps = (

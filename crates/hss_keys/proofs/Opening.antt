@@ -1,5 +1,5 @@
 -- What an opening of a two-level signer did, in the words of a node's notes.
-use Rattle.std.proofs.Common.{◌≡◌, ◌≢◌, ◌≤◌, ◌+◌, ℕ, true, false, List, length, Option, Some, Result, Ok, Err, refl, sym, ◌∙◌, ap, subst, arith}
+use Rattle.std.proofs.Common.{◌≡◌, ◌≤◌, ℕ, false, List, Option, Some, Result, Ok, Err, refl, sym, ◌∙◌, ap, subst, arith}
 use Rattle.std.specs.Result.{result_ok}
 use Rattle.plasma_base.specs.Causes.{faults_after}
 use Rattle.crash_disk.specs.Disk.{History, content, FaultPlan}
@@ -7,7 +7,7 @@ use Rattle.crash_disk.specs.Calls.{WhereTold, IsStill, passed, stopped_after, Ma
 use Rattle.node_journal.specs.Image.{journal_in}
 use Rattle.node_journal.specs.Steps.{open_steps}
 use Rattle.node_journal.specs.Journal.{JournalState, Keeps, IsSettled, RefusesOpen, is_device_fault, fresh_journal, with_spare}
-use Rattle.node_journal.specs.Notes.{NotesState, Opened, RefusesRole}
+use Rattle.node_journal.specs.Notes.{Opened, RefusesRole}
 use Rattle.node_journal.specs.declared.refusal.JournalRefusal.{JournalRefusal}
 use Rattle.node_journal.specs.declared.refusal.JournalRefusal.TheVariants.{AlreadyMade, NotJournal, RecordTooLong, DeviceFault, Closed, NoMemory}
 use Rattle.lms_sign.specs.Types.{leaf_count}
@@ -123,6 +123,7 @@ module _ {D : Type 0} (told : D → Option History) (plan : D → Option FaultPl
         opened_sound is_key spare = record {
           key_is = is_key ∙ ap hss_key_of (sym of_seed);
           is_kept = opened_kept told new kept bodies here settled_now (leaf_count kept.seed.bottom) is fresh;
-          room = λ open'. reserved_room old new.disk (leaf_count kept.seed.bottom) (leaves_left kept.seed (entries_of kept.records))
-              is (left-most kept.seed (entries_of kept.records)) spare;
+          room = λ open'. reserved_room old new.disk (leaf_count kept.seed.bottom)
+              (leaves_left kept.seed (entries_of kept.records)) is
+              (left-most kept.seed (entries_of kept.records)) spare;
         }

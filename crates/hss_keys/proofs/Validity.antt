@@ -1,15 +1,15 @@
 -- Signatures of two levels: their parts, the test, and that those that are made are valid.
-use Rattle.std.proofs.Common.{◌≡◌, ◌≤◌, ◌<◌, ◌+◌, ◌-◌, ℕ, Bool, true, false, List, [], ◌∷◌, ◌++◌, length, take, drop, refl, sym, ◌∙◌, ap, inl, inr, arith, append_assoc, length-append, length-take, length-drop}
+use Rattle.std.proofs.Common.{◌≡◌, ◌≤◌, ◌<◌, ◌+◌, ◌-◌, ℕ, Bool, true, false, List, ◌++◌, length, take, drop, refl, sym, ◌∙◌, ap, arith, append_assoc, length-append, length-take, length-drop}
 use Rattle.std.specs.Prelude.{◌&&◌, nat_le, slice_range}
 use Rattle.std.specs.Str.{bytes_eq}
 use Rattle.std.proofs.lemmas.Bool.{and_parts, eqb-true, le-leb, leb-true, lt-leb}
-use Rattle.std.proofs.lemmas.List.{take_at, drop_at, take_all, take-append-drop, drop-drop}
+use Rattle.std.proofs.lemmas.List.{take_at, drop_at, take-append-drop, drop-drop}
 use Rattle.std.proofs.lemmas.Slice.Eq.{bytes_eq-Decides}
 use Rattle.sha2.proofs.Facts256.{length-sha256}
 use Rattle.lms_sign.specs.declared.secret.Secret.{Secret}
-use Rattle.lms_sign.specs.Types.{is_supported, leaf_count, signature_length, u32str}
-use Rattle.lms_sign.specs.Tree.{public_key_of, signature_of, tree_node}
-use Rattle.lms_sign.specs.Valid.{types_of, is_formed, is_valid, IsValid}
+use Rattle.lms_sign.specs.Types.{is_supported, signature_length, u32str}
+use Rattle.lms_sign.specs.Tree.{public_key_of, signature_of}
+use Rattle.lms_sign.specs.Valid.{types_of, is_valid, IsValid}
 use Rattle.lms_sign.proofs.Laws.{key-types, signatures_are_valid}
 use Rattle.lms_sign.proofs.Lists.{length-u32str}
 use Rattle.lms_sign.proofs.Nodes.{length-tree_node}
@@ -267,7 +267,8 @@ module _ (public message signature : List ℕ) where
   short_signature place is short =
       let bottom = slice_range signature place (place + 56) in
       sym (test-is public message signature place bottom is refl
-      ∙ rw (lt-leb (place + 56) (length signature) short) (and_short (bytes_eq (take 4 public) (u32str 2)) (bytes_eq (take 4 signature) (u32str 1))
+      ∙ rw (lt-leb (place + 56) (length signature) short)
+      (and_short (bytes_eq (take 4 public) (u32str 2)) (bytes_eq (take 4 signature) (u32str 1))
       (is_valid (drop 4 public) bottom (slice_range signature 4 place))
       (is_valid bottom message (drop (place + 56) signature))))
 

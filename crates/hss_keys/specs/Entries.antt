@@ -9,8 +9,8 @@ use Rattle.hss_keys.specs.declared.entry.Entry.TheVariants.{Opens, Binds}
 abbrev pub most_length : ℕ
 most_length = 128
 
--- 01 || j u32 || key (56): top leaf j signs this bottom key. 02 || j u32 || q u32 || message: leaf q of the bottom key of
--- top leaf j is bound to this message.
+-- 01 || j u32 || key (56): top leaf j signs this bottom key. 02 || j u32 || q u32 || message: leaf q of the bottom key
+-- of top leaf j is bound to this message.
 unfoldable pub entry_text : Entry → List ℕ
 entry_text (Opens j key) = 1 ∷ u32str j ++ key
 entry_text (Binds j q message) = 2 ∷ u32str j ++ u32str q ++ message

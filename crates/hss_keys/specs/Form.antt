@@ -1,5 +1,5 @@
--- When records are those of a two-level signer: the top leaves count from 0 and sign their own bottom keys; a message is
--- of the last bottom key, and its leaf is the next one.
+-- When records are those of a two-level signer: the top leaves count from 0 and sign their own bottom keys; a message
+-- is of the last bottom key, and its leaf is the next one.
 use Rattle.std.specs.Prelude.{ℕ, ◌+◌, ◌==◌, ◌&&◌, Bool, false, nat_lt, if◌then◌else◌, List, [], ◌∷◌, ◌++◌, length, Result, Ok, Err}
 use Rattle.std.specs.Option.{option_map_or}
 use Rattle.std.specs.Result.{is_ok}

@@ -40,8 +40,8 @@ unfoldable pub hss_signature_of : Secret → ℕ → Secret → ℕ → List ℕ
 hss_signature_of top j bottom q message =
     u32str 1 ++ signature_of top j (public_key_of bottom) ++ public_key_of bottom ++ signature_of bottom q message
 
--- The signature of the message is valid under the public key of two levels (section 6.3): both have the forms above, the
--- top key signed the bottom key, and the bottom key signed the message.
+-- The signature of the message is valid under the public key of two levels (section 6.3): both have the forms above,
+-- the top key signed the bottom key, and the bottom key signed the message.
 pub record IsHssValid (public message signature : List ℕ) : Type 0 where
   pub top : List ℕ
   pub top_signature : List ℕ

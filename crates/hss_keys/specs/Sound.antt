@@ -1,5 +1,5 @@
 -- What holds of the records of every two-level signer, in memory and on a disk.
-use Rattle.std.specs.Prelude.{◌≡◌, ◌<◌, ◌≤◌, ℕ, ◌+◌, true, false, List, length, drop, Option, Ok, Err}
+use Rattle.std.specs.Prelude.{◌≡◌, ◌<◌, ◌≤◌, ℕ, true, false, List, length, drop, Option, Ok, Err}
 use Rattle.crash_disk.specs.Disk.{History}
 use Rattle.crash_disk.specs.Calls.{WhereTold}
 use Rattle.lms_sign.specs.declared.secret.Secret.{Secret}
@@ -67,7 +67,8 @@ pub record IsBound (key bottom : List ℕ) (top_leaf leaf : ℕ) : Type 0 where
   pub top : top_leaf < leaf_count (types_of (drop 4 key))
   pub below : leaf < leaf_count (types_of bottom)
 
--- why records weren't taken as those of a signer: they aren't, with the place of the first that isn't; or want of memory
+-- why records weren't taken as those of a signer: they aren't, with the place of the first that isn't; or want of
+-- memory
 abbrev pub IsFormRefusal : HssSeed → List (List ℕ) → JournalRefusal → Type 0
 IsFormRefusal seed records (NotJournal place) = level_records seed records ≡ Err place
 IsFormRefusal seed records NoMemory = Unit {0}

@@ -52,8 +52,8 @@ fn derived(seed: &HssSeed, j: u32, element: u16) -> [u8; 32]
 }
 
 impl HssSecret {
-    /// The key with the types of both levels, and the identifier of 16 bytes and the seed of 32 bytes of the top key. The
-    /// types have to be supported. It makes the top key (`SecretKey::make`); want of memory is its one refusal.
+    /// The key with the types of both levels, and the identifier of 16 bytes and the seed of 32 bytes of the top key.
+    /// The types have to be supported. It makes the top key (`SecretKey::make`); want of memory is its one refusal.
     pub fn make(
         alloc: Global,
         top: LmsTypes,

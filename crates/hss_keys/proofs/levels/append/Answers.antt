@@ -1,9 +1,7 @@
-use Rattle.std.proofs.Common.{◌≡◌, ◌≤◌, true, false, ℕ, List, [], ◌∷◌, ◌++◌, Some, sym, ◌∙◌, ap, subst, arith, length}
+use Rattle.std.proofs.Common.{◌≡◌, ◌≤◌, true, ℕ, List, Some, sym, ◌∙◌, ap, subst, length}
 use Rattle.plasma_base.specs.Causes.{faults_after}
-use Rattle.crash_disk.specs.Calls.{WhereTold}
-use Rattle.node_journal.specs.Journal.{IsSettled, is_fault, AppendFailed, Appended}
 use Rattle.node_journal.specs.Notes.{Added, AddFailed}
-use Rattle.hss_keys.specs.Entries.{entry_in, entry_text}
+use Rattle.hss_keys.specs.Entries.{entry_in}
 use Rattle.hss_keys.specs.Form.{may_follow}
 use Rattle.hss_keys.proofs.Spelling.{entries_are_read_back, text-short}
 use Rattle.hss_keys.proofs.Counts.{follows_from}

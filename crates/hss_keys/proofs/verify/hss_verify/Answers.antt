@@ -1,4 +1,3 @@
-use Rattle.std.proofs.Common.{◌≡◌}
 use Rattle.hss_keys.proofs.Validity.{valid_hss_signatures_pass}
 use Rattle.hss_keys.proofs.verify.hss_verify.Goals as goal
 

@@ -1,9 +1,9 @@
-use Rattle.std.proofs.Common.{◌≡◌, ◌<◌, ◌+◌, ◌∙◌, ℕ, List, ◌++◌, length, take, drop, refl, sym, ap, arith}
-use Rattle.lms_sign.specs.Types.{leaf_count, signature_length, u32str}
+use Rattle.std.proofs.Common.{◌≡◌, ◌+◌, ◌∙◌, ℕ, List, ◌++◌, length, take, drop, refl, sym, ap, arith}
+use Rattle.lms_sign.specs.Types.{leaf_count, signature_length}
 use Rattle.lms_sign.specs.Tree.{public_key_of, signature_of}
 use Rattle.lms_sign.specs.Valid.{types_of}
 use Rattle.lms_sign.proofs.Lists.{length-u32str, put_first, put_on, all_of_front}
-use Rattle.hss_keys.specs.Keys.{hss_signature_of, top_secret}
+use Rattle.hss_keys.specs.Keys.{hss_signature_of}
 use Rattle.hss_keys.specs.Levels.{HssBoundState}
 use Rattle.hss_keys.proofs.Validity.{top-part, valid-from}
 use Rattle.hss_keys.proofs.bound.HssBound.sign.Goals as goal
@@ -40,7 +40,8 @@ returns-clause-value c =
     let second : take place c.put_signature.new.out ≡ c.u32str.result
     ++ signature_of c.top-top.result.now c.self.inside.top_leaf c.public-public.result =
     rw c.signature_len-place.ensures (c.put_signature.ensures.written
-    ∙ ap (λ (l : List ℕ). l ++ signature_of c.top-top.result.now c.self.inside.top_leaf c.public-public.result) first) in
+    ∙ ap (λ (l : List ℕ). l ++ signature_of c.top-top.result.now c.self.inside.top_leaf c.public-public.result)
+    first) in
     let third = put_on _ c.put-2.new.out _ _ place (place + 56) second c.put-2.ensures (omega arith) in
     let fourth = c.put_signature-2.ensures.written
     ∙ ap (λ (l : List ℕ). l ++ signature_of c.args.bottom.now c.self.inside.leaf c.as_slice.result.now) third in

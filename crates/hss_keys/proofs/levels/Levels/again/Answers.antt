@@ -1,4 +1,4 @@
-use Rattle.std.proofs.Common.{◌≡◌, ◌∙◌, Some, sym, subst}
+use Rattle.std.proofs.Common.{◌≡◌, Some, sym, subst}
 use Rattle.hss_keys.specs.Entries.{entries_of, message_at}
 use Rattle.hss_keys.specs.Levels.{LevelsState}
 use Rattle.hss_keys.proofs.Bounds.{bound-kept}

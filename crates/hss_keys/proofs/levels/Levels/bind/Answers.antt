@@ -1,7 +1,7 @@
-use Rattle.std.proofs.Common.{◌≡◌, ◌<◌, ◌+◌, ◌-◌, ◌∷◌, ◌++◌, [], ℕ, true, false, List, Option, Some, None, Result, Ok, Err, refl, sym, ◌∙◌, ap, subst, arith}
+use Rattle.std.proofs.Common.{◌≡◌, ◌+◌, ◌-◌, ℕ, true, false, List, Option, Some, None, Result, Ok, refl, sym, ◌∙◌, ap, subst, arith}
 use Rattle.lms_sign.proofs.Sizes.{leaf_count-le}
 use Rattle.node_journal.specs.Effect.{Effect}
-use Rattle.node_journal.specs.Notes.{Did, stopped_by}
+use Rattle.node_journal.specs.Notes.{Did}
 use Rattle.node_journal.specs.declared.stop.Stop.{Stop}
 use Rattle.node_journal.specs.declared.stop.Stop.TheVariants.{DeviceFault as StopFault}
 use Rattle.hss_keys.specs.declared.entry.Entry.{Entry}

@@ -1,4 +1,4 @@
-use Rattle.std.proofs.Common.{◌≡◌, ◌<◌, ◌≤◌, true, false, ℕ, List, Some, sym, ◌∙◌, ap, subst, arith, length}
+use Rattle.std.proofs.Common.{◌≡◌, true, false, ℕ, List, Some, sym, ◌∙◌, ap, subst, arith}
 use Rattle.node_journal.specs.Notes.{Did, stopped_by}
 use Rattle.hss_keys.specs.declared.entry.Entry.TheVariants.{Binds}
 use Rattle.hss_keys.specs.Entries.{entries_of, entry_text, IsEntry}

@@ -1,7 +1,6 @@
 use Rattle.std.proofs.Common.{◌≡◌, ◌<◌, ◌∙◌, ℕ, List, Some, ap, sym, subst, arith, drop}
 use Rattle.lms_sign.specs.Types.{leaf_count}
 use Rattle.lms_sign.specs.Valid.{types_of}
-use Rattle.hss_keys.specs.Keys.{bottom_key, hss_key_of}
 use Rattle.hss_keys.specs.Entries.{entries_of, key_at, opened_count}
 use Rattle.hss_keys.specs.Levels.{LevelsState}
 use Rattle.hss_keys.proofs.Validity.{bottom-types, top-types}

@@ -1,12 +1,11 @@
-use Rattle.std.proofs.Common.{◌≡◌, ◌<◌, ◌≤◌, ◌+◌, true, false, ℕ, List, Some, sym, ◌∙◌, ap, subst, arith, length}
+use Rattle.std.proofs.Common.{◌≡◌, ◌+◌, true, Some, sym, ◌∙◌, ap, subst, arith}
 use Rattle.lms_sign.specs.Types.{leaf_count}
-use Rattle.node_journal.specs.Journal.{JournalState, with_spare}
+use Rattle.node_journal.specs.Journal.{JournalState}
 use Rattle.node_journal.specs.Notes.{Did, stopped_by}
-use Rattle.hss_keys.specs.declared.seed.HssSeed.{HssSeed}
 use Rattle.hss_keys.specs.Entries.{entries_of, entry_text}
 use Rattle.hss_keys.specs.Form.{entry_may_follow}
 use Rattle.hss_keys.specs.Levels.{LevelsState, notes_of}
-use Rattle.hss_keys.specs.Sound.{IsSound, LevelRecordsState}
+use Rattle.hss_keys.specs.Sound.{IsSound}
 use Rattle.hss_keys.proofs.Adding.{did_reserved, kept_reserved, kept_same, notes_over, reserved_room}
 use Rattle.hss_keys.proofs.Sounding.{level_sound, same_sound}
 use Rattle.hss_keys.proofs.levels.Levels.open_level.Goals as goal
@@ -39,8 +38,8 @@ append-requires-clause-kept g c =
 
 pub append-requires-clause-room : goal.append-requires-clause-room
 append-requires-clause-room g c =
-    reserved_room c.self.inside.journal c.reserve.new.self.disk (1 + c.from.result) 1 c.in_ok-reserve.ensures.room (omega arith)
-    (omega (arith, c.in_ok-reserve_level.ensures.room))
+    reserved_room c.self.inside.journal c.reserve.new.self.disk (1 + c.from.result) 1 c.in_ok-reserve.ensures.room
+    (omega arith) (omega (arith, c.in_ok-reserve_level.ensures.room))
 
 pub append-requires-clause-follows : goal.append-requires-clause-follows
 append-requires-clause-follows g c =

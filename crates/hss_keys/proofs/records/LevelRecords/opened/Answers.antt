@@ -1,4 +1,4 @@
-use Rattle.std.proofs.Common.{◌≡◌, ap, arith, length}
+use Rattle.std.proofs.Common.{ap, arith, length}
 use Rattle.hss_keys.specs.Sound.{LevelRecordsState}
 use Rattle.lms_sign.specs.Types.{leaf_count}
 use Rattle.lms_sign.proofs.Sizes.{leaf_count-le}

@@ -1,4 +1,4 @@
-use Rattle.std.proofs.Common.{◌≡◌, ◌-◌, ap, arith}
+use Rattle.std.proofs.Common.{◌-◌, ap, arith}
 use Rattle.hss_keys.specs.Entries.{entries_of, opened_count}
 use Rattle.hss_keys.specs.Sound.{LevelRecordsState}
 use Rattle.lms_sign.specs.Types.{leaf_count}
