@@ -73,7 +73,9 @@ def stays(line):
     """Whether the record of a command that was cut is kept."""
     calls, outcome = int(line.get("calls")), line.get("outcome").split(" ")
     opens = outcome[0] == "new" or (outcome[0] == "mix" and outcome[2][2:4] == "a5")
-    return is_good(line.inner) if line.answer[0] == "done" else line.answer[0] == "stopped" and calls in (2, 3) and opens
+    if line.answer[0] == "done":
+        return is_good(line.inner)
+    return line.answer[0] == "stopped" and calls in (2, 3) and opens
 
 
 def node_of(line):
@@ -81,4 +83,4 @@ def node_of(line):
     for token in ("wallet", "watcher", "rogue", "node"):
         if line.get(token):
             return line.get(token)
-    return OPERATOR if line.form not in ("tick", "money", "fund", "chain") and not line.form.startswith("call ") else ""
+    return "" if line.form in ("tick", "money", "fund", "chain") or line.form.startswith("call ") else OPERATOR

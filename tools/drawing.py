@@ -1,5 +1,5 @@
-"""Elements of an SVG, with colors for light and dark schemes and for print. Nothing in it comes from elsewhere: no font,
-no script, no other file.
+"""Elements of an SVG, with colors for light and dark schemes and for print. Nothing in it comes from elsewhere: no
+font, no script, no other file.
 """
 from html import escape
 

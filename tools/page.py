@@ -6,7 +6,8 @@ from plainly import said, why
 from told import SETS_UP
 
 STYLE = """
-:root{color-scheme:light dark;--paper:#fff;--ink:#222;--soft:#5f5f5f;--rule:#ddd;--bad:#b3261e;--good:#2e7d32;--warn:#9a5b00}
+:root{color-scheme:light dark;--paper:#fff;--ink:#222;--soft:#5f5f5f;--rule:#ddd;--bad:#b3261e;
+--good:#2e7d32;--warn:#9a5b00}
 @media screen and (prefers-color-scheme:dark){:root{--paper:#15181c;--ink:#e6e6e6;--soft:#a9aeb5;--rule:#3a3f46;
 --bad:#ff8a80;--good:#81c784;--warn:#ffb74d}}
 body{margin:0 auto;max-width:76rem;padding:1rem;background:var(--paper);color:var(--ink);
@@ -34,7 +35,8 @@ def page(title, story, svg, reason=""):
         f"<title>{escape(title)}</title>\n<style>{STYLE}</style>\n</head>\n<body>\n<h1>{escape(title)}</h1>",
         *verdicts(story.run),
         f"<p class=\"bad\"><code>{escape(reason)}</code></p>" if reason else "",
-        f'<h2>The picture</h2>\n<div class="picture" tabindex="0" role="region" aria-label="the picture">\n{svg}</div>',
+        '<h2>The picture</h2>\n<div class="picture" tabindex="0" role="region" aria-label="the picture">',
+        f"{svg}</div>",
         '<div class="table"><h2>Line by line</h2>\n<table><thead><tr><th>line</th><th>schedule</th><th>answer</th>'
         "<th>in words</th></tr></thead>\n<tbody>",
         *rows(story),
@@ -63,8 +65,8 @@ def rows(story):
         tone = ' class="bad"' if row and row.bad and row.lines[-1] is line else ""
         yield (
             f"<tr{tone}><td>{line.number}</td><td><code>{escape(short(line.text, 200))}</code></td>"
-            f'<td><code>{escape(" ".join(line.answer))}</code></td><td class="words">{escape(words_of(line, row, story))}'
-            "</td></tr>"
+            f'<td><code>{escape(" ".join(line.answer))}</code></td>'
+            f'<td class="words">{escape(words_of(line, row, story))}</td></tr>'
         )
 
 

@@ -1,4 +1,5 @@
-"""The picture of a run: a lane for each actor, time going down, and a row for each event, with its answer at the right.
+"""The picture of a run: a lane for each actor, time going down, and a row for each event, with its answer at the
+right.
 
 Beside the root contract stands a bar for each exit, and behind these one for each coin.
 """
@@ -11,6 +12,8 @@ MOST_ALIKE, MOST_ROWS, MOST_COINS, WIDE_COINS = 4, 1500, 40, 8
 # So many lines are told of rows that are drawn as one.
 MOST_TOLD = 300
 VERDICTS = {"held": "green", "paid": "green", "away": "grey", "unattended": "amber", "lost": "red"}
+LEGEND = {"held": "a wallet holds it", "risk": "at risk: a stranger's exit stands", "leaves": "on its way out",
+          "other": "no wallet has it"}
 STATES = {"held": "held", "risk": "risk", "leaves": "leaves", "other": "other"}
 
 
@@ -176,10 +179,9 @@ class Picture:
         return next((how for how, keys in marks if key in keys), "thin")
 
     def lane(self, x, top, end, how, key):
-        coin = "a coin" if self.story.many else "the coin"
         if how in ("held", "risk"):
             self.draw.line(x, top, x, end, how, 7)
-            self.legend[how] = f"holds {coin}" if how == "held" else "at risk: a stranger's exit stands"
+            self.legend[how] = LEGEND[how]
         elif how == "down":
             self.draw.line(x, top, x, end, "soft", 2, ' stroke-dasharray="2 5"')
             self.legend["down"] = "is down"
@@ -235,15 +237,13 @@ class Picture:
                 self.draw.line(x - 1, start, x + wide + 1, start, "ink", 2.5)
                 continue
             name = self.story.lanes[holder].name if holder else ""
-            what = {"held": "held", "risk": "at risk", "leaves": "on its way out", "other": "no wallet has it"}[state]
-            self.draw.begin(f"coin {coin}: {what}{', ' + name if name else ''}")
+            self.draw.begin(f"coin {coin}: {LEGEND[state]}{', ' + name if name else ''}")
             self.draw.box(x, start, wide, end - start, STATES[state])
             low, high = self.stretch(start, end)
             if name and self.wide and high - low > width_of(name, 10) + 4:
                 self.draw.text(x + wide / 2 + 3.5, (low + high) / 2, name, "ink", 10, "middle", turn=True)
             self.draw.end()
-            if state in ("leaves", "other"):
-                self.legend[state] = "on its way out" if state == "leaves" else "no wallet has it"
+            self.legend[state] = LEGEND[state]
 
     def stretch(self, start, end):
         """The longest part between these two places that no passing of time tears."""
@@ -340,7 +340,8 @@ class Picture:
         for name, kinds in found.items():
             for words, coins in kinds.items():
                 said = f"{words[0]}, line {words[1]}" if len(words) > 1 else words[0]
-                of = "" if not self.story.many else f"coin {coins[0]}: " if len(coins) == 1 else f"{len(coins)} coins: "
+                of = f"coin {coins[0]}: " if len(coins) == 1 else f"{len(coins)} coins: "
+                of = of if self.story.many else ""
                 lines.setdefault(name, []).append((of + said, VERDICTS[words[0]]))
         return lines
 

@@ -269,7 +269,7 @@ class Story:
         self.add([line], kind="look", source=CHAIN, target=node, label="looks")
 
     def resolved(self, node, kinds):
-        """The offered calls, each with its exit: a respond is for a wallet's own, the others for those of strangers."""
+        """The offered calls, each with its exit: a respond is for the own one, the others for those of strangers."""
         coins = self.held.get(node, set()) | self.guarded.get(node, set())
         standing = sorted(self.standing(), key=lambda it: (int(it.coin), it.since))
         own = iter([it for it in standing if it.by == node])

@@ -2,7 +2,8 @@
 from picture import MOST_ALIKE, exhibit_of, passed
 from plainly import day_of, span_of, why
 
-PAINTS = {"bold": "1", "soft": "2", "red": "31", "green": "32", "amber": "33", "blue": "34", "violet": "35", "cyan": "36"}
+PAINTS = {"bold": "1", "soft": "2", "red": "31", "green": "32", "amber": "33", "blue": "34", "violet": "35",
+          "cyan": "36"}
 KINDS = {"stranger": "red", "wallet": "green", "watcher": "cyan"}
 VERDICTS = {"held": "green", "paid": "green", "away": "soft", "unattended": "amber", "lost": "red"}
 
@@ -66,7 +67,7 @@ class Trace:
             return
         reason = why(row.lines[-1].answer)
         answer = row.answer + (f" ({reason})" if reason else "")
-        paints = ["red"] if row.bad else ["soft"] if row.kind in ("look", "said") else ["red"] if row.kind == "cross" else []
+        paints = ["red"] if row.bad or row.kind == "cross" else ["soft"] if row.kind in ("look", "said") else []
         lane = self.story.lanes.get(row.source if row.kind != "look" else row.target)
         who = self.padded(self.who(row), self.actor, *(self.colour(lane) if lane else []))
         label = self.padded(row.label, 26, *paints)
