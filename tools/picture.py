@@ -86,7 +86,8 @@ class Picture:
         self.title, self.story, self.run, self.balances = title, story, story.run, balances or {}
         self.rows, self.places = fewer(story.rows)
         if len(self.rows) > MOST_ROWS:
-            raise TooLong(f"the picture would have {len(self.rows):,} rows, and it has at most {MOST_ROWS:,}")
+            raise TooLong(f"the picture would have {len(self.rows):,} rows, and it has at most {MOST_ROWS:,}: "
+                          "'head -n 1000 FILE | tools/story --svg -' draws the beginning")
         self.keys = list(story.lanes)
         self.bottom = HEAD + ROW * len(self.rows) + 14
         self.draw, self.legend = Drawing(), {}
