@@ -1,0 +1,151 @@
+"""Answers and times in words that a person reads: for tools/story and the gallery's pictures."""
+
+DAY = 86_400
+CHALLENGE_TIME, ANSWER_TIME, EXIT_TIME = 7 * DAY, 7 * DAY // 2, 21 * DAY // 2
+
+# What a refusal's cause says.
+CAUSES = {
+    "sum-too-large": "the money is more than a number holds",
+    "clock-too-large": "the clock can't show such a time",
+    "clock-back": "the clock is past that time",
+    "bad-amount": "no coin has this amount",
+    "bad-key": "the key is of no known type",
+    "too-many-blocks": "the chain has no room for a block more",
+    "not-operator": "only the operator may commit",
+    "no-funds": "not enough money on the account",
+    "no-coin": "there is no such coin",
+    "withdrawn": "the coin was paid out",
+    "bad-block": "the block is none of these",
+    "not-owner": "whoever calls isn't the owner there",
+    "exit-stands": "an exit of the coin stands",
+    "bad-opening": "the opening doesn't lead to the root",
+    "not-child": "the transfer doesn't spend that block",
+    "bad-signature": "the signature isn't the owner's",
+    "no-exit": "no such exit stands",
+    "late": "the time is over",
+    "early": "it's too early",
+    "challenge-stands": "a challenge isn't answered",
+    "no-challenge": "there is no such challenge",
+    "answered": "it was answered before",
+    "bad-bundle": "these bytes are no history",
+    "unknown-block": "there is no such block",
+    "missing-block": "the history leaves a block out",
+    "not-link": "the transfer doesn't follow on the one before",
+    "not-absent": "the coin was moved in this block",
+    "not-mine": "the coin went to another owner",
+    "note-too-long": "the record would be too long",
+    "not-held": "the wallet doesn't hold the coin",
+    "leaving": "the wallet takes the coin out already",
+    "key-spent": "the key has no leaf left",
+    "bad-last": "the last block can't come any more",
+    "old-journal": "the journal has no marker yet",
+    "already-new": "the journal has its marker",
+    "not-sending": "the wallet doesn't send this coin",
+    "no-last": "the transfer names no last block",
+    "not-yet": "the last block isn't there yet",
+    "no-guard": "the watcher has no such guard",
+    "not-transfer": "these bytes are no transfer",
+    "wrong-parent": "the transfer doesn't spend the coin's tip",
+    "too-late": "its last block has passed",
+    "pool-has-coin": "the pool has a transfer of the coin",
+    "leaf-too-long": "more bytes than a leaf may have",
+}
+
+
+def day_of(seconds):
+    """A time of the clock in days since it began."""
+    halves, rest = divmod(seconds, DAY // 2)
+    if rest == DAY // 2 - 1:
+        return f"1 s before {day_of(seconds + 1)}"
+    if rest == 1 and halves:
+        return f"1 s after {day_of(seconds - 1)}"
+    if not rest:
+        return f"day {halved(halves)}"
+    if seconds < DAY:
+        return clock(seconds)
+    return f"day {seconds // DAY}, {clock(seconds % DAY)}"
+
+
+def halved(halves):
+    whole, half = divmod(halves, 2)
+    return f"{'' if half and not whole else f'{whole:,}'}{'½' if half else ''}"
+
+
+def clock(seconds):
+    """A time within a day: as h:mm, or in seconds where it isn't a whole minute."""
+    return f"{seconds // 3600}:{seconds // 60 % 60:02}" if seconds % 60 == 0 else f"{seconds:,} s"
+
+
+def span_of(seconds):
+    """How long it is, in days where it is days."""
+    halves, rest = divmod(seconds, DAY // 2)
+    if rest == DAY // 2 - 1:
+        return f"1 s less than {span_of(seconds + 1)}"
+    if rest or not halves:
+        return f"{days(2 * (halves // 2))}, {clock(seconds % DAY)}" if seconds >= DAY else clock(seconds)
+    return days(halves)
+
+
+def days(halves):
+    return f"{halved(halves)} day{'' if halves <= 2 else 's'}"
+
+
+def count(number, of, more=None):
+    return f"{number} {of}" if str(number) == "1" else f"{number} {more or of + 's'}"
+
+
+def said(answer):
+    """An answer in words; that of a call or a command which the picture shows by an arrow or a mark."""
+    kind, rest = answer[0], answer[1:]
+    if kind == "refused":
+        return refusal(rest)
+    if kind == "done":
+        return "done, then it crashed: " + said(rest)
+    return SAID[kind](*rest) if kind in SAID else " ".join(answer)
+
+
+def refusal(cause):
+    """A refusal, with its cause in words."""
+    numbers = " ".join(cause[1:])
+    if cause[0] == "no-funds" and len(cause) == 3:
+        return f"refused: no-funds, has {int(cause[1]):,} of {int(cause[2]):,}"
+    if cause[0] in ("early", "clock-back") and len(cause) == 2:
+        return f"refused: {cause[0]}, {'from' if cause[0] == 'early' else 'it is'} {day_of(int(cause[1]))}"
+    return f"refused: {cause[0]}{' ' + numbers if numbers else ''}"
+
+
+def why(answer):
+    """What a refusal's cause means, or nothing."""
+    return CAUSES.get(answer[1], "") if answer[0] == "refused" else ""
+
+
+def offers(number, *kinds):
+    return "due: " + ", ".join(kinds) if kinds else "nothing is due"
+
+
+SAID = {
+    "deposited": lambda coin, block: f"coin {coin}, block {block}",
+    "committed": lambda block: f"block {block}",
+    "started": lambda opens: f"stands; finish from {day_of(int(opens))}",
+    "challenged": lambda until: f"challenged, until {day_of(int(until))}",
+    "nothing": lambda: "no such offer",
+    "accepted": lambda coin, tip: "accepted",
+    "guarded": lambda coin, tip: "guarded",
+    "sent": lambda leaf: "signed",
+    "leaving": lambda tip: "notes it",
+    "reclaimed": lambda coin, leaf: "taken back",
+    "migrated": lambda: "may name last blocks",
+    "released": lambda: "guards it no more",
+    "offers": offers,
+    "pooled": lambda coin: "tested and pooled",
+    "laid": lambda coin: "laid, untested",
+    "sealed": lambda leaves: f"sealed, {count(leaves, 'leaf', 'leaves')}",
+    "bundled": lambda tip: "made",
+    "proved": lambda: "made",
+    "crashed": lambda: "down",
+    "stopped": lambda: "stopped, and down",
+    "opened": lambda notes, leaves: f"up: {count(notes, 'note')}, {leaves} signed",
+    "up": lambda: "wasn't down",
+    "down": lambda: "not done: it's down",
+    "money": lambda balance: f"{int(balance):,}",
+}
