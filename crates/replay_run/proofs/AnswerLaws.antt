@@ -14,6 +14,8 @@ use Rattle.streamed_lines.specs.Streams.{Rules, Stream, Streamed, no_lines, next
 use Rattle.streamed_lines.specs.Reading.{RunsTo, IsPut, BrokeOff, Answers as StreamAnswers}
 use Rattle.replay_run.specs.declared.ending.NoCause.{NoCause}
 use Rattle.replay_run.specs.Replays.{JudgedRun, begun, replay_rules, replay_in, replay_of}
+use Rattle.streamed_lines.specs.Prompt.{answers_so_far}
+use Rattle.replay_run.specs.Prompt.{replay_answers}
 use Rattle.replay_run.specs.Reading.{Ran, Answers, StopsEarly}
 use Rattle.replay_run.proofs.EndingLaws.{IsReplayed, is-replayed}
 
@@ -73,6 +75,12 @@ module _ {R C : Type 0} (rules : Rules R C) where
       (grown.0, ap (λ (streamed : Streamed R C). streamed.stream.text) same ∙ grown.1)
 
 -- ---- a replay
+
+-- the answers of a stream to what it has read are those of a replay
+pub answers-are : (dig : List ℕ → List ℕ) (bytes : List ℕ)
+    → answers_so_far replay_rules (begun dig) bytes ≡ replay_answers dig bytes
+unfolding replay_of
+answers-are dig bytes = (is-replayed dig bytes false).text
 
 -- a world before its first line
 pub ran-none : {H : Type 0} (digest_of : H → List ℕ → List ℕ) (hash : H) (world : WorldState H)

@@ -10,3 +10,4 @@ mod RuleLaws
 mod Promises
 mod ByTheRules
 mod FaultLaws
+mod PromptLaws

@@ -10,3 +10,4 @@ pub mod Laws
 pub mod Endings
 pub mod Ends
 pub mod Headline
+pub mod Prompt

@@ -7,6 +7,8 @@ ghost use Rattle.world_core.specs.Worlds.{NodesSpell, IsAfter};
 ghost use Rattle.world_core.specs.Lines.{IsStep};
 ghost use Rattle.streamed_lines.specs.Outside.{ReadsToFault};
 ghost use Rattle.streamed_lines.specs.Reading.{HaltsAt, is_read_fault};
+ghost use Rattle.streamed_lines.specs.Prompt.{AnswersPromptly};
+ghost use Rattle.replay_run.specs.Prompt.{replay_answers};
 ghost use Rattle.replay_run.specs.Replays.{JudgedRun, begun, replay_rules};
 ghost use Rattle.replay_run.specs.Text.{told_text};
 ghost use Rattle.replay_run.specs.Reading.{Ran, GoesOn, SpellsNone, HasNoStep, Answers, StopsEarly};
@@ -142,6 +144,8 @@ pub fn answer_schedule<H: Hash32 + Copy, S: Source, K: Sink>(
         (K.taken sink.new) H.digest_of (H.digest_of h) text.new.items done.1 done.0) }
     ensures stopped { OnErr result (StopsEarly (S.left source.old) (S.left source.new) (K.taken sink.old)
         (K.taken sink.new) (H.digest_of h)) }
+    ensures prompt { AnswersPromptly (replay_answers (H.digest_of h)) (S.left source.old) (S.left source.new)
+        (S.failed_last source.new) (K.taken sink.old) (K.taken sink.new) }
     ensures reads { IfOk result (λ done. ReadsToFault (S.faults source.old) (S.faults source.new)
         (S.failed_last source.new) (is_read_fault (Ok done.1))) }
     ensures no_fault { OnErr result (ReadsToFault (S.faults source.old) (S.faults source.new)

@@ -5,12 +5,14 @@ ghost use Rattle.plasma_outside.specs.Outside.{is_failed};
 ghost use Rattle.world_rules.specs.Texts.{verdict_text};
 ghost use Rattle.streamed_lines.specs.declared.ending.Ending.{Ending};
 ghost use Rattle.streamed_lines.specs.Outside.{ReadsToFault};
+ghost use Rattle.streamed_lines.specs.Prompt.{AnswersPromptly};
 ghost use Rattle.run_endings.specs.Statuses.{ReadsBy};
 ghost use Rattle.replay_run.specs.Replays.{JudgedRun};
 ghost use Rattle.replay_run.specs.Text.{closing_text, last_text};
 ghost use Rattle.replay_run.specs.Output.{replay_output, status_of_replay};
 ghost use Rattle.replay_run.specs.Bounds.{FewBy};
 ghost use Rattle.replay_run.specs.Runs.{RanOver};
+ghost use Rattle.replay_run.specs.Prompt.{replay_answers};
 ghost use Rattle.replay_run.specs.Reading.{Ran};
 
 use super::answering::answer_schedule;
@@ -70,6 +72,8 @@ pub fn replay<H: Hash32 + Copy, S: Source, K: Sink>(
         (S.left source.old) (S.left source.new) (K.taken sink.old) (K.taken sink.new)
         (ReadsToFault (S.faults source.old) (S.faults source.new) (S.failed_last source.new) true)
         (status_of_replay result) }
+    ensures prompt { AnswersPromptly (replay_answers (H.digest_of h)) (S.left source.old) (S.left source.new)
+        (S.failed_last source.new) (K.taken sink.old) (K.taken sink.new) }
     ensures reads { ReadsBy (status_of_replay result)
         (ReadsToFault (S.faults source.old) (S.faults source.new) (S.failed_last source.new)) }
     ensures cause { K.faults sink.new ≡ faults_after (K.faults sink.old) (is_failed result) }

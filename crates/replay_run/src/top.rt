@@ -12,6 +12,8 @@ ghost use Rattle.replay_run.specs.Bounds.{FewBy};
 ghost use Rattle.replay_run.specs.Headline.{KeepsByForm};
 ghost use Rattle.replay_run.specs.Runs.{RanOver};
 ghost use Rattle.replay_run.specs.Does.{Does, DoesForm};
+ghost use Rattle.streamed_lines.specs.Prompt.{AnswersPromptly};
+ghost use Rattle.replay_run.specs.Prompt.{replay_answers, AnswersByForm};
 
 use super::brief::brief;
 use super::ending::status_of;
@@ -99,6 +101,12 @@ pub fn run<S: Source, K: Sink, D: Disk>(
         (ReadsToFault (S.faults source.old) (S.faults source.new) (S.failed_last source.new) true) result.status
         (form_of (map string_bytes words.now)) }
 
+    // Each line is answered before more is read: at the last take, whatever it gave, the answers to all lines before it
+    // were written. A source may fail at any take, so it is so at each.
+    ensures prompt { AnswersByForm D.told D.plan D.faults sha256 notes leaves
+        (record { left = S.left source.old; later = S.left source.new; taken = K.taken sink.old; after = K.taken sink.new })
+        (S.failed_last source.new) (form_of (map string_bytes words.now)) }
+
     // Schedules and the logs and commands of nodes are read; no other form touches the source.
     ensures unread { reads_input (form_of (map string_bytes words.now)) ≡ false → source.new ≡ source.old }
 
@@ -138,6 +146,9 @@ pub fn run_with<H: Hash32, S: Source, K: Sink, D: Disk>(
         (record { left = S.left source.old; later = S.left source.new; taken = K.taken sink.old; after = K.taken sink.new })
         (ReadsToFault (S.faults source.old) (S.faults source.new) (S.failed_last source.new) true) result.status
         (form_of (map string_bytes words.now)) }
+    ensures prompt { AnswersByForm D.told D.plan D.faults (H.digest_of h.now) notes leaves
+        (record { left = S.left source.old; later = S.left source.new; taken = K.taken sink.old; after = K.taken sink.new })
+        (S.failed_last source.new) (form_of (map string_bytes words.now)) }
     ensures unread { reads_input (form_of (map string_bytes words.now)) ≡ false → source.new ≡ source.old }
     ensures notes_stay { uses_notes (form_of (map string_bytes words.now)) ≡ false → result.notes ≡ notes }
     ensures leaves_stay { uses_leaves (form_of (map string_bytes words.now)) ≡ false → result.leaves ≡ leaves }
@@ -170,6 +181,9 @@ fn run_form<H: Hash32, S: Source, K: Sink, D: Disk>(
     ensures output { DoesForm D.told D.plan D.faults (H.digest_of h.now) notes leaves result.notes result.leaves
         (record { left = S.left source.old; later = S.left source.new; taken = K.taken sink.old; after = K.taken sink.new })
         (ReadsToFault (S.faults source.old) (S.faults source.new) (S.failed_last source.new) true) result.status form }
+    ensures prompt { AnswersByForm D.told D.plan D.faults (H.digest_of h.now) notes leaves
+        (record { left = S.left source.old; later = S.left source.new; taken = K.taken sink.old; after = K.taken sink.new })
+        (S.failed_last source.new) form }
     ensures unread { reads_input form ≡ false → source.new ≡ source.old }
     ensures notes_stay { uses_notes form ≡ false → result.notes ≡ notes }
     ensures leaves_stay { uses_leaves form ≡ false → result.leaves ≡ leaves }
@@ -246,6 +260,8 @@ fn run_replay<H: Hash32, S: Source, K: Sink>(
     ensures output { RanOver (replay_output (H.digest_of h.now)) (FewBy (H.digest_of h.now))
         (S.left source.old) (S.left source.new) (K.taken sink.old) (K.taken sink.new)
         (ReadsToFault (S.faults source.old) (S.faults source.new) (S.failed_last source.new) true) result }
+    ensures prompt { AnswersPromptly (replay_answers (H.digest_of h.now)) (S.left source.old) (S.left source.new)
+        (S.failed_last source.new) (K.taken sink.old) (K.taken sink.new) }
     ensures source_faults { ReadsBy result
         (ReadsToFault (S.faults source.old) (S.faults source.new) (S.failed_last source.new)) }
     ensures sink_faults { K.faults sink.new ≡ faults_after (K.faults sink.old) (is_write_fault result) }

@@ -1,5 +1,6 @@
 use contract.BorrowLft.{⊑_meet, ⊑_static}
-use Rattle.replay_run.proofs.AnswerLaws.{answers-so, stops-so}
+use Rattle.streamed_lines.proofs.PromptLaws.{prompt-same}
+use Rattle.replay_run.proofs.AnswerLaws.{answers-so, stops-so, answers-are}
 use Rattle.replay_run.proofs.answering.answer_schedule.Goals as goal
 
 pub returns-in-Ok-clause-answered : goal.returns-in-Ok-clause-answered
@@ -28,3 +29,19 @@ answer_lines-requires g c κs within =
       search (⊑_meet, ⊑_static, h) depth 120 fits 200000,
       (within.1.0, (within.1.1, (⊑_static _, (c.requires.none, (c.new-replayer.ensures.nodes, c.new-replayer.ensures.ran))))),
     )
+
+pub returns-in-Ok-clause-prompt : goal.returns-in-Ok-clause-prompt
+returns-in-Ok-clause-prompt g c =
+    rw (← c.new-replayer.ensures.hash) (prompt-same _ _ _ _ _ _ _ (answers-are _) c.in-Ok.ensures.prompt)
+
+pub returns-in-Err-WriteFault-clause-prompt : goal.returns-in-Err-WriteFault-clause-prompt
+returns-in-Err-WriteFault-clause-prompt g c =
+    rw (← c.new-replayer.ensures.hash) (prompt-same _ _ _ _ _ _ _ (answers-are _) c.in-Err-WriteFault.ensures.prompt)
+
+pub returns-in-Err-NoMemory-clause-prompt : goal.returns-in-Err-NoMemory-clause-prompt
+returns-in-Err-NoMemory-clause-prompt g c =
+    rw (← c.new-replayer.ensures.hash) (prompt-same _ _ _ _ _ _ _ (answers-are _) c.in-Err-NoMemory.ensures.prompt)
+
+pub returns-clause-prompt : goal.returns-clause-prompt
+returns-clause-prompt g c =
+    rw (← c.new-replayer.ensures.hash) (prompt-same _ _ _ _ _ _ _ (answers-are _) c.in-Err-Failed.ensures.prompt)

@@ -1,5 +1,6 @@
 use Rattle.std.proofs.Common.{subst, true}
 use Rattle.streamed_lines.specs.Outside.{Wrote, WroteFront, ReadsToFault}
+use Rattle.streamed_lines.proofs.PromptLaws.{prompt-more}
 use Rattle.replay_run.proofs.OutsideLaws.{front-none}
 use Rattle.replay_run.proofs.RunLaws.{ran-early, ran-part, ran-whole, told-last, by-error, read-before}
 use Rattle.replay_run.proofs.replay.replay.Goals as goal
@@ -43,3 +44,14 @@ returns-clause-output g c =
 pub returns-in_err-put_text-clause-reads : goal.returns-in_err-put_text-clause-reads
 returns-in_err-put_text-clause-reads g c =
     read-before _ _ c.from_residual-in_err-put_text.ensures.0 _ c.in_ok-world.ensures.reads
+
+-- ---- the answers are written before more is read
+
+pub returns-in_err-put_text-clause-prompt : goal.returns-in_err-put_text-clause-prompt
+returns-in_err-put_text-clause-prompt g c =
+    let front = c.in_err-put_text.ensures.err in
+    prompt-more _ _ _ _ _ _ _ front.front c.in_ok-world.ensures.prompt front.wrote
+
+pub returns-clause-prompt : goal.returns-clause-prompt
+returns-clause-prompt g c =
+    prompt-more _ _ _ _ _ _ _ c.push_last.new.text.items c.in_ok-world.ensures.prompt c.in_ok-put_text.ensures.ok

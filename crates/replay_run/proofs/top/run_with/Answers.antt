@@ -2,6 +2,7 @@ use Rattle.std.proofs.Common.{inl, inr, refl, subst}
 use Rattle.replay_run.specs.Headline.{KeepsByForm}
 use Rattle.replay_run.proofs.FaultLaws.{does-count}
 use Rattle.replay_run.proofs.ByTheRules.{keeps-by_form}
+use Rattle.replay_run.proofs.PromptLaws.{unread-prompt}
 use Rattle.replay_run.proofs.top.run_with.Goals as goal
 
 pub returns-in-Ok-clause-disk_faults : goal.returns-in-Ok-clause-disk_faults
@@ -21,3 +22,7 @@ returns-in-Err-clause-headline g c =
     keeps-by_form _ (λ bytes. (g.met.H.Hash32.length_is c.args.h.now bytes, g.met.H.Hash32.bytes_are c.args.h.now bytes))
     _ _ g.D.Disk.told g.D.Disk.plan g.D.Disk.faults c.args.notes c.args.leaves c.args.notes c.args.leaves _ _
     (inr (record { is = refl; unread = refl; unwritten = refl; notes_stay = refl; leaves_stay = refl }))
+
+pub returns-in-Err-clause-prompt : goal.returns-in-Err-clause-prompt
+returns-in-Err-clause-prompt g c =
+    unread-prompt g.D.Disk.told g.D.Disk.plan g.D.Disk.faults _ c.args.notes c.args.leaves _ _ _ _

@@ -1,0 +1,28 @@
+-- That a run answers the lines of its input before it reads more of them.
+use Rattle.std.specs.Prelude.{ℕ, Bool, false, List, Option, Some}
+use Rattle.crash_disk.specs.Disk.{History, FaultPlan}
+use Rattle.run_words.specs.declared.form.Form.{Form}
+use Rattle.run_words.specs.declared.form.Form.TheVariants.{Replay, Wallet, Operator, Watcher}
+use Rattle.node_runs.specs.Sessions.{Outside}
+use Rattle.node_runs.specs.Prompt.{RunsPromptly, WatcherPromptly, OperatorPromptly, WalletPromptly}
+use Rattle.replay_run.specs.Replays.{replay_of}
+use Rattle.replay_run.specs.Text.{answers_text}
+
+-- under a digest, a replay's answers to the whole lines of these bytes, which may go on
+abbrev pub replay_answers : (List ℕ → List ℕ) → List ℕ → List ℕ
+replay_answers dig bytes = answers_text (replay_of dig bytes false)
+
+-- Over disks that tell their history, foretell their faults and count them, and under a digest: a run that was handed
+-- these disks of notes and of leaves, that did this outside, and whose last take failed or didn't. A replay and the
+-- sessions of nodes answer each line before they read more; no other form answers lines.
+abbrev pub AnswersByForm : {D : Type 0} → (D → Option History) → (D → Option FaultPlan) → (D → ℕ)
+    → (List ℕ → List ℕ) → D → D → Outside → Bool → Option Form → Type 0
+AnswersByForm told plan faults dig notes leaves outside failed_last (Some Replay) =
+    RunsPromptly outside failed_last (replay_answers dig)
+AnswersByForm told plan faults dig notes leaves outside failed_last (Some Wallet) =
+    WalletPromptly outside failed_last told plan faults dig notes leaves
+AnswersByForm told plan faults dig notes leaves outside failed_last (Some Operator) =
+    OperatorPromptly outside failed_last told plan faults dig notes
+AnswersByForm told plan faults dig notes leaves outside failed_last (Some Watcher) =
+    WatcherPromptly outside failed_last told plan faults dig notes
+AnswersByForm told plan faults dig notes leaves outside failed_last form = Unit {0}
