@@ -1,3 +1,4 @@
 pub mod Notes
 pub mod Deeds
 pub mod Wallets
+pub mod Records

@@ -2,3 +2,4 @@ mod EndLaws
 mod SessionLaws
 mod DiskLaws
 pub mod FaultLaws
+pub mod CompleteLaws

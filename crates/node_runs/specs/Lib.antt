@@ -5,3 +5,4 @@ pub mod Runs
 pub mod Inits
 pub mod Faults
 pub mod Prompt
+pub mod Complete

@@ -11,3 +11,4 @@ mod Promises
 mod ByTheRules
 mod FaultLaws
 mod PromptLaws
+mod CompleteLaws

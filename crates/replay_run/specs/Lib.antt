@@ -11,3 +11,4 @@ pub mod Endings
 pub mod Ends
 pub mod Headline
 pub mod Prompt
+pub mod Complete

@@ -1,5 +1,6 @@
 ghost use Rattle.std.specs.Prelude.{◌≡◌};
 ghost use Rattle.replay_run.specs.Endings.{EndingsHaveTheirCause, LinesThatKeepTheRulesAreAnswered};
+ghost use Rattle.replay_run.specs.Complete.{GoodSchedulesAreAnswered, PartsOfGoodSchedulesWait};
 ghost use Rattle.replay_run.specs.Headline.{ReplaysKeepThePromise};
 ghost use Rattle.replay_run.specs.Laws.{LinesAreTheBytes, LinesAreOneCut, AnsweredLinesAreARun};
 
@@ -26,11 +27,20 @@ pub fn endings_have_their_cause()
     ensures { EndingsHaveTheirCause }
 {}
 
-/// A replay of a whole input is complete where each of its lines passes no limit and spells a line with which those before
-/// it have a run whose mail isn't full. So on such lines `replay` and `brief` end as `Done`, unless the source or the sink
-/// fails or memory runs out. So it is under every digest.
+/// A replay of a whole input is complete where each of its lines passes no limit and spells a line with which those
+/// before it have a run whose mail isn't full. So it is under every digest.
 pub fn lines_that_keep_the_rules_are_answered()
     ensures { LinesThatKeepTheRulesAreAnswered }
+{}
+
+/// The text of good schedules. Where each line of an input passes no limit and spells a line with which those before
+/// it have a run whose mail isn't full, `replay` and `brief` of the whole input end as `Done`: `replay` with an answer
+/// to each line, the verdicts and the exhibit, `brief` with the counts and the exhibit. And of a beginning of such an
+/// input that was read, wherever it is cut, they end as a read fault: no line of it is bad or too long. So it is under
+/// every digest. That a run ends so, unless the source, the sink or memory fails, `run` says itself.
+pub fn good_schedules_are_answered()
+    ensures whole { GoodSchedulesAreAnswered }
+    ensures part { PartsOfGoodSchedulesWait }
 {}
 
 /// The headline, a law of whatever input: in the run that a replay answers no leaf of a wallet's key signs two messages;

@@ -14,6 +14,7 @@ ghost use Rattle.replay_run.specs.Runs.{RanOver};
 ghost use Rattle.replay_run.specs.Does.{Does, DoesForm};
 ghost use Rattle.streamed_lines.specs.Prompt.{AnswersPromptly};
 ghost use Rattle.replay_run.specs.Prompt.{replay_answers, AnswersByForm};
+ghost use Rattle.replay_run.specs.Complete.{CompletesByForm};
 
 use super::brief::brief;
 use super::ending::status_of;
@@ -107,6 +108,12 @@ pub fn run<S: Source, K: Sink, D: Disk>(
         (record { left = S.left source.old; later = S.left source.new; taken = K.taken sink.old; after = K.taken sink.new })
         (S.failed_last source.new) (form_of (map string_bytes words.now)) }
 
+    // What is good is done, unless the source, the sink, a disk or memory fails: a schedule whose lines keep the rules;
+    // over the disks of a node a log of its chain, the line `--` and commands that it does; an init of disks that aren't
+    // taken; and `make` and `verify`.
+    ensures complete { CompletesByForm D.told sha256 notes leaves (S.left source.old) result.status
+        (form_of (map string_bytes words.now)) }
+
     // Schedules and the logs and commands of nodes are read; no other form touches the source.
     ensures unread { reads_input (form_of (map string_bytes words.now)) ≡ false → source.new ≡ source.old }
 
@@ -149,6 +156,8 @@ pub fn run_with<H: Hash32, S: Source, K: Sink, D: Disk>(
     ensures prompt { AnswersByForm D.told D.plan D.faults (H.digest_of h.now) notes leaves
         (record { left = S.left source.old; later = S.left source.new; taken = K.taken sink.old; after = K.taken sink.new })
         (S.failed_last source.new) (form_of (map string_bytes words.now)) }
+    ensures complete { CompletesByForm D.told (H.digest_of h.now) notes leaves (S.left source.old) result.status
+        (form_of (map string_bytes words.now)) }
     ensures unread { reads_input (form_of (map string_bytes words.now)) ≡ false → source.new ≡ source.old }
     ensures notes_stay { uses_notes (form_of (map string_bytes words.now)) ≡ false → result.notes ≡ notes }
     ensures leaves_stay { uses_leaves (form_of (map string_bytes words.now)) ≡ false → result.leaves ≡ leaves }

@@ -1,8 +1,10 @@
 use Rattle.std.proofs.Common.{inl, inr, refl, subst}
 use Rattle.replay_run.specs.Headline.{KeepsByForm}
+use Rattle.replay_run.specs.Complete.{CompletesByForm}
 use Rattle.replay_run.proofs.FaultLaws.{does-count}
 use Rattle.replay_run.proofs.ByTheRules.{keeps-by_form}
 use Rattle.replay_run.proofs.PromptLaws.{unread-prompt}
+use Rattle.replay_run.proofs.CompleteLaws.{does-complete, no-words}
 use Rattle.replay_run.proofs.top.run_with.Goals as goal
 
 pub returns-in-Ok-clause-disk_faults : goal.returns-in-Ok-clause-disk_faults
@@ -26,3 +28,12 @@ returns-in-Err-clause-headline g c =
 pub returns-in-Err-clause-prompt : goal.returns-in-Err-clause-prompt
 returns-in-Err-clause-prompt g c =
     unread-prompt g.D.Disk.told g.D.Disk.plan g.D.Disk.faults _ c.args.notes c.args.leaves _ _ _ _
+
+pub returns-in-Ok-clause-complete : goal.returns-in-Ok-clause-complete
+returns-in-Ok-clause-complete g c =
+    subst (CompletesByForm g.D.Disk.told _ c.args.notes c.args.leaves _ _) c.in-Ok.ensures.form
+    (does-complete g.D.Disk.told g.D.Disk.plan g.D.Disk.faults _ c.args.notes c.args.leaves c.run_form.result.notes
+    c.run_form.result.leaves _ _ c.run_form.result.status c.in-Ok.form c.run_form.ensures.output)
+
+pub returns-in-Err-clause-complete : goal.returns-in-Err-clause-complete
+returns-in-Err-clause-complete g c = no-words g.D.Disk.told _ c.args.notes c.args.leaves _ _
