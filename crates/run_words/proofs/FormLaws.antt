@@ -7,7 +7,7 @@ use Rattle.std.proofs.lemmas.Slice.Eq.{bytes_eq-Decides}
 use Rattle.std.proofs.lemmas.Bool.{eqb-true}
 use Rattle.plasma_base.specs.HexText.{hex_in}
 use Rattle.line_forms.specs.Tokens.{number_in}
-use Rattle.run_words.specs.Forms.{form_named, alone, init_form, init_wallet, init_operator, init_watcher, identity_in, make_form, verify_form}
+use Rattle.run_words.specs.Forms.{form_named, alone, init_form, init_wallet, init_operator, init_watcher, identity_in, make_form, verify_form, hss_form, hss_init, hss_sign, hss_verify}
 use Rattle.run_words.specs.declared.form.Form.{Form}
 use Rattle.run_words.specs.declared.form.Form.TheVariants.{Replay, Brief, Wallet, Operator, Watcher, InitOperator, InitWatcher}
 use Rattle.run_words.specs.declared.parsing.TheConstants.{NAMES}
@@ -46,6 +46,7 @@ choices name words =
     ∷ (bytes_eq name (codes "init"), init_form words)
     ∷ (bytes_eq name (codes "make"), make_form words)
     ∷ (bytes_eq name (codes "verify"), verify_form words)
+    ∷ (bytes_eq name (codes "hss"), hss_form words)
     ∷ []
 
 -- ---- names
@@ -96,10 +97,10 @@ no_verify word (message ∷ signature ∷ more ∷ words) = refl
 
 -- no form has a word with a hyphen behind its name
 no_hyphen : (name word : List ℕ) (words : List (List ℕ)) → form_named name ((45 ∷ word) ∷ words) ≡ None
-unfolding form_named alone init_form
+unfolding form_named alone init_form hss_form
 no_hyphen name word words =
     none_chosen (choices name ((45 ∷ word) ∷ words))
-    (refl, (refl, (refl, (refl, (refl, (refl, (no_make word words, (no_verify word words, tt))))))))
+    (refl, (refl, (refl, (refl, (refl, (refl, (no_make word words, (no_verify word words, (refl, tt)))))))))
 
 -- nor do they have an empty one
 empty_make : (words : List (List ℕ)) → make_form ([] ∷ words) ≡ None
@@ -117,10 +118,10 @@ empty_verify (message ∷ signature ∷ more ∷ words) = refl
 
 -- no form has an empty word behind its name
 no_empty : (name : List ℕ) (words : List (List ℕ)) → form_named name ([] ∷ words) ≡ None
-unfolding form_named alone init_form
+unfolding form_named alone init_form hss_form
 no_empty name words =
     none_chosen (choices name ([] ∷ words))
-    (refl, (refl, (refl, (refl, (refl, (refl, (empty_make words, (empty_verify words, tt))))))))
+    (refl, (refl, (refl, (refl, (refl, (refl, (empty_make words, (empty_verify words, (refl, tt)))))))))
 
 -- the first word, if there is one, is not empty and begins with no hyphen
 abbrev pub IsPlain : List (List ℕ) → Type 0
@@ -172,12 +173,34 @@ no_init role a b c d e f words =
       ),
     )
 
+no_hss : (verb a b c d e f : List ℕ) (words : List (List ℕ))
+    → hss_form (verb ∷ a ∷ b ∷ c ∷ d ∷ e ∷ f ∷ words) ≡ None
+unfolding hss_form hss_init hss_sign hss_verify
+no_hss verb a b c d e f words =
+    none_chosen (
+    (bytes_eq verb (codes "init"), hss_init (a ∷ b ∷ c ∷ d ∷ e ∷ f ∷ words))
+    ∷ (bytes_eq verb (codes "sign"), hss_sign (a ∷ b ∷ c ∷ d ∷ e ∷ f ∷ words))
+    ∷ (bytes_eq verb (codes "verify"), hss_verify (a ∷ b ∷ c ∷ d ∷ e ∷ f ∷ words))
+    ∷ []
+    ) (refl, (refl, (refl, tt)))
+
 no_seven : (name role a b c d e f : List ℕ) (words : List (List ℕ))
     → form_named name (role ∷ a ∷ b ∷ c ∷ d ∷ e ∷ f ∷ words) ≡ None
 unfolding form_named alone make_form verify_form
 no_seven name role a b c d e f words =
-    none_chosen (choices name (role ∷ a ∷ b ∷ c ∷ d ∷ e ∷ f ∷ words))
-    (refl, (refl, (refl, (refl, (refl, (no_init role a b c d e f words, (refl, (refl, tt))))))))
+    none_chosen (choices name (role ∷ a ∷ b ∷ c ∷ d ∷ e ∷ f ∷ words)) (
+      refl,
+      (
+        refl,
+        (
+          refl,
+          (
+            refl,
+            (refl, (no_init role a b c d e f words, (refl, (refl, (no_hss role a b c d e f words, tt))))),
+          ),
+        ),
+      ),
+    )
 
 -- at most six words stand behind the name of a form
 pub few : (name : List ℕ) (rest : List (List ℕ)) → is_some (form_named name rest) ≡ true → length rest ≤ 6

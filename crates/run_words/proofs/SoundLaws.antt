@@ -1,16 +1,15 @@
 -- What each form has that words spell.
-use Rattle.std.proofs.Common.{◌≡◌, ◌≤◌, ℕ, Bool, true, false, ◌&&◌, nat_le, if◌then◌else◌, List, [], ◌∷◌, codes, Option, Some, None, option_map, refl, subst}
+use Rattle.std.proofs.Common.{◌≡◌, ◌≤◌, ℕ, Bool, true, false, ◌&&◌, nat_le, if◌then◌else◌, List, [], ◌∷◌, codes, Option, Some, None, option_map, refl}
 use Rattle.std.specs.Prelude.{IfSome}
 use Rattle.std.proofs.lemmas.Bool.{leb-true}
-use Rattle.std.specs.Option.{option_and_then}
 use Rattle.std.specs.Str.{bytes_eq}
 use Rattle.plasma_base.specs.HexText.{hex_in, ◌>>=◌}
 use Rattle.line_forms.specs.Tokens.{number_in, number_within_in, hex_of_in, only_if}
 use Rattle.lms_sign.specs.declared.types.LmsTypes.{LmsTypes}
 use Rattle.lms_sign.specs.Types.{is_supported}
 use Rattle.run_words.specs.declared.form.Form.{Form}
-use Rattle.run_words.specs.declared.form.Form.TheVariants.{Replay, Brief, Wallet, Operator, Watcher, InitWallet, InitOperator, InitWatcher, Make, Verify}
-use Rattle.run_words.specs.Forms.{alone, types_in, wallet_of, init_wallet, identity_in, init_operator, init_watcher, init_form, make_form, verify_form, form_named, form_of, IsSound}
+use Rattle.run_words.specs.declared.form.Form.TheVariants.{Replay, Brief, Wallet, Operator, Watcher, HssInit, HssSign}
+use Rattle.run_words.specs.Forms.{alone, types_in, wallet_of, init_wallet, identity_in, init_form, make_form, verify_form, hss_init, hss_sign, hss_verify, hss_form, form_named, form_of, IsSound}
 
 -- a form that hangs on a value
 over : {A : Type 0} (P : A → Type 0) (value : Option A) (form : A → Option Form) → IfSome value P
@@ -114,6 +113,35 @@ verify-sound (key ∷ message ∷ signature ∷ []) =
     any (hex_in key) _ (λ k. any (hex_in message) _ (λ m. any (hex_in signature) _ (λ s. tt)))
 verify-sound (key ∷ message ∷ signature ∷ more ∷ words) = tt
 
+hss-init-sound : (words : List (List ℕ)) → IsSound (hss_init words)
+unfolding hss_init
+hss-init-sound [] = tt
+hss-init-sound (seed ∷ []) = mapped (hex_of_in 32 seed) HssInit (λ s. tt)
+hss-init-sound (seed ∷ more ∷ words) = tt
+
+hss-sign-sound : (words : List (List ℕ)) → IsSound (hss_sign words)
+unfolding hss_sign
+hss-sign-sound [] = tt
+hss-sign-sound (message ∷ []) = mapped (hex_in message) HssSign (λ m. tt)
+hss-sign-sound (message ∷ more ∷ words) = tt
+
+hss-verify-sound : (words : List (List ℕ)) → IsSound (hss_verify words)
+unfolding hss_verify
+hss-verify-sound [] = tt
+hss-verify-sound (key ∷ []) = tt
+hss-verify-sound (key ∷ message ∷ []) = tt
+hss-verify-sound (key ∷ message ∷ signature ∷ []) =
+    any (hex_in key) _ (λ k. any (hex_in message) _ (λ m. any (hex_in signature) _ (λ s. tt)))
+hss-verify-sound (key ∷ message ∷ signature ∷ more ∷ words) = tt
+
+hss-sound : (words : List (List ℕ)) → IsSound (hss_form words)
+unfolding hss_form
+hss-sound [] = tt
+hss-sound (verb ∷ words) =
+    either (bytes_eq verb (codes "init")) _ _ (hss-init-sound words)
+    (either (bytes_eq verb (codes "sign")) _ _ (hss-sign-sound words)
+    (either (bytes_eq verb (codes "verify")) _ _ (hss-verify-sound words) tt))
+
 named-sound : (name : List ℕ) (words : List (List ℕ)) → IsSound (form_named name words)
 unfolding form_named
 named-sound name words =
@@ -124,7 +152,8 @@ named-sound name words =
     (either (bytes_eq name (codes "watcher")) _ _ (alone-sound Watcher words tt)
     (either (bytes_eq name (codes "init")) _ _ (init-sound words)
     (either (bytes_eq name (codes "make")) _ _ (make-sound words)
-    (either (bytes_eq name (codes "verify")) _ _ (verify-sound words) tt)))))))
+    (either (bytes_eq name (codes "verify")) _ _ (verify-sound words)
+    (either (bytes_eq name (codes "hss")) _ _ (hss-sound words) tt))))))))
 
 pub forms-sound : (words : List (List ℕ)) → IsSound (form_of words)
 unfolding form_of

@@ -6,7 +6,7 @@ use Rattle.line_forms.specs.Tokens.{number_in, number_within_in, hex_of_in, only
 use Rattle.lms_sign.specs.declared.types.LmsTypes.{LmsTypes}
 use Rattle.lms_sign.specs.Types.{is_supported}
 use Rattle.run_words.specs.declared.form.Form.{Form}
-use Rattle.run_words.specs.declared.form.Form.TheVariants.{Replay, Brief, Wallet, Operator, Watcher, InitWallet, InitOperator, InitWatcher, Make, Verify}
+use Rattle.run_words.specs.declared.form.Form.TheVariants.{Replay, Brief, Wallet, Operator, Watcher, InitWallet, InitOperator, InitWatcher, Make, Verify, HssInit, HssSign, HssVerify}
 
 -- a form that its name alone spells
 unfoldable pub alone : Form → List (List ℕ) → Option Form
@@ -78,6 +78,36 @@ verify_form (key ∷ message ∷ signature ∷ []) = do
   Some (Verify k m s)
 verify_form _ = None
 
+-- ---- `hss`
+
+-- `<seed>`: a hex of 32 bytes
+unfoldable pub hss_init : List (List ℕ) → Option Form
+hss_init (seed ∷ []) = option_map HssInit (hex_of_in 32 seed)
+hss_init _ = None
+
+-- `<message>`: a hex of any length
+unfoldable pub hss_sign : List (List ℕ) → Option Form
+hss_sign (message ∷ []) = option_map HssSign (hex_in message)
+hss_sign _ = None
+
+-- `<key> <message> <signature>`, each a hex of any length
+unfoldable pub hss_verify : List (List ℕ) → Option Form
+hss_verify (key ∷ message ∷ signature ∷ []) = do
+  k ← hex_in key
+  m ← hex_in message
+  s ← hex_in signature
+  Some (HssVerify k m s)
+hss_verify _ = None
+
+-- what is done, and its words
+unfoldable pub hss_form : List (List ℕ) → Option Form
+hss_form [] = None
+hss_form (verb ∷ words) =
+    if bytes_eq verb (codes "init") then hss_init words
+    else if bytes_eq verb (codes "sign") then hss_sign words
+    else if bytes_eq verb (codes "verify") then hss_verify words
+    else None
+
 -- ---- all forms
 
 -- what the words after a name spell
@@ -91,6 +121,7 @@ form_named name words =
     else if bytes_eq name (codes "init") then init_form words
     else if bytes_eq name (codes "make") then make_form words
     else if bytes_eq name (codes "verify") then verify_form words
+    else if bytes_eq name (codes "hss") then hss_form words
     else None
 
 -- the form that the words spell, if they spell one

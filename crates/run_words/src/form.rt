@@ -53,6 +53,20 @@ pub enum Form {
         message: Bytes,
         signature: Bytes,
     },
+    /// `hss init <seed>`: the files of a two-level signer are made.
+    HssInit {
+        seed: [u8; 32],
+    },
+    /// `hss sign <message>`, a `0x` text: the signer that the files keep signs it.
+    HssSign {
+        message: Bytes,
+    },
+    /// `hss verify <key> <message> <signature>`, each a `0x` text, under a key of two levels.
+    HssVerify {
+        key: Bytes,
+        message: Bytes,
+        signature: Bytes,
+    },
 }
 
 // The form that the matches of words hold.

@@ -1,6 +1,6 @@
 ghost use Rattle.std.specs.Prelude.{◌≡◌, Some, None, Err, IfOk};
 ghost use Rattle.run_words.specs.Words.{texts};
-ghost use Rattle.run_words.specs.Forms.{wallet_of, init_wallet, identity_in, init_operator, init_watcher, make_form, verify_form};
+ghost use Rattle.run_words.specs.Forms.{wallet_of, init_wallet, identity_in, init_operator, init_watcher, make_form, verify_form, hss_init, hss_sign, hss_verify};
 
 use super::form::Form;
 use super::tokens::{byte_word, count_word, number_word, tag_word, types_words};
@@ -105,6 +105,50 @@ pub fn verify_form(alloc: Global, words: &[&str]) -> Result<Form, LineRefusal>
         return Err(LineRefusal::BadLine);
     };
     Ok(Form::Verify {
+        key: byte_word(alloc, key)?,
+        message: byte_word(alloc, message)?,
+        signature: byte_word(alloc, signature)?,
+    })
+}
+
+/// `hss init`, after its names: `<seed>`.
+#[tactic(auto, unfolding(crate::specs::Forms::hss_init))]
+pub fn hss_init(alloc: Global, words: &[&str]) -> Result<Form, LineRefusal>
+    ensures found { IfOk result (λ value. hss_init (texts words.now) ≡ Some value) }
+    ensures bad { result ≡ Err LineRefusal.BadLine → hss_init (texts words.now) ≡ None }
+{
+    let [seed] = words else {
+        return Err(LineRefusal::BadLine);
+    };
+    Ok(Form::HssInit {
+        seed: tag_word(alloc, seed)?,
+    })
+}
+
+/// `hss sign`, after its names: `<message>`.
+#[tactic(auto, unfolding(crate::specs::Forms::hss_sign))]
+pub fn hss_sign(alloc: Global, words: &[&str]) -> Result<Form, LineRefusal>
+    ensures found { IfOk result (λ value. hss_sign (texts words.now) ≡ Some value) }
+    ensures bad { result ≡ Err LineRefusal.BadLine → hss_sign (texts words.now) ≡ None }
+{
+    let [message] = words else {
+        return Err(LineRefusal::BadLine);
+    };
+    Ok(Form::HssSign {
+        message: byte_word(alloc, message)?,
+    })
+}
+
+/// `hss verify`, after its names: `<key> <message> <signature>`.
+#[tactic(auto, unfolding(crate::specs::Forms::hss_verify))]
+pub fn hss_verify(alloc: Global, words: &[&str]) -> Result<Form, LineRefusal>
+    ensures found { IfOk result (λ value. hss_verify (texts words.now) ≡ Some value) }
+    ensures bad { result ≡ Err LineRefusal.BadLine → hss_verify (texts words.now) ≡ None }
+{
+    let [key, message, signature] = words else {
+        return Err(LineRefusal::BadLine);
+    };
+    Ok(Form::HssVerify {
         key: byte_word(alloc, key)?,
         message: byte_word(alloc, message)?,
         signature: byte_word(alloc, signature)?,

@@ -1,9 +1,12 @@
 ghost use Rattle.std.specs.Prelude.{◌≡◌, Some, None, Err, IfOk};
 ghost use Rattle.run_words.specs.Words.{texts};
-ghost use Rattle.run_words.specs.Forms.{form_named, alone, init_form};
+ghost use Rattle.run_words.specs.Forms.{form_named, alone, init_form, hss_form};
 
 use super::form::Form;
-use super::making::{init_operator, init_wallet, init_watcher, make_form, verify_form};
+use super::making::{
+    hss_init, hss_sign, hss_verify, init_operator, init_wallet, init_watcher, make_form,
+    verify_form,
+};
 use line_forms::LineRefusal;
 use plasma_base::NoMemory;
 use std::alloc::Global;
@@ -38,6 +41,23 @@ fn init_form(alloc: Global, words: &[&str]) -> Result<Form, LineRefusal>
     }
 }
 
+// The form of `hss` that the words after this name spell.
+#[tactic(auto, unfolding(crate::specs::Forms::hss_form))]
+fn hss_form(alloc: Global, words: &[&str]) -> Result<Form, LineRefusal>
+    ensures found { IfOk result (λ value. hss_form (texts words.now) ≡ Some value) }
+    ensures bad { result ≡ Err LineRefusal.BadLine → hss_form (texts words.now) ≡ None }
+{
+    let [verb, rest @ ..] = words else {
+        return Err(LineRefusal::BadLine);
+    };
+    match *verb {
+        "init" => hss_init(alloc, rest),
+        "sign" => hss_sign(alloc, rest),
+        "verify" => hss_verify(alloc, rest),
+        _ => Err(LineRefusal::BadLine),
+    }
+}
+
 // The form with this name that the words after it spell. It refuses `BadLine` exactly where they spell
 // none.
 #[tactic(auto, unfolding(crate::specs::Forms::form_named))]
@@ -54,6 +74,7 @@ fn read_named(alloc: Global, name: &str, words: &[&str]) -> Result<Form, LineRef
         "init" => init_form(alloc, words),
         "make" => make_form(words),
         "verify" => verify_form(alloc, words),
+        "hss" => hss_form(alloc, words),
         _ => Err(LineRefusal::BadLine),
     }
 }

@@ -9,8 +9,8 @@ use clap::{Arg, ArgMatches, Command, Error};
 use std::alloc::{AllocError, Global};
 
 // The names that forms begin with.
-const NAMES: [&str; 8] = [
-    "replay", "brief", "wallet", "operator", "watcher", "init", "make", "verify",
+const NAMES: [&str; 9] = [
+    "replay", "brief", "wallet", "operator", "watcher", "init", "make", "verify", "hss",
 ];
 
 // The subcommand of a name, whose one positional takes the words that remain.

@@ -1,6 +1,6 @@
 ghost use Rattle.std.specs.Prelude.{◌≡◌, is_some, map, string_bytes};
 ghost use Rattle.std.specs.Option.{option_and_then};
-ghost use Rattle.run_words.specs.Forms.{types_in, form_of, form_named, init_form, init_wallet, wallet_of, identity_in, make_form, verify_form};
+ghost use Rattle.run_words.specs.Forms.{types_in, form_of, form_named, init_form, init_wallet, wallet_of, identity_in, make_form, verify_form, hss_init, hss_sign, hss_verify, hss_form};
 ghost use Rattle.lms_sign.specs.declared.types.LmsTypes.{LmsTypes};
 
 use super::tokens::{count_word, is_byte_word, is_tag_word, number_word, types_words};
@@ -96,6 +96,59 @@ fn is_verify(words: &[String]) -> bool
     }
 }
 
+// Whether the words after `hss init` are `<seed>`.
+#[tactic(auto, unfolding(crate::specs::Forms::hss_init))]
+fn is_hss_init(words: &[String]) -> bool
+    ensures { result ≡ is_some (hss_init (map string_bytes words.now)) }
+{
+    match words {
+        [seed] => is_tag_word(seed.as_str()),
+        _ => false,
+    }
+}
+
+// Whether the words after `hss sign` are `<message>`.
+#[tactic(auto, unfolding(crate::specs::Forms::hss_sign))]
+fn is_hss_sign(words: &[String]) -> bool
+    ensures { result ≡ is_some (hss_sign (map string_bytes words.now)) }
+{
+    match words {
+        [message] => is_byte_word(message.as_str()),
+        _ => false,
+    }
+}
+
+// Whether the words after `hss verify` are `<key> <message> <signature>`.
+#[tactic(auto, unfolding(crate::specs::Forms::hss_verify, crate::specs::Forms::verify_form))]
+fn is_hss_verify(words: &[String]) -> bool
+    ensures { result ≡ is_some (hss_verify (map string_bytes words.now)) }
+{
+    match words {
+        [key, message, signature] => {
+            is_byte_word(key.as_str())
+                && is_byte_word(message.as_str())
+                && is_byte_word(signature.as_str())
+        }
+        _ => false,
+    }
+}
+
+// Whether the words after `hss` are one of its forms.
+#[tactic(auto, unfolding(crate::specs::Forms::hss_form))]
+fn is_hss(words: &[String]) -> bool
+    ensures { result ≡ is_some (hss_form (map string_bytes words.now)) }
+{
+    let [verb, rest @ ..] = words else {
+        return false;
+    };
+    match verb.as_str() {
+        "init" => is_hss_init(rest),
+        "sign" => is_hss_sign(rest),
+        "verify" => is_hss_verify(rest),
+        _ => false,
+    }
+}
+
 // Whether the words after this name are a form of it.
 #[tactic(auto, unfolding(crate::specs::Forms::form_named, crate::specs::Forms::alone))]
 fn is_form_named(name: &str, words: &[String]) -> bool
@@ -106,6 +159,7 @@ fn is_form_named(name: &str, words: &[String]) -> bool
         "init" => is_init(words),
         "make" => is_make(words),
         "verify" => is_verify(words),
+        "hss" => is_hss(words),
         _ => false,
     }
 }
