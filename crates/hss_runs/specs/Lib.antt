@@ -1,0 +1,5 @@
+pub mod Identity
+pub mod Signing
+pub mod Runs
+pub mod Verdict
+pub mod Inside
