@@ -1,0 +1,9 @@
+pub mod Following
+pub mod Kept
+pub mod Texts
+pub mod Runs
+pub mod Grammar
+pub mod Archiving
+pub mod Holds
+pub mod Auditing
+pub mod Audits
