@@ -12,7 +12,7 @@ use Rattle.world_rules.specs.Laws.{IsDigest}
 use Rattle.streamed_lines.specs.declared.ending.Ending.{Ending}
 use Rattle.streamed_lines.specs.Outside.{Gave, WroteFront}
 use Rattle.run_words.specs.declared.form.Form.{Form}
-use Rattle.run_words.specs.declared.form.Form.TheVariants.{Replay, Brief, Wallet, Operator, Watcher, InitWallet, InitOperator, InitWatcher, Make, Verify}
+use Rattle.run_words.specs.declared.form.Form.TheVariants.{Replay, Brief, Wallet, Operator, Watcher, InitWallet, InitOperator, InitWatcher, Make, Verify, HssInit, HssSign, HssVerify, Audit, Archive}
 use Rattle.run_endings.specs.declared.status.Status.{Status}
 use Rattle.run_endings.specs.declared.status.Status.TheVariants.{NoMemory}
 use Rattle.run_endings.specs.Outputs.{Output, EndsAs}
@@ -108,3 +108,8 @@ module _ (dig : List ℕ → List ℕ) (is_digest : IsDigest dig) (outside : Out
     keeps-by_form (Some (InitWatcher tag account)) does = tt
     keeps-by_form (Some (Make seed count)) does = tt
     keeps-by_form (Some (Verify key message signature)) does = tt
+    keeps-by_form (Some (HssInit seed)) does = tt
+    keeps-by_form (Some (HssSign message)) does = tt
+    keeps-by_form (Some (HssVerify key message signature)) does = tt
+    keeps-by_form (Some (Audit key receipt)) does = tt
+    keeps-by_form (Some Archive) does = tt

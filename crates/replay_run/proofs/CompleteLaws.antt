@@ -9,12 +9,13 @@ use Rattle.streamed_lines.proofs.CompleteLaws.{reads-well}
 use Rattle.streamed_lines.specs.Outside.{Gave}
 use Rattle.streamed_lines.proofs.BeginningLaws.{beginnings_wait}
 use Rattle.run_words.specs.declared.form.Form.{Form}
-use Rattle.run_words.specs.declared.form.Form.TheVariants.{Replay, Brief, Wallet, Operator, Watcher, InitWallet, InitOperator, InitWatcher, Make, Verify}
+use Rattle.run_words.specs.declared.form.Form.TheVariants.{Replay, Brief, Wallet, Operator, Watcher, InitWallet, InitOperator, InitWatcher, Make, Verify, HssInit, HssSign, HssVerify, Audit, Archive}
 use Rattle.run_endings.specs.declared.status.Status.{Status}
 use Rattle.run_endings.specs.declared.status.Status.TheVariants.{NoMemory}
 use Rattle.run_endings.specs.Statuses.{IsDoneUnlessFailed}
 use Rattle.run_endings.proofs.EndingLaws.{ends-done}
 use Rattle.node_runs.specs.Sessions.{Outside}
+use Rattle.hss_runs.specs.Verdict.{is_hss_verified}
 use Rattle.node_runs.proofs.CompleteLaws.{watcher-complete, operator-complete, wallet-complete, init-complete, init-both-complete}
 use Rattle.replay_run.specs.declared.ending.NoCause.{NoCause}
 use Rattle.replay_run.specs.Replays.{begun, replay_rules, replay_of}
@@ -108,6 +109,14 @@ module _ {D : Type 0} (told : D → Option History) (plan : D → Option FaultPl
       init-complete told plan faults dig outside.left outside.taken outside.after status _ notes new_notes does
   does-complete (Some (InitWatcher tag account)) does =
       init-complete told plan faults dig outside.left outside.taken outside.after status _ notes new_notes does
+  does-complete (Some (HssInit seed)) does =
+      init-both-complete told plan faults dig outside.left outside.taken outside.after status _ notes leaves new_notes
+      new_leaves does
+  does-complete (Some (HssSign message)) does = tt
+  does-complete (Some (HssVerify key message signature)) does =
+      ends-done (verify_output (is_hss_verified key message signature)) status _ _ _ tt does
+  does-complete (Some (Audit key receipt)) does = tt
+  does-complete (Some Archive) does = tt
 
 -- a run for whose words memory ran out
 module _ {D : Type 0} (told : D → Option History) (dig : List ℕ → List ℕ) (notes leaves : D)
@@ -126,3 +135,8 @@ module _ {D : Type 0} (told : D → Option History) (dig : List ℕ → List ℕ
       λ of_notes of_leaves notes_told leaves_told free bare. tt
   no-words (Some (InitOperator tag account)) = λ history is free. tt
   no-words (Some (InitWatcher tag account)) = λ history is free. tt
+  no-words (Some (HssInit seed)) = λ of_notes of_leaves notes_told leaves_told free bare. tt
+  no-words (Some (HssSign message)) = tt
+  no-words (Some (HssVerify key message signature)) = tt
+  no-words (Some (Audit key receipt)) = tt
+  no-words (Some Archive) = tt

@@ -4,7 +4,7 @@ use Rattle.crash_disk.specs.Disk.{History, FaultPlan}
 use Rattle.streamed_lines.specs.declared.ending.Ending.{Ending}
 use Rattle.streamed_lines.specs.declared.ending.Ending.TheVariants.{Complete, BadLine, ReadFault, TooLong, Ended}
 use Rattle.run_words.specs.declared.form.Form.{Form}
-use Rattle.run_words.specs.declared.form.Form.TheVariants.{Replay, Brief, Wallet, Operator, Watcher, InitWallet, InitOperator, InitWatcher, Make, Verify}
+use Rattle.run_words.specs.declared.form.Form.TheVariants.{Replay, Brief, Wallet, Operator, Watcher, InitWallet, InitOperator, InitWatcher, Make, Verify, HssInit, HssSign, HssVerify, Audit, Archive}
 use Rattle.run_endings.specs.declared.status.Status.{Status}
 use Rattle.run_endings.specs.declared.status.Status.TheVariants.{DeviceFault}
 use Rattle.run_endings.specs.Statuses.{FaultsBy}
@@ -12,6 +12,12 @@ use Rattle.run_endings.specs.Outputs.{Output, EndsAs}
 use Rattle.node_runs.specs.Faults.{Counts, CountsEither}
 use Rattle.node_runs.specs.Sessions.{Outside}
 use Rattle.node_runs.proofs.FaultLaws.{other-status, none-met, by-more, notes-met, watcher-counts, operator-counts, wallet-counts, inits-count, inits-count-either}
+use Rattle.hss_runs.specs.Verdict.{is_hss_verified}
+use Rattle.hss_runs.proofs.FaultLaws.{signer-counts}
+use Rattle.log_runs.specs.Following.{Following}
+use Rattle.log_runs.specs.Auditing.{auditing}
+use Rattle.log_runs.specs.Archiving.{archiving}
+use Rattle.log_runs.specs.Runs.{RunsLog, lines_of, output_of, status_of as log_status}
 use Rattle.replay_run.specs.declared.ending.NoCause.{NoCause}
 use Rattle.replay_run.specs.Forms.{is_verified, uses_notes, uses_leaves}
 use Rattle.replay_run.specs.Output.{status_of, usage_output, replay_output, brief_output, make_output, verify_output}
@@ -24,6 +30,13 @@ replay-other (BadLine n) is = cc (is)
 replay-other ReadFault is = cc (is)
 replay-other (TooLong n) is = cc (is)
 replay-other (Ended n cause) is = elim cause [ ]
+
+log-other : (ending : Ending (List ℕ)) → log_status ending ≡ DeviceFault → ⊥
+log-other Complete is = cc (is)
+log-other (BadLine n) is = cc (is)
+log-other ReadFault is = cc (is)
+log-other (TooLong n) is = cc (is)
+log-other (Ended n cause) is = cc (is)
 
 module _ {D : Type 0} (told : D → Option History) (plan : D → Option FaultPlan) (faults : D → ℕ)
     (dig : List ℕ → List ℕ) (notes leaves new_notes new_leaves : D) (outside : Outside) (failed : Type 0)
@@ -44,6 +57,14 @@ module _ {D : Type 0} (told : D → Option History) (plan : D → Option FaultPl
       by-more (Counts faults notes new_notes) Met
       (λ fault met. notes-met told faults notes leaves new_notes new_leaves fault met (ap faults leaves_stay)) status
       counts
+
+  -- one that follows a log
+  followed : {A : Type 0} (following : Following A)
+      → RunsLog following outside.left outside.later outside.taken outside.after failed status
+      → new_notes ≡ notes → new_leaves ≡ leaves → FaultsBy status Met
+  followed following does notes_stay leaves_stay =
+      let lines = lines_of following does.bytes does.ended in
+      unused (output_of lines) _ (log-other lines.ending) does.ends notes_stay leaves_stay
 
   pub does-count : (form : Option Form)
       → DoesForm told plan faults dig notes leaves new_notes new_leaves outside failed status form
@@ -76,3 +97,14 @@ module _ {D : Type 0} (told : D → Option History) (plan : D → Option FaultPl
   does-count (Some (Verify key message signature)) does notes_stay leaves_stay =
       unused (verify_output (is_verified key message signature)) _ (λ is. cc (is)) does (notes_stay refl)
       (leaves_stay refl)
+  does-count (Some (HssInit seed)) does notes_stay leaves_stay =
+      inits-count-either told plan faults outside.taken outside.after status _ notes leaves new_notes new_leaves does
+  does-count (Some (HssSign message)) does notes_stay leaves_stay =
+      signer-counts told plan faults outside.taken outside.after status message notes leaves new_notes new_leaves does
+  does-count (Some (HssVerify key message signature)) does notes_stay leaves_stay =
+      unused (verify_output (is_hss_verified key message signature)) _ (λ is. cc (is)) does (notes_stay refl)
+      (leaves_stay refl)
+  does-count (Some (Audit key receipt)) does notes_stay leaves_stay =
+      followed (auditing dig key receipt) does (notes_stay refl) (leaves_stay refl)
+  does-count (Some Archive) does notes_stay leaves_stay =
+      followed (archiving dig) does (notes_stay refl) (leaves_stay refl)

@@ -7,16 +7,23 @@ use Rattle.streamed_lines.specs.Lines.{lines_in}
 use Rattle.streamed_lines.specs.Outside.{Wrote}
 use Rattle.streamed_lines.proofs.OutsideLaws.{gave-none, wrote-none}
 use Rattle.run_words.specs.declared.form.Form.{Form}
-use Rattle.run_words.specs.declared.form.Form.TheVariants.{Replay, Brief, Wallet, Operator, Watcher, InitWallet, InitOperator, InitWatcher, Make, Verify}
+use Rattle.run_words.specs.declared.form.Form.TheVariants.{Replay, Brief, Wallet, Operator, Watcher, InitWallet, InitOperator, InitWatcher, Make, Verify, HssInit, HssSign, HssVerify, Audit, Archive}
 use Rattle.node_runs.specs.Sessions.{Outside}
 use Rattle.node_runs.specs.Prompt.{RunsPromptly, WatcherPromptly, OperatorPromptly, WalletPromptly}
 use Rattle.replay_run.specs.Replays.{replay_of}
-use Rattle.replay_run.specs.Prompt.{replay_answers, AnswersByForm}
+use Rattle.log_runs.specs.Following.{Following}
+use Rattle.log_runs.specs.Auditing.{auditing}
+use Rattle.log_runs.specs.Archiving.{archiving}
+use Rattle.replay_run.specs.Prompt.{replay_answers, followed_answers, AnswersByForm}
 
 -- nothing has no answers
 no-answers : (dig : List ℕ → List ℕ) → replay_answers dig [] ≡ []
 unfolding replay_of stream_of stream_from lines_in entries_text
 no-answers dig = refl
+
+no-followed-answers : {A : Type 0} (following : Following A) → followed_answers following [] ≡ []
+unfolding stream_of stream_from lines_in
+no-followed-answers following = refl
 
 module _ {D : Type 0} (told : D → Option History) (plan : D → Option FaultPlan) (faults : D → ℕ)
     (dig : List ℕ → List ℕ) (notes leaves : D) (left taken : Option (List ℕ)) (failed_last : Bool) where
@@ -34,6 +41,18 @@ module _ {D : Type 0} (told : D → Option History) (plan : D → Option FaultPl
     wrote = subst (λ t. Wrote taken taken (t ++ [])) (sym (no-answers dig)) (wrote-none taken);
   }
 
+  follows-none : {A : Type 0} (following : Following A)
+      → RunsPromptly outside failed_last (followed_answers following)
+  follows-none following = record {
+    earlier = [];
+    last = [];
+    gave = gave-none left;
+    few = omega arith;
+    none = λ _. refl;
+    more = [];
+    wrote = subst (λ t. Wrote taken taken (t ++ [])) (sym (no-followed-answers following)) (wrote-none taken);
+  }
+
   pub unread-prompt : (form : Option Form)
       → AnswersByForm told plan faults dig notes leaves outside failed_last form
   unfolding WatcherPromptly OperatorPromptly WalletPromptly
@@ -48,3 +67,8 @@ module _ {D : Type 0} (told : D → Option History) (plan : D → Option FaultPl
   unread-prompt (Some (InitWatcher tag account)) = tt
   unread-prompt (Some (Make seed count)) = tt
   unread-prompt (Some (Verify key message signature)) = tt
+  unread-prompt (Some (HssInit seed)) = tt
+  unread-prompt (Some (HssSign message)) = tt
+  unread-prompt (Some (HssVerify key message signature)) = tt
+  unread-prompt (Some (Audit key receipt)) = follows-none (auditing dig key receipt)
+  unread-prompt (Some Archive) = follows-none (archiving dig)

@@ -2,7 +2,7 @@
 use Rattle.std.specs.Prelude.{◌≡◌, ℕ, true, false, List, [], ◌++◌, length, Option, Some, None}
 use Rattle.crash_disk.specs.Disk.{History}
 use Rattle.run_words.specs.declared.form.Form.{Form}
-use Rattle.run_words.specs.declared.form.Form.TheVariants.{Replay, Brief, Wallet, Operator, Watcher, InitWallet, InitOperator, InitWatcher, Make, Verify}
+use Rattle.run_words.specs.declared.form.Form.TheVariants.{Replay, Brief, Wallet, Operator, Watcher, InitWallet, InitOperator, InitWatcher, Make, Verify, HssInit, HssSign, HssVerify, Audit, Archive}
 use Rattle.streamed_lines.specs.declared.ending.Ending.TheVariants.{Complete, ReadFault}
 use Rattle.streamed_lines.specs.Lines.{lines_in}
 use Rattle.run_endings.specs.declared.status.Status.{Status}
@@ -44,7 +44,8 @@ module _ {D : Type 0} (told : D → Option History) (dig : List ℕ → List ℕ
   ScheduleComplete = (input : List ℕ) → left ≡ Some input → KeepTheRules dig [] 1 0 (lines_in input)
       → IsDoneUnlessFailed status
 
-  -- so it is of each form that reads an input, or begins a node; and one that needs nothing but its words is done
+  -- So it is of a replay and a node's session, and of what begins a node or a signer; and a form that needs nothing
+  -- but its words is done. Of a signing, an audit and an archive nothing is said.
   abbrev pub CompletesByForm : Option Form → Type 0
   CompletesByForm (Some Replay) = ScheduleComplete
   CompletesByForm (Some Brief) = ScheduleComplete
@@ -56,4 +57,9 @@ module _ {D : Type 0} (told : D → Option History) (dig : List ℕ → List ℕ
   CompletesByForm (Some (InitWatcher tag account)) = InitComplete told dig left status notes
   CompletesByForm (Some (Make seed count)) = IsDoneUnlessFailed status
   CompletesByForm (Some (Verify key message signature)) = IsDoneUnlessFailed status
+  CompletesByForm (Some (HssInit seed)) = InitBothComplete told dig left status notes leaves
+  CompletesByForm (Some (HssSign message)) = Unit {0}
+  CompletesByForm (Some (HssVerify key message signature)) = IsDoneUnlessFailed status
+  CompletesByForm (Some (Audit key receipt)) = Unit {0}
+  CompletesByForm (Some Archive) = Unit {0}
   CompletesByForm None = Unit {0}

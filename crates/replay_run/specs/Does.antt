@@ -5,13 +5,20 @@ use Rattle.node_rules.specs.Watcher.{identity_text as watcher_text}
 use Rattle.node_rules.specs.WalletRecords.{identity_text as wallet_text}
 use Rattle.operator_rules.specs.Records.{identity_text as operator_text}
 use Rattle.run_words.specs.declared.form.Form.{Form}
-use Rattle.run_words.specs.declared.form.Form.TheVariants.{Replay, Brief, Wallet, Operator, Watcher, InitWallet, InitOperator, InitWatcher, Make, Verify}
+use Rattle.run_words.specs.declared.form.Form.TheVariants.{Replay, Brief, Wallet, Operator, Watcher, InitWallet, InitOperator, InitWatcher, Make, Verify, HssInit, HssSign, HssVerify, Audit, Archive}
 use Rattle.run_endings.specs.declared.status.Status.{Status}
 use Rattle.run_endings.specs.declared.status.Status.TheVariants.{NoMemory}
 use Rattle.run_endings.specs.Outputs.{Output, EndsAs}
 use Rattle.node_runs.specs.Sessions.{Outside}
 use Rattle.node_runs.specs.Runs.{RunsWatcher, RunsOperator, RunsWallet}
 use Rattle.node_runs.specs.Inits.{InitsNotes, InitsWallet}
+use Rattle.hss_runs.specs.Identity.{identity_text as signer_text}
+use Rattle.hss_runs.specs.Runs.{RunsSigner}
+use Rattle.hss_runs.specs.Verdict.{is_hss_verified}
+use Rattle.log_runs.specs.Following.{Following}
+use Rattle.log_runs.specs.Auditing.{auditing}
+use Rattle.log_runs.specs.Archiving.{archiving}
+use Rattle.log_runs.specs.Runs.{RunsLog}
 use Rattle.replay_run.specs.Forms.{is_verified}
 use Rattle.replay_run.specs.Output.{usage_output, replay_output, brief_output, make_output, verify_output}
 use Rattle.replay_run.specs.Bounds.{FewBy}
@@ -33,6 +40,11 @@ module _ {D : Type 0} (told : D → Option History) (plan : D → Option FaultPl
   Reads output =
       RanOver output (FewBy dig) outside.left outside.later outside.taken outside.after failed status
 
+  -- it reads a log and the lines behind it, and answers those by what follows the log
+  abbrev pub Follows : {A : Type 0} → Following A → Type 0
+  Follows following =
+      RunsLog following outside.left outside.later outside.taken outside.after failed status
+
   -- what each form asks for
   abbrev pub DoesForm : Option Form → Type 0
   DoesForm None = Writes usage_output
@@ -53,6 +65,14 @@ module _ {D : Type 0} (told : D → Option History) (plan : D → Option FaultPl
       (watcher_text (record { tag = tag; account = account })) notes new_notes
   DoesForm (Some (Make seed count)) = Writes (make_output seed count)
   DoesForm (Some (Verify key message signature)) = Writes (verify_output (is_verified key message signature))
+  DoesForm (Some (HssInit seed)) =
+      InitsWallet told plan faults outside.taken outside.after status (signer_text seed)
+      notes leaves new_notes new_leaves
+  DoesForm (Some (HssSign message)) =
+      RunsSigner told plan faults outside.taken outside.after status message notes leaves new_notes new_leaves
+  DoesForm (Some (HssVerify key message signature)) = Writes (verify_output (is_hss_verified key message signature))
+  DoesForm (Some (Audit key receipt)) = Follows (auditing dig key receipt)
+  DoesForm (Some Archive) = Follows (archiving dig)
 
   -- memory ran out while the words were read: nothing was read or written, and no disk was used
   pub record ReadsNoWords : Type 0 where

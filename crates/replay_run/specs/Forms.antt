@@ -2,7 +2,7 @@
 use Rattle.std.specs.Prelude.{ℕ, ◌==◌, ◌&&◌, Bool, true, false, List, length, Option, Some, None}
 use Rattle.lms_sign.specs.Valid.{is_valid}
 use Rattle.run_words.specs.declared.form.Form.{Form}
-use Rattle.run_words.specs.declared.form.Form.TheVariants.{Replay, Brief, Wallet, Operator, Watcher, InitWallet, InitOperator, InitWatcher, Make, Verify}
+use Rattle.run_words.specs.declared.form.Form.TheVariants.{Replay, Brief, Wallet, Operator, Watcher, InitWallet, InitOperator, InitWatcher, Make, Verify, HssInit, HssSign, HssVerify, Audit, Archive}
 
 -- the key has 56 bytes and reads, and the signature of the message is valid under it (RFC 8554)
 unfoldable pub is_verified : List ℕ → List ℕ → List ℕ → Bool
@@ -21,6 +21,11 @@ reads_input (Some (InitOperator tag account)) = false
 reads_input (Some (InitWatcher tag account)) = false
 reads_input (Some (Make seed count)) = false
 reads_input (Some (Verify key message signature)) = false
+reads_input (Some (HssInit seed)) = false
+reads_input (Some (HssSign message)) = false
+reads_input (Some (HssVerify key message signature)) = false
+reads_input (Some (Audit key receipt)) = true
+reads_input (Some Archive) = true
 
 -- whether it uses the disk of the notes
 abbrev pub uses_notes : Option Form → Bool
@@ -35,9 +40,16 @@ uses_notes (Some (InitOperator tag account)) = true
 uses_notes (Some (InitWatcher tag account)) = true
 uses_notes (Some (Make seed count)) = false
 uses_notes (Some (Verify key message signature)) = false
+uses_notes (Some (HssInit seed)) = true
+uses_notes (Some (HssSign message)) = true
+uses_notes (Some (HssVerify key message signature)) = false
+uses_notes (Some (Audit key receipt)) = false
+uses_notes (Some Archive) = false
 
--- whether it uses the disk of the leaves, which a wallet alone has
+-- whether it uses the disk of the leaves, which wallets and two-level signers have
 abbrev pub uses_leaves : Option Form → Bool
 uses_leaves (Some Wallet) = true
 uses_leaves (Some (InitWallet tag account seed types)) = true
+uses_leaves (Some (HssInit seed)) = true
+uses_leaves (Some (HssSign message)) = true
 uses_leaves form = false

@@ -17,7 +17,7 @@ abbrev pub usage_output : Output
 usage_output = record {
   status = Usage;
   answers = [];
-  last = codes "usage: plasma replay | brief | wallet | operator | watcher | init | make | verify" ++ 10 ∷ [];
+  last = codes "usage: plasma replay | brief | wallet | operator | watcher | init | make | verify | hss | audit | archive" ++ 10 ∷ [];
 }
 
 -- the status of what ended a replay

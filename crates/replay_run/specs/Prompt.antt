@@ -2,9 +2,13 @@
 use Rattle.std.specs.Prelude.{ℕ, Bool, false, List, Option, Some}
 use Rattle.crash_disk.specs.Disk.{History, FaultPlan}
 use Rattle.run_words.specs.declared.form.Form.{Form}
-use Rattle.run_words.specs.declared.form.Form.TheVariants.{Replay, Wallet, Operator, Watcher}
+use Rattle.run_words.specs.declared.form.Form.TheVariants.{Replay, Wallet, Operator, Watcher, Audit, Archive}
 use Rattle.node_runs.specs.Sessions.{Outside}
 use Rattle.node_runs.specs.Prompt.{RunsPromptly, WatcherPromptly, OperatorPromptly, WalletPromptly}
+use Rattle.log_runs.specs.Following.{Following, log_rules, begun}
+use Rattle.log_runs.specs.Auditing.{auditing}
+use Rattle.log_runs.specs.Archiving.{archiving}
+use Rattle.streamed_lines.specs.Prompt.{answers_so_far}
 use Rattle.replay_run.specs.Replays.{replay_of}
 use Rattle.replay_run.specs.Text.{answers_text}
 
@@ -12,9 +16,13 @@ use Rattle.replay_run.specs.Text.{answers_text}
 abbrev pub replay_answers : (List ℕ → List ℕ) → List ℕ → List ℕ
 replay_answers dig bytes = answers_text (replay_of dig bytes false)
 
+-- the answers to the whole lines of these bytes, which may go on, by what follows the log
+abbrev pub followed_answers : {A : Type 0} → Following A → List ℕ → List ℕ
+followed_answers following = answers_so_far (log_rules following) begun
+
 -- Over disks that tell their history, foretell their faults and count them, and under a digest: a run that was handed
--- these disks of notes and of leaves, that did this outside, and whose last take failed or didn't. A replay and the
--- sessions of nodes answer each line before they read more; no other form answers lines.
+-- these disks of notes and of leaves, that did this outside, and whose last take failed or didn't. A replay, the
+-- sessions of nodes, and an audit or an archive answer each line before they read more; no other form answers lines.
 abbrev pub AnswersByForm : {D : Type 0} → (D → Option History) → (D → Option FaultPlan) → (D → ℕ)
     → (List ℕ → List ℕ) → D → D → Outside → Bool → Option Form → Type 0
 AnswersByForm told plan faults dig notes leaves outside failed_last (Some Replay) =
@@ -25,4 +33,8 @@ AnswersByForm told plan faults dig notes leaves outside failed_last (Some Operat
     OperatorPromptly outside failed_last told plan faults dig notes
 AnswersByForm told plan faults dig notes leaves outside failed_last (Some Watcher) =
     WatcherPromptly outside failed_last told plan faults dig notes
+AnswersByForm told plan faults dig notes leaves outside failed_last (Some (Audit key receipt)) =
+    RunsPromptly outside failed_last (followed_answers (auditing dig key receipt))
+AnswersByForm told plan faults dig notes leaves outside failed_last (Some Archive) =
+    RunsPromptly outside failed_last (followed_answers (archiving dig))
 AnswersByForm told plan faults dig notes leaves outside failed_last form = Unit {0}

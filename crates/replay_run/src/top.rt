@@ -21,9 +21,11 @@ use super::ending::status_of;
 use super::replay::replay;
 use super::verifying::is_verified;
 use crash_disk::Disk;
+use hss_runs::{init_signer, is_hss_verified, run_signer};
+use log_runs::{run_archive, run_audit};
 use node_rules::WalletIdentity;
 use node_runs::{init_operator, init_wallet, init_watcher, run_operator, run_wallet, run_watcher};
-use plasma_base::{Bytes, Hash32, KeptSha, NoMemory};
+use plasma_base::{Hash32, KeptSha, NoMemory};
 use plasma_outside::{Sink, Source};
 use run_endings::{Status, put_line};
 use run_words::{Form, form_of};
@@ -32,7 +34,7 @@ use world_maker::{MOST_ROUNDS, make};
 
 /// The line that names the forms of the program.
 const USAGE: &[u8] =
-    b"usage: plasma replay | brief | wallet | operator | watcher | init | make | verify\n";
+    b"usage: plasma replay | brief | wallet | operator | watcher | init | make | verify | hss | audit | archive\n";
 
 /// How a run ended, and the disks of the notes and of the leaves, handed back.
 #[derive(Drop)]
@@ -78,8 +80,12 @@ impl<D> Ended<D> {
 /// `wallet`, `operator` and `watcher` open a node from the disks, read a log of the root contract, a line `--` and
 /// commands, and write their answers. `init` with a role, a tag, an account and for a wallet a seed, and maybe the types
 /// of its key, begins the disks of a node and writes `made`. `make <seed> <count>` writes a schedule of so many rounds.
-/// `verify <key> <message> <signature>` writes `valid` or `invalid`. Other words are no form: the run ends as `Usage`,
-/// and writes the line that names the forms.
+/// `verify <key> <message> <signature>` writes `valid` or `invalid`. `hss init <seed>` begins the disks of a two-level
+/// signer (RFC 8554, section 6) and writes `made`; `hss sign <message>` opens it from the disks and writes `signed`, its
+/// top leaf and its leaf, and a signature; `hss verify` is `verify` under a key of two levels. `audit <key> <receipt>` and
+/// `archive` read a log and a line `--`; behind it an audit reads a bundle, which convicts the operator who promised the
+/// receipt or doesn't, and an archive commands, which it answers. Other words are no form: the run ends as `Usage`, and
+/// writes the line that names the forms.
 pub fn run<S: Source, K: Sink, D: Disk>(
     alloc: Global,
     words: &[String],
@@ -110,14 +116,14 @@ pub fn run<S: Source, K: Sink, D: Disk>(
 
     // What is good is done, unless the source, the sink, a disk or memory fails: a schedule whose lines keep the rules;
     // over the disks of a node a log of its chain, the line `--` and commands that it does; an init of disks that aren't
-    // taken; and `make` and `verify`.
+    // taken; and `make`, `verify` and `hss verify`.
     ensures complete { CompletesByForm D.told sha256 notes leaves (S.left source.old) result.status
         (form_of (map string_bytes words.now)) }
 
-    // Schedules and the logs and commands of nodes are read; no other form touches the source.
+    // Schedules, logs, and what stands behind a log are read; no other form touches the source.
     ensures unread { reads_input (form_of (map string_bytes words.now)) ≡ false → source.new ≡ source.old }
 
-    // The disks of a node are used by its own forms alone.
+    // The disks of a node or a signer are used by its own forms alone.
     ensures notes_stay { uses_notes (form_of (map string_bytes words.now)) ≡ false → result.notes ≡ notes }
     ensures leaves_stay { uses_leaves (form_of (map string_bytes words.now)) ≡ false → result.leaves ≡ leaves }
 
@@ -213,7 +219,30 @@ fn run_form<H: Hash32, S: Source, K: Sink, D: Disk>(
                 message,
                 signature,
             },
-        ) => Ended::of(run_verify(&key, &message, &signature, sink), notes, leaves),
+        ) => {
+            let verified = is_verified(key.as_slice(), message.as_slice(), signature.as_slice());
+            Ended::of(put_verdict(sink, verified), notes, leaves)
+        }
+        Some(
+            Form::HssVerify {
+                key,
+                message,
+                signature,
+            },
+        ) => {
+            let verified = is_hss_verified(key.as_slice(), message.as_slice(), signature.as_slice());
+            Ended::of(put_verdict(sink, verified), notes, leaves)
+        }
+        Some(Form::HssInit { seed }) => {
+            Ended::of_both(init_signer(alloc, sink, notes, leaves, seed))
+        }
+        Some(Form::HssSign { message }) => {
+            Ended::of_both(run_signer(alloc, sink, notes, leaves, message.as_slice()))
+        }
+        Some(Form::Audit { key, receipt }) => {
+            Ended::of(run_audit(alloc, h, key, receipt, source, sink), notes, leaves)
+        }
+        Some(Form::Archive) => Ended::of(run_archive(alloc, h, source, sink), notes, leaves),
         Some(Form::Wallet) => { Ended::of_both(run_wallet(alloc, h, source, sink, notes, leaves)) }
         Some(Form::Operator) => {
             Ended::of_notes(run_operator(alloc, h, source, sink, notes), leaves)
@@ -246,14 +275,13 @@ fn run_form<H: Hash32, S: Source, K: Sink, D: Disk>(
     }
 }
 
-/// Runs `verify`.
-fn run_verify<K: Sink>(key: &Bytes, message: &Bytes, signature: &Bytes, sink: &mut K) -> Status
-    ensures output { EndsAs (verify_output (is_verified key.now message.now signature.now)) result
-        (K.taken sink.old) (K.taken sink.new) ⊥ }
+/// Says whether a signature is valid.
+fn put_verdict<K: Sink>(sink: &mut K, verified: bool) -> Status
+    ensures output { EndsAs (verify_output verified) result (K.taken sink.old) (K.taken sink.new) ⊥ }
     ensures no_read_fault { result ≢ Status.ReadFault }
     ensures sink_faults { K.faults sink.new ≡ faults_after (K.faults sink.old) (is_write_fault result) }
 {
-    if is_verified(key.as_slice(), message.as_slice(), signature.as_slice()) {
+    if verified {
         return put_line(sink, b"valid\n", Status::Done);
     }
     put_line(sink, b"invalid\n", Status::Done)
