@@ -6,10 +6,10 @@ use Rattle.std.specs.Str.{bytes_eq}
 use Rattle.std.proofs.lemmas.Slice.Eq.{bytes_eq-Decides}
 use Rattle.std.proofs.lemmas.Bool.{eqb-true}
 use Rattle.plasma_base.specs.HexText.{hex_in}
-use Rattle.line_forms.specs.Tokens.{number_in}
-use Rattle.run_words.specs.Forms.{form_named, alone, init_form, init_wallet, init_operator, init_watcher, identity_in, make_form, verify_form, hss_form, hss_init, hss_sign, hss_verify}
+use Rattle.line_forms.specs.Tokens.{number_in, hex_of_in}
+use Rattle.run_words.specs.Forms.{form_named, alone, init_form, init_wallet, init_operator, init_watcher, identity_in, make_form, verify_form, hss_form, hss_init, hss_sign, hss_verify, audit_form}
 use Rattle.run_words.specs.declared.form.Form.{Form}
-use Rattle.run_words.specs.declared.form.Form.TheVariants.{Replay, Brief, Wallet, Operator, Watcher, InitOperator, InitWatcher}
+use Rattle.run_words.specs.declared.form.Form.TheVariants.{Replay, Brief, Wallet, Operator, Watcher, InitOperator, InitWatcher, Archive}
 use Rattle.run_words.specs.declared.parsing.TheConstants.{NAMES}
 
 -- the names that forms begin with
@@ -47,6 +47,8 @@ choices name words =
     ∷ (bytes_eq name (codes "make"), make_form words)
     ∷ (bytes_eq name (codes "verify"), verify_form words)
     ∷ (bytes_eq name (codes "hss"), hss_form words)
+    ∷ (bytes_eq name (codes "audit"), audit_form words)
+    ∷ (bytes_eq name (codes "archive"), alone Archive words)
     ∷ []
 
 -- ---- names
@@ -95,12 +97,18 @@ no_verify word (message ∷ []) = refl
 no_verify word (message ∷ signature ∷ []) = rw (no_hex word) refl
 no_verify word (message ∷ signature ∷ more ∷ words) = refl
 
+no_audit : (word : List ℕ) (words : List (List ℕ)) → audit_form ((45 ∷ word) ∷ words) ≡ None
+unfolding audit_form hex_of_in
+no_audit word [] = refl
+no_audit word (receipt ∷ []) = rw (no_hex word) refl
+no_audit word (receipt ∷ more ∷ words) = refl
+
 -- no form has a word with a hyphen behind its name
 no_hyphen : (name word : List ℕ) (words : List (List ℕ)) → form_named name ((45 ∷ word) ∷ words) ≡ None
 unfolding form_named alone init_form hss_form
 no_hyphen name word words =
     none_chosen (choices name ((45 ∷ word) ∷ words))
-    (refl, (refl, (refl, (refl, (refl, (refl, (no_make word words, (no_verify word words, (refl, tt)))))))))
+    (refl, (refl, (refl, (refl, (refl, (refl, (no_make word words, (no_verify word words, (refl, (no_audit word words, (refl, tt)))))))))))
 
 -- nor do they have an empty one
 empty_make : (words : List (List ℕ)) → make_form ([] ∷ words) ≡ None
@@ -116,12 +124,18 @@ empty_verify (message ∷ []) = refl
 empty_verify (message ∷ signature ∷ []) = refl
 empty_verify (message ∷ signature ∷ more ∷ words) = refl
 
+empty_audit : (words : List (List ℕ)) → audit_form ([] ∷ words) ≡ None
+unfolding audit_form hex_of_in hex_in
+empty_audit [] = refl
+empty_audit (receipt ∷ []) = refl
+empty_audit (receipt ∷ more ∷ words) = refl
+
 -- no form has an empty word behind its name
 no_empty : (name : List ℕ) (words : List (List ℕ)) → form_named name ([] ∷ words) ≡ None
 unfolding form_named alone init_form hss_form
 no_empty name words =
     none_chosen (choices name ([] ∷ words))
-    (refl, (refl, (refl, (refl, (refl, (refl, (empty_make words, (empty_verify words, (refl, tt)))))))))
+    (refl, (refl, (refl, (refl, (refl, (refl, (empty_make words, (empty_verify words, (refl, (empty_audit words, (refl, tt)))))))))))
 
 -- the first word, if there is one, is not empty and begins with no hyphen
 abbrev pub IsPlain : List (List ℕ) → Type 0
@@ -186,7 +200,7 @@ no_hss verb a b c d e f words =
 
 no_seven : (name role a b c d e f : List ℕ) (words : List (List ℕ))
     → form_named name (role ∷ a ∷ b ∷ c ∷ d ∷ e ∷ f ∷ words) ≡ None
-unfolding form_named alone make_form verify_form
+unfolding form_named alone make_form verify_form audit_form
 no_seven name role a b c d e f words =
     none_chosen (choices name (role ∷ a ∷ b ∷ c ∷ d ∷ e ∷ f ∷ words)) (
       refl,
@@ -196,7 +210,7 @@ no_seven name role a b c d e f words =
           refl,
           (
             refl,
-            (refl, (no_init role a b c d e f words, (refl, (refl, (no_hss role a b c d e f words, tt))))),
+            (refl, (no_init role a b c d e f words, (refl, (refl, (no_hss role a b c d e f words, (refl, (refl, tt))))))),
           ),
         ),
       ),

@@ -8,8 +8,8 @@ use Rattle.line_forms.specs.Tokens.{number_in, number_within_in, hex_of_in, only
 use Rattle.lms_sign.specs.declared.types.LmsTypes.{LmsTypes}
 use Rattle.lms_sign.specs.Types.{is_supported}
 use Rattle.run_words.specs.declared.form.Form.{Form}
-use Rattle.run_words.specs.declared.form.Form.TheVariants.{Replay, Brief, Wallet, Operator, Watcher, HssInit, HssSign}
-use Rattle.run_words.specs.Forms.{alone, types_in, wallet_of, init_wallet, identity_in, init_form, make_form, verify_form, hss_init, hss_sign, hss_verify, hss_form, form_named, form_of, IsSound}
+use Rattle.run_words.specs.declared.form.Form.TheVariants.{Replay, Brief, Wallet, Operator, Watcher, HssInit, HssSign, Archive}
+use Rattle.run_words.specs.Forms.{alone, types_in, wallet_of, init_wallet, identity_in, init_form, make_form, verify_form, hss_init, hss_sign, hss_verify, hss_form, audit_form, form_named, form_of, IsSound}
 
 -- a form that hangs on a value
 over : {A : Type 0} (P : A → Type 0) (value : Option A) (form : A → Option Form) → IfSome value P
@@ -142,6 +142,13 @@ hss-sound (verb ∷ words) =
     (either (bytes_eq verb (codes "sign")) _ _ (hss-sign-sound words)
     (either (bytes_eq verb (codes "verify")) _ _ (hss-verify-sound words) tt))
 
+audit-sound : (words : List (List ℕ)) → IsSound (audit_form words)
+unfolding audit_form
+audit-sound [] = tt
+audit-sound (key ∷ []) = tt
+audit-sound (key ∷ receipt ∷ []) = any (hex_of_in 56 key) _ (λ k. any (hex_in receipt) _ (λ r. tt))
+audit-sound (key ∷ receipt ∷ more ∷ words) = tt
+
 named-sound : (name : List ℕ) (words : List (List ℕ)) → IsSound (form_named name words)
 unfolding form_named
 named-sound name words =
@@ -153,7 +160,9 @@ named-sound name words =
     (either (bytes_eq name (codes "init")) _ _ (init-sound words)
     (either (bytes_eq name (codes "make")) _ _ (make-sound words)
     (either (bytes_eq name (codes "verify")) _ _ (verify-sound words)
-    (either (bytes_eq name (codes "hss")) _ _ (hss-sound words) tt))))))))
+    (either (bytes_eq name (codes "hss")) _ _ (hss-sound words)
+    (either (bytes_eq name (codes "audit")) _ _ (audit-sound words)
+    (either (bytes_eq name (codes "archive")) _ _ (alone-sound Archive words tt) tt))))))))))
 
 pub forms-sound : (words : List (List ℕ)) → IsSound (form_of words)
 unfolding form_of

@@ -6,7 +6,7 @@ use Rattle.line_forms.specs.Tokens.{number_in, number_within_in, hex_of_in, only
 use Rattle.lms_sign.specs.declared.types.LmsTypes.{LmsTypes}
 use Rattle.lms_sign.specs.Types.{is_supported}
 use Rattle.run_words.specs.declared.form.Form.{Form}
-use Rattle.run_words.specs.declared.form.Form.TheVariants.{Replay, Brief, Wallet, Operator, Watcher, InitWallet, InitOperator, InitWatcher, Make, Verify, HssInit, HssSign, HssVerify}
+use Rattle.run_words.specs.declared.form.Form.TheVariants.{Replay, Brief, Wallet, Operator, Watcher, InitWallet, InitOperator, InitWatcher, Make, Verify, HssInit, HssSign, HssVerify, Audit, Archive}
 
 -- a form that its name alone spells
 unfoldable pub alone : Form → List (List ℕ) → Option Form
@@ -108,6 +108,16 @@ hss_form (verb ∷ words) =
     else if bytes_eq verb (codes "verify") then hss_verify words
     else None
 
+-- ---- `audit`
+
+-- `<key> <receipt>`: the key is a hex of 56 bytes, and the receipt one of any length
+unfoldable pub audit_form : List (List ℕ) → Option Form
+audit_form (key ∷ receipt ∷ []) = do
+  k ← hex_of_in 56 key
+  r ← hex_in receipt
+  Some (Audit k r)
+audit_form _ = None
+
 -- ---- all forms
 
 -- what the words after a name spell
@@ -122,6 +132,8 @@ form_named name words =
     else if bytes_eq name (codes "make") then make_form words
     else if bytes_eq name (codes "verify") then verify_form words
     else if bytes_eq name (codes "hss") then hss_form words
+    else if bytes_eq name (codes "audit") then audit_form words
+    else if bytes_eq name (codes "archive") then alone Archive words
     else None
 
 -- the form that the words spell, if they spell one

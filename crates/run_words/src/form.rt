@@ -67,6 +67,14 @@ pub enum Form {
         message: Bytes,
         signature: Bytes,
     },
+    /// `audit <key> <receipt>`, each a `0x` text, the key of 56 bytes: a log and a bundle are read, and judged by the
+    /// receipt.
+    Audit {
+        key: [u8; 56],
+        receipt: Bytes,
+    },
+    /// `archive`: a log and commands are read, and an archive answers them.
+    Archive,
 }
 
 // The form that the matches of words hold.

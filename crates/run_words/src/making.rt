@@ -1,9 +1,9 @@
 ghost use Rattle.std.specs.Prelude.{◌≡◌, Some, None, Err, IfOk};
 ghost use Rattle.run_words.specs.Words.{texts};
-ghost use Rattle.run_words.specs.Forms.{wallet_of, init_wallet, identity_in, init_operator, init_watcher, make_form, verify_form, hss_init, hss_sign, hss_verify};
+ghost use Rattle.run_words.specs.Forms.{wallet_of, init_wallet, identity_in, init_operator, init_watcher, make_form, verify_form, hss_init, hss_sign, hss_verify, audit_form};
 
 use super::form::Form;
-use super::tokens::{byte_word, count_word, number_word, tag_word, types_words};
+use super::tokens::{byte_word, count_word, key_word, number_word, tag_word, types_words};
 use line_forms::LineRefusal;
 use lms_sign::LmsTypes;
 use std::alloc::Global;
@@ -152,5 +152,20 @@ pub fn hss_verify(alloc: Global, words: &[&str]) -> Result<Form, LineRefusal>
         key: byte_word(alloc, key)?,
         message: byte_word(alloc, message)?,
         signature: byte_word(alloc, signature)?,
+    })
+}
+
+/// `audit`, after its name: `<key> <receipt>`.
+#[tactic(auto, unfolding(crate::specs::Forms::audit_form))]
+pub fn audit_form(alloc: Global, words: &[&str]) -> Result<Form, LineRefusal>
+    ensures found { IfOk result (λ value. audit_form (texts words.now) ≡ Some value) }
+    ensures bad { result ≡ Err LineRefusal.BadLine → audit_form (texts words.now) ≡ None }
+{
+    let [key, receipt] = words else {
+        return Err(LineRefusal::BadLine);
+    };
+    Ok(Form::Audit {
+        key: key_word(alloc, key)?,
+        receipt: byte_word(alloc, receipt)?,
     })
 }

@@ -4,8 +4,8 @@ ghost use Rattle.run_words.specs.Forms.{form_named, alone, init_form, hss_form};
 
 use super::form::Form;
 use super::making::{
-    hss_init, hss_sign, hss_verify, init_operator, init_wallet, init_watcher, make_form,
-    verify_form,
+    audit_form, hss_init, hss_sign, hss_verify, init_operator, init_wallet, init_watcher,
+    make_form, verify_form,
 };
 use line_forms::LineRefusal;
 use plasma_base::NoMemory;
@@ -75,6 +75,8 @@ fn read_named(alloc: Global, name: &str, words: &[&str]) -> Result<Form, LineRef
         "make" => make_form(words),
         "verify" => verify_form(alloc, words),
         "hss" => hss_form(alloc, words),
+        "audit" => audit_form(alloc, words),
+        "archive" => alone(Form::Archive, words),
         _ => Err(LineRefusal::BadLine),
     }
 }

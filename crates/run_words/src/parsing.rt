@@ -9,8 +9,9 @@ use clap::{Arg, ArgMatches, Command, Error};
 use std::alloc::{AllocError, Global};
 
 // The names that forms begin with.
-const NAMES: [&str; 9] = [
-    "replay", "brief", "wallet", "operator", "watcher", "init", "make", "verify", "hss",
+const NAMES: [&str; 11] = [
+    "replay", "brief", "wallet", "operator", "watcher", "init", "make", "verify", "hss", "audit",
+    "archive",
 ];
 
 // The subcommand of a name, whose one positional takes the words that remain.

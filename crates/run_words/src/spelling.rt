@@ -1,9 +1,9 @@
 ghost use Rattle.std.specs.Prelude.{◌≡◌, is_some, map, string_bytes};
 ghost use Rattle.std.specs.Option.{option_and_then};
-ghost use Rattle.run_words.specs.Forms.{types_in, form_of, form_named, init_form, init_wallet, wallet_of, identity_in, make_form, verify_form, hss_init, hss_sign, hss_verify, hss_form};
+ghost use Rattle.run_words.specs.Forms.{types_in, form_of, form_named, init_form, init_wallet, wallet_of, identity_in, make_form, verify_form, hss_init, hss_sign, hss_verify, hss_form, audit_form};
 ghost use Rattle.lms_sign.specs.declared.types.LmsTypes.{LmsTypes};
 
-use super::tokens::{count_word, is_byte_word, is_tag_word, number_word, types_words};
+use super::tokens::{count_word, is_byte_word, is_key_word, is_tag_word, number_word, types_words};
 
 // Whether words are `<tag> <account> <seed>`.
 #[tactic(auto, unfolding(crate::specs::Forms::wallet_of))]
@@ -149,17 +149,29 @@ fn is_hss(words: &[String]) -> bool
     }
 }
 
+// Whether the words after `audit` are `<key> <receipt>`.
+#[tactic(auto, unfolding(crate::specs::Forms::audit_form))]
+fn is_audit(words: &[String]) -> bool
+    ensures { result ≡ is_some (audit_form (map string_bytes words.now)) }
+{
+    match words {
+        [key, receipt] => is_key_word(key.as_str()) && is_byte_word(receipt.as_str()),
+        _ => false,
+    }
+}
+
 // Whether the words after this name are a form of it.
 #[tactic(auto, unfolding(crate::specs::Forms::form_named, crate::specs::Forms::alone))]
 fn is_form_named(name: &str, words: &[String]) -> bool
     ensures { result ≡ is_some (form_named name.now (map string_bytes words.now)) }
 {
     match name {
-        "replay" | "brief" | "wallet" | "operator" | "watcher" => words.is_empty(),
+        "replay" | "brief" | "wallet" | "operator" | "watcher" | "archive" => words.is_empty(),
         "init" => is_init(words),
         "make" => is_make(words),
         "verify" => is_verify(words),
         "hss" => is_hss(words),
+        "audit" => is_audit(words),
         _ => false,
     }
 }

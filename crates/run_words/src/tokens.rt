@@ -15,6 +15,9 @@ const MOST_COUNT: u64 = 10_000;
 // The characters of a tag or a seed: `0x`, and two digits for each of its 32 bytes.
 const TAG_LENGTH: usize = 66;
 
+// The characters of a key: `0x`, and two digits for each of its 56 bytes.
+const KEY_LENGTH: usize = 114;
+
 /// The number that a word spells: decimal digits without a leading zero, or `0`, at most
 /// 18446744073709551615.
 pub fn number_word(word: &str) -> Option<u64>
@@ -94,6 +97,14 @@ pub fn is_tag_word(word: &str) -> bool
     word.len() == TAG_LENGTH && is_byte_word(word)
 }
 
+/// Whether a word is a key: `0x` and 112 lower-case digits.
+#[tactic(auto, using(crate::proofs::HexLaws::sized), unfolding(line_forms::specs::Tokens::hex_of_in))]
+pub fn is_key_word(word: &str) -> bool
+    ensures { result ≡ is_some (hex_of_in 56 word.now) }
+{
+    word.len() == KEY_LENGTH && is_byte_word(word)
+}
+
 /// The bytes that a word spells: `0x` and an even number of lower-case digits. It refuses `BadLine`
 /// exactly where it spells none.
 pub fn byte_word(alloc: Global, word: &str) -> Result<Bytes, LineRefusal>
@@ -117,4 +128,20 @@ pub fn tag_word(alloc: Global, word: &str) -> Result<[u8; 32], LineRefusal>
     let mut tag = [0; 32];
     tag.copy_from_slice(&bytes);
     Ok(tag)
+}
+
+/// The 56 bytes of a key that a word spells: `0x` and 112 lower-case digits. It refuses `BadLine`
+/// exactly where it spells none.
+#[tactic(auto, unfolding(line_forms::specs::Tokens::hex_of_in))]
+pub fn key_word(alloc: Global, word: &str) -> Result<[u8; 56], LineRefusal>
+    ensures found { IfOk result (λ bytes. hex_of_in 56 word.now ≡ Some bytes) }
+    ensures bad { result ≡ Err LineRefusal.BadLine → hex_of_in 56 word.now ≡ None }
+{
+    let bytes = take_hex(alloc, word.as_bytes())?;
+    if bytes.len() != 56 {
+        return Err(LineRefusal::BadLine);
+    }
+    let mut key = [0; 56];
+    key.copy_from_slice(&bytes);
+    Ok(key)
 }
