@@ -27,13 +27,18 @@ module _ {D : Type 0} (told : D → Option History) (plan : D → Option FaultPl
     pub opens_notes : Opened told plan faults (role_in signer_kinds) notes opened
     pub opens_leaves : Opened told plan faults (level_records_in (seed_of opened.records)) leaves levels
 
+  -- the leaves weren't opened behind notes that were
+  abbrev pub RefusesLeaves : NotesState D → D → JournalRefusal → D → D → Type 0
+  RefusesLeaves opened leaves why new_notes new_leaves =
+      (new_notes ≡ opened.disk)
+      × RefusesRole told plan faults (level_records_in (seed_of opened.records)) leaves why new_leaves
+
   -- the notes weren't opened, and the disk of the leaves stays; or they were, and the leaves weren't
   abbrev pub RefusesSigner : D → D → JournalRefusal → D → D → Type 0
   RefusesSigner notes leaves why new_notes new_leaves =
       (RefusesRole told plan faults (role_in signer_kinds) notes why new_notes × (new_leaves ≡ leaves))
       ⊎ ((opened : NotesState D) × Opened told plan faults (role_in signer_kinds) notes opened
-      × (new_notes ≡ opened.disk)
-      × RefusesRole told plan faults (level_records_in (seed_of opened.records)) leaves why new_leaves)
+      × RefusesLeaves opened leaves why new_notes new_leaves)
 
   -- ---- the signing
 

@@ -1,10 +1,10 @@
-ghost use Rattle.std.specs.Prelude.{◌≡◌, ◌≢◌, ◌≤◌, false, length, Some};
+ghost use Rattle.std.specs.Prelude.{◌≡◌, ◌≢◌, true, false, Some};
 ghost use Rattle.plasma_base.specs.Causes.{faults_after};
 ghost use Rattle.run_endings.specs.Statuses.{is_write_fault, FaultsBy};
 ghost use Rattle.node_runs.specs.Faults.{CountsEither};
 ghost use Rattle.hss_keys.specs.Entries.{entries_of};
 ghost use Rattle.hss_keys.specs.Levels.{notes_of};
-ghost use Rattle.hss_runs.specs.Signing.{next_leaf, signing, signs};
+ghost use Rattle.hss_runs.specs.Signing.{is_signable, next_leaf, signing, signs};
 ghost use Rattle.hss_runs.specs.Runs.{RunsSigner, Signs};
 
 use super::answer::Answer;
@@ -23,6 +23,13 @@ use std::alloc::Global;
 // The most bytes of a message.
 const MOST_BYTES: usize = 128;
 
+// Whether a message has 1 to 128 bytes.
+fn is_signable(message: &[u8]) -> bool
+    ensures { result ≡ is_signable message.now }
+{
+    1 <= message.len() && message.len() <= MOST_BYTES
+}
+
 // Signs a message by the leaf that is next, and puts the answer.
 fn sign_by<D: Disk, K: Sink>(
     alloc: Global,
@@ -35,8 +42,7 @@ fn sign_by<D: Disk, K: Sink>(
     requires secret { secret.now ≡ levels.old.seed }
     requires open { levels.old.closed ≡ false }
     requires next { next_leaf levels.old.seed (entries_of levels.old.records) ≡ Some next }
-    requires some { 1 ≤ length message.now }
-    requires most { length message.now ≤ 128 }
+    requires signable { is_signable message.now ≡ true }
     ensures signs { Signs D.told D.plan D.faults (K.taken sink.old) (K.taken sink.new) result
         (signs levels.old.seed message.now next) (notes_of levels.old) (notes_of levels.new) }
     ensures no_read_fault { result ≢ Status.ReadFault }
@@ -70,7 +76,7 @@ fn sign<D: Disk, K: Sink>(
     ensures sink_faults { K.faults sink.new ≡ faults_after (K.faults sink.old) (is_write_fault result) }
 {
     levels.is_whole();
-    if message.is_empty() || message.len() > MOST_BYTES {
+    if !is_signable(message) {
         return put_refused(alloc, sink, b"bad-length", message.len() as u64);
     }
     match next_leaf(levels, secret) {
@@ -111,7 +117,9 @@ pub fn run_signer<D: Disk, K: Sink>(
                 mut levels,
             } = signer;
             let status = sign(alloc, sink, &secret, &mut levels, message);
-            (notes.take_disk(), levels.take_disk(), status)
+            let notes = notes.take_disk();
+            let leaves = levels.take_disk();
+            (notes, leaves, status)
         }
         Err(returned) => {
             let ReturnedBoth { notes, leaves, why } = returned;
