@@ -1,4 +1,4 @@
-use Rattle.std.proofs.Common.{◌≡◌, ◌<◌, ℕ, List, [], inl, arith, sym, ◌∙◌, subst}
+use Rattle.std.proofs.Common.{◌≡◌, ◌<◌, ℕ, List, [], inl, inr, arith, sym, ◌∙◌, subst}
 use Rattle.lms_sign.specs.Types.{leaf_count}
 use Rattle.run_endings.specs.declared.status.Status.TheVariants.{Done}
 use Rattle.run_endings.specs.Outputs.{EndsAs}
@@ -7,7 +7,7 @@ use Rattle.hss_keys.specs.Entries.{entries_of}
 use Rattle.hss_keys.specs.Levels.{notes_of}
 use Rattle.hss_keys.proofs.Form.{are_counted}
 use Rattle.hss_runs.specs.Signing.{entries_added}
-use Rattle.hss_runs.proofs.Adding.{adds-settle}
+use Rattle.hss_runs.proofs.Adding.{adds-settle, fails-leave}
 use Rattle.hss_runs.proofs.Calls.{answer-is}
 use Rattle.hss_runs.proofs.Leaves.{top-within}
 use Rattle.hss_runs.proofs.run.sign_by.Goals as goal
@@ -34,3 +34,15 @@ returns-in-Ok-bind_next-clause-signs g c =
       ends = subst (λ (l : List ℕ). EndsAs (record { status = Done; answers = []; last = l }) c.put_line.result
           (k.taken c.args.sink.now) (k.taken c.put_line.new.sink) ⊥) line c.put_line.ensures.output;
     })
+
+pub returns-in-Err-DeviceFault-clause-signs : goal.returns-in-Err-DeviceFault-clause-signs
+returns-in-Err-DeviceFault-clause-signs g c =
+    let d = g.D.Disk in
+    let old = c.args.levels.now in
+    let failed = rw c.in-Err-DeviceFault.field-0-is at c.in-Err-DeviceFault.ensures.did in
+    inr (inl (record {
+      fails = failed;
+      left = fails-leave d.told d.plan d.faults (entries_added old.seed c.args.next c.args.message.now)
+          (notes_of old) (notes_of c.bind_next.new.levels) failed;
+      ends = c.put_line-in-Err-DeviceFault.ensures.output;
+    }))
