@@ -58,8 +58,8 @@ module _ {D : Type 0} (told : D → Option History) (plan : D → Option FaultPl
       at : (t : Option History) → told old.disk ≡ t → KeepsWithOrWithout old.records body image
       at None none =
           absurd (
-            let untold = failed.made.calls ∙ ap (option_map (at_fault old.records body failed.passed)) none in
-            cc (untold, is)
+          let untold = failed.made.calls ∙ ap (option_map (at_fault old.records body failed.passed)) none in
+          cc (untold, is)
           )
       at (Some before) some =
           let made = sym is ∙ failed.made.calls ∙ ap (option_map (at_fault old.records body failed.passed)) some in
@@ -82,8 +82,8 @@ module _ {D : Type 0} (told : D → Option History) (plan : D → Option FaultPl
       let kept = fails-leave entries mid new rest now is image may in (
         suc kept.0,
         subst (λ (l : List (List ℕ)). Keeps l image)
-        (ap (λ (l : List (List ℕ)). l ++ take kept.0 texts) added.records
-        ∙ append_assoc old.records (entry_text entry ∷ []) (take kept.0 texts)) kept.1,
+            (ap (λ (l : List (List ℕ)). l ++ take kept.0 texts) added.records
+            ∙ append_assoc old.records (entry_text entry ∷ []) (take kept.0 texts)) kept.1,
       )
 
   -- one entry

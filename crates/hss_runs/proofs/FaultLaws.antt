@@ -78,7 +78,8 @@ module _ {D : Type 0} (told : D → Option History) (plan : D → Option FaultPl
         → FaultsBy status Met
     signs-count signing (inl whole) =
         met-by Met (said_output signing.says) status taken after ⊥ whole.ends
-        (subst Met (sym (said-none signing.says)) (both false (adds-count told plan faults signing.adds levels last whole.adds)))
+        (subst Met (sym (said-none signing.says))
+        (both false (adds-count told plan faults signing.adds levels last whole.adds)))
     signs-count signing (inr (inl part)) =
         met-by Met (fault_output []) status taken after ⊥ part.ends
         (both true (fails-count told plan faults signing.adds levels last part.fails))

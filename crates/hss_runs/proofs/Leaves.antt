@@ -89,9 +89,9 @@ follows : (seed : HssSeed) (records : List (List ℕ)) (body : List ℕ) → lev
 follows seed records body are more = elim (cases_Bool (may_follow seed records body)) [
   | inl may ↦ may
   | inr not ↦ absurd (
-    let out = behind-append seed [] records records (body ∷ []) are ∙ step_out seed records body [] not in
-    cc (out, more)
-  )
+      let out = behind-append seed [] records records (body ∷ []) are ∙ step_out seed records body [] not in
+      cc (out, more)
+      )
 ]
 
 -- and where the last bottom key has no leaf left, it opens the next one
@@ -133,4 +133,5 @@ module _ (seed : HssSeed) (records : List (List ℕ)) (body : List ℕ) (are : l
         lt-ltb (used_in after) (leaf_count seed.bottom) (omega (arith, used, least)),
       ) refl in
       let same : opened_count after - 1 ≡ j = omega (arith, count) in
-      ap (next_leaf seed) entries-behind ∙ rw has (λ i. Some (record { top_leaf = same i; leaf = used i; opens = false }))
+      ap (next_leaf seed) entries-behind
+      ∙ rw has (λ i. Some (record { top_leaf = same i; leaf = used i; opens = false }))

@@ -62,8 +62,8 @@ module _ {D : Type 0} (told : D → Option History) (plan : D → Option FaultPl
       AddFailed told plan faults (entry_text entry) old new
       ⊎ ((now : NotesState D) × Added told plan faults (entry_text entry) old now × FailsToAdd entries now new)
 
-  -- what was done to the leaves by a signing that by its definition adds these entries, and that was stopped so, or not:
-  -- want of memory comes before the first
+  -- what was done to the leaves by a signing that by its definition adds these entries, and that was stopped so, or
+  -- not: want of memory comes before the first
   abbrev pub DidAll : List Entry → NotesState D → Option Stop → NotesState D → Type 0
   DidAll entries old None new = AddsAll entries old new
   DidAll entries old (Some DeviceFault) new = FailsToAdd entries old new
@@ -79,8 +79,8 @@ module _ {D : Type 0} (told : D → Option History) (plan : D → Option FaultPl
       pub settled : WhereTold (told new.disk) (λ now. IsSettled now (old.records ++ map entry_text signing.adds))
       pub ends : EndsAs (said_output signing.says) status taken after ⊥
 
-    -- An append of one of them met a device fault, and the run says so. Each image of a crash of the leaves now keeps the
-    -- records, and of the new ones those before that one, with it or without.
+    -- An append of one of them met a device fault, and the run says so. Each image of a crash of the leaves now keeps
+    -- the records, and of the new ones those before that one, with it or without.
     pub record SignsInPart (signing : Signing) (old new : NotesState D) : Type 0 where
       pub fails : FailsToAdd signing.adds old new
       pub left : KeepsAFront old.records (map entry_text signing.adds) (told new.disk)

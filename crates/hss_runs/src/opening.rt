@@ -86,8 +86,8 @@ fn open_behind<D: Disk>(
     }
 }
 
-/// Opens the signer of two disks: its notes, and then the leaves of the key whose seed the notes have. From then on each
-/// image that a crash may leave keeps their records. Device calls: those of `Journal::open` on each disk.
+/// Opens the signer of two disks: its notes, and then the leaves of the key whose seed the notes have. From then on
+/// each image that a crash may leave keeps their records. Device calls: those of `Journal::open` on each disk.
 ///
 /// `NotJournal` comes where the notes' image spells no records of a signer, with the place of the gate of the first one
 /// that isn't; without any record it is place 4. Else where the leaves' image isn't that of the key, as `Levels::open`

@@ -88,14 +88,16 @@ fn sign<D: Disk, K: Sink>(
 /// Signs a message by the two-level signer of two disks: opens them, the notes before the leaves, and hands both back
 /// beside the run's status.
 ///
-/// The message is bound to the next leaf of the last bottom key. Where that has no leaf left, or there is no bottom key,
-/// the next one is opened first, and its leaf 0 signs. Then `signed`, the number of the top leaf and that of the leaf are
-/// put as a line, and the signature as a hex on the next. By then each image that a crash may leave of the leaves keeps
-/// the record. Device calls: those of `Journal::open` on each disk, and of one or two appends on the leaves'.
+/// The message is bound to the next leaf of the last bottom key. Where that has no leaf left, or there is no bottom
+/// key, the next one is opened first, and its leaf 0 signs. Then `signed`, the number of the top leaf and that of the
+/// leaf are put as a line, and the signature as a hex on the next. By then each image that a crash may leave of the
+/// leaves keeps the record. Device calls: those of `Journal::open` on each disk, and of one or two appends on the
+/// leaves'.
 ///
-/// In this order: what the opening is refused for (`not a journal` with the place, `device fault`); `refused bad-length`
-/// where the message hasn't 1 to 128 bytes; `refused key-spent` where no leaf is left; `device fault` of an append. A
-/// refusal adds nothing. Want of memory says nothing, and comes before the first append unless it is the sink's.
+/// In this order: what the opening is refused for (`not a journal` with the place, `device fault`); `refused
+/// bad-length` with the length, where the message hasn't 1 to 128 bytes; `refused key-spent` with the number of bottom
+/// keys, where no leaf is left; `device fault` of an append. A refusal adds nothing. Want of memory says nothing, and
+/// comes before the first append unless it is the sink's.
 pub fn run_signer<D: Disk, K: Sink>(
     alloc: Global,
     sink: &mut K,

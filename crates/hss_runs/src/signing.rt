@@ -74,8 +74,8 @@ fn bind_opened<D: Disk>(
     }
 }
 
-// Binds a message to the leaf that is next, behind the opening of its bottom key where that isn't opened. Want of memory
-// comes before the first append alone.
+// Binds a message to the leaf that is next, behind the opening of its bottom key where that isn't opened. Want of
+// memory comes before the first append alone.
 pub fn bind_next<D: Disk>(
     levels: &mut Levels<D>,
     secret: &HssSecret,

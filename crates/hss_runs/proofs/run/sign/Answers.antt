@@ -40,7 +40,7 @@ returns-in-None-clause-signs g c =
     let spent = signing-spent old.seed old.records message (sym c.is_signable.ensures ∙ c.if-not-is_signable.false)
     (sym c.in-None.ensures)
     ∙ sym (ap (λ n. refuses (codes "key-spent") n) (c.from.ensures ∙ c.opened.ensures.value)) in
-    subst (λ (s : Signing). Signs d.told d.plan d.faults (k.taken c.args.sink.now) (k.taken c.put_refused-in-None.new.sink)
-    c.put_refused-in-None.result s (notes_of old) (notes_of old)) (sym spent)
+    subst (λ (s : Signing). Signs d.told d.plan d.faults (k.taken c.args.sink.now)
+    (k.taken c.put_refused-in-None.new.sink) c.put_refused-in-None.result s (notes_of old) (notes_of old)) (sym spent)
     (refuses-signs d.told d.plan d.faults _ _ _ (codes "key-spent") c.from.result (notes_of old)
     (c.is_whole.ensures.settled c.requires.open) c.put_refused-in-None.ensures.ends)
