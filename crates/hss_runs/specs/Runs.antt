@@ -1,12 +1,12 @@
 -- What a run of a two-level signer does, over a disk of notes and one of leaves.
-use Rattle.std.specs.Prelude.{◌≡◌, ◌⊎◌, ℕ, List, [], ◌∷◌, ◌++◌, map, Option, Some, None}
-use Rattle.crash_disk.specs.Disk.{History, FaultPlan}
+use Rattle.std.specs.Prelude.{◌≡◌, ◌⊎◌, ℕ, List, [], ◌∷◌, ◌++◌, map, take, Option, Some, None}
+use Rattle.crash_disk.specs.Disk.{History, FaultPlan, MayLeave}
 use Rattle.crash_disk.specs.Calls.{WhereTold}
 use Rattle.node_journal.specs.declared.refusal.JournalRefusal.{JournalRefusal}
 use Rattle.node_journal.specs.declared.stop.Stop.{Stop}
 use Rattle.node_journal.specs.declared.stop.Stop.TheVariants.{Closed, NoMemory as StopNoMemory, DeviceFault}
 use Rattle.node_journal.specs.Role.{role_in}
-use Rattle.node_journal.specs.Journal.{IsSettled}
+use Rattle.node_journal.specs.Journal.{Keeps, IsSettled}
 use Rattle.node_journal.specs.Notes.{NotesState, Added, AddFailed, Opened, RefusesRole}
 use Rattle.run_endings.specs.declared.status.Status.{Status}
 use Rattle.run_endings.specs.declared.status.Status.TheVariants.{NoMemory}
@@ -18,6 +18,12 @@ use Rattle.hss_keys.specs.Form.{level_records_in}
 use Rattle.hss_runs.specs.Identity.{signer_kinds, seed_of}
 use Rattle.hss_runs.specs.Signing.{Signing, signing, said_output}
 
+-- each image of a crash now keeps the records, and of some more a beginning behind them
+abbrev pub KeepsAFront : List (List ℕ) → List (List ℕ) → Option History → Type 0
+KeepsAFront records more told =
+    WhereTold told (λ now. (image : List ℕ) → MayLeave now image
+    → (count : ℕ) × Keeps (records ++ take count more) image)
+
 -- over disks that tell their history, foretell their faults and count them
 module _ {D : Type 0} (told : D → Option History) (plan : D → Option FaultPlan) (faults : D → ℕ) where
   -- ---- the opening
@@ -27,13 +33,18 @@ module _ {D : Type 0} (told : D → Option History) (plan : D → Option FaultPl
     pub opens_notes : Opened told plan faults (role_in signer_kinds) notes opened
     pub opens_leaves : Opened told plan faults (level_records_in (seed_of opened.records)) leaves levels
 
+  -- the leaves weren't opened behind notes that were
+  abbrev pub RefusesLeaves : NotesState D → D → JournalRefusal → D → D → Type 0
+  RefusesLeaves opened leaves why new_notes new_leaves =
+      (new_notes ≡ opened.disk)
+      × RefusesRole told plan faults (level_records_in (seed_of opened.records)) leaves why new_leaves
+
   -- the notes weren't opened, and the disk of the leaves stays; or they were, and the leaves weren't
   abbrev pub RefusesSigner : D → D → JournalRefusal → D → D → Type 0
   RefusesSigner notes leaves why new_notes new_leaves =
       (RefusesRole told plan faults (role_in signer_kinds) notes why new_notes × (new_leaves ≡ leaves))
       ⊎ ((opened : NotesState D) × Opened told plan faults (role_in signer_kinds) notes opened
-      × (new_notes ≡ opened.disk)
-      × RefusesRole told plan faults (level_records_in (seed_of opened.records)) leaves why new_leaves)
+      × RefusesLeaves opened leaves why new_notes new_leaves)
 
   -- ---- the signing
 
@@ -51,8 +62,8 @@ module _ {D : Type 0} (told : D → Option History) (plan : D → Option FaultPl
       AddFailed told plan faults (entry_text entry) old new
       ⊎ ((now : NotesState D) × Added told plan faults (entry_text entry) old now × FailsToAdd entries now new)
 
-  -- what was done to the leaves by a signing that by its definition adds these entries, and that was stopped so, or not:
-  -- want of memory comes before the first
+  -- what was done to the leaves by a signing that by its definition adds these entries, and that was stopped so, or
+  -- not: want of memory comes before the first
   abbrev pub DidAll : List Entry → NotesState D → Option Stop → NotesState D → Type 0
   DidAll entries old None new = AddsAll entries old new
   DidAll entries old (Some DeviceFault) new = FailsToAdd entries old new
@@ -68,9 +79,11 @@ module _ {D : Type 0} (told : D → Option History) (plan : D → Option FaultPl
       pub settled : WhereTold (told new.disk) (λ now. IsSettled now (old.records ++ map entry_text signing.adds))
       pub ends : EndsAs (said_output signing.says) status taken after ⊥
 
-    -- an append of one of them met a device fault, and the run says so
+    -- An append of one of them met a device fault, and the run says so. Each image of a crash of the leaves now keeps
+    -- the records, and of the new ones those before that one, with it or without.
     pub record SignsInPart (signing : Signing) (old new : NotesState D) : Type 0 where
       pub fails : FailsToAdd signing.adds old new
+      pub left : KeepsAFront old.records (map entry_text signing.adds) (told new.disk)
       pub ends : EndsAs (fault_output []) status taken after ⊥
 
     -- memory ran out before the first append, and nothing was done or written

@@ -1,4 +1,5 @@
-ghost use Rattle.std.specs.Prelude.{◌≡◌, ◌<◌, ◌≤◌, ◌+◌, ◌*◌, ◌++◌, codes, vec_len, vec_capacity, IfOk};
+ghost use Rattle.std.specs.Prelude.{◌≡◌, ◌<◌, ◌≤◌, ◌+◌, ◌*◌, [], ◌∷◌, ◌++◌, codes, length, vec_len, vec_capacity, IfOk};
+ghost use Rattle.hex.specs.Hex.{encode_lower};
 ghost use Rattle.lms_sign.specs.Types.{leaf_count};
 ghost use Rattle.hss_keys.specs.Keys.{bottom_secret, hss_signature_length};
 ghost use Rattle.hss_keys.specs.Levels.{bound_of};
@@ -36,6 +37,23 @@ fn first_line(alloc: Global, next: NextLeaf) -> Result<Vec<u8>, NoMemory>
     Ok(text)
 }
 
+// Writes the digits of bytes.
+fn put_digits(bytes: &[u8], digits: &mut [u8])
+    requires { length digits.old ≡ 2 * length bytes.now }
+    ensures { digits.new ≡ encode_lower bytes.now }
+{
+    hex::encode_to_slice(bytes, digits).unwrap();
+}
+
+// Puts digits and a line feed at the end of a text that has room for them.
+fn end_line(text: &mut Vec<u8>, digits: &[u8])
+    requires { vec_len text.old + length digits.now + 1 ≤ vec_capacity text.old }
+    ensures { text.new.items ≡ text.old.items ++ digits.now ++ 10 ∷ [] }
+{
+    text.extend_from_slice(digits).unwrap();
+    text.push(b'\n').unwrap();
+}
+
 impl Answer {
     /// Takes the memory for the answer of a leaf, and makes its bottom key.
     pub fn prepare(alloc: Global, secret: &HssSecret, next: NextLeaf) -> Result<Answer, NoMemory>
@@ -63,7 +81,6 @@ impl Answer {
 
     /// The text of the answer, with the signature of what a leaf is bound to. The secret and the leaf have to be those
     /// of `prepare`. It takes no memory.
-    #[tactic(auto, unfolding(crate::specs::Signing::signed_text))]
     pub fn sign(self, secret: &HssSecret, bound: HssBound) -> Vec<u8>
         requires bound { bound ≡ bound_of secret.now bound.top_leaf bound.leaf bound.message }
         requires bottom { self.bottom ≡ bottom_secret secret.now bound.top_leaf }
@@ -78,9 +95,8 @@ impl Answer {
             mut signature,
         } = self;
         bound.sign(secret, &bottom, &mut signature);
-        hex::encode_to_slice(signature.as_slice(), &mut digits).unwrap();
-        text.extend_from_slice(&digits).unwrap();
-        text.push(b'\n').unwrap();
+        put_digits(&signature, &mut digits);
+        end_line(&mut text, &digits);
         text
     }
 }

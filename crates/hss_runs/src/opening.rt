@@ -1,10 +1,10 @@
 ghost use Rattle.std.specs.Prelude.{◌≡◌, true, IfOk, IfErr};
 ghost use Rattle.node_journal.specs.Role.{are_of};
-ghost use Rattle.node_journal.specs.Notes.{Opened, RefusesRole};
+ghost use Rattle.node_journal.specs.Notes.{Opened};
 ghost use Rattle.hss_keys.specs.Form.{level_records_in};
 ghost use Rattle.hss_keys.specs.Levels.{notes_of};
 ghost use Rattle.hss_runs.specs.Identity.{seed_of, signer_kinds};
-ghost use Rattle.hss_runs.specs.Runs.{OpensSigner, RefusesSigner};
+ghost use Rattle.hss_runs.specs.Runs.{OpensSigner, RefusesLeaves, RefusesSigner};
 
 use super::identity::{secret_of, seed_in};
 use super::role::SignerRole;
@@ -55,9 +55,8 @@ fn open_behind<D: Disk>(
     ensures levels { IfOk result (λ signer. signer.levels.seed ≡ seed_of notes.notes.records) }
     ensures opened { IfOk result (λ signer. Opened D.told D.plan D.faults
         (level_records_in (seed_of notes.notes.records)) leaves (notes_of signer.levels)) }
-    ensures notes_disk { IfErr result (λ returned. returned.notes ≡ notes.notes.disk) }
-    ensures refused { IfErr result (λ returned. RefusesRole D.told D.plan D.faults
-        (level_records_in (seed_of notes.notes.records)) leaves returned.why returned.leaves) }
+    ensures refused { IfErr result (λ returned. RefusesLeaves D.told D.plan D.faults
+        notes.notes leaves returned.why returned.notes returned.leaves) }
 {
     notes.is_whole();
     let secret = match secret_in(alloc, notes.records()) {
@@ -87,8 +86,8 @@ fn open_behind<D: Disk>(
     }
 }
 
-/// Opens the signer of two disks: its notes, and then the leaves of the key whose seed the notes have. From then on each
-/// image that a crash may leave keeps their records. Device calls: those of `Journal::open` on each disk.
+/// Opens the signer of two disks: its notes, and then the leaves of the key whose seed the notes have. From then on
+/// each image that a crash may leave keeps their records. Device calls: those of `Journal::open` on each disk.
 ///
 /// `NotJournal` comes where the notes' image spells no records of a signer, with the place of the gate of the first one
 /// that isn't; without any record it is place 4. Else where the leaves' image isn't that of the key, as `Levels::open`

@@ -1,10 +1,10 @@
-ghost use Rattle.std.specs.Prelude.{◌≡◌, ◌≢◌, ◌≤◌, false, length, Some};
+ghost use Rattle.std.specs.Prelude.{◌≡◌, ◌≢◌, true, false, Some};
 ghost use Rattle.plasma_base.specs.Causes.{faults_after};
 ghost use Rattle.run_endings.specs.Statuses.{is_write_fault, FaultsBy};
 ghost use Rattle.node_runs.specs.Faults.{CountsEither};
 ghost use Rattle.hss_keys.specs.Entries.{entries_of};
 ghost use Rattle.hss_keys.specs.Levels.{notes_of};
-ghost use Rattle.hss_runs.specs.Signing.{next_leaf, signing, signs};
+ghost use Rattle.hss_runs.specs.Signing.{is_signable, next_leaf, signing, signs};
 ghost use Rattle.hss_runs.specs.Runs.{RunsSigner, Signs};
 
 use super::answer::Answer;
@@ -23,6 +23,13 @@ use std::alloc::Global;
 // The most bytes of a message.
 const MOST_BYTES: usize = 128;
 
+// Whether a message has 1 to 128 bytes.
+fn is_signable(message: &[u8]) -> bool
+    ensures { result ≡ is_signable message.now }
+{
+    1 <= message.len() && message.len() <= MOST_BYTES
+}
+
 // Signs a message by the leaf that is next, and puts the answer.
 fn sign_by<D: Disk, K: Sink>(
     alloc: Global,
@@ -35,8 +42,7 @@ fn sign_by<D: Disk, K: Sink>(
     requires secret { secret.now ≡ levels.old.seed }
     requires open { levels.old.closed ≡ false }
     requires next { next_leaf levels.old.seed (entries_of levels.old.records) ≡ Some next }
-    requires some { 1 ≤ length message.now }
-    requires most { length message.now ≤ 128 }
+    requires signable { is_signable message.now ≡ true }
     ensures signs { Signs D.told D.plan D.faults (K.taken sink.old) (K.taken sink.new) result
         (signs levels.old.seed message.now next) (notes_of levels.old) (notes_of levels.new) }
     ensures no_read_fault { result ≢ Status.ReadFault }
@@ -70,7 +76,7 @@ fn sign<D: Disk, K: Sink>(
     ensures sink_faults { K.faults sink.new ≡ faults_after (K.faults sink.old) (is_write_fault result) }
 {
     levels.is_whole();
-    if message.is_empty() || message.len() > MOST_BYTES {
+    if !is_signable(message) {
         return put_refused(alloc, sink, b"bad-length", message.len() as u64);
     }
     match next_leaf(levels, secret) {
@@ -82,14 +88,16 @@ fn sign<D: Disk, K: Sink>(
 /// Signs a message by the two-level signer of two disks: opens them, the notes before the leaves, and hands both back
 /// beside the run's status.
 ///
-/// The message is bound to the next leaf of the last bottom key. Where that has no leaf left, or there is no bottom key,
-/// the next one is opened first, and its leaf 0 signs. Then `signed`, the number of the top leaf and that of the leaf are
-/// put as a line, and the signature as a hex on the next. By then each image that a crash may leave of the leaves keeps
-/// the record. Device calls: those of `Journal::open` on each disk, and of one or two appends on the leaves'.
+/// The message is bound to the next leaf of the last bottom key. Where that has no leaf left, or there is no bottom
+/// key, the next one is opened first, and its leaf 0 signs. Then `signed`, the number of the top leaf and that of the
+/// leaf are put as a line, and the signature as a hex on the next. By then each image that a crash may leave of the
+/// leaves keeps the record. Device calls: those of `Journal::open` on each disk, and of one or two appends on the
+/// leaves'.
 ///
-/// In this order: what the opening is refused for (`not a journal` with the place, `device fault`); `refused bad-length`
-/// where the message hasn't 1 to 128 bytes; `refused key-spent` where no leaf is left; `device fault` of an append. A
-/// refusal adds nothing. Want of memory says nothing, and comes before the first append unless it is the sink's.
+/// In this order: what the opening is refused for (`not a journal` with the place, `device fault`); `refused
+/// bad-length` with the length, where the message hasn't 1 to 128 bytes; `refused key-spent` with the number of bottom
+/// keys, where no leaf is left; `device fault` of an append. A refusal adds nothing. Want of memory says nothing, and
+/// comes before the first append unless it is the sink's.
 pub fn run_signer<D: Disk, K: Sink>(
     alloc: Global,
     sink: &mut K,
@@ -111,7 +119,9 @@ pub fn run_signer<D: Disk, K: Sink>(
                 mut levels,
             } = signer;
             let status = sign(alloc, sink, &secret, &mut levels, message);
-            (notes.take_disk(), levels.take_disk(), status)
+            let notes = notes.take_disk();
+            let leaves = levels.take_disk();
+            (notes, leaves, status)
         }
         Err(returned) => {
             let ReturnedBoth { notes, leaves, why } = returned;

@@ -1,11 +1,11 @@
-ghost use Rattle.std.specs.Prelude.{◌≡◌, ◌-◌, ◌<◌, ◌≤◌, true, false, length, Some, IfOk, IfErr, OnOk};
-ghost use Rattle.lms_sign.specs.Types.{leaf_count};
+ghost use Rattle.std.specs.Prelude.{◌≡◌, true, false, Some, IfOk, IfErr, OnOk};
 ghost use Rattle.node_journal.specs.Notes.{Did, stopped_by};
+ghost use Rattle.hss_keys.specs.declared.entry.Entry.TheVariants.{Opens, Binds};
 ghost use Rattle.hss_keys.specs.Keys.{bottom_key};
-ghost use Rattle.hss_keys.specs.Entries.{entries_of, entry_text, opened_count, used_in, Opens, Binds};
-ghost use Rattle.hss_keys.specs.Levels.{bound_of, has_leaf, notes_of};
+ghost use Rattle.hss_keys.specs.Entries.{entries_of, entry_text};
+ghost use Rattle.hss_keys.specs.Levels.{bound_of, notes_of};
 ghost use Rattle.hss_runs.specs.Inside.{stop_in};
-ghost use Rattle.hss_runs.specs.Signing.{next_leaf, entries_added};
+ghost use Rattle.hss_runs.specs.Signing.{is_signable, next_leaf, entries_added};
 ghost use Rattle.hss_runs.specs.Runs.{DidAll};
 
 use super::next::NextLeaf;
@@ -13,7 +13,7 @@ use crash_disk::Disk;
 use hss_keys::{HssBound, HssSecret, LevelRefusal, Levels};
 use node_journal::Stop;
 
-// What a refusal of a call that wasn't refused by its definition stops it by.
+// What stopped a call that was refused for another cause than those of its definition.
 fn stop_of(why: LevelRefusal) -> Stop
     ensures { result ≡ stop_in why }
 {
@@ -24,43 +24,58 @@ fn stop_of(why: LevelRefusal) -> Stop
     }
 }
 
-// Opens the next bottom key, where the last one has no leaf left and a top leaf is.
-fn open_next<D: Disk>(levels: &mut Levels<D>, secret: &HssSecret) -> Result<(), Stop>
+// Opens the bottom key of the leaf that is next, which then is the last one.
+fn open_next<D: Disk>(
+    levels: &mut Levels<D>,
+    secret: &HssSecret,
+    next: NextLeaf,
+) -> Result<(), Stop>
     requires secret { secret.now ≡ levels.old.seed }
-    requires spent { has_leaf levels.old.seed (entries_of levels.old.records) ≡ false }
-    requires left { opened_count (entries_of levels.old.records) < leaf_count levels.old.seed.top }
-    ensures did { let j = opened_count (entries_of levels.old.records) in
-        Did D.told D.plan D.faults (Some (entry_text (Opens j (bottom_key levels.old.seed j))))
+    requires next { next_leaf levels.old.seed (entries_of levels.old.records) ≡ Some next }
+    requires opens { next.opens ≡ true }
+    ensures did { Did D.told D.plan D.faults
+        (Some (entry_text (Opens next.top_leaf (bottom_key levels.old.seed next.top_leaf))))
         (notes_of levels.old) (stopped_by result) (notes_of levels.new) }
     ensures seed { levels.new.seed ≡ levels.old.seed }
+    ensures next { OnOk result (next_leaf levels.new.seed (entries_of levels.new.records)
+        ≡ Some (record { top_leaf = next.top_leaf; leaf = next.leaf; opens = false })) }
 {
+    let _ = next;
+    levels.is_whole();
     match levels.advance(secret) {
-        Ok(_) => Ok(()),
+        Ok(_) => {
+            levels.is_whole();
+            Ok(())
+        }
         Err(why) => Err(stop_of(why)),
     }
 }
 
-// Binds the next leaf of the last bottom key, which has one left.
-fn bind_last<D: Disk>(levels: &mut Levels<D>, message: &[u8]) -> Result<HssBound, Stop>
-    requires some { 1 ≤ length message.now }
-    requires most { length message.now ≤ 128 }
+// Binds a message to the leaf that is next, whose bottom key is the last one.
+fn bind_opened<D: Disk>(
+    levels: &mut Levels<D>,
+    next: NextLeaf,
+    message: &[u8],
+) -> Result<HssBound, Stop>
+    requires signable { is_signable message.now ≡ true }
     requires open { levels.old.closed ≡ false }
-    requires left { has_leaf levels.old.seed (entries_of levels.old.records) ≡ true }
-    ensures bound { IfOk result (λ bound. bound ≡ bound_of levels.old.seed
-        (opened_count (entries_of levels.old.records) - 1) (used_in (entries_of levels.old.records)) message.now) }
-    ensures did { let entries = entries_of levels.old.records in
-        Did D.told D.plan D.faults (Some (entry_text (Binds (opened_count entries - 1) (used_in entries) message.now)))
+    requires next { next_leaf levels.old.seed (entries_of levels.old.records) ≡ Some next }
+    requires opened { next.opens ≡ false }
+    ensures bound { IfOk result
+        (λ bound. bound ≡ bound_of levels.old.seed next.top_leaf next.leaf message.now) }
+    ensures did { Did D.told D.plan D.faults (Some (entry_text (Binds next.top_leaf next.leaf message.now)))
         (notes_of levels.old) (stopped_by result) (notes_of levels.new) }
     ensures fault { IfErr result (λ stop. stop ≡ Stop.DeviceFault) }
 {
+    let _ = next;
     match levels.bind(message) {
         Ok(bound) => Ok(bound),
         Err(why) => Err(stop_of(why)),
     }
 }
 
-// Binds a message to the next leaf, behind the opening of its bottom key where that isn't opened yet. Memory can run
-// out before the first append alone.
+// Binds a message to the leaf that is next, behind the opening of its bottom key where that isn't opened. Want of
+// memory comes before the first append alone.
 pub fn bind_next<D: Disk>(
     levels: &mut Levels<D>,
     secret: &HssSecret,
@@ -70,16 +85,19 @@ pub fn bind_next<D: Disk>(
     requires secret { secret.now ≡ levels.old.seed }
     requires open { levels.old.closed ≡ false }
     requires next { next_leaf levels.old.seed (entries_of levels.old.records) ≡ Some next }
-    requires some { 1 ≤ length message.now }
-    requires most { length message.now ≤ 128 }
+    requires signable { is_signable message.now ≡ true }
     ensures bound { IfOk result
         (λ bound. bound ≡ bound_of levels.old.seed next.top_leaf next.leaf message.now) }
     ensures did { DidAll D.told D.plan D.faults (entries_added levels.old.seed next message.now)
         (notes_of levels.old) (stopped_by result) (notes_of levels.new) }
 {
-    if !next.opens {
-        return bind_last(levels, message);
+    if next.opens {
+        open_next(levels, secret, next)?;
+        let opened = NextLeaf {
+            opens: false,
+            ..next
+        };
+        return bind_opened(levels, opened, message);
     }
-    open_next(levels, secret)?;
-    bind_last(levels, message)
+    bind_opened(levels, next, message)
 }

@@ -1,0 +1,6 @@
+mod Identities
+mod Openings
+mod Leaves
+mod Adding
+mod Calls
+pub mod FaultLaws

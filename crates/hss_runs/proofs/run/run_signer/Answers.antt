@@ -1,0 +1,20 @@
+use Rattle.std.proofs.Common.{inl}
+use Rattle.hss_keys.specs.Levels.{notes_of}
+use Rattle.hss_runs.proofs.FaultLaws.{signer-counts}
+use Rattle.hss_runs.proofs.run.run_signer.Goals as goal
+
+pub returns-in-Ok-clause-runs : goal.returns-in-Ok-clause-runs
+returns-in-Ok-clause-runs g c = inl (record {
+  opened = c.in-Ok.signer.notes.notes;
+  levels = notes_of c.in-Ok.signer.levels;
+  last = notes_of c.sign-status.new.levels;
+  opens = c.in-Ok.ensures.opened;
+  notes_are = c.take_disk-notes.ensures;
+  leaves_are = c.take_disk-leaves.ensures;
+  signs = rw c.in-Ok.ensures.levels at c.sign-status.ensures.signs;
+})
+
+pub returns-in-Ok-clause-disk_faults : goal.returns-in-Ok-clause-disk_faults
+returns-in-Ok-clause-disk_faults g c =
+    signer-counts g.D.Disk.told g.D.Disk.plan g.D.Disk.faults _ _ _ _ _ _ _ c.args.message.now
+    (returns-in-Ok-clause-runs g c)

@@ -1,0 +1,48 @@
+use Rattle.std.proofs.Common.{◌≡◌, ◌<◌, ℕ, List, [], inl, inr, arith, sym, ◌∙◌, subst}
+use Rattle.lms_sign.specs.Types.{leaf_count}
+use Rattle.run_endings.specs.declared.status.Status.TheVariants.{Done}
+use Rattle.run_endings.specs.Outputs.{EndsAs}
+use Rattle.hss_keys.specs.declared.seed.HssSeed.{HssSeed}
+use Rattle.hss_keys.specs.Entries.{entries_of}
+use Rattle.hss_keys.specs.Levels.{notes_of}
+use Rattle.hss_keys.proofs.Form.{are_counted}
+use Rattle.hss_runs.specs.Signing.{entries_added}
+use Rattle.hss_runs.proofs.Adding.{adds-settle, fails-leave}
+use Rattle.hss_runs.proofs.Calls.{answer-is}
+use Rattle.hss_runs.proofs.Leaves.{top-within}
+use Rattle.hss_runs.proofs.run.sign_by.Goals as goal
+
+pub prepare-requires : goal.prepare-requires
+prepare-requires g c =
+    let old = c.args.levels.now in
+    let most = (are_counted old.seed old.records c.is_whole.ensures.are).opened in
+    subst (λ (s : HssSeed). c.args.next.top_leaf < leaf_count s.top) (sym c.requires.secret)
+    (top-within old.seed (entries_of old.records) c.args.next c.requires.next (omega (arith, most)))
+
+pub returns-in-Ok-bind_next-clause-signs : goal.returns-in-Ok-bind_next-clause-signs
+returns-in-Ok-bind_next-clause-signs g c =
+    let d = g.D.Disk in
+    let k = g.K.Sink in
+    let old = c.args.levels.now in
+    let new = c.bind_next.new.levels in
+    let line = answer-is old.seed c.args.secret.now c.in-Ok-bind_next.bound c.args.next c.args.message.now
+    c.deref.result.now c.requires.secret c.in-Ok-bind_next.ensures.bound (c.deref.ensures.value ∙ c.sign.ensures) in
+    inl (record {
+      adds = c.in-Ok-bind_next.ensures.did;
+      settled = adds-settle d.told d.plan d.faults (entries_added old.seed c.args.next c.args.message.now)
+          (notes_of old) (notes_of new) c.in-Ok-bind_next.ensures.did (c.is_whole.ensures.settled c.requires.open);
+      ends = subst (λ (l : List ℕ). EndsAs (record { status = Done; answers = []; last = l }) c.put_line.result
+          (k.taken c.args.sink.now) (k.taken c.put_line.new.sink) ⊥) line c.put_line.ensures.output;
+    })
+
+pub returns-in-Err-DeviceFault-clause-signs : goal.returns-in-Err-DeviceFault-clause-signs
+returns-in-Err-DeviceFault-clause-signs g c =
+    let d = g.D.Disk in
+    let old = c.args.levels.now in
+    let failed = rw c.in-Err-DeviceFault.field-0-is at c.in-Err-DeviceFault.ensures.did in
+    inr (inl (record {
+      fails = failed;
+      left = fails-leave d.told d.plan d.faults (entries_added old.seed c.args.next c.args.message.now)
+          (notes_of old) (notes_of c.bind_next.new.levels) failed;
+      ends = c.put_line-in-Err-DeviceFault.ensures.output;
+    }))
