@@ -12,8 +12,8 @@ with_record records (Some body) = records ++ body ∷ []
 
 -- a wallet's, with this leaf's record, or else with this note, or with neither
 abbrev pub with_either_record : WalletRecords → Option (List ℕ) → Option (List ℕ) → WalletRecords
-with_either_record wallet None note = record wallet { notes = with_record wallet.notes note }
-with_either_record wallet (Some leaf) note = record wallet { leaves = with_record wallet.leaves (Some leaf) }
+with_either_record wallet None added = record wallet { notes = with_record wallet.notes added }
+with_either_record wallet (Some leaf) added = record wallet { leaves = with_record wallet.leaves (Some leaf) }
 
 -- a node over notes, and a wallet, with what a command of this outcome adds
 abbrev pub records_do : NodeAt (List (List ℕ)) → Outcome → Result (NodeAt (List (List ℕ)) × List ℕ) (List ℕ)
