@@ -1,0 +1,5 @@
+mod GrowLaws
+pub mod RunLaws
+mod SessionLaws
+mod GrammarLaws
+mod HoldLaws

@@ -1,5 +1,5 @@
 -- The lines of an archive behind the log: the one spelling of each, and the line that bytes spell.
-use Rattle.std.specs.Prelude.{ℕ, if◌then◌else◌, List, ◌++◌, drop, map, codes, Option, option_map}
+use Rattle.std.specs.Prelude.{ℕ, nat_eq, if◌then◌else◌, List, ◌++◌, drop, map, codes, Option, option_map}
 use Rattle.std.specs.List.{starts_with}
 use Rattle.line_forms.specs.Forms.{Form, named, Table, Parts, of, ends, ◌▸◌, AreParts, text_of, value_in}
 use Rattle.line_forms.specs.Tokens.{number, hex}

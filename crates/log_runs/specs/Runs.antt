@@ -1,5 +1,6 @@
 -- What a run over a log does to its source and its sink, and how it ends.
-use Rattle.std.specs.Prelude.{ℕ, Bool, List, [], Option}
+use Rattle.std.specs.Prelude.{ℕ, Bool, List, [], Option, Result, Ok, Err}
+use Rattle.plasma_outside.specs.declared.sink.SinkRefusal.{SinkRefusal}
 use Rattle.streamed_lines.specs.declared.ending.Ending.{Ending}
 use Rattle.streamed_lines.specs.declared.ending.Ending.TheVariants.{Complete, BadLine, ReadFault, TooLong, Ended}
 use Rattle.streamed_lines.specs.Streams.{Streamed, stream_of}
@@ -7,6 +8,7 @@ use Rattle.streamed_lines.specs.Bounds.{TakesFew}
 use Rattle.streamed_lines.specs.Outside.{Gave}
 use Rattle.run_endings.specs.declared.status.Status.{Status}
 use Rattle.run_endings.specs.declared.status.Status.TheVariants.{Done, Refused, BadLine as BadLineStatus, ReadFault as ReadFaultStatus, TooLong as TooLongStatus}
+use Rattle.run_endings.specs.Statuses.{status_of_refusal}
 use Rattle.run_endings.specs.Outputs.{Output, EndsAs}
 use Rattle.run_endings.specs.Texts.{bad_line_text, too_long_text, refused_text, read_fault_text}
 use Rattle.log_runs.specs.Following.{Following, LogRun, begun, log_rules}
@@ -55,3 +57,8 @@ pub record RunsLog {A : Type 0} (following : Following A) (left later taken afte
   pub gave : Gave left later bytes ended
   pub ends : EndsAs (output_of (lines_of following bytes ended)) status taken after failed
   pub few : TakesFewBy status bytes (lines_of following bytes ended).ending
+
+-- the status of a run whose lines were answered up to this, or that was stopped
+abbrev pub status_of_run : Result (Ending (List ℕ)) SinkRefusal → Status
+status_of_run (Ok ending) = status_of ending
+status_of_run (Err refusal) = status_of_refusal refusal

@@ -1,9 +1,8 @@
 ghost use Rattle.std.specs.Prelude.{◌≡◌, ◌≢◌, ◌++◌, ◌<◌, ◌^◌, Ok, Err, length, IfErr, OnOk};
 ghost use Rattle.std.specs.List.{All};
 ghost use Rattle.coin_history.specs.Bundles.{AreRising};
-ghost use Rattle.proof_archive.specs.Laws.{Holding};
 ghost use Rattle.log_runs.specs.Archiving.{broken_text, bundled_text, answer_to, held_behind};
-ghost use Rattle.log_runs.specs.Holds.{Holds, IsTold};
+ghost use Rattle.log_runs.specs.Holds.{holding_of, Holds, IsTold};
 
 use super::archive_line::ArchiveAsk;
 use super::phrases::{push_told, push_words};
@@ -46,13 +45,12 @@ pub fn answer_ask<H: Hash32>(
     ask: ArchiveAsk,
     out: &mut Vec<u8>,
 ) -> Result<(), ArchiveRefusal>
-    ensures told { (held : Holding) → Holds archive.old.hash archive.old held
-        → OnOk result (IsTold (answer_to (H.digest_of archive.old.hash) held ask) out.old.items out.new.items) }
-    ensures holds { (held : Holding) → Holds archive.old.hash archive.old held
-        → OnOk result (Holds archive.old.hash archive.new (held_behind (H.digest_of archive.old.hash) held ask)) }
-    ensures refused { (held : Holding) → Holds archive.old.hash archive.old held
-        → IfErr result (λ why. why ≢ ArchiveRefusal.NoMemory
-        → answer_to (H.digest_of archive.old.hash) held ask ≡ Err why) }
+    ensures told { OnOk result (IsTold (answer_to (H.digest_of archive.old.hash) (holding_of archive.old) ask)
+        out.old.items out.new.items) }
+    ensures holds { OnOk result (Holds archive.old.hash archive.new
+        (held_behind (H.digest_of archive.old.hash) (holding_of archive.old) ask)) }
+    ensures refused { IfErr result (λ why. why ≢ ArchiveRefusal.NoMemory
+        → answer_to (H.digest_of archive.old.hash) (holding_of archive.old) ask ≡ Err why) }
 {
     match ask {
         ArchiveAsk::Put {

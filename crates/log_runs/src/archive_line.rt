@@ -11,7 +11,7 @@ use std::alloc::Global;
 use streamed_lines::{Halt, Stop};
 
 /// A line of an archive's run behind the log.
-#[derive(Debug, Drop)]
+#[derive(Drop)]
 pub enum ArchiveLine {
     /// `event ` and a line of a log: the call joins the log.
     Event { call: RootCall },
@@ -20,7 +20,7 @@ pub enum ArchiveLine {
 }
 
 /// What an archive is asked.
-#[derive(Debug, Drop)]
+#[derive(Drop)]
 pub enum ArchiveAsk {
     /// `put <coin> <block> <hex>`: to keep the block's opening at the coin.
     Put { coin: u64, block: u64, opening: Bytes },
@@ -33,7 +33,7 @@ pub enum ArchiveAsk {
 }
 
 /// The first word of what an archive is asked.
-#[derive(Debug, Clone, Copy, PartialEq, Eq)]
+#[derive(Clone, Copy)]
 pub enum ArchiveAskName {
     Put,
     Tip,

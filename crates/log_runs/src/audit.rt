@@ -45,8 +45,9 @@ fn push_convicted(out: &mut Vec<u8>, conviction: &Conviction) -> Result<(), NoMe
 }
 
 impl<H: Hash32 + Drop> Follower for Auditor<H> {
+    ghost use Rattle.std.specs.Prelude.{◌≡◌};
     ghost use Rattle.log_runs.specs.Auditing.{AuditAt, auditing};
-    ghost use Rattle.log_runs.specs.Audits.{IsAudit};
+    ghost use Rattle.log_runs.specs.Audits.{audit_at};
 
     type Kept = AuditLog;
 
@@ -54,7 +55,7 @@ impl<H: Hash32 + Drop> Follower for Auditor<H> {
 
     ghost following = { λ auditor. auditing (H.digest_of auditor.h) auditor.key auditor.receipt };
 
-    ghost is_at = { λ _ kept at. IsAudit kept at };
+    ghost is_at = { λ _ kept at. audit_at kept ≡ at };
 
     fn begin(&self, _alloc: Global, log: RootLog) -> AuditLog {
         AuditLog {

@@ -1,4 +1,4 @@
-ghost use Rattle.std.specs.Prelude.{◌≡◌, ◌≢◌, ◌++◌, OnOk, IfOk};
+ghost use Rattle.std.specs.Prelude.{◌≡◌, ◌++◌, ℕ, List, OnOk, IfOk};
 ghost use Rattle.log_runs.specs.Archiving.{archive_cause};
 ghost use Rattle.log_runs.specs.Auditing.{audit_cause};
 ghost use Rattle.log_runs.specs.Kept.{IsRefused};
@@ -44,15 +44,31 @@ fn push_audit_cause(out: &mut Vec<u8>, why: AuditRefusal) -> Result<(), NoMemory
     }
 }
 
-// The refusal for a cause that was put.
-fn refused(put: Result<(), NoMemory>, cause: Vec<u8>) -> Halt<Bytes>
-    ensures { IsRefused cause.items result }
+// The text of what an archive refuses for.
+fn archive_cause(alloc: Global, why: ArchiveRefusal) -> Result<Bytes, NoMemory>
+    ensures { IfOk result (λ cause. cause ≡ archive_cause why) }
 {
-    match put {
-        Ok(()) => Halt::Stops {
-            stop: Stop::Ends {
-                cause: Bytes::from_vec(cause),
-            },
+    let mut cause = Vec::new(alloc);
+    push_archive_cause(&mut cause, why)?;
+    Ok(Bytes::from_vec(cause))
+}
+
+// The text of what an auditor refuses for.
+fn audit_cause(alloc: Global, why: AuditRefusal) -> Result<Bytes, NoMemory>
+    ensures { IfOk result (λ cause. cause ≡ audit_cause why) }
+{
+    let mut cause = Vec::new(alloc);
+    push_audit_cause(&mut cause, why)?;
+    Ok(Bytes::from_vec(cause))
+}
+
+// The refusal for a cause.
+fn refused(cause: Result<Bytes, NoMemory>) -> Halt<Bytes>
+    ensures { (text : List ℕ) → IfOk cause (λ own. own ≡ text) → IsRefused text result }
+{
+    match cause {
+        Ok(cause) => Halt::Stops {
+            stop: Stop::Ends { cause },
         },
         Err(NoMemory) => Halt::NoMemory,
     }
@@ -63,12 +79,10 @@ pub fn archive_halt(alloc: Global, why: ArchiveRefusal) -> Halt<Bytes>
     ensures cause { IsRefused (archive_cause why) result }
     ensures memory { why ≡ ArchiveRefusal.NoMemory → result ≡ Halt.NoMemory }
 {
-    if let ArchiveRefusal::NoMemory = why {
-        return Halt::NoMemory;
+    match why {
+        ArchiveRefusal::NoMemory => Halt::NoMemory,
+        why => refused(archive_cause(alloc, why)),
     }
-    let mut cause = Vec::new(alloc);
-    let put = push_archive_cause(&mut cause, why);
-    refused(put, cause)
 }
 
 /// The refusal of an auditor.
@@ -76,10 +90,8 @@ pub fn audit_halt(alloc: Global, why: AuditRefusal) -> Halt<Bytes>
     ensures cause { IsRefused (audit_cause why) result }
     ensures memory { why ≡ AuditRefusal.NoMemory → result ≡ Halt.NoMemory }
 {
-    if let AuditRefusal::NoMemory = why {
-        return Halt::NoMemory;
+    match why {
+        AuditRefusal::NoMemory => Halt::NoMemory,
+        why => refused(audit_cause(alloc, why)),
     }
-    let mut cause = Vec::new(alloc);
-    let put = push_audit_cause(&mut cause, why);
-    refused(put, cause)
 }

@@ -1,4 +1,5 @@
-ghost use Rattle.log_runs.specs.Following.{begun, log_rules};
+ghost use Rattle.std.specs.Prelude.{◌≡◌};
+ghost use Rattle.log_runs.specs.Following.{begun};
 
 use super::follower::Follower;
 use super::reading::{read_call, read_first};
@@ -22,7 +23,7 @@ impl<F: Follower> LogSession<F> {
     pub fn new(alloc: Global, follower: F) -> LogSession<F>
         ensures ran { ⟦<LogSession<F> as Answerer>⟧.ran result begun }
         ensures ready { ⟦<LogSession<F> as Answerer>⟧.ready result }
-        ensures rules { ⟦<LogSession<F> as Answerer>⟧.rules result ≡ log_rules (F.following follower) }
+        ensures follower { result.follower ≡ follower }
     {
         LogSession {
             alloc,

@@ -1,0 +1,73 @@
+use contract.BorrowLft.{⊑_meet, ⊑_static}
+use Rattle.std.proofs.Common.{true, subst}
+use Rattle.streamed_lines.specs.Outside.{Wrote, WroteFront, ReadsToFault}
+use Rattle.streamed_lines.proofs.PromptLaws.{prompt-more}
+use Rattle.plasma_outside.specs.declared.sink.SinkRefusal.TheVariants.{Failed, NoMemory}
+use Rattle.log_runs.proofs.RunLaws.{by-error, front-none, ran-early, ran-part, ran-whole}
+use Rattle.log_runs.proofs.run.answer_log.Goals as goal
+
+pub answer_lines-requires : goal.answer_lines-requires
+answer_lines-requires g c κs within =
+    let follower = within.0 in
+    let kept = within.1.0 in (
+      search (⊑_meet, ⊑_static, follower, kept) depth 120 fits 200000,
+      (
+        within.1.1.0,
+        (within.1.1.1, (⊑_static _, (c.new-text.ensures.items, (c.new-session.ensures.ready, c.new-session.ensures.ran)))),
+      ),
+    )
+
+pub returns-in-Ok-clause-runs : goal.returns-in-Ok-clause-runs
+returns-in-Ok-clause-runs g c =
+    rw (← c.new-session.ensures.follower)
+    (ran-whole (g.F.Follower.following c.new-session.result.follower) _ _ _ _ _ _ _ _ c.in-Ok.ending
+    (ReadsToFault (g.S.Source.faults c.args.source.now) (g.S.Source.faults c.answer_lines.new.source)
+    (g.S.Source.failed_last c.answer_lines.new.source))
+    c.in-Ok.ensures.answered c.in-Ok.ensures.reads _
+    (subst (Wrote (g.K.Sink.taken c.answer_lines.new.sink) (g.K.Sink.taken c.put_text.new.sink))
+    c.in_ok-push_last-in-Ok.ensures c.in_ok-put_text-in-Ok.ensures.ok))
+
+pub returns-in_err-push_last-in-Ok-clause-runs : goal.returns-in_err-push_last-in-Ok-clause-runs
+returns-in_err-push_last-in-Ok-clause-runs g c =
+    rw (← c.new-session.ensures.follower)
+    (by-error (g.F.Follower.following c.new-session.result.follower) _ _ _ _ _ _ c.from_residual.ensures.0
+    (λ refusal. ran-part (g.F.Follower.following c.new-session.result.follower) _ _ _ _ _ _ _ _ c.in-Ok.ending
+    (ReadsToFault (g.S.Source.faults c.args.source.now) (g.S.Source.faults c.answer_lines.new.source)
+    (g.S.Source.failed_last c.answer_lines.new.source))
+    c.in-Ok.ensures.answered c.in-Ok.ensures.reads _ refusal (front-none _ _)))
+
+pub returns-in_err-put_text-in-Ok-clause-runs : goal.returns-in_err-put_text-in-Ok-clause-runs
+returns-in_err-put_text-in-Ok-clause-runs g c =
+    rw (← c.new-session.ensures.follower)
+    (by-error (g.F.Follower.following c.new-session.result.follower) _ _ _ _ _ _
+    c.from_residual-in_err-put_text-in-Ok.ensures.0
+    (λ refusal. ran-part (g.F.Follower.following c.new-session.result.follower) _ _ _ _ _ _ _ _ c.in-Ok.ending
+    (ReadsToFault (g.S.Source.faults c.args.source.now) (g.S.Source.faults c.answer_lines.new.source)
+    (g.S.Source.failed_last c.answer_lines.new.source))
+    c.in-Ok.ensures.answered c.in-Ok.ensures.reads _ refusal
+    (subst (WroteFront (g.K.Sink.taken c.answer_lines.new.sink) (g.K.Sink.taken c.put_text.new.sink))
+    c.in_ok-push_last-in-Ok.ensures c.in_err-put_text-in-Ok.ensures.err)))
+
+pub returns-in-Err-WriteFault-clause-runs : goal.returns-in-Err-WriteFault-clause-runs
+returns-in-Err-WriteFault-clause-runs g c =
+    rw (← c.new-session.ensures.follower)
+    (ran-early (g.F.Follower.following c.new-session.result.follower) _ _ _ _ _ _ _ _ c.in-Err-WriteFault.field-0 _
+    Failed c.in-Err-WriteFault.ensures.broken)
+
+pub returns-in-Err-NoMemory-clause-runs : goal.returns-in-Err-NoMemory-clause-runs
+returns-in-Err-NoMemory-clause-runs g c =
+    rw (← c.new-session.ensures.follower)
+    (ran-early (g.F.Follower.following c.new-session.result.follower) _ _ _ _ _ _ _ _ c.in-Err-NoMemory.field-0 _
+    NoMemory c.in-Err-NoMemory.ensures.broken)
+
+-- ---- the answers are written before more is read
+
+pub returns-in-Ok-clause-prompt : goal.returns-in-Ok-clause-prompt
+returns-in-Ok-clause-prompt g c =
+    rw (← c.new-session.ensures.follower)
+    (prompt-more _ _ _ _ _ _ _ _ c.in-Ok.ensures.prompt c.in_ok-put_text-in-Ok.ensures.ok)
+
+pub returns-in_err-put_text-in-Ok-clause-prompt : goal.returns-in_err-put_text-in-Ok-clause-prompt
+returns-in_err-put_text-in-Ok-clause-prompt g c =
+    rw (← c.new-session.ensures.follower)
+    (prompt-more _ _ _ _ _ _ _ _ c.in-Ok.ensures.prompt c.in_err-put_text-in-Ok.ensures.err.wrote)
