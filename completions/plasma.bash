@@ -3,8 +3,13 @@ _plasma() {
     local word=${COMP_WORDS[COMP_CWORD]} words=''
     COMPREPLY=()
     case $COMP_CWORD in
-        1) words='replay brief make verify init wallet operator watcher --help --where' ;;
-        2) [ "${COMP_WORDS[1]}" != init ] || words='wallet operator watcher' ;;
+        1) words='replay brief make verify init wallet operator watcher hss audit archive --help --where' ;;
+        2)
+            case ${COMP_WORDS[1]} in
+                init) words='wallet operator watcher' ;;
+                hss) words='init sign verify' ;;
+            esac
+            ;;
         6) [ "${COMP_WORDS[1]} ${COMP_WORDS[2]}" != 'init wallet' ] || words='5 6' ;;
         7) [ "${COMP_WORDS[1]} ${COMP_WORDS[2]}" != 'init wallet' ] || words='3 4' ;;
     esac

@@ -8,6 +8,9 @@ complete -c plasma -n __fish_is_first_token -a init -d 'make a node in this fold
 complete -c plasma -n __fish_is_first_token -a wallet -d 'run the wallet of this folder'
 complete -c plasma -n __fish_is_first_token -a operator -d 'run the operator of this folder'
 complete -c plasma -n __fish_is_first_token -a watcher -d 'run the watcher of this folder'
+complete -c plasma -n __fish_is_first_token -a hss -d 'make a two-level signer, sign with it, or test a signature'
+complete -c plasma -n __fish_is_first_token -a audit -d 'convict an operator of a broken promise'
+complete -c plasma -n __fish_is_first_token -a archive -d 'keep openings, and make bundles of them'
 complete -c plasma -n __fish_is_first_token -l help -d 'show all forms'
 complete -c plasma -n __fish_is_first_token -l where -d 'say which program would run, and why'
 
@@ -19,6 +22,9 @@ function __plasma_at -d 'whether so many words stand in front, and begin with th
 end
 complete -c plasma -n '__plasma_at 2 init' -a wallet -d '<tag> <account> <seed> [<lms> <ots>]'
 complete -c plasma -n '__plasma_at 2 init' -a 'operator watcher' -d '<tag> <account>'
+complete -c plasma -n '__plasma_at 2 hss' -a init -d '<seed>'
+complete -c plasma -n '__plasma_at 2 hss' -a sign -d '<message>'
+complete -c plasma -n '__plasma_at 2 hss' -a verify -d '<key> <message> <signature>'
 complete -c plasma -n '__plasma_at 6 init wallet' -a 5 -d '32 signatures'
 complete -c plasma -n '__plasma_at 6 init wallet' -a 6 -d '1,024 signatures'
 complete -c plasma -n '__plasma_at 7 init wallet' -a 3 -d 'longer signatures, made and tested faster'
