@@ -15,7 +15,7 @@ use Rattle.run_endings.specs.declared.status.Status.TheVariants.{NoMemory}
 use Rattle.run_endings.specs.Statuses.{IsDoneUnlessFailed}
 use Rattle.run_endings.proofs.EndingLaws.{ends-done}
 use Rattle.node_runs.specs.Sessions.{Outside}
-use Rattle.hss_runs.specs.Verdict.{is_hss_verified}
+use Rattle.hss_runs.specs.Verdict.{is_hss_verified, verdict_output}
 use Rattle.node_runs.proofs.CompleteLaws.{watcher-complete, operator-complete, wallet-complete, init-complete, init-both-complete}
 use Rattle.replay_run.specs.declared.ending.NoCause.{NoCause}
 use Rattle.replay_run.specs.Replays.{begun, replay_rules, replay_of}
@@ -114,7 +114,7 @@ module _ {D : Type 0} (told : D → Option History) (plan : D → Option FaultPl
       new_leaves does
   does-complete (Some (HssSign message)) does = tt
   does-complete (Some (HssVerify key message signature)) does =
-      ends-done (verify_output (is_hss_verified key message signature)) status _ _ _ tt does
+      ends-done (verdict_output (is_hss_verified key message signature)) status _ _ _ tt does
   does-complete (Some (Audit key receipt)) does = tt
   does-complete (Some Archive) does = tt
 

@@ -12,7 +12,7 @@ use Rattle.run_endings.specs.Outputs.{Output, EndsAs}
 use Rattle.node_runs.specs.Faults.{Counts, CountsEither}
 use Rattle.node_runs.specs.Sessions.{Outside}
 use Rattle.node_runs.proofs.FaultLaws.{other-status, none-met, by-more, notes-met, watcher-counts, operator-counts, wallet-counts, inits-count, inits-count-either}
-use Rattle.hss_runs.specs.Verdict.{is_hss_verified}
+use Rattle.hss_runs.specs.Verdict.{is_hss_verified, verdict_output}
 use Rattle.hss_runs.proofs.FaultLaws.{signer-counts}
 use Rattle.log_runs.specs.Following.{Following}
 use Rattle.log_runs.specs.Auditing.{auditing}
@@ -102,7 +102,7 @@ module _ {D : Type 0} (told : D → Option History) (plan : D → Option FaultPl
   does-count (Some (HssSign message)) does notes_stay leaves_stay =
       signer-counts told plan faults outside.taken outside.after status message notes leaves new_notes new_leaves does
   does-count (Some (HssVerify key message signature)) does notes_stay leaves_stay =
-      unused (verify_output (is_hss_verified key message signature)) _ (λ is. cc (is)) does (notes_stay refl)
+      unused (verdict_output (is_hss_verified key message signature)) _ (λ is. cc (is)) does (notes_stay refl)
       (leaves_stay refl)
   does-count (Some (Audit key receipt)) does notes_stay leaves_stay =
       followed (auditing dig key receipt) does (notes_stay refl) (leaves_stay refl)

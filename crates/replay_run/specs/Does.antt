@@ -14,7 +14,7 @@ use Rattle.node_runs.specs.Runs.{RunsWatcher, RunsOperator, RunsWallet}
 use Rattle.node_runs.specs.Inits.{InitsNotes, InitsWallet}
 use Rattle.hss_runs.specs.Identity.{identity_text as signer_text}
 use Rattle.hss_runs.specs.Runs.{RunsSigner}
-use Rattle.hss_runs.specs.Verdict.{is_hss_verified}
+use Rattle.hss_runs.specs.Verdict.{is_hss_verified, verdict_output}
 use Rattle.log_runs.specs.Following.{Following}
 use Rattle.log_runs.specs.Auditing.{auditing}
 use Rattle.log_runs.specs.Archiving.{archiving}
@@ -70,7 +70,7 @@ module _ {D : Type 0} (told : D → Option History) (plan : D → Option FaultPl
       notes leaves new_notes new_leaves
   DoesForm (Some (HssSign message)) =
       RunsSigner told plan faults outside.taken outside.after status message notes leaves new_notes new_leaves
-  DoesForm (Some (HssVerify key message signature)) = Writes (verify_output (is_hss_verified key message signature))
+  DoesForm (Some (HssVerify key message signature)) = Writes (verdict_output (is_hss_verified key message signature))
   DoesForm (Some (Audit key receipt)) = Follows (auditing dig key receipt)
   DoesForm (Some Archive) = Follows (archiving dig)
 

@@ -21,11 +21,11 @@ use super::ending::status_of;
 use super::replay::replay;
 use super::verifying::is_verified;
 use crash_disk::Disk;
-use hss_runs::{init_signer, is_hss_verified, run_signer};
+use hss_runs::{init_signer, run_signer, verify_signature};
 use log_runs::{run_archive, run_audit};
 use node_rules::WalletIdentity;
 use node_runs::{init_operator, init_wallet, init_watcher, run_operator, run_wallet, run_watcher};
-use plasma_base::{Hash32, KeptSha, NoMemory};
+use plasma_base::{Bytes, Hash32, KeptSha, NoMemory};
 use plasma_outside::{Sink, Source};
 use run_endings::{Status, put_line};
 use run_words::{Form, form_of};
@@ -219,10 +219,7 @@ fn run_form<H: Hash32, S: Source, K: Sink, D: Disk>(
                 message,
                 signature,
             },
-        ) => {
-            let verified = is_verified(key.as_slice(), message.as_slice(), signature.as_slice());
-            Ended::of(put_verdict(sink, verified), notes, leaves)
-        }
+        ) => Ended::of(run_verify(&key, &message, &signature, sink), notes, leaves),
         Some(
             Form::HssVerify {
                 key,
@@ -230,8 +227,8 @@ fn run_form<H: Hash32, S: Source, K: Sink, D: Disk>(
                 signature,
             },
         ) => {
-            let verified = is_hss_verified(key.as_slice(), message.as_slice(), signature.as_slice());
-            Ended::of(put_verdict(sink, verified), notes, leaves)
+            let status = verify_signature(sink, key.as_slice(), message.as_slice(), signature.as_slice());
+            Ended::of(status, notes, leaves)
         }
         Some(Form::HssInit { seed }) => {
             Ended::of_both(init_signer(alloc, sink, notes, leaves, seed))
@@ -275,13 +272,14 @@ fn run_form<H: Hash32, S: Source, K: Sink, D: Disk>(
     }
 }
 
-/// Says whether a signature is valid.
-fn put_verdict<K: Sink>(sink: &mut K, verified: bool) -> Status
-    ensures output { EndsAs (verify_output verified) result (K.taken sink.old) (K.taken sink.new) ⊥ }
+/// Runs `verify`.
+fn run_verify<K: Sink>(key: &Bytes, message: &Bytes, signature: &Bytes, sink: &mut K) -> Status
+    ensures output { EndsAs (verify_output (is_verified key.now message.now signature.now)) result
+        (K.taken sink.old) (K.taken sink.new) ⊥ }
     ensures no_read_fault { result ≢ Status.ReadFault }
     ensures sink_faults { K.faults sink.new ≡ faults_after (K.faults sink.old) (is_write_fault result) }
 {
-    if verified {
+    if is_verified(key.as_slice(), message.as_slice(), signature.as_slice()) {
         return put_line(sink, b"valid\n", Status::Done);
     }
     put_line(sink, b"invalid\n", Status::Done)
