@@ -100,7 +100,7 @@ module _ {D : Type 0} (told : D → Option History) (plan : D → Option FaultPl
   does-count (Some (HssInit seed)) does notes_stay leaves_stay =
       inits-count-either told plan faults outside.taken outside.after status _ notes leaves new_notes new_leaves does
   does-count (Some (HssSign message)) does notes_stay leaves_stay =
-      signer-counts told plan faults outside.taken outside.after status message notes leaves new_notes new_leaves does
+      signer-counts told plan faults outside.taken outside.after status notes leaves new_notes new_leaves message does
   does-count (Some (HssVerify key message signature)) does notes_stay leaves_stay =
       unused (verdict_output (is_hss_verified key message signature)) _ (λ is. cc (is)) does (notes_stay refl)
       (leaves_stay refl)
