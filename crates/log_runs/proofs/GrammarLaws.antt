@@ -1,5 +1,5 @@
 -- What is spelled is read, and what is read is spelled so.
-use Rattle.std.proofs.Common.{◌≡◌, ℕ, Bool, true, false, if◌then◌else◌, List, [], ◌∷◌, ◌++◌, drop, take, length, codes, Option, Some, None, option_map, refl, sym, ap, ◌∙◌, subst, rules}
+use Rattle.std.proofs.Common.{◌≡◌, ℕ, Bool, true, false, if◌then◌else◌, List, ◌++◌, drop, Some, option_map, refl, sym, ap, ◌∙◌, subst, rules}
 use Rattle.std.specs.Prelude.{nat_eq}
 use Rattle.std.specs.List.{starts_with}
 use Rattle.std.proofs.lemmas.Bool.Decides.{Decides-eqb}
@@ -8,7 +8,7 @@ use Rattle.line_forms.specs.Forms.{value_in, text_of, AreParts}
 use Rattle.line_forms.specs.Laws.{IsRow, IsMade, IsTable}
 use Rattle.line_forms.proofs.FormLaws.{whole-words, words-whole, option_map_some}
 use Rattle.line_forms.proofs.TokenLaws.{kinds}
-use Rattle.root_log.specs.Grammar.{IsLogCall, call_text, call_in}
+use Rattle.root_log.specs.Grammar.{call_in}
 use Rattle.root_log.proofs.GrammarLaws.{call_in-call_text, call_text-call_in}
 use Rattle.log_runs.specs.declared.archive_line.ArchiveAsk.{ArchiveAsk}
 use Rattle.log_runs.specs.declared.archive_line.ArchiveAskName.{ArchiveAskName}
@@ -28,7 +28,8 @@ ask-made _ = refl
 ask_table : IsTable false ArchiveAskName ArchiveAsk asks ask_parts
 ask_table = record { names = search rules; rows = ask-row; made_of = ask-made }
 
-ask_in-text : (ask : ArchiveAsk) → AreParts asks (ask_parts ask) → value_in asks (text_of asks (ask_parts ask)) ≡ Some ask
+ask_in-text : (ask : ArchiveAsk) → AreParts asks (ask_parts ask)
+    → value_in asks (text_of asks (ask_parts ask)) ≡ Some ask
 unfolding value_in text_of
 ask_in-text = whole-words asks ask_parts ask_table
 
@@ -47,7 +48,8 @@ ask-other (ArchiveAsk.Tip coin) = refl
 ask-other (ArchiveAsk.Broken coin) = refl
 ask-other (ArchiveAsk.Bundle coin tip) = refl
 
-pub archive_line_in-text : (line : ArchiveLine) → IsArchiveLine line → archive_line_in (archive_line_text line) ≡ Some line
+pub archive_line_in-text : (line : ArchiveLine) → IsArchiveLine line
+    → archive_line_in (archive_line_text line) ≡ Some line
 unfolding archive_line_in archive_line_text
 archive_line_in-text (ArchiveLine.Event call) is = ap (option_map ArchiveLine.Event) (call_in-call_text call is)
 archive_line_in-text (ArchiveLine.Ask ask) is =

@@ -2,4 +2,3 @@ mod GrowLaws
 pub mod RunLaws
 mod SessionLaws
 mod GrammarLaws
-mod HoldLaws

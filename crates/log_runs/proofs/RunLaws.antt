@@ -1,5 +1,5 @@
 -- How a run over a log ends whose lines were answered, or that was stopped on its way.
-use Rattle.std.proofs.Common.{◌≡◌, ℕ, inl, inr, Bool, true, false, List, [], ◌++◌, Option, Result, Ok, Err, refl, sym, ap, ◌∙◌, subst, append_assoc}
+use Rattle.std.proofs.Common.{◌≡◌, ℕ, inl, inr, Bool, true, List, [], ◌++◌, Option, Result, Ok, Err, refl, sym, ap, ◌∙◌, subst, append_assoc}
 use Rattle.std.specs.Prelude.{IsErr}
 use Rattle.std.proofs.lemmas.Bool.{false≢true}
 use Rattle.plasma_outside.specs.declared.sink.SinkRefusal.{SinkRefusal}
@@ -9,15 +9,15 @@ use Rattle.streamed_lines.specs.declared.ending.Ending.TheVariants.{Complete, Ba
 use Rattle.streamed_lines.specs.declared.ending.Halt.{Halt}
 use Rattle.streamed_lines.specs.declared.ending.Break.{Break}
 use Rattle.streamed_lines.specs.declared.ending.Break.TheVariants.{WriteFault as WriteBreak, Failed as FailedBreak, NoMemory as NoMemoryBreak}
-use Rattle.streamed_lines.specs.Streams.{Streamed, stream_of}
+use Rattle.streamed_lines.specs.Streams.{Streamed}
 use Rattle.streamed_lines.specs.Bounds.{TakesFew}
 use Rattle.streamed_lines.specs.Outside.{Wrote, WroteFront}
 use Rattle.streamed_lines.specs.Reading.{is_read_fault, IsPut, Answers, BrokeOff}
 use Rattle.streamed_lines.proofs.OutsideLaws.{wrote-none, wrote-more}
 use Rattle.run_endings.specs.declared.status.Status.{Status}
 use Rattle.run_endings.specs.declared.status.Status.TheVariants.{ReadFault as ReadFaultStatus}
-use Rattle.run_endings.specs.Statuses.{status_of_refusal, ReadsBy}
-use Rattle.run_endings.specs.Outputs.{Output, Stops, EndsAs}
+use Rattle.run_endings.specs.Statuses.{status_of_refusal}
+use Rattle.run_endings.specs.Outputs.{Output, EndsAs}
 use Rattle.run_endings.proofs.EndingLaws.{ends-whole, ends-stopped}
 use Rattle.log_runs.specs.Following.{Following, LogRun, begun, log_rules}
 use Rattle.log_runs.specs.Runs.{status_of, status_of_run, last_text, output_of, lines_of, TakesFewBy, RunsLog}
@@ -50,7 +50,8 @@ module _ (Reads : Bool → Type 0) where
   failed-of (TooLong n) reads wrong = absurd (cc)
   failed-of (Ended n cause) reads wrong = absurd (cc)
 
-few-by : (ending : Ending (List ℕ)) (bytes : List ℕ) → TakesFew bytes ending → TakesFewBy (status_of ending) bytes ending
+few-by : (ending : Ending (List ℕ)) (bytes : List ℕ) → TakesFew bytes ending
+    → TakesFewBy (status_of ending) bytes ending
 few-by Complete bytes few = tt
 few-by (BadLine n) bytes few = few
 few-by ReadFault bytes few = tt

@@ -5,12 +5,8 @@ use Rattle.plasma_tx.specs.declared.call.RootCall.{RootCall}
 use Rattle.plasma_tx.specs.Chain.{Chain}
 use Rattle.root_log.specs.Grammar.{chain_in, call_in}
 use Rattle.node_lines.specs.Grammar.{is_end_of_log}
-use Rattle.streamed_lines.specs.declared.ending.Stop.TheVariants.{BadLine, TooLong, Ends}
-use Rattle.streamed_lines.specs.declared.ending.Halt.{Halt}
-use Rattle.streamed_lines.specs.declared.ending.Halt.TheVariants.{Stops, Failed, NoMemory}
-use Rattle.streamed_lines.specs.Reading.{HaltsAt}
-use Rattle.log_runs.specs.Following.{Following, LogRun, OrStop, first_line, call_line, leaves, log_line, later_line, line_at, next_line, log_rules}
-use Rattle.log_runs.specs.Kept.{SpellsNone, Halts, IsNoFailure, AreAt}
+use Rattle.log_runs.specs.Following.{Following, LogRun, first_line, call_line, leaves, log_line, later_line, line_at, next_line}
+use Rattle.log_runs.specs.Kept.{AreAt}
 
 -- ---- what is kept
 

@@ -2,14 +2,13 @@
 use Rattle.std.specs.Prelude.{ℕ, true, List, [], ◌∷◌, ◌++◌, codes, Option, Some, None, Result, Ok, Err}
 use Rattle.plasma_base.specs.HexText.{hex_text}
 use Rattle.plasma_tx.specs.declared.opening.RawOpening.{RawOpening}
-use Rattle.plasma_tx.specs.declared.call.RootCall.{RootCall}
 use Rattle.plasma_tx.specs.Chain.{with_log}
 use Rattle.coin_history.specs.declared.bundle.Bundle.{Bundle}
 use Rattle.coin_history.specs.Bundles.{bundle_text}
 use Rattle.proof_archive.specs.declared.refusal.ArchiveRefusal.{ArchiveRefusal}
 use Rattle.proof_archive.specs.declared.refusal.ArchiveRefusal.TheVariants.{NoCoin, UnknownBlock, HaveBlock, Gap, BadOpening, NotTip, NoMemory}
 use Rattle.proof_archive.specs.Archives.{put_answer, tip_answer, broken_answer, bundle_answer}
-use Rattle.proof_archive.specs.Laws.{Given, Follow, Put, Holding, held_with}
+use Rattle.proof_archive.specs.Laws.{Follow, Put, Holding, held_with}
 use Rattle.streamed_lines.specs.declared.ending.Stop.TheVariants.{BadLine, Ends}
 use Rattle.log_runs.specs.declared.archive_line.ArchiveAsk.{ArchiveAsk}
 use Rattle.log_runs.specs.declared.archive_line.ArchiveLine.{ArchiveLine}

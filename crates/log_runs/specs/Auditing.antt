@@ -1,7 +1,6 @@
 -- What a run of an audit does behind the lines of its log.
-use Rattle.std.specs.Prelude.{ℕ, Bool, true, false, if◌then◌else◌, List, [], ◌∷◌, ◌++◌, codes, Option, Some, None, Result, Ok, Err}
+use Rattle.std.specs.Prelude.{ℕ, Bool, true, false, if◌then◌else◌, List, ◌∷◌, codes, Option, Some, None, Result, Ok, Err}
 use Rattle.plasma_base.specs.HexText.{hex_in}
-use Rattle.plasma_tx.specs.declared.call.RootCall.{RootCall}
 use Rattle.plasma_tx.specs.Chain.{Chain, with_log}
 use Rattle.receipt_audit.specs.declared.audit.Conviction.{Conviction}
 use Rattle.receipt_audit.specs.declared.refusal.AuditRefusal.{AuditRefusal}

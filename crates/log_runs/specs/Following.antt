@@ -13,8 +13,9 @@ use Rattle.streamed_lines.specs.Streams.{Rules}
 abbrev pub OrStop : Type 0 → Type 0
 OrStop T = Result T (Stop (List ℕ))
 
--- What follows a log: what it begins with, at the chain that the log's first line names; what it comes to with a call of
--- the log; what it comes to with a line behind the log, and the text of its answer; and whether the input may end there.
+-- What follows a log: what it begins with, at the chain that the log's first line names; what it comes to with a call
+-- of the log; what it comes to with a line behind the log, and the text of its answer; and whether the input may end
+-- there.
 pub record Following (A : Type 0) : Type 0 where
   pub begin : Chain → A
   pub follow : RootCall → A → A

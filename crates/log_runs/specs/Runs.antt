@@ -48,8 +48,8 @@ TakesFewBy status bytes ending = Unit {0}
 abbrev pub lines_of : {A : Type 0} → Following A → List ℕ → Bool → Streamed (LogRun A) (List ℕ)
 lines_of following bytes ended = stream_of (log_rules following) begun bytes ended
 
--- A run took some bytes of the source, and fewer than a room behind a line that ended it; what it wrote and its status are
--- the output over these bytes. `failed` says that its reading failed.
+-- A run took some bytes of the source, and fewer than a room behind a line that ended it; what it wrote and its status
+-- are the output over these bytes. `failed` says that its reading failed.
 pub record RunsLog {A : Type 0} (following : Following A) (left later taken after : Option (List ℕ)) (failed : Type 0)
     (status : Status) : Type 0 where
   pub bytes : List ℕ

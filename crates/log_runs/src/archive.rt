@@ -41,13 +41,7 @@ impl<H: Hash32 + Copy> Follower for Archivist<H> {
     ghost is_at = { λ archivist. Holds archivist.h };
 
     fn begin(&self, alloc: Global, log: RootLog) -> Archive<H> {
-        Archive::make(
-            alloc,
-            log.tag(),
-            log.operator(),
-            log.most_blocks(),
-            self.h,
-        )
+        Archive::make(alloc, log.tag(), log.operator(), log.most_blocks(), self.h)
     }
 
     fn follow(&self, kept: &mut Archive<H>, call: RootCall) -> Result<(), NoMemory> {
@@ -85,11 +79,11 @@ impl<H: Hash32 + Copy> Follower for Archivist<H> {
 /// Runs an archive: answers the lines of the source into the sink, with openings judged by this digest, and gives the
 /// run's status.
 ///
-/// The lines are a log of the root contract, a line `--`, and behind it lines of these five forms. `event ` and a line of
-/// a log: the call joins the log. `put <coin> <block> <hex>`: the block's opening at the coin is kept. `tip <coin>`: the
-/// coin's greatest tip. `broken <coin>`: its broken block, or `whole`. `bundle <coin> <tip>`: its history up to a tip, as
-/// a hex on a line of its own. Each line is answered before more is taken. A refusal ends the run, as do a line that may
-/// not stand there, one past a limit, a missing `--`, and a fault.
+/// The lines are a log of the root contract, a line `--`, and behind it lines of these five forms. `event ` and a line
+/// of a log: the call joins the log. `put <coin> <block> <hex>`: the block's opening at the coin is kept. `tip <coin>`:
+/// the coin's greatest tip. `broken <coin>`: its broken block, or `whole`. `bundle <coin> <tip>`: its history up to a
+/// tip, as a hex on a line of its own. Each line is answered before more is taken. A refusal ends the run, as do a line
+/// that may not stand there, one past a limit, a missing `--`, and a fault.
 pub fn run_archive<H: Hash32 + Copy, S: Source, K: Sink>(
     alloc: Global,
     h: H,

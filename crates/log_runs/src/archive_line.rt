@@ -23,13 +23,24 @@ pub enum ArchiveLine {
 #[derive(Drop)]
 pub enum ArchiveAsk {
     /// `put <coin> <block> <hex>`: to keep the block's opening at the coin.
-    Put { coin: u64, block: u64, opening: Bytes },
+    Put {
+        coin: u64,
+        block: u64,
+        opening: Bytes,
+    },
     /// `tip <coin>`: the coin's greatest tip.
-    Tip { coin: u64 },
+    Tip {
+        coin: u64,
+    },
     /// `broken <coin>`: the coin's broken block, or that it is whole.
-    Broken { coin: u64 },
+    Broken {
+        coin: u64,
+    },
     /// `bundle <coin> <tip>`: the coin's history up to this tip.
-    Bundle { coin: u64, tip: u64 },
+    Bundle {
+        coin: u64,
+        tip: u64,
+    },
 }
 
 /// The first word of what an archive is asked.

@@ -110,9 +110,9 @@ impl<H: Hash32 + Drop> Follower for Auditor<H> {
 /// digest, and gives the run's status.
 ///
 /// The lines are a log of the root contract, a line `--`, and behind it one line, the bytes of a bundle as a hex. It is
-/// answered `convicted` with the promise's coin and its due block, or refused as `convict` says, which ends the run. So
-/// do a line that may not stand there, as a second one behind the log, one past a limit, a missing `--` or bundle, and a
-/// fault.
+/// answered `convicted` with the promise's coin and its due block, or refused as `convict` says, which ends the run.
+/// So do a line that may not stand there, as a second one behind the log, one past a limit, a missing `--` or bundle,
+/// and a fault.
 pub fn run_audit<H: Hash32 + Drop, S: Source, K: Sink>(
     alloc: Global,
     h: H,

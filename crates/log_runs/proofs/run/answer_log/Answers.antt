@@ -1,5 +1,5 @@
 use contract.BorrowLft.{⊑_meet, ⊑_static}
-use Rattle.std.proofs.Common.{true, subst}
+use Rattle.std.proofs.Common.{subst}
 use Rattle.streamed_lines.specs.Outside.{Wrote, WroteFront, ReadsToFault}
 use Rattle.streamed_lines.proofs.PromptLaws.{prompt-more}
 use Rattle.plasma_outside.specs.declared.sink.SinkRefusal.TheVariants.{Failed, NoMemory}
@@ -13,7 +13,10 @@ answer_lines-requires g c κs within =
       search (⊑_meet, ⊑_static, follower, kept) depth 120 fits 200000,
       (
         within.1.1.0,
-        (within.1.1.1, (⊑_static _, (c.new-text.ensures.items, (c.new-session.ensures.ready, c.new-session.ensures.ran)))),
+        (
+          within.1.1.1,
+          (⊑_static _, (c.new-text.ensures.items, (c.new-session.ensures.ready, c.new-session.ensures.ran))),
+        ),
       ),
     )
 

@@ -46,7 +46,10 @@ returns-then-is_end_of_log-clause-answered g c = λ run is.
       is =
           next-end (g.F.Follower.following follower) run c.args.line.now at.0 at.1 (sym is.over_is ∙ c.if-self.false)
           (sym c.is_end_of_log.ensures ∙ c.if-is_end_of_log.true);
-      ran = record { over_is = refl; at_is = subst (λ known. AreAt (g.F.Follower.is_at follower) known run.at) c.in-Some.is is.at_is };
+      ran = record {
+        over_is = refl;
+        at_is = subst (λ known. AreAt (g.F.Follower.is_at follower) known run.at) c.in-Some.is is.at_is;
+      };
       told = sym (append-nil c.args.text.now.items);
     }
 
