@@ -138,8 +138,7 @@ module _ (dig judge : List ℕ → List ℕ) (secret : Secret) (notes records : 
 
 pub issues_give_receipts : IssuesGiveReceipts
 issues_give_receipts dig judge secret notes records log bytes due receipt may is =
-    let given = is-issued dig judge secret notes records log bytes due receipt is in
-    (
+    let given = is-issued dig judge secret notes records log bytes due receipt is in (
       binding_record records (text dig judge secret notes records log bytes due),
       given.leaf,
       is-given dig judge secret notes records log bytes due may receipt given,

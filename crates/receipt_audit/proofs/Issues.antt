@@ -69,13 +69,6 @@ module _ {D : Type 0} (told : D → Option History) (plan : D → Option FaultPl
       (binds_in_node_words told plan faults text old new (Err BindFault) may binds cause)
   bind-failed BindClosed is_open binds cause = absurd (true≢false (sym binds.0 ∙ is_open))
 
-  -- then records and key stay
-  pub failed-same : (why : BindRefusal) → Binds told plan text old (Err why) new
-      → (new.records ≡ old.records) × (new.key ≡ old.key)
-  failed-same (BindSpent count) binds = (ap (λ s. s.records) binds.3, ap (λ s. s.key) binds.3)
-  failed-same BindFault binds = (ap (λ s. s.records) binds.1.leaves, ap (λ s. s.key) binds.1.leaves)
-  failed-same BindClosed binds = (ap (λ s. s.records) binds.1, ap (λ s. s.key) binds.1)
-
 -- a leaf is left of the key that the desk was opened with
 pub left-of : {D : Type 0} (old seen : LeavesState D) (secret : Secret) (count : ℕ) → old ≡ seen
     → public_key_of secret ≡ seen.key → count ≡ leaf_count secret.types
@@ -86,12 +79,16 @@ left-of old seen secret count same key value public left =
     (subst (λ (k : List ℕ). used_of seen < leaf_count (types_of k)) key
     (subst (λ (n : ℕ). used_of seen < n) (sym value ∙ public) left))
 
--- a promise may be bound behind the marker
+-- a promise has 100 bytes
+pub promise-length : (text : List ℕ) → is_promise text ≡ true → length text ≡ 100
+promise-length text is =
+    eqb-true (length text) 100 (and_parts (length text == 100) (begins_promise text) is).0
+
+-- it may be bound behind the marker
 pub promise-binds : (records : List (List ℕ)) (text : List ℕ) → is_promise text ≡ true → is_marked records ≡ true
     → MayBind records text
 promise-binds records text is marked =
-    let long : length text ≡ 100 = eqb-true (length text) 100
-    (and_parts (length text == 100) (begins_promise text) is).0 in
+    let long = promise-length text is in
     inr (marked, omega (arith, long), omega (arith, long))
 
 -- a receipt's two parts
@@ -117,9 +114,9 @@ pass-more text records more is grown pass =
     subst (All (λ message. is_promise message ≡ true)) (sym grown)
     (All-push (λ message. is_promise message ≡ true) (messages_of records) text pass is)
 
-pub pass-same : (records more : List (List ℕ)) → more ≡ records → MessagesPass is_promise records
-    → MessagesPass is_promise more
-pass-same records more same pass = subst (MessagesPass is_promise) (sym same) pass
+pub pass-same : (records more : List (List ℕ)) → messages_of more ≡ messages_of records
+    → MessagesPass is_promise records → MessagesPass is_promise more
+pass-same records more same pass = subst (All (λ message. is_promise message ≡ true)) (sym same) pass
 
 -- ---- the effect
 
@@ -175,14 +172,14 @@ pub causes-none : (leaves : ℕ) (records : List (List ℕ)) (count due : ℕ)
     → first_cause (issue_causes leaves records count due) ≡ None
     → (count < due) × (is_marked records ≡ true) × (length (messages_of records) < leaves)
 causes-none leaves records count due is =
-    let due_is = past (nat_le due count) (BadDue count) _ is in
-    let marked = past (not (is_marked records)) OldJournal _ due_is.1 in
-    let left = past (nat_le leaves (length (messages_of records))) (KeySpent (length (messages_of records))) [] marked.1
-    in
-    (
+    let used = length (messages_of records) in
+    let spent : List (Bool × IssueRefusal) = (nat_le leaves used, KeySpent used) ∷ [] in
+    let due_is = past (nat_le due count) (BadDue count) ((not (is_marked records), OldJournal) ∷ spent) is in
+    let marked = past (not (is_marked records)) OldJournal spent due_is.1 in
+    let left = past (nat_le leaves used) (KeySpent used) [] marked.1 in (
       leb-false due count due_is.0,
       not-false (is_marked records) marked.0,
-      leb-false leaves (length (messages_of records)) left.0,
+      leb-false leaves used left.0,
     )
   where
     past : (b : Bool) (why : IssueRefusal) (causes : List (Bool × IssueRefusal))
@@ -194,9 +191,6 @@ causes-none leaves records count due is =
 
 module _ {E D : Type 0} (told : E → Option History) (plan : E → Option FaultPlan) (faults : E → ℕ)
     (desk_told : D → Option History) (desk_plan : D → Option FaultPlan) (desk_faults : D → ℕ) where
-  abbrev Issued : IssueEffect → NotesState E → NotesState D → Option IssueStop → NotesState E → NotesState D → Type 0
-  Issued = DidIssue told plan faults desk_told desk_plan desk_faults
-
   -- it was refused before the offer
   pub did-refused : (effect : IssueEffect) (old : NotesState E) (desk : NotesState D) (why : IssueRefusal)
       → effect ≡ record { answer = Err why; is_offered = false; note = None; leaf = None }

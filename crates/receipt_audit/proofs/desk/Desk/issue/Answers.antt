@@ -1,6 +1,6 @@
 use Rattle.std.proofs.Common.{refl, sym, ◌∙◌}
 use Rattle.leaf_journal.specs.NodeWords.{notes_of}
-use Rattle.receipt_audit.proofs.Issues.{refused-answer, refused-did, unoffered-said, unoffered-did, offered-long, offered-pooled, issued-answer, issued-did, faulted-did}
+use Rattle.receipt_audit.proofs.Issues.{refused-answer, refused-did, starved-did, unoffered-said, unoffered-did, offered-long, offered-pooled, issued-answer, issued-did, faulted-did}
 use Rattle.receipt_audit.proofs.desk.Desk.issue.Goals as goal
 
 pub returns-in-Some-clause-answer : goal.returns-in-Some-clause-answer
@@ -18,6 +18,13 @@ returns-in-Some-clause-did g c =
     c.args.log.now.log c.args.tx.now c.args.due c.blocks-blocks.result c.args.op.now.notes (notes_of c.args.self.now)
     c.blocks-blocks.ensures.is (sym c.is_closed.ensures ∙ c.if-is_closed.false)
     c.in-Some.why c.in-Some.ensures
+
+pub returns-in_default-room_for-clause-did : goal.returns-in_default-room_for-clause-did
+returns-in_default-room_for-clause-did g c =
+    starved-did g.E.Disk.told g.E.Disk.plan g.E.Disk.faults g.D.Disk.told g.D.Disk.plan g.D.Disk.faults
+    (g.H.Hash32.digest_of c.args.h) (g.H.Hash32.digest_of c.args.op.now.hash) c.args.key.now c.args.self.now.records
+    c.args.log.now.log c.args.tx.now c.args.due c.blocks-blocks.result c.args.op.now.notes (notes_of c.args.self.now)
+    c.blocks-blocks.ensures.is (sym c.is_closed.ensures ∙ c.if-is_closed.false) c.in_default.ensures
 
 pub returns-in-Err-clause-answer : goal.returns-in-Err-clause-answer
 returns-in-Err-clause-answer g c =
