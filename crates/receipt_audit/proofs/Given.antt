@@ -1,5 +1,5 @@
 -- The receipts that an issue gives bind their operator.
-use Rattle.std.proofs.Common.{◌≡◌, ℕ, ◌<◌, true, Bool, if◌then◌else◌, List, [], ◌∷◌, ◌++◌, length, take, Option, Some, None, Ok, Err, inr, refl, sym, ap, ◌∙◌, subst, arith}
+use Rattle.std.proofs.Common.{◌≡◌, ℕ, ◌<◌, true, Bool, if◌then◌else◌, List, [], ◌∷◌, ◌++◌, length, Some, None, Ok, Err, inr, refl, sym, ap, ◌∙◌, subst, arith}
 use Rattle.std.specs.Prelude.{Result, nat_lt}
 use Rattle.std.specs.List.{slice_range}
 use Rattle.lms_sign.specs.declared.secret.Secret.{Secret}
@@ -11,7 +11,6 @@ use Rattle.node_journal.specs.Effect.{first_cause}
 use Rattle.leaf_journal.specs.Records.{binding_record, is_marked, messages_of}
 use Rattle.leaf_journal.proofs.Binding.{binding-messages}
 use Rattle.plasma_tx.specs.declared.call.RootCall.{RootCall}
-use Rattle.plasma_tx.specs.Chain.{Chain}
 use Rattle.plasma_tx.specs.Spelling.{AreBytes}
 use Rattle.plasma_tx.specs.Views.{blocks}
 use Rattle.plasma_tx.proofs.Parts.{bytes-range, length-range, number-below}
@@ -21,8 +20,6 @@ use Rattle.operator_rules.specs.Records.{who_is}
 use Rattle.operator_rules.specs.Commands.{offer_effect}
 use Rattle.receipt_audit.specs.declared.promise.Promise.{Promise}
 use Rattle.receipt_audit.specs.declared.issuing.Receipt.{Receipt}
-use Rattle.receipt_audit.specs.declared.audit.Conviction.{Conviction}
-use Rattle.receipt_audit.specs.declared.refusal.AuditRefusal.{AuditRefusal}
 use Rattle.receipt_audit.specs.declared.refusal.AuditRefusal.TheVariants.{NotYet}
 use Rattle.receipt_audit.specs.declared.refusal.IssueRefusal.{IssueRefusal}
 use Rattle.receipt_audit.specs.Promises.{promise_in, promise_text, promised_part, signature_part, IsPromise}

@@ -1,5 +1,5 @@
 -- What an issue does to an operator and a desk.
-use Rattle.std.proofs.Common.{◌≡◌, ℕ, ◌+◌, ◌<◌, ◌≤◌, ◌==◌, not, Bool, true, false, if◌then◌else◌, List, [], ◌∷◌, ◌++◌, length, take, drop, Option, Some, None, Ok, Err, inl, inr, refl, sym, ap, ◌∙◌, subst, arith, lit<}
+use Rattle.std.proofs.Common.{◌≡◌, ℕ, ◌<◌, ◌≤◌, ◌==◌, not, Bool, true, false, if◌then◌else◌, List, [], ◌∷◌, ◌++◌, length, take, drop, Option, Some, None, Ok, Err, inr, refl, sym, ap, ◌∙◌, subst, arith, lit<}
 use Rattle.std.specs.Prelude.{Result, nat_le}
 use Rattle.std.specs.List.{All, AllByRecursion}
 use Rattle.std.proofs.lemmas.Bool.{lt-ltb, leb-false, not-false, true≢false, eqb-true, and_parts}
@@ -14,8 +14,7 @@ use Rattle.lms_sign.specs.Valid.{IsValid, types_of}
 use Rattle.node_journal.specs.Effect.{Effect, first_cause}
 use Rattle.node_journal.specs.Role.{are_of}
 use Rattle.node_journal.specs.Notes.{NotesState, Did}
-use Rattle.node_journal.specs.declared.stop.Stop.{Stop}
-use Rattle.node_journal.specs.declared.stop.Stop.TheVariants.{Closed as StopClosed, NoMemory as StopNoMemory, DeviceFault as StopFault}
+use Rattle.node_journal.specs.declared.stop.Stop.TheVariants.{NoMemory as StopNoMemory, DeviceFault as StopFault}
 use Rattle.leaf_journal.specs.Records.{binding_record, is_marked, messages_of, MayBind, MessagesPass}
 use Rattle.leaf_journal.specs.Leaves.{LeavesState, leaves_of, used_of, BoundState, Binds, is_fault}
 use Rattle.leaf_journal.specs.NodeWords.{bind_note, has_leaf, notes_of}
@@ -40,9 +39,9 @@ use Rattle.operator_core.proofs.Offers.{offered_note}
 use Rattle.receipt_audit.specs.declared.issuing.Receipt.{Receipt}
 use Rattle.receipt_audit.specs.declared.promise.Promise.{Promise}
 use Rattle.receipt_audit.specs.declared.refusal.IssueRefusal.{IssueRefusal}
-use Rattle.receipt_audit.specs.declared.refusal.IssueRefusal.TheVariants.{BadDue, OldJournal, KeySpent, Offer, DeviceFault, Closed, NoMemory}
+use Rattle.receipt_audit.specs.declared.refusal.IssueRefusal.TheVariants.{BadDue, OldJournal, KeySpent, Offer}
 use Rattle.receipt_audit.specs.Promises.{begins_promise, is_promise, promise_text}
-use Rattle.receipt_audit.specs.Desk.{DidIssue, IssueEffect, IssueStop, AtOperator, AtDesk, issue_causes, issue_effect, issue_or, issue_stop, promise_for, receipt_or, record_or, unoffered}
+use Rattle.receipt_audit.specs.Desk.{DidIssue, IssueEffect, AtDesk, issue_causes, issue_effect, issue_or, issue_stop, promise_for, receipt_or, record_or, unoffered}
 
 -- ---- the next leaf
 

@@ -1,4 +1,4 @@
-use Rattle.std.proofs.Common.{ℕ, List, Some, None, ap, ◌∙◌, subst}
+use Rattle.std.proofs.Common.{Some, None, ap, ◌∙◌, subst}
 use Rattle.node_journal.specs.Notes.{Did}
 use Rattle.node_journal.specs.declared.stop.Stop.TheVariants.{DeviceFault}
 use Rattle.leaf_journal.specs.Records.{binding_record, is_marked}
