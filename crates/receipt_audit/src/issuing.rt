@@ -182,8 +182,8 @@ impl<D: Disk> Desk<D> {
     /// In this order: `Closed` of the desk; `BadDue` where the due block is there already; `OldJournal` where
     /// the desk's journal has no marker; `KeySpent` where all leaves are bound; `Offer` where the operator
     /// refuses the transfer, with its cause; `DeviceFault` of the desk's disk, which closes the desk, and
-    /// after which the transfer stays offered without a receipt. `NoMemory` may come in place of `Offer`; then
-    /// nothing changed.
+    /// after which the transfer stays offered without a receipt. `NoMemory` may come in place of any after
+    /// `KeySpent`; then nothing changed.
     pub fn issue<E: Disk, H: Hash32 + Copy>(
         &mut self,
         alloc: Global,
