@@ -6,3 +6,5 @@ pub mod AuditTests
 pub mod Audits
 pub mod Refusals
 pub mod Desks
+pub mod Issues
+pub mod Given

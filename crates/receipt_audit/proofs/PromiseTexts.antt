@@ -148,6 +148,13 @@ promises_are_read_back promise signature h =
       due = due_is i;
     })
 
+-- a promise has 100 bytes
+pub promise-long : (promise : Promise) → IsPromise promise → length (promise_text promise) ≡ 100
+unfolding promise_text
+promise-long promise h =
+    seven promise_mark promise.tag (number_text promise.coin) (number_text promise.parent) promise.digest
+    (number_text promise.issued) (number_text promise.due) [] refl h.tag refl refl h.digest refl refl
+
 -- ---- one spelling
 
 -- what is known where a receipt begins with a promise

@@ -1,19 +1,28 @@
--- What holds of the audit of a receipt.
-use Rattle.std.specs.Prelude.{◌≡◌, ◌≢◌, ℕ, ◌^◌, ◌<◌, ◌≤◌, List, [], ◌++◌, length, Some, Ok, Err}
+-- What holds of the audit of a receipt, and of the receipts that an issue gives.
+use Rattle.std.specs.Prelude.{◌≡◌, ◌≢◌, ℕ, ◌^◌, ◌<◌, ◌≤◌, true, nat_lt, if◌then◌else◌, List, [], ◌∷◌, ◌++◌, length, Some, Ok, Err}
 use Rattle.std.specs.List.{All}
+use Rattle.lms_sign.specs.declared.secret.Secret.{Secret}
+use Rattle.lms_sign.specs.Types.{is_supported}
+use Rattle.lms_sign.specs.Tree.{public_key_of, signature_of}
+use Rattle.lms_sign.specs.Valid.{IsValid}
+use Rattle.leaf_journal.specs.Records.{messages_of}
 use Rattle.sparse_merkle.specs.declared.tree.Entry.{Entry}
 use Rattle.sparse_merkle.specs.TreeDigest.{leaf_of, root_of}
 use Rattle.plasma_tx.specs.declared.call.RootCall.{RootCall}
 use Rattle.plasma_tx.specs.Chain.{Chain}
-use Rattle.plasma_tx.specs.Spelling.{AreBytes}
+use Rattle.plasma_tx.specs.Spelling.{AreBytes, body_at_start}
 use Rattle.plasma_tx.specs.Shown.{Tests, root_at}
+use Rattle.plasma_tx.specs.Views.{blocks}
 use Rattle.coin_history.specs.declared.bundle.Bundle.{Bundle}
 use Rattle.coin_history.specs.Bundles.{AreRising, bundle_in}
+use Rattle.operator_rules.specs.Records.{who_is}
 use Rattle.receipt_audit.specs.declared.promise.Promise.{Promise}
+use Rattle.receipt_audit.specs.declared.issuing.Receipt.{Receipt}
 use Rattle.receipt_audit.specs.declared.audit.Conviction.{Conviction}
-use Rattle.receipt_audit.specs.declared.refusal.AuditRefusal.TheVariants.{NoMemory}
-use Rattle.receipt_audit.specs.Promises.{promise_text, IsPromise}
-use Rattle.receipt_audit.specs.Audit.{breach_of, conviction_answer, ClashesAt, IsBroken, ShowsBreach}
+use Rattle.receipt_audit.specs.declared.refusal.AuditRefusal.TheVariants.{NotYet, NoMemory}
+use Rattle.receipt_audit.specs.Promises.{promise_in, promise_text, promised_part, signature_part, IsPromise}
+use Rattle.receipt_audit.specs.Audit.{breach_of, conviction_answer, shown_by, ClashesAt, IsBroken, ShowsBreach}
+use Rattle.receipt_audit.specs.Desk.{issue_effect, promise_for}
 
 -- the test of a bundle of the promise's coin, whose blocks rise, passes exactly what goes to the due block and shows a
 -- breach
@@ -52,3 +61,61 @@ KeptPromisesAreNotConvicted = (dig : List ℕ → List ℕ) (chain : Chain) (pro
 abbrev pub AuditsHaveTheirCauses : Type 0
 AuditsHaveTheirCauses = (dig : List ℕ → List ℕ) (chain : Chain) (key receipt bundle : List ℕ)
     → conviction_answer dig chain key receipt bundle ≢ Err NoMemory
+
+-- ---- receipts that an issue gives
+
+-- An issue over values of their types: a digest of 32 bytes, a key of supported types with an identifier of 16 bytes,
+-- a transfer's bytes, and a due block of 64 bits.
+pub record MayIssue (dig : List ℕ → List ℕ) (secret : Secret) (bytes : List ℕ) (due : ℕ) : Type 0 where
+  pub long : (message : List ℕ) → length (dig message) ≡ 32
+  pub supported : is_supported secret.types ≡ true
+  pub id : length secret.id ≡ 16
+  pub small : AreBytes bytes
+  pub narrow : due < 2 ^ 64
+
+-- A receipt that a desk gives for a transfer: it begins with the promise of the transfer, by a due block that isn't
+-- there yet; the desk's next leaf signs that promise, and is bound to it in the records that the desk has then.
+pub record IsGiven (dig : List ℕ → List ℕ) (secret : Secret) (notes records : List (List ℕ)) (log : List RootCall)
+    (bytes : List ℕ) (due : ℕ) (receipt : List ℕ) (after : List (List ℕ)) : Type 0 where
+  pub promise : promise_in (who_is notes).tag receipt
+      ≡ Some (promise_for dig (who_is notes).tag (blocks log) bytes due)
+  pub early : blocks log < due
+  pub signed : IsValid (public_key_of secret) (promised_part receipt) (signature_part receipt)
+  pub leaf : signature_part receipt ≡ signature_of secret (length (messages_of records)) (promised_part receipt)
+  pub bound : messages_of after ≡ messages_of records ++ promised_part receipt ∷ []
+
+-- what an issue gives by its definition is such a receipt
+abbrev pub IssuesGiveReceipts : Type 0
+IssuesGiveReceipts = (dig judge : List ℕ → List ℕ) (secret : Secret) (notes records : List (List ℕ))
+    (log : List RootCall) (bytes : List ℕ) (due : ℕ) (receipt : Receipt)
+    → MayIssue dig secret bytes due
+    → (issue_effect dig judge secret notes records log bytes due).answer ≡ Ok receipt
+    → (body : List ℕ) × ((issue_effect dig judge secret notes records log bytes due).leaf ≡ Some body)
+    × IsGiven dig secret notes records log bytes due receipt.bytes (records ++ body ∷ [])
+
+-- An auditor takes it at any later log of the chain: the one cause left, beside those of the bundle, is a due block that
+-- isn't there.
+abbrev pub GivenReceiptsAreTaken : Type 0
+GivenReceiptsAreTaken = (dig judge : List ℕ → List ℕ) (secret : Secret) (notes records : List (List ℕ))
+    (log : List RootCall) (bytes : List ℕ) (due : ℕ) (receipt : Receipt) (chain : Chain) (bundle : List ℕ)
+    → MayIssue dig secret bytes due
+    → (issue_effect dig judge secret notes records log bytes due).answer ≡ Ok receipt
+    → chain.tag ≡ (who_is notes).tag
+    → conviction_answer dig chain (public_key_of secret) receipt.bytes bundle
+    ≡ (if nat_lt (blocks chain.log) due then Err (NotYet due)
+    else shown_by dig chain.log (promise_for dig (who_is notes).tag (blocks log) bytes due) (bundle_in bundle))
+
+-- An operator that gave a receipt and committed the transfer behind it and in time isn't convicted, but by two different
+-- strings of one digest: the bundle's opening of that block and the operator's map show them.
+abbrev pub KeptReceiptsDoNotConvict : Type 0
+KeptReceiptsDoNotConvict = (dig judge : List ℕ → List ℕ) (secret : Secret) (notes records : List (List ℕ))
+    (log : List RootCall) (bytes : List ℕ) (due : ℕ) (receipt : Receipt) (chain : Chain) (key bundle : List ℕ)
+    (n : ℕ) (entries : List Entry) (conviction : Conviction)
+    → MayIssue dig secret bytes due
+    → (issue_effect dig judge secret notes records log bytes due).answer ≡ Ok receipt
+    → chain.tag ≡ (who_is notes).tag → AreBytes receipt.bytes → AreBytes bundle
+    → blocks log < n → n ≤ due → root_at chain.log n ≡ Some (root_of dig entries)
+    → All (λ entry. entry.coin < 2 ^ 64) entries → leaf_of entries (body_at_start bytes).coin ≡ bytes
+    → conviction_answer dig chain key receipt.bytes bundle ≡ Ok conviction
+    → (shown : Bundle) × (bundle_in bundle ≡ Ok shown)
+    × ClashesAt dig (body_at_start bytes).coin n entries shown.openings

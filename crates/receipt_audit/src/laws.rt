@@ -1,5 +1,5 @@
 ghost use Rattle.receipt_audit.specs.Promises.{PromisesAreReadBack, PromisesHaveOneSpelling};
-ghost use Rattle.receipt_audit.specs.Laws.{AuditsHaveTheirCauses, BreachesPass, ConvictionsShowBrokenPromises, KeptPromisesAreNotConvicted, OnlyBreachesPass};
+ghost use Rattle.receipt_audit.specs.Laws.{AuditsHaveTheirCauses, BreachesPass, ConvictionsShowBrokenPromises, GivenReceiptsAreTaken, IssuesGiveReceipts, KeptPromisesAreNotConvicted, KeptReceiptsDoNotConvict, OnlyBreachesPass};
 
 /// A law: the bytes of a promise are read as that promise, whatever signature stands behind it, and bytes
 /// that are read as a promise are its own.
@@ -31,4 +31,13 @@ pub fn kept_promises_are_not_convicted()
 /// A law: an audit refuses for want of memory only where memory ran out.
 pub fn auditors_refuse_by_their_causes()
     ensures { AuditsHaveTheirCauses }
+{}
+
+/// A law: a receipt that an issue gives is signed under the desk's key by its next leaf, which is bound to the
+/// receipt's promise; an audit takes it, at any later log of the chain; and an operator that committed its
+/// transfer in time isn't convicted, but by two different strings of one digest.
+pub fn receipts_bind_their_operator()
+    ensures given { IssuesGiveReceipts }
+    ensures taken { GivenReceiptsAreTaken }
+    ensures kept { KeptReceiptsDoNotConvict }
 {}

@@ -74,7 +74,7 @@ pub fn promise_in(tag: &[u8; 32], receipt: &[u8]) -> Option<Promise>
 }
 
 /// Writes the bytes at a place, after which those from there on are free.
-fn put(out: &mut [u8], place: usize, bytes: &[u8])
+pub(crate) fn put(out: &mut [u8], place: usize, bytes: &[u8])
     requires { place + length bytes.now ≤ length out.old }
     ensures { take (place + length bytes.now) out.new ≡ take place out.old ++ bytes.now }
 {

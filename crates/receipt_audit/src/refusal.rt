@@ -1,3 +1,4 @@
+use operator_rules::OfferRefusal;
 use thiserror::Error;
 
 /// Why nobody is convicted.
@@ -33,6 +34,32 @@ pub enum AuditRefusal {
     /// The block has the promised transfer.
     #[error("honoured {n}")]
     Honoured { n: u64 },
+    /// Memory ran out.
+    #[error("no memory")]
+    NoMemory,
+}
+
+/// Why no receipt was issued.
+#[derive(Debug, Clone, Copy, PartialEq, Eq, Error)]
+pub enum IssueRefusal {
+    /// The due block is there already: there are so many blocks.
+    #[error("bad due: there are {blocks} blocks")]
+    BadDue { blocks: u64 },
+    /// The desk's journal has no marker yet.
+    #[error("old journal")]
+    OldJournal,
+    /// Every leaf of the desk is bound, in all so many.
+    #[error("key spent, used {used}")]
+    KeySpent { used: u32 },
+    /// The operator doesn't take the transfer.
+    #[error("{why}")]
+    Offer { why: OfferRefusal },
+    /// The desk's disk failed in this call.
+    #[error("device fault")]
+    DeviceFault,
+    /// The desk's disk failed in an earlier call.
+    #[error("closed")]
+    Closed,
     /// Memory ran out.
     #[error("no memory")]
     NoMemory,
