@@ -102,4 +102,4 @@ def owner_of(words):
     """The words of an init that makes a node of a role with a seed of its own."""
     tag = kill.TAG
     return {"wallet": ["init", "wallet", tag, "11", f"0x{101:064x}"], "operator": ["init", "operator", tag, "9"],
-            "watcher": ["init", "watcher", tag, "14"]}[words]
+            "watcher": ["init", "watcher", tag, "14"], kill.SIGNER: ["hss", "init", f"0x{104:064x}"]}[words]
