@@ -1,5 +1,5 @@
 -- What a call of a two-level signer does that isn't refused by its definition.
-use Rattle.std.proofs.Common.{◌≡◌, ◌-◌, ◌≤◌, ℕ, true, false, cond, List, [], ◌∷◌, ◌++◌, length, codes, Option, Some, None, Result, Ok, Err, refl, sym, ◌∙◌, ap, append_assoc}
+use Rattle.std.proofs.Common.{◌≡◌, ◌≤◌, ℕ, true, false, cond, List, [], ◌∷◌, ◌++◌, length, codes, Option, Some, None, Result, Ok, Err, refl, sym, ◌∙◌, ap, append_assoc}
 use Rattle.std.specs.Prelude.{◌≢◌}
 use Rattle.std.proofs.lemmas.Bool.{and_parts, leb-true}
 use Rattle.hex.specs.Hex.{encode_lower}
@@ -119,10 +119,10 @@ text-is front digits bytes is =
     ap (λ (l : List ℕ). l ++ 10 ∷ [])
     (append_assoc front (48 ∷ 120 ∷ []) digits ∙ ap (λ (l : List ℕ). front ++ 48 ∷ 120 ∷ l) is)
 
--- an answer of what the next leaf is bound to
-pub answer-is : (seed now : HssSeed) (bound : HssBoundState) (next : NextLeaf) (message line : List ℕ) → now ≡ seed
-    → bound ≡ bound_of seed next.top_leaf next.leaf message
-    → line ≡ signed_text now bound.top_leaf bound.leaf bound.message
+-- an answer of what the next leaf is bound to, as it is put
+pub answer-is : (seed now : HssSeed) (bound : HssBoundState) (next : NextLeaf) (message text line : List ℕ)
+    → now ≡ seed → bound ≡ bound_of seed next.top_leaf next.leaf message
+    → text ≡ signed_text now bound.top_leaf bound.leaf bound.message → line ≡ text
     → line ≡ signed_text seed next.top_leaf next.leaf message
-answer-is seed now bound next message line same is line_is =
-    line_is ∙ (λ i. signed_text (same i) (is i).top_leaf (is i).leaf (is i).message)
+answer-is seed now bound next message text line same is text_is line_is =
+    line_is ∙ text_is ∙ (λ i. signed_text (same i) (is i).top_leaf (is i).leaf (is i).message)

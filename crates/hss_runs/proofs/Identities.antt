@@ -1,7 +1,6 @@
 -- The seed of a signer's records.
-use Rattle.std.proofs.Common.{◌≡◌, ℕ, List, [], ◌∷◌, Option, Some, refl, ◌∙◌, ap}
+use Rattle.std.proofs.Common.{◌≡◌, ℕ, List, [], ◌∷◌, Option, Some, ◌∙◌, ap}
 use Rattle.std.specs.Prelude.{slice_get, unwrap_or}
-use Rattle.hss_keys.specs.declared.seed.HssSeed.{HssSeed}
 use Rattle.hss_runs.specs.Identity.{seed_in, seed_of, signer_seed}
 
 -- that of the first one, where it spells an identity

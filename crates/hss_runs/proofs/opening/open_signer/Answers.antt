@@ -1,6 +1,5 @@
 use Rattle.std.proofs.Common.{inr}
 use Rattle.std.proofs.lemmas.Result.{IfErr-weaker}
-use Rattle.hss_runs.specs.declared.opening.ReturnedBoth.{ReturnedBoth}
 use Rattle.hss_runs.specs.Runs.{RefusesLeaves, RefusesSigner}
 use Rattle.hss_runs.proofs.opening.open_signer.Goals as goal
 

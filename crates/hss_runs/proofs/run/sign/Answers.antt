@@ -1,7 +1,6 @@
-use Rattle.std.proofs.Common.{◌≡◌, ℕ, None, Some, codes, length, refl, sym, ◌∙◌, ap, subst}
-use Rattle.hss_keys.specs.Entries.{entries_of, opened_count}
+use Rattle.std.proofs.Common.{codes, length, sym, ◌∙◌, ap, subst}
 use Rattle.hss_keys.specs.Levels.{notes_of}
-use Rattle.hss_runs.specs.Signing.{next_leaf, refuses, signing, Signing}
+use Rattle.hss_runs.specs.Signing.{refuses, Signing}
 use Rattle.hss_runs.specs.Runs.{Signs}
 use Rattle.hss_runs.proofs.Adding.{refuses-signs}
 use Rattle.hss_runs.proofs.Calls.{signing-next, signing-short, signing-spent}

@@ -1,4 +1,4 @@
-use Rattle.std.proofs.Common.{◌≡◌, ◌<◌, ℕ, List, [], inl, inr, arith, sym, ◌∙◌, subst}
+use Rattle.std.proofs.Common.{◌<◌, ℕ, List, [], inl, inr, arith, sym, subst}
 use Rattle.lms_sign.specs.Types.{leaf_count}
 use Rattle.run_endings.specs.declared.status.Status.TheVariants.{Done}
 use Rattle.run_endings.specs.Outputs.{EndsAs}
@@ -26,7 +26,8 @@ returns-in-Ok-bind_next-clause-signs g c =
     let old = c.args.levels.now in
     let new = c.bind_next.new.levels in
     let line = answer-is old.seed c.args.secret.now c.in-Ok-bind_next.bound c.args.next c.args.message.now
-    c.deref.result.now c.requires.secret c.in-Ok-bind_next.ensures.bound (c.deref.ensures.value ∙ c.sign.ensures) in
+    c.sign.result.items c.deref.result.now c.requires.secret c.in-Ok-bind_next.ensures.bound c.sign.ensures
+    c.deref.ensures.value in
     inl (record {
       adds = c.in-Ok-bind_next.ensures.did;
       settled = adds-settle d.told d.plan d.faults (entries_added old.seed c.args.next c.args.message.now)

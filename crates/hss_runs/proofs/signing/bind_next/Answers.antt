@@ -1,4 +1,4 @@
-use Rattle.std.proofs.Common.{◌≡◌, List, sym, subst, ◌∙◌, ap}
+use Rattle.std.proofs.Common.{List, sym, subst}
 use Rattle.node_journal.specs.Notes.{stopped_by}
 use Rattle.hss_keys.specs.declared.entry.Entry.{Entry}
 use Rattle.hss_keys.specs.declared.entry.Entry.TheVariants.{Opens, Binds}

@@ -1,10 +1,10 @@
-use Rattle.std.proofs.Common.{◌≡◌, List, Option, None, Some, Result, Ok, Err, ℕ, refl, sym, ◌∙◌, ap, subst}
+use Rattle.std.proofs.Common.{List, Option, None, Some, Result, Err, ℕ, refl, sym, ◌∙◌, ap, subst}
 use Rattle.node_journal.specs.Notes.{Did}
 use Rattle.node_journal.specs.declared.stop.Stop.{Stop}
 use Rattle.hss_keys.specs.declared.refusal.LevelRefusal.{LevelRefusal}
 use Rattle.hss_keys.specs.Entries.{entries_of}
 use Rattle.hss_keys.specs.Levels.{bind_effect, bound_of, notes_of, HssBoundState}
-use Rattle.hss_runs.proofs.Leaves.{of-last, IsOfLast}
+use Rattle.hss_runs.proofs.Leaves.{of-last}
 use Rattle.hss_runs.proofs.Calls.{bind-answer, bind-note, fault-is, signable-parts, stop-is}
 use Rattle.hss_runs.proofs.signing.bind_opened.Goals as goal
 

@@ -1,5 +1,5 @@
-use Rattle.std.proofs.Common.{◌≡◌, ℕ, false, List, [], ◌∷◌, ◌++◌, Option, None, Some, Ok, refl, sym, ◌∙◌, ap, subst}
-use Rattle.node_journal.specs.Notes.{Added, Did}
+use Rattle.std.proofs.Common.{◌≡◌, ℕ, false, List, [], ◌∷◌, ◌++◌, Option, None, Some, Ok, sym, ◌∙◌, ap, subst}
+use Rattle.node_journal.specs.Notes.{Did}
 use Rattle.node_journal.specs.declared.stop.Stop.{Stop}
 use Rattle.hss_keys.specs.declared.entry.Entry.TheVariants.{Opens}
 use Rattle.hss_keys.specs.Keys.{bottom_key}
