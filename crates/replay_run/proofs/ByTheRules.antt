@@ -1,7 +1,6 @@
 -- A run that reads a schedule answers by the rules, and keeps the promise.
-use Rattle.std.proofs.Common.{◌≡◌, refl, sym, ap, subst, ◌∙◌, ℕ, inl, inr, Bool, false, List, [], ◌∷◌, ◌++◌, length, Option, Some, None, arith}
+use Rattle.std.proofs.Common.{◌≡◌, refl, sym, ap, subst, ◌∙◌, ℕ, inl, inr, Bool, false, List, [], ◌∷◌, ◌++◌, Option, Some, None, arith}
 use Rattle.std.specs.Prelude.{◌≢◌, option_map, codes}
-use Rattle.std.specs.List.{Contains}
 use Rattle.std.proofs.lemmas.List.{append-nil}
 use Rattle.crash_disk.specs.Disk.{History, FaultPlan}
 use Rattle.world_rules.specs.declared.verdict.Exhibit.{Exhibit}
@@ -19,7 +18,7 @@ use Rattle.run_endings.specs.Outputs.{Output, EndsAs}
 use Rattle.node_runs.specs.Sessions.{Outside}
 use Rattle.replay_run.specs.declared.ending.NoCause.{NoCause}
 use Rattle.replay_run.specs.Replays.{replay_of}
-use Rattle.replay_run.specs.Does.{Does, ReadsNoWords}
+use Rattle.replay_run.specs.Does.{Does}
 use Rattle.replay_run.specs.Headline.{run_text, run_brief, AnswersByTheRules, KeepsByForm}
 use Rattle.replay_run.proofs.EndingLaws.{endings-have_causes, answered-are_a_run}
 use Rattle.replay_run.proofs.Promises.{replay-keeps, offers-taken}

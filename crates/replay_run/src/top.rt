@@ -227,7 +227,12 @@ fn run_form<H: Hash32, S: Source, K: Sink, D: Disk>(
                 signature,
             },
         ) => {
-            let status = verify_signature(sink, key.as_slice(), message.as_slice(), signature.as_slice());
+            let status = verify_signature(
+                sink,
+                key.as_slice(),
+                message.as_slice(),
+                signature.as_slice(),
+            );
             Ended::of(status, notes, leaves)
         }
         Some(Form::HssInit { seed }) => {
@@ -237,7 +242,11 @@ fn run_form<H: Hash32, S: Source, K: Sink, D: Disk>(
             Ended::of_both(run_signer(alloc, sink, notes, leaves, message.as_slice()))
         }
         Some(Form::Audit { key, receipt }) => {
-            Ended::of(run_audit(alloc, h, key, receipt, source, sink), notes, leaves)
+            Ended::of(
+                run_audit(alloc, h, key, receipt, source, sink),
+                notes,
+                leaves,
+            )
         }
         Some(Form::Archive) => Ended::of(run_archive(alloc, h, source, sink), notes, leaves),
         Some(Form::Wallet) => { Ended::of_both(run_wallet(alloc, h, source, sink, notes, leaves)) }
