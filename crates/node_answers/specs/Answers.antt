@@ -25,6 +25,7 @@ use Rattle.node_lines.specs.declared.operator_line.OperatorLine.{OperatorLine}
 use Rattle.node_journal.specs.declared.stop.Stop.{Stop}
 use Rattle.node_journal.specs.declared.stop.Stop.TheVariants.{NoMemory}
 use Rattle.node_answers.specs.declared.wallet.WalletAsk.{WalletAsk}
+use Rattle.node_answers.specs.declared.operator.OperatorAsk.{OperatorAsk}
 use Rattle.node_answers.specs.declared.said.Said.{Said}
 use Rattle.node_answers.specs.declared.said.Said.TheVariants.{Answered, Refused}
 
@@ -73,19 +74,26 @@ outcome_of deed = record { says = said deed; note = deed.note; leaf = deed.leaf 
 abbrev pub tells : List ℕ → Outcome
 tells words = record { says = Ok (words ++ 10 ∷ []); note = None; leaf = None }
 
--- the order that a command is
+-- a refusal for this cause, which adds nothing
+abbrev pub refuses : List ℕ → Outcome
+refuses cause = record { says = Err cause; note = None; leaf = None }
+
+-- the order that a watcher's command is
 abbrev pub watcher_order : WatcherLine → WatcherOrder
 watcher_order (WatcherLine.Guard bundle) = WatcherOrder.Guard bundle
 watcher_order (WatcherLine.Release coin tip) = WatcherOrder.Release coin tip
 watcher_order WatcherLine.Watch = WatcherOrder.Watch
 
-abbrev pub operator_order : OperatorLine → OperatorOrder
-operator_order (OperatorLine.Offer transfer) = OperatorOrder.Offer transfer
-operator_order (OperatorLine.Lay coin leaf) = OperatorOrder.Lay coin leaf
-operator_order OperatorLine.Seal = OperatorOrder.Seal
-operator_order (OperatorLine.Bundle coin tip) = OperatorOrder.Bundle coin tip
-operator_order (OperatorLine.Prove coin block) = OperatorOrder.Prove coin block
-operator_order (OperatorLine.Absences coin after last) = OperatorOrder.Absences coin after last
+-- what a command of the operator asks for
+abbrev pub operator_ask : OperatorLine → OperatorAsk
+operator_ask (OperatorLine.Offer transfer) = OperatorAsk.Order (OperatorOrder.Offer transfer)
+operator_ask (OperatorLine.Lay coin leaf) = OperatorAsk.Order (OperatorOrder.Lay coin leaf)
+operator_ask OperatorLine.Seal = OperatorAsk.Order OperatorOrder.Seal
+operator_ask (OperatorLine.Bundle coin tip) = OperatorAsk.Order (OperatorOrder.Bundle coin tip)
+operator_ask (OperatorLine.Prove coin block) = OperatorAsk.Order (OperatorOrder.Prove coin block)
+operator_ask (OperatorLine.Absences coin after last) = OperatorAsk.Order (OperatorOrder.Absences coin after last)
+operator_ask (OperatorLine.Receipt transfer due) = OperatorAsk.Receipt transfer due
+operator_ask OperatorLine.Migrate = OperatorAsk.Migrate
 
 -- what a command of a wallet asks for
 abbrev pub wallet_ask : WalletLine → WalletAsk
@@ -108,12 +116,17 @@ asked dig log wallet WalletAsk.Who = tells (hex_text (owner_text (owner_of (who 
 unfoldable pub wallet_outcome : (List ℕ → List ℕ) → List RootCall → WalletRecords → WalletLine → Outcome
 wallet_outcome dig log wallet line = asked dig log wallet (wallet_ask line)
 
--- what a watcher's command comes to, and an operator's
+-- what a watcher's command comes to
 unfoldable pub watcher_outcome : (List ℕ → List ℕ) → List RootCall → List (List ℕ) → WatcherLine → Outcome
 watcher_outcome dig log notes line = outcome_of (watcher_deed dig log 0 notes (watcher_order line))
 
+-- what an operator's comes to that has no key: neither a receipt nor a migration is to be had there
+abbrev pub keyless : (List ℕ → List ℕ) → List RootCall → List (List ℕ) → OperatorAsk → Outcome
+keyless dig log notes (OperatorAsk.Order order) = outcome_of (operator_deed dig log 0 notes order)
+keyless dig log notes ask = refuses (codes "no-key")
+
 unfoldable pub operator_outcome : (List ℕ → List ℕ) → List RootCall → List (List ℕ) → OperatorLine → Outcome
-operator_outcome dig log notes line = outcome_of (operator_deed dig log 0 notes (operator_order line))
+operator_outcome dig log notes line = keyless dig log notes (operator_ask line)
 
 -- ---- answering
 

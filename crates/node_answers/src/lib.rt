@@ -2,11 +2,14 @@
 //! that it offers; or the cause for which it is refused.
 #![tactic(auto)]
 
+mod keyed;
 mod operator;
+mod receipts;
 mod said;
 mod wallet;
 mod watcher;
 
+pub use keyed::{KeyedOperator, answer_keyed};
 pub use operator::answer_operator;
 pub use said::Said;
 pub use wallet::answer_wallet;

@@ -1,22 +1,31 @@
 ghost use Rattle.std.specs.Prelude.{◌≡◌, false, IfOk, OnErr};
-ghost use Rattle.node_answers.specs.Answers.{operator_order, operator_outcome, IsSaid};
+ghost use Rattle.operator_deeds.specs.Orders.{order_deed};
+ghost use Rattle.node_answers.specs.Answers.{operator_ask, outcome_of, operator_outcome, IsSaid};
 ghost use Rattle.node_answers.specs.Doing.{DidNotes};
 
-use super::said::{Said, put_given};
+use super::said::{Said, put_given, refused};
 use crash_disk::Disk;
 use node_journal::Stop;
 use node_lines::OperatorLine;
 use operator_core::Operator;
 use operator_deeds::{OperatorOrder, run};
-use plasma_base::Hash32;
+use plasma_base::{Bytes, Hash32};
 use plasma_tx::RootLog;
 use std::alloc::Global;
 
-// The order that a line is.
-fn order_of(line: OperatorLine) -> OperatorOrder
-    ensures { result ≡ operator_order line }
+/// What a command of the operator asks for: an order, a receipt of its desk, or the marker in the desk's journal.
+#[derive(Debug, Drop)]
+pub enum OperatorAsk {
+    Order { order: OperatorOrder },
+    Receipt { transfer: Bytes, due: u64 },
+    Migrate,
+}
+
+/// What a line asks for.
+pub fn ask_of(line: OperatorLine) -> OperatorAsk
+    ensures { result ≡ operator_ask line }
 {
-    match line {
+    let order = match line {
         OperatorLine::Offer { transfer } => OperatorOrder::Offer { transfer },
         OperatorLine::Lay { coin, leaf } => OperatorOrder::Lay { coin, leaf },
         OperatorLine::Seal => OperatorOrder::Seal,
@@ -27,10 +36,34 @@ fn order_of(line: OperatorLine) -> OperatorOrder
             after,
             last,
         },
-    }
+        OperatorLine::Receipt { transfer, due } => return OperatorAsk::Receipt { transfer, due },
+        OperatorLine::Migrate => return OperatorAsk::Migrate,
+    };
+    OperatorAsk::Order { order }
 }
 
-/// Answers a command of an operator that no fault closed, behind this log, into the text. A refusal is no answer: its
+/// Runs an order, and puts its answer.
+pub fn answer_order<D: Disk, H: Hash32 + Copy>(
+    alloc: Global,
+    node: &mut Operator<D, H>,
+    log: &RootLog,
+    order: &OperatorOrder,
+    text: &mut Vec<u8>,
+) -> Result<Said, Stop>
+    requires { node.old.notes.closed ≡ false }
+    ensures said { IfOk result (λ said. IsSaid (outcome_of (order_deed (H.digest_of node.old.hash) log.now.log 0
+        node.old.notes.records order.now)).says said text.old.items text.new.items) }
+    ensures did { DidNotes D.told D.plan D.faults (order_deed (H.digest_of node.old.hash) log.now.log 0
+        node.old.notes.records order.now).note node.old.notes result node.new.notes }
+    ensures untold { OnErr result (text.new.items ≡ text.old.items) }
+    ensures hash { node.new.hash ≡ node.old.hash }
+{
+    let given = run(alloc, node, log, order)?;
+    Ok(put_given(alloc, given, text)?)
+}
+
+/// Answers a command of an operator without a key that no fault closed, behind this log, into the text. It has
+/// neither receipts nor a migration, which are refused for that. A refusal is no answer: its
 /// cause is given out. Where the command is stopped, by want of memory or a device fault, the text stays; where memory
 /// ran out the command may have been done before.
 #[tactic(auto, unfolding(crate::specs::Answers::operator_outcome))]
@@ -49,7 +82,8 @@ pub fn answer_operator<D: Disk, H: Hash32 + Copy>(
     ensures untold { OnErr result (text.new.items ≡ text.old.items) }
     ensures hash { node.new.hash ≡ node.old.hash }
 {
-    let order = order_of(line);
-    let given = run(alloc, node, log, &order)?;
-    Ok(put_given(alloc, given, text)?)
+    match ask_of(line) {
+        OperatorAsk::Order { order } => answer_order(alloc, node, log, &order, text),
+        OperatorAsk::Receipt { .. } | OperatorAsk::Migrate => Ok(refused(alloc, b"no-key")?),
+    }
 }

@@ -1,9 +1,12 @@
 ghost use Rattle.std.specs.Prelude.{◌≡◌, ◌++◌, ◌∷◌, [], Ok, IfOk, OnOk, OnErr};
 ghost use Rattle.std.specs.List.{flat_map};
+ghost use Rattle.world_rules.specs.Causes.{phrase};
 ghost use Rattle.world_rules.specs.Deeds.{Gives};
 ghost use Rattle.world_rules.specs.Given.{IsGiven};
+ghost use Rattle.node_answers.specs.declared.said.Said.{Said};
 ghost use Rattle.node_answers.specs.Answers.{made_text, offer_text, given_text, said_by, IsSaid};
 
+use line_forms::push_number;
 use plasma_base::{Bytes, NoMemory, push_hex};
 use plasma_tx::RootCall;
 use root_log::print_call;
@@ -17,6 +20,29 @@ pub enum Said {
     Answered,
     /// It was refused for this cause, and added nothing.
     Refused { cause: Bytes },
+}
+
+/// Puts words, and numbers after them, at the end.
+pub fn push_phrase(out: &mut Vec<u8>, words: &[u8], numbers: &[u64]) -> Result<(), NoMemory>
+    ensures { OnOk result (out.new.items ≡ out.old.items ++ phrase words.now numbers.now) }
+{
+    out.extend_from_slice(words)?;
+    for number in numbers.iter() {
+        out.push(b' ')?;
+        push_number(out, *number)?;
+    }
+    Ok(())
+}
+
+/// A refusal for this cause.
+pub fn refused(alloc: Global, words: &[u8]) -> Result<Said, NoMemory>
+    ensures { IfOk result (λ said. said ≡ Said.Refused words.now) }
+{
+    let mut cause = Vec::new(alloc);
+    cause.extend_from_slice(words)?;
+    Ok(Said::Refused {
+        cause: Bytes::from_vec(cause),
+    })
 }
 
 // Puts the bytes that a command makes at the end, as a hex on a line of its own.

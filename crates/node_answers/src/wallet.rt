@@ -1,16 +1,14 @@
-ghost use Rattle.std.specs.Prelude.{◌≡◌, ◌++◌, false, IfOk, OnOk, OnErr};
+ghost use Rattle.std.specs.Prelude.{◌≡◌, false, IfOk, OnErr};
 ghost use Rattle.plasma_base.specs.HexText.{hex_text};
 ghost use Rattle.plasma_tx.specs.Spelling.{owner_text};
 ghost use Rattle.node_rules.specs.Wallet.{who};
 ghost use Rattle.node_rules.specs.WalletRecords.{owner_of};
-ghost use Rattle.world_rules.specs.Causes.{phrase};
 ghost use Rattle.wallet_deeds.specs.Orders.{order_deed};
 ghost use Rattle.node_answers.specs.Answers.{state_words, wallet_ask, outcome_of, wallet_outcome, IsSaid};
 ghost use Rattle.node_answers.specs.Doing.{DidWallet};
 
-use super::said::{Said, put_given, put_words};
+use super::said::{Said, push_phrase, put_given, put_words};
 use crash_disk::Disk;
-use line_forms::push_number;
 use node_journal::Stop;
 use node_lines::WalletLine;
 use plasma_base::{Hash32, NoMemory, push_hex};
@@ -46,18 +44,6 @@ fn ask_of(line: WalletLine) -> WalletAsk
     WalletAsk::Order { order }
 }
 
-// Puts words, and numbers after them, at the end.
-fn push_state(out: &mut Vec<u8>, words: &[u8], numbers: &[u64]) -> Result<(), NoMemory>
-    ensures { OnOk result (out.new.items ≡ out.old.items ++ phrase words.now numbers.now) }
-{
-    out.extend_from_slice(words)?;
-    for number in numbers.iter() {
-        out.push(b' ')?;
-        push_number(out, *number)?;
-    }
-    Ok(())
-}
-
 // The words of what a coin is.
 fn words_of(alloc: Global, state: CoinState) -> Result<Vec<u8>, NoMemory>
     ensures { IfOk result (λ words. words.items ≡ state_words state) }
@@ -65,9 +51,9 @@ fn words_of(alloc: Global, state: CoinState) -> Result<Vec<u8>, NoMemory>
     let mut words = Vec::new(alloc);
     match state {
         CoinState::Nothing => words.extend_from_slice(b"nothing")?,
-        CoinState::Held { tip } => push_state(&mut words, b"held", &[tip])?,
-        CoinState::Sending { tip, q } => push_state(&mut words, b"sending", &[tip, u64::from(q)])?,
-        CoinState::Leaving { tip } => push_state(&mut words, b"leaving", &[tip])?,
+        CoinState::Held { tip } => push_phrase(&mut words, b"held", &[tip])?,
+        CoinState::Sending { tip, q } => push_phrase(&mut words, b"sending", &[tip, u64::from(q)])?,
+        CoinState::Leaving { tip } => push_phrase(&mut words, b"leaving", &[tip])?,
     }
     Ok(words)
 }

@@ -118,6 +118,8 @@ operator_form OperatorLineName.Bundle = named (codes "bundle") (number ▸ numbe
 operator_form OperatorLineName.Prove = named (codes "prove") (number ▸ number ▸ ends) OperatorLine.Prove
 operator_form OperatorLineName.Absences =
     named (codes "absences") (number ▸ number ▸ number ▸ ends) OperatorLine.Absences
+operator_form OperatorLineName.Receipt = named (codes "receipt") (hex ▸ number ▸ ends) OperatorLine.Receipt
+operator_form OperatorLineName.Migrate = named (codes "migrate") ends OperatorLine.Migrate
 
 -- the table of the commands
 abbrev pub operator_lines : Table OperatorLineName OperatorLine
@@ -131,6 +133,8 @@ operator_parts OperatorLine.Seal = of operator_lines OperatorLineName.Seal
 operator_parts (OperatorLine.Bundle coin tip) = of operator_lines OperatorLineName.Bundle coin tip
 operator_parts (OperatorLine.Prove coin block) = of operator_lines OperatorLineName.Prove coin block
 operator_parts (OperatorLine.Absences coin after last) = of operator_lines OperatorLineName.Absences coin after last
+operator_parts (OperatorLine.Receipt transfer due) = of operator_lines OperatorLineName.Receipt transfer due
+operator_parts OperatorLine.Migrate = of operator_lines OperatorLineName.Migrate
 
 -- which commands are in the grammar
 abbrev pub IsOperatorLine : OperatorLine → Type 0

@@ -22,6 +22,11 @@ pub enum OperatorLine {
     /// `absences <coin> <after> <last>`: the openings at the coin of the blocks after `after` up to
     /// `last`.
     Absences { coin: u64, after: u64, last: u64 },
+    /// `receipt <hex> <due>`: takes a signed transfer into the pool, and promises in writing that a block
+    /// up to `due` holds it.
+    Receipt { transfer: Bytes, due: u64 },
+    /// `migrate`: puts the marker into the journal of the key's leaves.
+    Migrate,
 }
 
 /// The first word of an operator's command.
@@ -33,16 +38,20 @@ pub enum OperatorLineName {
     Bundle,
     Prove,
     Absences,
+    Receipt,
+    Migrate,
 }
 
 /// The first words of an operator's commands.
-pub const OPERATOR_LINE_NAMES: [(&[u8], OperatorLineName); 6] = [
+pub const OPERATOR_LINE_NAMES: [(&[u8], OperatorLineName); 8] = [
     (b"offer", OperatorLineName::Offer),
     (b"lay", OperatorLineName::Lay),
     (b"seal", OperatorLineName::Seal),
     (b"bundle", OperatorLineName::Bundle),
     (b"prove", OperatorLineName::Prove),
     (b"absences", OperatorLineName::Absences),
+    (b"receipt", OperatorLineName::Receipt),
+    (b"migrate", OperatorLineName::Migrate),
 ];
 
 // The command with this first word.
@@ -76,6 +85,11 @@ fn operator_line_of(
             after: words.number()?,
             last: words.number()?,
         }),
+        OperatorLineName::Receipt => Ok(OperatorLine::Receipt {
+            transfer: words.hex(alloc)?,
+            due: words.number()?,
+        }),
+        OperatorLineName::Migrate => Ok(OperatorLine::Migrate),
     }
 }
 

@@ -4,3 +4,5 @@ mod WatcherRefusals
 mod OperatorRefusals
 mod WalletLaws
 mod WalletRefusals
+mod DeskLaws
+mod DeskRefusals

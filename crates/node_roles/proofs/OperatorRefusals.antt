@@ -33,7 +33,7 @@ at-quiet dig tag log forest bytes tx (Some made) why is =
     (is_waiting dig log forest tx.body.coin)))
     (record { answer = Ok tx.body.coin; note = Some (note_text (Offered bytes)) }) tx.body.coin why refl is
 
-offer-quiet : (dig : List ℕ → List ℕ) (tag : List ℕ) (log : List RootCall) (forest : Forest) (bytes : List ℕ)
+pub offer-quiet : (dig : List ℕ → List ℕ) (tag : List ℕ) (log : List RootCall) (forest : Forest) (bytes : List ℕ)
     (read : Result SignedTx TxRefusal) (why : OfferRefusal)
     → (offer_of dig tag log forest bytes read).answer ≡ Err why → (offer_of dig tag log forest bytes read).note ≡ None
 offer-quiet dig tag log forest bytes (Err refusal) why is = refl
@@ -57,6 +57,8 @@ operator-quiet dig log notes OperatorLine.Seal cause is =
 operator-quiet dig log notes (OperatorLine.Bundle coin tip) cause is = refl
 operator-quiet dig log notes (OperatorLine.Prove coin block) cause is = refl
 operator-quiet dig log notes (OperatorLine.Absences coin after last) cause is = refl
+operator-quiet dig log notes (OperatorLine.Receipt bytes due) cause is = refl
+operator-quiet dig log notes OperatorLine.Migrate cause is = refl
 
 -- the tag is that of the first record
 pub operator-tag : (records : List (List ℕ)) → are_of operator_kinds records ≡ true → (body : List ℕ)

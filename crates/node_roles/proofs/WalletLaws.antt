@@ -20,7 +20,7 @@ use Rattle.node_sessions.specs.Commands.{IsDone}
 use Rattle.node_roles.specs.Notes.{NodeAt, keeping, NotesAt, IsNotesAt, StaysAt}
 use Rattle.node_roles.specs.Deeds.{left_with}
 use Rattle.node_roles.specs.Wallets.{WalletAt, records_of, with_either, wallet_do, IsWalletAt, EitherFailsAt, WalletStoppedAt}
-use Rattle.node_roles.proofs.Refusals.{WalletAddsNothing}
+use Rattle.node_roles.proofs.Refusals.{AddsNeitherRefused}
 use Rattle.node_roles.proofs.NotesLaws.{adds-at, fails-at, stays}
 
 abbrev both : List (List ℕ) → List (List ℕ) → WalletRecords
@@ -182,7 +182,7 @@ module _ {D H : Type 0} (told : D → Option History) (plan : D → Option Fault
   answered : {N : Type 0} (IsAt : N → NodeAt WalletAt → Type 0) (outcome : Outcome) (at : NodeAt WalletAt)
       (old wallet : WalletState D H) (new : N) (before after : List ℕ) (said : Said)
       → ((left : WalletAt) → IsWalletAt told faults wallet left → IsAt new (keeping at left))
-      → WalletAddsNothing outcome
+      → AddsNeitherRefused outcome
       → IsWalletAt told faults old at.kept → DidEither told plan faults outcome.leaf outcome.note old None wallet
       → IsSaid outcome.says said before after → IsDone IsAt (wallet_do at outcome) at said before after new
   answered IsAt outcome at old wallet new before after Answered there quiet is did says = (
@@ -205,7 +205,7 @@ module _ {D H : Type 0} (told : D → Option History) (plan : D → Option Fault
   done : {N : Type 0} (IsAt : N → NodeAt WalletAt → Type 0) (outcome : Outcome) (at : NodeAt WalletAt)
       (old wallet : WalletState D H) (new : N) (before after : List ℕ) (result : Result Said Stop)
       → ((left : WalletAt) → IsWalletAt told faults wallet left → IsAt new (keeping at left))
-      → WalletAddsNothing outcome
+      → AddsNeitherRefused outcome
       → IsWalletAt told faults old at.kept → DidWallet told plan faults outcome.leaf outcome.note old result wallet
       → IfOk result (λ said. IsSaid outcome.says said before after)
       → IfOk result (λ said. IsDone IsAt (wallet_do at outcome) at said before after new)
@@ -218,7 +218,7 @@ module _ {D H : Type 0} (told : D → Option History) (plan : D → Option Fault
       (outcome : (List ℕ → List ℕ) → WalletRecords → Outcome) (dig : List ℕ → List ℕ) (at : NodeAt WalletAt)
       (old wallet : WalletState D H) (new : N) (before after : List ℕ) (result : Result Said Stop) → dig ≡ at.dig
       → ((left : WalletAt) → IsWalletAt told faults wallet left → IsAt new (keeping at left))
-      → ((dig : List ℕ → List ℕ) (records : WalletRecords) → WalletAddsNothing (outcome dig records))
+      → ((dig : List ℕ → List ℕ) (records : WalletRecords) → AddsNeitherRefused (outcome dig records))
       → IsWalletAt told faults old at.kept
       → DidWallet told plan faults (outcome dig old.records).leaf (outcome dig old.records).note old result wallet
       → IfOk result (λ said. IsSaid (outcome dig old.records).says said before after)

@@ -16,7 +16,7 @@ use Rattle.world_rules.proofs.WalletEnds.{AcceptEnds, accept_ends, SendEnds, sen
 use Rattle.wallet_deeds.specs.Orders.{order_deed}
 use Rattle.node_lines.specs.declared.wallet_line.WalletLine.{WalletLine}
 use Rattle.node_answers.specs.Answers.{wallet_outcome}
-use Rattle.node_roles.proofs.Refusals.{WalletAddsNothing, refused-by}
+use Rattle.node_roles.proofs.Refusals.{AddsNeitherRefused, refused-by}
 
 -- an effect that is refused adds nothing
 abbrev Quiet : {A : Type 0} → WalletEffect (Result A WalletRefusal) → Type 0
@@ -77,7 +77,7 @@ migrate-quiet wallet why is = by (is_marked wallet.leaves) refl
     by false marked = (let wrong = rw marked at is in cc)
 
 pub wallet-quiet : (dig : List ℕ → List ℕ) (log : List RootCall) (wallet : WalletRecords) (line : WalletLine)
-    → WalletAddsNothing (wallet_outcome dig log wallet line)
+    → AddsNeitherRefused (wallet_outcome dig log wallet line)
 unfolding wallet_outcome order_deed
 wallet-quiet dig log wallet (WalletLine.Accept bundle) cause is =
     refused-by 0 wallet_cause (on_accepted 0 bundle) (accept_effect dig wallet log bundle).answer _ cause

@@ -9,7 +9,7 @@ use Rattle.plasma_base.specs.HexText.{hex_in}
 use Rattle.line_forms.specs.Tokens.{number_in, hex_of_in}
 use Rattle.run_words.specs.Forms.{form_named, alone, init_form, init_wallet, init_operator, init_watcher, identity_in, make_form, verify_form, hss_form, hss_init, hss_sign, hss_verify, audit_form}
 use Rattle.run_words.specs.declared.form.Form.{Form}
-use Rattle.run_words.specs.declared.form.Form.TheVariants.{Replay, Brief, Wallet, Operator, Watcher, InitOperator, InitWatcher, Archive}
+use Rattle.run_words.specs.declared.form.Form.TheVariants.{Replay, Brief, Wallet, Operator, Watcher, InitWatcher, Archive}
 use Rattle.run_words.specs.declared.parsing.TheConstants.{NAMES}
 
 -- the names that forms begin with
@@ -172,7 +172,7 @@ no_identity a b c words = refl
 
 no_init : (role a b c d e f : List ℕ) (words : List (List ℕ))
     → init_form (role ∷ a ∷ b ∷ c ∷ d ∷ e ∷ f ∷ words) ≡ None
-unfolding init_form
+unfolding init_form init_operator
 no_init role a b c d e f words =
     none_chosen (
     (bytes_eq role (codes "wallet"), init_wallet (a ∷ b ∷ c ∷ d ∷ e ∷ f ∷ words))
@@ -181,10 +181,7 @@ no_init role a b c d e f words =
     ∷ []
     ) (
       no_wallet a b c d e f words,
-      (
-        ap (option_map (λ who. InitOperator who.0 who.1)) (no_identity a b c (d ∷ e ∷ f ∷ words)),
-        (ap (option_map (λ who. InitWatcher who.0 who.1)) (no_identity a b c (d ∷ e ∷ f ∷ words)), tt),
-      ),
+      (refl, (ap (option_map (λ who. InitWatcher who.0 who.1)) (no_identity a b c (d ∷ e ∷ f ∷ words)), tt)),
     )
 
 no_hss : (verb a b c d e f : List ℕ) (words : List (List ℕ))

@@ -9,7 +9,7 @@ use Rattle.lms_sign.specs.declared.types.LmsTypes.{LmsTypes}
 use Rattle.lms_sign.specs.Types.{is_supported}
 use Rattle.run_words.specs.declared.form.Form.{Form}
 use Rattle.run_words.specs.declared.form.Form.TheVariants.{Replay, Brief, Wallet, Operator, Watcher, HssInit, HssSign, Archive}
-use Rattle.run_words.specs.Forms.{alone, types_in, wallet_of, init_wallet, identity_in, init_form, make_form, verify_form, hss_init, hss_sign, hss_verify, hss_form, audit_form, form_named, form_of, IsSound}
+use Rattle.run_words.specs.Forms.{alone, types_in, wallet_of, init_wallet, operator_of, init_operator, identity_in, init_form, make_form, verify_form, hss_init, hss_sign, hss_verify, hss_form, audit_form, form_named, form_of, IsSound}
 
 -- a form that hangs on a value
 over : {A : Type 0} (P : A → Type 0) (value : Option A) (form : A → Option Form) → IfSome value P
@@ -74,12 +74,25 @@ init-wallet-sound (tag ∷ account ∷ seed ∷ lms ∷ ots ∷ []) =
     (wallet-sound tag account seed)
 init-wallet-sound (tag ∷ account ∷ seed ∷ lms ∷ ots ∷ more ∷ words) = tt
 
+operator-sound : (tag account : List ℕ) (key_seed : Option (List ℕ)) → IsSound (operator_of tag account key_seed)
+unfolding operator_of
+operator-sound tag account key_seed = any (hex_of_in 32 tag) _ (λ t. any (number_in account) _ (λ a. tt))
+
+init-operator-sound : (words : List (List ℕ)) → IsSound (init_operator words)
+unfolding init_operator
+init-operator-sound [] = tt
+init-operator-sound (tag ∷ []) = tt
+init-operator-sound (tag ∷ account ∷ []) = operator-sound tag account None
+init-operator-sound (tag ∷ account ∷ seed ∷ []) =
+    any (hex_of_in 32 seed) _ (λ s. operator-sound tag account (Some s))
+init-operator-sound (tag ∷ account ∷ seed ∷ more ∷ words) = tt
+
 init-sound : (words : List (List ℕ)) → IsSound (init_form words)
 unfolding init_form
 init-sound [] = tt
 init-sound (role ∷ words) =
     either (bytes_eq role (codes "wallet")) _ _ (init-wallet-sound words)
-    (either (bytes_eq role (codes "operator")) _ _ (mapped (identity_in words) _ (λ who. tt))
+    (either (bytes_eq role (codes "operator")) _ _ (init-operator-sound words)
     (either (bytes_eq role (codes "watcher")) _ _ (mapped (identity_in words) _ (λ who. tt)) tt))
 
 gated : (high x : ℕ) (a b : Bool) → (b ≡ true → x ≤ high) → IfSome (if a && b then Some x else None) (λ n. n ≤ high)

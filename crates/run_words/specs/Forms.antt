@@ -36,6 +36,19 @@ init_wallet (tag ∷ account ∷ seed ∷ []) = wallet_of tag account seed (reco
 init_wallet (tag ∷ account ∷ seed ∷ lms ∷ ots ∷ []) = types_in lms ots >>= wallet_of tag account seed
 init_wallet _ = None
 
+-- `<tag> <account>`, with this seed of a key or none: the tag is a hex of 32 bytes
+unfoldable pub operator_of : List ℕ → List ℕ → Option (List ℕ) → Option Form
+operator_of tag account key_seed = do
+  t ← hex_of_in 32 tag
+  a ← number_in account
+  Some (InitOperator t a key_seed)
+
+-- `<tag> <account>` without a key, or `<tag> <account> <seed>`: the seed is a hex of 32 bytes
+unfoldable pub init_operator : List (List ℕ) → Option Form
+init_operator (tag ∷ account ∷ []) = operator_of tag account None
+init_operator (tag ∷ account ∷ seed ∷ []) = hex_of_in 32 seed >>= (λ s. operator_of tag account (Some s))
+init_operator _ = None
+
 -- `<tag> <account>`: the tag is a hex of 32 bytes
 unfoldable pub identity_in : List (List ℕ) → Option (List ℕ × ℕ)
 identity_in (tag ∷ account ∷ []) = do
@@ -43,9 +56,6 @@ identity_in (tag ∷ account ∷ []) = do
   a ← number_in account
   Some (t, a)
 identity_in _ = None
-
-abbrev pub init_operator : List (List ℕ) → Option Form
-init_operator words = option_map (λ who. InitOperator who.0 who.1) (identity_in words)
 
 abbrev pub init_watcher : List (List ℕ) → Option Form
 init_watcher words = option_map (λ who. InitWatcher who.0 who.1) (identity_in words)

@@ -32,10 +32,12 @@ pub enum Form {
         seed: [u8; 32],
         types: LmsTypes,
     },
-    /// `init operator <tag> <account>`: an operator's files are made.
+    /// `init operator <tag> <account>`, and then `<seed>` or nothing: an operator's files are made. With the
+    /// seed it has a key, whose leaves sign receipts.
     InitOperator {
         tag: [u8; 32],
         account: u64,
+        key_seed: Option<[u8; 32]>,
     },
     /// `init watcher <tag> <account>`: a watcher's files are made.
     InitWatcher {

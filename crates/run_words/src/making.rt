@@ -1,6 +1,6 @@
 ghost use Rattle.std.specs.Prelude.{◌≡◌, Some, None, Err, IfOk};
 ghost use Rattle.run_words.specs.Words.{texts};
-ghost use Rattle.run_words.specs.Forms.{wallet_of, init_wallet, identity_in, init_operator, init_watcher, make_form, verify_form, hss_init, hss_sign, hss_verify, audit_form};
+ghost use Rattle.run_words.specs.Forms.{wallet_of, init_wallet, identity_in, operator_of, init_operator, init_watcher, make_form, verify_form, hss_init, hss_sign, hss_verify, audit_form};
 
 use super::form::Form;
 use super::tokens::{byte_word, count_word, key_word, number_word, tag_word, types_words};
@@ -62,13 +62,38 @@ fn identity_in(alloc: Global, words: &[&str]) -> Result<([u8; 32], u64), LineRef
     ))
 }
 
-/// `init operator`, after its name: `<tag> <account>`.
+// `<tag> <account>`, with this seed of a key or none.
+#[tactic(auto, unfolding(crate::specs::Forms::operator_of))]
+fn operator_of(
+    alloc: Global,
+    tag: &str,
+    account: &str,
+    key_seed: Option<[u8; 32]>,
+) -> Result<Form, LineRefusal>
+    ensures found { IfOk result (λ value. operator_of tag.now account.now key_seed ≡ Some value) }
+    ensures bad { result ≡ Err LineRefusal.BadLine → operator_of tag.now account.now key_seed ≡ None }
+{
+    Ok(Form::InitOperator {
+        tag: tag_word(alloc, tag)?,
+        account: number_word(account).ok_or(LineRefusal::BadLine)?,
+        key_seed,
+    })
+}
+
+/// `init operator`, after its name: `<tag> <account>`, and then `<seed>` or nothing.
+#[tactic(auto, unfolding(crate::specs::Forms::init_operator))]
 pub fn init_operator(alloc: Global, words: &[&str]) -> Result<Form, LineRefusal>
     ensures found { IfOk result (λ value. init_operator (texts words.now) ≡ Some value) }
     ensures bad { result ≡ Err LineRefusal.BadLine → init_operator (texts words.now) ≡ None }
 {
-    let (tag, account) = identity_in(alloc, words)?;
-    Ok(Form::InitOperator { tag, account })
+    match words {
+        [tag, account] => operator_of(alloc, tag, account, None),
+        [tag, account, seed] => {
+            let seed = tag_word(alloc, seed)?;
+            operator_of(alloc, tag, account, Some(seed))
+        }
+        _ => Err(LineRefusal::BadLine),
+    }
 }
 
 /// `init watcher`, after its name: `<tag> <account>`.

@@ -1,6 +1,6 @@
 ghost use Rattle.std.specs.Prelude.{◌≡◌, is_some, map, string_bytes};
 ghost use Rattle.std.specs.Option.{option_and_then};
-ghost use Rattle.run_words.specs.Forms.{types_in, form_of, form_named, init_form, init_wallet, wallet_of, identity_in, make_form, verify_form, hss_init, hss_sign, hss_verify, hss_form, audit_form};
+ghost use Rattle.run_words.specs.Forms.{types_in, form_of, form_named, init_form, init_wallet, wallet_of, init_operator, identity_in, make_form, verify_form, hss_init, hss_sign, hss_verify, hss_form, audit_form};
 ghost use Rattle.lms_sign.specs.declared.types.LmsTypes.{LmsTypes};
 
 use super::tokens::{count_word, is_byte_word, is_key_word, is_tag_word, number_word, types_words};
@@ -42,6 +42,22 @@ fn is_init_wallet(words: &[String]) -> bool
     }
 }
 
+// Whether the words after `init operator` are one of its two forms.
+#[tactic(auto, unfolding(crate::specs::Forms::init_operator, crate::specs::Forms::operator_of))]
+fn is_init_operator(words: &[String]) -> bool
+    ensures { result ≡ is_some (init_operator (map string_bytes words.now)) }
+{
+    match words {
+        [tag, account] => is_tag_word(tag.as_str()) && number_word(account.as_str()).is_some(),
+        [tag, account, seed] => {
+            is_tag_word(seed.as_str())
+                && is_tag_word(tag.as_str())
+                && number_word(account.as_str()).is_some()
+        }
+        _ => false,
+    }
+}
+
 // Whether words are `<tag> <account>`.
 #[tactic(auto, unfolding(crate::specs::Forms::identity_in))]
 fn is_identity(words: &[String]) -> bool
@@ -63,7 +79,8 @@ fn is_init(words: &[String]) -> bool
     };
     match role.as_str() {
         "wallet" => is_init_wallet(rest),
-        "operator" | "watcher" => is_identity(rest),
+        "operator" => is_init_operator(rest),
+        "watcher" => is_identity(rest),
         _ => false,
     }
 }

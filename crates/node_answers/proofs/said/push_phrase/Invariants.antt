@@ -1,6 +1,6 @@
 use Rattle.std.proofs.Common.{◌≡◌, ◌++◌, take}
 use Rattle.world_rules.specs.Causes.{numbers_text}
-use Rattle.node_answers.proofs.wallet.push_state.Given as goal
+use Rattle.node_answers.proofs.said.push_phrase.Given as goal
 
 abbrev pub invariant-loop-number : goal.invariant-loop-number
 invariant-loop-number l = l.out.items ≡ l.fn.out.items ++ (l.words ++ numbers_text (take l.number-index l.numbers))

@@ -1,0 +1,27 @@
+use Rattle.std.proofs.Common.{subst}
+use Rattle.leaf_journal.specs.NodeWords.{notes_of}
+use Rattle.operator_deeds.specs.Orders.{order_deed}
+use Rattle.operator_deeds.proofs.OrderLaws.{orders_add_no_leaf}
+use Rattle.node_answers.specs.Desks.{desk_outcome, desk_records, keyed}
+use Rattle.node_answers.specs.Doing.{DidDesk}
+use Rattle.node_answers.proofs.DeskDeeds.{notes-did}
+use Rattle.node_answers.proofs.keyed.answer_keyed.Goals as goal
+
+pub returns-in-Order-clause-did : goal.returns-in-Order-clause-did
+unfolding desk_outcome
+returns-in-Order-clause-did g c =
+    let old = c.args.keyed.now in
+    let dig = g.H.Hash32.digest_of old.node.hash in
+    let log = c.args.log.now.log in
+    let records = desk_records old.node.notes.records old.desk.records in
+    subst
+    (λ ask. DidDesk g.D.Disk.told g.D.Disk.plan g.D.Disk.faults (keyed dig log records ask).note
+    (keyed dig log records ask).leaf old.node.notes (notes_of old.desk) c.answer_order.result
+    c.answer_order.new.node.notes (notes_of old.desk))
+    c.in-Order.ensures
+    (notes-did g.D.Disk.told g.D.Disk.plan g.D.Disk.faults
+    (order_deed dig log 0 old.node.notes.records c.in-Order.order).note
+    (order_deed dig log 0 old.node.notes.records c.in-Order.order).leaf old.node.notes (notes_of old.desk)
+    c.answer_order.new.node.notes c.answer_order.result
+    (orders_add_no_leaf dig log 0 old.node.notes.records c.in-Order.order)
+    c.requires.desk_open c.answer_order.ensures.did)

@@ -1,0 +1,90 @@
+-- A refused command of an operator with a key adds nothing, and the key that its identity keeps stays.
+use Rattle.std.proofs.Common.{◌≡◌, ℕ, Bool, true, false, List, [], ◌∷◌, ◌++◌, Option, Some, None, Result, Ok, Err, refl}
+use Rattle.node_journal.specs.Role.{are_of}
+use Rattle.node_journal.specs.Effect.{Effect}
+use Rattle.lms_sign.specs.declared.secret.Secret.{Secret}
+use Rattle.leaf_journal.specs.Records.{is_marked}
+use Rattle.plasma_tx.specs.declared.call.RootCall.{RootCall}
+use Rattle.plasma_tx.specs.Spelling.{signed_in}
+use Rattle.plasma_tx.specs.Views.{blocks}
+use Rattle.operator_rules.specs.declared.refusal.OfferRefusal.{OfferRefusal}
+use Rattle.operator_rules.specs.Records.{operator_kinds, who_is}
+use Rattle.operator_rules.specs.Commands.{forest_in, offer_effect}
+use Rattle.receipt_audit.specs.declared.refusal.IssueRefusal.{IssueRefusal}
+use Rattle.receipt_audit.specs.Desk.{IssueEffect, issue_effect, issue_or, receipt_or, record_or}
+use Rattle.operator_deeds.specs.Orders.{order_deed}
+use Rattle.node_lines.specs.declared.operator_line.OperatorLine.{OperatorLine}
+use Rattle.node_answers.specs.Answers.{operator_outcome}
+use Rattle.node_answers.specs.Desks.{DeskRecords, desk_outcome, issue_outcome, migration_outcome, secret_of}
+use Rattle.node_roles.proofs.Refusals.{AddsNeitherRefused}
+use Rattle.node_roles.proofs.OperatorRefusals.{offer-quiet, operator-quiet}
+
+-- an issue that goes on to the offer
+offered-quiet : (issued due : ℕ) (secret : Secret) (records : List (List ℕ)) (text : List ℕ)
+    (offered : Effect (Result ℕ OfferRefusal))
+    → ((why : OfferRefusal) → offered.answer ≡ Err why → offered.note ≡ None)
+    → AddsNeitherRefused
+    (issue_outcome issued due
+    (record {
+      answer = receipt_or secret records text offered.answer;
+      is_offered = true;
+      note = offered.note;
+      leaf = record_or records text offered.answer;
+    }))
+offered-quiet issued due secret records text offered quiet cause is = by offered.answer refl is
+  where
+    by : (answer : Result ℕ OfferRefusal) → offered.answer ≡ answer
+        → (issue_outcome issued due
+        (record {
+          answer = receipt_or secret records text answer;
+          is_offered = true;
+          note = offered.note;
+          leaf = record_or records text answer;
+        })).says
+        ≡ Err cause
+        → (record_or records text offered.answer ≡ None) × (offered.note ≡ None)
+    by (Ok coin) same is = cc
+    by (Err why) same is = (rw same refl, quiet why same)
+
+-- one that is refused before it
+or-quiet : (issued due : ℕ) (cause : Option IssueRefusal) (effect : IssueEffect)
+    → AddsNeitherRefused (issue_outcome issued due effect)
+    → AddsNeitherRefused (issue_outcome issued due (issue_or cause effect))
+or-quiet issued due None effect quiet = quiet
+or-quiet issued due (Some why) effect quiet = λ cause is. (refl, refl)
+
+issue-quiet : (dig : List ℕ → List ℕ) (log : List RootCall) (desk : DeskRecords) (bytes : List ℕ) (due : ℕ)
+    → AddsNeitherRefused
+    (issue_outcome (blocks log) due (issue_effect dig dig (secret_of desk.notes) desk.notes desk.leaves log bytes due))
+unfolding issue_effect offer_effect
+issue-quiet dig log desk bytes due =
+    or-quiet (blocks log) due _ _
+    (offered-quiet (blocks log) due (secret_of desk.notes) desk.leaves _ (offer_effect dig desk.notes log bytes)
+    (offer-quiet dig (who_is desk.notes).tag log (forest_in desk.notes) bytes
+    (signed_in (who_is desk.notes).tag bytes)))
+
+migration-quiet : (marked : Bool) → AddsNeitherRefused (migration_outcome marked)
+migration-quiet true cause is = (refl, refl)
+migration-quiet false cause is = cc
+
+pub desk-quiet : (dig : List ℕ → List ℕ) (log : List RootCall) (desk : DeskRecords) (line : OperatorLine)
+    → AddsNeitherRefused (desk_outcome dig log desk line)
+unfolding desk_outcome operator_outcome order_deed
+desk-quiet dig log desk (OperatorLine.Receipt bytes due) = issue-quiet dig log desk bytes due
+desk-quiet dig log desk OperatorLine.Migrate = migration-quiet (is_marked desk.leaves)
+desk-quiet dig log desk (OperatorLine.Offer bytes) =
+    λ cause is. (refl, operator-quiet dig log desk.notes (OperatorLine.Offer bytes) cause is)
+desk-quiet dig log desk (OperatorLine.Lay coin bytes) =
+    λ cause is. (refl, operator-quiet dig log desk.notes (OperatorLine.Lay coin bytes) cause is)
+desk-quiet dig log desk OperatorLine.Seal =
+    λ cause is. (refl, operator-quiet dig log desk.notes OperatorLine.Seal cause is)
+desk-quiet dig log desk (OperatorLine.Bundle coin tip) = λ cause is. (refl, refl)
+desk-quiet dig log desk (OperatorLine.Prove coin block) = λ cause is. (refl, refl)
+desk-quiet dig log desk (OperatorLine.Absences coin after last) = λ cause is. (refl, refl)
+
+-- the key is that of the first record
+pub secret-stays : (records : List (List ℕ)) → are_of operator_kinds records ≡ true → (body : List ℕ)
+    → secret_of (records ++ body ∷ []) ≡ secret_of records
+unfolding who_is
+secret-stays [] role body = cc
+secret-stays (first ∷ records) role body = refl

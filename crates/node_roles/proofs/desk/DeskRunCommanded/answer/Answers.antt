@@ -1,0 +1,58 @@
+use Rattle.std.proofs.Common.{ap, sym, ◌∙◌}
+use Rattle.lms_sign.specs.Tree.{public_key_of}
+use Rattle.operator_rules.specs.Records.{who_is}
+use Rattle.leaf_journal.specs.NodeWords.{notes_of}
+use Rattle.node_answers.specs.Desks.{desk_outcome, secret_of}
+use Rattle.node_roles.proofs.DeskLaws.{desk-done-at, desk-open, desk-stopped-at, each-keeps}
+use Rattle.node_roles.proofs.DeskRefusals.{desk-quiet, secret-stays}
+use Rattle.node_roles.proofs.OperatorRefusals.{operator-tag}
+use Rattle.node_roles.proofs.desk.DeskRunCommanded.answer.Goals as goal
+
+pub returns-clause-said : goal.returns-clause-said
+returns-clause-said g c =
+    let old = c.args.self.now.keyed in
+    let new = c.answer_keyed.new.keyed in
+    λ at is.
+    desk-done-at g.D.Disk.told g.D.Disk.plan g.D.Disk.faults _
+    (λ dig records. desk_outcome dig c.args.log.now.log records c.args.command)
+    (g.H.Hash32.digest_of old.node.hash) at old.node.notes (notes_of old.desk) new.node.notes (notes_of new.desk) _ _ _
+    c.answer_keyed.result is.0
+    (λ left there. (ap g.H.Hash32.digest_of c.answer_keyed.ensures.digest_stays ∙ is.0, there))
+    (λ dig records. desk-quiet dig c.args.log.now.log records c.args.command)
+    is.1 c.answer_keyed.ensures.did c.answer_keyed.ensures.said
+
+pub returns-clause-stopped : goal.returns-clause-stopped
+returns-clause-stopped g c =
+    let old = c.args.self.now.keyed in
+    let new = c.answer_keyed.new.keyed in
+    λ at is.
+    desk-stopped-at g.D.Disk.told g.D.Disk.plan g.D.Disk.faults
+    (λ dig records. desk_outcome dig c.args.log.now.log records c.args.command)
+    (g.H.Hash32.digest_of old.node.hash) at old.node.notes (notes_of old.desk) new.node.notes (notes_of new.desk)
+    c.answer_keyed.result is.0 is.1 c.answer_keyed.ensures.did
+
+pub returns-clause-open : goal.returns-clause-open
+returns-clause-open g c =
+    let old = c.args.self.now.keyed in
+    let new = c.answer_keyed.new.keyed in
+    let stays = c.answer_keyed.ensures in
+    desk-open g.D.Disk.told g.D.Disk.plan g.D.Disk.faults _ _ old.node.notes (notes_of old.desk) new.node.notes
+    (notes_of new.desk) c.answer_keyed.result stays.did
+    (λ notes_open leaves_open. (
+      notes_open,
+      leaves_open,
+      stays.key_stays ∙ c.requires.2
+          ∙ sym (each-keeps g.D.Disk.told g.D.Disk.plan g.D.Disk.faults secret_of _ _ old.node.notes (notes_of old.desk)
+          new.node.notes (notes_of new.desk) stays.did.0
+          (secret-stays old.node.notes.records c.is_whole.ensures.role) stays.did.1),
+      ap public_key_of stays.key_stays ∙ c.requires.3 ∙ sym stays.desk_stays,
+      stays.hash_stays ∙ c.requires.4 ∙ sym stays.digest_stays,
+    ))
+
+pub returns-clause-same_tag : goal.returns-clause-same_tag
+returns-clause-same_tag g c =
+    let old = c.args.self.now.keyed in
+    let new = c.answer_keyed.new.keyed in
+    each-keeps g.D.Disk.told g.D.Disk.plan g.D.Disk.faults (λ records. (who_is records).tag) _ _ old.node.notes
+    (notes_of old.desk) new.node.notes (notes_of new.desk) c.answer_keyed.ensures.did.0
+    (operator-tag old.node.notes.records c.is_whole.ensures.role) c.answer_keyed.ensures.did.1
