@@ -1,7 +1,7 @@
 ghost use Rattle.std.specs.Prelude.{◌≡◌, ◌≢◌};
 ghost use Rattle.plasma_base.specs.Causes.{faults_after};
 ghost use Rattle.run_endings.specs.Statuses.{is_write_fault, FaultsBy};
-ghost use Rattle.node_runs.specs.Inits.{InitsWallet};
+ghost use Rattle.node_runs.specs.Inits.{InitsPair};
 ghost use Rattle.node_runs.specs.Faults.{CountsEither};
 ghost use Rattle.hss_runs.specs.Identity.{identity_text};
 
@@ -24,7 +24,7 @@ pub fn init_signer<D: Disk, K: Sink>(
     leaves: D,
     seed: [u8; 32],
 ) -> (D, D, Status)
-    ensures inits { InitsWallet D.told D.plan D.faults (K.taken sink.old) (K.taken sink.new) result.2
+    ensures inits { InitsPair D.told D.plan D.faults (K.taken sink.old) (K.taken sink.new) result.2
         (identity_text seed) notes leaves result.0 result.1 }
     ensures disk_faults { FaultsBy result.2 (CountsEither D.faults notes leaves result.0 result.1) }
     ensures no_read_fault { result.2 ≢ Status.ReadFault }

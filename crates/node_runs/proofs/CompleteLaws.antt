@@ -12,6 +12,7 @@ use Rattle.node_journal.specs.Begin.{is_taken, journal_steps, init_steps, Inits,
 use Rattle.node_journal.specs.Notes.{NotesState, Opened, RefusesRole}
 use Rattle.node_journal.specs.Role.{role_in}
 use Rattle.leaf_journal.specs.Records.{leaf_records_in_of}
+use Rattle.node_lines.specs.declared.operator_line.OperatorLine.{OperatorLine}
 use Rattle.node_lines.specs.declared.wallet_line.WalletLine.{WalletLine}
 use Rattle.node_lines.specs.Grammar.{watcher_line_in, operator_line_in, wallet_line_in}
 use Rattle.node_rules.specs.Watcher.{watcher_kinds, who_is as watcher_is}
@@ -23,10 +24,12 @@ use Rattle.wallet_core.specs.declared.notes.LeafRecord.{LeafRecord}
 use Rattle.wallet_node.specs.State.{WalletState, notes_part}
 use Rattle.wallet_node.specs.Opening.{OpensWallet, RefusesWallet, IsUnbound}
 use Rattle.node_answers.specs.Answers.{Outcome, watcher_outcome, operator_outcome, wallet_outcome}
+use Rattle.node_answers.specs.Desks.{DeskRecords, desk_records, desk_outcome}
 use Rattle.node_roles.specs.Notes.{NodeAt, keeping, NotesAt, with_note}
 use Rattle.node_roles.specs.Deeds.{left_with, notes_do}
 use Rattle.node_roles.specs.Wallets.{WalletAt, records_of, with_either, wallet_does}
-use Rattle.node_roles.specs.Records.{with_record, with_either_record, records_do, wallet_records_do}
+use Rattle.node_roles.specs.Desks.{DeskAt, records_of_desk, with_each, desk_does}
+use Rattle.node_roles.specs.Records.{with_record, with_either_record, with_each_record, records_do, wallet_records_do, desk_records_do}
 use Rattle.node_sessions.specs.Sessions.{SessionState, begun}
 use Rattle.node_sessions.specs.Laws.{KeepTheRules}
 use Rattle.node_sessions.proofs.CompleteLaws.{done-are_answered, keep-by_part}
@@ -44,9 +47,10 @@ use Rattle.run_endings.proofs.EndingLaws.{ends-done}
 use Rattle.node_runs.specs.Endings.{status_of, session_output, fault_output, refused_output, init_output}
 use Rattle.node_runs.specs.Disks.{opened_at, both_opened}
 use Rattle.node_runs.specs.Sessions.{Outside, BrokenAt, RunsSession}
-use Rattle.node_runs.specs.Runs.{RunsNotes, RunsWatcher, RunsOperator, RunsWallet}
-use Rattle.node_runs.specs.Inits.{InitsNotes, InitsWallet}
-use Rattle.node_runs.specs.Complete.{NotesComplete, WatcherComplete, OperatorComplete, WalletComplete, InitComplete, InitBothComplete}
+use Rattle.node_runs.specs.Runs.{NotesSession, RunsNotes, RunsWatcher, RunsWallet}
+use Rattle.node_runs.specs.Operators.{desk_records_in, operator_tag, desk_found, RefusesDesk, RunsBehind, RunsOperator}
+use Rattle.node_runs.specs.Inits.{InitsNotes, InitsPair}
+use Rattle.node_runs.specs.Complete.{NotesComplete, WatcherComplete, KeepOperatorRules, OperatorComplete, WalletComplete, InitComplete, InitBothComplete}
 
 -- ---- a command does to a node what it does to its records
 
@@ -58,12 +62,15 @@ left-as part next of left (Ok answer) text same is =
     (next, ap (λ (p : _ × List ℕ). Ok (next, p.1)) e, same ∙ ap (λ (p : _ × List ℕ). p.0) e)
 left-as part next of left (Err cause) text same is = absurd (cc (is))
 
--- the records of a node over notes, and of a wallet
+-- the records of a node over notes, of a wallet, and of an operator with a key
 abbrev notes-part : NodeAt NotesAt → NodeAt (List (List ℕ))
 notes-part at = record { kept = at.kept.records; dig = at.dig }
 
 abbrev wallet-part : NodeAt WalletAt → NodeAt WalletRecords
 wallet-part at = record { kept = records_of at.kept; dig = at.dig }
+
+abbrev desk-part : NodeAt DeskAt → NodeAt DeskRecords
+desk-part at = record { kept = records_of_desk at.kept; dig = at.dig }
 
 notes-kept : (at : NodeAt NotesAt) (added : Option (List ℕ))
     → notes-part (keeping at (with_note at.kept added)) ≡ keeping (notes-part at) (with_record at.kept.records added)
@@ -76,6 +83,14 @@ wallet-kept : (at : NodeAt WalletAt) (leaf added : Option (List ℕ))
 wallet-kept at None None = refl
 wallet-kept at None (Some body) = refl
 wallet-kept at (Some leaf) added = refl
+
+desk-kept : (at : NodeAt DeskAt) (note leaf : Option (List ℕ))
+    → desk-part (keeping at (with_each at.kept note leaf))
+    ≡ keeping (desk-part at) (with_each_record (records_of_desk at.kept) note leaf)
+desk-kept at None None = refl
+desk-kept at None (Some record_of) = refl
+desk-kept at (Some body) None = refl
+desk-kept at (Some body) (Some record_of) = refl
 
 -- ---- by the status
 
@@ -150,12 +165,13 @@ module _ {D : Type 0} (told : D → Option History) (plan : D → Option FaultPl
       let refused = subst (λ w. RefusesRole told plan faults read old w new) foreign refuses in
       ok-not (read (content history)) records place reads (refused.refused.1 history is)
 
-  notes-complete : {L : Type 0} (read : List ℕ → Result (List (List ℕ)) ℕ) (tag : List (List ℕ) → List ℕ)
+  opened-complete : {L : Type 0} (read : List ℕ → Result (List (List ℕ)) ℕ) (tag : List (List ℕ) → List ℕ)
       (command_in : List ℕ → Option L) (outcome : (List ℕ → List ℕ) → List RootCall → List (List ℕ) → L → Outcome)
-      (old new : D) (outside : Outside) (failed : Type 0) (status : Status)
-      → RunsNotes told plan faults dig read tag command_in outcome old new outside failed status
+      (old new : D) (opened : NotesState D) → Opened told plan faults read old opened
+      → (outside : Outside) (failed : Type 0) (status : Status)
+      → NotesSession told plan faults dig read tag command_in outcome opened new outside failed status
       → NotesComplete told dig outside.left status read tag command_in outcome old
-  notes-complete {L = L} read tag command_in outcome old new outside failed status (inl (opened, opens, runs))
+  opened-complete {L = L} read tag command_in outcome old new opened opens outside failed status runs
       history records input is reads left keep =
       let same : records ≡ opened.records = ok-same _ records opened.records reads (opens.kept history is) in
       let does = λ (log : List RootCall) (at : NodeAt NotesAt) (line : L).
@@ -173,8 +189,16 @@ module _ {D : Type 0} (told : D → Option History) (plan : D → Option FaultPl
       (subst (λ (rs : List (List ℕ)). KeepTheRules (tag rs) command_in part_does (record { kept = rs; dig = dig })
       (lines_in input)) same keep)))
       runs
-  notes-complete read tag command_in outcome old new outside failed status (inr (why, refuses, refused))
-      history records input is reads left keep =
+
+  notes-complete : {L : Type 0} (read : List ℕ → Result (List (List ℕ)) ℕ) (tag : List (List ℕ) → List ℕ)
+      (command_in : List ℕ → Option L) (outcome : (List ℕ → List ℕ) → List RootCall → List (List ℕ) → L → Outcome)
+      (old new : D) (outside : Outside) (failed : Type 0) (status : Status)
+      → RunsNotes told plan faults dig read tag command_in outcome old new outside failed status
+      → NotesComplete told dig outside.left status read tag command_in outcome old
+  notes-complete read tag command_in outcome old new outside failed status (inl (opened, opens, runs)) =
+      opened-complete read tag command_in outcome old new opened opens outside failed status runs
+  notes-complete read tag command_in outcome old new outside failed status (inr (why, refuses, refused)) =
+      λ history records input is reads left keep.
       refused-done why status _ _ (own-image read old new history records is reads why refuses) refused.ends
 
   pub watcher-complete : (old new : D) (outside : Outside) (failed : Type 0) (status : Status)
@@ -185,13 +209,61 @@ module _ {D : Type 0} (told : D → Option History) (plan : D → Option FaultPl
       notes-complete (role_in (watcher_kinds dig)) (λ records. (watcher_is records).tag) watcher_line_in
       watcher_outcome old new outside failed status runs
 
-  pub operator-complete : (old new : D) (outside : Outside) (failed : Type 0) (status : Status)
-      → RunsOperator told plan faults dig old new outside failed status
-      → OperatorComplete told dig outside.left status old
-  unfolding RunsOperator
-  operator-complete old new outside failed status runs =
-      notes-complete (role_in operator_kinds) (λ records. (operator_is records).tag) operator_line_in
-      operator_outcome old new outside failed status runs
+  -- ---- an operator
+
+  desk-own : (seed : List ℕ) (leaves new_leaves : D) (of_leaves : History) (bound : List (List ℕ))
+      → told leaves ≡ Some of_leaves → desk_records_in seed (content of_leaves) ≡ Ok bound
+      → (why : JournalRefusal) → RefusesDesk told plan faults dig seed leaves why new_leaves
+      → (place : ℕ) → why ≡ JournalPlace place → ⊥
+  desk-own seed leaves new_leaves of_leaves bound is reads why (inl refuses) =
+      own-image (desk_records_in seed) leaves new_leaves of_leaves bound is reads why refuses
+  desk-own seed leaves new_leaves of_leaves bound is reads why (inr (starved, stays)) =
+      λ place foreign. cc (starved, foreign)
+
+  module _ (notes leaves new_notes new_leaves : D) (outside : Outside) (failed : Type 0) (status : Status) where
+    behind-complete : (seed : Option (List ℕ)) (opened : NotesState D)
+        → Opened told plan faults (role_in operator_kinds) notes opened
+        → RunsBehind told plan faults dig seed opened leaves new_notes new_leaves outside failed status
+        → (history : History) (input : List ℕ) → told notes ≡ Some history → outside.left ≡ Some input
+        → KeepOperatorRules told dig outside.left status seed opened.records leaves (lines_in input)
+        → IsDoneUnlessFailed status
+    behind-complete None opened opens (runs, stays) history input is left keep =
+        opened-complete (role_in operator_kinds) operator_tag operator_line_in operator_outcome notes new_notes opened
+        opens outside failed status runs history opened.records input is (opens.kept history is) left keep
+    behind-complete (Some seed) opened opens (inl (desk, opens_desk, runs)) history input is left
+        (of_leaves, bound, leaves_told, leaves_are, keep) =
+        let same : bound ≡ desk.records =
+        ok-same _ bound desk.records leaves_are (opens_desk.kept of_leaves leaves_told) in
+        let part_does = λ (log : List RootCall) (at : NodeAt DeskRecords) (line : OperatorLine).
+        desk_records_do at (desk_outcome at.dig log at.kept line) in
+        let found : NodeAt DeskAt = desk_found told plan faults dig opened desk in
+        session-done _ operator_line_in found _ _ _ outside failed status input left
+        (done-are_answered (operator_tag opened.records) operator_line_in desk_does found input
+        (keep-by_part (operator_tag opened.records) operator_line_in desk_does part_does desk-part
+        (λ log at line next text done.
+        left-as desk-part _ _ next (desk_outcome at.dig log (records_of_desk at.kept) line).says text
+        (desk-kept at (desk_outcome at.dig log (records_of_desk at.kept) line).note
+        (desk_outcome at.dig log (records_of_desk at.kept) line).leaf) done)
+        found (lines_in input)
+        (subst (λ (rs : List (List ℕ)). KeepTheRules (operator_tag opened.records) operator_line_in part_does
+        (record { kept = desk_records opened.records rs; dig = dig }) (lines_in input)) same keep)))
+        runs
+    behind-complete (Some seed) opened opens (inr (why, refuses, stays, refused)) history input is left
+        (of_leaves, bound, leaves_told, leaves_are, keep) =
+        refused-done why status _ _
+        (desk-own seed leaves new_leaves of_leaves bound leaves_told leaves_are why refuses) refused.ends
+
+    pub operator-complete : RunsOperator told plan faults dig notes leaves new_notes new_leaves outside failed status
+        → OperatorComplete told dig outside.left status notes leaves
+    unfolding RunsOperator
+    operator-complete (inl (opened, opens, behind)) history records input is reads left keep =
+        let same : records ≡ opened.records = ok-same _ records opened.records reads (opens.kept history is) in
+        behind-complete (operator_is opened.records).key_seed opened opens behind history input is left
+        (subst (λ (rs : List (List ℕ)). KeepOperatorRules told dig outside.left status (operator_is rs).key_seed rs leaves
+        (lines_in input)) same keep)
+    operator-complete (inr (why, refuses, stays, refused)) history records input is reads left keep =
+        refused-done why status _ _
+        (own-image (role_in operator_kinds) notes new_notes history records is reads why refuses) refused.ends
 
   -- ---- a wallet
 
@@ -330,7 +402,7 @@ module _ {D : Type 0} (told : D → Option History) (plan : D → Option FaultPl
             stops.inits
 
     pub init-both-complete : (notes leaves new_notes new_leaves : D)
-        → InitsWallet told plan faults taken after status identity notes leaves new_notes new_leaves
+        → InitsPair told plan faults taken after status identity notes leaves new_notes new_leaves
         → InitBothComplete told dig left status notes leaves
     init-both-complete notes leaves new_notes new_leaves is of_notes of_leaves notes_told leaves_told free bare =
         init-done is.answer status _ _

@@ -9,15 +9,18 @@ use Rattle.node_journal.specs.declared.refusal.JournalRefusal.{JournalRefusal}
 use Rattle.node_journal.specs.declared.refusal.JournalRefusal.TheVariants.{AlreadyMade as JournalMade, NotJournal as JournalPlace, DeviceFault as JournalFault, Closed as JournalClosed, RecordTooLong as JournalLong, NoMemory as JournalNoMemory}
 use Rattle.plasma_tx.specs.declared.call.RootCall.{RootCall}
 use Rattle.node_journal.specs.Begin.{BeginsPair, is_init_fault}
+use Rattle.node_journal.specs.Notes.{NotesState, Opened}
 use Rattle.streamed_lines.specs.declared.ending.Ending.{Ending}
 use Rattle.streamed_lines.specs.declared.ending.Ending.TheVariants.{Complete, BadLine, ReadFault, TooLong, Ended}
 use Rattle.streamed_lines.specs.Streams.{stream_of}
 use Rattle.node_sessions.specs.Sessions.{begun, calls_of, session_rules}
 use Rattle.node_sessions.proofs.StayLaws.{ok-same, session-keeps, run-keeps}
 use Rattle.node_answers.specs.Answers.{Outcome, watcher_outcome, operator_outcome, wallet_outcome}
+use Rattle.node_answers.specs.Desks.{desk_outcome}
 use Rattle.node_roles.specs.Notes.{NodeAt, NotesAt, with_note}
 use Rattle.node_roles.specs.Deeds.{left_with, notes_do}
 use Rattle.node_roles.specs.Wallets.{WalletAt, records_of, with_either, wallet_does}
+use Rattle.node_roles.specs.Desks.{DeskAt, records_of_desk, with_each, desk_does}
 use Rattle.node_lines.specs.Grammar.{watcher_line_in, operator_line_in, wallet_line_in}
 use Rattle.node_journal.specs.Role.{role_in}
 use Rattle.node_rules.specs.Watcher.{watcher_kinds, who_is as watcher_is}
@@ -29,10 +32,11 @@ use Rattle.run_endings.specs.Statuses.{FaultsBy}
 use Rattle.run_endings.specs.Outputs.{Output, EndsAs}
 use Rattle.wallet_node.specs.Opening.{IsUnbound, RefusesWallet}
 use Rattle.node_runs.specs.Endings.{status_of, session_output, fault_output, refused_output, init_output}
-use Rattle.node_runs.specs.Disks.{Failed, EitherFailed}
+use Rattle.node_runs.specs.Disks.{Failed, EitherFailed, EachFailed}
 use Rattle.node_runs.specs.Faults.{Counts, CountsEither}
-use Rattle.node_runs.specs.Inits.{InitsNotes, InitsWallet}
-use Rattle.node_runs.specs.Runs.{RunsNotes, RunsWatcher, RunsOperator, RunsWallet}
+use Rattle.node_runs.specs.Inits.{InitsNotes, InitsPair}
+use Rattle.node_runs.specs.Runs.{NotesSession, RunsNotes, RunsWatcher, RunsWallet}
+use Rattle.node_runs.specs.Operators.{operator_tag, RefusesDesk, RunsBehind, RunsOperator}
 use Rattle.node_runs.specs.Sessions.{Outside, RunsSession}
 
 -- ---- by the output
@@ -191,6 +195,13 @@ unfolding both
 either-keep at None added = ap (λ (n : ℕ). (n, at.leaves.faults)) (notes-keep at.notes added)
 either-keep at (Some leaf) added = refl
 
+each : DeskAt → ℕ × ℕ
+each at = (at.notes.faults, at.leaves.faults)
+
+each-keep : (at : DeskAt) (note leaf : Option (List ℕ)) → each (with_each at note leaf) ≡ each at
+unfolding each
+each-keep at note leaf = λ i. (notes-keep at.notes note i, notes-keep at.leaves leaf i)
+
 left-keep : {A M : Type 0} (part : A → M) (next left : A) (says : Result (List ℕ) (List ℕ)) (text : List ℕ)
     → left_with next says ≡ Ok (left, text) → part left ≡ part next
 left-keep part next left (Ok answer) text is =
@@ -220,13 +231,14 @@ module _ {D : Type 0} (told : D → Option History) (faults : D → ℕ) where
 
 module _ {D : Type 0} (told : D → Option History) (plan : D → Option FaultPlan) (faults : D → ℕ)
     (dig : List ℕ → List ℕ) where
-  notes-count : {L : Type 0} (read : List ℕ → Result (List (List ℕ)) ℕ) (tag : List (List ℕ) → List ℕ)
+  opened-count : {L : Type 0} (read : List ℕ → Result (List (List ℕ)) ℕ) (tag : List (List ℕ) → List ℕ)
       (command_in : List ℕ → Option L)
       (outcome : (List ℕ → List ℕ) → List RootCall → List (List ℕ) → L → Outcome)
-      (old new : D) (outside : Outside) (failed : Type 0) (status : Status)
-      → RunsNotes told plan faults dig read tag command_in outcome old new outside failed status
+      (old new : D) (opened : NotesState D) → Opened told plan faults read old opened
+      → (outside : Outside) (failed : Type 0) (status : Status)
+      → NotesSession told plan faults dig read tag command_in outcome opened new outside failed status
       → FaultsBy status (Counts faults old new)
-  notes-count read tag command_in outcome old new outside failed status (inl (opened, opens, runs)) =
+  opened-count read tag command_in outcome old new opened opens outside failed status runs =
       session-counts (tag opened.records) command_in
       (λ log at line. notes_do at (outcome at.dig log at.kept.records line))
       (λ (at : NodeAt NotesAt). at.kept.faults)
@@ -241,6 +253,15 @@ module _ {D : Type 0} (told : D → Option History) (plan : D → Option FaultPl
       (λ log at line same keeps.
       keeps.faults_are ∙ notes-keep at.kept (outcome at.dig log at.kept.records line).note ∙ same ∙ opens.count)
       outside failed status runs
+
+  notes-count : {L : Type 0} (read : List ℕ → Result (List (List ℕ)) ℕ) (tag : List (List ℕ) → List ℕ)
+      (command_in : List ℕ → Option L)
+      (outcome : (List ℕ → List ℕ) → List RootCall → List (List ℕ) → L → Outcome)
+      (old new : D) (outside : Outside) (failed : Type 0) (status : Status)
+      → RunsNotes told plan faults dig read tag command_in outcome old new outside failed status
+      → FaultsBy status (Counts faults old new)
+  notes-count read tag command_in outcome old new outside failed status (inl (opened, opens, runs)) =
+      opened-count read tag command_in outcome old new opened opens outside failed status runs
   notes-count read tag command_in outcome old new outside failed status (inr (why, refuses, refused)) =
       refused-counts (Counts faults old new) why status _ _ refused.ends refuses.count
 
@@ -251,12 +272,78 @@ module _ {D : Type 0} (told : D → Option History) (plan : D → Option FaultPl
       notes-count (role_in (watcher_kinds dig)) (λ records. (watcher_is records).tag) watcher_line_in watcher_outcome
       old new outside failed status runs
 
-  pub operator-counts : (old new : D) (outside : Outside) (failed : Type 0) (status : Status)
-      → RunsOperator told plan faults dig old new outside failed status → FaultsBy status (Counts faults old new)
-  unfolding RunsOperator
-  operator-counts old new outside failed status runs =
-      notes-count (role_in operator_kinds) (λ records. (operator_is records).tag) operator_line_in operator_outcome
-      old new outside failed status runs
+  -- ---- an operator
+
+  module _ (notes leaves new_notes new_leaves : D) where
+    each-counts : (note leaf : Option (List ℕ)) (at : DeskAt) → at.notes.faults ≡ faults notes
+        → at.leaves.faults ≡ faults leaves → EachFailed told faults note leaf at new_notes new_leaves
+        → CountsEither faults notes leaves new_notes new_leaves true
+    each-counts note leaf at of_notes of_leaves (inl (failed, keeps)) = inl (
+      failed-counts told faults note at.notes new_notes failed ∙ ap (λ n. faults_after n true) of_notes,
+      keeps.faults_are ∙ of_leaves,
+    )
+    each-counts note leaf at of_notes of_leaves (inr (keeps, failed)) = inr (
+      keeps.faults_are ∙ notes-keep at.notes note ∙ of_notes,
+      failed-counts told faults leaf at.leaves new_leaves failed ∙ ap (λ n. faults_after n true) of_leaves,
+    )
+
+    desk-met : (seed : List ℕ) (why : JournalRefusal) → RefusesDesk told plan faults dig seed leaves why new_leaves
+        → faults new_notes ≡ faults notes
+        → CountsEither faults notes leaves new_notes new_leaves (is_device_fault why)
+    desk-met seed why (inl refuses) same =
+        leaves-met told faults notes leaves new_notes new_leaves (is_device_fault why) same refuses.count
+    desk-met seed why (inr (starved, stays)) same =
+        subst (λ w. CountsEither faults notes leaves new_notes new_leaves (is_device_fault w)) (sym starved)
+        (same, ap faults stays)
+
+    behind-counts : (seed : Option (List ℕ)) (opened : NotesState D)
+        → Opened told plan faults (role_in operator_kinds) notes opened
+        → (outside : Outside) (failed : Type 0) (status : Status)
+        → RunsBehind told plan faults dig seed opened leaves new_notes new_leaves outside failed status
+        → FaultsBy status (CountsEither faults notes leaves new_notes new_leaves)
+    unfolding each
+    behind-counts None opened opens outside failed status (runs, stays) =
+        by-more (Counts faults notes new_notes) (CountsEither faults notes leaves new_notes new_leaves)
+        (λ fault met. notes-met told faults notes leaves new_notes new_leaves fault met (ap faults stays)) status
+        (opened-count (role_in operator_kinds) operator_tag operator_line_in operator_outcome notes new_notes opened
+        opens outside failed status runs)
+    behind-counts (Some seed) opened opens outside failed status (inl (desk, opens_desk, runs)) =
+        session-counts (operator_tag opened.records) operator_line_in desk_does
+        (λ (at : NodeAt DeskAt). each at.kept)
+        (λ log at line left text is.
+        left-keep (λ (a : NodeAt DeskAt). each a.kept) _ left
+        (desk_outcome at.dig log (records_of_desk at.kept) line).says text is
+        ∙ each-keep at.kept (desk_outcome at.dig log (records_of_desk at.kept) line).note
+        (desk_outcome at.dig log (records_of_desk at.kept) line).leaf)
+        _ _ _ _ (CountsEither faults notes leaves new_notes new_leaves)
+        (λ at same keeps. (
+          keeps.of_notes.faults_are ∙ ap (λ (b : ℕ × ℕ). b.0) same ∙ opens.count,
+          keeps.of_leaves.faults_are ∙ ap (λ (b : ℕ × ℕ). b.1) same ∙ opens_desk.count,
+        ))
+        (λ log at line same is.
+        each-counts (desk_outcome at.dig log (records_of_desk at.kept) line).note
+        (desk_outcome at.dig log (records_of_desk at.kept) line).leaf at.kept
+        (ap (λ (b : ℕ × ℕ). b.0) same ∙ opens.count) (ap (λ (b : ℕ × ℕ). b.1) same ∙ opens_desk.count) is)
+        (λ log at line same keeps.
+        let more = each-keep at.kept (desk_outcome at.dig log (records_of_desk at.kept) line).note
+        (desk_outcome at.dig log (records_of_desk at.kept) line).leaf in (
+          keeps.of_notes.faults_are ∙ ap (λ (b : ℕ × ℕ). b.0) (more ∙ same) ∙ opens.count,
+          keeps.of_leaves.faults_are ∙ ap (λ (b : ℕ × ℕ). b.1) (more ∙ same) ∙ opens_desk.count,
+        ))
+        outside failed status runs
+    behind-counts (Some seed) opened opens outside failed status (inr (why, refuses, stays, refused)) =
+        refused-counts (CountsEither faults notes leaves new_notes new_leaves) why status _ _ refused.ends
+        (desk-met seed why refuses (ap faults stays ∙ opens.count))
+
+    pub operator-counts : (outside : Outside) (failed : Type 0) (status : Status)
+        → RunsOperator told plan faults dig notes leaves new_notes new_leaves outside failed status
+        → FaultsBy status (CountsEither faults notes leaves new_notes new_leaves)
+    unfolding RunsOperator
+    operator-counts outside failed status (inl (opened, opens, behind)) =
+        behind-counts (operator_is opened.records).key_seed opened opens outside failed status behind
+    operator-counts outside failed status (inr (why, refuses, stays, refused)) =
+        refused-counts (CountsEither faults notes leaves new_notes new_leaves) why status _ _ refused.ends
+        (notes-met told faults notes leaves new_notes new_leaves (is_device_fault why) refuses.count (ap faults stays))
 
   -- ---- a wallet
 
@@ -361,7 +448,7 @@ module _ {D : Type 0} (told : D → Option History) (plan : D → Option FaultPl
       (stops.count ∙ ap (λ n. faults_after n (is_init_fault {T = Unit} (Err why))) asks.count) passes.count
 
   pub inits-count-either : (notes leaves new_notes new_leaves : D)
-      → InitsWallet told plan faults taken after status identity notes leaves new_notes new_leaves
+      → InitsPair told plan faults taken after status identity notes leaves new_notes new_leaves
       → FaultsBy status (CountsEither faults notes leaves new_notes new_leaves)
   inits-count-either notes leaves new_notes new_leaves is =
       init-counts (CountsEither faults notes leaves new_notes new_leaves) is.answer status _ _ is.ends

@@ -3,3 +3,4 @@ mod SessionLaws
 mod DiskLaws
 pub mod FaultLaws
 pub mod CompleteLaws
+mod OperatorLaws

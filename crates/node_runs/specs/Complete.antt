@@ -1,5 +1,5 @@
 -- Inputs that a run of a node answers to their end, over disks that keep records of its role, and inits that are done.
-use Rattle.std.specs.Prelude.{◌≡◌, ℕ, true, false, List, Option, Some, Result, Ok}
+use Rattle.std.specs.Prelude.{◌≡◌, ℕ, true, false, List, Option, Some, None, Result, Ok}
 use Rattle.crash_disk.specs.Disk.{History, content}
 use Rattle.plasma_tx.specs.declared.call.RootCall.{RootCall}
 use Rattle.node_journal.specs.Begin.{is_taken}
@@ -10,10 +10,12 @@ use Rattle.node_rules.specs.Watcher.{watcher_kinds, who_is as watcher_is}
 use Rattle.node_rules.specs.Wallet.{WalletRecords, who as wallet_is}
 use Rattle.node_rules.specs.WalletRecords.{wallet_kinds, is_body}
 use Rattle.node_rules.specs.WalletOpening.{leaves_of, are_bound}
-use Rattle.operator_rules.specs.Records.{operator_kinds, who_is as operator_is}
+use Rattle.operator_rules.specs.Records.{operator_kinds, who_is}
 use Rattle.node_answers.specs.Answers.{Outcome, watcher_outcome, operator_outcome, wallet_outcome}
-use Rattle.node_roles.specs.Records.{records_do, wallet_records_do}
+use Rattle.node_answers.specs.Desks.{desk_records, desk_outcome}
+use Rattle.node_roles.specs.Records.{records_do, wallet_records_do, desk_records_do}
 use Rattle.node_sessions.specs.Laws.{KeepTheRules}
+use Rattle.node_runs.specs.Operators.{desk_records_in, operator_tag}
 use Rattle.streamed_lines.specs.Lines.{lines_in}
 use Rattle.run_endings.specs.declared.status.Status.{Status}
 use Rattle.run_endings.specs.Statuses.{IsDoneUnlessFailed}
@@ -38,10 +40,26 @@ module _ {D : Type 0} (told : D → Option History) (dig : List ℕ → List ℕ
         NotesComplete (role_in (watcher_kinds dig)) (λ records. (watcher_is records).tag) watcher_line_in
         watcher_outcome notes
 
-    abbrev pub OperatorComplete : D → Type 0
-    OperatorComplete notes =
-        NotesComplete (role_in operator_kinds) (λ records. (operator_is records).tag) operator_line_in
-        operator_outcome notes
+    -- the lines keep the rules of an operator of these records without a key, or with one, whose other disk tells that
+    -- its image spells the records of the key's leaves
+    abbrev pub KeepOperatorRules : Option (List ℕ) → List (List ℕ) → D → List (List ℕ) → Type 0
+    KeepOperatorRules None records leaves lines =
+        KeepTheRules (operator_tag records) operator_line_in
+        (λ log at line. records_do at (operator_outcome at.dig log at.kept line))
+        (record { kept = records; dig = dig }) lines
+    KeepOperatorRules (Some seed) records leaves lines =
+        (of_leaves : History) × (bound : List (List ℕ)) × (told leaves ≡ Some of_leaves)
+        × (desk_records_in seed (content of_leaves) ≡ Ok bound)
+        × KeepTheRules (operator_tag records) operator_line_in
+        (λ log at line. desk_records_do at (desk_outcome at.dig log at.kept line))
+        (record { kept = desk_records records bound; dig = dig }) lines
+
+    abbrev pub OperatorComplete : D → D → Type 0
+    OperatorComplete notes leaves =
+        (history : History) (records : List (List ℕ)) (input : List ℕ)
+        → told notes ≡ Some history → role_in operator_kinds (content history) ≡ Ok records → left ≡ Some input
+        → KeepOperatorRules (who_is records).key_seed records leaves (lines_in input)
+        → IsDoneUnlessFailed status
 
     -- the same of a wallet's two disks
     abbrev pub WalletComplete : D → D → Type 0
@@ -56,8 +74,8 @@ module _ {D : Type 0} (told : D → Option History) (dig : List ℕ → List ℕ
         (record { kept = wallet; dig = dig }) (lines_in input)
         → IsDoneUnlessFailed status
 
-    -- An init is done, unless something fails, where the disk tells that its image isn't taken; a wallet's where both
-    -- disks do.
+    -- An init is done, unless something fails, where the disk tells that its image isn't taken; one of two disks where
+    -- both do.
     abbrev pub InitComplete : D → Type 0
     InitComplete notes =
         (history : History) → told notes ≡ Some history → is_taken (content history) ≡ false

@@ -1,11 +1,12 @@
 -- Where a run leaves a node's disks.
-use Rattle.std.specs.Prelude.{◌≡◌, ℕ, ◌<◌, true, List, Option, Some, None}
+use Rattle.std.specs.Prelude.{◌≡◌, ◌⊎◌, ℕ, ◌<◌, true, List, Option, Some, None}
 use Rattle.plasma_base.specs.Causes.{faults_after}
 use Rattle.crash_disk.specs.Disk.{History}
 use Rattle.crash_disk.specs.Calls.{WhereTold, failed_after}
 use Rattle.node_journal.specs.Journal.{IsSettled}
 use Rattle.node_journal.specs.Notes.{NotesState, KeepsAtAnyMoment}
-use Rattle.node_roles.specs.Notes.{NotesAt, told_after}
+use Rattle.node_roles.specs.Notes.{NotesAt, told_after, with_note}
+use Rattle.node_roles.specs.Desks.{DeskAt}
 use Rattle.wallet_node.specs.State.{WalletState, notes_part, leaves_part}
 use Rattle.node_roles.specs.Wallets.{WalletAt}
 
@@ -50,3 +51,19 @@ module _ {D : Type 0} (told : D → Option History) (faults : D → ℕ) where
   abbrev pub EitherFailed : Option (List ℕ) → Option (List ℕ) → WalletAt → D → D → Type 0
   EitherFailed None added at notes leaves = Failed added at.notes notes × Keeps at.leaves leaves
   EitherFailed (Some leaf) added at notes leaves = MayKeep leaf at.leaves leaves × Keeps at.notes notes
+
+  -- an operator's notes and the leaves of its key that were just opened
+  abbrev pub desk_opened : NotesState D → NotesState D → DeskAt
+  desk_opened notes leaves = record { notes = opened_at notes; leaves = opened_at leaves }
+
+  -- the two disks of an operator with a key are handed back
+  pub record KeepsDesk (at : DeskAt) (notes leaves : D) : Type 0 where
+    pub of_notes : Keeps at.notes notes
+    pub of_leaves : Keeps at.leaves leaves
+
+  -- The same behind a device fault of a command that adds this note and then this leaf's record, or one of them: in the
+  -- append of the note, and then the leaves are kept as they were; or behind it in that of the leaf's record.
+  abbrev pub EachFailed : Option (List ℕ) → Option (List ℕ) → DeskAt → D → D → Type 0
+  EachFailed note leaf at notes leaves =
+      (Failed note at.notes notes × Keeps at.leaves leaves)
+      ⊎ (Keeps (with_note at.notes note) notes × Failed leaf at.leaves leaves)

@@ -23,9 +23,9 @@ module _ {D : Type 0} (told : D → Option History) (plan : D → Option FaultPl
     pub begun : OnOk answer (WhereTold (told new) (λ now. IsSettled now (identity ∷ [])))
     pub ends : EndsAs (init_output answer) status taken after ⊥
 
-  -- An init of a wallet with this identity: of its notes, and of its leaves, each image of a crash of which spells no
+  -- An init of two disks with this identity: of the notes, and of the leaves, each image of a crash of which spells no
   -- record where they were made.
-  pub record InitsWallet (identity : List ℕ) (notes leaves new_notes new_leaves : D) : Type 0 where
+  pub record InitsPair (identity : List ℕ) (notes leaves new_notes new_leaves : D) : Type 0 where
     pub answer : Result Unit InitRefusal
     pub inits : BeginsPair told plan faults told plan faults identity notes leaves answer new_notes new_leaves
     pub begun : OnOk answer (WhereTold (told new_notes) (λ now. IsSettled now (identity ∷ [])))

@@ -2,6 +2,7 @@ pub mod Endings
 pub mod Disks
 pub mod Sessions
 pub mod Runs
+pub mod Operators
 pub mod Inits
 pub mod Faults
 pub mod Prompt

@@ -1,20 +1,21 @@
 -- That a run of a node answers its lines before it reads more of them.
-use Rattle.std.specs.Prelude.{◌⊎◌, ℕ, Bool, false, List, [], Option, Result}
+use Rattle.std.specs.Prelude.{◌⊎◌, ℕ, Bool, false, List, [], Option, Some, None, Result}
 use Rattle.crash_disk.specs.Disk.{History, FaultPlan}
 use Rattle.plasma_tx.specs.declared.call.RootCall.{RootCall}
 use Rattle.node_journal.specs.Notes.{NotesState, Opened}
 use Rattle.node_journal.specs.Role.{role_in}
-use Rattle.node_lines.specs.Grammar.{watcher_line_in, operator_line_in}
+use Rattle.node_lines.specs.Grammar.{watcher_line_in}
 use Rattle.node_rules.specs.Watcher.{watcher_kinds, who_is as watcher_is}
-use Rattle.operator_rules.specs.Records.{operator_kinds, who_is as operator_is}
+use Rattle.operator_rules.specs.Records.{operator_kinds, who_is}
 use Rattle.wallet_node.specs.State.{WalletState}
 use Rattle.wallet_node.specs.Opening.{OpensWallet}
-use Rattle.node_answers.specs.Answers.{Outcome, watcher_outcome, operator_outcome}
+use Rattle.node_answers.specs.Answers.{Outcome, watcher_outcome}
 use Rattle.node_sessions.specs.Sessions.{begun}
 use Rattle.streamed_lines.specs.Outside.{Gave}
 use Rattle.streamed_lines.specs.Prompt.{answers_so_far, AnswersPromptly}
 use Rattle.node_runs.specs.Sessions.{Outside}
 use Rattle.node_runs.specs.Runs.{notes_rules, notes_found, wallet_rules, wallet_found}
+use Rattle.node_runs.specs.Operators.{desk_records_in, operator_rules, operator_found, desk_rules, desk_found}
 
 -- a run that did this outside, and whose last take failed or didn't
 module _ (outside : Outside) (failed_last : Bool) where
@@ -45,10 +46,24 @@ module _ (outside : Outside) (failed_last : Bool) where
         NotesPromptly (role_in (watcher_kinds dig)) (λ records. (watcher_is records).tag) watcher_line_in
         watcher_outcome notes
 
-    unfoldable pub OperatorPromptly : D → Type 0
-    OperatorPromptly notes =
-        NotesPromptly (role_in operator_kinds) (λ records. (operator_is records).tag) operator_line_in
-        operator_outcome notes
+    -- So it is of an operator's disk, whose identity has no key, or one whose leaves were opened too, or weren't.
+    abbrev pub PromptlyBehind : Option (List ℕ) → NotesState D → D → Type 0
+    PromptlyBehind None opened leaves =
+        RunsPromptly
+        (answers_so_far (operator_rules told plan faults dig opened)
+        (begun (operator_found told plan faults dig opened)))
+    PromptlyBehind (Some seed) opened leaves =
+        ((desk : NotesState D) × Opened told plan faults (desk_records_in seed) leaves desk
+        × RunsPromptly
+        (answers_so_far (desk_rules told plan faults dig opened)
+        (begun (desk_found told plan faults dig opened desk))))
+        ⊎ ReadsNothing
+
+    unfoldable pub OperatorPromptly : D → D → Type 0
+    OperatorPromptly notes leaves =
+        ((opened : NotesState D) × Opened told plan faults (role_in operator_kinds) notes opened
+        × PromptlyBehind (who_is opened.records).key_seed opened leaves)
+        ⊎ ReadsNothing
 
     -- so it is of a wallet's two disks
     unfoldable pub WalletPromptly : D → D → Type 0

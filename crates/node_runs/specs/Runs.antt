@@ -1,17 +1,16 @@
--- What a run of a watcher, an operator or a wallet does.
+-- What a run of a node over one disk, and of a wallet, does.
 use Rattle.std.specs.Prelude.{◌⊎◌, ℕ, false, List, [], Option, Result}
 use Rattle.crash_disk.specs.Disk.{History, FaultPlan}
 use Rattle.node_journal.specs.declared.refusal.JournalRefusal.{JournalRefusal}
 use Rattle.plasma_tx.specs.declared.call.RootCall.{RootCall}
 use Rattle.node_journal.specs.Notes.{NotesState, Opened, RefusesRole}
 use Rattle.node_journal.specs.Role.{role_in}
-use Rattle.node_lines.specs.Grammar.{watcher_line_in, operator_line_in, wallet_line_in}
+use Rattle.node_lines.specs.Grammar.{watcher_line_in, wallet_line_in}
 use Rattle.node_rules.specs.Watcher.{watcher_kinds, who_is as watcher_is}
 use Rattle.node_rules.specs.Wallet.{who as wallet_is}
-use Rattle.operator_rules.specs.Records.{operator_kinds, who_is as operator_is}
 use Rattle.wallet_node.specs.State.{WalletState}
 use Rattle.wallet_node.specs.Opening.{OpensWallet, RefusesWallet}
-use Rattle.node_answers.specs.Answers.{Outcome, watcher_outcome, operator_outcome, wallet_outcome}
+use Rattle.node_answers.specs.Answers.{Outcome, watcher_outcome, wallet_outcome}
 use Rattle.node_roles.specs.Notes.{NodeAt, NotesAt, with_note}
 use Rattle.node_roles.specs.Deeds.{notes_do}
 use Rattle.node_roles.specs.Wallets.{WalletAt, records_of, with_either, wallet_does}
@@ -65,15 +64,10 @@ module _ {D : Type 0} (told : D → Option History) (plan : D → Option FaultPl
         × NotesSession opened new outside failed status)
         ⊎ ((why : JournalRefusal) × RefusesRole told plan faults read old why new × RefusedRun why outside status)
 
-  -- a run of a watcher, and of an operator
+  -- a run of a watcher
   unfoldable pub RunsWatcher : D → D → Outside → Type 0 → Status → Type 0
   RunsWatcher old new outside failed status =
       RunsNotes (role_in (watcher_kinds dig)) (λ records. (watcher_is records).tag) watcher_line_in watcher_outcome
-      old new outside failed status
-
-  unfoldable pub RunsOperator : D → D → Outside → Type 0 → Status → Type 0
-  RunsOperator old new outside failed status =
-      RunsNotes (role_in operator_kinds) (λ records. (operator_is records).tag) operator_line_in operator_outcome
       old new outside failed status
 
   -- the rules of the session of a wallet that was opened, and where it finds the wallet

@@ -1,4 +1,4 @@
-ghost use Rattle.std.specs.Prelude.{◌≡◌, ◌≢◌, true, [], None};
+ghost use Rattle.std.specs.Prelude.{◌≡◌, ◌≢◌, true, [], None, Some};
 ghost use Rattle.plasma_base.specs.Causes.{faults_after};
 ghost use Rattle.lms_sign.specs.Types.{is_supported};
 ghost use Rattle.node_rules.specs.Watcher.{identity_text as watcher_text};
@@ -8,7 +8,7 @@ ghost use Rattle.run_endings.specs.Statuses.{is_write_fault};
 ghost use Rattle.run_endings.specs.Outputs.{EndsAs};
 ghost use Rattle.run_endings.specs.Texts.{already_made_text};
 ghost use Rattle.node_runs.specs.Endings.{init_output, refused_init};
-ghost use Rattle.node_runs.specs.Inits.{InitsNotes, InitsWallet};
+ghost use Rattle.node_runs.specs.Inits.{InitsNotes, InitsPair};
 
 use crash_disk::Disk;
 use node_journal::InitRefusal;
@@ -75,7 +75,7 @@ pub fn init_watcher<D: Disk, K: Sink>(
     (notes, status)
 }
 
-/// Begins an operator with this account, of the chain with this tag, as `init_watcher` does a watcher.
+/// Begins an operator without a key, with this account, of the chain with this tag, as `init_watcher` does a watcher.
 pub fn init_operator<D: Disk, K: Sink>(
     alloc: Global,
     sink: &mut K,
@@ -103,12 +103,36 @@ pub fn init_wallet<D: Disk, K: Sink>(
     who: &WalletIdentity,
 ) -> (D, D, Status)
     requires { is_supported who.now.types ≡ true }
-    ensures inits { InitsWallet D.told D.plan D.faults (K.taken sink.old) (K.taken sink.new) result.2
+    ensures inits { InitsPair D.told D.plan D.faults (K.taken sink.old) (K.taken sink.new) result.2
         (wallet_text who.now) notes leaves result.0 result.1 }
     ensures no_read_fault { result.2 ≢ Status.ReadFault }
     ensures sink_faults { K.faults sink.new ≡ faults_after (K.faults sink.old) (is_write_fault result.2) }
 {
     let (notes, leaves, answer) = wallet_node::init(alloc, notes, leaves, who);
+    let status = put_answer(alloc, sink, answer);
+    (notes, leaves, status)
+}
+
+/// Begins an operator with this account, of the chain with this tag, and a key that is made of this seed, on two disks,
+/// as `init_wallet` does a wallet.
+pub fn init_operator_with_key<D: Disk, K: Sink>(
+    alloc: Global,
+    sink: &mut K,
+    notes: D,
+    leaves: D,
+    tag: [u8; 32],
+    account: u64,
+    seed: [u8; 32],
+) -> (D, D, Status)
+    ensures inits { InitsPair D.told D.plan D.faults (K.taken sink.old) (K.taken sink.new) result.2
+        (operator_text (record { tag = tag; account = account; key_seed = Some seed }))
+        notes leaves result.0 result.1 }
+    ensures no_read_fault { result.2 ≢ Status.ReadFault }
+    ensures sink_faults { K.faults sink.new ≡ faults_after (K.faults sink.old) (is_write_fault result.2) }
+{
+    let (notes, leaves, answer) = operator_core::init_with_key(
+        alloc, notes, leaves, tag, account, seed,
+    );
     let status = put_answer(alloc, sink, answer);
     (notes, leaves, status)
 }

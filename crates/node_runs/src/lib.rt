@@ -10,7 +10,7 @@ mod session;
 mod wallet;
 mod watcher;
 
-pub use init::{init_operator, init_wallet, init_watcher};
+pub use init::{init_operator, init_operator_with_key, init_wallet, init_watcher};
 pub use operator::run_operator;
 pub use wallet::run_wallet;
 pub use watcher::run_watcher;
