@@ -1,9 +1,9 @@
 -- What the disks of a node tell whose order was cut, and the images that its crash leaves of them.
-use Rattle.std.proofs.Common.{◌≡◌, ◌<◌, ◌⊎◌, ◌-◌, ◌∷◌, [], ℕ, zero, suc, min, Bool, true, false, cond, nat_lt, List, length, Option, Some, None, Result, inl, inr, refl, sym, ◌∙◌, ap, subst, arith}
+use Rattle.std.proofs.Common.{◌≡◌, ◌<◌, ◌⊎◌, ◌-◌, [], ℕ, zero, suc, min, Bool, true, false, cond, nat_lt, List, Option, Some, None, Result, inl, inr, refl, sym, ◌∙◌, ap, arith}
 use Rattle.std.specs.Prelude.{◌||◌}
 use Rattle.std.specs.Option.{option_map}
 use Rattle.std.proofs.lemmas.Bool.{ltb-true}
-use Rattle.crash_disk.specs.Disk.{History, content, passing}
+use Rattle.crash_disk.specs.Disk.{History, content}
 use Rattle.crash_disk.specs.Calls.{with_made}
 use Rattle.crash_disk.specs.Memory.{MemState, plan_of, with_fuse}
 use Rattle.crash_disk.specs.Outcomes.{HasPattern}

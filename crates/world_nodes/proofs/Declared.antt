@@ -23,7 +23,7 @@ use Rattle.world_nodes.specs.declared.up.UpNode.{UpNode}
 use Rattle.world_nodes.specs.declared.entry.Site.TheVariants.{Up, Down}
 use Rattle.world_nodes.specs.declared.entry.Member.{Member}
 use Rattle.world_nodes.specs.Nodes.{EachKeeps, Spells, role_of}
-use Rattle.world_nodes.specs.Inside.{mem_told, mem_plan, mem_faults, NoneListed, Half, kept_half, leaves_of, down_kind, down_halves, up_halves, up_hash, Opens, empty_disk, member_kind, view_of, IsOf, IsWho, IsWhole, IsBegun, AreBegun, first_note, IsDeclared}
+use Rattle.world_nodes.specs.Inside.{mem_told, mem_plan, mem_faults, NoneListed, Half, kept_half, leaves_of, down_kind, down_halves, up_halves, up_hash, Opens, empty_disk, member_kind, view_of, IsOf, IsWho, IsWhole, IsBegun, AreBegun, first_note, IsIdentityOf, IsDeclared, NoFuses}
 use Rattle.world_nodes.proofs.Halves.{planned_listed}
 use Rattle.world_nodes.proofs.Runs.{KeepsAll, up_has, keeps_view, up_opened, opened_keeps, opened_same, whole_opened}
 
@@ -42,25 +42,25 @@ empty_listed = record { listed = λ n. none_listed empty_disk refl n }
 
 -- disks that keep an identity are declared
 pub declared : (identity : List ℕ) (member : Member) (down : DownNode) → down_kind down ≡ member_kind member
-    → AreBegun identity down → IsOf member (identity ∷ []) → IsDeclared member down
-declared identity member down kind begun is =
+    → AreBegun identity down → NoFuses (down_halves down) → IsIdentityOf (member_kind member) identity
+    → IsOf member (identity ∷ []) → IsDeclared member down
+declared identity member down kind begun unfused role is =
     let first : identity ≡ first_note down =
     sym (ap (λ (rs : List (List ℕ)). unwrap_or (slice_get rs 0) []) begun.notes.records_are) in
     record {
       kind = kind;
+      unfused = unfused;
+      role = subst (IsIdentityOf (member_kind member)) first role;
       begun = subst (λ (i : List ℕ). AreBegun i down) first begun;
       is_of = subst (λ (i : List ℕ). IsOf member (i ∷ [])) first is;
     }
 
-pub first_is : (identity : List ℕ) (down : DownNode) → AreBegun identity down → first_note down ≡ identity
-first_is identity down begun = ap (λ (rs : List (List ℕ)). unwrap_or (slice_get rs 0) []) begun.notes.records_are
-
-begun_records : (half : Option Half) → ForSome half (IsBegun []) → option_map_or (λ (h : Half). h.records) half
+pub begun_records : (half : Option Half) → ForSome half (IsBegun []) → option_map_or (λ (h : Half). h.records) half
     [] ≡ []
 begun_records None begun = refl
 begun_records (Some half) begun = (begun half refl).records_are
 
-begun_keeps : (identity : List ℕ) (down : DownNode) → AreBegun identity down → KeepsAll (down_halves down)
+pub begun_keeps : (identity : List ℕ) (down : DownNode) → AreBegun identity down → KeepsAll (down_halves down)
 begun_keeps identity down begun = record {
   notes = subst (λ (rs : List (List ℕ)). EachKeeps rs (down_halves down).notes.disk.history)
       (sym begun.notes.records_are) begun.notes.keeps;
@@ -126,12 +126,12 @@ init_listed steps old new result done ok inits none =
     planned_listed (length (steps (content old.history))) old new over.1.planned.1 none
 
 -- nor after a question for the length
-unfolded_asked : (old new : MemState) → IsAsked mem_told mem_plan mem_faults old new
+pub unfolded_asked : (old new : MemState) → IsAsked mem_told mem_plan mem_faults old new
     → mem_plan new ≡ option_map (after_calls 1) (mem_plan old)
 unfolding after_calls
 unfolded_asked old new asked = asked.called.goes_on
 
-asked_listed : (old new : MemState) → IsAsked mem_told mem_plan mem_faults old new → NoneListed old → NoneListed new
+pub asked_listed : (old new : MemState) → IsAsked mem_told mem_plan mem_faults old new → NoneListed old → NoneListed new
 asked_listed old new asked none = planned_listed 1 old new (unfolded_asked old new asked) none
 
 pub pair_listed : (identity : List ℕ) (notes leaves new_notes new_leaves : MemState) (result : Result Unit

@@ -9,3 +9,7 @@ pub mod Places
 pub mod CutOpenings
 pub mod CutDisks
 pub mod SameDeeds
+pub mod Ready
+pub mod Roles
+pub mod ReadyAt
+pub mod Begun

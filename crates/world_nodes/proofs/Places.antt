@@ -13,13 +13,12 @@ use Rattle.world_nodes.specs.declared.kept.Counts.{Counts}
 use Rattle.world_nodes.specs.declared.down.DownNode.{DownNode}
 use Rattle.world_nodes.specs.declared.up.UpNode.{UpNode}
 use Rattle.world_nodes.specs.declared.entry.Site.{Site}
-use Rattle.world_nodes.specs.declared.entry.Site.TheVariants.{Up, Down, Gone}
+use Rattle.world_nodes.specs.declared.entry.Site.TheVariants.{Up, Down}
 use Rattle.world_nodes.specs.declared.entry.Member.{Member}
 use Rattle.world_nodes.specs.Orders.{fits, is_opening_order, order_deed}
 use Rattle.world_nodes.specs.Nodes.{NodeView, role_of, Spells, IsDone, Crashes}
 use Rattle.world_nodes.specs.Cuts.{Cuts}
-use Rattle.world_nodes.specs.Inside.{crashed, bare_node, down_kind, down_halves, with_disks, up_halves, up_hash, Opens, UpDid, IsDownOf, IsCutShort, IsCutOpening, opening_gives, counts_of, end_in, member_kind, view_of, IsWhole}
-use Rattle.world_nodes.proofs.Members.{lost}
+use Rattle.world_nodes.specs.Inside.{crashed, bare_node, down_kind, down_halves, with_disks, up_kind, up_halves, up_hash, Opens, UpDid, IsDownOf, IsCutShort, IsCutOpening, opening_gives, counts_of, end_in, member_kind, view_of, IsWhole}
 use Rattle.world_nodes.proofs.Cuts.{down_is, with_kind}
 use Rattle.world_nodes.proofs.Entries.{command_done, opening_comes, crash_comes, cut_comes, cut_opening_comes}
 
@@ -33,11 +32,6 @@ moved : {H : Type 0} (hash : H) (name : List ℕ) (account : ℕ) (member : Memb
 moved {H} hash name account member more after put P is all =
     subst (λ (s : Site H). P (view_of hash name account member s more)
     × Spells (view_of hash name account member s more) × IsWhole hash member s) (sym is) all
-
--- a site that was taken, and is then lost
-pub lost_at : {H : Type 0} (hash : H) (member : Member) (site after : Site H) → IsWhole hash member site
-    → after ≡ Gone → IsWhole hash member after
-lost_at {H} hash member site after whole is = subst (IsWhole hash member) (sym is) (lost hash member site whole)
 
 pub command_at : {H : Type 0} (digest : H → List ℕ → List ℕ) (hash : H) (name : List ℕ) (account : ℕ)
     (member : Member) (offers more : List RootCall) (old : NodeView H) (site taken after : Site H) (node new :
@@ -138,4 +132,13 @@ cut_fits {H} hash name account member offers old site taken down fused fuse orde
     let kind : down_kind fused ≡ member_kind member =
     ap down_kind fusing ∙ (with_kind (with_fuse fuse) down
     ∙ down_is hash member site down (subst (λ (s : Site H). IsDownOf s down) same at) whole) in
+    ap (λ k. fits (role_of k) order) kind ∙ (ap (λ (v : NodeView H). fits v.node.role order) is ∙ fit)
+
+-- and a node that is up
+pub up_fits : {H : Type 0} (hash : H) (name : List ℕ) (account : ℕ) (member : Member) (offers : List RootCall)
+    (old : NodeView H) (site taken : Site H) (node : UpNode H) (order : NodeOrder)
+    → view_of hash name account member site offers ≡ old → IsWhole hash member site
+    → fits old.node.role order ≡ true → taken ≡ site → taken ≡ Up node → fits (role_of (up_kind node)) order ≡ true
+up_fits {H} hash name account member offers old site taken node order is whole fit same at =
+    let kind : up_kind node ≡ member_kind member = (subst (IsWhole hash member) (sym same ∙ at) whole).is_site.0 in
     ap (λ k. fits (role_of k) order) kind ∙ (ap (λ (v : NodeView H). fits v.node.role order) is ∙ fit)

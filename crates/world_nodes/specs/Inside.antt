@@ -1,6 +1,6 @@
 -- What a node of a world is made of, and what its parts do.
-use Rattle.std.specs.Prelude.{◌≡◌, ◌-◌, ℕ, Bool, true, false, nat_lt, List, [], ◌∷◌, length, slice_get, Option, Some, None, unwrap_or, option_map}
-use Rattle.std.specs.Option.{IfSome, ForSome, option_map_or, option_or}
+use Rattle.std.specs.Prelude.{◌≡◌, ◌⊎◌, ◌-◌, ℕ, Bool, true, false, nat_lt, List, [], ◌∷◌, length, slice_get, Option, Some, None, unwrap_or, option_map}
+use Rattle.std.specs.Option.{IfSome, ForSome, option_map_or, option_or, is_some}
 use Rattle.crash_disk.specs.Disk.{History, fresh_history, content, FaultPlan}
 use Rattle.crash_disk.specs.Memory.{MemState, plan_of, after_crash}
 use Rattle.crash_disk.specs.Outcomes.{image_after}
@@ -10,18 +10,19 @@ use Rattle.node_journal.specs.declared.refusal.JournalRefusal.{JournalRefusal}
 use Rattle.node_journal.specs.Notes.{NotesState, Did, Opened, RefusesRole}
 use Rattle.node_journal.specs.Role.{role_in}
 use Rattle.node_journal.specs.declared.stop.Stop.{Stop}
-use Rattle.node_journal.specs.declared.stop.Stop.TheVariants.{DeviceFault}
+use Rattle.node_journal.specs.declared.stop.Stop.TheVariants.{DeviceFault, NoMemory}
 use Rattle.plasma_tx.specs.declared.call.RootCall.{RootCall}
 use Rattle.plasma_tx.specs.declared.owner.Owner.{Owner}
 use Rattle.node_rules.specs.declared.identity.WalletIdentity.{WalletIdentity}
 use Rattle.node_rules.specs.WalletRecords.{identity_text, owner_of, secret_of, who_is}
 use Rattle.node_rules.specs.Watcher.{watcher_kinds}
+use Rattle.node_rules.specs.Wallet.{WalletRecords}
 use Rattle.operator_rules.specs.Records.{operator_kinds}
 use Rattle.wallet_node.specs.State.{notes_part, leaves_part}
 use Rattle.wallet_node.specs.Opening.{OpensWallet, RefusesWallet}
 use Rattle.world_rules.specs.World.{Role, Watcher, Node}
 use Rattle.leaf_journal.specs.Records.{messages_of}
-use Rattle.node_journal.specs.declared.refusal.JournalRefusal.TheVariants.{DeviceFault as JournalFault}
+use Rattle.node_journal.specs.declared.refusal.JournalRefusal.TheVariants.{DeviceFault as JournalFault, NoMemory as JournalNoMemory}
 use Rattle.world_rules.specs.declared.reply.Reply.{Reply}
 use Rattle.world_rules.specs.Events.{Other}
 use Rattle.world_rules.specs.Deeds.{Gives, Deed, says}
@@ -43,7 +44,7 @@ use Rattle.world_nodes.specs.declared.entry.Site.TheVariants.{Up, Down, Gone}
 use Rattle.world_nodes.specs.declared.entry.Member.{Member}
 use Rattle.world_nodes.specs.declared.entry.Member.TheVariants.{Wallet as WalletMember, Watcher as WatcherMember, Operator as OperatorMember}
 use Rattle.world_nodes.specs.Orders.{order_deed}
-use Rattle.world_nodes.specs.Nodes.{NodeView, EachKeeps, role_of}
+use Rattle.world_nodes.specs.Nodes.{NodeView, EachKeeps, role_of, AreOf}
 
 -- ---- disks in memory
 
@@ -60,6 +61,14 @@ mem_faults disk = disk.faults
 -- no call to come is listed as one that fails
 pub record NoneListed (disk : MemState) : Type 0 where
   pub listed : (n : ℕ) → (plan_of disk).listed n ≡ false
+
+-- no fuse lets calls to come fail
+abbrev pub HasNoFuse : MemState → Type 0
+HasNoFuse disk = disk.fuse ≡ None
+
+-- the disk holds a journal
+abbrev pub HasJournal : MemState → Type 0
+HasJournal disk = is_some (kept_records (content disk.history)) ≡ true
 
 -- the records that a disk holds
 abbrev pub kept_of : History → List (List ℕ)
@@ -94,9 +103,24 @@ pub record NoneListedOf (halves : Halves) : Type 0 where
   pub notes : NoneListed halves.notes.disk
   pub leaves : ForSome halves.leaves (λ half. NoneListed half.disk)
 
+-- so it is of each disk
+pub record OfDisks (P : MemState → Type 0) (halves : Halves) : Type 0 where
+  pub notes : P halves.notes.disk
+  pub leaves : ForSome halves.leaves (λ half. P half.disk)
+
+abbrev pub NoFuses : Halves → Type 0
+NoFuses halves = OfDisks HasNoFuse halves
+
+abbrev pub HaveJournals : Halves → Type 0
+HaveJournals halves = OfDisks HasJournal halves
+
 -- the records of its leaves
 abbrev pub leaves_of : Halves → List (List ℕ)
 leaves_of halves = option_map_or (λ half. half.records) halves.leaves []
+
+-- its records
+abbrev pub records_in : Halves → WalletRecords
+records_in halves = record { notes = halves.notes.records; leaves = leaves_of halves }
 
 -- a node with these records, of which nothing else is known
 abbrev pub bare_node : Halves → Node
@@ -184,6 +208,17 @@ RefusesDown dig (OperatorDown notes) why (OperatorDown new) =
     RefusesRole mem_told mem_plan mem_faults (role_in operator_kinds) notes why new
 RefusesDown dig down why new = ⊥
 
+-- an opening of its disks is refused for want of memory alone
+abbrev pub MayOpen : (List ℕ → List ℕ) → DownNode → Type 0
+MayOpen dig down =
+    (why : JournalRefusal) (left : DownNode) → RefusesDown dig down why left → why ≡ JournalNoMemory
+
+-- it meets a device fault, unless memory runs out
+pub record IsToStop (H : Type 0) (dig : List ℕ → List ℕ) (down : DownNode) : Type 0 where
+  pub opens : (up : UpNode H) → Opens dig down up → ⊥
+  pub refused : (why : JournalRefusal) (left : DownNode) → RefusesDown dig down why left
+      → (why ≡ JournalFault) ⊎ (why ≡ JournalNoMemory)
+
 -- what an order did to a node that is up, by its deed, and that was stopped so, or not
 abbrev pub UpDid : {H : Type 0} → Deed → UpNode H → Option Stop → UpNode H → Type 0
 UpDid deed (WalletUp old) stop (WalletUp new) = Does mem_told mem_plan mem_faults deed old stop new
@@ -193,6 +228,10 @@ UpDid deed (OperatorUp old) stop (OperatorUp new) =
     Did mem_told mem_plan mem_faults deed.note old.notes stop new.notes × (new.hash ≡ old.hash)
 UpDid deed old stop new = ⊥
 
+-- memory alone stops an order of the node
+abbrev pub RunsOn : {H : Type 0} → UpNode H → Type 0
+RunsOn {H} node = (deed : Deed) (stop : Stop) (new : UpNode H) → UpDid deed node (Some stop) new → stop ≡ NoMemory
+
 -- ---- what is taken from a site
 
 -- the disks of a node that was up, or down
@@ -200,6 +239,11 @@ abbrev pub IsDownOf : {H : Type 0} → Site H → DownNode → Type 0
 IsDownOf (Up node) down = down ≡ taken_down node
 IsDownOf (Down old) down = down ≡ old
 IsDownOf Gone down = ⊥
+
+-- the site isn't lost
+abbrev pub IsThere : {H : Type 0} → Site H → Type 0
+IsThere Gone = ⊥
+IsThere site = Unit {0}
 
 -- an order was run on disks that were opened, and ended so: what it gave, or that a device fault stopped it
 abbrev pub stop_in : Option Given → Option Stop
@@ -323,6 +367,17 @@ pub record IsWhole {H : Type 0} (hash : H) (member : Member) (site : Site H) : T
   pub none_listed : NoneListedOf (halves_of member site)
   pub identity : IsOf member (halves_of member site).notes.records
 
+-- its disks have no fuse, and what a node keeps that is down is of its role
+abbrev pub IsReady : {H : Type 0} → (List ℕ → List ℕ) → Role → Site H → Type 0
+IsReady dig role (Up node) = NoFuses (up_halves node)
+IsReady dig role (Down down) = NoFuses (down_halves down) × AreOf dig role (records_in (down_halves down))
+IsReady dig role Gone = Unit {0}
+
+-- both
+abbrev pub IsEntry : {H : Type 0} → (H → List ℕ → List ℕ) → H → Member → Site H → Type 0
+IsEntry digest hash member site =
+    IsWhole hash member site × IsReady (digest hash) (role_of (member_kind member)) site
+
 -- ---- declarations
 
 -- a disk that keeps these records and foretells no fault of a list
@@ -340,8 +395,15 @@ pub record AreBegun (identity : List ℕ) (down : DownNode) : Type 0 where
 abbrev pub first_note : DownNode → List ℕ
 first_note down = unwrap_or (slice_get (down_halves down).notes.records 0) []
 
+-- records that are one identity are of the kind, under each digest
+abbrev pub IsIdentityOf : NodeKind → List ℕ → Type 0
+IsIdentityOf kind identity =
+    (dig : List ℕ → List ℕ) → AreOf dig (role_of kind) (record { notes = identity ∷ []; leaves = [] })
+
 -- disks that keep an identity alone, which is the member's
 pub record IsDeclared (member : Member) (down : DownNode) : Type 0 where
   pub kind : down_kind down ≡ member_kind member
+  pub unfused : NoFuses (down_halves down)
+  pub role : IsIdentityOf (member_kind member) (first_note down)
   pub begun : AreBegun (first_note down) down
   pub is_of : IsOf member (first_note down ∷ [])

@@ -9,14 +9,17 @@ use Rattle.crash_disk.specs.declared.outcome.Outcome.{Outcome}
 use Rattle.node_journal.specs.Image.{spelled}
 use Rattle.node_journal.specs.Steps.{append_steps, open_steps}
 use Rattle.node_journal.specs.Journal.{Keeps}
+use Rattle.node_journal.specs.Role.{are_of}
 use Rattle.plasma_tx.specs.declared.call.RootCall.{RootCall}
 use Rattle.node_rules.specs.declared.identity.WalletIdentity.{WalletIdentity}
 use Rattle.node_rules.specs.WalletRecords.{identity_text as wallet_text}
-use Rattle.node_rules.specs.Watcher.{identity_text as watcher_text}
-use Rattle.operator_rules.specs.Records.{identity_text as operator_text}
+use Rattle.node_rules.specs.Watcher.{identity_text as watcher_text, watcher_kinds}
+use Rattle.node_rules.specs.Wallet.{WalletRecords}
+use Rattle.node_rules.specs.WalletOpening.{is_wallet}
+use Rattle.operator_rules.specs.Records.{identity_text as operator_text, operator_kinds}
 use Rattle.world_rules.specs.declared.reply.Reply.{Reply}
 use Rattle.world_rules.specs.Events.{Idle}
-use Rattle.world_rules.specs.World.{Role, Wallet, Watcher, Operator, Node, is_wallet_role}
+use Rattle.world_rules.specs.World.{Role, Wallet, Watcher, Operator, Node, is_wallet_role, wallet_of}
 use Rattle.world_rules.specs.Deeds.{Deed, says}
 use Rattle.world_rules.specs.Steps.{new_node, after_command, after_crash}
 use Rattle.world_rules.specs.declared.given.Given.{Given}
@@ -50,6 +53,16 @@ pub record Spells {H : Type 0} (view : NodeView H) : Type 0 where
   pub notes : EachKeeps view.node.notes view.notes_disk
   pub has_leaves : is_some view.leaves_disk ≡ is_wallet_role view.node.role
   pub leaves : ForSome view.leaves_disk (EachKeeps view.node.leaves)
+
+-- the records are of the role
+abbrev pub AreOf : (List ℕ → List ℕ) → Role → WalletRecords → Type 0
+AreOf dig Wallet records = is_wallet dig records ≡ true
+AreOf dig Watcher records = are_of (watcher_kinds dig) records.notes ≡ true
+AreOf dig Operator records = are_of operator_kinds records.notes ≡ true
+
+-- the node's records are of its role
+abbrev pub IsOfRole : (List ℕ → List ℕ) → Node → Type 0
+IsOfRole dig node = AreOf dig node.role (wallet_of node)
 
 -- ---- declarations
 

@@ -4,7 +4,9 @@ use Rattle.plasma_tx.specs.declared.call.RootCall.{RootCall}
 use Rattle.world_rules.specs.World.{Role, Wallet, Watcher, Operator, Node, wallet_of}
 use Rattle.world_rules.specs.Deeds.{Deed, on_open, without_record}
 use Rattle.wallet_deeds.specs.Orders.{order_deed as wallet_order_deed}
+use Rattle.wallet_deeds.specs.Laws.{IsFitOrder}
 use Rattle.watcher_deeds.specs.Orders.{order_deed as watcher_order_deed}
+use Rattle.watcher_deeds.specs.Laws.{HasBytes}
 use Rattle.operator_deeds.specs.Orders.{order_deed as operator_order_deed}
 use Rattle.world_nodes.specs.declared.order.NodeOrder.{NodeOrder}
 
@@ -15,6 +17,12 @@ fits Watcher (NodeOrder.Watcher order) = true
 fits Operator (NodeOrder.Operator order) = true
 fits role NodeOrder.Open = true
 fits role order = false
+
+-- its bytes are bytes, and a key that it names has 56
+abbrev pub IsFit : NodeOrder → Type 0
+IsFit (NodeOrder.Wallet order) = IsFitOrder order
+IsFit (NodeOrder.Watcher order) = HasBytes order
+IsFit order = Unit {0}
 
 -- the order opens the node
 abbrev pub is_opening_order : NodeOrder → Bool

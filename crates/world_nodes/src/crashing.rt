@@ -16,8 +16,9 @@ impl<H: Hash32 + Copy> Entry<H> {
         ensures spells { OnOk result (Spells self.new) }
         ensures hash { self.new.hash ≡ self.old.hash }
     {
+        self.is_of_role();
         let site = take(&mut self.site);
-        let down = down_of(site)?;
+        let down = down_of(site);
         let down = down.crash(outcome)?;
         put(&mut self.site, Site::Down(down));
         offer_nothing(&mut self.offers);

@@ -1,13 +1,13 @@
-ghost use Rattle.std.specs.Prelude.{◌≡◌, ◌-◌, min, ℕ, [], true, false, IfOk, OnOk};
+ghost use Rattle.std.specs.Prelude.{◌≡◌, ◌-◌, ◌<◌, ◌≤◌, min, ℕ, [], length, true, false, IfOk, OnOk};
 ghost use Rattle.crash_disk.specs.Outcomes.{HasPattern};
 ghost use Rattle.crash_disk.specs.Memory.{with_fuse};
 ghost use Rattle.world_nodes.specs.declared.order.NodeOrder.{NodeOrder};
-ghost use Rattle.world_nodes.specs.Orders.{fits, is_opening_order, order_deed};
+ghost use Rattle.world_nodes.specs.Orders.{fits, is_opening_order, order_deed, IsFit};
 ghost use Rattle.world_nodes.specs.Nodes.{role_of, Spells};
 ghost use Rattle.world_nodes.specs.Cuts.{Cuts};
-ghost use Rattle.world_nodes.specs.Inside.{down_halves, down_kind, end_in, IsCutShort, IsCutOpening};
+ghost use Rattle.world_nodes.specs.Inside.{down_halves, down_kind, end_in, HaveJournals, MayOpen, IsToStop, IsCutShort, IsCutOpening};
 
-use super::down::DownNode;
+use super::down::{DownNode, are_bytes};
 use super::entry::{Entry, Site, closed_of, down_of, offer_nothing, put, take};
 use super::kept::{Counts, count_records, kept_record};
 use super::order::{CutEnd, NodeOrder};
@@ -17,6 +17,8 @@ use node_journal::Stop;
 use plasma_base::{Hash32, NoMemory};
 use plasma_tx::RootLog;
 use std::alloc::Global;
+use wallet_deeds::WalletOrder;
+use watcher_deeds::WatcherOrder;
 use world_rules::{Given, Reply, says};
 
 // What is left of an order that was cut: the disks, and what it gave, where no device fault stopped it.
@@ -33,9 +35,30 @@ struct CutOpening {
     end: CutEnd,
 }
 
+// What the type of a key says of it. It does nothing.
+fn is_key(key: [u8; 56])
+    ensures { length key ≡ 56 }
+{
+    let _ = key;
+}
+
+// What the types of an order's parts say of them. It does nothing.
+fn is_fit(order: &NodeOrder)
+    ensures { IsFit order.now }
+{
+    match order {
+        NodeOrder::Wallet(WalletOrder::Accept { bundle }) => are_bytes(bundle.as_slice()),
+        NodeOrder::Wallet(WalletOrder::Send { to, .. }) => is_key(to.key),
+        NodeOrder::Wallet(WalletOrder::Reclaim { bundle }) => are_bytes(bundle.as_slice()),
+        NodeOrder::Watcher(WatcherOrder::Guard { bundle }) => are_bytes(bundle.as_slice()),
+        _ => {}
+    }
+}
+
 // A fuse that lets an opening and so many further calls of four pass.
 fn fuse_of(calls: u64) -> u64
-    ensures { min 4 (result - 3) ≡ min 4 calls }
+    ensures rest { min 4 (result - 3) ≡ min 4 calls }
+    ensures opening { 3 ≤ result }
 {
     calls.saturating_add(3)
 }
@@ -51,6 +74,7 @@ fn run_cut<H: Hash32 + Copy>(
     ghost n: { ℕ }
     requires fits { fits (role_of (down_kind down)) order.now ≡ true }
     requires is_command { is_opening_order order.now ≡ false }
+    requires may_open { MayOpen (H.digest_of hash) down }
     ensures { IfOk result (λ cut.
         IsCutShort H (H.digest_of hash) log.now.log n order.now down cut.given cut.down) }
 {
@@ -64,7 +88,8 @@ fn run_cut<H: Hash32 + Copy>(
         }),
         Err(stop) => match stop {
             Stop::DeviceFault => Ok(CutShort { down, given: None }),
-            _ => Err(NoMemory),
+            Stop::NoMemory => Err(NoMemory),
+            Stop::Closed => unreachable!(),
         },
     }
 }
@@ -76,6 +101,8 @@ fn open_cut<H: Hash32 + Copy>(
     down: DownNode,
     calls: u64,
 ) -> Result<CutOpening, NoMemory>
+    requires stops { calls < 3 → IsToStop H (H.digest_of hash) down }
+    requires opens { 3 ≤ calls → MayOpen (H.digest_of hash) down }
     ensures { IfOk result (λ cut. IsCutOpening H (H.digest_of hash) calls down cut.end cut.down) }
 {
     if calls < 3 {
@@ -102,6 +129,7 @@ fn end_of(
     before: &Counts,
     given: Option<Given>,
 ) -> Result<CutEnd, NoMemory>
+    requires { HaveJournals (down_halves down.now) }
     ensures { IfOk result (λ end. end ≡ end_in before.now (down_halves down.now) given) }
 {
     match given {
@@ -188,13 +216,15 @@ impl<H: Hash32 + Copy> Entry<H> {
         ghost n: { ℕ }
         requires pattern { HasPattern outcome.now }
         requires spells { Spells self.old }
+        requires is_down { self.old.node.is_up ≡ false }
         ensures cuts { IfOk result (λ end.
             Cuts (H.digest_of self.old.hash) [] n calls outcome.now NodeOrder.Open self.old end self.new) }
         ensures spells { OnOk result (Spells self.new) }
         ensures hash { self.new.hash ≡ self.old.hash }
     {
+        self.is_of_role();
         let site = take(&mut self.site);
-        let down = closed_of(site)?;
+        let down = closed_of(site);
         let opened = open_cut(self.alloc, self.hash, down.fuse(calls), calls)?;
         let CutOpening { down, end } = opened;
         let down = down.crash(outcome)?;
@@ -246,8 +276,12 @@ impl<H: Hash32 + Copy> Entry<H> {
         ensures spells { OnOk result (Spells self.new) }
         ensures hash { self.new.hash ≡ self.old.hash }
     {
+        self.is_of_role();
+        is_fit(order);
+        log.blocks();
         let site = take(&mut self.site);
-        let down = down_of(site)?;
+        let down = down_of(site);
+        down.are_bytes();
         let before = count_records(self.alloc, &down)?;
         let cut = run_cut(self.alloc, self.hash, down.fuse(fuse_of(calls)), log, order)?;
         let CutShort { down, given } = cut;

@@ -6,17 +6,28 @@ ghost use Rattle.operator_rules.specs.Records.{identity_text as operator_text};
 ghost use Rattle.world_rules.specs.Steps.{new_node};
 ghost use Rattle.world_nodes.specs.declared.order.NodeKind.{NodeKind};
 ghost use Rattle.world_nodes.specs.Nodes.{new_wallet, new_watcher, new_operator, role_of, Spells};
-ghost use Rattle.world_nodes.specs.Inside.{empty_disk, down_kind, member_kind, first_note, AreBegun, IsDeclared, IsOf};
+ghost use Rattle.world_nodes.specs.Inside.{empty_disk, down_halves, down_kind, member_kind, first_note, AreBegun, IsDeclared, IsIdentityOf, IsOf, NoFuses};
 
 use super::down::DownNode;
 use super::entry::{Entry, Member, Site};
 use super::order::NodeKind;
 use crash_disk::MemDisk;
+use node_journal::InitRefusal;
 use node_rules::WalletIdentity;
 use plasma_base::{Bytes, Hash32, NoMemory};
 use plasma_tx::Owner;
 use std::alloc::Global;
 use wallet_node::WalletKey;
+
+// The one cause for which an empty disk isn't begun.
+fn no_memory(why: InitRefusal) -> NoMemory
+    requires { why ≡ InitRefusal.NoMemory }
+{
+    match why {
+        InitRefusal::NoMemory => NoMemory,
+        _ => unreachable!(),
+    }
+}
 
 // A disk in memory that holds nothing.
 fn empty_disk(alloc: Global) -> MemDisk
@@ -56,11 +67,12 @@ fn over<H: Hash32 + Copy>(
 fn begin_wallet(alloc: Global, who: &WalletIdentity, key: WalletKey) -> Result<DownNode, NoMemory>
     requires { is_supported who.now.types ≡ true }
     ensures begun { IfOk result (AreBegun (identity_text who.now)) }
+    ensures unfused { IfOk result (λ down. NoFuses (down_halves down)) }
     ensures kind { IfOk result (λ down. down_kind down ≡ NodeKind.Wallet) }
 {
     match wallet_node::init(alloc, empty_disk(alloc), empty_disk(alloc), who) {
         (notes, leaves, Ok(())) => Ok(DownNode::Wallet { notes, leaves, key }),
-        (_, _, Err(_)) => Err(NoMemory),
+        (_, _, Err(why)) => Err(no_memory(why)),
     }
 }
 
@@ -80,6 +92,7 @@ fn wallet_member(key: &WalletKey, who: WalletIdentity) -> Member
     ensures member { member_kind result ≡ NodeKind.Wallet }
     ensures is { IsOf result (identity_text who ∷ []) }
     ensures reads { who_is (identity_text who ∷ []) ≡ who }
+    ensures role { IsIdentityOf NodeKind.Wallet (identity_text who) }
 {
     are_sized(who.tag, who.account, who.seed);
     let owner = Owner {
@@ -92,11 +105,14 @@ fn wallet_member(key: &WalletKey, who: WalletIdentity) -> Member
 // The disk of a watcher that begins.
 fn begin_watcher(alloc: Global, tag: &[u8; 32], account: u64) -> Result<DownNode, NoMemory>
     ensures begun { IfOk result (AreBegun (watcher_text (record { tag = tag.now; account = account }))) }
+    ensures unfused { IfOk result (λ down. NoFuses (down_halves down)) }
     ensures kind { IfOk result (λ down. down_kind down ≡ NodeKind.Watcher) }
+    ensures role { IsIdentityOf NodeKind.Watcher (watcher_text (record { tag = tag.now; account = account })) }
 {
+    are_sized(*tag, account, *tag);
     match watcher_node::init(alloc, empty_disk(alloc), *tag, account) {
         (notes, Ok(())) => Ok(DownNode::Watcher { notes }),
-        (_, Err(_)) => Err(NoMemory),
+        (_, Err(why)) => Err(no_memory(why)),
     }
 }
 
@@ -104,11 +120,15 @@ fn begin_watcher(alloc: Global, tag: &[u8; 32], account: u64) -> Result<DownNode
 fn begin_operator(alloc: Global, tag: &[u8; 32], account: u64) -> Result<DownNode, NoMemory>
     ensures begun { IfOk result (AreBegun
         (operator_text (record { tag = tag.now; account = account; key_seed = None }))) }
+    ensures unfused { IfOk result (λ down. NoFuses (down_halves down)) }
     ensures kind { IfOk result (λ down. down_kind down ≡ NodeKind.Operator) }
+    ensures role { IsIdentityOf NodeKind.Operator
+        (operator_text (record { tag = tag.now; account = account; key_seed = None })) }
 {
+    are_sized(*tag, account, *tag);
     match operator_core::init(alloc, empty_disk(alloc), *tag, account) {
         (notes, Ok(())) => Ok(DownNode::Operator { notes }),
-        (_, Err(_)) => Err(NoMemory),
+        (_, Err(why)) => Err(no_memory(why)),
     }
 }
 

@@ -1,10 +1,12 @@
 ghost use Rattle.std.specs.Prelude.{◌≡◌, IfOk};
+ghost use Rattle.crash_disk.specs.Disk.{content};
 ghost use Rattle.crash_disk.specs.Memory.{with_fuse};
 ghost use Rattle.crash_disk.specs.Outcomes.{HasPattern};
 ghost use Rattle.node_journal.specs.declared.refusal.JournalRefusal.{JournalRefusal};
-ghost use Rattle.world_nodes.specs.Inside.{crashed, with_disks, Opens, RefusesDown, up_hash};
+ghost use Rattle.plasma_tx.specs.Spelling.{AreBytes};
+ghost use Rattle.world_nodes.specs.Inside.{crashed, down_halves, with_disks, Opens, RefusesDown, MayOpen, IsToStop, up_hash};
 
-use super::up::{UpNode, lose};
+use super::up::UpNode;
 use crash_disk::{MemDisk, Outcome};
 use node_journal::{JournalRefusal, Returned};
 use operator_core::Operator;
@@ -40,6 +42,23 @@ impl Drop for DownNode {
             DownNode::Watcher { notes: _ } => {}
             DownNode::Operator { notes: _ } => {}
         }
+    }
+}
+
+// What the type of bytes says of them. It does nothing.
+pub fn are_bytes(bytes: &[u8])
+    ensures { AreBytes bytes.now }
+{
+    let _ = bytes;
+}
+
+// The one cause for which a disk of a world isn't opened.
+pub fn no_memory(why: JournalRefusal) -> NoMemory
+    requires { why ≡ JournalRefusal.NoMemory }
+{
+    match why {
+        JournalRefusal::NoMemory => NoMemory,
+        _ => unreachable!(),
     }
 }
 
@@ -104,8 +123,20 @@ impl DownNode {
         }
     }
 
-    // Opens the disks of a node that is down.
+    // What the type of bytes says of those on the notes' disk. It does nothing.
+    pub fn are_bytes(&self)
+        ensures { AreBytes (content (down_halves self.now).notes.disk.history) }
+    {
+        match self {
+            DownNode::Wallet { notes, .. } => are_bytes(notes.bytes()),
+            DownNode::Watcher { notes } => are_bytes(notes.bytes()),
+            DownNode::Operator { notes } => are_bytes(notes.bytes()),
+        }
+    }
+
+    // Opens the disks of a node that is down, which fails for want of memory alone.
     pub fn open_up<H: Hash32 + Copy>(self, alloc: Global, hash: H) -> Result<UpNode<H>, NoMemory>
+        requires { MayOpen (H.digest_of hash) self }
         ensures opens { IfOk result (λ node. Opens (H.digest_of hash) self node) }
         ensures hash { IfOk result (λ node. up_hash node ≡ hash) }
     {
@@ -113,16 +144,16 @@ impl DownNode {
             DownNode::Wallet { notes, leaves, key } => {
                 match WalletNode::open_keyed(alloc, notes, leaves, hash, Some(key)) {
                     Ok(node) => Ok(UpNode::Wallet(node)),
-                    Err(_) => Err(NoMemory),
+                    Err(returned) => Err(no_memory(returned.why)),
                 }
             }
             DownNode::Watcher { notes } => match WatcherNode::open_with(alloc, notes, hash) {
                 Ok(node) => Ok(UpNode::Watcher(node)),
-                Err(_) => Err(NoMemory),
+                Err(returned) => Err(no_memory(returned.why)),
             },
             DownNode::Operator { notes } => match Operator::open_with(alloc, notes, hash) {
                 Ok(node) => Ok(UpNode::Operator(node)),
-                Err(_) => Err(NoMemory),
+                Err(returned) => Err(no_memory(returned.why)),
             },
         }
     }
@@ -130,12 +161,13 @@ impl DownNode {
     // Opens the disks of a node that is down, of which the notes' one is to meet a device fault before a key
     // is asked for, so that the key stays.
     pub fn stop_up<H: Hash32 + Copy>(self, alloc: Global, hash: H) -> Result<DownNode, NoMemory>
+        requires { IsToStop H (H.digest_of hash) self }
         ensures { IfOk result (λ left. RefusesDown (H.digest_of hash) self JournalRefusal.DeviceFault left) }
     {
         match self {
             DownNode::Wallet { notes, leaves, key } => {
                 match WalletNode::open_keyed(alloc, notes, leaves, hash, None) {
-                    Ok(node) => Err(lose(UpNode::Wallet(node))),
+                    Ok(_) => unreachable!(),
                     Err(returned) => {
                         let ReturnedBoth { notes, leaves, why } = returned;
                         match why {
@@ -144,28 +176,28 @@ impl DownNode {
                                 leaves,
                                 key,
                             }),
-                            _ => Err(NoMemory),
+                            why => Err(no_memory(why)),
                         }
                     }
                 }
             }
             DownNode::Watcher { notes } => match WatcherNode::open_with(alloc, notes, hash) {
-                Ok(node) => Err(lose(UpNode::Watcher(node))),
+                Ok(_) => unreachable!(),
                 Err(returned) => {
                     let Returned { disk, why } = returned;
                     match why {
                         JournalRefusal::DeviceFault => Ok(DownNode::Watcher { notes: disk }),
-                        _ => Err(NoMemory),
+                        why => Err(no_memory(why)),
                     }
                 }
             },
             DownNode::Operator { notes } => match Operator::open_with(alloc, notes, hash) {
-                Ok(node) => Err(lose(UpNode::Operator(node))),
+                Ok(_) => unreachable!(),
                 Err(returned) => {
                     let Returned { disk, why } = returned;
                     match why {
                         JournalRefusal::DeviceFault => Ok(DownNode::Operator { notes: disk }),
-                        _ => Err(NoMemory),
+                        why => Err(no_memory(why)),
                     }
                 }
             },

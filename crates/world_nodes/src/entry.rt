@@ -4,8 +4,8 @@ ghost use Rattle.lms_sign.specs.Types.{is_supported};
 ghost use Rattle.node_rules.specs.WalletRecords.{who_is};
 ghost use Rattle.world_rules.specs.World.{is_wallet_role, owner_of_node};
 ghost use Rattle.world_nodes.specs.declared.entry.Site.{Site};
-ghost use Rattle.world_nodes.specs.Nodes.{new_wallet, new_watcher, new_operator, role_of, Spells};
-ghost use Rattle.world_nodes.specs.Inside.{member_kind, IsDownOf};
+ghost use Rattle.world_nodes.specs.Nodes.{new_wallet, new_watcher, new_operator, role_of, Spells, IsOfRole};
+ghost use Rattle.world_nodes.specs.Inside.{is_up, member_kind, IsDownOf, IsThere};
 
 use super::down::DownNode;
 use super::order::NodeKind;
@@ -34,7 +34,7 @@ pub enum Member {
 }
 
 /// A node of a world, over disks in memory. It is up or down; a call that answers `NoMemory` may lose it, and
-/// then each later call answers `NoMemory` too.
+/// then no later call may come: each that needs the disks asks that they spell its records.
 pub struct Entry<H: Hash32 + Copy> {
     pub(crate) alloc: Global,
     pub(crate) hash: H,
@@ -50,11 +50,11 @@ impl<H: Hash32 + Copy> Model for Entry<H> {
 
     ghost Value = { NodeView H };
 
-    ghost use Rattle.world_nodes.specs.Inside.{view_of, IsWhole};
+    ghost use Rattle.world_nodes.specs.Inside.{view_of, IsEntry};
 
     ghost view = { λ e. view_of e.hash e.name e.account e.member e.site e.offers.items };
 
-    ghost invariant = { λ e. IsWhole e.hash e.member e.site };
+    ghost invariant = { λ e. IsEntry H.digest_of e.hash e.member e.site };
 }
 
 // Written by hand, as that of a node that is up.
@@ -102,37 +102,53 @@ pub fn offer_nothing(offers: &mut Vec<RootCall>)
 }
 
 // A node that is up.
-pub fn up_of<H: Hash32 + Copy>(site: Site<H>) -> Result<UpNode<H>, NoMemory>
-    ensures { IfOk result (λ node. site ≡ Site.Up node) }
+pub fn up_of<H: Hash32 + Copy>(site: Site<H>) -> UpNode<H>
+    requires { is_up site ≡ true }
+    ensures { site ≡ Site.Up result }
 {
     match site {
-        Site::Up(node) => Ok(node),
-        _ => Err(NoMemory),
+        Site::Up(node) => node,
+        _ => unreachable!(),
     }
 }
 
 // A node that is down.
-pub fn closed_of<H: Hash32 + Copy>(site: Site<H>) -> Result<DownNode, NoMemory>
-    ensures { IfOk result (λ down. site ≡ Site.Down down) }
+pub fn closed_of<H: Hash32 + Copy>(site: Site<H>) -> DownNode
+    requires is_down { is_up site ≡ false }
+    requires there { IsThere site }
+    ensures { site ≡ Site.Down result }
 {
     match site {
-        Site::Down(down) => Ok(down),
-        _ => Err(NoMemory),
+        Site::Down(down) => down,
+        _ => unreachable!(),
     }
 }
 
 // The disks of a node that isn't lost, and a wallet's key.
-pub fn down_of<H: Hash32 + Copy>(site: Site<H>) -> Result<DownNode, NoMemory>
-    ensures { IfOk result (IsDownOf site) }
+pub fn down_of<H: Hash32 + Copy>(site: Site<H>) -> DownNode
+    requires { IsThere site }
+    ensures { IsDownOf site result }
 {
     match site {
-        Site::Up(node) => Ok(node.take_down()),
-        Site::Down(down) => Ok(down),
-        Site::Gone => Err(NoMemory),
+        Site::Up(node) => node.take_down(),
+        Site::Down(down) => down,
+        Site::Gone => unreachable!(),
     }
 }
 
 impl<H: Hash32 + Copy> Entry<H> {
+    // What holds of every node that isn't lost: its records are of its role. It does nothing.
+    pub(crate) fn is_of_role(&self)
+        requires { Spells self.now }
+        ensures { IsOfRole (H.digest_of self.now.hash) self.now.node }
+    {
+        match &self.site {
+            Site::Up(node) => node.is_whole(),
+            Site::Down(_) => {}
+            Site::Gone => {}
+        }
+    }
+
     /// The node's name.
     pub fn name(&self) -> &[u8]
         ensures { result.now ≡ self.now.node.name }

@@ -1,7 +1,7 @@
 ghost use Rattle.std.specs.Prelude.{◌≡◌, slice_get, length, IfOk};
-ghost use Rattle.world_nodes.specs.Inside.{counts_of, down_halves, kept_behind, kept_of};
+ghost use Rattle.world_nodes.specs.Inside.{counts_of, down_halves, kept_behind, kept_of, HasJournal, HaveJournals};
 
-use super::down::DownNode;
+use super::down::{DownNode, no_memory};
 use crash_disk::MemDisk;
 use node_journal::Journal;
 use plasma_base::{Bytes, NoMemory};
@@ -16,6 +16,7 @@ pub struct Counts {
 
 // The records that a disk holds. They are read on a copy, so that the disk makes no call.
 fn records_on(alloc: Global, disk: &MemDisk) -> Result<Vec<Bytes>, NoMemory>
+    requires { HasJournal disk.now }
     ensures { IfOk result (λ records. records.items ≡ kept_of disk.now.history) }
 {
     let copy = MemDisk::make(alloc, disk.bytes().to_vec(alloc)?, Vec::new(alloc));
@@ -24,12 +25,13 @@ fn records_on(alloc: Global, disk: &MemDisk) -> Result<Vec<Bytes>, NoMemory>
             let (_, records) = opened;
             Ok(records)
         }
-        Err(_) => Err(NoMemory),
+        Err(returned) => Err(no_memory(returned.why)),
     }
 }
 
 // How many records a disk holds.
 fn count_on(alloc: Global, disk: &MemDisk) -> Result<usize, NoMemory>
+    requires { HasJournal disk.now }
     ensures { IfOk result (λ count. count ≡ length (kept_of disk.now.history)) }
 {
     let records = records_on(alloc, disk)?;
@@ -38,6 +40,7 @@ fn count_on(alloc: Global, disk: &MemDisk) -> Result<usize, NoMemory>
 
 // The record of a disk behind so many.
 fn kept_on(alloc: Global, disk: &MemDisk, before: usize) -> Result<Option<Bytes>, NoMemory>
+    requires { HasJournal disk.now }
     ensures { IfOk result (λ kept. kept ≡ slice_get (kept_of disk.now.history) before) }
 {
     let records = records_on(alloc, disk)?;
@@ -51,6 +54,7 @@ fn kept_on(alloc: Global, disk: &MemDisk, before: usize) -> Result<Option<Bytes>
 
 // How many records the disks of a node hold.
 pub fn count_records(alloc: Global, down: &DownNode) -> Result<Counts, NoMemory>
+    requires { HaveJournals (down_halves down.now) }
     ensures { IfOk result (λ counts. counts ≡ counts_of (down_halves down.now)) }
 {
     match down {
@@ -76,6 +80,7 @@ pub fn kept_record(
     down: &DownNode,
     before: &Counts,
 ) -> Result<Option<Bytes>, NoMemory>
+    requires { HaveJournals (down_halves down.now) }
     ensures { IfOk result (λ kept. kept ≡ kept_behind before.now (down_halves down.now)) }
 {
     match down {

@@ -28,14 +28,16 @@ impl<H: Hash32 + Copy> Entry<H> {
     // Opens a node that is down.
     fn bring_up(&mut self) -> Result<Given, NoMemory>
         ghost n: { ℕ }
-        requires { Spells self.old }
+        requires spells { Spells self.old }
+        requires is_down { self.old.node.is_up ≡ false }
         ensures done { IfOk result (λ given. IsDone NodeOrder.Open
             (order_deed (H.digest_of self.old.hash) [] n self.old.node NodeOrder.Open) self.old given self.new) }
         ensures spells { OnOk result (Spells self.new) }
         ensures hash { self.new.hash ≡ self.old.hash }
     {
+        self.is_of_role();
         let site = take(&mut self.site);
-        let down = closed_of(site)?;
+        let down = closed_of(site);
         let node = down.open_up(self.alloc, self.hash)?;
         let (notes, leaves) = counts(&node);
         put(&mut self.site, Site::Up(node));

@@ -2,11 +2,12 @@ ghost use Rattle.std.specs.Prelude.{◌≡◌, ℕ, [], true, false, None, IfOk,
 ghost use Rattle.world_rules.specs.Given.{IsGiven};
 ghost use Rattle.world_nodes.specs.Orders.{fits, is_opening_order, order_deed};
 ghost use Rattle.world_nodes.specs.Nodes.{role_of, Spells, IsDone, Runs};
-ghost use Rattle.world_nodes.specs.Inside.{bare_node, up_closed, up_halves, up_hash, up_kind, UpDid};
+ghost use Rattle.world_nodes.specs.Inside.{bare_node, up_closed, up_halves, up_hash, up_kind, RunsOn, UpDid};
 
 use super::entry::{Entry, Site, put, put_offers, take, up_of};
 use super::order::NodeOrder;
 use super::up::{UpNode, run_up};
+use node_journal::Stop;
 use plasma_base::{Hash32, NoMemory};
 use plasma_tx::{RootCall, RootLog};
 use std::alloc::Global;
@@ -42,6 +43,7 @@ fn run_node<H: Hash32 + Copy>(
     requires fits { fits (role_of (up_kind node)) order.now ≡ true }
     requires is_command { is_opening_order order.now ≡ false }
     requires is_open { up_closed node ≡ false }
+    requires runs_on { RunsOn node }
     ensures did { IfOk result (λ ran. UpDid
         (order_deed (H.digest_of (up_hash node)) log.now.log n (bare_node (up_halves node)) order.now)
         node None ran.node) }
@@ -60,7 +62,8 @@ fn run_node<H: Hash32 + Copy>(
                 offers,
             })
         }
-        Err(_) => Err(NoMemory),
+        Err(Stop::NoMemory) => Err(NoMemory),
+        Err(_) => unreachable!(),
     }
 }
 
@@ -120,6 +123,7 @@ impl<H: Hash32 + Copy> Entry<H> {
         requires fits { fits self.old.node.role order.now ≡ true }
         requires is_command { is_opening_order order.now ≡ false }
         requires spells { Spells self.old }
+        requires is_up { self.old.node.is_up ≡ true }
         ensures done { IfOk result (λ given. IsDone order.now
             (order_deed (H.digest_of self.old.hash) log.now.log n self.old.node order.now)
             self.old given self.new) }
@@ -127,7 +131,7 @@ impl<H: Hash32 + Copy> Entry<H> {
         ensures hash { self.new.hash ≡ self.old.hash }
     {
         let site = take(&mut self.site);
-        let node = up_of(site)?;
+        let node = up_of(site);
         let ran = run_node(self.alloc, node, log, order)?;
         let Ran {
             node,

@@ -3,15 +3,15 @@ ghost use Rattle.node_journal.specs.Notes.{stopped_by};
 ghost use Rattle.leaf_journal.specs.Records.{messages_of};
 ghost use Rattle.world_rules.specs.Given.{IsGiven};
 ghost use Rattle.world_nodes.specs.Orders.{fits, is_opening_order, order_deed};
-ghost use Rattle.world_nodes.specs.Nodes.{role_of};
-ghost use Rattle.world_nodes.specs.Inside.{bare_node, leaves_of, taken_down, up_closed, up_halves, up_hash, up_kind, UpDid};
+ghost use Rattle.world_nodes.specs.Nodes.{role_of, AreOf};
+ghost use Rattle.world_nodes.specs.Inside.{bare_node, leaves_of, records_in, taken_down, up_closed, up_halves, up_hash, up_kind, UpDid};
 
 use super::down::DownNode;
 use super::order::NodeOrder;
 use crash_disk::MemDisk;
 use node_journal::Stop;
 use operator_core::Operator;
-use plasma_base::{Hash32, NoMemory};
+use plasma_base::Hash32;
 use plasma_tx::RootLog;
 use std::alloc::Global;
 use wallet_node::WalletNode;
@@ -78,13 +78,19 @@ pub fn counts<H: Hash32 + Copy>(node: &UpNode<H>) -> (u64, u64)
     }
 }
 
-// Lets a node go that was not to be opened.
-pub fn lose<H: Hash32 + Copy>(node: UpNode<H>) -> NoMemory {
-    drop(node);
-    NoMemory
-}
-
 impl<H: Hash32 + Copy> UpNode<H> {
+    // What holds of every node that is up: its records are of its role. It does nothing.
+    pub fn is_whole(&self)
+        ensures { AreOf (H.digest_of (up_hash self.now)) (role_of (up_kind self.now))
+            (records_in (up_halves self.now)) }
+    {
+        match self {
+            UpNode::Wallet(node) => node.is_whole(),
+            UpNode::Watcher(node) => node.is_whole(),
+            UpNode::Operator(node) => node.is_whole(),
+        }
+    }
+
     // The disks of a node that is up, and a wallet's key.
     pub fn take_down(self) -> DownNode
         ensures { result ≡ taken_down self }

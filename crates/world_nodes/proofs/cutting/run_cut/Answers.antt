@@ -3,7 +3,8 @@ use Rattle.node_journal.specs.declared.stop.Stop.{Stop}
 use Rattle.world_rules.specs.Deeds.{Deed}
 use Rattle.world_rules.specs.Given.{IsGiven}
 use Rattle.world_nodes.specs.Orders.{order_deed}
-use Rattle.world_nodes.specs.Inside.{bare_node, up_halves, UpDid}
+use Rattle.world_nodes.specs.Inside.{bare_node, up_halves, up_hash, UpDid}
+use Rattle.world_nodes.proofs.Ready.{closed-never}
 use Rattle.world_nodes.proofs.cutting.run_cut.Goals as goal
 
 pub returns-in-Ok : goal.returns-in-Ok
@@ -28,7 +29,7 @@ returns-in-DeviceFault g c =
     let new = c.run_up-ran.new.node in
     let deed : g.row.H.Denot → Deed = λ h. order_deed (g.H.Hash32.digest_of h) c.args.log.now.log g.n
     (bare_node (up_halves node)) c.args.order.now in
-    let did = subst (λ (s : Stop). UpDid (deed (Rattle.world_nodes.specs.Inside.up_hash node)) node (Some s) new)
+    let did = subst (λ (s : Stop). UpDid (deed (up_hash node)) node (Some s) new)
     c.in-DeviceFault.is c.in-Err.ensures.did in
     record {
       opened = node;
@@ -38,3 +39,11 @@ returns-in-DeviceFault g c =
       gives = tt;
       down = c.take_down-down.ensures;
     }
+
+-- a node that was just opened is open
+pub unreachable-requires : goal.unreachable-requires
+unreachable-requires g c =
+    closed-never (g.H.Hash32.digest_of c.args.hash) c.args.down c.in_ok-node.node c.run_up-ran.new.node
+    (order_deed (g.H.Hash32.digest_of (up_hash c.in_ok-node.node)) c.args.log.now.log g.n
+    (bare_node (up_halves c.in_ok-node.node)) c.args.order.now) c.in-Err.stop
+    c.in_ok-node.ensures.opens c.in-Closed.is c.in-Err.ensures.did

@@ -5,11 +5,20 @@ use Rattle.world_nodes.specs.declared.entry.Site.TheVariants.{Up}
 use Rattle.world_nodes.specs.Nodes.{role_of, Spells}
 use Rattle.world_nodes.specs.Inside.{first_note, member_kind, view_of}
 use Rattle.world_nodes.proofs.Declared.{declared_comes}
+use Rattle.world_nodes.proofs.Ready.{opened-unfused}
+use Rattle.world_nodes.proofs.ReadyAt.{declared-opens}
 use Rattle.world_nodes.proofs.declaring.over.Goals as goal
 
+pub open_up-requires : goal.open_up-requires
+open_up-requires g c = declared-opens (g.H.Hash32.digest_of c.args.hash) c.args.member c.args.down c.requires
+
 pub invariant_of-result : goal.invariant_of-result
-invariant_of-result g c = (declared_comes g.H.Hash32.digest_of c.args.hash c.args.name c.args.account c.args.member
-    c.args.down c.in_ok-node.node c.requires c.in_ok-node.ensures.opens c.in_ok-node.ensures.hash).2
+invariant_of-result g c = (
+  (declared_comes g.H.Hash32.digest_of c.args.hash c.args.name c.args.account c.args.member
+      c.args.down c.in_ok-node.node c.requires c.in_ok-node.ensures.opens c.in_ok-node.ensures.hash).2,
+  opened-unfused (g.H.Hash32.digest_of c.args.hash) c.args.down c.in_ok-node.node c.in_ok-node.ensures.opens
+      c.requires.unfused,
+)
 
 pub returns-clause-node : goal.returns-clause-node
 returns-clause-node g c =

@@ -3,6 +3,7 @@ use Rattle.lms_sign.specs.Tree.{public_key_of}
 use Rattle.node_rules.specs.WalletRecords.{secret_of}
 use Rattle.node_rules.proofs.WalletTexts.{identity_in-text}
 use Rattle.world_nodes.proofs.Declared.{first_reads, wallet_is, owner_is}
+use Rattle.world_nodes.proofs.Roles.{wallet-alone}
 use Rattle.world_nodes.proofs.declaring.wallet_member.Goals as goal
 
 pub returns-clause-is : goal.returns-clause-is
@@ -30,3 +31,12 @@ returns-clause-reads c =
       seed = c.are_sized.ensures.seed;
       types = c.requires.types;
     }))
+
+pub returns-clause-role : goal.returns-clause-role
+returns-clause-role c =
+    wallet-alone c.args.who (record {
+      tag = c.are_sized.ensures.tag;
+      account = c.are_sized.ensures.account;
+      seed = c.are_sized.ensures.seed;
+      types = c.requires.types;
+    })

@@ -1,34 +1,38 @@
-use Rattle.std.proofs.Common.{[], ◌∙◌}
+use Rattle.std.proofs.Common.{[], ◌∙◌, refl, sym, subst}
 use Rattle.world_rules.specs.declared.reply.Reply.{Reply}
-use Rattle.world_nodes.proofs.Places.{opening_at, lost_at}
+use Rattle.world_nodes.specs.declared.entry.Site.{Site}
+use Rattle.world_nodes.specs.Inside.{IsDownOf}
+use Rattle.world_nodes.proofs.Places.{opening_at}
+use Rattle.world_nodes.proofs.Roles.{lost-entry}
+use Rattle.world_nodes.proofs.ReadyAt.{there-at, opens-at, unfused-at, opened-ready}
 use Rattle.world_nodes.proofs.entry.Entry.bring_up.Goals as goal
 
 pub invariant_of-self : goal.invariant_of-self
 invariant_of-self g c = let e = c.self.inside in
-    lost_at e.hash e.member e.site c.take-site.new.site c.self.invariant c.take-site.ensures.gone
-
-pub invariant_of-self-in_err-node : goal.invariant_of-self-in_err-node
-invariant_of-self-in_err-node g c = let e = c.self.inside in
-    lost_at e.hash e.member e.site c.take-site.new.site c.self.invariant c.take-site.ensures.gone
+    lost-entry g.H.Hash32.digest_of e.hash e.member e.site c.take-site.new.site c.self.invariant c.take-site.ensures.gone
 
 pub invariant_of-self-2 : goal.invariant_of-self-2
-invariant_of-self-2 g c = let e = c.self.inside in
-    (opening_at g.H.Hash32.digest_of e.hash e.name e.account e.member e.offers.items c.offer_nothing.new.offers.items
-    c.args.self.now e.site c.take-site.result c.put.new.site c.in_ok-down.down c.in_ok-node.node [] g.n c.says.result
-    c.self.view_is c.self.invariant c.requires.1 c.take-site.ensures.taken c.in_ok-down.ensures
-    c.in_ok-node.ensures.opens
-    c.in_ok-node.ensures.hash (record {
-      reply = c.says.ensures.reply
-          ∙ (λ i. Reply.Opened (c.counts-notes.ensures.notes i) (c.counts-notes.ensures.leaves i));
-      made = c.says.ensures.made;
-      offers = c.says.ensures.offers;
-    }) c.offer_nothing.ensures c.put.ensures).2
+invariant_of-self-2 g c = let e = c.self.inside in (
+  (opening_at g.H.Hash32.digest_of e.hash e.name e.account e.member e.offers.items c.offer_nothing.new.offers.items
+      c.args.self.now e.site c.take-site.result c.put.new.site c.closed_of-down.result c.in_ok-node.node [] g.n c.says.result
+      c.self.view_is c.self.invariant.0 c.requires.1.0 c.take-site.ensures.taken c.closed_of-down.ensures
+      c.in_ok-node.ensures.opens
+      c.in_ok-node.ensures.hash (record {
+        reply = c.says.ensures.reply
+            ∙ (λ i. Reply.Opened (c.counts-notes.ensures.notes i) (c.counts-notes.ensures.leaves i));
+        made = c.says.ensures.made;
+        offers = c.says.ensures.offers;
+      }) c.offer_nothing.ensures c.put.ensures).2,
+  opened-ready g.H.Hash32.digest_of e.hash e.member e.site c.take-site.result c.self.invariant
+      c.take-site.ensures.taken c.closed_of-down.result c.in_ok-node.node c.put.new.site c.closed_of-down.ensures
+      c.in_ok-node.ensures.opens c.put.ensures,
+)
 
 pub returns-clause-done : goal.returns-clause-done
 returns-clause-done g c = let e = c.self.inside in
     (opening_at g.H.Hash32.digest_of e.hash e.name e.account e.member e.offers.items c.offer_nothing.new.offers.items
-    c.args.self.now e.site c.take-site.result c.put.new.site c.in_ok-down.down c.in_ok-node.node [] g.n c.says.result
-    c.self.view_is c.self.invariant c.requires.1 c.take-site.ensures.taken c.in_ok-down.ensures
+    c.args.self.now e.site c.take-site.result c.put.new.site c.closed_of-down.result c.in_ok-node.node [] g.n c.says.result
+    c.self.view_is c.self.invariant.0 c.requires.1.0 c.take-site.ensures.taken c.closed_of-down.ensures
     c.in_ok-node.ensures.opens
     c.in_ok-node.ensures.hash (record {
       reply = c.says.ensures.reply
@@ -40,8 +44,8 @@ returns-clause-done g c = let e = c.self.inside in
 pub returns-clause-spells : goal.returns-clause-spells
 returns-clause-spells g c = let e = c.self.inside in
     (opening_at g.H.Hash32.digest_of e.hash e.name e.account e.member e.offers.items c.offer_nothing.new.offers.items
-    c.args.self.now e.site c.take-site.result c.put.new.site c.in_ok-down.down c.in_ok-node.node [] g.n c.says.result
-    c.self.view_is c.self.invariant c.requires.1 c.take-site.ensures.taken c.in_ok-down.ensures
+    c.args.self.now e.site c.take-site.result c.put.new.site c.closed_of-down.result c.in_ok-node.node [] g.n c.says.result
+    c.self.view_is c.self.invariant.0 c.requires.1.0 c.take-site.ensures.taken c.closed_of-down.ensures
     c.in_ok-node.ensures.opens
     c.in_ok-node.ensures.hash (record {
       reply = c.says.ensures.reply
@@ -49,3 +53,17 @@ returns-clause-spells g c = let e = c.self.inside in
       made = c.says.ensures.made;
       offers = c.says.ensures.offers;
     }) c.offer_nothing.ensures c.put.ensures).1
+
+pub closed_of-down-requires-clause-there : goal.closed_of-down-requires-clause-there
+closed_of-down-requires-clause-there g c = let e = c.self.inside in
+    there-at g.H.Hash32.digest_of e.hash e.name e.account e.member e.offers.items c.args.self.now e.site
+    c.take-site.result c.self.view_is c.self.invariant.0 c.requires.1.0 c.take-site.ensures.taken
+
+pub open_up-requires : goal.open_up-requires
+open_up-requires g c = let e = c.self.inside in
+    opens-at g.H.Hash32.digest_of e.hash e.name e.account e.member e.offers.items c.args.self.now e.site
+    c.take-site.result c.self.view_is c.self.invariant.0 c.requires.1.0 c.take-site.ensures.taken
+    c.closed_of-down.result (subst (λ (s : Site _). IsDownOf s c.closed_of-down.result) (sym c.closed_of-down.ensures)
+    refl) c.is_of_role.ensures
+    (unfused-at g.H.Hash32.digest_of e.hash e.member e.site c.take-site.result c.self.invariant
+    c.take-site.ensures.taken c.closed_of-down.result c.closed_of-down.ensures)

@@ -11,4 +11,4 @@ returns-in-Wallet g c =
     v.node)) None)
     c.self.view_is
     (wallet_owner e.hash e.name e.account e.member e.site e.offers.items c.in-Wallet.who c.in-Wallet.owner
-    c.in-Wallet.is c.self.invariant)
+    c.in-Wallet.is c.self.invariant.0)

@@ -12,4 +12,4 @@ returns-in-Wallet g c =
     v.node.notes).seed) None)
     c.self.view_is
     (wallet_seed e.hash e.name e.account e.member e.site e.offers.items c.in-Wallet.who c.in-Wallet.owner
-    c.in-Wallet.is c.self.invariant)
+    c.in-Wallet.is c.self.invariant.0)

@@ -1,0 +1,11 @@
+use Rattle.std.proofs.Common.{None}
+use Rattle.operator_rules.specs.Records.{identity_text}
+use Rattle.world_nodes.specs.declared.entry.Member.TheVariants.{Operator}
+use Rattle.world_nodes.proofs.Declared.{declared}
+use Rattle.world_nodes.proofs.entry.Entry.operator.Goals as goal
+
+pub over-requires : goal.over-requires
+over-requires g c =
+    declared (identity_text (record { tag = c.args.tag.now; account = c.args.account; key_seed = None })) Operator
+    c.in_ok-down.down c.in_ok-down.ensures.kind c.in_ok-down.ensures.begun c.in_ok-down.ensures.unfused
+    c.in_ok-down.ensures.role tt
