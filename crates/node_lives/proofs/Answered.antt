@@ -1,0 +1,225 @@
+-- The records of the lines that a run answered stand in every later call.
+use Rattle.std.proofs.Common.{◌≡◌, ◌⊎◌, ℕ, List, [], ◌∷◌, ◌++◌, Option, Some, None, refl, sym, ◌∙◌, subst, inl, inr}
+use Rattle.std.specs.List.{All, AllByRecursion}
+use Rattle.std.proofs.lemmas.List.{append-nil}
+use Rattle.std.proofs.lemmas.List.Elements.{All-head, All-from_recursion, recursion_from_All}
+use Rattle.crash_disk.specs.Disk.{History, FaultPlan}
+use Rattle.node_journal.specs.Notes.{NotesState, Opened}
+use Rattle.node_journal.specs.Role.{role_in}
+use Rattle.node_journal.specs.Life.{Continue}
+use Rattle.node_journal.proofs.Lives.{itself}
+use Rattle.node_rules.specs.Wallet.{WalletRecords}
+use Rattle.world_rules.specs.World.{Role, Wallet, Watcher, Operator}
+use Rattle.run_endings.specs.declared.status.Status.{Status}
+use Rattle.node_rules.specs.Watcher.{who_is as watcher_is}
+use Rattle.operator_rules.specs.Records.{who_is}
+use Rattle.node_lines.specs.Grammar.{watcher_line_in, operator_line_in}
+use Rattle.node_answers.specs.Answers.{watcher_outcome, operator_outcome}
+use Rattle.node_runs.specs.Sessions.{Outside}
+use Rattle.node_runs.specs.Runs.{RunsWatcher, RunsWallet}
+use Rattle.node_runs.specs.Operators.{operator_tag, RunsBehind, RunsOperator}
+use Rattle.node_lives.specs.Disks.{Pair}
+use Rattle.node_lives.specs.Calls.{Asked, ToBegin, ToRun, ToUseNoDisk, RunsAs, DoesAsked, Starves, Call}
+use Rattle.node_lives.specs.Disks.{BothTell}
+use Rattle.node_lives.specs.Lives.{IsLife}
+use Rattle.node_lives.specs.Standing.{identity_alone, GoOn, kinds_of, Stand}
+use Rattle.node_lives.specs.Answered.{Ran, behind_ran, operator_ran, wallet_ran, ran_as, ran_by, ran_in}
+use Rattle.node_lives.specs.Laws.{Begins, StandIn, AnsweredRecordsStand}
+use Rattle.node_lives.proofs.Keyless.{Keyless, alone-keyless, keyless-on}
+use Rattle.node_lives.proofs.RoleKept.{watcher-kept, operator-kept}
+use Rattle.node_lives.proofs.OwnNotes.{opened-own}
+use Rattle.node_lives.proofs.OwnWallet.{opened-own as wallet-own}
+use Rattle.node_lives.proofs.LeftNotes.{left-stays as notes-left-stay}
+use Rattle.node_lives.proofs.LeftWallet.{left-stays as wallet-left-stay, anew}
+use Rattle.node_lives.proofs.Begun.{begun-stands}
+use Rattle.node_lives.proofs.Life.{tells-some, opened-none, StandsAt, stands-on}
+
+module _ {D : Type 0} (told : D → Option History) (plan : D → Option FaultPlan) (faults : D → ℕ)
+    (dig : List ℕ → List ℕ) where
+  -- leaves are a wallet's alone
+  abbrev HasNoLeaves : Role → WalletRecords → Type 0
+  HasNoLeaves role records = (role ≡ Wallet) ⊎ (records.leaves ≡ [])
+
+  -- what a run found and left, over disks on which these records stand
+  pub record RanOn (role : Role) (first : WalletRecords) (new : Pair D) (ran : Ran) : Type 0 where
+    pub found : GoOn first ran.found
+    pub left : Stand dig told role ran.left new
+    pub none : HasNoLeaves role ran.left
+    pub keyless : Keyless role ran.left
+
+  none-on : (role : Role) (first : WalletRecords) → (role ≡ Wallet → ⊥) → HasNoLeaves role first
+      → Continue first.leaves []
+  none-on role first other (inl wrong) = absurd (other wrong)
+  none-on role first other (inr none) = ([], sym (append-nil first.leaves ∙ none))
+
+  abbrev Goes : Role → WalletRecords → Pair D → Option Ran → Type 0
+  Goes role first new ran = (one : Ran) → ran ≡ Some one → RanOn role first new one
+
+  none-goes : (role : Role) (first : WalletRecords) (new : Pair D) → Goes role first new None
+  none-goes role first new one is = absurd (cc is)
+
+  one-goes : (role : Role) (first : WalletRecords) (new : Pair D) (ran : Ran) → RanOn role first new ran
+      → Goes role first new (Some ran)
+  one-goes role first new ran on one is = (let same : ran ≡ one = cc is in subst (RanOn role first new) same on)
+
+  -- an operator's run behind its opened notes, which are of one without a key
+  behind-goes : (first : WalletRecords) (old new : Pair D) (outside : Outside) (status : Status)
+      → BothTell told old → Stand dig told Operator first old → HasNoLeaves Operator first → Keyless Operator first
+      → (opened : NotesState D) → Opened told plan faults (role_in (kinds_of dig Operator)) old.notes opened
+      → (seed : Option (List ℕ)) → (who_is opened.records).key_seed ≡ seed
+      → (runs : RunsBehind told plan faults dig seed opened old.leaves new.notes new.leaves outside (Unit {0}) status)
+      → Goes Operator first new
+      (behind_ran told plan faults dig seed opened old.leaves new.notes new.leaves outside status runs)
+  unfolding behind_ran
+  behind-goes first old new outside status tells stand none keyless opened opens None is (session, same) =
+      let n = tells-some (told old.notes) tells.0 in
+      let own = opened-own dig (kinds_of dig Operator) operator_tag operator_line_in operator_outcome
+      (operator-kept dig) first.notes told plan faults old.notes
+      new.notes outside (Unit {0}) status n.0 n.1 (stand n.0 n.1) opened opens in
+      let left = notes-left-stay dig (kinds_of dig Operator) operator_tag operator_line_in operator_outcome
+      (operator-kept dig) told plan faults old.notes new.notes
+      outside (Unit {0}) status opened (record { dig_is = own.dig_is; are = own.are; on = itself opened.records })
+      session in
+      one-goes Operator first new _ (record {
+        found = record { notes = own.on; leaves = none-on Operator first (λ wrong. cc wrong) none };
+        left = left.0;
+        none = inr refl;
+        keyless = keyless-on opened.records _ (keyless-on first.notes opened.records keyless own.on) left.1;
+      })
+  behind-goes first old new outside status tells stand none keyless opened opens (Some seed) is runs =
+      let none' = opened-none told plan faults dig first old new outside status keyless tells stand opened opens in
+      absurd (cc (none', is))
+
+  run-goes : (role : Role) (first : WalletRecords) (old new : Pair D) (outside : Outside) (status : Status)
+      → BothTell told old → Stand dig told role first old → HasNoLeaves role first → Keyless role first
+      → (runs : RunsAs told plan faults dig role old new outside status)
+      → Goes role first new (ran_as told plan faults dig role old new outside status runs)
+  unfolding RunsWatcher RunsOperator RunsWallet ran_as wallet_ran operator_ran
+  run-goes Wallet first old new outside status tells stand none keyless (inl (opened, opens, session)) =
+      let n = tells-some (told old.notes) tells.0 in
+      let l = tells-some (told old.leaves) tells.1 in
+      let own = wallet-own dig first told plan faults old.notes old.leaves new.notes new.leaves outside (Unit {0})
+      status
+      n.0 l.0 n.1 l.1 (stand n.0 n.1 l.0 l.1) opened opens in
+      one-goes Wallet first new _ (record {
+        found = own.on;
+        left =
+            (wallet-left-stay dig told plan faults old.notes old.leaves new.notes new.leaves outside (Unit {0}) status
+            opened (anew dig first _ own) session).0;
+        none = inl refl;
+        keyless = tt;
+      })
+  run-goes Wallet first old new outside status tells stand none keyless (inr refused) = none-goes Wallet first new
+  run-goes Watcher first old new outside status tells stand none keyless (inl (opened, opens, session), same) =
+      let n = tells-some (told old.notes) tells.0 in
+      let own = opened-own dig (kinds_of dig Watcher) (λ records. (watcher_is records).tag) watcher_line_in
+      watcher_outcome
+      (watcher-kept dig) first.notes told plan faults old.notes
+      new.notes outside (Unit {0}) status n.0 n.1 (stand n.0 n.1) opened opens in
+      one-goes Watcher first new _ (record {
+        found = record { notes = own.on; leaves = none-on Watcher first (λ is. cc is) none };
+        left =
+            (notes-left-stay dig (kinds_of dig Watcher) (λ records. (watcher_is records).tag) watcher_line_in
+            watcher_outcome
+            (watcher-kept dig) told plan faults old.notes new.notes
+            outside (Unit {0}) status opened (record { dig_is = own.dig_is; are = own.are; on = itself opened.records })
+            session).0;
+        none = inr refl;
+        keyless = tt;
+      })
+  run-goes Watcher first old new outside status tells stand none keyless (inr refused, same) =
+      none-goes Watcher first new
+  run-goes Operator first old new outside status tells stand none keyless (inl (opened, opens, behind)) =
+      behind-goes first old new outside status tells stand none keyless opened opens (who_is opened.records).key_seed
+      refl behind
+  run-goes Operator first old new outside status tells stand none keyless (inr refused) = none-goes Operator first new
+
+  call-goes : (role : Role) (first : WalletRecords) (asked : Asked) (old new : Pair D) (outside : Outside)
+      (status : Status) → BothTell told old → Stand dig told role first old → HasNoLeaves role first
+      → Keyless role first → asked ≡ ToRun role
+      → (did : DoesAsked told plan faults dig asked old new outside status ⊎ Starves old new status)
+      → Goes role first new (ran_by told plan faults dig asked old new outside status did)
+  unfolding ran_by
+  call-goes role first (ToRun other) old new outside status tells stand none keyless own (inl did) =
+      (let same : role ≡ other = cc own in
+      subst (λ (r : Role). Goes r first new (ran_as told plan faults dig other old new outside status did)) (sym same)
+      (run-goes other first old new outside status tells
+      (subst (λ (r : Role). Stand dig told r first old) same stand)
+      (subst (λ (r : Role). HasNoLeaves r first) same none) (subst (λ (r : Role). Keyless r first) same keyless) did))
+  call-goes role first (ToRun other) old new outside status tells stand none keyless own (inr starves) =
+      none-goes role first new
+  call-goes role first (ToBegin other identity) old new outside status tells stand none keyless own did =
+      absurd (cc own)
+  call-goes role first ToUseNoDisk old new outside status tells stand none keyless own did = absurd (cc own)
+
+  -- what a call of a life found and left that was a run of the role
+  pub call-ran : (role : Role) (first : WalletRecords) (call : Call told plan faults dig) → BothTell told call.old
+      → Stand dig told role first call.old → HasNoLeaves role first → Keyless role first → call.asked ≡ ToRun role
+      → Goes role first call.new (ran_in told plan faults dig call)
+  call-ran role first call tells stand none keyless own =
+      call-goes role first call.asked call.old call.new call.outside call.status tells stand none keyless own call.did
+
+  -- each of some calls of a life is handed disks that tell
+  each-tells : (calls : List (Call told plan faults dig)) → IsLife told plan faults dig calls
+      → AllByRecursion (λ (call : Call told plan faults dig). BothTell told call.old) calls
+  unfolding IsLife
+  each-tells [] life = tt
+  each-tells (call ∷ calls) (tells, lie, life) = (tells, each-tells calls life)
+
+  front-each : {X : Type 0} (P : X → Type 0) (xs ys : List X) → AllByRecursion P (xs ++ ys) → AllByRecursion P xs
+  front-each P [] ys all = tt
+  front-each P (x ∷ xs) ys all = (all.0, front-each P xs ys all.1)
+
+  both-each : {X : Type 0} (P Q R : X → Type 0) → ((x : X) → P x → Q x → R x) → (xs : List X) → AllByRecursion P xs
+      → AllByRecursion Q xs → AllByRecursion R xs
+  both-each P Q R each [] ps qs = tt
+  both-each P Q R each (x ∷ xs) ps qs = (each x ps.0 qs.0, both-each P Q R each xs ps.1 qs.1)
+
+  -- records stand in each call behind one that left them
+  pub stand-in-each : (role : Role) (records : WalletRecords) → HasNoLeaves role records
+      → Keyless role records → (later earlier : List (Call told plan faults dig)) (start : Call told plan faults dig)
+      → IsLife told plan faults dig (later ++ start ∷ earlier) → Stand dig told role records start.new
+      → All (StandIn told plan faults dig role records) later
+  stand-in-each role records none keyless later earlier start life stand =
+      let at = stands-on told plan faults dig role records keyless later earlier start life stand in
+      let Stands = StandsAt told plan faults dig role records keyless in
+      All-from_recursion (StandIn told plan faults dig role records) later
+      (both-each (λ (call : Call told plan faults dig). BothTell told call.old) Stands
+      (StandIn told plan faults dig role records)
+      (λ call tells there. record {
+        handed = there.handed;
+        found = λ ran own is. (call-ran role records call tells there.handed none keyless own ran is).found;
+      })
+      later
+      (front-each (λ (call : Call told plan faults dig). BothTell told call.old) later (start ∷ earlier)
+      (each-tells (later ++ start ∷ earlier) life))
+      (recursion_from_All Stands later at))
+
+  behind : (later calls : List (Call told plan faults dig)) → IsLife told plan faults dig (later ++ calls)
+      → IsLife told plan faults dig calls
+  unfolding IsLife
+  behind [] calls life = life
+  behind (call ∷ later) calls (tells, lie, life) = behind later calls life
+
+  stands-from-here : (role : Role) (later between earlier : List (Call told plan faults dig))
+      (call first : Call told plan faults dig)
+      → IsLife told plan faults dig (later ++ call ∷ (between ++ first ∷ earlier))
+      → (begins : Begins told plan faults dig role first)
+      → BothTell told call.old × Stand dig told role (identity_alone begins.identity) call.old
+  stands-from-here role later between earlier call first life begins =
+      let here = behind later (call ∷ (between ++ first ∷ earlier)) life in
+      let alone = identity_alone begins.identity in
+      let keyless = alone-keyless role begins.identity begins.is.keyless in
+      let at = stands-on told plan faults dig role alone keyless (call ∷ between) earlier first here
+      (begun-stands told plan faults dig role first begins) in (
+        (each-tells (call ∷ (between ++ first ∷ earlier)) here).0,
+        (All-head (StandsAt told plan faults dig role alone keyless) call between at).handed,
+      )
+
+  pub answered_records_stand : AnsweredRecordsStand told plan faults dig
+  answered_records_stand role later between earlier call first ran life begins own is =
+      let alone = identity_alone begins.identity in
+      let at = stands-from-here role later between earlier call first life begins in
+      let on = call-ran role alone call at.0 at.1 (inr refl) (alone-keyless role begins.identity begins.is.keyless) own
+      ran is in
+      stand-in-each role ran.left on.none on.keyless later (between ++ first ∷ earlier) call life on.left

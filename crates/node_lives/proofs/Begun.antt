@@ -1,0 +1,93 @@
+-- What a node's disks are behind an init that began it.
+use Rattle.std.proofs.Common.{◌≡◌, ◌⊎◌, ◌&&◌, ℕ, true, List, [], ◌∷◌, Option, Result, Ok, Err, refl, ap, ◌∙◌, subst, inl, inr}
+use Rattle.std.specs.Prelude.{OnOk}
+use Rattle.std.proofs.lemmas.List.Elements.{All-nil, All-cons}
+use Rattle.crash_disk.specs.Disk.{History, FaultPlan}
+use Rattle.plasma_tx.specs.Spelling.{AreBytes}
+use Rattle.node_journal.specs.Role.{Kinds, are_of}
+use Rattle.node_journal.specs.declared.refusal.InitRefusal.{InitRefusal}
+use Rattle.node_journal.proofs.Lives.{itself}
+use Rattle.leaf_journal.specs.Records.{records_behind_of}
+use Rattle.node_rules.specs.WalletRecords.{wallet_kinds, notes_of}
+use Rattle.node_rules.specs.WalletOpening.{is_wallet}
+use Rattle.node_rules.proofs.WalletGrow.{wallet-from}
+use Rattle.world_rules.specs.World.{Role, Wallet, Watcher, Operator}
+use Rattle.run_endings.specs.declared.status.Status.{Status}
+use Rattle.run_endings.specs.declared.status.Status.TheVariants.{Done}
+use Rattle.run_endings.specs.Outputs.{EndsAs}
+use Rattle.node_runs.specs.Endings.{init_output}
+use Rattle.node_runs.specs.Sessions.{Outside}
+use Rattle.node_lives.specs.Disks.{Pair}
+use Rattle.node_lives.specs.Calls.{Asked, BeginsAs, DoesAsked, Starves, Call}
+use Rattle.node_lives.specs.Standing.{identity_alone, IsIdentityOf, kinds_of, Stand}
+use Rattle.node_lives.specs.Laws.{Begins}
+use Rattle.node_lives.proofs.Stays.{settled-stays}
+use Rattle.node_lives.proofs.Statuses.{ends-by, init-done}
+
+pub alone-are : (kinds : Kinds) (identity : List ℕ) → kinds.is_identity identity ≡ true
+    → are_of kinds (identity ∷ []) ≡ true
+alone-are kinds identity is = ap (λ b. b && true) is
+
+alone-wallet : (dig : List ℕ → List ℕ) (identity : List ℕ) → (wallet_kinds dig).is_identity identity ≡ true
+    → is_wallet dig (identity_alone identity) ≡ true
+unfolding records_behind_of notes_of
+alone-wallet dig identity is =
+    wallet-from dig (identity_alone identity) (record {
+      role = alone-are (wallet_kinds dig) identity is;
+      leaves = refl;
+      bound = refl;
+    })
+
+-- an init that is done was answered Ok
+answered-ok : (answer : Result Unit InitRefusal) (status : Status) (before after : Option (List ℕ))
+    → EndsAs (init_output answer) status before after ⊥ → status ≡ Done → answer ≡ Ok tt
+answered-ok answer status before after ends made = elim (ends-by (init_output answer) status before after ⊥ ends) [
+  | inl same ↦ init-done answer (same ∙ made)
+  | inr (inl stopped) ↦ absurd (cc (stopped, made))
+  | inr (inr starved) ↦ absurd (cc (starved, made))
+]
+
+ok-holds : {P : Type 0} (answer : Result Unit InitRefusal) → answer ≡ Ok tt → OnOk answer P → P
+ok-holds (Ok done) is holds = holds
+ok-holds (Err why) is holds = absurd (cc is)
+
+module _ {D : Type 0} (told : D → Option History) (plan : D → Option FaultPlan) (faults : D → ℕ)
+    (dig : List ℕ → List ℕ) where
+  begins-stand : (role : Role) (identity : List ℕ) (old new : Pair D) (outside : Outside) (status : Status)
+      → IsIdentityOf dig role identity
+      → BeginsAs told plan faults dig role identity old new outside status → status ≡ Done
+      → Stand dig told role (identity_alone identity) new
+  begins-stand Wallet identity old new outside status is inits made = λ n has l also one other may left.
+      let ok = answered-ok inits.answer status outside.taken outside.after inits.ends made in
+      record {
+        kept = identity_alone identity;
+        keeps_notes = (ok-holds inits.answer ok inits.begun n has).images one may;
+        keeps_leaves = (ok-holds inits.answer ok inits.empty l also).images other left;
+        is = alone-wallet dig identity is.is;
+        bytes = All-cons AreBytes identity [] is.bytes (All-nil AreBytes);
+        goes_on = record { notes = itself (identity ∷ []); leaves = itself [] };
+      }
+  begins-stand Watcher identity old new outside status is (inits, same) made = λ now has.
+      let ok = answered-ok inits.answer status outside.taken outside.after inits.ends made in
+      settled-stays (are_of (kinds_of dig Watcher)) (identity ∷ []) (identity ∷ []) now
+      (ok-holds inits.answer ok inits.begun now has) (alone-are (kinds_of dig Watcher) identity is.is)
+      (itself (identity ∷ []))
+  begins-stand Operator identity old new outside status is (inits, same) made = λ now has.
+      let ok = answered-ok inits.answer status outside.taken outside.after inits.ends made in
+      settled-stays (are_of (kinds_of dig Operator)) (identity ∷ []) (identity ∷ []) now
+      (ok-holds inits.answer ok inits.begun now has) (alone-are (kinds_of dig Operator) identity is.is)
+      (itself (identity ∷ []))
+
+  pub begun-stands : (role : Role) (call : Call told plan faults dig) (begins : Begins told plan faults dig role call)
+      → Stand dig told role (identity_alone begins.identity) call.new
+  begun-stands role call begins = by call.did
+    where
+      by : DoesAsked told plan faults dig call.asked call.old call.new call.outside call.status
+          ⊎ Starves call.old call.new call.status
+          → Stand dig told role (identity_alone begins.identity) call.new
+      by (inl did) =
+          begins-stand role begins.identity call.old call.new call.outside call.status begins.is
+          (subst (λ (a : Asked). DoesAsked told plan faults dig a call.old call.new call.outside call.status)
+          begins.asked
+          did) begins.made
+      by (inr starves) = absurd (let none = starves.0 in let made = begins.made in cc (none, made))

@@ -1,0 +1,63 @@
+-- The status of a run by the output that it ends as.
+use Rattle.std.proofs.Common.{◌≡◌, ◌⊎◌, ℕ, List, Option, Result, Ok, Err, refl, sym, ◌∙◌, inl, inr}
+use Rattle.node_journal.specs.declared.refusal.JournalRefusal.{JournalRefusal}
+use Rattle.node_journal.specs.declared.refusal.JournalRefusal.TheVariants.{AlreadyMade as MadeRefusal, NotJournal as PlaceRefusal, DeviceFault as FaultRefusal, Closed as ClosedRefusal, RecordTooLong as LongRefusal, NoMemory as MemoryRefusal}
+use Rattle.node_journal.specs.declared.refusal.InitRefusal.{InitRefusal}
+use Rattle.node_journal.specs.declared.refusal.InitRefusal.TheVariants.{AlreadyMade as InitMade, DeviceFault as InitFault, NoMemory as InitNoMemory}
+use Rattle.streamed_lines.specs.declared.ending.Ending.{Ending}
+use Rattle.streamed_lines.specs.declared.ending.Ending.TheVariants.{Complete, BadLine as BadLineEnding, ReadFault as ReadFaultEnding, TooLong as TooLongEnding, Ended}
+use Rattle.run_endings.specs.declared.status.Status.{Status}
+use Rattle.run_endings.specs.declared.status.Status.TheVariants.{Done, Refused, Usage, BadLine, ReadFault, WriteFault, DeviceFault, NoMemory, TooLong, NotJournal, AlreadyMade}
+use Rattle.run_endings.specs.Outputs.{Output, EndsAs}
+use Rattle.node_runs.specs.Endings.{status_of, refused_output, init_output}
+
+-- it is the output's, or the text was stopped
+pub ends-by : (output : Output) (status : Status) (before after : Option (List ℕ)) (failed : Type 0)
+    → EndsAs output status before after failed
+    → (output.status ≡ status) ⊎ (status ≡ WriteFault) ⊎ (status ≡ NoMemory)
+ends-by output WriteFault before after failed ends = inr (inl refl)
+ends-by output NoMemory before after failed ends = inr (inr refl)
+ends-by output ReadFault before after failed ends = inl ends.0.0
+ends-by output Done before after failed ends = inl ends.0
+ends-by output Refused before after failed ends = inl ends.0
+ends-by output Usage before after failed ends = inl ends.0
+ends-by output BadLine before after failed ends = inl ends.0
+ends-by output DeviceFault before after failed ends = inl ends.0
+ends-by output TooLong before after failed ends = inl ends.0
+ends-by output NotJournal before after failed ends = inl ends.0
+ends-by output AlreadyMade before after failed ends = inl ends.0
+
+-- it isn't one that the output hasn't and no stop gives
+pub ends-other : (output : Output) (status wanted : Status) (before after : Option (List ℕ)) (failed : Type 0)
+    → EndsAs output status before after failed → (output.status ≡ wanted → ⊥) → (WriteFault ≡ wanted → ⊥)
+    → (NoMemory ≡ wanted → ⊥) → status ≡ wanted → ⊥
+ends-other output status wanted before after failed ends other sink memory is =
+    elim (ends-by output status before after failed ends) [
+      | inl same ↦ other (same ∙ is)
+      | inr (inl stopped) ↦ sink (sym stopped ∙ is)
+      | inr (inr starved) ↦ memory (sym starved ∙ is)
+    ]
+
+pub session-other : (ending : Ending (List ℕ)) → status_of ending ≡ NotJournal → ⊥
+session-other Complete is = cc
+session-other (BadLineEnding n) is = cc
+session-other ReadFaultEnding is = cc
+session-other (TooLongEnding n) is = cc
+session-other (Ended n cause) is = cc
+
+-- an opening that isn't refused for a place
+pub refused-other : (why : JournalRefusal) → ((place : ℕ) → why ≡ PlaceRefusal place → ⊥)
+    → (refused_output why).status ≡ NotJournal → ⊥
+refused-other (PlaceRefusal place) never is = never place refl
+refused-other FaultRefusal never is = cc
+refused-other MemoryRefusal never is = cc
+refused-other ClosedRefusal never is = cc
+refused-other (LongRefusal count) never is = cc
+refused-other (MadeRefusal count) never is = cc
+
+-- an init that is refused isn't done
+pub init-done : (answer : Result Unit InitRefusal) → (init_output answer).status ≡ Done → answer ≡ Ok tt
+init-done (Ok done) is = refl
+init-done (Err (InitMade length)) is = absurd (cc is)
+init-done (Err InitFault) is = absurd (cc is)
+init-done (Err InitNoMemory) is = absurd (cc is)

@@ -1,0 +1,115 @@
+-- What stays of a journal's records where a disk tells: each image of a crash now keeps records of a kind that continue
+-- some.
+use Rattle.std.proofs.Common.{◌≡◌, ℕ, Bool, true, List, [], ◌∷◌, ◌++◌, length, Option, Some, refl, sym, ◌∙◌, ap, subst, inl, inr, append_assoc}
+use Rattle.crash_disk.specs.Disk.{History, fresh_history, content, MayLeave, LeavesOnly}
+use Rattle.crash_disk.specs.Calls.{WhereTold, failed_after, after_course}
+use Rattle.crash_disk.proofs.Left.{content_may_be_left, fresh_disk_leaves_itself}
+use Rattle.node_journal.specs.Image.{spelled}
+use Rattle.node_journal.specs.Journal.{Keeps, KeepsWithOrWithout, IsSettled}
+use Rattle.node_journal.specs.Life.{records_in, Continue, Stay}
+use Rattle.node_journal.specs.Notes.{KeepsAtAnyMoment}
+use Rattle.node_journal.specs.Steps.{append_steps}
+use Rattle.node_journal.proofs.Lives.{itself, one_more, in_from, in_keeps}
+use Rattle.node_journal.proofs.Rest.{leaves_now}
+use Rattle.node_lives.proofs.Quiet.{Quietly, MadeOver, made-now, told-before}
+
+-- what continues records continues those that these continue
+pub further : (first old now : List (List ℕ)) → Continue first old → Continue old now → Continue first now
+further first old now on more = (
+  on.0 ++ more.0,
+  more.1 ∙ ap (λ (l : List (List ℕ)). l ++ more.0) on.1 ∙ append_assoc first on.0 more.0,
+)
+
+-- an image keeps one list of records
+pub keeps-same : (image : List ℕ) (one other : List (List ℕ)) → Keeps one image → Keeps other image → one ≡ other
+keeps-same image one other is also = cc (is, also)
+
+-- what each image of a crash keeps behind an append that met a device fault
+pub fault-images : (records : List (List ℕ)) (body : List ℕ) (count : ℕ) (old new : Option History)
+    → MadeOver (after_course (failed_after count) (append_steps (length (spelled records)) body)) old new
+    → KeepsAtAnyMoment records body old new → (now : History) → new ≡ Some now → (image : List ℕ)
+    → MayLeave now image → KeepsWithOrWithout records body image
+fault-images records body count old new made any now also image may =
+    let makes = after_course (failed_after count) (append_steps (length (spelled records)) body) in
+    let before = told-before makes old new now made also in
+    let one = made-now makes old new before.0 now made before.1 also in
+    leaves_now before.0 (failed_after count) (append_steps (length (spelled records)) body)
+    (KeepsWithOrWithout records body)
+    (subst (λ (h : History). LeavesOnly before.0 h (KeepsWithOrWithout records body)) one
+    (any before.0 before.1 now also))
+    image (subst (λ (h : History). MayLeave h image) one may)
+
+module _ (are : List (List ℕ) → Bool) where
+  -- where the disk tells
+  abbrev pub StayTold : List (List ℕ) → Option History → Type 0
+  StayTold records told = WhereTold told (Stay are records)
+
+  pub quiet-stays : (records : List (List ℕ)) (old new : Option History)
+      → ((now : History) → new ≡ Some now → (h : History) × (old ≡ Some h)) → Quietly old new → StayTold records old
+      → StayTold records new
+  quiet-stays records old new told quiet stay now is image may =
+      let there = told now is in stay there.0 there.1 image (quiet there.0 now there.1 is image may)
+
+  pub settled-stays : (first records : List (List ℕ)) (history : History) → IsSettled history records
+      → are records ≡ true → Continue first records → Stay are first history
+  settled-stays first records history settled is on image may =
+      (records, in_from are image records (settled.images image may) is, on)
+
+  -- what a settled disk keeps that stays
+  pub settled-are : (first records : List (List ℕ)) (history : History) → Stay are first history
+      → IsSettled history records → (are records ≡ true) × Continue first records
+  settled-are first records history stay settled =
+      let kept = stay (content history) (content_may_be_left history) in
+      let keeps = in_keeps are (content history) kept.0 kept.1 in
+      let same = keeps-same (content history) kept.0 records keeps.0 settled.read in
+      (subst (λ (l : List (List ℕ)). are l ≡ true) same keeps.1, subst (Continue first) same kept.2)
+
+  -- behind an append that met a device fault
+  pub fault-stays : (first records : List (List ℕ)) (body : List ℕ) (count : ℕ) (old new : Option History)
+      → MadeOver (after_course (failed_after count) (append_steps (length (spelled records)) body)) old new
+      → KeepsAtAnyMoment records body old new → are records ≡ true → are (records ++ body ∷ []) ≡ true
+      → Continue first records → StayTold first new
+  fault-stays first records body count old new made any is is_more on now also image may =
+      elim (fault-images records body count old new made any now also image may) [
+        | inl without ↦ (records, in_from are image records without is, on)
+        | inr with' ↦ (
+          records ++ body ∷ [],
+          in_from are image (records ++ body ∷ []) with' is_more,
+          one_more first records body on,
+        )
+      ]
+
+  -- records that each image continues which stays anyhow
+  pub fault-continues : (first records : List (List ℕ)) (body : List ℕ) (history : History)
+      → ((image : List ℕ) → MayLeave history image → KeepsWithOrWithout records body image)
+      → Stay are first history → Stay are records history
+  fault-continues first records body history either stay image may =
+      let kept = stay image may in
+      let keeps = in_keeps are image kept.0 kept.1 in
+      elim (either image may) [
+        | inl without ↦ (
+          kept.0,
+          kept.1,
+          subst (Continue records) (keeps-same image records kept.0 without keeps.0)
+              (itself records),
+        )
+        | inr with' ↦ (
+          kept.0,
+          kept.1,
+          subst (Continue records) (keeps-same image (records ++ body ∷ []) kept.0 with' keeps.0)
+              (body ∷ [], refl),
+        )
+      ]
+
+  -- a crash
+  pub crash-stays : (records : List (List ℕ)) (before : History) (image : List ℕ) → MayLeave before image
+      → Stay are records before → Stay are records (fresh_history image)
+  crash-stays records before image may stay again left =
+      subst (λ (b : List ℕ). (kept : List (List ℕ)) × (records_in are b ≡ Some kept) × Continue records kept)
+      (sym (fresh_disk_leaves_itself image again left)) (stay image may)
+
+  -- what continues them stays no less
+  pub earlier-stays : (first records : List (List ℕ)) (history : History) → Continue first records
+      → Stay are records history → Stay are first history
+  earlier-stays first records history on stay image may =
+      let kept = stay image may in (kept.0, kept.1, further first records kept.0 on kept.2)

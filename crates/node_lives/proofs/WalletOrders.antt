@@ -1,0 +1,172 @@
+-- The commands of a wallet keep its role, and their notes are bytes.
+use Rattle.std.proofs.Common.{◌≡◌, ◌<◌, ◌⊎◌, ◌^◌, ℕ, true, List, Option, Some, None, refl, sym, ap, subst, inl, inr, lit<}
+use Rattle.std.specs.Prelude.{IfSome}
+use Rattle.std.specs.List.{All}
+use Rattle.std.proofs.lemmas.List.Elements.{All-push}
+use Rattle.plasma_tx.specs.declared.call.RootCall.{RootCall}
+use Rattle.plasma_tx.specs.Views.{blocks}
+use Rattle.plasma_tx.specs.Spelling.{AreBytes}
+use Rattle.node_journal.proofs.Lives.{one_more}
+use Rattle.node_rules.specs.Kept.{kept_of}
+use Rattle.node_rules.specs.WalletRecords.{note_text}
+use Rattle.node_rules.specs.Wallet.{WalletRecords, WalletEffect, who, coin_state, accept_effect, send_effect, leave_from, leave_effect, reclaim_effect, migrate_effect}
+use Rattle.node_rules.specs.WalletOpening.{is_wallet}
+use Rattle.node_rules.proofs.WalletAdded.{leave-note, migrate-note}
+use Rattle.world_rules.specs.Deeds.{with_record as with_deed}
+use Rattle.world_rules.proofs.ByteTexts.{small-cons, small-append, small-number, small-short}
+use Rattle.world_rules.proofs.ItemTexts.{small-bundle}
+use Rattle.world_rules.proofs.Handed.{is_handed}
+use Rattle.world_rules.proofs.WalletEnds.{AcceptEnds, ReclaimEnds, Refused, Known, New, Takes, accept_ends, reclaim_ends}
+use Rattle.wallet_deeds.specs.declared.order.WalletOrder.{WalletOrder}
+use Rattle.wallet_deeds.specs.Orders.{order_deed}
+use Rattle.wallet_deeds.specs.Laws.{IsFitOrder}
+use Rattle.wallet_deeds.proofs.Effects.{send-note}
+use Rattle.wallet_deeds.proofs.OrderLaws.{orders_add_one_record, orders_keep_the_role}
+use Rattle.node_lines.specs.declared.wallet_line.WalletLine.{WalletLine}
+use Rattle.node_lines.specs.Grammar.{IsWalletLine, wallet_line_in}
+use Rattle.node_lines.proofs.GrammarLaws.{wallet_line_text-in}
+use Rattle.node_answers.specs.declared.wallet.WalletAsk.{WalletAsk}
+use Rattle.node_answers.specs.Answers.{wallet_ask, asked, wallet_outcome}
+use Rattle.node_roles.specs.Records.{with_record, with_either_record}
+use Rattle.node_lives.specs.Standing.{GoOn}
+
+-- ---- an order's note is bytes
+
+if-none : (added : Option (List ℕ)) → added ≡ None → IfSome added AreBytes
+if-none None is = tt
+if-none (Some body) is = absurd (cc is)
+
+if-some : (added : Option (List ℕ)) → ((body : List ℕ) → added ≡ Some body → AreBytes body) → IfSome added AreBytes
+if-some None each = tt
+if-some (Some body) each = each body refl
+
+module _ (dig : List ℕ → List ℕ) (log : List RootCall) (wallet : WalletRecords) where
+  accept-bytes : (bytes : List ℕ) → AreBytes bytes → IfSome (accept_effect dig wallet log bytes).note AreBytes
+  unfolding note_text
+  accept-bytes bytes are = by _ (accept_ends dig wallet log bytes)
+    where
+      by : (effect : WalletEffect _) → AcceptEnds dig wallet log bytes effect → IfSome effect.note AreBytes
+      by effect (Refused why is) = if-none effect.note (ap (λ e. e.note) is)
+      by effect (Known links handed mine known is) = if-none effect.note (ap (λ e. e.note) is)
+      by effect (New links handed is) =
+          subst (λ (o : Option (List ℕ)). IfSome o AreBytes) (sym (ap (λ e. e.note) is))
+          (small-cons 2 (lit< tt)
+          (small-bundle (kept_of links)
+          (is_handed dig (who wallet).tag log bytes links (record { are = are }) handed).small)).are
+
+  leave-bytes : (coin : ℕ) → IfSome (leave_effect dig wallet log coin).note AreBytes
+  unfolding leave_effect note_text
+  leave-bytes coin =
+      if-some (leave_from dig wallet log coin (coin_state dig wallet log coin)).note (λ body added.
+      let left = leave-note dig wallet log coin (coin_state dig wallet log coin) body added in
+      subst AreBytes left.2
+      (small-cons 3 (lit< tt) (small-append (small-number coin) (small-number left.0))).are)
+
+  reclaim-bytes : (bytes : List ℕ) → IfSome (reclaim_effect dig wallet log bytes).note AreBytes
+  unfolding note_text
+  reclaim-bytes bytes = by _ (reclaim_ends dig wallet log bytes)
+    where
+      by : (effect : WalletEffect _) → ReclaimEnds effect → IfSome effect.note AreBytes
+      by effect (Refused why is) = if-none effect.note (ap (λ e. e.note) is)
+      by effect (Takes taken is) =
+          subst (λ (o : Option (List ℕ)). IfSome o AreBytes) (sym (ap (λ e. e.note) is))
+          (small-cons 5 (lit< tt)
+          (small-append (small-append (small-number taken.coin) (small-number taken.tip)) (small-short taken.q))).are
+
+  order-bytes : (order : WalletOrder) → IsFitOrder order → IfSome (order_deed dig log 0 wallet order).note AreBytes
+  unfolding order_deed
+  order-bytes (WalletOrder.Accept bundle) fit = accept-bytes bundle fit
+  order-bytes (WalletOrder.Send coin to last) fit =
+      if-none (send_effect dig wallet log coin to last).note (send-note dig wallet log coin to last)
+  order-bytes (WalletOrder.Again coin) fit = tt
+  order-bytes (WalletOrder.Leave coin) fit = leave-bytes coin
+  order-bytes (WalletOrder.Reclaim bundle) fit = reclaim-bytes bundle
+  order-bytes WalletOrder.Migrate fit = if-none (migrate_effect wallet).note (migrate-note wallet)
+  order-bytes WalletOrder.Watch fit = tt
+
+-- ---- a line's order
+
+-- the order of a command that a line spells is fit
+pub fit-order : (line : WalletLine) → IsWalletLine line → (order : WalletOrder)
+    → wallet_ask line ≡ WalletAsk.Order order → IsFitOrder order
+fit-order (WalletLine.Accept bundle) is order asks =
+    (let same : WalletOrder.Accept bundle ≡ order = cc asks in subst IsFitOrder same is.0)
+fit-order (WalletLine.Send coin to last) is order asks =
+    (let same : WalletOrder.Send coin to last ≡ order = cc asks in subst IsFitOrder same is.1.0.0.key)
+fit-order (WalletLine.Again coin) is order asks =
+    (let same : WalletOrder.Again coin ≡ order = cc asks in subst IsFitOrder same tt)
+fit-order (WalletLine.Leave coin) is order asks =
+    (let same : WalletOrder.Leave coin ≡ order = cc asks in subst IsFitOrder same tt)
+fit-order (WalletLine.Reclaim bundle) is order asks =
+    (let same : WalletOrder.Reclaim bundle ≡ order = cc asks in subst IsFitOrder same is.0)
+fit-order WalletLine.Migrate is order asks =
+    (let same : WalletOrder.Migrate ≡ order = cc asks in subst IsFitOrder same tt)
+fit-order WalletLine.Watch is order asks =
+    (let same : WalletOrder.Watch ≡ order = cc asks in subst IsFitOrder same tt)
+fit-order (WalletLine.State coin) is order asks = absurd (cc asks)
+fit-order WalletLine.Who is order asks = absurd (cc asks)
+
+-- ---- what it leaves
+
+-- a wallet's records, of which the notes are bytes
+pub record IsGood (dig : List ℕ → List ℕ) (wallet : WalletRecords) : Type 0 where
+  pub is : is_wallet dig wallet ≡ true
+  pub bytes : All AreBytes wallet.notes
+
+push-bytes : (records : List (List ℕ)) (added : Option (List ℕ)) → All AreBytes records → IfSome added AreBytes
+    → All AreBytes (with_record records added)
+push-bytes records None are one = are
+push-bytes records (Some body) are one = All-push AreBytes records body are one
+
+same-after : (wallet : WalletRecords) (leaf note : Option (List ℕ)) → (note ≡ None) ⊎ (leaf ≡ None)
+    → record { notes = with_deed wallet.notes note; leaves = with_deed wallet.leaves leaf }
+    ≡ with_either_record wallet leaf note
+same-after wallet None None one = refl
+same-after wallet None (Some note) one = refl
+same-after wallet (Some leaf) None one = refl
+same-after wallet (Some leaf) (Some note) (inl wrong) = absurd (cc wrong)
+same-after wallet (Some leaf) (Some note) (inr wrong) = absurd (cc wrong)
+
+either-bytes : (wallet : WalletRecords) (leaf note : Option (List ℕ)) → All AreBytes wallet.notes
+    → IfSome note AreBytes → All AreBytes (with_either_record wallet leaf note).notes
+either-bytes wallet None note are one = push-bytes wallet.notes note are one
+either-bytes wallet (Some leaf) note are one = are
+
+-- what a wallet's records come to goes on
+pub either-goes : (first wallet : WalletRecords) (leaf note : Option (List ℕ)) → GoOn first wallet
+    → GoOn first (with_either_record wallet leaf note)
+either-goes first wallet None None on = on
+either-goes first wallet None (Some note) on =
+    record { notes = one_more first.notes wallet.notes note on.notes; leaves = on.leaves }
+either-goes first wallet (Some leaf) note on =
+    record { notes = on.notes; leaves = one_more first.leaves wallet.leaves leaf on.leaves }
+
+module _ (dig : List ℕ → List ℕ) (log : List RootCall) (wallet : WalletRecords) (good : IsGood dig wallet)
+    (few : blocks log < 2 ^ 64) where
+  order-good : (order : WalletOrder) → IsFitOrder order
+      → IsGood dig (with_either_record wallet (order_deed dig log 0 wallet order).leaf
+      (order_deed dig log 0 wallet order).note)
+  order-good order fit =
+      let deed = order_deed dig log 0 wallet order in
+      let kept = orders_keep_the_role dig log 0 wallet order good.is fit
+      (record { notes = good.bytes; blocks = few }) in
+      record {
+        is =
+            subst (λ (w : WalletRecords). is_wallet dig w ≡ true)
+            (same-after wallet deed.leaf deed.note (orders_add_one_record dig log 0 wallet order)) kept;
+        bytes = either-bytes wallet deed.leaf deed.note good.bytes (order-bytes dig log wallet order fit);
+      }
+
+  ask-good : (ask : WalletAsk) → ((order : WalletOrder) → ask ≡ WalletAsk.Order order → IsFitOrder order)
+      → IsGood dig (with_either_record wallet (asked dig log wallet ask).leaf (asked dig log wallet ask).note)
+  ask-good (WalletAsk.Order order) fit = order-good order (fit order refl)
+  ask-good (WalletAsk.State coin) fit = good
+  ask-good WalletAsk.Who fit = good
+
+  -- the records with what a command adds that a line spells
+  pub outcome-good : (line : List ℕ) (command : WalletLine) → wallet_line_in line ≡ Some command
+      → IsGood dig (with_either_record wallet (wallet_outcome dig log wallet command).leaf
+      (wallet_outcome dig log wallet command).note)
+  unfolding wallet_outcome
+  outcome-good line command spells =
+      ask-good (wallet_ask command) (fit-order command (wallet_line_text-in line command spells).1)

@@ -1,0 +1,37 @@
+ghost use Rattle.std.specs.Prelude.{List, ℕ};
+ghost use Rattle.node_lives.specs.Laws.{IdentitiesAreOfTheirRoles, BegunNodesStay, RunsWriteTheirAnswers, AnsweredRecordsStand, LeavesGiveOutOneMessage};
+
+use crash_disk::Disk;
+
+/// Once a wallet, a watcher or an operator without a key was begun, each later call finds it, whatever came between:
+/// runs of any role with any input, broken off by any fault or for want of memory, inits, and crashes. No run of its
+/// role is refused as no journal, no init begins one again, and each image that a crash may leave of its disks keeps
+/// its identity, and records of its role.
+pub fn begun_nodes_stay<D: Disk>()
+    ensures { (dig : List ℕ → List ℕ) → BegunNodesStay D.told D.plan D.faults dig }
+{}
+
+/// The records of the lines that a run of a wallet, a watcher or an operator without a key answered stand in every later
+/// call since: in each image that a crash may leave of the disks that it is handed, and in front of what a later run of
+/// the role finds.
+pub fn answered_records_stand<D: Disk>()
+    ensures { (dig : List ℕ → List ℕ) → AnsweredRecordsStand D.told D.plan D.faults dig }
+{}
+
+/// All that a leaf of a wallet's key gave out since the wallet was begun, in one run or in several, is one message with
+/// one signature: no leaf signs two messages.
+pub fn leaves_give_out_one_message<D: Disk>()
+    ensures { (dig : List ℕ → List ℕ) → LeavesGiveOutOneMessage D.told D.plan D.faults dig }
+{}
+
+/// What a run of a node wrote is a beginning of its answers, or all of them and a beginning of what it says of its end.
+/// So a byte of an answer of a wallet, a watcher or an operator without a key is written of a line alone whose record
+/// stands in every later call.
+pub fn runs_write_their_answers<D: Disk>()
+    ensures { (dig : List ℕ → List ℕ) → RunsWriteTheirAnswers D.told D.plan D.faults dig }
+{}
+
+/// The bytes of an identity are one of its role, where its fields are of their types, and an operator's has no key.
+pub fn identities_are_of_their_roles()
+    ensures { (dig : List ℕ → List ℕ) → IdentitiesAreOfTheirRoles dig }
+{}
