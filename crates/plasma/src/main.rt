@@ -10,7 +10,7 @@ use std::env;
 use std::io::{ErrorKind, writer};
 use std::process::ExitCode;
 
-/// The file of a node's notes, and that of a wallet's leaves.
+/// The file of a node's notes, and that of the leaves of its key.
 const NOTES: &str = "notes.journal";
 
 const LEAVES: &str = "leaves.journal";

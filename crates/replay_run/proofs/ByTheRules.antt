@@ -103,7 +103,7 @@ module _ (dig : List ℕ → List ℕ) (is_digest : IsDigest dig) (outside : Out
     keeps-by_form (Some Operator) does = tt
     keeps-by_form (Some Watcher) does = tt
     keeps-by_form (Some (InitWallet tag account seed types)) does = tt
-    keeps-by_form (Some (InitOperator tag account)) does = tt
+    keeps-by_form (Some (InitOperator tag account key_seed)) does = tt
     keeps-by_form (Some (InitWatcher tag account)) does = tt
     keeps-by_form (Some (Make seed count)) does = tt
     keeps-by_form (Some (Verify key message signature)) does = tt

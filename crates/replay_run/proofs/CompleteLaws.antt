@@ -95,7 +95,7 @@ module _ {D : Type 0} (told : D → Option History) (plan : D → Option FaultPl
   does-complete (Some Wallet) does =
       wallet-complete told plan faults dig notes leaves new_notes new_leaves outside failed status does
   does-complete (Some Operator) does =
-      operator-complete told plan faults dig notes new_notes outside failed status does
+      operator-complete told plan faults dig notes leaves new_notes new_leaves outside failed status does
   does-complete (Some Watcher) does =
       watcher-complete told plan faults dig notes new_notes outside failed status does
   does-complete (Some (Make seed count)) does = ends-done (make_output seed count) status _ _ _ tt does
@@ -105,8 +105,11 @@ module _ {D : Type 0} (told : D → Option History) (plan : D → Option FaultPl
   does-complete (Some (InitWallet tag account seed types)) does =
       init-both-complete told plan faults dig outside.left outside.taken outside.after status _ notes leaves new_notes
       new_leaves does
-  does-complete (Some (InitOperator tag account)) does =
+  does-complete (Some (InitOperator tag account None)) does =
       init-complete told plan faults dig outside.left outside.taken outside.after status _ notes new_notes does
+  does-complete (Some (InitOperator tag account (Some seed))) does =
+      init-both-complete told plan faults dig outside.left outside.taken outside.after status _ notes leaves new_notes
+      new_leaves does
   does-complete (Some (InitWatcher tag account)) does =
       init-complete told plan faults dig outside.left outside.taken outside.after status _ notes new_notes does
   does-complete (Some (HssInit seed)) does =
@@ -133,7 +136,8 @@ module _ {D : Type 0} (told : D → Option History) (dig : List ℕ → List ℕ
   no-words None = tt
   no-words (Some (InitWallet tag account seed types)) =
       λ of_notes of_leaves notes_told leaves_told free bare. tt
-  no-words (Some (InitOperator tag account)) = λ history is free. tt
+  no-words (Some (InitOperator tag account None)) = λ history is free. tt
+  no-words (Some (InitOperator tag account (Some seed))) = λ of_notes of_leaves notes_told leaves_told free bare. tt
   no-words (Some (InitWatcher tag account)) = λ history is free. tt
   no-words (Some (HssInit seed)) = λ of_notes of_leaves notes_told leaves_told free bare. tt
   no-words (Some (HssSign message)) = tt

@@ -81,14 +81,16 @@ module _ {D : Type 0} (told : D → Option History) (plan : D → Option FaultPl
   does-count (Some Wallet) does notes_stay leaves_stay =
       wallet-counts told plan faults dig notes leaves new_notes new_leaves outside failed status does
   does-count (Some Operator) does notes_stay leaves_stay =
-      of-notes (operator-counts told plan faults dig notes new_notes outside failed status does) (leaves_stay refl)
+      operator-counts told plan faults dig notes leaves new_notes new_leaves outside failed status does
   does-count (Some Watcher) does notes_stay leaves_stay =
       of-notes (watcher-counts told plan faults dig notes new_notes outside failed status does) (leaves_stay refl)
   does-count (Some (InitWallet tag account seed types)) does notes_stay leaves_stay =
       inits-count-either told plan faults outside.taken outside.after status _ notes leaves new_notes new_leaves does
-  does-count (Some (InitOperator tag account)) does notes_stay leaves_stay =
+  does-count (Some (InitOperator tag account None)) does notes_stay leaves_stay =
       of-notes (inits-count told plan faults outside.taken outside.after status _ notes new_notes does)
       (leaves_stay refl)
+  does-count (Some (InitOperator tag account (Some seed))) does notes_stay leaves_stay =
+      inits-count-either told plan faults outside.taken outside.after status _ notes leaves new_notes new_leaves does
   does-count (Some (InitWatcher tag account)) does notes_stay leaves_stay =
       of-notes (inits-count told plan faults outside.taken outside.after status _ notes new_notes does)
       (leaves_stay refl)

@@ -63,7 +63,7 @@ module _ {D : Type 0} (told : D → Option History) (plan : D → Option FaultPl
   unread-prompt (Some Brief) = tt
   unread-prompt None = tt
   unread-prompt (Some (InitWallet tag account seed types)) = tt
-  unread-prompt (Some (InitOperator tag account)) = tt
+  unread-prompt (Some (InitOperator tag account key_seed)) = tt
   unread-prompt (Some (InitWatcher tag account)) = tt
   unread-prompt (Some (Make seed count)) = tt
   unread-prompt (Some (Verify key message signature)) = tt

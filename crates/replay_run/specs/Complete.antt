@@ -50,10 +50,12 @@ module _ {D : Type 0} (told : D → Option History) (dig : List ℕ → List ℕ
   CompletesByForm (Some Replay) = ScheduleComplete
   CompletesByForm (Some Brief) = ScheduleComplete
   CompletesByForm (Some Wallet) = WalletComplete told dig left status notes leaves
-  CompletesByForm (Some Operator) = OperatorComplete told dig left status notes
+  CompletesByForm (Some Operator) = OperatorComplete told dig left status notes leaves
   CompletesByForm (Some Watcher) = WatcherComplete told dig left status notes
   CompletesByForm (Some (InitWallet tag account seed types)) = InitBothComplete told dig left status notes leaves
-  CompletesByForm (Some (InitOperator tag account)) = InitComplete told dig left status notes
+  CompletesByForm (Some (InitOperator tag account None)) = InitComplete told dig left status notes
+  CompletesByForm (Some (InitOperator tag account (Some seed))) =
+      InitBothComplete told dig left status notes leaves
   CompletesByForm (Some (InitWatcher tag account)) = InitComplete told dig left status notes
   CompletesByForm (Some (Make seed count)) = IsDoneUnlessFailed status
   CompletesByForm (Some (Verify key message signature)) = IsDoneUnlessFailed status

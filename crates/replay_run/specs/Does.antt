@@ -10,8 +10,9 @@ use Rattle.run_endings.specs.declared.status.Status.{Status}
 use Rattle.run_endings.specs.declared.status.Status.TheVariants.{NoMemory}
 use Rattle.run_endings.specs.Outputs.{Output, EndsAs}
 use Rattle.node_runs.specs.Sessions.{Outside}
-use Rattle.node_runs.specs.Runs.{RunsWatcher, RunsOperator, RunsWallet}
-use Rattle.node_runs.specs.Inits.{InitsNotes, InitsWallet}
+use Rattle.node_runs.specs.Runs.{RunsWatcher, RunsWallet}
+use Rattle.node_runs.specs.Operators.{RunsOperator}
+use Rattle.node_runs.specs.Inits.{InitsNotes, InitsPair}
 use Rattle.hss_runs.specs.Identity.{identity_text as signer_text}
 use Rattle.hss_runs.specs.Runs.{RunsSigner}
 use Rattle.hss_runs.specs.Verdict.{is_hss_verified, verdict_output}
@@ -51,22 +52,27 @@ module _ {D : Type 0} (told : D → Option History) (plan : D → Option FaultPl
   DoesForm (Some Replay) = Reads (replay_output dig)
   DoesForm (Some Brief) = Reads (brief_output dig)
   DoesForm (Some Wallet) = RunsWallet told plan faults dig notes leaves new_notes new_leaves outside failed status
-  DoesForm (Some Operator) = RunsOperator told plan faults dig notes new_notes outside failed status
+  DoesForm (Some Operator) =
+      RunsOperator told plan faults dig notes leaves new_notes new_leaves outside failed status
   DoesForm (Some Watcher) = RunsWatcher told plan faults dig notes new_notes outside failed status
   DoesForm (Some (InitWallet tag account seed types)) =
-      InitsWallet told plan faults outside.taken outside.after status
+      InitsPair told plan faults outside.taken outside.after status
       (wallet_text (record { tag = tag; account = account; seed = seed; types = types }))
       notes leaves new_notes new_leaves
-  DoesForm (Some (InitOperator tag account)) =
+  DoesForm (Some (InitOperator tag account None)) =
       InitsNotes told plan faults outside.taken outside.after status
       (operator_text (record { tag = tag; account = account; key_seed = None })) notes new_notes
+  DoesForm (Some (InitOperator tag account (Some seed))) =
+      InitsPair told plan faults outside.taken outside.after status
+      (operator_text (record { tag = tag; account = account; key_seed = Some seed }))
+      notes leaves new_notes new_leaves
   DoesForm (Some (InitWatcher tag account)) =
       InitsNotes told plan faults outside.taken outside.after status
       (watcher_text (record { tag = tag; account = account })) notes new_notes
   DoesForm (Some (Make seed count)) = Writes (make_output seed count)
   DoesForm (Some (Verify key message signature)) = Writes (verify_output (is_verified key message signature))
   DoesForm (Some (HssInit seed)) =
-      InitsWallet told plan faults outside.taken outside.after status (signer_text seed)
+      InitsPair told plan faults outside.taken outside.after status (signer_text seed)
       notes leaves new_notes new_leaves
   DoesForm (Some (HssSign message)) =
       RunsSigner told plan faults outside.taken outside.after status message notes leaves new_notes new_leaves

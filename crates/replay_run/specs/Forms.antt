@@ -17,7 +17,7 @@ reads_input (Some Wallet) = true
 reads_input (Some Operator) = true
 reads_input (Some Watcher) = true
 reads_input (Some (InitWallet tag account seed types)) = false
-reads_input (Some (InitOperator tag account)) = false
+reads_input (Some (InitOperator tag account key_seed)) = false
 reads_input (Some (InitWatcher tag account)) = false
 reads_input (Some (Make seed count)) = false
 reads_input (Some (Verify key message signature)) = false
@@ -36,7 +36,7 @@ uses_notes (Some Wallet) = true
 uses_notes (Some Operator) = true
 uses_notes (Some Watcher) = true
 uses_notes (Some (InitWallet tag account seed types)) = true
-uses_notes (Some (InitOperator tag account)) = true
+uses_notes (Some (InitOperator tag account key_seed)) = true
 uses_notes (Some (InitWatcher tag account)) = true
 uses_notes (Some (Make seed count)) = false
 uses_notes (Some (Verify key message signature)) = false
@@ -46,10 +46,12 @@ uses_notes (Some (HssVerify key message signature)) = false
 uses_notes (Some (Audit key receipt)) = false
 uses_notes (Some Archive) = false
 
--- whether it uses the disk of the leaves, which wallets and two-level signers have
+-- whether it may use the disk of the leaves, which wallets, operators with a key and two-level signers have
 abbrev pub uses_leaves : Option Form → Bool
 uses_leaves (Some Wallet) = true
+uses_leaves (Some Operator) = true
 uses_leaves (Some (InitWallet tag account seed types)) = true
+uses_leaves (Some (InitOperator tag account (Some seed))) = true
 uses_leaves (Some (HssInit seed)) = true
 uses_leaves (Some (HssSign message)) = true
 uses_leaves form = false

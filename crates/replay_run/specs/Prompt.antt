@@ -30,7 +30,7 @@ AnswersByForm told plan faults dig notes leaves outside failed_last (Some Replay
 AnswersByForm told plan faults dig notes leaves outside failed_last (Some Wallet) =
     WalletPromptly outside failed_last told plan faults dig notes leaves
 AnswersByForm told plan faults dig notes leaves outside failed_last (Some Operator) =
-    OperatorPromptly outside failed_last told plan faults dig notes
+    OperatorPromptly outside failed_last told plan faults dig notes leaves
 AnswersByForm told plan faults dig notes leaves outside failed_last (Some Watcher) =
     WatcherPromptly outside failed_last told plan faults dig notes
 AnswersByForm told plan faults dig notes leaves outside failed_last (Some (Audit key receipt)) =

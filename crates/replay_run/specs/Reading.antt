@@ -10,7 +10,7 @@ use Rattle.streamed_lines.specs.declared.ending.Ending.{Ending}
 use Rattle.streamed_lines.specs.declared.ending.Ending.TheVariants.{Complete}
 use Rattle.streamed_lines.specs.declared.ending.Stop.TheVariants.{BadLine, TooLong}
 use Rattle.streamed_lines.specs.declared.ending.Halt.{Halt}
-use Rattle.streamed_lines.specs.declared.ending.Halt.TheVariants.{Stops, NoMemory}
+use Rattle.streamed_lines.specs.declared.ending.Halt.TheVariants.{Stops, Failed, NoMemory}
 use Rattle.streamed_lines.specs.Bounds.{TakesFew}
 use Rattle.streamed_lines.specs.Outside.{Gave, Wrote, WroteFront}
 use Rattle.replay_run.specs.declared.ending.NoCause.{NoCause}
@@ -31,6 +31,11 @@ HasNoStep dig lines line (Stops BadLine) = run_of dig (line ∷ lines) ≡ None
 HasNoStep dig lines line (Stops TooLong) = WouldFill dig lines line
 HasNoStep dig lines line NoMemory = Unit {0}
 HasNoStep dig lines line halt = ⊥
+
+-- no line of a replay fails: it is answered, or it stops the run for its text or for want of memory
+abbrev pub NeverFails : Halt NoCause → Type 0
+NeverFails Failed = ⊥
+NeverFails halt = Unit {0}
 
 -- over a world, whose hash has this digest
 module _ {H : Type 0} (digest_of : H → List ℕ → List ℕ) where

@@ -11,7 +11,7 @@ ghost use Rattle.streamed_lines.specs.Prompt.{AnswersPromptly};
 ghost use Rattle.replay_run.specs.Prompt.{replay_answers};
 ghost use Rattle.replay_run.specs.Replays.{JudgedRun, begun, replay_rules};
 ghost use Rattle.replay_run.specs.Text.{told_text};
-ghost use Rattle.replay_run.specs.Reading.{Ran, GoesOn, SpellsNone, HasNoStep, Answers, StopsEarly};
+ghost use Rattle.replay_run.specs.Reading.{Ran, GoesOn, SpellsNone, HasNoStep, NeverFails, Answers, StopsEarly};
 
 use super::ending::NoCause;
 use plasma_base::Hash32;
@@ -48,6 +48,7 @@ fn read_line(alloc: Global, text: &[u8]) -> Result<Line, Halt<NoCause>>
     ensures found { IfOk result (λ line. line_in text.now ≡ Some line) }
     ensures grammar { IfOk result IsLine }
     ensures bad { IfErr result (SpellsNone text.now) }
+    ensures no_failure { IfErr result NeverFails }
 {
     match read(alloc, text) {
         Ok(line) => Ok(line),
@@ -69,6 +70,7 @@ fn step_line<H: Hash32 + Copy>(
         → IfOk result (λ told. IsStep (H.digest_of world.old.hash) lines line.now told world.new) }
     ensures stops { (lines : List Line) → IsAfter (H.digest_of world.old.hash) lines world.old
         → IfErr result (HasNoStep (H.digest_of world.old.hash) lines line.now) }
+    ensures no_failure { IfErr result NeverFails }
     ensures hash { OnOk result (world.new.hash ≡ world.old.hash) }
     ensures nodes { OnOk result (NodesSpell world.new) }
 {
@@ -95,6 +97,7 @@ fn take_line<H: Hash32 + Copy>(
         → IfOk result (λ told. GoesOn H.digest_of run line.now (told_text told) world.new) }
     ensures halts { (run : JudgedRun) → Ran H.digest_of world.old run
         → IfErr result (HaltsAt replay_rules run line.now) }
+    ensures no_failure { IfErr result NeverFails }
     ensures nodes { OnOk result (NodesSpell world.new) }
 {
     let read = read_line(alloc, line)?;
@@ -104,7 +107,7 @@ fn take_line<H: Hash32 + Copy>(
 impl<H: Hash32 + Copy> Answerer for Replayer<H> {
     ghost use Rattle.world_core.specs.Worlds.{NodesSpell};
     ghost use Rattle.replay_run.specs.Replays.{JudgedRun, replay_rules};
-    ghost use Rattle.replay_run.specs.Reading.{Ran};
+    ghost use Rattle.replay_run.specs.Reading.{Ran, NeverFails};
 
     type Cause = NoCause;
 
@@ -114,7 +117,7 @@ impl<H: Hash32 + Copy> Answerer for Replayer<H> {
 
     ghost ran = { λ replayer run. Ran H.digest_of replayer.world run };
 
-    ghost halted = { λ _ _ _ _. Unit {0} };
+    ghost halted = { λ _ _ _ halt. NeverFails halt };
 
     ghost ready = { λ replayer. NodesSpell replayer.world };
 
@@ -158,6 +161,6 @@ pub fn answer_schedule<H: Hash32 + Copy, S: Source, K: Sink>(
         Err(Break::WriteFault) => Err(SinkRefusal::Failed),
         Err(Break::NoMemory) => Err(SinkRefusal::NoMemory),
         // No line of a replay fails but for want of memory.
-        Err(Break::Failed) => Err(SinkRefusal::NoMemory),
+        Err(Break::Failed) => unreachable!(),
     }
 }

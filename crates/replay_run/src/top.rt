@@ -24,7 +24,10 @@ use crash_disk::Disk;
 use hss_runs::{init_signer, run_signer, verify_signature};
 use log_runs::{run_archive, run_audit};
 use node_rules::WalletIdentity;
-use node_runs::{init_operator, init_wallet, init_watcher, run_operator, run_wallet, run_watcher};
+use node_runs::{
+    init_operator, init_operator_with_key, init_wallet, init_watcher, run_operator, run_wallet,
+    run_watcher,
+};
 use plasma_base::{Bytes, Hash32, KeptSha, NoMemory};
 use plasma_outside::{Sink, Source};
 use run_endings::{Status, put_line};
@@ -78,14 +81,14 @@ impl<D> Ended<D> {
 ///
 /// `replay` reads a schedule and writes the text of its trace; `brief` reads one and writes what is counted of it.
 /// `wallet`, `operator` and `watcher` open a node from the disks, read a log of the root contract, a line `--` and
-/// commands, and write their answers. `init` with a role, a tag, an account and for a wallet a seed, and maybe the types
-/// of its key, begins the disks of a node and writes `made`. `make <seed> <count>` writes a schedule of so many rounds.
-/// `verify <key> <message> <signature>` writes `valid` or `invalid`. `hss init <seed>` begins the disks of a two-level
-/// signer (RFC 8554, section 6) and writes `made`; `hss sign <message>` opens it from the disks and writes `signed`, its
-/// top leaf and its leaf, and a signature; `hss verify` is `verify` under a key of two levels. `audit <key> <receipt>` and
-/// `archive` read a log and a line `--`; behind it an audit reads a bundle, which convicts the operator who promised the
-/// receipt or doesn't, and an archive commands, which it answers. Other words are no form: the run ends as `Usage`, and
-/// writes the line that names the forms.
+/// commands, and write their answers. `init` with a role, a tag, an account, for a wallet a seed, and maybe the types of
+/// its key, and for an operator with a key its seed, begins the disks of a node and writes `made`. `make <seed> <count>`
+/// writes a schedule of so many rounds. `verify <key> <message> <signature>` writes `valid` or `invalid`. `hss init <seed>`
+/// begins the disks of a two-level signer (RFC 8554, section 6) and writes `made`; `hss sign <message>` opens it from the
+/// disks and writes `signed`, its top leaf and its leaf, and a signature; `hss verify` is `verify` under a key of two
+/// levels. `audit <key> <receipt>` and `archive` read a log and a line `--`; behind it an audit reads a bundle, which
+/// convicts the operator who promised the receipt or doesn't, and an archive commands, which it answers. Other words are
+/// no form: the run ends as `Usage`, and writes the line that names the forms.
 pub fn run<S: Source, K: Sink, D: Disk>(
     alloc: Global,
     words: &[String],
@@ -251,7 +254,7 @@ fn run_form<H: Hash32, S: Source, K: Sink, D: Disk>(
         Some(Form::Archive) => Ended::of(run_archive(alloc, h, source, sink), notes, leaves),
         Some(Form::Wallet) => { Ended::of_both(run_wallet(alloc, h, source, sink, notes, leaves)) }
         Some(Form::Operator) => {
-            Ended::of_notes(run_operator(alloc, h, source, sink, notes), leaves)
+            Ended::of_both(run_operator(alloc, h, source, sink, notes, leaves))
         }
         Some(Form::Watcher) => {
             Ended::of_notes(run_watcher(alloc, h, source, sink, notes), leaves)
@@ -272,8 +275,21 @@ fn run_form<H: Hash32, S: Source, K: Sink, D: Disk>(
             };
             Ended::of_both(init_wallet(alloc, sink, notes, leaves, &who))
         }
-        Some(Form::InitOperator { tag, account }) => {
-            Ended::of_notes(init_operator(alloc, sink, notes, tag, account), leaves)
+        Some(
+            Form::InitOperator {
+                tag,
+                account,
+                key_seed: None,
+            },
+        ) => Ended::of_notes(init_operator(alloc, sink, notes, tag, account), leaves),
+        Some(
+            Form::InitOperator {
+                tag,
+                account,
+                key_seed: Some(seed),
+            },
+        ) => {
+            Ended::of_both(init_operator_with_key(alloc, sink, notes, leaves, tag, account, seed))
         }
         Some(Form::InitWatcher { tag, account }) => {
             Ended::of_notes(init_watcher(alloc, sink, notes, tag, account), leaves)

@@ -18,11 +18,6 @@ returns-in-Err-NoMemory-clause-stopped g c =
     rw (← c.new-replayer.ensures.hash)
     (stops-so _ _ _ _ _ _ _ _ _ c.in-Err-NoMemory.field-0 c.in-Err-NoMemory.ensures.broken)
 
-pub returns-clause-stopped : goal.returns-clause-stopped
-returns-clause-stopped g c =
-    rw (← c.new-replayer.ensures.hash)
-    (stops-so _ _ _ _ _ _ _ _ _ c.in-Err-Failed.field-0 c.in-Err-Failed.ensures.broken)
-
 pub answer_lines-requires : goal.answer_lines-requires
 answer_lines-requires g c κs within =
     let h = within.0 in (
@@ -41,7 +36,3 @@ returns-in-Err-WriteFault-clause-prompt g c =
 pub returns-in-Err-NoMemory-clause-prompt : goal.returns-in-Err-NoMemory-clause-prompt
 returns-in-Err-NoMemory-clause-prompt g c =
     rw (← c.new-replayer.ensures.hash) (prompt-same _ _ _ _ _ _ _ (answers-are _) c.in-Err-NoMemory.ensures.prompt)
-
-pub returns-clause-prompt : goal.returns-clause-prompt
-returns-clause-prompt g c =
-    rw (← c.new-replayer.ensures.hash) (prompt-same _ _ _ _ _ _ _ (answers-are _) c.in-Err-Failed.ensures.prompt)

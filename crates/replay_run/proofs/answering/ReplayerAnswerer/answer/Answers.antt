@@ -6,6 +6,10 @@ pub returns-in_err-told-clause-halts : goal.returns-in_err-told-clause-halts
 returns-in_err-told-clause-halts g c =
     λ run ran. err-given _ _ _ c.from_residual.ensures.1 (c.in_err-told.ensures.halts run ran)
 
+pub returns-in_err-told-clause-halted : goal.returns-in_err-told-clause-halted
+returns-in_err-told-clause-halted g c =
+    λ run ran. err-given _ _ _ c.from_residual.ensures.1 c.in_err-told.ensures.no_failure
+
 pub returns-clause-answered : goal.returns-clause-answered
 returns-clause-answered g c =
     λ run ran.
