@@ -1,0 +1,2 @@
+mod AnyFailure
+mod LifeLaws

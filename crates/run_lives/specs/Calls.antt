@@ -1,0 +1,49 @@
+-- Which call of a node's life a run is.
+use Rattle.std.specs.Prelude.{◌≡◌, ◌⊎◌, ℕ, Bool, true, false, List, Option, Some, None}
+use Rattle.crash_disk.specs.Disk.{History, FaultPlan}
+use Rattle.node_rules.specs.Watcher.{identity_text as watcher_text}
+use Rattle.node_rules.specs.WalletRecords.{identity_text as wallet_text}
+use Rattle.operator_rules.specs.Records.{identity_text as operator_text}
+use Rattle.hss_runs.specs.Identity.{identity_text as signer_text}
+use Rattle.world_rules.specs.World.{Wallet as WalletRole, Watcher as WatcherRole, Operator as OperatorRole}
+use Rattle.run_words.specs.declared.form.Form.{Form}
+use Rattle.run_words.specs.declared.form.Form.TheVariants.{Wallet, Operator, Watcher, InitWallet, InitOperator, InitWatcher, HssInit, HssSign}
+use Rattle.run_endings.specs.declared.status.Status.{Status}
+use Rattle.streamed_lines.specs.Outside.{ReadsToFault}
+use Rattle.node_runs.specs.Sessions.{Outside}
+use Rattle.node_lives.specs.Disks.{Pair}
+use Rattle.node_lives.specs.Calls.{Asked, ToBegin, ToRun, ToUseNoDisk, DoesAsked, Starves}
+use Rattle.replay_run.specs.Forms.{uses_notes, uses_leaves}
+use Rattle.replay_run.specs.Does.{Does}
+
+-- What the form of a run asks for, as a call on the two disks of a node. An init of both disks is asked for as a
+-- wallet's, with the identity that it makes, whosever that is. A two-level signer's run is no call of a life.
+abbrev pub asked_of : Option Form → Option Asked
+asked_of (Some Wallet) = Some (ToRun WalletRole)
+asked_of (Some Operator) = Some (ToRun OperatorRole)
+asked_of (Some Watcher) = Some (ToRun WatcherRole)
+asked_of (Some (InitWallet tag account seed types)) =
+    Some (ToBegin WalletRole (wallet_text (record { tag = tag; account = account; seed = seed; types = types })))
+asked_of (Some (InitOperator tag account None)) =
+    Some (ToBegin OperatorRole (operator_text (record { tag = tag; account = account; key_seed = None })))
+asked_of (Some (InitOperator tag account (Some seed))) =
+    Some (ToBegin WalletRole (operator_text (record { tag = tag; account = account; key_seed = Some seed })))
+asked_of (Some (InitWatcher tag account)) =
+    Some (ToBegin WatcherRole (watcher_text (record { tag = tag; account = account })))
+asked_of (Some (HssInit seed)) = Some (ToBegin WalletRole (signer_text seed))
+asked_of (Some (HssSign message)) = None
+asked_of form = Some ToUseNoDisk
+
+-- over disks that tell their history, foretell their faults and count them, and under a digest
+module _ {D : Type 0} (told : D → Option History) (plan : D → Option FaultPlan) (faults : D → ℕ)
+    (dig : List ℕ → List ℕ) where
+  -- What `run` does to the disks that it is handed, and outside, with its status, is what a call of a node's life does
+  -- that is asked for by its form, or memory ran out before it used a disk. So the laws of lives are of the runs of the
+  -- program, one after another on one pair of disks.
+  abbrev pub RunsAreCalls : Type 0
+  RunsAreCalls = (old new : Pair D) (outside : Outside) (before after : ℕ) (failed_last : Bool) (status : Status)
+      (form : Option Form) (asked : Asked) → asked_of form ≡ Some asked
+      → Does told plan faults dig old.notes old.leaves new.notes new.leaves outside
+      (ReadsToFault before after failed_last true) status form
+      → (uses_notes form ≡ false → new.notes ≡ old.notes) → (uses_leaves form ≡ false → new.leaves ≡ old.leaves)
+      → DoesAsked told plan faults dig asked old new outside status ⊎ Starves old new status
