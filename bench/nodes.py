@@ -10,7 +10,6 @@ import threading
 
 HERE = os.path.dirname(os.path.abspath(__file__))
 TOP = os.path.dirname(HERE)
-JOURNALS = ("notes.journal", "leaves.journal")
 LONGEST = 60  # seconds that one run may take
 
 
@@ -23,6 +22,8 @@ def loaded(name):
 
 
 kill = loaded("kill")
+JOURNALS = kill.JOURNALS
+KEYED = "operator with a key"
 
 
 def shim(room):
@@ -102,4 +103,5 @@ def owner_of(words):
     """The words of an init that makes a node of a role with a seed of its own."""
     tag = kill.TAG
     return {"wallet": ["init", "wallet", tag, "11", f"0x{101:064x}"], "operator": ["init", "operator", tag, "9"],
-            "watcher": ["init", "watcher", tag, "14"], kill.SIGNER: ["hss", "init", f"0x{104:064x}"]}[words]
+            KEYED: ["init", "operator", tag, "9", f"0x{105:064x}"], "watcher": ["init", "watcher", tag, "14"],
+            kill.SIGNER: ["hss", "init", f"0x{104:064x}"]}[words]
