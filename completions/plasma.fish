@@ -21,7 +21,8 @@ function __plasma_at -d 'whether so many words stand in front, and begin with th
     test (count $words) -eq $argv[1]; and test "$words[2..$last]" = "$wanted"
 end
 complete -c plasma -n '__plasma_at 2 init' -a wallet -d '<tag> <account> <seed> [<lms> <ots>]'
-complete -c plasma -n '__plasma_at 2 init' -a 'operator watcher' -d '<tag> <account>'
+complete -c plasma -n '__plasma_at 2 init' -a operator -d '<tag> <account> [<seed>]'
+complete -c plasma -n '__plasma_at 2 init' -a watcher -d '<tag> <account>'
 complete -c plasma -n '__plasma_at 2 hss' -a init -d '<seed>'
 complete -c plasma -n '__plasma_at 2 hss' -a sign -d '<message>'
 complete -c plasma -n '__plasma_at 2 hss' -a verify -d '<key> <message> <signature>'
