@@ -28,6 +28,13 @@ money-insert old new account sums ordered inserted =
     ap (λ entries. sum_by money_of (values_of entries)) inserted in
     omega (arith, sum_by-insert_entry money_of nat_cmp_total old.entries account sums ordered, here, whole)
 
+-- by what the account has more
+pub money-more : (old new : BTreeMap ℕ Sums) (account more : ℕ) (sums : Sums) → IsOrdered nat_cmp old
+    → new.entries ≡ insert_entry nat_cmp old.entries account sums
+    → money_of sums ≡ money_of (sums_in old account) + more → money_in new ≡ money_in old + more
+money-more old new account more sums ordered inserted is =
+    omega (arith, money-insert old new account sums ordered inserted, is)
+
 -- an account has no more than all
 pub money-le : (entries : BTreeMap ℕ Sums) (account : ℕ) → money_of (sums_in entries account) ≤ money_in entries
 money-le entries account =
@@ -44,13 +51,3 @@ known-ok (Ok a) o absent known fact = fact
 known-ok (Err e) o absent known fact =
     absurd (let h : IsTrue (is_some {T = Sums} None) =
     subst (λ (p : Option Sums). IsTrue (is_some p)) absent known in cc)
-
--- an account that isn't known has nothing
-pub none-money : (entries : BTreeMap ℕ Sums) (account : ℕ) {known : Bool} → known ≡ is_known_in entries account
-    → known ≡ false
-    → money_of (sums_in entries account) ≡ 0
-none-money entries account is isnt = none-of (get nat_cmp entries account) (sym is ∙ isnt)
-  where
-    none-of : (o : Option Sums) → is_some o ≡ false → money_of (unwrap_or o no_sums) ≡ 0
-    none-of None none = refl
-    none-of (Some sums) none = absurd (cc)

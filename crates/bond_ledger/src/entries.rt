@@ -1,4 +1,4 @@
-ghost use Rattle.std.specs.Prelude.{◌≡◌, ◌+◌, ◌≤◌, ℕ, ◌==◌, ◌||◌, if◌then◌else◌, IsTrue, OnOk, OnErr};
+ghost use Rattle.std.specs.Prelude.{◌≡◌, ◌+◌, ◌≤◌, ◌<◌, ◌^◌, ℕ, ◌==◌, ◌||◌, if◌then◌else◌, IsTrue, OnOk, OnErr};
 ghost use Rattle.std.specs.BTreeMap.{IsUnchanged};
 ghost use Rattle.bond_ledger.specs.Entries.{sums_in, is_known_in, money_of, money_in};
 
@@ -33,14 +33,11 @@ pub fn know(entries: &mut BTreeMap<u64, Sums>, account: u64) -> Result<(), NoMem
     ensures money { money_in entries.new ≡ money_in entries.old }
     ensures err { OnErr result (IsUnchanged entries.old entries.new) }
 {
-    if entries.contains_key(&account) {
-        return Ok(());
-    }
     let none = Sums {
         balance: 0,
         held: 0,
     };
-    entries.insert(account, none)?;
+    entries.entry(account)?.or_insert(none);
     Ok(())
 }
 
@@ -53,4 +50,23 @@ pub fn set(entries: &mut BTreeMap<u64, Sums>, account: u64, sums: Sums)
         ≡ money_in entries.old + money_of sums }
 {
     let _ = entries.insert(account, sums);
+}
+
+// Adds to the balance of a known account.
+pub fn give(entries: &mut BTreeMap<u64, Sums>, account: u64, amount: u64)
+    requires known { IsTrue (is_known_in entries.old account) }
+    requires fits { money_in entries.old + amount < 2 ^ 64 }
+    ensures known { (a : ℕ) → is_known_in entries.new a ≡ is_known_in entries.old a }
+    ensures sums { (a : ℕ) → sums_in entries.new a ≡ (if account == a
+        then record { balance = (sums_in entries.old a).balance + amount; held = (sums_in entries.old a).held }
+        else sums_in entries.old a) }
+    ensures money { money_in entries.new ≡ money_in entries.old + amount }
+{
+    let none = Sums {
+        balance: 0,
+        held: 0,
+    };
+    if let Ok(entry) = entries.entry(account) {
+        entry.or_insert(none).balance += amount;
+    }
 }

@@ -3,7 +3,7 @@ ghost use Rattle.bond_ledger.specs.declared.TheConstants.{MOST_MONEY};
 ghost use Rattle.bond_ledger.specs.Entries.{money_in};
 
 use super::MOST_MONEY;
-use super::entries::{Sums, know, set, sums_of};
+use super::entries::{Sums, give, know, set, sums_of};
 use plasma_base::NoMemory;
 use std::alloc::Global;
 use std::collections::BTreeMap;
@@ -86,12 +86,7 @@ impl Ledger {
         if MOST_MONEY - self.funded < amount {
             return Err(SumTooLarge);
         }
-        let sums = self.sums(account);
-        let more = Sums {
-            balance: sums.balance + amount,
-            held: sums.held,
-        };
-        set(&mut self.entries, account, more);
+        give(&mut self.entries, account, amount);
         self.funded += amount;
         Ok(())
     }

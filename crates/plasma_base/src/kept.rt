@@ -25,8 +25,9 @@ struct Known {
     ghost is_digest: { digest ≡ sha256 string },
 }
 
-// The strings that are remembered, each in the one slot that is its own. Whichever was put last into a slot stands
-// there, so strings that are chosen to share a slot only push each other out.
+// The strings that are remembered, each in one of the two slots that are its own, which are neighbours. Whichever was
+// put last stands in the first of them, and the one that stood there moves to the other, so strings that are chosen to
+// share slots only push each other out.
 #[derive(Drop)]
 struct Table {
     alloc: Global,
@@ -55,13 +56,17 @@ impl Table {
     fn known(&self, string: &[u8; STRING_BYTES]) -> Option<[u8; 32]>
         ensures { IfSome result (λ digest. digest ≡ sha256 string.now) }
     {
-        match self.slots.get(self.place(string)) {
-            Some(Some(known)) if known.string == *string => Some(known.digest),
-            _ => None,
+        let place = self.place(string);
+        for slot in [place, place ^ 1] {
+            match self.slots.get(slot) {
+                Some(Some(known)) if known.string == *string => return Some(known.digest),
+                _ => {}
+            }
         }
+        None
     }
 
-    // The place of a string's slot, by eight bytes of each of its two digests. They are other bytes of the one than of
+    // The place of a string's first slot, by eight bytes of each of its two digests. They are other bytes of the one than of
     // the other, since the two are often equal. A table of no slot has none at that place.
     fn place(&self, string: &[u8; STRING_BYTES]) -> usize {
         let left = get_u64(string, 1).unwrap_or(0);
@@ -78,11 +83,15 @@ impl Table {
         self.put(known);
     }
 
-    // Puts a string into its slot.
+    // Puts a string into its first slot, and what stood there into the slot beside it.
     fn put(&mut self, known: Known) {
         let place = self.place(&known.string);
+        let mut pushed = None;
         if let Some(slot) = self.slots.get_mut(place) {
-            *slot = Some(known);
+            pushed = mem::replace(slot, Some(known));
+        }
+        if let (Some(_), Some(slot)) = (pushed, self.slots.get_mut(place ^ 1)) {
+            *slot = pushed;
         }
     }
 

@@ -7,7 +7,7 @@ use Rattle.sparse_merkle.proofs.opening.opens_with_defaults.Goals as goal
 pub loop-level-init : goal.loop-level-init
 loop-level-init g c =
     digest_at_level-zero (g.H.Hash32.digest_of c.args.h.now) c.args.coin c.args.leaf.now
-    c.path_with_defaults-path.result c.leaf_digest-digest.result c.leaf_digest-digest.ensures
+    c.path_with_defaults-path.result c.leaf_digest_with_defaults-digest.result c.leaf_digest_with_defaults-digest.ensures
 
 pub loop-level-preserved : goal.loop-level-preserved
 loop-level-preserved g c =
