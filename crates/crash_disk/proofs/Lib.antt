@@ -1,6 +1,5 @@
-mod Told
-mod Copies
 pub mod Images
 pub mod Left
 pub mod Plans
+mod Undone
 pub mod Calls

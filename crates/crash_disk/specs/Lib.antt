@@ -4,5 +4,6 @@ pub mod Memory
 pub mod Outcomes
 pub mod Laws
 pub mod Log
+pub mod Undo
 pub mod Inside
 pub mod Files

@@ -1,11 +1,10 @@
 -- The disk in memory.
-use Rattle.std.specs.Prelude.{ℕ, zero, suc, ◌+◌, ◌-◌, Bool, ◌==◌, max, List, [], ◌∷◌, length, take, drop, Option, Some, None}
+use Rattle.std.specs.Prelude.{ℕ, zero, suc, ◌+◌, ◌-◌, Bool, ◌==◌, max, List, [], length, Option, Some, None}
 use Rattle.std.specs.List.{list_any}
 use Rattle.plasma_base.specs.Causes.{counted, faults_after}
-use Rattle.crash_disk.specs.Disk.{Step, asks_length, reads, writes, syncs, DeviceCall, History, fresh_history, with_call, FaultPlan, fails_first, after_one, Room}
-use Rattle.crash_disk.specs.declared.log.KeptStep.{KeptStep}
-use Rattle.crash_disk.specs.declared.log.KeptStep.TheVariants.{Length, Read, Write, Sync}
-use Rattle.crash_disk.specs.declared.log.KeptCall.{KeptCall}
+use Rattle.crash_disk.specs.Disk.{Step, asks_length, reads, writes, syncs, History, fresh_history, with_call, FaultPlan, fails_first, after_one, Room}
+use Rattle.crash_disk.specs.declared.past.AskedStep.{AskedStep}
+use Rattle.crash_disk.specs.declared.past.AskedStep.TheVariants.{Length, Read, Write, Sync}
 
 -- what it tells; the numbers of the calls that are to fail, counted from 1 since it was made; how many calls were made;
 -- how many may still pass where there is a fuse; the faults; and the room left
@@ -73,26 +72,9 @@ after_crash image disk = record disk {
   room = record { calls = 0; bytes = 0 };
 }
 
--- the step of a call that is kept with the number of its bytes, which are the first of these
-abbrev pub step_of : KeptStep → List ℕ → Step
-step_of Length bytes = asks_length
-step_of (Read place count) bytes = reads place count
-step_of (Write place count) bytes = writes place (take count bytes)
-step_of Sync bytes = syncs
-
--- how many bytes it takes
-abbrev pub count_of : KeptStep → ℕ
-count_of (Write place count) = count
-count_of step = 0
-
--- the calls that are kept, the oldest first, over the bytes that they wrote, before those already told
-abbrev pub told_of : List KeptCall → List ℕ → List DeviceCall → List DeviceCall
-told_of [] bytes told = told
-told_of (call ∷ calls) bytes told =
-    told_of calls (drop (count_of call.step) bytes)
-    (record { step = step_of call.step bytes; failed = call.failed } ∷ told)
-
--- how many bytes they wrote
-abbrev pub count_written : List KeptCall → ℕ
-count_written [] = 0
-count_written (call ∷ calls) = count_of call.step + count_written calls
+-- the step that a call asks for
+abbrev pub step_of : AskedStep → Step
+step_of Length = asks_length
+step_of (Read place count) = reads place count
+step_of (Write place bytes) = writes place bytes.now
+step_of Sync = syncs

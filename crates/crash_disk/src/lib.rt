@@ -11,6 +11,8 @@ mod log;
 mod memory;
 mod mix;
 mod outcome;
+mod past;
+mod undo;
 
 pub use disk::{Disk, DiskFailed};
 pub use file::FileDisk;

@@ -4,26 +4,29 @@ ghost use Rattle.crash_disk.specs.Disk.{fresh_history, content, synced_content, 
 ghost use Rattle.crash_disk.specs.Outcomes.{image_after, HasPattern};
 ghost use Rattle.crash_disk.specs.Memory.{plan_of, fails_next, after_call, with_fuse, with_room, after_crash};
 
-use super::copy::{bring_up_to_date, copy_over, overwrite};
+use super::copy::overwrite;
 use super::disk::{Disk, DiskFailed};
-use super::log::{CallLog, KeptStep};
+use super::log::CallLog;
 use super::mix::mix;
 use super::outcome::Outcome;
+use super::past::AskedStep;
+use super::undo::{keep, undo};
 use plasma_base::NoMemory;
 use std::alloc::Global;
 use std::marker::Model;
 
 /// A disk in memory. It tells its device calls since it was made or last crashed, fails at the calls on
-/// a list and once its fuse is spent, as it foretells, and can crash.
+/// a list and once its fuse is spent, as it foretells, and can crash. It holds its bytes once, with what the
+/// writes since the last sync replaced.
 #[derive(Drop)]
 pub struct MemDisk {
     alloc: Global,
     bytes: Vec<u8>,
-    // Whether the next two were copied from the bytes, which takes memory: before the first room.
-    has_copy: bool,
-    began: Vec<u8>,
-    synced: Vec<u8>,
+    // The writes since the last sync that succeeded, by place and length, the oldest first.
     unsynced: Vec<(u64, usize)>,
+    // The bytes that they replaced, and where those of each write start.
+    replaced: Vec<u8>,
+    starts: Vec<usize>,
     log: CallLog,
 }
 
@@ -52,14 +55,14 @@ impl MemDisk {
           room = record { calls = 0; bytes = 0 };
         } }
     {
+        let log = CallLog::make(&bytes, fails);
         MemDisk {
             alloc,
             bytes,
-            has_copy: false,
-            began: Vec::new(alloc),
-            synced: Vec::new(alloc),
             unsynced: Vec::new(alloc),
-            log: CallLog::make(alloc, fails),
+            replaced: Vec::new(alloc),
+            starts: Vec::new(alloc),
+            log,
         }
     }
 
@@ -96,36 +99,41 @@ impl MemDisk {
         ensures { IfOk result (λ image. image.items ≡ image_after outcome.now self.now.history) }
     {
         match outcome {
-            Outcome::Old => Ok(self.synced().to_vec(self.alloc)?),
+            Outcome::Old => self.synced(),
             Outcome::New => Ok(self.bytes().to_vec(self.alloc)?),
             Outcome::Mix { extra, bytes } => {
-                let synced = self.synced();
+                let synced = self.synced()?;
                 let growth = (self.bytes().len() - synced.len()).min(*extra as usize);
-                mix(self.alloc, synced, &self.unsynced, bytes.as_slice(), growth)
+                mix(
+                    self.alloc,
+                    &synced,
+                    &self.unsynced,
+                    bytes.as_slice(),
+                    growth,
+                )
             }
         }
     }
 
-    // The bytes as of the last sync that succeeded, lent.
-    fn synced(&self) -> &[u8]
-        ensures value { result.now ≡ synced_content self.now.history }
-        ensures short { length result.now ≤ length (content self.now.history) }
+    // The bytes as of the last sync that succeeded, in memory of their own: the writes since are undone.
+    fn synced(&self) -> Result<Vec<u8>, NoMemory>
+        ensures value { IfOk result (λ synced. synced.items ≡ synced_content self.now.history) }
+        ensures short { IfOk result (λ synced. length synced.items ≤ length (content self.now.history)) }
     {
-        if self.has_copy {
-            &self.synced
-        } else {
-            &self.bytes
-        }
+        let mut synced = self.bytes.to_vec(self.alloc)?;
+        undo(&mut synced, &self.unsynced, &self.starts, &self.replaced);
+        Ok(synced)
     }
 
     // The disk begins anew with this image.
     fn begin_with(&mut self, image: Vec<u8>)
         ensures { self.new ≡ after_crash image.items self.old }
     {
+        self.log.begin_with(&image);
         self.bytes = image;
-        self.has_copy = false;
         self.unsynced.clear();
-        self.log.clear();
+        self.starts.clear();
+        self.replaced.clear();
     }
 }
 
@@ -152,7 +160,7 @@ impl Disk for MemDisk {
         ensures cause { self.new.faults ≡ faults_after self.old.faults (is_err result) }
         ensures after { self.new ≡ after_call self.old asks_length }
     {
-        let failed = self.log.note(KeptStep::Length, &[]);
+        let failed = self.log.note(&AskedStep::Length);
         let len = self.bytes.len() as u64;
         if failed { Err(DiskFailed) } else { Ok(len) }
     }
@@ -166,7 +174,7 @@ impl Disk for MemDisk {
         ensures after { self.new ≡ after_call self.old (reads place (length room.old)) }
     {
         let count = room.len();
-        let failed = self.log.note(KeptStep::Read { place, count }, &[]);
+        let failed = self.log.note(&AskedStep::Read { place, count });
         let start = place as usize;
         if failed {
             return Err(DiskFailed);
@@ -183,9 +191,10 @@ impl Disk for MemDisk {
         ensures cause { self.new.faults ≡ faults_after self.old.faults (is_err result) }
         ensures after { self.new ≡ after_call self.old (writes place bytes.now) }
     {
-        let count = bytes.len();
-        let failed = self.log.note(KeptStep::Write { place, count }, bytes);
-        self.unsynced.push((place, count)).unwrap();
+        let failed = self.log.note(&AskedStep::Write { place, bytes });
+        self.unsynced.push((place, bytes.len())).unwrap();
+        self.starts.push(self.replaced.len()).unwrap();
+        keep(&mut self.replaced, &self.bytes, place as usize, bytes.len());
         overwrite(&mut self.bytes, place as usize, bytes);
         answer(failed)
     }
@@ -196,12 +205,13 @@ impl Disk for MemDisk {
         ensures cause { self.new.faults ≡ faults_after self.old.faults (is_err result) }
         ensures after { self.new ≡ after_call self.old syncs }
     {
-        let failed = self.log.note(KeptStep::Sync, &[]);
+        let failed = self.log.note(&AskedStep::Sync);
         if failed {
             return Err(DiskFailed);
         }
-        bring_up_to_date(&mut self.synced, &self.bytes, &self.unsynced);
         self.unsynced.clear();
+        self.starts.clear();
+        self.replaced.clear();
         Ok(())
     }
 
@@ -209,17 +219,13 @@ impl Disk for MemDisk {
         ensures ok { OnOk result (self.new ≡ with_room calls bytes self.old) }
         ensures err { OnErr result (self.new ≡ self.old) }
     {
-        self.unsynced
-            .reserve(calls.max(self.log.room_calls()) as usize)?;
-        self.bytes
-            .reserve(bytes.max(self.log.room_bytes()) as usize)?;
-        self.synced.reserve(self.bytes.capacity())?;
-        if !self.has_copy {
-            copy_over(&mut self.began, &self.bytes)?;
-            copy_over(&mut self.synced, &self.bytes)?;
-            self.has_copy = true;
-        }
-        self.log.make_room(calls, bytes)?;
+        let more_calls = calls.max(self.log.room_calls()) as usize;
+        let more_bytes = bytes.max(self.log.room_bytes()) as usize;
+        self.unsynced.reserve(more_calls)?;
+        self.starts.reserve(more_calls)?;
+        self.bytes.reserve(more_bytes)?;
+        self.replaced.reserve(more_bytes)?;
+        self.log.make_room(calls, bytes);
         Ok(())
     }
 }

@@ -1,13 +1,22 @@
-use Rattle.std.proofs.Common.{ap, length, arith}
-use Rattle.crash_disk.specs.Disk.{content}
+use Rattle.std.proofs.Common.{◌≡◌, length, ◌∙◌, ap, arith}
+use Rattle.crash_disk.specs.Disk.{content, synced_content}
 use Rattle.crash_disk.specs.Memory.{MemState}
-use Rattle.crash_disk.specs.Inside.{began_of}
+use Rattle.crash_disk.specs.Undo.{undone}
 use Rattle.crash_disk.proofs.Images.{synced_no_longer}
 use Rattle.crash_disk.proofs.memory.MemDisk.synced.Goals as goal
 
-pub returns-then-self-clause-short : goal.returns-then-self-clause-short
-returns-then-self-clause-short c =
+pub returns-clause-short : goal.returns-clause-short
+returns-clause-short c =
     let disk = c.self.inside in
-    let is = c.self.invariant.synced c.if-self.true in
+    let history = disk.log.history in
+    let bytes : c.in_ok-synced.synced.items ≡ disk.bytes.items = c.in_ok-synced.ensures.items_if_clones_equal (λ x y e. e)
+    ∙ c.deref.ensures.value in
+    let ranges = c.deref-2.ensures.value in
+    let starts = c.deref-3.ensures.value in
+    let replaced = c.deref-4.ensures.value in
+    let synced : c.undo.new.content.items ≡ synced_content history =
+    c.undo.ensures
+    ∙ (λ i. undone (length (ranges i)) (ranges i) (starts i) (replaced i) (bytes i))
+    ∙ c.self.invariant.synced in
     let same = ap (λ (s : MemState). length (content s.history)) c.self.view_is in
-    omega (arith, ap length c.deref.ensures.value, ap length is, synced_no_longer (began_of disk) disk.log.calls, same)
+    omega (arith, ap length synced, synced_no_longer history.began history.calls, same)

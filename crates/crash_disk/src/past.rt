@@ -1,0 +1,57 @@
+ghost use Rattle.std.specs.Prelude.{◌≡◌, length};
+ghost use Rattle.std.specs.Borrow.{ftrue};
+ghost use Rattle.crash_disk.specs.Disk.{History, fresh_history, with_call};
+
+use std::marker::Model;
+
+// What a device call asks for.
+#[derive(Clone, Copy)]
+pub enum AskedStep<'a> {
+    Length,
+    Read { place: u64, count: usize },
+    Write { place: u64, bytes: &'a [u8] },
+    Sync,
+}
+
+impl AskedStep<'_> {
+    ghost use Rattle.crash_disk.specs.Memory.{bytes_of, step_of};
+
+    // How many bytes it writes.
+    pub fn bytes_written(&self) -> u64
+        ensures { result ≡ length (bytes_of (step_of self.now)) }
+    {
+        match self {
+            AskedStep::Write { place: _, bytes } => bytes.len() as u64,
+            AskedStep::Length | AskedStep::Read { place: _, count: _ } | AskedStep::Sync => 0,
+        }
+    }
+}
+
+// What a disk tells: the image that it began with and the device calls since. Only proofs read it. It takes
+// no memory, and its methods do nothing at run time.
+#[derive(Drop)]
+pub struct Past {
+    pub ghost history: { History },
+}
+
+impl Model for Past {
+    ghost also_owns = { λ _. ftrue };
+}
+
+impl Past {
+    ghost use Rattle.crash_disk.specs.Memory.{step_of};
+
+    // That of a disk that begins with this image.
+    pub fn new(image: &[u8]) -> Past
+        ensures { result.history ≡ fresh_history image.now }
+    {
+        Past {}
+    }
+
+    // This one with one more device call, and whether it failed.
+    pub fn and(&self, step: &AskedStep<'_>, failed: bool) -> Past
+        ensures { result.history ≡ with_call (step_of step.now) failed self.now.history }
+    {
+        Past {}
+    }
+}
