@@ -1,6 +1,7 @@
 -- The committed blocks one after another.
 use Rattle.std.proofs.Common.{◌≡◌, ℕ, zero, suc, ◌+◌, ◌-◌, ◌<◌, ◌≤◌, ◌^◌, not, Bool, true, false, if◌then◌else◌, List, [], ◌∷◌, ◌++◌, length, filter, Option, Some, None, Result, Ok, Err, refl, sym, ap, ◌∙◌, inl, inr, arith, append-nil}
 use Rattle.std.specs.List.{range_with_len, All, AllPairs}
+use Rattle.std.specs.Option.{option_and_then}
 use Rattle.std.proofs.lemmas.List.{get_or-map, length-map}
 use Rattle.std.proofs.lemmas.List.FromFn.{length-range_with_len, get_or-range_with_len}
 use Rattle.std.proofs.lemmas.List.Filters.{length-filter_both}
@@ -8,16 +9,21 @@ use Rattle.std.proofs.lemmas.List.Kept.{AllPairs-filter}
 use Rattle.std.proofs.lemmas.Bool.{cases_lt, lt-ltb, le-ltb}
 use Rattle.std.proofs.lemmas.List.Elements.{filter-append, All-nil, All-push}
 use Rattle.sparse_merkle.specs.declared.tree.Entry.{Entry}
+use Rattle.sparse_merkle.specs.TreeDigest.{leaf_of}
 use Rattle.plasma_tx.specs.declared.opening.RawOpening.{RawOpening}
 use Rattle.plasma_tx.specs.declared.call.RootCall.{RootCall}
 use Rattle.plasma_tx.specs.declared.views.CoinView.{CoinView}
+use Rattle.plasma_tx.specs.declared.signed_tx.SignedTx.{SignedTx}
+use Rattle.plasma_tx.specs.Shown.{root_at}
+use Rattle.plasma_tx.specs.Transfer.{transfer_in}
 use Rattle.plasma_tx.specs.Views.{blocks}
 use Rattle.coin_history.specs.History.{is_committed, committed_blocks, blocks_of}
 use Rattle.coin_history.specs.Bundles.{AreRising}
 use Rattle.coin_history.proofs.HistoryGrow.{committed-le}
 use Rattle.operator_rules.specs.declared.refusal.ProveRefusal.{ProveRefusal}
-use Rattle.operator_rules.specs.Trees.{tree_at, opening_in_tree}
-use Rattle.operator_rules.specs.Walk.{start_of, moved_by, transfer_at, place_at, present}
+use Rattle.operator_rules.specs.Trees.{tree_at, tree_of, opening_in_tree}
+use Rattle.operator_rules.specs.Walk.{Place, start_of, moved_by, transfer_at, place_at, present}
+use Rattle.operator_rules.proofs.Places.{transfer_at-idle}
 use Rattle.operator_rules.specs.Commands.{prove_by, with_opening, openings_of}
 
 -- ---- the walk
@@ -36,6 +42,29 @@ module _ (dig : List ℕ → List ℕ) (tag : List ℕ) (log : List RootCall) (s
   place-next n le =
       let e : n + 1 ≡ suc n = omega arith in
       rw (e, lt-ltb made.deposit (suc n) (omega arith)) refl
+
+  -- the place after the next block by what is found for its root
+  pub place-rooted : (n : ℕ) (root : List ℕ) (tree : Option (List Entry)) (last : Place) → made.deposit ≤ n
+      → root_at log (n + 1) ≡ Some root → tree ≡ tree_of dig sealed root
+      → last ≡ place_at dig tag log sealed coin made n
+      → moved_by (n + 1) last (option_and_then (λ tree. transfer_in tag coin (n + 1) (leaf_of tree coin)) tree)
+      ≡ place_at dig tag log sealed coin made (n + 1)
+  place-rooted n root tree last le root_is tree_is last_is =
+      let transfer : Option (List ℕ) → Option SignedTx = λ r. option_and_then
+      (λ tree. transfer_in tag coin (n + 1) (leaf_of tree coin)) (option_and_then (tree_of dig sealed) r) in
+      ap (λ (found : Option (List Entry)). moved_by (n + 1) last (option_and_then
+      (λ tree. transfer_in tag coin (n + 1) (leaf_of tree coin)) found)) tree_is
+      ∙ ap (λ (place : Place). moved_by (n + 1) place (transfer (Some root))) last_is
+      ∙ ap (λ (r : Option (List ℕ)). moved_by (n + 1) (place_at dig tag log sealed coin made n) (transfer r))
+      (sym root_is)
+      ∙ sym (place-next n le)
+
+  -- and after one without a root
+  pub place-idle : (n : ℕ) → made.deposit ≤ n → root_at log (n + 1) ≡ None
+      → place_at dig tag log sealed coin made n ≡ place_at dig tag log sealed coin made (n + 1)
+  place-idle n le none =
+      sym (ap (moved_by (n + 1) (place_at dig tag log sealed coin made n))
+      (transfer_at-idle dig tag coin log sealed (n + 1) none)) ∙ sym (place-next n le)
 
   pub place-last : (n : ℕ) → made.deposit ≤ n → blocks log ≤ n → (made.deposit < n → n ≤ blocks log)
       → place_at dig tag log sealed coin made n ≡ present dig tag log sealed coin made

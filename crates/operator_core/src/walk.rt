@@ -1,8 +1,11 @@
 ghost use Rattle.std.specs.Prelude.{◌≡◌, IfOk, IfSome, option_map, is_some};
+ghost use Rattle.std.specs.Option.{option_and_then};
+ghost use Rattle.sparse_merkle.specs.TreeDigest.{leaf_of};
 ghost use Rattle.plasma_tx.specs.Shown.{root_at};
+ghost use Rattle.plasma_tx.specs.Transfer.{transfer_in};
 ghost use Rattle.coin_history.specs.History.{is_committed};
-ghost use Rattle.operator_rules.specs.Trees.{tree_at};
-ghost use Rattle.operator_rules.specs.Walk.{moved_by, transfer_at, present};
+ghost use Rattle.operator_rules.specs.Trees.{tree_at, tree_of};
+ghost use Rattle.operator_rules.specs.Walk.{moved_by, present};
 ghost use Rattle.operator_core.specs.Tips.{place_of_tip};
 
 use super::trees::Trees;
@@ -51,24 +54,6 @@ pub fn tree_at<'a, H: Hash32 + Copy>(
     }
 }
 
-// The transfer of the coin that the tree of block n has.
-fn transfer_at<H: Hash32 + Copy>(
-    alloc: Global,
-    trees: &Trees<H>,
-    log: &RootLog,
-    tag: &[u8; 32],
-    coin: u64,
-    n: u64,
-) -> Result<Option<SignedTx>, NoMemory>
-    ensures { IfOk result (λ found. found
-        ≡ transfer_at (H.digest_of trees.now.hash) tag.now log.now.log trees.now.sealed coin n) }
-{
-    match tree_at(trees, log, n) {
-        Some(tree) => leaf_tx(alloc, tag, coin, n, tree.leaf(coin)),
-        None => Ok(None),
-    }
-}
-
 // The place after block n with this transfer of the coin. A signature is tested only where the transfer
 // spends the place.
 fn moved_by(log: &RootLog, n: u64, last: Tip, tx: Option<SignedTx>) -> Tip
@@ -80,6 +65,58 @@ fn moved_by(log: &RootLog, n: u64, last: Tip, tx: Option<SignedTx>) -> Tip
             owner: tx.body.to,
         },
         _ => last,
+    }
+}
+
+// The place after block n, whose root has this tree.
+fn after_tree<H: Hash32 + Copy>(
+    alloc: Global,
+    log: &RootLog,
+    tag: &[u8; 32],
+    coin: u64,
+    n: u64,
+    last: Tip,
+    tree: Option<&PagedTree<H>>,
+) -> Result<Tip, NoMemory>
+    ensures { IfOk result (λ tip. place_of_tip tip ≡ moved_by n (place_of_tip last)
+        (option_and_then (λ tree. transfer_in tag.now coin n (leaf_of tree coin))
+        (option_map (λ tree. tree.now.entries) tree.entry))) }
+{
+    let Some(tree) = tree else {
+        return Ok(last);
+    };
+    let leaf = tree.leaf(coin);
+    if leaf.is_empty() {
+        return Ok(last);
+    }
+    Ok(moved_by(log, n, last, leaf_tx(alloc, tag, coin, n, leaf)?))
+}
+
+// The root that a tree was looked for by, and what was found. Many blocks in a row may have one root.
+#[derive(Drop)]
+struct Sought<'a, H: Hash32 + Copy> {
+    root: [u8; 32],
+    tree: Option<&'a PagedTree<H>>,
+}
+
+// What is found by a root, which isn't looked for again where it was looked for last.
+fn look_again<'a, H: Hash32 + Copy>(
+    trees: &'a Trees<H>,
+    last: Sought<'a, H>,
+    root: [u8; 32],
+) -> Sought<'a, H>
+    requires { option_map (λ tree. tree.now.entries) last.tree
+        ≡ tree_of (H.digest_of trees.now.hash) trees.now.sealed last.root }
+    ensures tree { option_map (λ tree. tree.now.entries) result.tree
+        ≡ tree_of (H.digest_of trees.now.hash) trees.now.sealed root }
+    ensures root { result.root ≡ root }
+{
+    if last.root == root {
+        return last;
+    }
+    Sought {
+        root,
+        tree: trees.find(&root),
     }
 }
 
@@ -99,9 +136,16 @@ pub fn present<H: Hash32 + Copy>(
         block: made.deposit,
         owner: made.owner,
     };
+    let mut found = Sought {
+        root: [0; 32],
+        tree: trees.find(&[0; 32]),
+    };
     'way: for before in made.deposit..log.blocks() {
         let n = before + 1;
-        tip = moved_by(log, n, tip, transfer_at(alloc, trees, log, tag, coin, n)?);
+        if let Some(root) = root_at(log, n) {
+            found = look_again(trees, found, root);
+            tip = after_tree(alloc, log, tag, coin, n, tip, found.tree)?;
+        }
     }
     Ok(tip)
 }

@@ -1,28 +1,37 @@
-use Rattle.std.proofs.Common.{◌+◌, sym, ap, ◌∙◌, arith}
-use Rattle.operator_rules.specs.Walk.{Place, moved_by, transfer_at}
+use Rattle.std.proofs.Common.{sym, ap, ◌∙◌, arith}
+use Rattle.operator_rules.specs.Trees.{tree_of}
 use Rattle.operator_core.specs.Tips.{place_of_tip}
-use Rattle.operator_core.proofs.Ways.{place-early, place-next, place-last}
+use Rattle.operator_core.proofs.Ways.{place-early, place-rooted, place-idle, place-last}
 use Rattle.operator_core.proofs.walk.present.Goals as goal
+use Rattle.operator_core.proofs.walk.present.Goals.{in-Some+in_ok-tip, in_default}
 
 pub way-init : goal.way-init
 way-init g c = record {
   place = sym (place-early (g.H.Hash32.digest_of c.args.trees.now.hash) c.args.tag.now c.args.log.now.log
       c.args.trees.now.sealed c.args.coin c.args.made.now c.args.made.now.deposit (omega arith));
   within = λ lt. absurd (omega arith);
+  found = c.find.ensures.found;
 }
 
 pub way-preserved : goal.way-preserved
 way-preserved g c =
     let dig = g.H.Hash32.digest_of c.args.trees.now.hash in
     record {
-      place = c.moved_by-tip.ensures
-          ∙ ap (λ (tx : _). moved_by (c.way.before + 1) (place_of_tip c.way.tip) tx) c.in_ok-transfer_at.ensures
-          ∙ ap (λ (place : Place). moved_by (c.way.before + 1) place
-          (transfer_at dig c.args.tag.now c.args.log.now.log c.args.trees.now.sealed c.args.coin (c.way.before + 1)))
-          c.way.invariant.place
-          ∙ sym (place-next dig c.args.tag.now c.args.log.now.log c.args.trees.now.sealed c.args.coin c.args.made.now
-          c.way.before (omega arith));
+      place = elim c.match-root_at.branch [
+        | in-Some+in_ok-tip w ↦ rw w.tip-is (w.in_ok-tip.ensures
+            ∙ place-rooted dig c.args.tag.now c.args.log.now.log c.args.trees.now.sealed c.args.coin c.args.made.now
+            c.way.before w.in-Some.root _ (place_of_tip c.way.tip) (omega arith) (sym w.in-Some.ensures)
+            w.look_again-found.ensures.tree c.way.invariant.place)
+        | in_default w ↦ rw w.tip-is (c.way.invariant.place
+            ∙ place-idle dig c.args.tag.now c.args.log.now.log c.args.trees.now.sealed c.args.coin c.args.made.now
+            c.way.before (omega arith) (sym c.root_at.ensures ∙ w.in_default.is))
+      ];
       within = λ lt. rw (← c.blocks-before-end.ensures.is) (omega arith);
+      found = elim c.match-root_at.branch [
+        | in-Some+in_ok-tip w ↦ rw w.found-is (w.look_again-found.ensures.tree
+            ∙ ap (tree_of dig c.args.trees.now.sealed) (sym w.look_again-found.ensures.root))
+        | in_default w ↦ rw w.found-is c.way.invariant.found
+      ];
     }
 
 pub returns : goal.returns
