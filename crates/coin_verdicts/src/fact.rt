@@ -13,13 +13,13 @@ pub enum Fact {
     /// This wallet was declared, which is this owner.
     Declares {
         wallet: u64,
-        owner: Owner,
+        owner: KeptOwner,
     },
     /// An accepted deposit made this coin in this block, to this owner.
     Deposits {
         coin: u64,
         block: u64,
-        owner: Owner,
+        owner: KeptOwner,
     },
     /// An accepted tick met a deadline of each of these coins, and of no other.
     Ticks {
@@ -75,6 +75,38 @@ pub enum Fact {
     },
     /// Any other line.
     Idle,
+}
+
+/// An owner in memory of its own, since a fact is kept of each line, and few have an owner. Contracts see the owner.
+#[derive(Debug, Drop)]
+pub struct KeptOwner {
+    owner: Box<Owner>,
+}
+
+impl Model for KeptOwner {
+    ghost use Rattle.plasma_tx.specs.declared.owner.Owner.{Owner};
+
+    ghost Value = { Owner };
+
+    ghost view = { λ k. k.owner.value };
+}
+
+impl KeptOwner {
+    /// Keeps an owner.
+    pub fn new(alloc: Global, owner: Owner) -> Result<KeptOwner, NoMemory>
+        ensures { IfOk result (λ kept. kept ≡ owner) }
+    {
+        Ok(KeptOwner {
+            owner: Box::new(alloc, owner)?,
+        })
+    }
+
+    /// The owner.
+    pub fn get(&self) -> Owner
+        ensures { result ≡ self.now }
+    {
+        *self.owner
+    }
 }
 
 /// Numbers, which contracts see as a list.

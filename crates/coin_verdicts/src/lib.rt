@@ -12,7 +12,7 @@ mod signers;
 mod standing;
 mod wallet;
 
-pub use fact::{Fact, Numbers};
+pub use fact::{Fact, KeptOwner, Numbers};
 pub use laws::owners_stay_in_runs;
 pub use run::verdicts;
 pub use wallet::NamedWallet;

@@ -62,7 +62,7 @@ impl Reading {
                 self.release(*watcher, *coin, *tip);
                 Ok(())
             }
-            Fact::Deposits { coin, block, owner } => self.deposit(line, *coin, *block, *owner),
+            Fact::Deposits { coin, block, owner } => self.deposit(line, *coin, *block, owner.get()),
             Fact::Ticks { met } => self.tick(line, met),
             Fact::Ends {
                 coin,

@@ -112,7 +112,7 @@ fn declared(fact: &Fact, wallet: u64, line: u64) -> Option<Holder>
         } if *number == wallet => Some(Holder {
             wallet,
             since: line,
-            owner: *owner,
+            owner: owner.get(),
         }),
         _ => None,
     }

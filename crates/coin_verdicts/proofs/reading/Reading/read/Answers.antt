@@ -25,7 +25,7 @@ returns-in-Joins c count facts is keeps =
     c.clear.ensures refl (λ coin. same-book (book_at c.args.self.now.books coin)))
 
 pub returns-in-Deposits : goal.returns-in-Deposits
-returns-in-Deposits c = rw c.in-Deposits.is c.deposit.ensures
+returns-in-Deposits c = rw (c.in-Deposits.is, ← c.get.ensures) c.deposit.ensures
 
 pub returns-in-Guards : goal.returns-in-Guards
 returns-in-Guards c = rw c.in-Guards.is (c.guard.ensures c.args.line)
