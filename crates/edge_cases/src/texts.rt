@@ -1,9 +1,9 @@
 use coin_history::HistoryRefusal;
+use node_replies::history_cause;
 use plasma_base::{NoMemory, Sha, lent_digest, put_hex, sha_digest, toy_digest};
 use root_log::{print_chain, read_chain};
 use std::alloc::Global;
 use std::test::Fail;
-use world_rules::history_cause;
 
 /// Whether the bytes have this hex.
 pub fn is_hex(alloc: Global, bytes: &[u8], hex: &str) -> Result<bool, NoMemory> {

@@ -3,7 +3,7 @@ use Rattle.std.proofs.Common.{◌≡◌, List, ℕ, Some, Result, Ok, Err, inr, 
 use Rattle.std.specs.Prelude.{IsErrAnd}
 use Rattle.node_journal.specs.declared.stop.Stop.{Stop}
 use Rattle.node_journal.specs.declared.stop.Stop.TheVariants.{Closed, NoMemory, DeviceFault}
-use Rattle.world_rules.specs.declared.reply.Reply.{Reply}
+use Rattle.node_replies.specs.declared.reply.Reply.{Reply}
 use Rattle.node_answers.specs.declared.said.Said.{Said}
 use Rattle.node_answers.specs.Answers.{said_by, StopsIn}
 

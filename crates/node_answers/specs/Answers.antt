@@ -9,16 +9,13 @@ use Rattle.wallet_core.specs.declared.coin_state.CoinState.{CoinState}
 use Rattle.wallet_core.specs.declared.coin_state.CoinState.TheVariants.{Nothing, Sending, Leaving, Held}
 use Rattle.node_rules.specs.Wallet.{WalletRecords, who, coin_state}
 use Rattle.node_rules.specs.WalletRecords.{owner_of}
-use Rattle.world_rules.specs.declared.reply.Reply.{Reply}
-use Rattle.world_rules.specs.Causes.{phrase}
-use Rattle.world_rules.specs.Deeds.{Gives, Deed}
-use Rattle.world_rules.specs.Texts.{reply_text}
-use Rattle.wallet_deeds.specs.declared.order.WalletOrder.{WalletOrder}
-use Rattle.wallet_deeds.specs.Orders.{order_deed as wallet_deed}
-use Rattle.watcher_deeds.specs.declared.order.WatcherOrder.{WatcherOrder}
-use Rattle.watcher_deeds.specs.Orders.{order_deed as watcher_deed}
-use Rattle.operator_deeds.specs.declared.order.OperatorOrder.{OperatorOrder}
-use Rattle.operator_deeds.specs.Orders.{order_deed as operator_deed}
+use Rattle.node_replies.specs.declared.reply.Reply.{Reply}
+use Rattle.node_replies.specs.Causes.{phrase}
+use Rattle.node_replies.specs.Orders.{Response, Doing, wallet_does, watcher_does, operator_does}
+use Rattle.node_replies.specs.Texts.{reply_text}
+use Rattle.node_replies.specs.declared.order.WalletOrder.{WalletOrder}
+use Rattle.node_replies.specs.declared.order.WatcherOrder.{WatcherOrder}
+use Rattle.node_replies.specs.declared.order.OperatorOrder.{OperatorOrder}
 use Rattle.node_lines.specs.declared.wallet_line.WalletLine.{WalletLine}
 use Rattle.node_lines.specs.declared.watcher_line.WatcherLine.{WatcherLine}
 use Rattle.node_lines.specs.declared.operator_line.OperatorLine.{OperatorLine}
@@ -41,8 +38,9 @@ abbrev pub offer_text : RootCall → List ℕ
 offer_text call = call_text call ++ 10 ∷ []
 
 -- the answer, what is made, and what is offered
-unfoldable pub given_text : Gives → List ℕ
-given_text gives = (reply_text gives.reply ++ 10 ∷ []) ++ made_text gives.made ++ flat_map offer_text gives.offers
+unfoldable pub given_text : Response → List ℕ
+given_text response =
+    (reply_text response.reply ++ 10 ∷ []) ++ made_text response.made ++ flat_map offer_text response.offers
 
 -- what a coin is to a wallet
 abbrev pub state_words : CoinState → List ℕ
@@ -58,8 +56,8 @@ abbrev pub said_by : Reply → List ℕ → Result (List ℕ) (List ℕ)
 said_by (Reply.Refused cause) text = Err cause
 said_by reply text = Ok text
 
-abbrev pub said : Deed → Result (List ℕ) (List ℕ)
-said deed = said_by deed.gives.reply (given_text deed.gives)
+abbrev pub said : Response → Result (List ℕ) (List ℕ)
+said response = said_by response.reply (given_text response)
 
 -- its answer, and the record that it adds to the node's notes, or to its leaves
 pub record Outcome : Type 0 where
@@ -67,8 +65,8 @@ pub record Outcome : Type 0 where
   pub note : Option (List ℕ)
   pub leaf : Option (List ℕ)
 
-abbrev pub outcome_of : Deed → Outcome
-outcome_of deed = record { says = said deed; note = deed.note; leaf = deed.leaf }
+abbrev pub outcome_of : Doing → Outcome
+outcome_of doing = record { says = said doing.response; note = doing.note; leaf = doing.leaf }
 
 -- a text that tells of the node, and adds nothing
 abbrev pub tells : List ℕ → Outcome
@@ -109,7 +107,7 @@ wallet_ask WalletLine.Who = WalletAsk.Who
 
 -- what it comes to by the records of the wallet, behind this log
 abbrev pub asked : (List ℕ → List ℕ) → List RootCall → WalletRecords → WalletAsk → Outcome
-asked dig log wallet (WalletAsk.Order order) = outcome_of (wallet_deed dig log 0 wallet order)
+asked dig log wallet (WalletAsk.Order order) = outcome_of (wallet_does dig log wallet order)
 asked dig log wallet (WalletAsk.State coin) = tells (state_words (coin_state dig wallet log coin))
 asked dig log wallet WalletAsk.Who = tells (hex_text (owner_text (owner_of (who wallet))))
 
@@ -118,11 +116,11 @@ wallet_outcome dig log wallet line = asked dig log wallet (wallet_ask line)
 
 -- what a watcher's command comes to
 unfoldable pub watcher_outcome : (List ℕ → List ℕ) → List RootCall → List (List ℕ) → WatcherLine → Outcome
-watcher_outcome dig log notes line = outcome_of (watcher_deed dig log 0 notes (watcher_order line))
+watcher_outcome dig log notes line = outcome_of (watcher_does dig log notes (watcher_order line))
 
 -- what an operator's comes to that has no key: neither a receipt nor a migration is to be had there
 abbrev pub keyless : (List ℕ → List ℕ) → List RootCall → List (List ℕ) → OperatorAsk → Outcome
-keyless dig log notes (OperatorAsk.Order order) = outcome_of (operator_deed dig log 0 notes order)
+keyless dig log notes (OperatorAsk.Order order) = outcome_of (operator_does dig log notes order)
 keyless dig log notes ask = refuses (codes "no-key")
 
 unfoldable pub operator_outcome : (List ℕ → List ℕ) → List RootCall → List (List ℕ) → OperatorLine → Outcome

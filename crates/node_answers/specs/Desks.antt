@@ -14,8 +14,8 @@ use Rattle.receipt_audit.specs.declared.issuing.Receipt.{Receipt}
 use Rattle.receipt_audit.specs.declared.refusal.IssueRefusal.{IssueRefusal}
 use Rattle.receipt_audit.specs.declared.refusal.IssueRefusal.TheVariants.{BadDue, OldJournal, KeySpent, Offer, DeviceFault, Closed, NoMemory}
 use Rattle.receipt_audit.specs.Desk.{desk_secret, IssueEffect, issue_effect, IssueStop, AtOperator, AtDesk}
-use Rattle.world_rules.specs.Causes.{phrase, offer_cause, device_fault, closed, no_memory}
-use Rattle.operator_deeds.specs.Orders.{order_deed}
+use Rattle.node_replies.specs.Causes.{phrase, offer_cause, device_fault, closed, no_memory}
+use Rattle.node_replies.specs.Orders.{operator_does}
 use Rattle.node_lines.specs.declared.operator_line.OperatorLine.{OperatorLine}
 use Rattle.node_answers.specs.declared.operator.OperatorAsk.{OperatorAsk}
 use Rattle.node_answers.specs.Answers.{Outcome, outcome_of, operator_ask}
@@ -86,7 +86,7 @@ migration_outcome marked = record {
 
 -- by the records of both, and the log; one digest is that of openings and of promises
 abbrev pub keyed : (List ℕ → List ℕ) → List RootCall → DeskRecords → OperatorAsk → Outcome
-keyed dig log desk (OperatorAsk.Order order) = outcome_of (order_deed dig log 0 desk.notes order)
+keyed dig log desk (OperatorAsk.Order order) = outcome_of (operator_does dig log desk.notes order)
 keyed dig log desk (OperatorAsk.Receipt transfer due) =
     issue_outcome (blocks log) due
     (issue_effect dig dig (secret_of desk.notes) desk.notes desk.leaves log transfer due)

@@ -1,5 +1,5 @@
 ghost use Rattle.std.specs.Prelude.{◌≡◌, false, IfOk, OnErr};
-ghost use Rattle.operator_deeds.specs.Orders.{order_deed};
+ghost use Rattle.node_replies.specs.Orders.{operator_does};
 ghost use Rattle.node_answers.specs.Answers.{operator_ask, outcome_of, operator_outcome, IsSaid};
 ghost use Rattle.node_answers.specs.Doing.{DidNotes};
 
@@ -7,8 +7,9 @@ use super::said::{Said, put_given, refused};
 use crash_disk::Disk;
 use node_journal::Stop;
 use node_lines::OperatorLine;
+use node_replies::OperatorOrder;
 use operator_core::Operator;
-use operator_deeds::{OperatorOrder, run};
+use operator_deeds::run;
 use plasma_base::{Bytes, Hash32};
 use plasma_tx::RootLog;
 use std::alloc::Global;
@@ -51,9 +52,9 @@ pub fn answer_order<D: Disk, H: Hash32 + Copy>(
     text: &mut Vec<u8>,
 ) -> Result<Said, Stop>
     requires { node.old.notes.closed ≡ false }
-    ensures said { IfOk result (λ said. IsSaid (outcome_of (order_deed (H.digest_of node.old.hash) log.now.log 0
+    ensures said { IfOk result (λ said. IsSaid (outcome_of (operator_does (H.digest_of node.old.hash) log.now.log
         node.old.notes.records order.now)).says said text.old.items text.new.items) }
-    ensures did { DidNotes D.told D.plan D.faults (order_deed (H.digest_of node.old.hash) log.now.log 0
+    ensures did { DidNotes D.told D.plan D.faults (operator_does (H.digest_of node.old.hash) log.now.log
         node.old.notes.records order.now).note node.old.notes result node.new.notes }
     ensures untold { OnErr result (text.new.items ≡ text.old.items) }
     ensures hash { node.new.hash ≡ node.old.hash }

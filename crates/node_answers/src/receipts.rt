@@ -1,16 +1,16 @@
 ghost use Rattle.std.specs.Prelude.{◌≡◌, ◌++◌, [], ◌∷◌, Err, IfOk, codes, option_map};
 ghost use Rattle.plasma_base.specs.HexText.{hex_text};
-ghost use Rattle.world_rules.specs.Causes.{phrase};
+ghost use Rattle.node_replies.specs.Causes.{phrase};
 ghost use Rattle.receipt_audit.specs.Desk.{issue_stop};
 ghost use Rattle.node_answers.specs.Desks.{issue_cause, stop_at};
 
 use super::said::push_phrase;
 use node_journal::Stop;
+use node_replies::offer_cause;
 use operator_rules::OfferRefusal;
 use plasma_base::{Bytes, NoMemory, push_hex};
 use receipt_audit::{IssueRefusal, Receipt};
 use std::alloc::Global;
-use world_rules::offer_cause;
 
 /// What stopped an issue that was refused for this, if anything did.
 pub fn stop_of(why: &IssueRefusal) -> Option<Stop>

@@ -1,17 +1,17 @@
 ghost use Rattle.std.specs.Prelude.{◌≡◌, ◌++◌, ◌∷◌, [], Ok, IfOk, OnOk, OnErr};
 ghost use Rattle.std.specs.List.{flat_map};
-ghost use Rattle.world_rules.specs.Causes.{phrase};
-ghost use Rattle.world_rules.specs.Deeds.{Gives};
-ghost use Rattle.world_rules.specs.Given.{IsGiven};
+ghost use Rattle.node_replies.specs.Causes.{phrase};
+ghost use Rattle.node_replies.specs.Orders.{Response};
+ghost use Rattle.node_replies.specs.Given.{IsGiven};
 ghost use Rattle.node_answers.specs.declared.said.Said.{Said};
-ghost use Rattle.node_answers.specs.Answers.{made_text, offer_text, given_text, said_by, IsSaid};
+ghost use Rattle.node_answers.specs.Answers.{made_text, offer_text, given_text, said, IsSaid};
 
 use line_forms::push_number;
+use node_replies::{Given, Reply, print_reply};
 use plasma_base::{Bytes, NoMemory, push_hex};
 use plasma_tx::RootCall;
 use root_log::print_call;
 use std::alloc::Global;
-use world_rules::{Given, Reply, print_reply};
 
 /// What a node's command came to.
 #[derive(Debug, Drop)]
@@ -76,8 +76,9 @@ fn push_given(
     made: &[u8],
     offers: &[RootCall],
 ) -> Result<(), NoMemory>
-    ensures { (gives : Gives) → reply.now ≡ gives.reply → made.now ≡ gives.made → offers.now ≡ gives.offers
-        → OnOk result (out.new.items ≡ out.old.items ++ given_text gives) }
+    ensures { (response : Response)
+        → reply.now ≡ response.reply → made.now ≡ response.made → offers.now ≡ response.offers
+        → OnOk result (out.new.items ≡ out.old.items ++ given_text response) }
 {
     print_reply(reply, out)?;
     out.push(b'\n')?;
@@ -93,8 +94,9 @@ fn put_answer(
     offers: &[RootCall],
     text: &mut Vec<u8>,
 ) -> Result<(), NoMemory>
-    ensures ok { (gives : Gives) → reply.now ≡ gives.reply → made.now ≡ gives.made → offers.now ≡ gives.offers
-        → OnOk result (text.new.items ≡ text.old.items ++ given_text gives) }
+    ensures ok { (response : Response)
+        → reply.now ≡ response.reply → made.now ≡ response.made → offers.now ≡ response.offers
+        → OnOk result (text.new.items ≡ text.old.items ++ given_text response) }
     ensures untold { OnErr result (text.new.items ≡ text.old.items) }
 {
     let mut out = Vec::new(alloc);
@@ -105,8 +107,8 @@ fn put_answer(
 
 /// Puts what a command gave out at the end, unless it was refused. Where memory runs out the text stays.
 pub fn put_given(alloc: Global, given: Given, text: &mut Vec<u8>) -> Result<Said, NoMemory>
-    ensures said { (gives : Gives) → IsGiven gives given
-        → IfOk result (λ said. IsSaid (said_by gives.reply (given_text gives)) said text.old.items text.new.items) }
+    ensures said { (response : Response) → IsGiven response given
+        → IfOk result (λ told. IsSaid (said response) told text.old.items text.new.items) }
     ensures untold { OnErr result (text.new.items ≡ text.old.items) }
 {
     let Given {

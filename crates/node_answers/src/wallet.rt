@@ -3,7 +3,7 @@ ghost use Rattle.plasma_base.specs.HexText.{hex_text};
 ghost use Rattle.plasma_tx.specs.Spelling.{owner_text};
 ghost use Rattle.node_rules.specs.Wallet.{who};
 ghost use Rattle.node_rules.specs.WalletRecords.{owner_of};
-ghost use Rattle.wallet_deeds.specs.Orders.{order_deed};
+ghost use Rattle.node_replies.specs.Orders.{wallet_does};
 ghost use Rattle.node_answers.specs.Answers.{state_words, wallet_ask, outcome_of, wallet_outcome, IsSaid};
 ghost use Rattle.node_answers.specs.Doing.{DidWallet};
 
@@ -11,11 +11,12 @@ use super::said::{Said, push_phrase, put_given, put_words};
 use crash_disk::Disk;
 use node_journal::Stop;
 use node_lines::WalletLine;
+use node_replies::WalletOrder;
 use plasma_base::{Hash32, NoMemory, push_hex};
 use plasma_tx::RootLog;
 use std::alloc::Global;
 use wallet_core::CoinState;
-use wallet_deeds::{WalletOrder, run};
+use wallet_deeds::run;
 use wallet_node::WalletNode;
 
 /// What a command of a wallet asks for: an order, what a coin is to it, or who it is.
@@ -67,10 +68,10 @@ fn answer_order<D: Disk, H: Hash32 + Copy>(
     text: &mut Vec<u8>,
 ) -> Result<Said, Stop>
     requires { node.old.closed ≡ false }
-    ensures said { IfOk result (λ said. IsSaid (outcome_of (order_deed (H.digest_of node.old.hash) log.now.log 0
+    ensures said { IfOk result (λ said. IsSaid (outcome_of (wallet_does (H.digest_of node.old.hash) log.now.log
         node.old.records order.now)).says said text.old.items text.new.items) }
-    ensures did { DidWallet D.told D.plan D.faults (order_deed (H.digest_of node.old.hash) log.now.log 0
-        node.old.records order.now).leaf (order_deed (H.digest_of node.old.hash) log.now.log 0
+    ensures did { DidWallet D.told D.plan D.faults (wallet_does (H.digest_of node.old.hash) log.now.log
+        node.old.records order.now).leaf (wallet_does (H.digest_of node.old.hash) log.now.log
         node.old.records order.now).note node.old result node.new }
     ensures untold { OnErr result (text.new.items ≡ text.old.items) }
 {

@@ -6,10 +6,11 @@ use super::said::{Said, put_given};
 use crash_disk::Disk;
 use node_journal::Stop;
 use node_lines::WatcherLine;
+use node_replies::WatcherOrder;
 use plasma_base::Hash32;
 use plasma_tx::RootLog;
 use std::alloc::Global;
-use watcher_deeds::{WatcherOrder, run};
+use watcher_deeds::run;
 use watcher_node::WatcherNode;
 
 // The order that a line is.

@@ -12,7 +12,7 @@ use Rattle.operator_rules.specs.Records.{operator_kinds, who_is}
 use Rattle.operator_rules.specs.Commands.{forest_in, offer_effect}
 use Rattle.receipt_audit.specs.declared.refusal.IssueRefusal.{IssueRefusal}
 use Rattle.receipt_audit.specs.Desk.{IssueEffect, issue_effect, issue_or, receipt_or, record_or}
-use Rattle.operator_deeds.specs.Orders.{order_deed}
+use Rattle.node_replies.specs.Orders.{operator_does}
 use Rattle.node_lines.specs.declared.operator_line.OperatorLine.{OperatorLine}
 use Rattle.node_answers.specs.Answers.{operator_outcome}
 use Rattle.node_answers.specs.Desks.{DeskRecords, desk_outcome, issue_outcome, migration_outcome, secret_of}
@@ -69,7 +69,7 @@ migration-quiet false cause is = cc
 
 pub desk-quiet : (dig : List ℕ → List ℕ) (log : List RootCall) (desk : DeskRecords) (line : OperatorLine)
     → AddsNeitherRefused (desk_outcome dig log desk line)
-unfolding desk_outcome operator_outcome order_deed
+unfolding desk_outcome operator_outcome operator_does
 desk-quiet dig log desk (OperatorLine.Receipt bytes due) = issue-quiet dig log desk bytes due
 desk-quiet dig log desk OperatorLine.Migrate = migration-quiet (is_marked desk.leaves)
 desk-quiet dig log desk (OperatorLine.Offer bytes) =

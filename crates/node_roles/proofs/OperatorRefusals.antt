@@ -14,9 +14,8 @@ use Rattle.operator_rules.specs.Trees.{Forest, is_waiting}
 use Rattle.operator_rules.specs.Walk.{present}
 use Rattle.operator_rules.specs.Records.{Offered, Laid, note_text, operator_kinds, who_is}
 use Rattle.operator_rules.specs.Commands.{forest_in, offer_causes, offer_at, offer_of, offer_effect, lay_effect, seal_effect}
-use Rattle.world_rules.specs.Causes.{offer_cause, lay_cause, seal_cause}
-use Rattle.world_rules.specs.Deeds.{on_pooled, on_laid, on_sealed}
-use Rattle.operator_deeds.specs.Orders.{order_deed}
+use Rattle.node_replies.specs.Causes.{offer_cause, lay_cause, seal_cause}
+use Rattle.node_replies.specs.Orders.{on_pooled, on_laid, on_sealed, operator_does}
 use Rattle.node_lines.specs.declared.operator_line.OperatorLine.{OperatorLine}
 use Rattle.node_answers.specs.Answers.{operator_outcome}
 use Rattle.node_roles.proofs.Refusals.{AddsNothingRefused, refused-by, unless-quiet, second-quiet}
@@ -42,17 +41,17 @@ offer-quiet dig tag log forest bytes (Ok tx) why is =
 
 pub operator-quiet : (dig : List ℕ → List ℕ) (log : List RootCall) (notes : List (List ℕ)) (line : OperatorLine)
     → AddsNothingRefused (operator_outcome dig log notes line)
-unfolding operator_outcome order_deed offer_effect lay_effect seal_effect
+unfolding operator_outcome operator_does offer_effect lay_effect seal_effect
 operator-quiet dig log notes (OperatorLine.Offer bytes) cause is =
-    refused-by 0 offer_cause (on_pooled 0) (offer_effect dig notes log bytes).answer
+    refused-by offer_cause on_pooled (offer_effect dig notes log bytes).answer
     ((offer_effect dig notes log bytes).note ≡ None) cause (λ a why wrong. cc)
     (offer-quiet dig (who_is notes).tag log (forest_in notes) bytes (signed_in (who_is notes).tag bytes)) is
 operator-quiet dig log notes (OperatorLine.Lay coin bytes) cause is =
-    refused-by 0 lay_cause (on_laid 0 coin) (lay_effect coin bytes).answer ((lay_effect coin bytes).note ≡ None) cause
+    refused-by lay_cause (on_laid coin) (lay_effect coin bytes).answer ((lay_effect coin bytes).note ≡ None) cause
     (λ a why wrong. cc)
     (λ why. second-quiet (nat_lt MOST_LAID (length bytes)) tt (Some (note_text (Laid coin bytes))) _ why) is
 operator-quiet dig log notes OperatorLine.Seal cause is =
-    refused-by 0 seal_cause on_sealed (seal_effect dig notes).answer ((seal_effect dig notes).note ≡ None) cause
+    refused-by seal_cause on_sealed (seal_effect dig notes).answer ((seal_effect dig notes).note ≡ None) cause
     (λ a why wrong. cc) (λ why wrong. cc) is
 operator-quiet dig log notes (OperatorLine.Bundle coin tip) cause is = refl
 operator-quiet dig log notes (OperatorLine.Prove coin block) cause is = refl

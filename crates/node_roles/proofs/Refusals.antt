@@ -1,8 +1,8 @@
 -- A refused command adds nothing, where its effect does so.
 use Rattle.std.proofs.Common.{◌≡◌, ℕ, Bool, true, false, if◌then◌else◌, List, Option, Some, None, Result, Ok, Err, refl}
 use Rattle.node_journal.specs.Effect.{Effect, only, unless}
-use Rattle.world_rules.specs.declared.reply.Reply.{Reply}
-use Rattle.world_rules.specs.Deeds.{Gives, answered}
+use Rattle.node_replies.specs.declared.reply.Reply.{Reply}
+use Rattle.node_replies.specs.Orders.{Response, answered}
 use Rattle.node_answers.specs.Answers.{said_by, given_text, Outcome}
 
 -- of a command that adds notes alone; and of a wallet's, or of an operator's with a desk, which may add a leaf's record
@@ -19,12 +19,12 @@ no-refusal (Reply.Refused why) text cause none is = none why refl
 no-refusal reply text cause none is = cc
 
 -- what holds of each refusal of an answer holds where its text is one
-pub refused-by : {A E : Type 0} (n : ℕ) (cause_of : E → List ℕ) (give : A → Gives) (answer : Result A E)
+pub refused-by : {A E : Type 0} (cause_of : E → List ℕ) (give : A → Response) (answer : Result A E)
     (P : Type 0) (cause : List ℕ) → ((a : A) (why : List ℕ) → (give a).reply ≡ Reply.Refused why → ⊥)
     → ((why : E) → answer ≡ Err why → P)
-    → said_by (answered n cause_of give answer).reply (given_text (answered n cause_of give answer)) ≡ Err cause → P
-refused-by n cause_of give (Ok a) P cause none quiet is = absurd (no-refusal _ _ cause (none a) is)
-refused-by n cause_of give (Err why) P cause none quiet is = quiet why refl
+    → said_by (answered cause_of give answer).reply (given_text (answered cause_of give answer)) ≡ Err cause → P
+refused-by cause_of give (Ok a) P cause none quiet is = absurd (no-refusal _ _ cause (none a) is)
+refused-by cause_of give (Err why) P cause none quiet is = quiet why refl
 
 -- a command that is refused for the first cause that holds
 pub unless-quiet : {A E : Type 0} (cause : Option E) (effect : Effect (Result A E)) (answer : A) (why : E)

@@ -10,10 +10,9 @@ use Rattle.node_rules.specs.declared.refusal.WalletRefusal.{WalletRefusal}
 use Rattle.node_rules.specs.WalletRecords.{who_is, wallet_kinds}
 use Rattle.node_rules.specs.Wallet.{WalletRecords, WalletEffect, answers, coin_state, accept_effect, send_effect, leave_from, leave_effect, reclaim_effect, migrate_effect}
 use Rattle.node_rules.proofs.WalletRole.{leaves_are_answered}
-use Rattle.world_rules.specs.Causes.{wallet_cause}
-use Rattle.world_rules.specs.Deeds.{on_accepted, on_sent, on_leaving, on_reclaimed, on_migrated}
-use Rattle.world_rules.proofs.WalletEnds.{AcceptEnds, accept_ends, SendEnds, send_ends, ReclaimEnds, reclaim_ends}
-use Rattle.wallet_deeds.specs.Orders.{order_deed}
+use Rattle.node_replies.specs.Causes.{wallet_cause}
+use Rattle.node_replies.specs.Orders.{on_accepted, on_sent, on_leaving, on_reclaimed, on_migrated, wallet_does}
+use Rattle.node_replies.proofs.WalletEnds.{AcceptEnds, accept_ends, SendEnds, send_ends, ReclaimEnds, reclaim_ends}
 use Rattle.node_lines.specs.declared.wallet_line.WalletLine.{WalletLine}
 use Rattle.node_answers.specs.Answers.{wallet_outcome}
 use Rattle.node_roles.proofs.Refusals.{AddsNeitherRefused, refused-by}
@@ -78,26 +77,26 @@ migrate-quiet wallet why is = by (is_marked wallet.leaves) refl
 
 pub wallet-quiet : (dig : List ℕ → List ℕ) (log : List RootCall) (wallet : WalletRecords) (line : WalletLine)
     → AddsNeitherRefused (wallet_outcome dig log wallet line)
-unfolding wallet_outcome order_deed
+unfolding wallet_outcome wallet_does
 wallet-quiet dig log wallet (WalletLine.Accept bundle) cause is =
-    refused-by 0 wallet_cause (on_accepted 0 bundle) (accept_effect dig wallet log bundle).answer _ cause
+    refused-by wallet_cause on_accepted (accept_effect dig wallet log bundle).answer _ cause
     (λ a why wrong. cc)
     (accept-by dig wallet log bundle (accept_effect dig wallet log bundle) (accept_ends dig wallet log bundle)) is
 wallet-quiet dig log wallet (WalletLine.Send coin to last) cause is =
-    refused-by 0 wallet_cause (on_sent 0) (send_effect dig wallet log coin to last).answer _ cause
+    refused-by wallet_cause on_sent (send_effect dig wallet log coin to last).answer _ cause
     (λ a why wrong. cc)
     (send-by dig wallet log coin to last (send_effect dig wallet log coin to last)
     (send_ends dig wallet log coin to last)) is
 wallet-quiet dig log wallet (WalletLine.Again coin) cause is = (refl, refl)
 wallet-quiet dig log wallet (WalletLine.Leave coin) cause is =
-    refused-by 0 wallet_cause (on_leaving 0) (leave_effect dig wallet log coin).answer _ cause (λ a why wrong. cc)
+    refused-by wallet_cause on_leaving (leave_effect dig wallet log coin).answer _ cause (λ a why wrong. cc)
     (leave-quiet dig wallet log coin) is
 wallet-quiet dig log wallet (WalletLine.Reclaim bundle) cause is =
-    refused-by 0 wallet_cause (on_reclaimed 0 bundle) (reclaim_effect dig wallet log bundle).answer _ cause
+    refused-by wallet_cause on_reclaimed (reclaim_effect dig wallet log bundle).answer _ cause
     (λ a why wrong. cc)
     (reclaim-by (reclaim_effect dig wallet log bundle) (reclaim_ends dig wallet log bundle)) is
 wallet-quiet dig log wallet WalletLine.Migrate cause is =
-    refused-by 0 wallet_cause (on_migrated 0) (migrate_effect wallet).answer _ cause (λ a why wrong. cc)
+    refused-by wallet_cause on_migrated (migrate_effect wallet).answer _ cause (λ a why wrong. cc)
     (migrate-quiet wallet) is
 wallet-quiet dig log wallet WalletLine.Watch cause is = (refl, refl)
 wallet-quiet dig log wallet (WalletLine.State coin) cause is = (refl, refl)

@@ -10,9 +10,8 @@ use Rattle.coin_history.specs.declared.refusal.HistoryRefusal.{HistoryRefusal}
 use Rattle.node_rules.specs.declared.refusal.WatcherRefusal.{WatcherRefusal}
 use Rattle.node_rules.specs.Kept.{links_handed}
 use Rattle.node_rules.specs.Watcher.{guard_causes, guard_taken, guard_by, guard_effect, release_effect, guards_in, is_of, who_is, note_text, Released, watcher_kinds}
-use Rattle.world_rules.specs.Causes.{watcher_cause}
-use Rattle.world_rules.specs.Deeds.{on_guarded, on_released}
-use Rattle.watcher_deeds.specs.Orders.{order_deed}
+use Rattle.node_replies.specs.Causes.{watcher_cause}
+use Rattle.node_replies.specs.Orders.{on_guarded, on_released, watcher_does}
 use Rattle.node_lines.specs.declared.watcher_line.WatcherLine.{WatcherLine}
 use Rattle.node_answers.specs.Answers.{watcher_outcome}
 use Rattle.node_roles.proofs.Refusals.{AddsNothingRefused, refused-by, unless-quiet, first-quiet}
@@ -25,13 +24,13 @@ guard-quiet log guards (Ok links) why is =
 
 pub watcher-quiet : (dig : List ℕ → List ℕ) (log : List RootCall) (notes : List (List ℕ)) (line : WatcherLine)
     → AddsNothingRefused (watcher_outcome dig log notes line)
-unfolding watcher_outcome order_deed guard_effect release_effect
+unfolding watcher_outcome watcher_does guard_effect release_effect
 watcher-quiet dig log notes (WatcherLine.Guard bundle) cause is =
-    refused-by 0 watcher_cause (on_guarded 0 bundle) (guard_effect dig notes log bundle).answer
+    refused-by watcher_cause on_guarded (guard_effect dig notes log bundle).answer
     ((guard_effect dig notes log bundle).note ≡ None) cause (λ a why wrong. cc)
     (guard-quiet log (guards_in dig notes) (links_handed dig (who_is notes).tag log bundle)) is
 watcher-quiet dig log notes (WatcherLine.Release coin tip) cause is =
-    refused-by 0 watcher_cause (on_released 0 coin tip) (release_effect dig notes coin tip).answer
+    refused-by watcher_cause on_released (release_effect dig notes coin tip).answer
     ((release_effect dig notes coin tip).note ≡ None) cause (λ a why wrong. cc)
     (λ why.
     first-quiet (list_any (is_of coin tip) (guards_in dig notes)) tt (Some (note_text (Released coin tip))) _ why)

@@ -11,10 +11,10 @@ use Rattle.operator_rules.specs.declared.refusal.ProveRefusal.{ProveRefusal}
 use Rattle.operator_rules.specs.declared.refusal.ProveRefusal.TheVariants.{NoMemory}
 use Rattle.operator_rules.specs.Records.{Laid, note_text}
 use Rattle.operator_rules.specs.Commands.{lay_effect}
-use Rattle.world_rules.specs.Causes.{prove_cause}
-use Rattle.world_rules.specs.Deeds.{Gives, answered, refused}
-use Rattle.world_rules.specs.declared.given.Given.{Given}
-use Rattle.world_rules.specs.Given.{IsGiven}
+use Rattle.node_replies.specs.Causes.{prove_cause}
+use Rattle.node_replies.specs.Orders.{Response, answered, refused}
+use Rattle.node_replies.specs.declared.given.Given.{Given}
+use Rattle.node_replies.specs.Given.{IsGiven}
 
 -- bytes that are too long add no record
 pub lay-refused : (coin : ℕ) (leaf : List ℕ) (why : LayRefusal) → (lay_effect coin leaf).answer ≡ Err why
@@ -31,25 +31,25 @@ lay-refused coin leaf why = at (nat_lt MOST_LAID (length leaf))
     at false is = absurd (cc is)
 
 -- what is given out for a refusal, or stopped so
-pub given-refused : {A E : Type 0} (n : ℕ) (cause : E → List ℕ) (give : A → Gives) (answer : Result A E) (why : E)
+pub given-refused : {A E : Type 0} (cause : E → List ℕ) (give : A → Response) (answer : Result A E) (why : E)
     (stop : Option Stop) (result : Result Given Stop) → (stop ≡ None → Err why ≡ answer)
-    → IfOk result (λ given. IsGiven (refused n (cause why)) given) → IfSome stop (λ s. result ≡ Err s)
-    → IfOk result (λ given. IsGiven (answered n cause give answer) given)
-given-refused n cause give answer why None result same gives stops =
-    subst (λ a. IfOk result (λ given. IsGiven (answered n cause give a) given)) (same refl) gives
-given-refused n cause give answer why (Some stop) result same gives stops =
-    subst (λ r. IfOk r (λ given. IsGiven (answered n cause give answer) given)) (sym stops) tt
+    → IfOk result (λ given. IsGiven (refused (cause why)) given) → IfSome stop (λ s. result ≡ Err s)
+    → IfOk result (λ given. IsGiven (answered cause give answer) given)
+given-refused cause give answer why None result same gives stops =
+    subst (λ a. IfOk result (λ given. IsGiven (answered cause give a) given)) (same refl) gives
+given-refused cause give answer why (Some stop) result same gives stops =
+    subst (λ r. IfOk r (λ given. IsGiven (answered cause give answer) given)) (sym stops) tt
 
 -- the same where want of memory is the only stop
-pub given-unproved : {A : Type 0} (n : ℕ) (give : A → Gives) (answer : Result A ProveRefusal) (why : ProveRefusal)
+pub given-unproved : {A : Type 0} (give : A → Response) (answer : Result A ProveRefusal) (why : ProveRefusal)
     (result : Result Given Stop) → ((why ≡ NoMemory → ⊥) → Err why ≡ answer)
-    → IfOk result (λ given. IsGiven (refused n (prove_cause why)) given)
+    → IfOk result (λ given. IsGiven (refused (prove_cause why)) given)
     → (why ≡ NoMemory → result ≡ Err Stop.NoMemory)
-    → IfOk result (λ given. IsGiven (answered n prove_cause give answer) given)
-given-unproved n give answer NoMemory result same gives stops =
-    subst (λ r. IfOk r (λ given. IsGiven (answered n prove_cause give answer) given)) (sym (stops refl)) tt
-given-unproved n give answer why result same gives stops =
-    subst (λ a. IfOk result (λ given. IsGiven (answered n prove_cause give a) given)) (same (λ e. cc e)) gives
+    → IfOk result (λ given. IsGiven (answered prove_cause give answer) given)
+given-unproved give answer NoMemory result same gives stops =
+    subst (λ r. IfOk r (λ given. IsGiven (answered prove_cause give answer) given)) (sym (stops refl)) tt
+given-unproved give answer why result same gives stops =
+    subst (λ a. IfOk result (λ given. IsGiven (answered prove_cause give a) given)) (same (λ e. cc e)) gives
 
 -- What a run did that was refused for a cause that isn't a stop, or stopped. The text of a cause may find no memory.
 module _ {D : Type 0} (told : D → Option History) (plan : D → Option FaultPlan) (faults : D → ℕ) where

@@ -1,20 +1,20 @@
-ghost use Rattle.std.specs.Prelude.{◌≡◌, ℕ, false, None, Err, IfOk, IfErr, IfSome};
+ghost use Rattle.std.specs.Prelude.{◌≡◌, false, None, Err, IfOk, IfErr, IfSome};
 ghost use Rattle.node_journal.specs.declared.stop.Stop.{Stop};
 ghost use Rattle.node_journal.specs.Notes.{Did, stopped_by};
 ghost use Rattle.operator_rules.specs.Commands.{offer_effect, lay_effect, seal_effect};
 ghost use Rattle.operator_core.specs.State.{offer_stop, lay_stop, seal_stop};
-ghost use Rattle.world_rules.specs.Causes.{offer_cause, lay_cause, seal_cause};
-ghost use Rattle.world_rules.specs.Deeds.{refused, answered, on_pooled, on_laid, on_sealed};
-ghost use Rattle.world_rules.specs.Given.{IsGiven};
+ghost use Rattle.node_replies.specs.Causes.{offer_cause, lay_cause, seal_cause};
+ghost use Rattle.node_replies.specs.Orders.{refused, answered, on_pooled, on_laid, on_sealed};
+ghost use Rattle.node_replies.specs.Given.{IsGiven};
 
 use crash_disk::Disk;
 use node_journal::Stop;
+use node_replies::{Given, Reply, lay_cause, offer_cause, offers, refused, says};
 use operator_core::Operator;
 use operator_rules::{LayRefusal, OfferRefusal, SealRefusal, Sealed};
 use plasma_base::Hash32;
 use plasma_tx::RootLog;
 use std::alloc::Global;
-use world_rules::{Given, Reply, lay_cause, offer_cause, offers, refused, says};
 
 // What stopped an offer that was refused for this, if anything did; the same of a lay, and of a seal, which
 // nothing else refuses.
@@ -52,8 +52,7 @@ fn seal_stop(why: SealRefusal) -> Stop
 
 // What is given out for a refused offer, or what stopped it.
 fn offer_refusal(alloc: Global, why: &OfferRefusal) -> Result<Given, Stop>
-    ghost n: { ℕ }
-    ensures gives { IfOk result (λ given. IsGiven (refused n (offer_cause why.now)) given) }
+    ensures gives { IfOk result (λ given. IsGiven (refused (offer_cause why.now)) given) }
     ensures stop { IfSome (offer_stop (Err why.now)) (λ stop. result ≡ Err stop) }
     ensures memory { offer_stop (Err why.now) ≡ None → IfErr result (λ stop. stop ≡ Stop.NoMemory) }
 {
@@ -65,8 +64,7 @@ fn offer_refusal(alloc: Global, why: &OfferRefusal) -> Result<Given, Stop>
 
 // The same of a lay.
 fn lay_refusal(alloc: Global, why: &LayRefusal) -> Result<Given, Stop>
-    ghost n: { ℕ }
-    ensures gives { IfOk result (λ given. IsGiven (refused n (lay_cause why.now)) given) }
+    ensures gives { IfOk result (λ given. IsGiven (refused (lay_cause why.now)) given) }
     ensures stop { IfSome (lay_stop (Err why.now)) (λ stop. result ≡ Err stop) }
     ensures memory { lay_stop (Err why.now) ≡ None → IfErr result (λ stop. stop ≡ Stop.NoMemory) }
 {
@@ -83,8 +81,7 @@ pub fn offer<D: Disk, H: Hash32 + Copy>(
     log: &RootLog,
     transfer: &[u8],
 ) -> Result<Given, Stop>
-    ghost n: { ℕ }
-    ensures gives { IfOk result (λ given. IsGiven (answered n offer_cause (on_pooled n) (offer_effect
+    ensures gives { IfOk result (λ given. IsGiven (answered offer_cause on_pooled (offer_effect
         (H.digest_of node.old.hash) node.old.notes.records log.now.log transfer.now).answer) given) }
     ensures did { Did D.told D.plan D.faults (offer_effect (H.digest_of node.old.hash) node.old.notes.records
         log.now.log transfer.now).note node.old.notes (stopped_by result) node.new.notes }
@@ -103,9 +100,8 @@ pub fn lay<D: Disk, H: Hash32 + Copy>(
     coin: u64,
     leaf: &[u8],
 ) -> Result<Given, Stop>
-    ghost n: { ℕ }
     ensures gives { IfOk result (λ given.
-        IsGiven (answered n lay_cause (on_laid n coin) (lay_effect coin leaf.now).answer) given) }
+        IsGiven (answered lay_cause (on_laid coin) (lay_effect coin leaf.now).answer) given) }
     ensures did { Did D.told D.plan D.faults (lay_effect coin leaf.now).note node.old.notes (stopped_by result)
         node.new.notes }
     ensures hash { node.new.hash ≡ node.old.hash }
@@ -122,9 +118,8 @@ pub fn seal<D: Disk, H: Hash32 + Copy>(
     alloc: Global,
     node: &mut Operator<D, H>,
 ) -> Result<Given, Stop>
-    ghost n: { ℕ }
     requires { node.old.notes.closed ≡ false }
-    ensures gives { IfOk result (λ given. IsGiven (answered n seal_cause on_sealed
+    ensures gives { IfOk result (λ given. IsGiven (answered seal_cause on_sealed
         (seal_effect (H.digest_of node.old.hash) node.old.notes.records).answer) given) }
     ensures did { Did D.told D.plan D.faults (seal_effect (H.digest_of node.old.hash) node.old.notes.records).note
         node.old.notes (stopped_by result) node.new.notes }

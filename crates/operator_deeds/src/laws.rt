@@ -1,10 +1,4 @@
-ghost use Rattle.operator_deeds.specs.Laws.{CommandsAreOrders, OrdersAddNoLeaf, OrdersKeepTheRole};
-
-/// A law: what a command of the operator does in the world is what its order does, by the operator's records
-/// and the log.
-pub fn commands_are_orders()
-    ensures { CommandsAreOrders }
-{}
+ghost use Rattle.operator_deeds.specs.Laws.{OrdersAddNoLeaf, OrdersKeepTheRole};
 
 /// A law: an order adds no leaf.
 pub fn orders_add_no_leaf()

@@ -3,10 +3,8 @@
 
 mod adding;
 mod laws;
-mod order;
 mod running;
 mod showing;
 
-pub use laws::{commands_are_orders, orders_add_no_leaf, orders_keep_the_role};
-pub use order::OperatorOrder;
+pub use laws::{orders_add_no_leaf, orders_keep_the_role};
 pub use running::run;

@@ -1,27 +1,26 @@
-ghost use Rattle.std.specs.Prelude.{◌≡◌, ◌<◌, ◌^◌, ℕ, length, Err, IfOk, IfErr};
+ghost use Rattle.std.specs.Prelude.{◌≡◌, ◌<◌, ◌^◌, length, Err, IfOk, IfErr};
 ghost use Rattle.std.specs.List.{All};
 ghost use Rattle.node_journal.specs.declared.stop.Stop.{Stop};
 ghost use Rattle.coin_history.specs.Bundles.{AreRising};
 ghost use Rattle.operator_rules.specs.Commands.{prove_answer, bundle_answer, absences_answer};
 ghost use Rattle.operator_rules.specs.declared.refusal.ProveRefusal.{ProveRefusal};
-ghost use Rattle.world_rules.specs.Causes.{prove_cause};
-ghost use Rattle.world_rules.specs.Deeds.{refused, answered, on_bundled, on_proved};
-ghost use Rattle.world_rules.specs.Given.{IsGiven};
+ghost use Rattle.node_replies.specs.Causes.{prove_cause};
+ghost use Rattle.node_replies.specs.Orders.{refused, answered, on_bundled, on_proved};
+ghost use Rattle.node_replies.specs.Given.{IsGiven};
 
 use coin_history::Bundle;
 use crash_disk::Disk;
 use node_journal::Stop;
+use node_replies::{Given, Reply, makes, prove_cause, refused};
 use operator_core::Operator;
 use operator_rules::ProveRefusal;
 use plasma_base::{Bytes, Hash32};
 use plasma_tx::{RawOpening, RootLog};
 use std::alloc::Global;
-use world_rules::{Given, Reply, makes, prove_cause, refused};
 
 // What is given out for a refusal, or want of memory.
 fn refusal(alloc: Global, why: &ProveRefusal) -> Result<Given, Stop>
-    ghost n: { ℕ }
-    ensures gives { IfOk result (λ given. IsGiven (refused n (prove_cause why.now)) given) }
+    ensures gives { IfOk result (λ given. IsGiven (refused (prove_cause why.now)) given) }
     ensures memory { why.now ≡ ProveRefusal.NoMemory → result ≡ Err Stop.NoMemory }
     ensures stop { IfErr result (λ stop. stop ≡ Stop.NoMemory) }
 {
@@ -33,11 +32,10 @@ fn refusal(alloc: Global, why: &ProveRefusal) -> Result<Given, Stop>
 
 // What is given out for a bundle.
 fn bundled(alloc: Global, bundle: &Bundle) -> Result<Given, Stop>
-    ghost n: { ℕ }
     requires rising { AreRising bundle.now.openings }
     requires count { length bundle.now.openings < 2 ^ 32 }
     requires lengths { All (λ opening. length opening.bytes < 2 ^ 32) bundle.now.openings }
-    ensures gives { IfOk result (λ given. IsGiven (on_bundled n bundle.now) given) }
+    ensures gives { IfOk result (λ given. IsGiven (on_bundled bundle.now) given) }
     ensures stop { IfErr result (λ stop. stop ≡ Stop.NoMemory) }
 {
     let mut text = Vec::new(alloc);
@@ -57,8 +55,7 @@ pub fn bundle<D: Disk, H: Hash32 + Copy>(
     coin: u64,
     tip: u64,
 ) -> Result<Given, Stop>
-    ghost n: { ℕ }
-    ensures gives { IfOk result (λ given. IsGiven (answered n prove_cause (on_bundled n) (bundle_answer
+    ensures gives { IfOk result (λ given. IsGiven (answered prove_cause on_bundled (bundle_answer
         (H.digest_of node.now.hash) node.now.notes.records log.now.log coin tip)) given) }
     ensures stop { IfErr result (λ stop. stop ≡ Stop.NoMemory) }
 {
@@ -77,8 +74,7 @@ pub fn absences<D: Disk, H: Hash32 + Copy>(
     after: u64,
     last: u64,
 ) -> Result<Given, Stop>
-    ghost n: { ℕ }
-    ensures gives { IfOk result (λ given. IsGiven (answered n prove_cause (on_bundled n) (absences_answer
+    ensures gives { IfOk result (λ given. IsGiven (answered prove_cause on_bundled (absences_answer
         (H.digest_of node.now.hash) node.now.notes.records log.now.log coin after last)) given) }
     ensures stop { IfErr result (λ stop. stop ≡ Stop.NoMemory) }
 {
@@ -96,8 +92,7 @@ pub fn prove<D: Disk, H: Hash32 + Copy>(
     coin: u64,
     block: u64,
 ) -> Result<Given, Stop>
-    ghost n: { ℕ }
-    ensures gives { IfOk result (λ given. IsGiven (answered n prove_cause (on_proved n) (prove_answer
+    ensures gives { IfOk result (λ given. IsGiven (answered prove_cause on_proved (prove_answer
         (H.digest_of node.now.hash) node.now.notes.records log.now.log coin block)) given) }
     ensures stop { IfErr result (λ stop. stop ≡ Stop.NoMemory) }
 {

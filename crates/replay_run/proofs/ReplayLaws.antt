@@ -3,7 +3,7 @@ use Rattle.std.proofs.Common.{◌≡◌, ℕ, Bool, true, false, if◌then◌els
 use Rattle.std.specs.Prelude.{option_map, option_and_then, IfOk, IfErr, OnOk, IsErrAnd}
 use Rattle.schedule_text.specs.declared.line.Line.{Line}
 use Rattle.schedule_text.specs.Grammar.{line_in}
-use Rattle.world_rules.specs.declared.reply.TraceLine.{TraceLine}
+use Rattle.world_rules.specs.declared.trace.TraceLine.{TraceLine}
 use Rattle.world_rules.specs.Steps.{Run, TraceEntry, LineEffect, with_line, step_run, run_of, entry_of}
 use Rattle.world_core.specs.Worlds.{WorldState, IsAfter}
 use Rattle.world_core.specs.Lines.{is_full, IsStep}

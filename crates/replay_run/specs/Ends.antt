@@ -15,7 +15,7 @@ use Rattle.operator_rules.specs.Commands.{forest_in}
 use Rattle.operator_rules.specs.Walk.{place_at}
 use Rattle.world_rules.specs.Events.{coin_of_call, offers_of}
 use Rattle.world_rules.specs.World.{Node, World, is_wallet_role, number_of, owner_of_node, bytes_of}
-use Rattle.world_rules.specs.Deeds.{exit_block}
+use Rattle.node_replies.specs.Orders.{exit_block}
 use Rattle.world_rules.specs.Steps.{LineEffect, Run, step, events_of}
 use Rattle.world_rules.specs.Exhibits.{collides, is_forged}
 use Rattle.world_rules.specs.Safety.{holds}

@@ -1,11 +1,11 @@
 -- The text of a replay.
 use Rattle.std.specs.Prelude.{ℕ, List, [], ◌∷◌, ◌++◌, codes}
 use Rattle.std.specs.List.{flat_map}
-use Rattle.world_rules.specs.Causes.{phrase}
+use Rattle.node_replies.specs.Causes.{phrase}
 use Rattle.world_rules.specs.Steps.{Run}
 use Rattle.world_rules.specs.Verdicts.{verdicts_of, counts_of, exhibit_of_run}
 use Rattle.world_rules.specs.Texts.{trace_line_text, entries_text, verdict_text, exhibit_text, counts_text}
-use Rattle.world_rules.specs.declared.reply.TraceLine.{TraceLine}
+use Rattle.world_rules.specs.declared.trace.TraceLine.{TraceLine}
 use Rattle.streamed_lines.specs.declared.ending.Ending.{Ending}
 use Rattle.streamed_lines.specs.declared.ending.Ending.TheVariants.{Complete, BadLine, ReadFault, TooLong, Ended}
 use Rattle.replay_run.specs.declared.ending.NoCause.{NoCause}

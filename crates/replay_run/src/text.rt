@@ -1,5 +1,5 @@
 ghost use Rattle.std.specs.Prelude.{◌≡◌, ◌≢◌, ◌++◌, ◌∷◌, [], ℕ, List, OnOk};
-ghost use Rattle.world_rules.specs.Causes.{phrase};
+ghost use Rattle.node_replies.specs.Causes.{phrase};
 ghost use Rattle.streamed_lines.specs.declared.ending.Ending.{Ending};
 ghost use Rattle.replay_run.specs.Text.{last_text};
 

@@ -34,20 +34,18 @@ use Rattle.node_rules.proofs.WalletAdded.{IsTaken, send-leaf, send-may, reclaim-
 use Rattle.node_rules.proofs.WalletGrow.{wallet-parts}
 use Rattle.node_rules.proofs.WalletTips.{tag-long, leaf-fits}
 use Rattle.operator_rules.specs.Commands.{offer_effect, lay_effect, seal_effect, prove_answer, bundle_answer, absences_answer}
-use Rattle.world_rules.specs.Causes.{wallet_cause, watcher_cause, offer_cause, lay_cause, seal_cause, prove_cause}
+use Rattle.node_replies.specs.Causes.{wallet_cause, watcher_cause, offer_cause, lay_cause, seal_cause, prove_cause}
 use Rattle.world_rules.specs.Events.{Other}
 use Rattle.world_rules.specs.World.{Node, wallet_of}
-use Rattle.world_rules.specs.Deeds.{Gives, Deed, answered, bundle_read, on_accepted, on_sent, on_sent_again, on_leaving, on_reclaimed, on_migrated, on_guarded, on_released, on_pooled, on_laid, on_sealed, on_bundled, on_proved}
+use Rattle.node_replies.specs.Orders.{Response, Doing, answered, on_accepted, on_sent, on_leaving, on_reclaimed, on_migrated, on_guarded, on_released, on_pooled, on_laid, on_sealed, on_bundled, on_proved, wallet_does, watcher_does, operator_does}
+use Rattle.world_rules.specs.OrderEvents.{bundle_read, event_of}
 use Rattle.world_rules.specs.Steps.{without_offers}
-use Rattle.world_rules.proofs.WalletEnds.{AcceptEnds, SendEnds, Refused, Known, New, Sends, accept_ends, send_ends}
-use Rattle.wallet_deeds.specs.declared.order.WalletOrder.{WalletOrder}
-use Rattle.wallet_deeds.specs.Orders.{order_deed as wallet_deed_of}
-use Rattle.watcher_deeds.specs.declared.order.WatcherOrder.{WatcherOrder}
-use Rattle.watcher_deeds.specs.Orders.{order_deed as watcher_deed_of}
-use Rattle.operator_deeds.specs.declared.order.OperatorOrder.{OperatorOrder}
-use Rattle.operator_deeds.specs.Orders.{order_deed as operator_deed_of}
-use Rattle.world_nodes.specs.declared.order.NodeOrder.{NodeOrder}
-use Rattle.world_nodes.specs.Orders.{order_deed}
+use Rattle.node_replies.proofs.WalletEnds.{AcceptEnds, SendEnds, Refused, Known, New, Sends, accept_ends, send_ends}
+use Rattle.node_replies.specs.declared.order.WalletOrder.{WalletOrder}
+use Rattle.node_replies.specs.declared.order.WatcherOrder.{WatcherOrder}
+use Rattle.node_replies.specs.declared.order.OperatorOrder.{OperatorOrder}
+use Rattle.node_replies.specs.declared.order.NodeOrder.{NodeOrder}
+use Rattle.world_rules.specs.Orders.{node_does}
 use Rattle.world_nodes.specs.Cuts.{is_kept}
 use Rattle.run_trace.specs.declared.event.LineEvent.{LineEvent}
 use Rattle.run_trace.specs.Orders.{TellsStopped, event_stopped, HasRecords, bound_event, IsNodeEvent}
@@ -59,21 +57,24 @@ use Rattle.run_trace.proofs.AnswerLaws.{answered-all}
 -- ---- what is kept
 
 -- the event of what is given is this one, where the order's record is among these
-abbrev KeptBy : ℕ → LineEvent → List ℕ → Option (List ℕ) → Option (List ℕ) → Gives → Type 0
-KeptBy n event bytes note leaf gives =
-    Some bytes ≡ option_or note leaf → IsNodeEvent (without_offers n gives.event) event
+abbrev KeptBy : ℕ → NodeOrder → LineEvent → List ℕ → Option (List ℕ) → Option (List ℕ) → Response → Type 0
+KeptBy n order event bytes note leaf response =
+    Some bytes ≡ option_or note leaf → IsNodeEvent (without_offers n (event_of n order response)) event
 
 module _ (dig : List ℕ → List ℕ) (log : List RootCall) (n : ℕ) (bytes : List ℕ) where
   -- a coin that was accepted
   accept-kept : (wallet : WalletRecords) (bundle : List ℕ) → let effect = accept_effect dig wallet log bundle in
-      KeptBy n (LineEvent.Accepts n (bundle_read bundle)) bytes effect.note effect.leaf
-      (answered n wallet_cause (on_accepted n bundle) effect.answer)
+      KeptBy n (NodeOrder.Wallet (WalletOrder.Accept bundle))
+      (LineEvent.Accepts n (bundle_read bundle)) bytes effect.note effect.leaf
+      (answered wallet_cause on_accepted effect.answer)
+  unfolding event_of
   accept-kept wallet bundle = by (accept_ends dig wallet log bundle)
     where
       Kept : WalletEffect (Result Accepted WalletRefusal) → Type 0
       Kept effect =
-          KeptBy n (LineEvent.Accepts n (bundle_read bundle)) bytes effect.note effect.leaf
-          (answered n wallet_cause (on_accepted n bundle) effect.answer)
+          KeptBy n (NodeOrder.Wallet (WalletOrder.Accept bundle))
+          (LineEvent.Accepts n (bundle_read bundle)) bytes effect.note effect.leaf
+          (answered wallet_cause on_accepted effect.answer)
 
       by : AcceptEnds dig wallet log bundle (accept_effect dig wallet log bundle)
           → Kept (accept_effect dig wallet log bundle)
@@ -100,14 +101,17 @@ module _ (dig : List ℕ → List ℕ) (log : List RootCall) (n : ℕ) (bytes : 
 
     send-kept : (coin : ℕ) (to : Owner) (last : Option ℕ) → length to.key ≡ 56
         → let effect = send_effect dig wallet log coin to last in
-        KeptBy n (bound_event n (body_found (message_in bytes))) bytes effect.note effect.leaf
-        (answered n wallet_cause (on_sent n) effect.answer)
+        KeptBy n (NodeOrder.Wallet (WalletOrder.Send coin to last))
+        (bound_event n (body_found (message_in bytes))) bytes effect.note effect.leaf
+        (answered wallet_cause on_sent effect.answer)
+    unfolding event_of
     send-kept coin to last key_long = by (send_ends dig wallet log coin to last)
       where
         Kept : WalletEffect (Result Sent WalletRefusal) → Type 0
         Kept effect =
-            KeptBy n (bound_event n (body_found (message_in bytes))) bytes effect.note effect.leaf
-            (answered n wallet_cause (on_sent n) effect.answer)
+            KeptBy n (NodeOrder.Wallet (WalletOrder.Send coin to last))
+            (bound_event n (body_found (message_in bytes))) bytes effect.note effect.leaf
+            (answered wallet_cause on_sent effect.answer)
 
         by : SendEnds dig wallet log coin to last (send_effect dig wallet log coin to last)
             → Kept (send_effect dig wallet log coin to last)
@@ -138,15 +142,17 @@ module _ (dig : List ℕ → List ℕ) (log : List RootCall) (n : ℕ) (bytes : 
     leaf-small q last (Some leaf) some has = leaf-fits dig wallet q leaf is some
 
     reclaim-kept : (bundle : List ℕ) → let effect = reclaim_effect dig wallet log bundle in
-        KeptBy n (LineEvent.TakesBack n (leaf_at_end bytes) (bundle_read bundle)) bytes effect.note effect.leaf
-        (answered n wallet_cause (on_reclaimed n bundle) effect.answer)
-    unfolding reclaim_effect
+        KeptBy n (NodeOrder.Wallet (WalletOrder.Reclaim bundle))
+        (LineEvent.TakesBack n (leaf_at_end bytes) (bundle_read bundle)) bytes effect.note effect.leaf
+        (answered wallet_cause on_reclaimed effect.answer)
+    unfolding reclaim_effect event_of
     reclaim-kept bundle = at (bundle_in bundle) (reclaim-leaf dig wallet log (bundle_in bundle))
       where
         Kept : WalletEffect (Result Reclaimed WalletRefusal) → Type 0
         Kept effect =
-            KeptBy n (LineEvent.TakesBack n (leaf_at_end bytes) (bundle_read bundle)) bytes effect.note effect.leaf
-            (answered n wallet_cause (on_reclaimed n bundle) effect.answer)
+            KeptBy n (NodeOrder.Wallet (WalletOrder.Reclaim bundle))
+            (LineEvent.TakesBack n (leaf_at_end bytes) (bundle_read bundle)) bytes effect.note effect.leaf
+            (answered wallet_cause on_reclaimed effect.answer)
 
         noted : (note leaf : Option (List ℕ)) → leaf ≡ None → Some bytes ≡ option_or note leaf → note ≡ Some bytes
         noted None leaf none wrong = absurd (cc (none, wrong))
@@ -154,7 +160,8 @@ module _ (dig : List ℕ → List ℕ) (log : List RootCall) (n : ℕ) (bytes : 
 
         known : (read : Bundle) → let effect = reclaim_by dig wallet log (Ok read) in
             IsTaken wallet (coin_state dig wallet log read.coin) read.coin bytes effect.answer
-            → IsNodeEvent (without_offers n (answered n wallet_cause (on_reclaimed n bundle) effect.answer).event)
+            → IsNodeEvent (without_offers n (event_of n (NodeOrder.Wallet (WalletOrder.Reclaim bundle))
+            (answered wallet_cause on_reclaimed effect.answer)))
             (LineEvent.TakesBack n (leaf_at_end bytes) (bundle_read bundle))
         known read taken =
             let small = leaf-small taken.q taken.last (slice_get (leaves_in wallet.leaves) taken.q) refl taken.has_last
@@ -162,7 +169,8 @@ module _ (dig : List ℕ → List ℕ) (log : List RootCall) (n : ℕ) (bytes : 
             let leaf : leaf_at_end bytes ≡ taken.q =
             ap leaf_at_end (sym taken.text) ∙ leaf-read read.coin taken.tip taken.q small in
             subst (λ (r : Result Reclaimed WalletRefusal).
-            IsNodeEvent (without_offers n (answered n wallet_cause (on_reclaimed n bundle) r).event)
+            IsNodeEvent (without_offers n (event_of n (NodeOrder.Wallet (WalletOrder.Reclaim bundle))
+            (answered wallet_cause on_reclaimed r)))
             (LineEvent.TakesBack n (leaf_at_end bytes) (bundle_read bundle))) (sym taken.answered)
             (λ tests rules calls. ap (λ (q : ℕ). LineEvent.TakesBack n q (bundle_read bundle)) leaf)
 
@@ -177,15 +185,17 @@ module _ (dig : List ℕ → List ℕ) (log : List RootCall) (n : ℕ) (bytes : 
   -- ---- watchers
 
   guard-kept : (notes : List (List ℕ)) (bundle : List ℕ) → let effect = guard_effect dig notes log bundle in
-      KeptBy n (LineEvent.Guards n (bundle_read bundle)) bytes effect.note None
-      (answered n watcher_cause (on_guarded n bundle) effect.answer)
-  unfolding guard_effect
+      KeptBy n (NodeOrder.Watcher (WatcherOrder.Guard bundle))
+      (LineEvent.Guards n (bundle_read bundle)) bytes effect.note None
+      (answered watcher_cause on_guarded effect.answer)
+  unfolding guard_effect event_of
   guard-kept notes bundle = at (links_handed dig (who_is notes).tag log bundle)
     where
       Kept : Effect (Result Accepted WatcherRefusal) → Type 0
       Kept effect =
-          KeptBy n (LineEvent.Guards n (bundle_read bundle)) bytes effect.note None
-          (answered n watcher_cause (on_guarded n bundle) effect.answer)
+          KeptBy n (NodeOrder.Watcher (WatcherOrder.Guard bundle))
+          (LineEvent.Guards n (bundle_read bundle)) bytes effect.note None
+          (answered watcher_cause on_guarded effect.answer)
 
       by : (links : Links) (failed : Option WatcherRefusal)
           → Kept (unless failed (guard_taken (guards_in dig notes) links))
@@ -197,15 +207,17 @@ module _ (dig : List ℕ → List ℕ) (log : List RootCall) (n : ℕ) (bytes : 
       at (Ok links) = by links (first_cause (guard_causes log links))
 
   release-kept : (notes : List (List ℕ)) (coin tip : ℕ) → let effect = release_effect dig notes coin tip in
-      KeptBy n (LineEvent.Releases n coin tip) bytes effect.note None
-      (answered n watcher_cause (on_released n coin tip) effect.answer)
-  unfolding release_effect
+      KeptBy n (NodeOrder.Watcher (WatcherOrder.Release coin tip))
+      (LineEvent.Releases n coin tip) bytes effect.note None
+      (answered watcher_cause on_released effect.answer)
+  unfolding release_effect event_of
   release-kept notes coin tip = at (list_any (is_of coin tip) (guards_in dig notes))
     where
       Kept : Effect (Result Unit WatcherRefusal) → Type 0
       Kept effect =
-          KeptBy n (LineEvent.Releases n coin tip) bytes effect.note None
-          (answered n watcher_cause (on_released n coin tip) effect.answer)
+          KeptBy n (NodeOrder.Watcher (WatcherOrder.Release coin tip))
+          (LineEvent.Releases n coin tip) bytes effect.note None
+          (answered watcher_cause on_released effect.answer)
 
       at : (b : Bool)
           → Kept (if b then record { answer = Ok tt; note = Some (watcher_text (Released coin tip)) }
@@ -216,60 +228,72 @@ module _ (dig : List ℕ → List ℕ) (log : List RootCall) (n : ℕ) (bytes : 
   -- ---- orders by role
 
   -- the event is one of no command with a name
-  abbrev IsOther : Gives → Type 0
-  IsOther gives = IsNodeEvent (without_offers n gives.event) (LineEvent.Other n)
+  abbrev IsOther : NodeOrder → Response → Type 0
+  IsOther order response = IsNodeEvent (without_offers n (event_of n order response)) (LineEvent.Other n)
 
   wallet-kept : (wallet : WalletRecords) → is_wallet dig wallet ≡ true → (order : WalletOrder)
-      → HasKey (NodeOrder.Wallet order) → let deed = wallet_deed_of dig log n wallet order in
-      KeptBy n (kept_told n (NodeOrder.Wallet order) bytes) bytes deed.note deed.leaf deed.gives
-  unfolding wallet_deed_of
+      → HasKey (NodeOrder.Wallet order) → let doing = wallet_does dig log wallet order in
+      KeptBy n (NodeOrder.Wallet order) (kept_told n (NodeOrder.Wallet order) bytes) bytes doing.note doing.leaf
+      doing.response
+  unfolding wallet_does event_of
   wallet-kept wallet is (WalletOrder.Accept bundle) key = accept-kept wallet bundle
   wallet-kept wallet is (WalletOrder.Send coin to last) key = send-kept wallet is coin to last key
   wallet-kept wallet is (WalletOrder.Again coin) key = λ added.
-      answered-all IsOther n wallet_cause (on_sent_again n) (λ sent tests rules calls. refl)
-      (λ why tests rules calls. refl) (again_answer wallet coin)
+      answered-all (IsOther (NodeOrder.Wallet (WalletOrder.Again coin))) wallet_cause on_sent
+      (λ sent tests rules calls. refl) (λ why tests rules calls. refl)
+      (again_answer wallet coin)
   wallet-kept wallet is (WalletOrder.Leave coin) key = λ added.
-      answered-all IsOther n wallet_cause (on_leaving n) (λ call tests rules calls. refl)
-      (λ why tests rules calls. refl) (leave_effect dig wallet log coin).answer
+      answered-all (IsOther (NodeOrder.Wallet (WalletOrder.Leave coin))) wallet_cause on_leaving
+      (λ call tests rules calls. refl) (λ why tests rules calls. refl)
+      (leave_effect dig wallet log coin).answer
   wallet-kept wallet is (WalletOrder.Reclaim bundle) key = reclaim-kept wallet is bundle
   wallet-kept wallet is WalletOrder.Migrate key = λ added.
-      answered-all IsOther n wallet_cause (on_migrated n) (λ done tests rules calls. refl)
-      (λ why tests rules calls. refl) (migrate_effect wallet).answer
+      answered-all (IsOther (NodeOrder.Wallet WalletOrder.Migrate)) wallet_cause on_migrated
+      (λ done tests rules calls. refl) (λ why tests rules calls. refl)
+      (migrate_effect wallet).answer
   wallet-kept wallet is WalletOrder.Watch key = λ added tests rules calls. refl
 
   watcher-kept : (notes : List (List ℕ)) (order : WatcherOrder)
-      → let deed = watcher_deed_of dig log n notes order in
-      KeptBy n (kept_told n (NodeOrder.Watcher order) bytes) bytes deed.note deed.leaf deed.gives
-  unfolding watcher_deed_of
+      → let doing = watcher_does dig log notes order in
+      KeptBy n (NodeOrder.Watcher order) (kept_told n (NodeOrder.Watcher order) bytes) bytes doing.note doing.leaf
+      doing.response
+  unfolding watcher_does event_of
   watcher-kept notes (WatcherOrder.Guard bundle) = guard-kept notes bundle
   watcher-kept notes (WatcherOrder.Release coin tip) = release-kept notes coin tip
   watcher-kept notes WatcherOrder.Watch = λ added tests rules calls. refl
 
   operator-kept : (notes : List (List ℕ)) (order : OperatorOrder)
-      → IsOther (operator_deed_of dig log n notes order).gives
-  unfolding operator_deed_of
+      → IsOther (NodeOrder.Operator order) (operator_does dig log notes order).response
+  unfolding operator_does event_of
   operator-kept notes (OperatorOrder.Offer transfer) =
-      answered-all IsOther n offer_cause (on_pooled n) (λ coin tests rules calls. refl)
-      (λ why tests rules calls. refl) (offer_effect dig notes log transfer).answer
+      answered-all (IsOther (NodeOrder.Operator (OperatorOrder.Offer transfer))) offer_cause on_pooled
+      (λ coin tests rules calls. refl) (λ why tests rules calls. refl)
+      (offer_effect dig notes log transfer).answer
   operator-kept notes (OperatorOrder.Lay coin leaf) =
-      answered-all IsOther n lay_cause (on_laid n coin) (λ done tests rules calls. refl)
-      (λ why tests rules calls. refl) (lay_effect coin leaf).answer
+      answered-all (IsOther (NodeOrder.Operator (OperatorOrder.Lay coin leaf))) lay_cause (on_laid coin)
+      (λ done tests rules calls. refl) (λ why tests rules calls. refl)
+      (lay_effect coin leaf).answer
   operator-kept notes OperatorOrder.Seal =
-      answered-all IsOther n seal_cause on_sealed (λ sealed tests rules calls. refl)
-      (λ why tests rules calls. refl) (seal_effect dig notes).answer
+      answered-all (IsOther (NodeOrder.Operator OperatorOrder.Seal)) seal_cause on_sealed
+      (λ sealed tests rules calls. refl) (λ why tests rules calls. refl)
+      (seal_effect dig notes).answer
   operator-kept notes (OperatorOrder.Bundle coin tip) =
-      answered-all IsOther n prove_cause (on_bundled n) (λ bundle tests rules calls. refl)
-      (λ why tests rules calls. refl) (bundle_answer dig notes log coin tip)
+      answered-all (IsOther (NodeOrder.Operator (OperatorOrder.Bundle coin tip))) prove_cause on_bundled
+      (λ bundle tests rules calls. refl) (λ why tests rules calls. refl)
+      (bundle_answer dig notes log coin tip)
   operator-kept notes (OperatorOrder.Prove coin block) =
-      answered-all IsOther n prove_cause (on_proved n) (λ opening tests rules calls. refl)
-      (λ why tests rules calls. refl) (prove_answer dig notes log coin block)
+      answered-all (IsOther (NodeOrder.Operator (OperatorOrder.Prove coin block))) prove_cause on_proved
+      (λ opening tests rules calls. refl) (λ why tests rules calls. refl)
+      (prove_answer dig notes log coin block)
   operator-kept notes (OperatorOrder.Absences coin after last) =
-      answered-all IsOther n prove_cause (on_bundled n) (λ bundle tests rules calls. refl)
-      (λ why tests rules calls. refl) (absences_answer dig notes log coin after last)
+      answered-all (IsOther (NodeOrder.Operator (OperatorOrder.Absences coin after last))) prove_cause on_bundled
+      (λ bundle tests rules calls. refl) (λ why tests rules calls. refl)
+      (absences_answer dig notes log coin after last)
 
   node-kept : (node : Node) (order : NodeOrder) → HasRecords dig node order → HasKey order
-      → let deed = order_deed dig log n node order in
-      KeptBy n (kept_told n order bytes) bytes deed.note deed.leaf deed.gives
+      → let doing = node_does dig log node order in
+      KeptBy n order (kept_told n order bytes) bytes doing.note doing.leaf
+      doing.response
   node-kept node (NodeOrder.Wallet order) is key = wallet-kept (wallet_of node) is order key
   node-kept node (NodeOrder.Watcher order) is key = watcher-kept node.notes order
   node-kept node (NodeOrder.Operator order) is key = λ added. operator-kept node.notes order
@@ -284,10 +308,11 @@ kept_tells n order bytes event key told dig log node calls outcome has stopped k
     subst (IsNodeEvent (event_stopped dig log n node calls outcome order)) (sym told)
     (by (is_kept calls outcome order) kept)
   where
-    deed : Deed
-    deed = order_deed dig log n node order
+    doing : Doing
+    doing = node_does dig log node order
 
-    by : (b : Bool) → Some bytes ≡ (if b then option_or deed.note deed.leaf else None)
-        → IsNodeEvent (if b then without_offers n deed.gives.event else Other n) (kept_told n order bytes)
+    by : (b : Bool) → Some bytes ≡ (if b then option_or doing.note doing.leaf else None)
+        → IsNodeEvent (if b then without_offers n (event_of n order doing.response) else Other n)
+        (kept_told n order bytes)
     by true added = node-kept dig log n bytes node order has key added
     by false wrong = absurd (cc wrong)

@@ -7,14 +7,15 @@ use Rattle.plasma_tx.specs.Shown.{Tests, Rules}
 use Rattle.node_rules.specs.WalletOpening.{is_wallet}
 use Rattle.world_rules.specs.World.{Node, wallet_of}
 use Rattle.world_rules.specs.Events.{Event, Other}
+use Rattle.world_rules.specs.Orders.{node_does}
+use Rattle.world_rules.specs.OrderEvents.{event_of}
 use Rattle.world_rules.specs.Steps.{without_offers}
-use Rattle.world_rules.specs.declared.given.Given.{Given}
-use Rattle.world_rules.specs.Given.{IsGiven}
-use Rattle.wallet_deeds.specs.declared.order.WalletOrder.{WalletOrder}
-use Rattle.watcher_deeds.specs.declared.order.WatcherOrder.{WatcherOrder}
-use Rattle.operator_deeds.specs.declared.order.OperatorOrder.{OperatorOrder}
-use Rattle.world_nodes.specs.declared.order.NodeOrder.{NodeOrder}
-use Rattle.world_nodes.specs.Orders.{order_deed}
+use Rattle.node_replies.specs.declared.given.Given.{Given}
+use Rattle.node_replies.specs.Given.{IsGiven}
+use Rattle.node_replies.specs.declared.order.WalletOrder.{WalletOrder}
+use Rattle.node_replies.specs.declared.order.WatcherOrder.{WatcherOrder}
+use Rattle.node_replies.specs.declared.order.OperatorOrder.{OperatorOrder}
+use Rattle.node_replies.specs.declared.order.NodeOrder.{NodeOrder}
 use Rattle.world_nodes.specs.Cuts.{is_kept, is_stopped, kept_record}
 use Rattle.run_trace.specs.declared.event.LineEvent.{LineEvent}
 use Rattle.run_trace.specs.Events.{IsEvent}
@@ -35,22 +36,23 @@ is_offering order = false
 abbrev pub IsNodeEvent : Event → LineEvent → Type 0
 IsNodeEvent event told = (tests : Tests) (rules : Rules) (log : List RootCall) → IsEvent tests rules log event told
 
--- the event is that of each deed of the order, at whatever node with this number, which gave this
+-- the event is that of the order, at whatever node with this number, which gave this
 abbrev pub TellsGiven : ℕ → NodeOrder → Given → LineEvent → Type 0
 TellsGiven n order given event = (dig : List ℕ → List ℕ) (log : List RootCall) (node : Node)
-    → IsGiven (order_deed dig log n node order).gives given
-    → IsNodeEvent (order_deed dig log n node order).gives.event event
+    → IsGiven (node_does dig log node order).response given
+    → IsNodeEvent (event_of n order (node_does dig log node order).response) event
 
 -- the same of an order that was done before a crash, after which the node offers nothing
 abbrev pub TellsFinished : ℕ → NodeOrder → Given → LineEvent → Type 0
 TellsFinished n order given event = (dig : List ℕ → List ℕ) (log : List RootCall) (node : Node)
-    → IsGiven (order_deed dig log n node order).gives given
-    → IsNodeEvent (without_offers n (order_deed dig log n node order).gives.event) event
+    → IsGiven (node_does dig log node order).response given
+    → IsNodeEvent (without_offers n (event_of n order (node_does dig log node order).response)) event
 
 -- the event of an order of node n that was stopped
 abbrev pub event_stopped : (List ℕ → List ℕ) → List RootCall → ℕ → Node → ℕ → Outcome → NodeOrder → Event
 event_stopped dig log n node calls outcome order =
-    if is_kept calls outcome order then without_offers n (order_deed dig log n node order).gives.event else Other n
+    if is_kept calls outcome order then without_offers n (event_of n order (node_does dig log node order).response)
+    else Other n
 
 -- a wallet's order is one of a node with a wallet's records
 abbrev pub HasRecords : (List ℕ → List ℕ) → Node → NodeOrder → Type 0
@@ -62,6 +64,6 @@ abbrev pub TellsStopped : ℕ → NodeOrder → Option (List ℕ) → LineEvent 
 TellsStopped n order kept event =
     (dig : List ℕ → List ℕ) (log : List RootCall) (node : Node) (calls : ℕ) (outcome : Outcome)
     → HasRecords dig node order
-    → is_stopped calls node order (order_deed dig log n node order) ≡ true
-    → kept ≡ kept_record calls outcome order (order_deed dig log n node order)
+    → is_stopped calls node order (node_does dig log node order) ≡ true
+    → kept ≡ kept_record calls outcome order (node_does dig log node order)
     → IsNodeEvent (event_stopped dig log n node calls outcome order) event

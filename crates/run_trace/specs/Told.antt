@@ -1,12 +1,12 @@
 -- How an order's event is told: by the answer and the bytes that it gave, or by the record that a crash left of it.
 use Rattle.std.specs.Prelude.{◌≡◌, ℕ, List, length}
-use Rattle.world_rules.specs.declared.reply.Reply.{Reply}
-use Rattle.world_rules.specs.Deeds.{bundle_read}
-use Rattle.world_rules.specs.declared.given.Given.{Given}
-use Rattle.wallet_deeds.specs.declared.order.WalletOrder.{WalletOrder}
-use Rattle.watcher_deeds.specs.declared.order.WatcherOrder.{WatcherOrder}
-use Rattle.operator_deeds.specs.declared.order.OperatorOrder.{OperatorOrder}
-use Rattle.world_nodes.specs.declared.order.NodeOrder.{NodeOrder}
+use Rattle.node_replies.specs.declared.reply.Reply.{Reply}
+use Rattle.world_rules.specs.OrderEvents.{bundle_read}
+use Rattle.node_replies.specs.declared.given.Given.{Given}
+use Rattle.node_replies.specs.declared.order.WalletOrder.{WalletOrder}
+use Rattle.node_replies.specs.declared.order.WatcherOrder.{WatcherOrder}
+use Rattle.node_replies.specs.declared.order.OperatorOrder.{OperatorOrder}
+use Rattle.node_replies.specs.declared.order.NodeOrder.{NodeOrder}
 use Rattle.run_trace.specs.declared.event.LineEvent.{LineEvent}
 use Rattle.run_trace.specs.Events.{IsWatch}
 use Rattle.run_trace.specs.Orders.{bound_event}

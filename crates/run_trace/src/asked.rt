@@ -6,7 +6,7 @@ ghost use Rattle.coin_verdicts.specs.Facts.{ended};
 ghost use Rattle.run_trace.specs.Asked.{IsAsked};
 
 use super::deadlines::coins_met;
-use coin_verdicts::{Fact, Numbers};
+use coin_verdicts::{Fact, KeptOwner, Numbers};
 use plasma_base::NoMemory;
 use plasma_tx::{ExitView, Owner, RootCall, RootLog};
 use std::alloc::Global;
@@ -43,7 +43,7 @@ pub fn fact_asked(alloc: Global, log: &RootLog, call: &RootCall) -> Result<Fact,
         RootCall::Deposit { account, key, .. } => Fact::Deposits {
             coin: log.coins() + 1,
             block: log.blocks() + 1,
-            owner: Owner { account, key },
+            owner: KeptOwner::new(alloc, Owner { account, key })?,
         },
         RootCall::Tick { now } => Fact::Ticks {
             met: Numbers::from_vec(coins_met(alloc, log, now)?),

@@ -1,5 +1,5 @@
 ghost use Rattle.std.specs.Prelude.{◌≡◌, IfOk};
-ghost use Rattle.world_rules.specs.declared.reply.Reply.{Reply};
+ghost use Rattle.node_replies.specs.declared.reply.Reply.{Reply};
 ghost use Rattle.run_trace.specs.declared.event.LineEvent.{LineEvent};
 ghost use Rattle.run_trace.specs.Events.{IsWatch};
 ghost use Rattle.run_trace.specs.Orders.{TellsGiven, TellsFinished, bound_event, is_offering};
@@ -9,14 +9,10 @@ ghost use Rattle.run_trace.specs.Told.{IsTold, operator_told, wallet_told, watch
 use super::event::LineEvent;
 use super::offered::coins_of;
 use super::reading::{body_found, bundle_read};
-use operator_deeds::OperatorOrder;
+use node_replies::{Given, NodeOrder, OperatorOrder, Reply, WalletOrder, WatcherOrder};
 use plasma_base::NoMemory;
 use plasma_tx::RootCall;
 use std::alloc::Global;
-use wallet_deeds::WalletOrder;
-use watcher_deeds::WatcherOrder;
-use world_nodes::NodeOrder;
-use world_rules::{Given, Reply};
 
 /// The next leaf of wallet n's key binds the body that the bytes begin with.
 pub(crate) fn bound(n: u64, bytes: &[u8]) -> LineEvent

@@ -5,12 +5,10 @@ ghost use Rattle.run_trace.specs.Told.{HasKey, kept_told};
 use super::event::LineEvent;
 use super::given::bound;
 use super::reading::{bundle_read, leaf_at_end, message_in};
+use node_replies::{NodeOrder, WalletOrder, WatcherOrder};
 use plasma_base::{Bytes, NoMemory};
 use plasma_tx::Owner;
 use std::alloc::Global;
-use wallet_deeds::WalletOrder;
-use watcher_deeds::WatcherOrder;
-use world_nodes::NodeOrder;
 
 // The event of an order of node n of which this record is kept.
 fn event_of_kept(

@@ -1,5 +1,5 @@
 ghost use Rattle.std.specs.Prelude.{◌≡◌, ◌==◌, length, drop, if◌then◌else◌, IfOk};
-ghost use Rattle.world_rules.specs.Deeds.{bundle_read};
+ghost use Rattle.world_rules.specs.OrderEvents.{bundle_read};
 ghost use Rattle.run_trace.specs.Reading.{body_found, message_in, leaf_at_end};
 
 use coin_history::{Bundle, HistoryRefusal, Openings};

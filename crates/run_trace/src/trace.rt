@@ -19,7 +19,7 @@ use super::fact::fact_of;
 use super::mark::Mark;
 use super::shown::Shown;
 use coin_history::Bundle;
-use coin_verdicts::{Fact, NamedWallet, verdicts};
+use coin_verdicts::{Fact, KeptOwner, NamedWallet, verdicts};
 use plasma_base::{Hash32, NoMemory};
 use plasma_tx::{Body, Owner, RootLog};
 use std::alloc::Global;
@@ -98,10 +98,14 @@ impl Trace {
         ensures fact { IfOk result (λ made. made.1 ≡ Fact.Declares wallet owner) }
     {
         let place = self.owners.len();
+        let kept = KeptOwner::new(self.alloc, owner)?;
         self.owners.push(owner)?;
         Ok((
             Mark::Declares { wallet, place },
-            Fact::Declares { wallet, owner },
+            Fact::Declares {
+                wallet,
+                owner: kept,
+            },
         ))
     }
 
@@ -156,7 +160,7 @@ impl Trace {
                 leaf,
                 bundle,
             } => self.keep_bundle(bundle, Fact::TakesBack { wallet, leaf }),
-            event => Ok((Mark::Other, fact_of(event))),
+            event => Ok((Mark::Other, fact_of(self.alloc, event)?)),
         }
     }
 

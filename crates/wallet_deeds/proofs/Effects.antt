@@ -10,7 +10,7 @@ use Rattle.node_rules.specs.declared.refusal.WalletRefusal.{WalletRefusal}
 use Rattle.node_rules.specs.declared.refusal.WalletRefusal.TheVariants.{AlreadyNew}
 use Rattle.node_rules.specs.Wallet.{WalletRecords, WalletEffect, answers, binds_it, coin_state, accept_effect, send_effect, leave_from, leave_effect, reclaim_effect, migrate_effect}
 use Rattle.node_rules.proofs.WalletRole.{leaves_are_answered}
-use Rattle.world_rules.proofs.WalletEnds.{AcceptEnds, SendEnds, ReclaimEnds, Refused, Known, New, Sends, Takes, accept_ends, send_ends, reclaim_ends}
+use Rattle.node_replies.proofs.WalletEnds.{AcceptEnds, SendEnds, ReclaimEnds, Refused, Known, New, Sends, Takes, accept_ends, send_ends, reclaim_ends}
 
 -- a refused command adds nothing
 abbrev pub AddsNothing : {A : Type 0} → WalletEffect (Result A WalletRefusal) → WalletRefusal → Type 0

@@ -8,22 +8,22 @@ use Rattle.node_journal.specs.Notes.{NotesState, Did, stopped_by}
 use Rattle.node_rules.specs.declared.refusal.WalletRefusal.{WalletRefusal}
 use Rattle.node_rules.specs.declared.refusal.WalletRefusal.TheVariants.{NoMemory as RefusedMemory}
 use Rattle.wallet_node.specs.State.{WalletState, notes_part, leaves_part, stop_in, DidNote, DidLeaf}
-use Rattle.world_rules.specs.Causes.{wallet_cause}
-use Rattle.world_rules.specs.Deeds.{Gives, answered}
-use Rattle.world_rules.specs.declared.given.Given.{Given}
-use Rattle.world_rules.specs.Given.{IsGiven}
+use Rattle.node_replies.specs.Causes.{wallet_cause}
+use Rattle.node_replies.specs.Orders.{Response, answered}
+use Rattle.node_replies.specs.declared.given.Given.{Given}
+use Rattle.node_replies.specs.Given.{IsGiven}
 use Rattle.wallet_deeds.specs.Orders.{DidEither}
 use Rattle.wallet_deeds.specs.Inside.{HandsOn}
 
 -- ---- what is given out
 
-module _ {A : Type 0} (n : ℕ) (give : A → Gives) (answer : Result A WalletRefusal) where
+module _ {A : Type 0} (give : A → Response) (answer : Result A WalletRefusal) where
   abbrev IsAnswer : Given → Type 0
-  IsAnswer given = IsGiven (answered n wallet_cause give answer) given
+  IsAnswer given = IsGiven (answered wallet_cause give answer) given
 
   -- for an answer
   pub ok-gives : (done : A) (given : Given) → Ok done ≡ answer → IsGiven (give done) given → IsAnswer given
-  ok-gives done given same is = subst (λ r. IsGiven (answered n wallet_cause give r) given) same is
+  ok-gives done given same is = subst (λ r. IsGiven (answered wallet_cause give r) given) same is
 
   -- for a refusal that was handed on
   pub err-gives : (why : WalletRefusal) (result : Result Given Stop) → (stop_in why ≡ None → Err why ≡ answer)
@@ -35,7 +35,7 @@ module _ {A : Type 0} (n : ℕ) (give : A → Gives) (answer : Result A WalletRe
       at (Some stop) (Ok given) same on = absurd (cc on)
       at (Some stop) (Err other) same on = tt
       at None (Ok given) same on =
-          subst (λ r. IsGiven (answered n wallet_cause give r) given) (same refl) (on n)
+          subst (λ r. IsGiven (answered wallet_cause give r) given) (same refl) on
       at None (Err other) same on = tt
 
 -- ---- what is done

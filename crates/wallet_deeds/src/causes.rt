@@ -1,12 +1,12 @@
 ghost use Rattle.std.specs.Prelude.{◌≡◌};
 ghost use Rattle.wallet_node.specs.State.{stop_in};
-ghost use Rattle.world_rules.specs.Causes.{wallet_cause};
+ghost use Rattle.node_replies.specs.Causes.{wallet_cause};
 ghost use Rattle.wallet_deeds.specs.Inside.{HandsOn};
 
 use node_journal::Stop;
+use node_replies::{Given, refused, wallet_cause};
 use node_rules::WalletRefusal;
 use std::alloc::Global;
-use world_rules::{Given, refused, wallet_cause};
 
 // What stopped a command that was refused for this.
 fn stop_in(why: &WalletRefusal) -> Option<Stop>

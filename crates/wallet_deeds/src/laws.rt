@@ -1,11 +1,4 @@
-ghost use Rattle.wallet_deeds.specs.Laws.{CommandsAreOrders, WatchesAreOrders, OrdersAddOneRecord, OrdersKeepTheRole};
-
-/// A law: a wallet's command, whose tokens are resolved in a world, does what its order does; and so does a
-/// wallet's watch.
-pub fn commands_are_orders()
-    ensures commands { CommandsAreOrders }
-    ensures watches { WatchesAreOrders }
-{}
+ghost use Rattle.wallet_deeds.specs.Laws.{OrdersAddOneRecord, OrdersKeepTheRole};
 
 /// A law: an order adds a note or a leaf's record at most.
 pub fn orders_add_one_record()

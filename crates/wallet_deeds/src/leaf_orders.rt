@@ -1,20 +1,20 @@
-ghost use Rattle.std.specs.Prelude.{◌≡◌, ℕ, false, None, IfOk};
+ghost use Rattle.std.specs.Prelude.{◌≡◌, false, None, IfOk};
 ghost use Rattle.node_journal.specs.Notes.{stopped_by};
 ghost use Rattle.node_rules.specs.Wallet.{send_effect};
 ghost use Rattle.wallet_node.specs.State.{wallet_stop, DidLeaf};
-ghost use Rattle.world_rules.specs.Given.{IsGiven};
-ghost use Rattle.wallet_deeds.specs.Orders.{again_deed, migrate_deed, order_deed, Does};
+ghost use Rattle.node_replies.specs.Given.{IsGiven};
+ghost use Rattle.node_replies.specs.Orders.{again_does, migrate_does, wallet_does};
+ghost use Rattle.wallet_deeds.specs.Orders.{Does};
 
 use super::causes::refuse;
-use super::order::WalletOrder;
 use crash_disk::Disk;
 use node_journal::Stop;
+use node_replies::{Given, Reply, WalletOrder, makes, says};
 use node_rules::{Sent, WalletRefusal};
 use plasma_base::Hash32;
 use plasma_tx::{Owner, RootLog};
 use std::alloc::Global;
 use wallet_node::WalletNode;
-use world_rules::{Given, Reply, makes, says};
 
 // Sends a coin, with a last block or without one.
 fn sent<D: Disk, H: Hash32 + Copy>(
@@ -44,9 +44,9 @@ pub fn send<D: Disk, H: Hash32 + Copy>(
     to: &Owner,
     last: Option<u64>,
 ) -> Result<Given, Stop>
-    ensures gives { (n : ℕ) → IfOk result (λ given. IsGiven (order_deed (H.digest_of node.old.hash) log.now.log n
-        node.old.records (WalletOrder.Send coin to.now last)).gives given) }
-    ensures did { (n : ℕ) → Does D.told D.plan D.faults (order_deed (H.digest_of node.old.hash) log.now.log n
+    ensures gives { IfOk result (λ given. IsGiven (wallet_does (H.digest_of node.old.hash) log.now.log
+        node.old.records (WalletOrder.Send coin to.now last)).response given) }
+    ensures did { Does D.told D.plan D.faults (wallet_does (H.digest_of node.old.hash) log.now.log
         node.old.records (WalletOrder.Send coin to.now last)) node.old (stopped_by result) node.new }
 {
     match sent(node, log, coin, to, last) {
@@ -62,8 +62,8 @@ pub fn again<D: Disk, H: Hash32 + Copy>(
     coin: u64,
 ) -> Result<Given, Stop>
     requires { node.now.closed ≡ false }
-    ensures gives { (n : ℕ) → IfOk result (λ given. IsGiven (again_deed n node.now.records coin).gives given) }
-    ensures did { (n : ℕ) → Does D.told D.plan D.faults (again_deed n node.now.records coin)
+    ensures gives { IfOk result (λ given. IsGiven (again_does node.now.records coin).response given) }
+    ensures did { Does D.told D.plan D.faults (again_does node.now.records coin)
         node.now (stopped_by result) node.now }
 {
     match node.again(coin) {
@@ -77,8 +77,8 @@ pub fn migrate<D: Disk, H: Hash32 + Copy>(
     alloc: Global,
     node: &mut WalletNode<D, H>,
 ) -> Result<Given, Stop>
-    ensures gives { (n : ℕ) → IfOk result (λ given. IsGiven (migrate_deed n node.old.records).gives given) }
-    ensures did { (n : ℕ) → Does D.told D.plan D.faults (migrate_deed n node.old.records)
+    ensures gives { IfOk result (λ given. IsGiven (migrate_does node.old.records).response given) }
+    ensures did { Does D.told D.plan D.faults (migrate_does node.old.records)
         node.old (stopped_by result) node.new }
 {
     match node.migrate() {

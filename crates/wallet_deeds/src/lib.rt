@@ -5,9 +5,7 @@ mod causes;
 mod laws;
 mod leaf_orders;
 mod note_orders;
-mod order;
 mod running;
 
-pub use laws::{commands_are_orders, orders_add_one_record, orders_keep_the_role};
-pub use order::WalletOrder;
+pub use laws::{orders_add_one_record, orders_keep_the_role};
 pub use running::run;

@@ -1,19 +1,18 @@
-ghost use Rattle.std.specs.Prelude.{◌≡◌, ℕ, false, IfOk};
+ghost use Rattle.std.specs.Prelude.{◌≡◌, false, IfOk};
 ghost use Rattle.node_journal.specs.Notes.{stopped_by};
-ghost use Rattle.world_rules.specs.Deeds.{exit_block};
-ghost use Rattle.world_rules.specs.Given.{IsGiven};
-ghost use Rattle.wallet_deeds.specs.Orders.{order_deed, Does};
+ghost use Rattle.node_replies.specs.Given.{IsGiven};
+ghost use Rattle.node_replies.specs.Orders.{exit_block, wallet_does};
+ghost use Rattle.wallet_deeds.specs.Orders.{Does};
 
 use super::causes::refuse;
-use super::order::WalletOrder;
 use crash_disk::Disk;
 use node_journal::Stop;
+use node_replies::{Given, Reply, WalletOrder, offer_kinds, offers, says};
 use node_rules::{Accepted, Reclaimed};
 use plasma_base::Hash32;
 use plasma_tx::{RootCall, RootLog};
 use std::alloc::Global;
 use wallet_node::WalletNode;
-use world_rules::{Given, Reply, offer_kinds, offers, says};
 
 // Takes a coin up by its history.
 pub fn accept<D: Disk, H: Hash32 + Copy>(
@@ -22,9 +21,9 @@ pub fn accept<D: Disk, H: Hash32 + Copy>(
     log: &RootLog,
     bundle: &[u8],
 ) -> Result<Given, Stop>
-    ensures gives { (n : ℕ) → IfOk result (λ given. IsGiven (order_deed (H.digest_of node.old.hash) log.now.log n
-        node.old.records (WalletOrder.Accept bundle.now)).gives given) }
-    ensures did { (n : ℕ) → Does D.told D.plan D.faults (order_deed (H.digest_of node.old.hash) log.now.log n
+    ensures gives { IfOk result (λ given. IsGiven (wallet_does (H.digest_of node.old.hash) log.now.log
+        node.old.records (WalletOrder.Accept bundle.now)).response given) }
+    ensures did { Does D.told D.plan D.faults (wallet_does (H.digest_of node.old.hash) log.now.log
         node.old.records (WalletOrder.Accept bundle.now)) node.old (stopped_by result) node.new }
 {
     match node.accept(log, bundle) {
@@ -52,9 +51,9 @@ pub fn leave<D: Disk, H: Hash32 + Copy>(
     coin: u64,
 ) -> Result<Given, Stop>
     requires { node.old.closed ≡ false }
-    ensures gives { (n : ℕ) → IfOk result (λ given. IsGiven (order_deed (H.digest_of node.old.hash) log.now.log n
-        node.old.records (WalletOrder.Leave coin)).gives given) }
-    ensures did { (n : ℕ) → Does D.told D.plan D.faults (order_deed (H.digest_of node.old.hash) log.now.log n
+    ensures gives { IfOk result (λ given. IsGiven (wallet_does (H.digest_of node.old.hash) log.now.log
+        node.old.records (WalletOrder.Leave coin)).response given) }
+    ensures did { Does D.told D.plan D.faults (wallet_does (H.digest_of node.old.hash) log.now.log
         node.old.records (WalletOrder.Leave coin)) node.old (stopped_by result) node.new }
 {
     let mut calls = Vec::with_capacity(alloc, 1)?;
@@ -75,9 +74,9 @@ pub fn reclaim<D: Disk, H: Hash32 + Copy>(
     log: &RootLog,
     bundle: &[u8],
 ) -> Result<Given, Stop>
-    ensures gives { (n : ℕ) → IfOk result (λ given. IsGiven (order_deed (H.digest_of node.old.hash) log.now.log n
-        node.old.records (WalletOrder.Reclaim bundle.now)).gives given) }
-    ensures did { (n : ℕ) → Does D.told D.plan D.faults (order_deed (H.digest_of node.old.hash) log.now.log n
+    ensures gives { IfOk result (λ given. IsGiven (wallet_does (H.digest_of node.old.hash) log.now.log
+        node.old.records (WalletOrder.Reclaim bundle.now)).response given) }
+    ensures did { Does D.told D.plan D.faults (wallet_does (H.digest_of node.old.hash) log.now.log
         node.old.records (WalletOrder.Reclaim bundle.now)) node.old (stopped_by result) node.new }
 {
     match node.reclaim(log, bundle) {
@@ -93,9 +92,9 @@ pub fn watch<D: Disk, H: Hash32 + Copy>(
     log: &RootLog,
 ) -> Result<Given, Stop>
     requires { node.now.closed ≡ false }
-    ensures gives { (n : ℕ) → IfOk result (λ given. IsGiven (order_deed (H.digest_of node.now.hash) log.now.log n
-        node.now.records WalletOrder.Watch).gives given) }
-    ensures did { (n : ℕ) → Does D.told D.plan D.faults (order_deed (H.digest_of node.now.hash) log.now.log n
+    ensures gives { IfOk result (λ given. IsGiven (wallet_does (H.digest_of node.now.hash) log.now.log
+        node.now.records WalletOrder.Watch).response given) }
+    ensures did { Does D.told D.plan D.faults (wallet_does (H.digest_of node.now.hash) log.now.log
         node.now.records WalletOrder.Watch) node.now (stopped_by result) node.now }
 {
     let calls = node.watch(log)?;

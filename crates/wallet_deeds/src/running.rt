@@ -1,18 +1,18 @@
-ghost use Rattle.std.specs.Prelude.{◌≡◌, ℕ, false, IfOk};
+ghost use Rattle.std.specs.Prelude.{◌≡◌, false, IfOk};
 ghost use Rattle.node_journal.specs.Notes.{stopped_by};
-ghost use Rattle.world_rules.specs.Given.{IsGiven};
-ghost use Rattle.wallet_deeds.specs.Orders.{order_deed, Does};
+ghost use Rattle.node_replies.specs.Given.{IsGiven};
+ghost use Rattle.node_replies.specs.Orders.{wallet_does};
+ghost use Rattle.wallet_deeds.specs.Orders.{Does};
 
 use super::leaf_orders::{again, migrate, send};
 use super::note_orders::{accept, leave, reclaim, watch};
-use super::order::WalletOrder;
 use crash_disk::Disk;
 use node_journal::Stop;
+use node_replies::{Given, WalletOrder};
 use plasma_base::Hash32;
 use plasma_tx::RootLog;
 use std::alloc::Global;
 use wallet_node::WalletNode;
-use world_rules::Given;
 
 /// Runs an order on a wallet that no fault closed, with the log of the root chain, and gives out its answer, the
 /// bytes that it makes and the calls that it offers. A refusal of the wallet is such an answer, by the text of its
@@ -27,9 +27,9 @@ pub fn run<D: Disk, H: Hash32 + Copy>(
     order: &WalletOrder,
 ) -> Result<Given, Stop>
     requires { node.old.closed ≡ false }
-    ensures gives { (n : ℕ) → IfOk result (λ given. IsGiven (order_deed (H.digest_of node.old.hash) log.now.log n
-        node.old.records order.now).gives given) }
-    ensures did { (n : ℕ) → Does D.told D.plan D.faults (order_deed (H.digest_of node.old.hash) log.now.log n
+    ensures gives { IfOk result (λ given. IsGiven (wallet_does (H.digest_of node.old.hash) log.now.log
+        node.old.records order.now).response given) }
+    ensures did { Does D.told D.plan D.faults (wallet_does (H.digest_of node.old.hash) log.now.log
         node.old.records order.now) node.old (stopped_by result) node.new }
 {
     match order {

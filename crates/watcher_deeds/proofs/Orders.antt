@@ -12,9 +12,9 @@ use Rattle.coin_history.specs.declared.refusal.HistoryRefusal.{HistoryRefusal}
 use Rattle.node_rules.specs.declared.refusal.WatcherRefusal.{WatcherRefusal}
 use Rattle.node_rules.specs.Kept.{links_handed}
 use Rattle.node_rules.specs.Watcher.{Released, note_text, guard_taken, guard_by, guard_causes, guard_effect, release_effect, guards_in, is_of, who_is}
-use Rattle.world_rules.specs.Deeds.{Gives, answered, refused}
-use Rattle.world_rules.specs.declared.given.Given.{Given}
-use Rattle.world_rules.specs.Given.{IsGiven}
+use Rattle.node_replies.specs.Orders.{Response, answered, refused}
+use Rattle.node_replies.specs.declared.given.Given.{Given}
+use Rattle.node_replies.specs.Given.{IsGiven}
 
 -- a refusal adds no record where the answer that is taken is none
 unless-refused : {A E : Type 0} (cause : Option E) (effect : Effect (Result A E)) (answer : A) (why : E)
@@ -48,14 +48,14 @@ release-refused dig notes coin tip why = at (list_any (is_of coin tip) (guards_i
     at false is = refl
 
 -- what is given out for a refusal, or stopped so
-pub given-refused : {A E : Type 0} (n : ℕ) (cause : E → List ℕ) (give : A → Gives) (answer : Result A E) (why : E)
+pub given-refused : {A E : Type 0} (cause : E → List ℕ) (give : A → Response) (answer : Result A E) (why : E)
     (stop : Option Stop) (result : Result Given Stop) → (stop ≡ None → Err why ≡ answer)
-    → IfOk result (λ given. IsGiven (refused n (cause why)) given) → IfSome stop (λ s. result ≡ Err s)
-    → IfOk result (λ given. IsGiven (answered n cause give answer) given)
-given-refused n cause give answer why None result same gives stops =
-    subst (λ a. IfOk result (λ given. IsGiven (answered n cause give a) given)) (same refl) gives
-given-refused n cause give answer why (Some stop) result same gives stops =
-    subst (λ r. IfOk r (λ given. IsGiven (answered n cause give answer) given)) (sym stops) tt
+    → IfOk result (λ given. IsGiven (refused (cause why)) given) → IfSome stop (λ s. result ≡ Err s)
+    → IfOk result (λ given. IsGiven (answered cause give answer) given)
+given-refused cause give answer why None result same gives stops =
+    subst (λ a. IfOk result (λ given. IsGiven (answered cause give a) given)) (same refl) gives
+given-refused cause give answer why (Some stop) result same gives stops =
+    subst (λ r. IfOk r (λ given. IsGiven (answered cause give answer) given)) (sym stops) tt
 
 -- What a run did that was refused for a cause that isn't a stop, or stopped. The text of a cause may find no memory.
 module _ {D : Type 0} (told : D → Option History) (plan : D → Option FaultPlan) (faults : D → ℕ) where

@@ -1,11 +1,4 @@
-ghost use Rattle.watcher_deeds.specs.Laws.{CommandsAreOrders, WatchesAreOrders, OrdersAddNoLeaf, OrdersKeepTheRole};
-
-/// A law: what a command of a watcher does in the world is what its order does, by the watcher's records and
-/// the log; so is what a watch does.
-pub fn commands_are_orders()
-    ensures own { CommandsAreOrders }
-    ensures watch { WatchesAreOrders }
-{}
+ghost use Rattle.watcher_deeds.specs.Laws.{OrdersAddNoLeaf, OrdersKeepTheRole};
 
 /// A law: an order adds no leaf.
 pub fn orders_add_no_leaf()

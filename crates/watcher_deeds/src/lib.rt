@@ -2,9 +2,7 @@
 #![tactic(auto)]
 
 mod laws;
-mod order;
 mod running;
 
-pub use laws::{commands_are_orders, orders_add_no_leaf, orders_keep_the_role};
-pub use order::WatcherOrder;
+pub use laws::{orders_add_no_leaf, orders_keep_the_role};
 pub use running::run;

@@ -11,7 +11,7 @@ use Rattle.plasma_tx.specs.Shown.{Tests, Rules, tests_by, rules_of}
 use Rattle.schedule_text.specs.declared.line.Line.{Line}
 use Rattle.schedule_text.specs.Grammar.{IsLine}
 use Rattle.world_rules.specs.declared.TheConstants.{MOST_MAIL}
-use Rattle.world_rules.specs.declared.reply.TraceLine.{TraceLine}
+use Rattle.world_rules.specs.declared.trace.TraceLine.{TraceLine}
 use Rattle.world_rules.specs.World.{World}
 use Rattle.world_rules.specs.Declarations.{keeps_rules}
 use Rattle.world_rules.specs.Events.{Event, log_of}

@@ -3,7 +3,7 @@ use Rattle.std.proofs.Common.{◌≡◌, ℕ, true, false, List, [], Option, Som
 use Rattle.std.specs.Prelude.{option_map}
 use Rattle.line_forms.proofs.FormLaws.{option_map_some}
 use Rattle.schedule_text.specs.declared.line.Line.{Line}
-use Rattle.world_rules.specs.declared.reply.Reply.{Reply}
+use Rattle.node_replies.specs.declared.reply.Reply.{Reply}
 use Rattle.world_rules.specs.Declarations.{keeps_rules, keeps_rules_in}
 use Rattle.world_rules.specs.Steps.{new_chain, new_world, effect_of}
 use Rattle.run_trace.specs.declared.event.LineEvent.{LineEvent}

@@ -26,7 +26,7 @@ use Rattle.world_rules.specs.World.{Role, Wallet, Watcher, Node, Rogue, World, i
 use Rattle.world_rules.specs.Declarations.{plays, declared_wallet, types_or_first, keeps_rules}
 use Rattle.world_rules.specs.Deeds.{deed_of}
 use Rattle.world_rules.specs.Steps.{LineEffect, new_chain, new_world, new_node, called, raw_called, deposit_by, offer_numbered, entered, answers_down, commanded, declares_wallet, down, crashed, cut, act_on, command_effect, cut_effect, signed_by, signed_body, effect_in, effect_of, step, entry_of, Run, no_lines, with_line, step_run, run_of}
-use Rattle.world_rules.proofs.ByteTexts.{Small, small-nil}
+use Rattle.node_replies.proofs.ByteTexts.{Small, small-nil}
 use Rattle.world_rules.proofs.Existence.{position-is}
 use Rattle.world_rules.proofs.Shapes.{acted}
 use Rattle.world_rules.proofs.StepLaws.{stepped}

@@ -30,9 +30,11 @@ use Rattle.node_rules.specs.WalletCommandLaws.{with_more}
 use Rattle.node_rules.specs.Wallet.{WalletRecords, who, accept_effect, send_effect, leave_effect, reclaim_effect, migrate_effect}
 use Rattle.world_rules.specs.World.{Role, Wallet, Watcher, Operator, Node, Rogue, World, wallet_of, owner_of_node, owner_of_rogue, with_node, bytes_of, is_named, is_wallet_role, is_watcher_role, is_operator_role, rogue_named, owner_named, new_owner_of}
 use Rattle.world_rules.specs.Declarations.{plays}
-use Rattle.world_rules.specs.Deeds.{Deed, wallet_command, send_deed, with_record, deed_of}
+use Rattle.world_rules.specs.Deeds.{Deed, deed_of}
+use Rattle.node_replies.specs.Orders.{with_record}
+use Rattle.world_rules.proofs.ByCommand.{wallet_command, send_deed, command_deed, deed-by-command}
 use Rattle.world_rules.specs.Steps.{LineEffect, called, entered, with_records, after_command, after_crash, commanded, crashed, cut}
-use Rattle.world_rules.proofs.ByteTexts.{Small, small-take, small-drop}
+use Rattle.node_replies.proofs.ByteTexts.{Small, small-take, small-drop}
 use Rattle.world_rules.proofs.OperatorItems.{AreSmallRecords}
 use Rattle.world_rules.proofs.Shapes.{IsCut, Kept, Lost, is_cut}
 use Rattle.world_rules.proofs.Said.{Said}
@@ -297,21 +299,27 @@ module _ (dig : List ℕ → List ℕ) (world : World) (kept : KeepsWallets dig 
   not-operator Watcher operator is = false≢true operator
   not-operator Operator operator is = false≢true is
 
+  told-keeps : (n : ℕ) (node : Node) (command : Command) (deed : Deed) → plays command node.role ≡ true
+      → IsFit command → command_deed dig world n node command ≡ Some deed → IsKept dig world.chain.log node
+      → IsKept dig world.chain.log (with_records node deed)
+  unfolding command_deed
+  told-keeps n node (Command.Wallet name own) deed role fit is has = λ wallet.
+      let it = has wallet in
+      wallet-keeps n it.0 (wallet_of node) it.1 own deed fit is
+  told-keeps n node (Command.Watcher name own) deed role fit is has = λ wallet.
+      absurd (not-watcher node.role role wallet)
+  told-keeps n node (Command.Operator own) deed role fit is has = λ wallet.
+      absurd (not-operator node.role role wallet)
+  told-keeps n node (Command.Watch name) deed role fit is has =
+      subst (λ (d : Deed). IsKept dig world.chain.log (with_records node d)) (some_same _ deed is) has
+  told-keeps n node (Command.Open name) deed role fit is has =
+      subst (λ (d : Deed). IsKept dig world.chain.log (with_records node d)) (some_same _ deed is) has
+
   command-keeps : (n : ℕ) (node : Node) (command : Command) (deed : Deed) → plays command node.role ≡ true
       → IsFit command → deed_of dig world n node command ≡ Some deed → IsKept dig world.chain.log node
       → IsKept dig world.chain.log (with_records node deed)
-  unfolding deed_of
-  command-keeps n node (Command.Wallet name own) deed role fit is has = λ wallet.
-      let it = has wallet in
-      wallet-keeps n it.0 (wallet_of node) it.1 own deed fit is
-  command-keeps n node (Command.Watcher name own) deed role fit is has = λ wallet.
-      absurd (not-watcher node.role role wallet)
-  command-keeps n node (Command.Operator own) deed role fit is has = λ wallet.
-      absurd (not-operator node.role role wallet)
-  command-keeps n node (Command.Watch name) deed role fit is has =
-      subst (λ (d : Deed). IsKept dig world.chain.log (with_records node d)) (some_same _ deed is) has
-  command-keeps n node (Command.Open name) deed role fit is has =
-      subst (λ (d : Deed). IsKept dig world.chain.log (with_records node d)) (some_same _ deed is) has
+  command-keeps n node command deed role fit is =
+      told-keeps n node command deed role fit (deed-by-command dig world n node command deed is)
 
   -- ---- one node
 

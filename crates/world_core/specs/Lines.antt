@@ -2,7 +2,7 @@
 use Rattle.std.specs.Prelude.{◌≡◌, ◌+◌, ◌∷◌, ℕ, Bool, true, false, List, length, Option, Some, None}
 use Rattle.std.specs.Option.{option_map_or}
 use Rattle.schedule_text.specs.declared.line.Line.{Line}
-use Rattle.world_rules.specs.declared.reply.TraceLine.{TraceLine}
+use Rattle.world_rules.specs.declared.trace.TraceLine.{TraceLine}
 use Rattle.world_rules.specs.Steps.{is_mail_full, TraceEntry, Run, run_of}
 use Rattle.world_scene.specs.Scenes.{SceneState}
 use Rattle.world_scene.specs.Moves.{Moves}

@@ -3,8 +3,9 @@ ghost use Rattle.plasma_tx.specs.Views.{blocks, coins};
 ghost use Rattle.world_rules.specs.Verdicts.{is_refused_reply, count_verdicts, is_held_kind, is_paid_kind, is_away_kind, is_lost_kind, is_unattended_kind};
 ghost use Rattle.world_core.specs.Counting.{verdict_counts, with_log, with_answer};
 
+use node_replies::Reply;
 use plasma_tx::RootLog;
-use world_rules::{Counts, Reply, Verdict, VerdictKind};
+use world_rules::{Counts, Verdict, VerdictKind};
 
 // Whether an answer begins with `refused`.
 fn is_refused(done: bool, reply: &Reply) -> bool

@@ -10,10 +10,11 @@ ghost use Rattle.world_core.specs.Taking.{Takes};
 
 use super::counting::with_answer;
 use super::world::World;
+use node_replies::Reply;
 use plasma_base::{Bytes, Hash32};
 use run_trace::LineEvent;
 use schedule_text::Line;
-use world_rules::{Reply, TraceLine};
+use world_rules::TraceLine;
 use world_scene::{LineAnswer, Scene, StepRefusal};
 
 // What the type of bytes says of them. It does nothing.

@@ -25,15 +25,18 @@ use Rattle.node_rules.proofs.WalletGrow.{accepted-accepts, accepted-leaves, acce
 use Rattle.node_rules.proofs.WalletAdded.{send-note, migrate-note}
 use Rattle.node_rules.proofs.WalletRole.{accepts_add_their_notes, leaves_add_their_notes, reclaims_add_their_notes}
 use Rattle.watch_duty.proofs.Members.{has-cases}
-use Rattle.world_rules.specs.Causes.{wallet_cause}
+use Rattle.node_replies.specs.Causes.{wallet_cause}
 use Rattle.world_rules.specs.Events.{Event, Accepts}
 use Rattle.world_rules.specs.World.{Role, Wallet, Watcher, Operator, Node, World, wallet_of, is_wallet_role, is_watcher_role, is_operator_role, bytes_of, new_owner_of}
-use Rattle.world_rules.specs.Deeds.{Deed, answered, bundle_read, with_record, on_accepted, on_sent, on_sent_again, on_leaving, on_reclaimed, on_migrated, on_open, send_deed, wallet_command, deed_of}
-use Rattle.world_rules.proofs.ByteTexts.{Small}
+use Rattle.world_rules.specs.Deeds.{Deed}
+use Rattle.world_rules.proofs.ByCommand.{answered, on_accepted, on_sent, on_sent_again, on_leaving, on_reclaimed, on_migrated, on_open, send_deed, wallet_command, command_deed, deed-by-command}
+use Rattle.world_rules.specs.OrderEvents.{bundle_read}
+use Rattle.node_replies.specs.Orders.{with_record}
+use Rattle.node_replies.proofs.ByteTexts.{Small}
 use Rattle.world_rules.proofs.OperatorItems.{AreSmallRecords}
 use Rattle.world_rules.proofs.Said.{Said, told}
 use Rattle.world_rules.proofs.Shapes.{IsDone}
-use Rattle.world_rules.proofs.WalletEnds.{AcceptEnds, Refused, Known, New, accept_ends}
+use Rattle.node_replies.proofs.WalletEnds.{AcceptEnds, Refused, Known, New, accept_ends}
 use Rattle.world_rules.proofs.WalletSends.{words}
 use Rattle.world_rules.proofs.KeptWallet.{KeptWallet}
 use Rattle.world_rules.proofs.KeptNode.{IsFit, IsFitWallet, token-small}
@@ -241,19 +244,25 @@ module _ (dig : List ℕ → List ℕ) (world : World) (n : ℕ) (node : Node) (
       by Operator wallet operator = false≢true wallet
 
   -- each command of a wallet
-  pub accepts-shown : (command : Command) (deed : Deed) → IsFit command → IsDone dig world command n node deed
+  shown-by-command : (command : Command) (deed : Deed) → IsFit command → IsDone dig world command n node deed
+      → command_deed dig world n node command ≡ Some deed
       → ShownAfter deed
-  unfolding deed_of
-  accepts-shown (Command.Wallet name own) deed fit done = wallet-shown own deed fit done.deed_is
-  accepts-shown (Command.Watcher name own) deed fit done =
+  unfolding command_deed
+  shown-by-command (Command.Wallet name own) deed fit done deed_is = wallet-shown own deed fit deed_is
+  shown-by-command (Command.Watcher name own) deed fit done deed_is =
       absurd (not-watcher (done-role dig world (Command.Watcher name own) n node deed done))
-  accepts-shown (Command.Operator own) deed fit done =
+  shown-by-command (Command.Operator own) deed fit done deed_is =
       absurd (not-operator (done-role dig world (Command.Operator own) n node deed done))
-  accepts-shown (Command.Watch name) deed fit done = subst ShownAfter (some_same _ deed done.deed_is) shown
-  accepts-shown (Command.Open name) deed fit done =
-      subst ShownAfter (some_same _ deed done.deed_is) (opened node.is_up)
+  shown-by-command (Command.Watch name) deed fit done deed_is = subst ShownAfter (some_same _ deed deed_is) shown
+  shown-by-command (Command.Open name) deed fit done deed_is =
+      subst ShownAfter (some_same _ deed deed_is) (opened node.is_up)
     where
       opened : (b : Bool)
           → AreShown world.chain.tag (told (on_open n node b).event s).accepted (accepted_in dig node.notes)
       opened true = shown
       opened false = shown
+
+  pub accepts-shown : (command : Command) (deed : Deed) → IsFit command → IsDone dig world command n node deed
+      → ShownAfter deed
+  accepts-shown command deed fit done =
+      shown-by-command command deed fit done (deed-by-command dig world n node command deed done.deed_is)

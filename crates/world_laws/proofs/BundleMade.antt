@@ -1,6 +1,6 @@
 -- What a line makes that is answered with a bundle: the bytes of the bundle that the operator's notes and the log give.
 use Rattle.std.proofs.Common.{◌≡◌, ℕ, ◌==◌, Bool, true, false, if◌then◌else◌, List, Some, Ok, Err, inl, inr, refl, sym, ap, ◌∙◌, slice_get}
-use Rattle.std.specs.Prelude.{Result}
+use Rattle.std.specs.Prelude.{Result, option_map}
 use Rattle.std.proofs.lemmas.Bool.{false≢true, eq-eqb, eqb-true, and_parts}
 use Rattle.line_forms.specs.declared.tokens.OutcomeToken.{OutcomeToken}
 use Rattle.coin_history.specs.declared.bundle.Bundle.{Bundle}
@@ -10,6 +10,7 @@ use Rattle.schedule_text.specs.declared.line.Line.{Line}
 use Rattle.schedule_text.specs.declared.command.Command.{Command}
 use Rattle.schedule_text.specs.declared.command.OperatorCommand.{OperatorCommand}
 use Rattle.schedule_text.specs.Grammar.{node_of}
+use Rattle.line_forms.proofs.FormLaws.{option_map_some}
 use Rattle.plasma_tx.specs.declared.call.RootCall.{RootCall}
 use Rattle.plasma_tx.specs.declared.views.CoinView.{CoinView}
 use Rattle.plasma_tx.specs.Views.{coin_at}
@@ -18,12 +19,13 @@ use Rattle.sparse_merkle.specs.declared.tree.Entry.{Entry}
 use Rattle.operator_rules.specs.declared.refusal.ProveRefusal.{ProveRefusal}
 use Rattle.operator_rules.specs.Walk.{Place, present}
 use Rattle.operator_rules.specs.Commands.{openings_of, as_bundle, bundle_between, bundle_to, bundle_of, bundle_answer, tip_asked}
-use Rattle.world_rules.specs.declared.reply.Reply.{Reply}
-use Rattle.world_rules.specs.Causes.{prove_cause}
+use Rattle.node_replies.specs.declared.reply.Reply.{Reply}
+use Rattle.node_replies.specs.Causes.{prove_cause}
 use Rattle.world_rules.specs.Events.{Other}
 use Rattle.world_rules.specs.World.{Node, World, is_operator_role, is_named, number_of}
 use Rattle.world_rules.specs.Declarations.{plays}
-use Rattle.world_rules.specs.Deeds.{Deed, answered, on_bundled, without_record, deed_of}
+use Rattle.world_rules.specs.Deeds.{Deed, deed_of}
+use Rattle.world_rules.proofs.ByCommand.{answered, on_bundled, without_record, command_deed, deed-by-command}
 use Rattle.world_rules.specs.Steps.{LineEffect, answers_down, commanded, down, cut, without_offers, command_effect, cut_effect, effect_in, step}
 use Rattle.world_rules.specs.Laws.{IsCommandIn}
 use Rattle.world_rules.proofs.Existence.{position-is}
@@ -111,17 +113,25 @@ module _ (dig : List ℕ → List ℕ) (world : World) (coin asked tip : ℕ) wh
       without_record (answered n prove_cause (on_bundled n)
       (bundle_answer dig node.notes world.chain.log coin asked))
 
+  -- the deed of the command is that one
+  deed-made : (n : ℕ) (node : Node) (deed : Deed) → deed_of dig world n node command ≡ Some deed
+      → deed_at n node ≡ deed
+  unfolding command_deed
+  deed-made n node deed is = some_same (deed_at n node) deed (deed-by-command dig world n node command deed is)
+
   plain-made : (n : ℕ) (node : Node) (effect : LineEffect) → slice_get world.nodes n ≡ Some node
       → is_operator_role node.role ≡ true → command_effect dig world command n node ≡ Some effect
       → effect.reply ≡ Reply.Bundled tip → IsMadeBundle dig world coin asked tip effect
-  unfolding deed_of
   plain-made n node effect node_is role is reply = by (answers_down node command) is
     where
-      by : (b : Bool) → (if b then Some (down world) else Some (commanded world n node (deed_at n node))) ≡ Some effect
+      by : (b : Bool)
+          → (if b then Some (down world) else option_map (commanded world n node) (deed_of dig world n node command))
+          ≡ Some effect
           → IsMadeBundle dig world coin asked tip effect
       by true is = absurd (cc (ap (λ (e : LineEffect). e.reply) (some_same _ effect is) ∙ reply))
       by false is =
-          let same = some_same (commanded world n node (deed_at n node)) effect is in
+          let done = option_map_some (commanded world n node) (deed_of dig world n node command) effect is in
+          let same = ap (commanded world n node) (deed-made n node done.0 done.1) ∙ done.2 in
           let found = answered-bundle n (bundle_answer dig node.notes world.chain.log coin asked)
           (ap (λ (e : LineEffect). e.reply) same ∙ reply) in
           record {
@@ -140,15 +150,17 @@ module _ (dig : List ℕ → List ℕ) (world : World) (coin asked tip : ℕ) wh
       → slice_get world.nodes n ≡ Some node → is_operator_role node.role ≡ true
       → cut_effect dig world calls outcome command n node ≡ Some effect → effect.reply ≡ Reply.Bundled tip
       → IsMadeBundle dig world coin asked tip effect
-  unfolding deed_of
   cut-made calls outcome n node effect node_is role is reply = by (answers_down node command) is
     where
       by : (b : Bool)
-          → (if b then Some (down world) else Some (cut world n node calls outcome command (deed_at n node)))
+          → (if b then Some (down world)
+          else option_map (cut world n node calls outcome command) (deed_of dig world n node command))
           ≡ Some effect → IsMadeBundle dig world coin asked tip effect
       by true is = absurd (cc (ap (λ (e : LineEffect). e.reply) (some_same _ effect is) ∙ reply))
       by false is =
-          let same = some_same (cut world n node calls outcome command (deed_at n node)) effect is in
+          let done = option_map_some (cut world n node calls outcome command) (deed_of dig world n node command)
+          effect is in
+          let same = ap (cut world n node calls outcome command) (deed-made n node done.0 done.1) ∙ done.2 in
           let found = answered-bundle n (bundle_answer dig node.notes world.chain.log coin asked)
           (ap (λ (e : LineEffect). e.reply) same ∙ reply) in
           record {

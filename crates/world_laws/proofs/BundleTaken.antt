@@ -14,9 +14,9 @@ use Rattle.node_rules.specs.declared.refusal.WalletRefusal.{WalletRefusal}
 use Rattle.node_rules.specs.Kept.{kept_of, links_handed, standing_block, most_note}
 use Rattle.node_rules.specs.WalletRecords.{Accepts, note_text, owner_of, notes_of}
 use Rattle.node_rules.specs.Wallet.{WalletRecords, WalletEffect, answers, notes_it, unless, who, noted, standing_causes, is_known, accept_by, accept_effect}
-use Rattle.world_rules.specs.declared.reply.Reply.{Reply}
-use Rattle.world_rules.specs.Causes.{wallet_cause}
-use Rattle.world_rules.specs.Deeds.{answered, on_accepted}
+use Rattle.node_replies.specs.declared.reply.Reply.{Reply}
+use Rattle.node_replies.specs.Causes.{wallet_cause}
+use Rattle.world_rules.proofs.ByCommand.{answered, on_accepted}
 use Rattle.world_rules.proofs.KeptWallet.{state-me}
 use Rattle.world_laws.specs.Bundles.{IsTakenBundle}
 

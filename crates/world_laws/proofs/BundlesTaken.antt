@@ -3,9 +3,11 @@ use Rattle.std.proofs.Common.{◌≡◌, ℕ, zero, suc, ◌^◌, ◌<◌, ◌�
 use Rattle.std.specs.List.{list_any}
 use Rattle.std.proofs.lemmas.Bool.{or_parts, true≢false, false≢true}
 use Rattle.std.proofs.lemmas.List.Folds.{list_any-append}
+use Rattle.std.specs.Prelude.{option_map}
 use Rattle.line_forms.specs.declared.tokens.HexOrItem.{HexOrItem}
 use Rattle.sparse_merkle.specs.declared.tree.Entry.{Entry}
 use Rattle.sparse_merkle.specs.TreeDigest.{leaf_of}
+use Rattle.line_forms.proofs.FormLaws.{option_map_some}
 use Rattle.plasma_tx.specs.Links.{tip_of}
 use Rattle.plasma_tx.specs.declared.owner.Owner.{Owner}
 use Rattle.plasma_tx.specs.declared.views.CoinView.{CoinView}
@@ -25,11 +27,12 @@ use Rattle.operator_rules.specs.Records.{notes_of}
 use Rattle.operator_rules.specs.Trees.{tree_at}
 use Rattle.operator_rules.specs.Walk.{Place, place_at}
 use Rattle.operator_rules.specs.Commands.{forest_in, bundle_of, bundle_answer}
-use Rattle.world_rules.specs.Causes.{wallet_cause}
+use Rattle.node_replies.specs.Causes.{wallet_cause}
 use Rattle.world_rules.specs.Events.{Event, Joins, log_of}
 use Rattle.world_rules.specs.World.{Role, Wallet, Watcher, Operator, Node, World, is_wallet_role, number_of, owner_of_node, wallet_of, bytes_of}
 use Rattle.world_rules.specs.Safety.{is_joined}
-use Rattle.world_rules.specs.Deeds.{answered, on_accepted, wallet_deed, deed_of}
+use Rattle.world_rules.proofs.ByCommand.{answered, on_accepted, wallet_deed, command_deed, deed-by-command}
+use Rattle.world_rules.specs.Deeds.{Deed, deed_of}
 use Rattle.world_rules.specs.Steps.{LineEffect, TraceEntry, Run, down, commanded, command_effect, effect_in, step, events_of}
 use Rattle.world_rules.proofs.KeptRun.{run-kept}
 use Rattle.world_rules.proofs.KeptWorld.{KeptWorld}
@@ -228,6 +231,16 @@ wallet-tag events tag n node Wallet is_role is = is
 wallet-tag events tag n node Watcher is_role is = absurd (false≢true is_role)
 wallet-tag events tag n node Operator is_role is = absurd (false≢true is_role)
 
+-- the deed of an accept
+accept-deed : (dig : List ℕ → List ℕ) (world : World) (name : List ℕ) (n : ℕ) (node : Node) (token : HexOrItem)
+    (deed : Deed) → deed_of dig world n node (Command.Wallet name (WalletCommand.Accept token)) ≡ Some deed
+    → wallet_deed n (on_accepted n (bytes_of world token))
+    (accept_effect dig (wallet_of node) world.chain.log (bytes_of world token)) ≡ deed
+unfolding command_deed
+accept-deed dig world name n node token deed is =
+    some_same _ deed
+    (deed-by-command dig world n node (Command.Wallet name (WalletCommand.Accept token)) deed is)
+
 -- what the wallet answers that is up
 accept-reply : (dig : List ℕ → List ℕ) (world : World) (name : List ℕ) (n : ℕ) (node : Node) (token : HexOrItem)
     (effect : LineEffect) → number_of is_wallet_role world name ≡ Some n → slice_get world.nodes n ≡ Some node
@@ -235,7 +248,7 @@ accept-reply : (dig : List ℕ → List ℕ) (world : World) (name : List ℕ) (
     → step dig (Some world) (Line.Command (Command.Wallet name (WalletCommand.Accept token))) ≡ Some effect
     → effect.reply ≡ (answered n wallet_cause (on_accepted n (bytes_of world token))
     (accept_effect dig (wallet_of node) world.chain.log (bytes_of world token)).answer).reply
-unfolding effect_in deed_of
+unfolding effect_in
 accept-reply dig world name n node token effect number node_is is_up is =
     let command = Command.Wallet name (WalletCommand.Accept token) in
     let made = stepped dig world (Line.Command command) effect is in
@@ -250,12 +263,15 @@ accept-reply dig world name n node token effect number node_is is_up is =
   where
     by : (bare : LineEffect) (b : Bool) → b ≡ true
         → (if not b && true then Some (down world)
-        else Some (commanded world n node
-        (wallet_deed n (on_accepted n (bytes_of world token))
-        (accept_effect dig (wallet_of node) world.chain.log (bytes_of world token))))) ≡ Some bare
+        else option_map (commanded world n node)
+        (deed_of dig world n node (Command.Wallet name (WalletCommand.Accept token)))) ≡ Some bare
         → bare.reply ≡ (answered n wallet_cause (on_accepted n (bytes_of world token))
         (accept_effect dig (wallet_of node) world.chain.log (bytes_of world token)).answer).reply
-    by bare true up is = ap (λ (e : LineEffect). e.reply) (sym (some_same _ bare is))
+    by bare true up is =
+        let asked = Command.Wallet name (WalletCommand.Accept token) in
+        let done = option_map_some (commanded world n node) (deed_of dig world n node asked) bare is in
+        ap (λ (e : LineEffect). e.reply)
+        (sym (ap (commanded world n node) (accept-deed dig world name n node token done.0 done.1) ∙ done.2))
     by bare false up is = absurd (false≢true up)
 
 -- a history that ends with the wallet is taken, where its note isn't too long

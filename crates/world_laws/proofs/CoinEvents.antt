@@ -13,10 +13,11 @@ use Rattle.schedule_text.specs.declared.command.OperatorCommand.{OperatorCommand
 use Rattle.node_rules.specs.Wallet.{accept_effect, send_effect, again_answer, leave_effect, reclaim_effect, migrate_effect}
 use Rattle.node_rules.specs.Watcher.{guard_effect, release_effect}
 use Rattle.operator_rules.specs.Commands.{offer_effect, lay_effect, seal_effect, prove_answer, bundle_answer, absences_answer}
-use Rattle.world_rules.specs.Causes.{wallet_cause, watcher_cause, offer_cause, lay_cause, seal_cause, prove_cause}
+use Rattle.node_replies.specs.Causes.{wallet_cause, watcher_cause, offer_cause, lay_cause, seal_cause, prove_cause}
 use Rattle.world_rules.specs.Events.{Event, Watches, Leaves, Seals, Joins, Bounces}
 use Rattle.world_rules.specs.World.{Node, World, is_wallet_role, wallet_of, bytes_of, new_owner_of}
-use Rattle.world_rules.specs.Deeds.{Gives, Deed, answered, on_accepted, on_sent, on_sent_again, on_leaving, on_reclaimed, on_migrated, send_deed, wallet_command, on_guarded, on_released, watcher_command, on_pooled, on_laid, on_sealed, on_bundled, on_proved, operator_command, on_open, deed_of}
+use Rattle.world_rules.specs.Deeds.{Gives, Deed}
+use Rattle.world_rules.proofs.ByCommand.{answered, on_accepted, on_sent, on_sent_again, on_leaving, on_reclaimed, on_migrated, send_deed, wallet_command, on_guarded, on_released, watcher_command, on_pooled, on_laid, on_sealed, on_bundled, on_proved, operator_command, on_open, command_deed, deed-by-command}
 use Rattle.world_rules.specs.Steps.{LineEffect, cut, without_offers, Run, events_of}
 use Rattle.world_rules.proofs.KeptNode.{IsFit, IsFitWallet}
 use Rattle.world_rules.proofs.KeptWorld.{KeptWorld, world-feeds}
@@ -107,24 +108,30 @@ module _ (dig : List ℕ → List ℕ) (events : List Event) (world : World) (be
       coin-answered n prove_cause (on_bundled n) (absences_answer dig notes world.chain.log coin after last)
       (λ bundle made. tt)
 
-  deed-coins : (command : Command) (n : ℕ) (node : Node) (deed : Deed) → IsFit command
-      → IsDone dig world command n node deed → P deed.gives.event
-  unfolding deed_of
-  deed-coins (Command.Wallet name own) n node deed fit done =
+  coins-by-command : (command : Command) (n : ℕ) (node : Node) (deed : Deed) → IsFit command
+      → IsDone dig world command n node deed
+      → command_deed dig world n node command ≡ Some deed → P deed.gives.event
+  unfolding command_deed
+  coins-by-command (Command.Wallet name own) n node deed fit done deed_is =
       wallet-coins n node done.node_is (done-role dig world (Command.Wallet name own) n node deed done) own deed fit
-      done.deed_is
-  deed-coins (Command.Watcher name own) n node deed fit done =
-      subst (λ (d : Deed). P d.gives.event) (some_same _ deed done.deed_is) (watcher-coins n node.notes own)
-  deed-coins (Command.Operator own) n node deed fit done =
-      subst (λ (d : Deed). P d.gives.event) (some_same _ deed done.deed_is) (operator-coins n node.notes own)
-  deed-coins (Command.Watch name) n node deed fit done =
-      subst (λ (d : Deed). P d.gives.event) (some_same _ deed done.deed_is) tt
-  deed-coins (Command.Open name) n node deed fit done =
-      subst (λ (d : Deed). P d.gives.event) (some_same _ deed done.deed_is) (opened node.is_up)
+      deed_is
+  coins-by-command (Command.Watcher name own) n node deed fit done deed_is =
+      subst (λ (d : Deed). P d.gives.event) (some_same _ deed deed_is) (watcher-coins n node.notes own)
+  coins-by-command (Command.Operator own) n node deed fit done deed_is =
+      subst (λ (d : Deed). P d.gives.event) (some_same _ deed deed_is) (operator-coins n node.notes own)
+  coins-by-command (Command.Watch name) n node deed fit done deed_is =
+      subst (λ (d : Deed). P d.gives.event) (some_same _ deed deed_is) tt
+  coins-by-command (Command.Open name) n node deed fit done deed_is =
+      subst (λ (d : Deed). P d.gives.event) (some_same _ deed deed_is) (opened node.is_up)
     where
       opened : (b : Bool) → P (on_open n node b).event
       opened true = tt
       opened false = tt
+
+  deed-coins : (command : Command) (n : ℕ) (node : Node) (deed : Deed) → IsFit command
+      → IsDone dig world command n node deed → P deed.gives.event
+  deed-coins command n node deed fit done =
+      coins-by-command command n node deed fit done (deed-by-command dig world n node command deed done.deed_is)
 
   -- in a cut too
   without-coins : (n : ℕ) (event : Event) → P event → P (without_offers n event)

@@ -29,10 +29,11 @@ use Rattle.operator_rules.specs.Commands.{offer_effect, lay_effect, seal_effect,
 use Rattle.watch_duty.specs.Duty.{due_for, due_of}
 use Rattle.watch_duty.proofs.Members.{Has, has-flat_map}
 use Rattle.watch_duty.proofs.Dues.{IsDue, DueAfter, DueBetween, DueBefore, DueRespond, due_for-due}
-use Rattle.world_rules.specs.Causes.{wallet_cause, watcher_cause, offer_cause, lay_cause, prove_cause}
+use Rattle.node_replies.specs.Causes.{wallet_cause, watcher_cause, offer_cause, lay_cause, prove_cause}
 use Rattle.world_rules.specs.World.{Role, Wallet, Watcher, Operator, Node, World, is_named, is_wallet_role, wallet_of, owner_of_node, bytes_of, new_owner_of}
 use Rattle.world_rules.specs.Declarations.{plays}
-use Rattle.world_rules.specs.Deeds.{Gives, Deed, answered, on_accepted, on_sent, on_sent_again, on_leaving, on_reclaimed, on_migrated, send_deed, wallet_command, on_guarded, on_released, watcher_command, on_pooled, on_laid, on_bundled, on_proved, operator_command, due_at_node, on_open, deed_of}
+use Rattle.world_rules.specs.Deeds.{Gives, Deed}
+use Rattle.world_rules.proofs.ByCommand.{answered, on_accepted, on_sent, on_sent_again, on_leaving, on_reclaimed, on_migrated, send_deed, wallet_command, on_guarded, on_released, watcher_command, on_pooled, on_laid, on_bundled, on_proved, operator_command, due_at_node, on_open, command_deed, deed-by-command}
 use Rattle.world_rules.proofs.Shapes.{IsDone}
 use Rattle.world_rules.proofs.Existence.{position-is}
 use Rattle.world_laws.specs.Legal.{starts_by, deposits_by}
@@ -251,32 +252,41 @@ done-role dig world command n node deed done =
     (and_parts _ (plays command node.role) (ap named (sym same) ∙ found.2)).1
 
 -- what a command offers, where a wallet's notes say the account of its node
-pub deed-offers : (dig : List ℕ → List ℕ) (world : World) (command : Command) (n : ℕ) (node : Node) (deed : Deed)
+offers-by-command : (dig : List ℕ → List ℕ) (world : World) (command : Command) (n : ℕ) (node : Node) (deed : Deed)
     → IsDone dig world command n node deed
+    → command_deed dig world n node command ≡ Some deed
     → (is_wallet_role node.role ≡ true → (owner_of_node node).account ≡ node.account)
     → (call : RootCall) → Has deed.gives.offers call → IsOffer node call
-unfolding deed_of owner_of
-deed-offers dig world (Command.Wallet name own) n node deed done account call h =
+unfolding command_deed owner_of
+offers-by-command dig world (Command.Wallet name own) n node deed done deed_is account call h =
     let role = done-role dig world (Command.Wallet name own) n node deed done in
-    let start = wallet-offers dig world n (wallet_of node) own deed done.deed_is call h in record {
+    let start = wallet-offers dig world n (wallet_of node) own deed deed_is call h in record {
       deposits = start.deposits;
       starts = λ by is. (role, sym (account role) ∙ start.starts by is);
     }
-deed-offers dig world (Command.Watcher name own) n node deed done account call h =
+offers-by-command dig world (Command.Watcher name own) n node deed done deed_is account call h =
     quiet-offer node call
     (watcher-offers dig world n node.notes own call
-    (subst (λ (d : Deed). Has d.gives.offers call) (sym (some_same _ deed done.deed_is)) h))
-deed-offers dig world (Command.Operator own) n node deed done account call h =
+    (subst (λ (d : Deed). Has d.gives.offers call) (sym (some_same _ deed deed_is)) h))
+offers-by-command dig world (Command.Operator own) n node deed done deed_is account call h =
     quiet-offer node call
     (operator-offers dig world n node.notes own call
-    (subst (λ (d : Deed). Has d.gives.offers call) (sym (some_same _ deed done.deed_is)) h))
-deed-offers dig world (Command.Watch name) n node deed done account call h =
+    (subst (λ (d : Deed). Has d.gives.offers call) (sym (some_same _ deed deed_is)) h))
+offers-by-command dig world (Command.Watch name) n node deed done deed_is account call h =
     quiet-offer node call
     (watch-quiet dig world.chain.log node node.role call
-    (subst (λ (d : Deed). Has d.gives.offers call) (sym (some_same _ deed done.deed_is)) h))
-deed-offers dig world (Command.Open name) n node deed done account call h =
-    absurd (opened node.is_up (subst (λ (d : Deed). Has d.gives.offers call) (sym (some_same _ deed done.deed_is)) h))
+    (subst (λ (d : Deed). Has d.gives.offers call) (sym (some_same _ deed deed_is)) h))
+offers-by-command dig world (Command.Open name) n node deed done deed_is account call h =
+    absurd (opened node.is_up (subst (λ (d : Deed). Has d.gives.offers call) (sym (some_same _ deed deed_is)) h))
   where
     opened : (b : Bool) → Has (on_open n node b).offers call → ⊥
     opened true h = h
     opened false h = h
+
+pub deed-offers : (dig : List ℕ → List ℕ) (world : World) (command : Command) (n : ℕ) (node : Node) (deed : Deed)
+    → IsDone dig world command n node deed
+    → (is_wallet_role node.role ≡ true → (owner_of_node node).account ≡ node.account)
+    → (call : RootCall) → Has deed.gives.offers call → IsOffer node call
+deed-offers dig world command n node deed done account =
+    offers-by-command dig world command n node deed done
+    (deed-by-command dig world n node command deed done.deed_is) account

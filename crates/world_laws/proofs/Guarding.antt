@@ -13,7 +13,8 @@ use Rattle.node_rules.specs.Watcher.{WatcherIdentity, identity_text as watcher_t
 use Rattle.watch_duty.proofs.Members.{Has}
 use Rattle.world_rules.specs.Events.{Event, Joins, Bounces, Other, Idle}
 use Rattle.world_rules.specs.World.{Role, Wallet, Watcher, Operator, Node, World, is_watcher_role}
-use Rattle.world_rules.specs.Deeds.{Deed, with_record}
+use Rattle.world_rules.specs.Deeds.{Deed}
+use Rattle.node_replies.specs.Orders.{with_record}
 use Rattle.world_rules.specs.Steps.{LineEffect, new_chain, operator_node, called, with_records, after_command, after_crash, cut, without_offers, step, TraceEntry, entry_of, Run, events_of}
 use Rattle.world_rules.proofs.Shapes.{IsDone, IsCut, Kept, Lost, is_cut}
 use Rattle.world_rules.proofs.OwnEvents.{of_node}

@@ -22,11 +22,14 @@ use Rattle.node_rules.specs.Watcher.{Guarded, Released, note_text, who_is, is_of
 use Rattle.node_rules.specs.WatcherLaws.{AddsNote, AddsGuard}
 use Rattle.node_rules.proofs.WatcherRole.{commands_add_their_notes}
 use Rattle.watch_duty.proofs.Members.{Has, has-cases, has-filter}
-use Rattle.world_rules.specs.Causes.{watcher_cause}
+use Rattle.node_replies.specs.Causes.{watcher_cause}
 use Rattle.world_rules.specs.Events.{Event, Guards, Releases, is_bundle}
 use Rattle.world_rules.specs.World.{Role, Wallet, Watcher, Operator, Node, World, is_wallet_role, is_watcher_role, is_operator_role, bytes_of}
-use Rattle.world_rules.specs.Deeds.{answered, on_guarded, on_released, bundle_read, with_record, on_open, watcher_command, deed_of, Deed}
-use Rattle.world_rules.proofs.ByteTexts.{Small, small-nil}
+use Rattle.world_rules.proofs.ByCommand.{answered, on_guarded, on_released, on_open, watcher_command, command_deed, deed-by-command}
+use Rattle.world_rules.specs.OrderEvents.{bundle_read}
+use Rattle.node_replies.specs.Orders.{with_record}
+use Rattle.world_rules.specs.Deeds.{Deed}
+use Rattle.node_replies.proofs.ByteTexts.{Small, small-nil}
 use Rattle.world_rules.proofs.Said.{Said, told}
 use Rattle.world_rules.proofs.KeptWatcher.{KeptWatcher}
 use Rattle.world_rules.proofs.KeptNode.{IsFit, IsFitWatcher, token-small}
@@ -241,20 +244,26 @@ module _ (dig : List ℕ → List ℕ) (world : World) (n : ℕ) (node : Node) (
       by Operator watcher operator = false≢true watcher
 
   -- each command of a watcher
-  pub deed-shown : (command : Command) (deed : Deed) → IsFit command → IsDone dig world command n node deed
+  shown-by-command : (command : Command) (deed : Deed) → IsFit command → IsDone dig world command n node deed
+      → command_deed dig world n node command ≡ Some deed
       → ShownAfter deed
-  unfolding deed_of
-  deed-shown (Command.Wallet name own) deed fit done =
+  unfolding command_deed
+  shown-by-command (Command.Wallet name own) deed fit done deed_is =
       absurd (not-wallet (done-role dig world (Command.Wallet name own) n node deed done))
-  deed-shown (Command.Watcher name own) deed fit done =
-      subst ShownAfter (some_same _ deed done.deed_is) (watcher-shown own fit)
-  deed-shown (Command.Operator own) deed fit done =
+  shown-by-command (Command.Watcher name own) deed fit done deed_is =
+      subst ShownAfter (some_same _ deed deed_is) (watcher-shown own fit)
+  shown-by-command (Command.Operator own) deed fit done deed_is =
       absurd (not-operator (done-role dig world (Command.Operator own) n node deed done))
-  deed-shown (Command.Watch name) deed fit done = subst ShownAfter (some_same _ deed done.deed_is) shown
-  deed-shown (Command.Open name) deed fit done =
-      subst ShownAfter (some_same _ deed done.deed_is) (opened node.is_up)
+  shown-by-command (Command.Watch name) deed fit done deed_is = subst ShownAfter (some_same _ deed deed_is) shown
+  shown-by-command (Command.Open name) deed fit done deed_is =
+      subst ShownAfter (some_same _ deed deed_is) (opened node.is_up)
     where
       opened : (b : Bool)
           → AreShown world.chain.tag (told (on_open n node b).event s).guarded (guards_in dig node.notes)
       opened true = shown
       opened false = shown
+
+  pub deed-shown : (command : Command) (deed : Deed) → IsFit command → IsDone dig world command n node deed
+      → ShownAfter deed
+  deed-shown command deed fit done =
+      shown-by-command command deed fit done (deed-by-command dig world n node command deed done.deed_is)

@@ -17,7 +17,7 @@ use Rattle.coin_history.proofs.HistoryFound.{histories_are_found}
 use Rattle.plasma_tx.specs.Spelling.{number_at}
 use Rattle.node_rules.specs.Kept.{links_handed}
 use Rattle.node_rules.proofs.KeptTexts.{handed-bundle}
-use Rattle.world_rules.specs.Deeds.{bundle_read}
+use Rattle.world_rules.specs.OrderEvents.{bundle_read}
 
 abbrev as_read : Bundle → Result Bundle HistoryRefusal
 as_read bundle = Ok bundle

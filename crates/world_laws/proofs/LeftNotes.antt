@@ -32,11 +32,13 @@ use Rattle.node_rules.proofs.WalletGrow.{noted-grow, state-accepts, state-leaves
 use Rattle.node_rules.proofs.WalletAdded.{send-note, migrate-note}
 use Rattle.node_rules.proofs.WalletRole.{accepts_add_their_notes, leaves_add_their_notes, leaves_are_answered, reclaims_add_their_notes}
 use Rattle.node_rules.proofs.ExitTips.{exits_are_of_the_tip}
-use Rattle.world_rules.specs.Causes.{wallet_cause}
+use Rattle.node_replies.specs.Causes.{wallet_cause}
 use Rattle.world_rules.specs.Events.{Event, Leaves, coin_of_call}
 use Rattle.world_rules.specs.World.{World, bytes_of, new_owner_of}
-use Rattle.world_rules.specs.Deeds.{Gives, Deed, answered, without_record, wallet_deed, on_accepted, on_sent, on_sent_again, on_leaving, on_reclaimed, on_migrated, send_deed, wallet_command, with_record, exit_block}
-use Rattle.world_rules.proofs.ByteTexts.{Small}
+use Rattle.world_rules.specs.Deeds.{Gives, Deed}
+use Rattle.world_rules.proofs.ByCommand.{answered, without_record, wallet_deed, on_accepted, on_sent, on_sent_again, on_leaving, on_reclaimed, on_migrated, send_deed, wallet_command}
+use Rattle.node_replies.specs.Orders.{with_record, exit_block}
+use Rattle.node_replies.proofs.ByteTexts.{Small}
 use Rattle.world_rules.proofs.Said.{Said}
 use Rattle.world_rules.proofs.KeptWallet.{KeptWallet, with_note}
 use Rattle.world_rules.proofs.KeptNode.{IsFitWallet, Feeds, token-small}

@@ -18,7 +18,9 @@ use Rattle.node_rules.specs.WalletRecords.{notes_of, accepted_of}
 use Rattle.node_rules.specs.Wallet.{WalletRecords, noted}
 use Rattle.world_rules.specs.Events.{Event, Joins, Bounces, Idle, Watches, Leaves, Seals, Other, coin_of_call, node_in, is_command_of}
 use Rattle.world_rules.specs.World.{Role, Wallet, Watcher, Operator, Node, World, is_wallet_role, is_watcher_role, is_operator_role, wallet_of}
-use Rattle.world_rules.specs.Deeds.{Gives, Deed, without_record, due_at_node, on_watch, on_open, exit_block, deed_of}
+use Rattle.world_rules.specs.Deeds.{Gives, Deed}
+use Rattle.world_rules.proofs.ByCommand.{without_record, due_at_node, on_watch, on_open, command_deed, deed-by-command}
+use Rattle.node_replies.specs.Orders.{exit_block}
 use Rattle.world_rules.specs.Steps.{LineEffect, called, new_chain, operator_node, with_records, after_command, after_crash, cut, without_offers, step, entry_of, Run, events_of}
 use Rattle.world_rules.proofs.Said.{said}
 use Rattle.world_rules.proofs.OwnEvents.{IsOfNode, Owns, Sealing, of_node}
@@ -198,33 +200,40 @@ cut-other n event m call is = cc is
 module _ (dig : List ℕ → List ℕ) (events : List Event) (world : World) (kept : KeptWorld dig events world)
     (are : AreLeft dig events world.nodes) where
   -- what a command leaves of a wallet's notes
-  deed-left : (command : Command) (n : ℕ) (node : Node) (deed : Deed) → IsFit command
-      → IsDone dig world command n node deed → is_wallet_role node.role ≡ true
+  left-by-command : (command : Command) (n : ℕ) (node : Node) (deed : Deed) → IsFit command
+      → IsDone dig world command n node deed
+      → command_deed dig world n node command ≡ Some deed → is_wallet_role node.role ≡ true
       → StillLeft dig (wallet_of node) (after_deed (wallet_of node) deed) deed.gives.event
-  unfolding deed_of
-  deed-left (Command.Wallet name own) n node deed fit done wallet =
+  unfolding command_deed
+  left-by-command (Command.Wallet name own) n node deed fit done deed_is wallet =
       wallet-left dig (said events n) world (world-feeds dig events world kept) (wallet_of node)
       ((kept.nodes n node done.node_is).wallet wallet) (are.each n node done.node_is wallet).openings n own deed fit
-      done.deed_is
-  deed-left (Command.Watcher name own) n node deed fit done wallet =
+      deed_is
+  left-by-command (Command.Watcher name own) n node deed fit done deed_is wallet =
       absurd (false≢true (sym (wallet-alone node.role wallet).0
       ∙ done-role dig world (Command.Watcher name own) n node deed done))
-  deed-left (Command.Operator own) n node deed fit done wallet =
+  left-by-command (Command.Operator own) n node deed fit done deed_is wallet =
       absurd (false≢true (sym (wallet-alone node.role wallet).1
       ∙ done-role dig world (Command.Operator own) n node deed done))
-  deed-left (Command.Watch name) n node deed fit done wallet =
+  left-by-command (Command.Watch name) n node deed fit done deed_is wallet =
       subst (λ (d : Deed). StillLeft dig (wallet_of node) (after_deed (wallet_of node) d) d.gives.event)
-      (some_same _ deed done.deed_is)
+      (some_same _ deed deed_is)
       (other-left dig (said events n) world (world-feeds dig events world kept) (wallet_of node)
       ((kept.nodes n node done.node_is).wallet wallet) (are.each n node done.node_is wallet).openings n
       (without_record (on_watch n (due_at_node dig world.chain.log node node.role))) (NoNote refl)
       (λ m call is. cc is))
-  deed-left (Command.Open name) n node deed fit done wallet =
+  left-by-command (Command.Open name) n node deed fit done deed_is wallet =
       subst (λ (d : Deed). StillLeft dig (wallet_of node) (after_deed (wallet_of node) d) d.gives.event)
-      (some_same _ deed done.deed_is)
+      (some_same _ deed deed_is)
       (other-left dig (said events n) world (world-feeds dig events world kept) (wallet_of node)
       ((kept.nodes n node done.node_is).wallet wallet) (are.each n node done.node_is wallet).openings n
       (without_record (on_open n node node.is_up)) (NoNote refl) (open-other n node node.is_up))
+
+  deed-left : (command : Command) (n : ℕ) (node : Node) (deed : Deed) → IsFit command
+      → IsDone dig world command n node deed → is_wallet_role node.role ≡ true
+      → StillLeft dig (wallet_of node) (after_deed (wallet_of node) deed) deed.gives.event
+  deed-left command n node deed fit done wallet =
+      left-by-command command n node deed fit done (deed-by-command dig world n node command deed done.deed_is) wallet
 
   -- a crash
   crash-left : (n : ℕ) (node : Node) → slice_get world.nodes n ≡ Some node

@@ -13,10 +13,9 @@ use Rattle.watch_duty.proofs.Members.{has-contains}
 use Rattle.world_rules.specs.Events.{Event, Joins, Bounces, log_of, wallet_owner, offers_of}
 use Rattle.world_rules.specs.World.{Role, Wallet, Watcher, Operator, Node, World, is_wallet_role, owner_of_node}
 use Rattle.world_rules.specs.Declarations.{declared_wallet, is_declared_account, is_caller, may_be_wallet}
-use Rattle.world_rules.specs.Steps.{called}
+use Rattle.world_rules.specs.Steps.{called, Run, events_of}
 use Rattle.world_rules.proofs.RunLaws.{logs_are_of_events}
 use Rattle.world_rules.proofs.OfferLaws.{offers_are_of_events}
-use Rattle.world_rules.specs.Steps.{Run, events_of}
 use Rattle.schedule_text.specs.declared.line.Line.{Line}
 use Rattle.world_laws.specs.Headline.{IsRun}
 use Rattle.world_laws.specs.Legal.{starts_by, deposits_by, LegalDeclaration, IsLegalEvent}

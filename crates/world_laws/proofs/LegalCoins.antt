@@ -41,14 +41,14 @@ use Rattle.node_rules.proofs.WalletTips.{tag-long, tip-fits}
 use Rattle.node_rules.proofs.WalletRole.{held-tip}
 use Rattle.world_rules.specs.Events.{Event, log_of, wallet_owner, accepted, bound_by, leaf_at, signed_away_by, is_sent_from, is_bundle}
 use Rattle.world_rules.specs.World.{Node, World, is_wallet_role, owner_of_node, wallet_of}
-use Rattle.world_rules.specs.Deeds.{bundle_read}
+use Rattle.world_rules.specs.OrderEvents.{bundle_read}
 use Rattle.world_rules.specs.Safety.{was_deposited, holds_with, holds}
 use Rattle.world_rules.specs.Laws.{AreKept}
 use Rattle.world_rules.proofs.Said.{said}
 use Rattle.world_rules.proofs.HeldSame.{are_kept}
 use Rattle.world_rules.proofs.KeptWallet.{KeptWallet, state-me}
 use Rattle.world_rules.proofs.KeptWorld.{KeptWorld, few-blocks}
-use Rattle.world_rules.proofs.WalletEnds.{SendEnds, Refused, Sends, send_ends}
+use Rattle.node_replies.proofs.WalletEnds.{SendEnds, Refused, Sends, send_ends}
 use Rattle.world_rules.proofs.WalletSends.{body-signed, words}
 use Rattle.world_rules.proofs.Runs.{push-same, push-other}
 use Rattle.world_laws.specs.Legal.{left_by, is_left, LegalAccept, LegalBinding, LegalReclaim}

@@ -19,10 +19,12 @@ use Rattle.node_rules.specs.Kept.{links_handed}
 use Rattle.node_rules.specs.Wallet.{accept_effect, send_effect, again_answer, leave_effect, reclaim_effect, migrate_effect}
 use Rattle.node_rules.specs.Watcher.{who_is, guards_in, guard_by, guard_effect, release_effect}
 use Rattle.operator_rules.specs.Commands.{offer_effect, lay_effect, seal_effect, prove_answer, bundle_answer, absences_answer}
-use Rattle.world_rules.specs.Causes.{wallet_cause, watcher_cause, offer_cause, lay_cause, prove_cause}
+use Rattle.node_replies.specs.Causes.{wallet_cause, watcher_cause, offer_cause, lay_cause, prove_cause}
 use Rattle.world_rules.specs.Events.{Event, Accepts, Binds, TakesBack, Watches, Leaves, Seals}
 use Rattle.world_rules.specs.World.{Role, Wallet, Watcher, Operator, Node, World, is_watcher_role, wallet_of, bytes_of, new_owner_of, is_wallet_role, does_watch}
-use Rattle.world_rules.specs.Deeds.{Gives, Deed, answered, bundle_read, on_accepted, on_sent, on_sent_again, on_leaving, on_reclaimed, on_migrated, send_deed, wallet_command, on_guarded, on_released, watcher_command, on_pooled, on_laid, on_bundled, on_proved, operator_command, on_open, deed_of, due_at_node}
+use Rattle.world_rules.specs.Deeds.{Gives, Deed}
+use Rattle.world_rules.proofs.ByCommand.{answered, on_accepted, on_sent, on_sent_again, on_leaving, on_reclaimed, on_migrated, send_deed, wallet_command, on_guarded, on_released, watcher_command, on_pooled, on_laid, on_bundled, on_proved, operator_command, on_open, due_at_node, command_deed, deed-by-command}
+use Rattle.world_rules.specs.OrderEvents.{bundle_read}
 use Rattle.world_rules.specs.Steps.{LineEffect, cut, without_offers, step, entry_of, Run, events_of}
 use Rattle.world_rules.proofs.Shapes.{IsDone, IsCut, Kept, Lost, is_cut}
 use Rattle.world_rules.proofs.StepLaws.{stepped, steps_keep_the_log}
@@ -170,26 +172,32 @@ module _ (dig : List ℕ → List ℕ) (events : List Event) (world : World) (be
   legal-watch n node is Operator role watches left = absurd (false≢true watches)
 
   -- the event of a command is legal
-  legal-deed : (command : Command) (n : ℕ) (node : Node) (deed : Deed) → IsDone dig world command n node deed
+  legal-by-command : (command : Command) (n : ℕ) (node : Node) (deed : Deed) → IsDone dig world command n node deed
+      → command_deed dig world n node command ≡ Some deed
       → P deed.gives.event
-  unfolding deed_of
-  legal-deed (Command.Wallet name own) n node deed done =
+  unfolding command_deed
+  legal-by-command (Command.Wallet name own) n node deed done deed_is =
       legal-wallet n node own deed done.node_is (done-role dig world (Command.Wallet name own) n node deed done)
-      done.deed_is
-  legal-deed (Command.Watcher name own) n node deed done =
-      subst (λ (d : Deed). P d.gives.event) (some_same _ deed done.deed_is)
+      deed_is
+  legal-by-command (Command.Watcher name own) n node deed done deed_is =
+      subst (λ (d : Deed). P d.gives.event) (some_same _ deed deed_is)
       (legal-watcher n node own done.node_is (done-role dig world (Command.Watcher name own) n node deed done))
-  legal-deed (Command.Operator own) n node deed done =
-      subst (λ (d : Deed). P d.gives.event) (some_same _ deed done.deed_is) (legal-operator n node.notes own)
-  legal-deed (Command.Watch name) n node deed done =
-      subst (λ (d : Deed). P d.gives.event) (some_same _ deed done.deed_is)
+  legal-by-command (Command.Operator own) n node deed done deed_is =
+      subst (λ (d : Deed). P d.gives.event) (some_same _ deed deed_is) (legal-operator n node.notes own)
+  legal-by-command (Command.Watch name) n node deed done deed_is =
+      subst (λ (d : Deed). P d.gives.event) (some_same _ deed deed_is)
       (legal-watch n node done.node_is node.role refl (done-role dig world (Command.Watch name) n node deed done))
-  legal-deed (Command.Open name) n node deed done =
-      subst (λ (d : Deed). P d.gives.event) (some_same _ deed done.deed_is) (opened node.is_up)
+  legal-by-command (Command.Open name) n node deed done deed_is =
+      subst (λ (d : Deed). P d.gives.event) (some_same _ deed deed_is) (opened node.is_up)
     where
       opened : (b : Bool) → P (on_open n node b).event
       opened true left = tt
       opened false left = tt
+
+  legal-deed : (command : Command) (n : ℕ) (node : Node) (deed : Deed) → IsDone dig world command n node deed
+      → P deed.gives.event
+  legal-deed command n node deed done =
+      legal-by-command command n node deed done (deed-by-command dig world n node command deed done.deed_is)
 
   -- in a cut too
   legal-without : (n : ℕ) (event : Event) → P event → P (without_offers n event)

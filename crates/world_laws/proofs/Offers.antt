@@ -25,7 +25,7 @@ use Rattle.watch_duty.specs.Duty.{due_for, due_of}
 use Rattle.watch_duty.proofs.Members.{Has, all-has, contains-has, has-contains, has-flat_map}
 use Rattle.watch_duty.proofs.Dues.{IsDue as IsDueFor, DueAfter, DueBetween, DueBefore, DueRespond, due_for-due}
 use Rattle.world_rules.specs.Events.{Event, Joins, Watches, Leaves, Seals, log_of, coin_of_call, wallet_owner, accepted, is_bundle, is_command_of, offered, offers_of}
-use Rattle.world_rules.specs.Deeds.{exit_block}
+use Rattle.node_replies.specs.Orders.{exit_block}
 use Rattle.world_rules.specs.Safety.{was_deposited}
 use Rattle.world_laws.specs.Headline.{is_start}
 use Rattle.world_laws.specs.Legal.{starts_by, is_tip, ShowsTip, Taken, Bare, LegalLeave, IsLegal}

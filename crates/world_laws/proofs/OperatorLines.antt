@@ -13,7 +13,7 @@ use Rattle.schedule_text.specs.Grammar.{node_of, IsLine}
 use Rattle.node_rules.specs.declared.identity.WalletIdentity.{WalletIdentity}
 use Rattle.plasma_tx.specs.Money.{balance_of}
 use Rattle.watch_duty.proofs.Members.{Has}
-use Rattle.world_rules.specs.declared.reply.Reply.{Reply}
+use Rattle.node_replies.specs.declared.reply.Reply.{Reply}
 use Rattle.world_rules.specs.World.{Node, Rogue, World, any_role, number_of, owner_named, new_owner_of, rogue_named, call_of, key_of}
 use Rattle.world_rules.specs.Declarations.{plays, declared_wallet}
 use Rattle.world_rules.specs.Events.{Idle}

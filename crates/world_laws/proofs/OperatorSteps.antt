@@ -30,11 +30,13 @@ use Rattle.operator_rules.specs.Commands.{forest_in, offer_causes, offer_at, off
 use Rattle.operator_rules.specs.Acts.{log_of, kept_notes, times_committed, times_sealed}
 use Rattle.operator_rules.proofs.Role.{commands_keep_the_role, commands_add_their_notes}
 use Rattle.operator_rules.proofs.Trees.{one_if, count-push}
-use Rattle.world_rules.specs.Causes.{offer_cause, prove_cause}
+use Rattle.node_replies.specs.Causes.{offer_cause, prove_cause}
 use Rattle.world_rules.specs.Events.{Event, Joins, Bounces, Watches, Leaves, Seals, Idle, node_in, is_command_of}
 use Rattle.world_rules.specs.World.{Operator, Node, World, with_node, bytes_of}
 use Rattle.world_rules.specs.Declarations.{plays}
-use Rattle.world_rules.specs.Deeds.{Gives, Deed, answered, on_pooled, on_bundled, on_proved, operator_command, on_open, deed_of, with_record}
+use Rattle.world_rules.specs.Deeds.{Gives, Deed, deed_of}
+use Rattle.world_rules.proofs.ByCommand.{answered, on_pooled, on_bundled, on_proved, operator_command, on_open, command_deed, deed-by-command}
+use Rattle.node_replies.specs.Orders.{with_record}
 use Rattle.world_rules.specs.Steps.{LineEffect, called, with_records, after_command, after_crash, commanded, crashed, cut, without_offers}
 use Rattle.world_rules.proofs.OperatorItems.{AreSmallRecords}
 use Rattle.world_rules.proofs.KeptNode.{IsFit, token-small}
@@ -131,24 +133,30 @@ module _ (dig : List ℕ → List ℕ) (world : World) (op : Node) where
       Adds refl (answered-none 0 prove_cause (on_bundled 0)
       (absences_answer dig op.notes world.chain.log coin after last) (λ bundle. refl))
 
-  own-deed : (command : Command) (deed : Deed) → lays command ≡ false → IsFit command → op.role ≡ Operator
-      → plays command op.role ≡ true → AreSmallRecords world.mail → deed_of dig world 0 op command ≡ Some deed
+  own-by-command : (command : Command) (deed : Deed) → lays command ≡ false → IsFit command → op.role ≡ Operator
+      → plays command op.role ≡ true → AreSmallRecords world.mail → command_deed dig world 0 op command ≡ Some deed
       → IsOwnDeed deed
-  unfolding deed_of
-  own-deed (Command.Operator own) deed free fit role may mail is =
+  unfolding command_deed
+  own-by-command (Command.Operator own) deed free fit role may mail is =
       subst (λ (d : Deed). IsOwnDeed d) (some_same _ deed is) (operator-deed own free fit mail)
-  own-deed (Command.Open name) deed free fit role may mail is =
+  own-by-command (Command.Open name) deed free fit role may mail is =
       subst (λ (d : Deed). IsOwnDeed d) (some_same _ deed is) (Adds refl (opened op.is_up))
     where
       opened : (b : Bool) → (on_open 0 op b).offers ≡ []
       opened true = refl
       opened false = refl
-  own-deed (Command.Wallet name own) deed free fit role may mail is =
+  own-by-command (Command.Wallet name own) deed free fit role may mail is =
       absurd (false≢true (sym (ap (plays (Command.Wallet name own)) role) ∙ may))
-  own-deed (Command.Watcher name own) deed free fit role may mail is =
+  own-by-command (Command.Watcher name own) deed free fit role may mail is =
       absurd (false≢true (sym (ap (plays (Command.Watcher name own)) role) ∙ may))
-  own-deed (Command.Watch name) deed free fit role may mail is =
+  own-by-command (Command.Watch name) deed free fit role may mail is =
       absurd (false≢true (sym (ap (plays (Command.Watch name)) role) ∙ may))
+
+  own-deed : (command : Command) (deed : Deed) → lays command ≡ false → IsFit command → op.role ≡ Operator
+      → plays command op.role ≡ true → AreSmallRecords world.mail → deed_of dig world 0 op command ≡ Some deed
+      → IsOwnDeed deed
+  own-deed command deed free fit role may mail is =
+      own-by-command command deed free fit role may mail (deed-by-command dig world 0 op command deed is)
 
 -- ---- events
 

@@ -17,7 +17,7 @@ use Rattle.schedule_text.specs.Grammar.{node_of, IsLine}
 use Rattle.node_rules.specs.declared.identity.WalletIdentity.{WalletIdentity}
 use Rattle.plasma_tx.specs.Money.{balance_of}
 use Rattle.watch_duty.proofs.Members.{Has}
-use Rattle.world_rules.specs.declared.reply.Reply.{Reply}
+use Rattle.node_replies.specs.declared.reply.Reply.{Reply}
 use Rattle.world_rules.specs.Events.{Idle}
 use Rattle.world_rules.specs.World.{Role, Node, Rogue, World, any_role, is_named, is_wallet_role, owner_of_node, owner_of_rogue, number_of, rogue_named, owner_named, new_owner_of, call_of}
 use Rattle.world_rules.specs.Declarations.{plays, declared_wallet, is_declared, is_wallet_account, may_be_wallet, may_be_other, keeps_rules_in}

@@ -15,7 +15,7 @@ use Rattle.plasma_tx.proofs.Each.{all-weaker, each-exit}
 use Rattle.node_rules.specs.Watcher.{due_for_kept}
 use Rattle.watch_duty.proofs.Members.{Has, all-has, contains-has, has-contains}
 use Rattle.world_rules.specs.Events.{Event, Declares, Joins, Binds, TakesBack, Watches, Leaves, Seals, log_of, coin_of_call, wallet_owner, bound_by, taken_back, is_taken, not_taken, signed_away_by, is_sent_from, is_command_of, offered, offers_of}
-use Rattle.world_rules.specs.Deeds.{exit_block}
+use Rattle.node_replies.specs.Orders.{exit_block}
 use Rattle.world_rules.specs.Safety.{is_mine}
 use Rattle.world_laws.specs.Headline.{is_start}
 use Rattle.world_laws.specs.Legal.{starts_by, left_by, is_left, LegalLeave, IsLegal}

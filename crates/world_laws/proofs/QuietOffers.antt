@@ -24,9 +24,10 @@ use Rattle.node_rules.specs.Watcher.{due_for_kept, guards_in, who_is as who_is_w
 use Rattle.watch_duty.specs.Duty.{due_for, due_of}
 use Rattle.watch_duty.proofs.Members.{Has, has-flat_map}
 use Rattle.watch_duty.proofs.Dues.{IsDue, DueAfter, DueBetween, DueBefore, DueRespond, due_for-due}
-use Rattle.world_rules.specs.Causes.{wallet_cause, watcher_cause}
+use Rattle.node_replies.specs.Causes.{wallet_cause, watcher_cause}
 use Rattle.world_rules.specs.World.{Role, Wallet, Watcher, Operator, Node, World, is_operator_role, wallet_of, bytes_of, new_owner_of}
-use Rattle.world_rules.specs.Deeds.{Gives, Deed, answered, on_accepted, on_sent, on_sent_again, on_leaving, on_reclaimed, on_migrated, send_deed, wallet_command, on_guarded, on_released, watcher_command, due_at_node, on_open, deed_of}
+use Rattle.world_rules.specs.Deeds.{Gives, Deed}
+use Rattle.world_rules.proofs.ByCommand.{answered, on_accepted, on_sent, on_sent_again, on_leaving, on_reclaimed, on_migrated, send_deed, wallet_command, on_guarded, on_released, watcher_command, due_at_node, on_open, command_deed, deed-by-command}
 use Rattle.world_rules.proofs.Shapes.{IsDone}
 use Rattle.world_laws.proofs.DeedOffers.{done-role}
 use Rattle.world_laws.proofs.OperatorLines.{commits_root}
@@ -188,23 +189,30 @@ module _ (dig : List ℕ → List ℕ) (world : World) (n : ℕ) where
 -- ---- so each other node offers none
 
 -- what a command offers of a node that isn't the operator
-pub deed-quiet : (dig : List ℕ → List ℕ) (world : World) (command : Command) (n : ℕ) (node : Node) (deed : Deed)
-    → IsDone dig world command n node deed → is_operator_role node.role ≡ false
+quiet-by-command : (dig : List ℕ → List ℕ) (world : World) (command : Command) (n : ℕ) (node : Node) (deed : Deed)
+    → IsDone dig world command n node deed
+    → command_deed dig world n node command ≡ Some deed → is_operator_role node.role ≡ false
     → (call : RootCall) → Has deed.gives.offers call → commits_root call ≡ false
-unfolding deed_of
-deed-quiet dig world (Command.Wallet name own) n node deed done other call h =
-    wallet-offers dig world n (wallet_of node) own deed done.deed_is call h
-deed-quiet dig world (Command.Watcher name own) n node deed done other call h =
+unfolding command_deed
+quiet-by-command dig world (Command.Wallet name own) n node deed done deed_is other call h =
+    wallet-offers dig world n (wallet_of node) own deed deed_is call h
+quiet-by-command dig world (Command.Watcher name own) n node deed done deed_is other call h =
     watcher-offers dig world n node.notes own call
-    (subst (λ (d : Deed). Has d.gives.offers call) (sym (some_same _ deed done.deed_is)) h)
-deed-quiet dig world (Command.Operator own) n node deed done other call h =
+    (subst (λ (d : Deed). Has d.gives.offers call) (sym (some_same _ deed deed_is)) h)
+quiet-by-command dig world (Command.Operator own) n node deed done deed_is other call h =
     absurd (false≢true (sym other ∙ done-role dig world (Command.Operator own) n node deed done))
-deed-quiet dig world (Command.Watch name) n node deed done other call h =
+quiet-by-command dig world (Command.Watch name) n node deed done deed_is other call h =
     watch-quiet dig world.chain.log node node.role call
-    (subst (λ (d : Deed). Has d.gives.offers call) (sym (some_same _ deed done.deed_is)) h)
-deed-quiet dig world (Command.Open name) n node deed done other call h =
-    absurd (opened node.is_up (subst (λ (d : Deed). Has d.gives.offers call) (sym (some_same _ deed done.deed_is)) h))
+    (subst (λ (d : Deed). Has d.gives.offers call) (sym (some_same _ deed deed_is)) h)
+quiet-by-command dig world (Command.Open name) n node deed done deed_is other call h =
+    absurd (opened node.is_up (subst (λ (d : Deed). Has d.gives.offers call) (sym (some_same _ deed deed_is)) h))
   where
     opened : (b : Bool) → Has (on_open n node b).offers call → ⊥
     opened true h = h
     opened false h = h
+
+pub deed-quiet : (dig : List ℕ → List ℕ) (world : World) (command : Command) (n : ℕ) (node : Node) (deed : Deed)
+    → IsDone dig world command n node deed → is_operator_role node.role ≡ false
+    → (call : RootCall) → Has deed.gives.offers call → commits_root call ≡ false
+deed-quiet dig world command n node deed done other =
+    quiet-by-command dig world command n node deed done (deed-by-command dig world n node command deed done.deed_is) other

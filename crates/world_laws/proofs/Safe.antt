@@ -9,7 +9,7 @@ use Rattle.plasma_tx.specs.Views.{now, coin_at, exits}
 use Rattle.plasma_tx.specs.Shown.{Tests, Rules, tests_by}
 use Rattle.world_rules.specs.Laws.{IsDigest}
 use Rattle.world_rules.specs.Events.{Event, Joins, Bounces, log_of, coin_of_call, wallet_owner, accepted, bound_by, is_bundle, offers_of}
-use Rattle.world_rules.specs.Deeds.{exit_block}
+use Rattle.node_replies.specs.Orders.{exit_block}
 use Rattle.world_rules.specs.Exhibits.{openings_of, seen, strings_of, has_clash, collides, forges_one, is_forged}
 use Rattle.world_rules.specs.Safety.{was_deposited, holds, harms, is_harmed, is_safe}
 use Rattle.world_laws.specs.Legal.{starts_by, is_tip, LegalCall, IsLegal}

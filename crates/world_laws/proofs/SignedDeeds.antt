@@ -24,11 +24,12 @@ use Rattle.node_rules.specs.WalletCommandLaws.{sent_body}
 use Rattle.node_rules.proofs.WalletGrow.{wallet-parts}
 use Rattle.node_rules.proofs.WalletTips.{tag-long, tip-fits}
 use Rattle.node_rules.proofs.WalletRole.{held-tip}
-use Rattle.world_rules.specs.declared.reply.Reply.{Reply}
-use Rattle.world_rules.specs.Causes.{wallet_cause}
+use Rattle.node_replies.specs.declared.reply.Reply.{Reply}
+use Rattle.node_replies.specs.Causes.{wallet_cause}
 use Rattle.world_rules.specs.Events.{Event, Binds, Watches, Leaves, Seals, Other, bound_by, leaf_at}
 use Rattle.world_rules.specs.World.{Node, World, with_node, is_named, is_wallet_role, number_of, wallet_of, bytes_of, new_owner_of}
-use Rattle.world_rules.specs.Deeds.{Gives, Deed, answered, on_accepted, on_sent, on_sent_again, on_leaving, on_reclaimed, on_migrated, send_deed, wallet_command, deed_of}
+use Rattle.world_rules.specs.Deeds.{Gives, Deed, deed_of}
+use Rattle.world_rules.proofs.ByCommand.{answered, on_accepted, on_sent, on_sent_again, on_leaving, on_reclaimed, on_migrated, send_deed, wallet_command, command_deed, deed-by-command}
 use Rattle.world_rules.specs.Steps.{LineEffect, says, is_opening, with_records, after_crash, answers_down, commanded, down, is_stopped, outcome_of, without_offers, stopped, finished, cut, command_effect, cut_effect, effect_in}
 use Rattle.world_rules.specs.Laws.{IsCommandIn}
 use Rattle.world_rules.proofs.Existence.{position-is}
@@ -38,7 +39,7 @@ use Rattle.world_rules.proofs.KeptWallet.{KeptWallet}
 use Rattle.world_rules.proofs.KeptWorld.{KeptWorld, to-owner, few-blocks}
 use Rattle.world_rules.proofs.Said.{said}
 use Rattle.world_rules.proofs.Shapes.{acted}
-use Rattle.world_rules.proofs.WalletEnds.{SendEnds, Refused, Sends, send_ends}
+use Rattle.node_replies.proofs.WalletEnds.{SendEnds, Refused, Sends, send_ends}
 use Rattle.world_rules.proofs.WalletSends.{body-signed, words}
 use Rattle.world_laws.proofs.Lists.{some_same}
 use Rattle.world_laws.proofs.SignedMessages.{leaf-newest, used-is, message-body, last-message}
@@ -177,8 +178,9 @@ module _ (dig : List ℕ → List ℕ) (events : List Event) (world : World) (ke
 
   deed-makes : (name : List ℕ) (own : WalletCommand) (deed : Deed) → IsFitWallet own
       → deed_of dig world n node (Command.Wallet name own) ≡ Some deed → Makes deed.gives
-  unfolding deed_of
-  deed-makes name own deed fit is = wallet-makes own deed fit is
+  unfolding command_deed
+  deed-makes name own deed fit is =
+      wallet-makes own deed fit (deed-by-command dig world n node (Command.Wallet name own) deed is)
 
   -- so does a line with the command, cut or not
   abbrev MakesLine : LineEffect → Type 0

@@ -22,7 +22,7 @@ use Rattle.node_rules.specs.WalletOpening.{leaves_of}
 use Rattle.node_rules.proofs.WalletGrow.{wallet-parts}
 use Rattle.watch_duty.proofs.Members.{Has, has-contains, all-has}
 use Rattle.world_rules.specs.Events.{leaf_at}
-use Rattle.world_rules.proofs.ByteTexts.{Small}
+use Rattle.node_replies.proofs.ByteTexts.{Small}
 use Rattle.world_rules.proofs.Said.{Said}
 use Rattle.world_rules.proofs.KeptWallet.{KeptWallet}
 use Rattle.world_rules.proofs.Runs.{push-same, push-other}

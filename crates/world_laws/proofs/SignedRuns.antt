@@ -17,7 +17,7 @@ use Rattle.schedule_text.specs.Grammar.{IsLine}
 use Rattle.node_rules.specs.declared.identity.WalletIdentity.{WalletIdentity}
 use Rattle.node_rules.specs.WalletRecords.{secret_of, who_is}
 use Rattle.watch_duty.proofs.Members.{Has, has-contains, contains-has}
-use Rattle.world_rules.specs.declared.reply.Reply.{Reply}
+use Rattle.node_replies.specs.declared.reply.Reply.{Reply}
 use Rattle.world_rules.specs.Events.{Event, bound_by, leaf_at}
 use Rattle.world_rules.specs.World.{Node, World, is_named, is_wallet_role, number_of, owner_of_node, owner_of_rogue, rogue_named, owner_named}
 use Rattle.world_rules.specs.Steps.{LineEffect, operator_node, new_chain, step, TraceEntry, entry_of, Run, events_of}

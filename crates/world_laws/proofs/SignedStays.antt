@@ -16,7 +16,8 @@ use Rattle.node_rules.proofs.WalletGrow.{who-same, wallet-parts}
 use Rattle.world_rules.specs.Events.{Event, Binds, bound_by, leaf_at}
 use Rattle.world_rules.specs.World.{Wallet, Node, World, is_named, is_wallet_role, owner_of_node, wallet_of}
 use Rattle.world_rules.specs.Declarations.{declared_wallet, is_wallet_key, is_wallet_seed, may_be_wallet}
-use Rattle.world_rules.specs.Deeds.{Deed, with_record}
+use Rattle.world_rules.specs.Deeds.{Deed}
+use Rattle.node_replies.specs.Orders.{with_record}
 use Rattle.world_rules.specs.Steps.{LineEffect, new_node, with_records, after_command, after_crash, cut}
 use Rattle.world_rules.specs.Laws.{GrowsAtMost}
 use Rattle.world_rules.proofs.KeptWorld.{KeptWorld}

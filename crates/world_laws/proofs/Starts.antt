@@ -37,7 +37,7 @@ use Rattle.watch_duty.specs.Duty.{tip_shown}
 use Rattle.watch_duty.proofs.Members.{Has, has-left, has-right, has-contains, contains-has}
 use Rattle.watch_duty.proofs.GuardLinks.{Rises, rises-from, has-above, links-opened}
 use Rattle.world_rules.specs.Events.{Event, Watches, Leaves, Seals, log_of, coin_of_call, wallet_owner, accepted, is_command_of, offered, offers_of}
-use Rattle.world_rules.specs.Deeds.{exit_block}
+use Rattle.node_replies.specs.Orders.{exit_block}
 use Rattle.world_laws.specs.Headline.{is_start, starter, IsTakenAt, IsTaken}
 use Rattle.world_laws.specs.Legal.{ShowsTip, Taken, Bare, LegalLeave, IsLegal}
 use Rattle.world_laws.specs.LegalLaws.{LegalStartsAreTaken}

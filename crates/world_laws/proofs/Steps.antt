@@ -25,7 +25,7 @@ use Rattle.plasma_tx.proofs.RuleNames.{exits-distinct}
 use Rattle.watch_duty.specs.Laws.{shown_openings, openings_of_call}
 use Rattle.watch_duty.proofs.Members.{Has, has-left, has-right, all-has, only-found}
 use Rattle.world_rules.specs.Events.{Event, log_of, coin_of_call, wallet_owner, bound_by}
-use Rattle.world_rules.specs.Deeds.{exit_block}
+use Rattle.node_replies.specs.Orders.{exit_block}
 use Rattle.world_rules.specs.Exhibits.{seen, forges_one}
 use Rattle.world_rules.specs.Safety.{is_mine}
 use Rattle.world_laws.specs.Legal.{starts_by, IsLegal}

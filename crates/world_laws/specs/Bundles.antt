@@ -21,8 +21,8 @@ use Rattle.operator_rules.specs.Acts.{AreDistinct}
 use Rattle.operator_rules.specs.Commands.{forest_in}
 use Rattle.operator_rules.specs.Trees.{tree_at}
 use Rattle.operator_rules.specs.Walk.{place_at}
-use Rattle.world_rules.specs.declared.reply.Reply.{Reply}
-use Rattle.world_rules.specs.Causes.{wallet_cause}
+use Rattle.node_replies.specs.declared.reply.Reply.{Reply}
+use Rattle.node_replies.specs.Causes.{wallet_cause}
 use Rattle.world_rules.specs.Events.{Event, Joins, is_command_of}
 use Rattle.world_rules.specs.World.{Node, World, is_wallet_role, number_of, owner_of_node, bytes_of}
 use Rattle.world_rules.specs.Steps.{LineEffect, TraceEntry, Run, step, events_of}

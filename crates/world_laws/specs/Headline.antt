@@ -18,13 +18,13 @@ use Rattle.schedule_text.specs.declared.command.Command.{Command}
 use Rattle.schedule_text.specs.declared.command.WalletCommand.{WalletCommand}
 use Rattle.schedule_text.specs.Grammar.{IsLine}
 use Rattle.node_rules.specs.WalletRecords.{secret_of, who_is}
-use Rattle.world_rules.specs.declared.reply.Reply.{Reply}
+use Rattle.node_replies.specs.declared.reply.Reply.{Reply}
 use Rattle.world_rules.specs.declared.verdict.Verdict.{Verdict}
 use Rattle.world_rules.specs.declared.verdict.VerdictKind.{VerdictKind}
 use Rattle.world_rules.specs.declared.verdict.Exhibit.{Exhibit}
 use Rattle.world_rules.specs.Events.{Event, Joins, Watches, log_of, coin_of_call, wallet_owner, bound_by, leaf_at, is_command_of, offers_of}
 use Rattle.world_rules.specs.World.{Node, World, is_wallet_role, number_of, owner_of_node}
-use Rattle.world_rules.specs.Deeds.{exit_block}
+use Rattle.node_replies.specs.Orders.{exit_block}
 use Rattle.world_rules.specs.Steps.{TraceEntry, Run, run_of, events_of}
 use Rattle.world_rules.specs.Exhibits.{collides, is_forged, exhibit_of}
 use Rattle.world_rules.specs.Safety.{holds, is_attended, is_safe, is_joined, is_harmed}

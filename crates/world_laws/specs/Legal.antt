@@ -16,7 +16,7 @@ use Rattle.node_rules.specs.Kept.{kept_links}
 use Rattle.node_rules.specs.Wallet.{start_of}
 use Rattle.node_rules.specs.Watcher.{due_for_kept}
 use Rattle.world_rules.specs.Events.{Event, Declares, Joins, Bounces, Accepts, Guards, Binds, TakesBack, Watches, Leaves, Seals, log_of, coin_of_call, wallet_owner, accepted, bound_by, leaf_at, signed_away_by, is_sent_from, is_bundle, guarded_by, is_command_of, offers_of}
-use Rattle.world_rules.specs.Deeds.{exit_block}
+use Rattle.node_replies.specs.Orders.{exit_block}
 use Rattle.world_rules.specs.Safety.{was_deposited, holds}
 use Rattle.world_laws.specs.Headline.{is_start}
 

@@ -9,7 +9,7 @@ use Rattle.world_rules.specs.declared.verdict.VerdictKind.{VerdictKind}
 use Rattle.world_rules.specs.declared.verdict.Exhibit.{Exhibit}
 use Rattle.plasma_tx.specs.Views.{coins}
 use Rattle.world_rules.specs.Events.{Event, log_of, coin_of_call, wallet_owner, offers_of, Joins, is_command_of, offered}
-use Rattle.world_rules.specs.Deeds.{exit_block}
+use Rattle.node_replies.specs.Orders.{exit_block}
 use Rattle.world_rules.specs.Exhibits.{collides, is_forged, exhibit_of}
 use Rattle.world_rules.specs.Safety.{holds, is_safe, is_watch, is_joined}
 use Rattle.world_rules.specs.Verdicts.{verdict_at}

@@ -9,7 +9,7 @@ use Rattle.lms_sign.specs.Types.{u32str}
 use Rattle.schedule_text.specs.declared.line.Line.{Line}
 use Rattle.node_rules.specs.declared.identity.WalletIdentity.{WalletIdentity}
 use Rattle.node_rules.specs.WalletRecords.{identity_text, identity_in, who_is, owner_of}
-use Rattle.world_rules.specs.declared.reply.Reply.{Reply}
+use Rattle.node_replies.specs.declared.reply.Reply.{Reply}
 use Rattle.world_rules.specs.Events.{Idle}
 use Rattle.world_rules.specs.World.{World}
 use Rattle.world_rules.specs.Declarations.{declared_wallet, may_be_wallet, keeps_rules}

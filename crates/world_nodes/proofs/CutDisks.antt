@@ -22,11 +22,11 @@ use Rattle.node_rules.specs.WalletOpening.{leaves_of as key_leaves}
 use Rattle.operator_rules.specs.Records.{operator_kinds}
 use Rattle.wallet_node.specs.State.{WalletState, notes_part, leaves_part}
 use Rattle.world_rules.specs.World.{Role}
-use Rattle.world_rules.specs.Deeds.{Deed}
-use Rattle.world_rules.specs.declared.given.Given.{Given}
+use Rattle.node_replies.specs.Orders.{Doing}
+use Rattle.node_replies.specs.declared.given.Given.{Given}
 use Rattle.wallet_deeds.specs.Orders.{DidEither}
-use Rattle.world_nodes.specs.declared.order.NodeOrder.{NodeOrder}
-use Rattle.world_nodes.specs.declared.order.NodeOrder.TheVariants.{Open}
+use Rattle.node_replies.specs.declared.order.NodeOrder.{NodeOrder}
+use Rattle.node_replies.specs.declared.order.NodeOrder.TheVariants.{Open}
 use Rattle.world_nodes.specs.declared.down.DownNode.{DownNode}
 use Rattle.world_nodes.specs.declared.down.DownNode.TheVariants.{Wallet as WalletDown, Watcher as WatcherDown, Operator as OperatorDown}
 use Rattle.world_nodes.specs.declared.up.UpNode.{UpNode}
@@ -49,7 +49,7 @@ told_of half = half.disk.history
 
 -- The disks of these halves tell their openings, and behind them the appends of a deed as far as so many calls passed,
 -- over other halves.
-pub record TellCut (calls : ℕ) (deed : Deed) (base halves : Halves) : Type 0 where
+pub record TellCut (calls : ℕ) (deed : Doing) (base halves : Halves) : Type 0 where
   pub notes : halves.notes.disk.history
       ≡ with_cut_append calls base.notes.records deed.note (with_opening base.notes.disk.history)
   pub leaves : option_map told_of halves.leaves
@@ -87,7 +87,7 @@ module _ (calls fuse : ℕ) (fused : min 4 (fuse - 3) ≡ min 4 calls) (outcome 
       half_told (Some leaf) leaves none' (leaves_part state) (leaves_part new) second given did.did,
     )
 
-    one_tells : (deed : Deed) (disk : MemState) → NoneListed disk → (state new : NotesState MemState)
+    one_tells : (deed : Doing) (disk : MemState) → NoneListed disk → (state new : NotesState MemState)
         → HalfOpened (kept_of disk.history) (with_fuse fuse disk) state → (given : Option Given)
         → Did mem_told mem_plan mem_faults deed.note state (stop_in given) new
         → TellCut calls deed (record { notes = kept_half disk; leaves = None })
@@ -96,7 +96,7 @@ module _ (calls fuse : ℕ) (fused : min 4 (fuse - 3) ≡ min 4 calls) (outcome 
         record { notes = half_told deed.note disk none state new opened given did; leaves = refl }
 
     -- a node of either kind
-    pub node_tells : {H : Type 0} (dig : List ℕ → List ℕ) (deed : Deed) (down : DownNode) (opened ran : UpNode H)
+    pub node_tells : {H : Type 0} (dig : List ℕ → List ℕ) (deed : Doing) (down : DownNode) (opened ran : UpNode H)
         (given : Option Given) → KeepsAll (down_halves down) → NoneListedOf (down_halves down) → AddsFew deed opened
         → Opens dig (with_disks (with_fuse fuse) down) opened → UpDid deed opened (stop_in given) ran
         → TellCut calls deed (down_halves down) (down_halves (taken_down ran))
@@ -152,7 +152,7 @@ by_command b opening command is = sym (ap (λ (c : Bool). cond c opening command
 module _ {H : Type 0} (hash : H) (name : List ℕ) (account : ℕ) (role : Role) where
   -- the disks of a command that was cut, once they crashed
   pub command_crashed : (is_up : Bool) (offers : List RootCall) (calls : ℕ) (outcome : Outcome) (order : NodeOrder)
-      (deed : Deed) (base : Halves) (ran : DownNode) → is_opening_order order ≡ false
+      (deed : Doing) (base : Halves) (ran : DownNode) → is_opening_order order ≡ false
       → TellCut calls deed base (down_halves ran)
       → DisksCrash calls outcome order deed (view_in hash name account role is_up base offers)
       (view_in hash name account role false (down_halves (with_disks (crashed outcome) ran)) [])
@@ -171,7 +171,7 @@ module _ {H : Type 0} (hash : H) (name : List ℕ) (account : ℕ) (role : Role)
   }
 
   -- those of an opening of a node that is down
-  pub opening_crashed : (offers : List RootCall) (calls : ℕ) (outcome : Outcome) (deed : Deed) (base : Halves)
+  pub opening_crashed : (offers : List RootCall) (calls : ℕ) (outcome : Outcome) (deed : Doing) (base : Halves)
       (ran : DownNode) → (down_halves ran).notes.disk.history ≡ with_cut_opening calls base.notes.disk.history
       → option_map told_of (down_halves ran).leaves
       ≡ option_map (λ disk. cond (nat_lt calls 3) disk (with_opening disk)) (option_map told_of base.leaves)
@@ -187,7 +187,7 @@ module _ {H : Type 0} (hash : H) (name : List ℕ) (account : ℕ) (role : Role)
 -- ---- an opening
 
 -- those of an opening of a node that is up, which crashed
-pub up_crashed : {H : Type 0} (calls : ℕ) (outcome : Outcome) (deed : Deed) (old new : NodeView H)
+pub up_crashed : {H : Type 0} (calls : ℕ) (outcome : Outcome) (deed : Doing) (old new : NodeView H)
     → old.node.is_up ≡ true → Crashes outcome old new → DisksCrash calls outcome Open deed old new
 up_crashed calls outcome deed old new up crashes = record {
   notes_disk = crashes.notes_disk

@@ -19,9 +19,9 @@ use Rattle.node_rules.specs.WalletOpening.{leaves_of as key_leaves}
 use Rattle.operator_rules.specs.Records.{operator_kinds}
 use Rattle.wallet_node.specs.State.{WalletState, notes_part, leaves_part}
 use Rattle.world_rules.specs.World.{Role}
-use Rattle.world_rules.specs.Deeds.{Deed, with_record, adds_record}
+use Rattle.node_replies.specs.Orders.{Doing, adds_record, with_record}
 use Rattle.world_rules.specs.Steps.{after_crash}
-use Rattle.world_rules.specs.declared.given.Given.{Given}
+use Rattle.node_replies.specs.declared.given.Given.{Given}
 use Rattle.wallet_deeds.specs.Orders.{DidEither}
 use Rattle.world_nodes.specs.declared.down.DownNode.{DownNode}
 use Rattle.world_nodes.specs.declared.down.DownNode.TheVariants.{Wallet as WalletDown, Watcher as WatcherDown, Operator as OperatorDown}
@@ -223,7 +223,7 @@ up_left outcome node keeps none =
 -- ---- a command that was cut
 
 -- the kind stays
-pub cut_kind : {H : Type 0} (deed : Deed) (opened ran : UpNode H) (stop : Option Stop) → UpDid deed opened stop ran
+pub cut_kind : {H : Type 0} (deed : Doing) (opened ran : UpNode H) (stop : Option Stop) → UpDid deed opened stop ran
     → down_kind (taken_down ran) ≡ up_kind opened
 cut_kind deed (WalletUp opened) (WalletUp ran) stop did = refl
 cut_kind deed (WatcherUp opened) (WatcherUp ran) stop did = refl
@@ -236,7 +236,7 @@ cut_kind deed (OperatorUp opened) (WalletUp ran) stop did = absurd did
 cut_kind deed (OperatorUp opened) (WatcherUp ran) stop did = absurd did
 
 -- what a deed leaves of the records that there were, by what it gave, or that it was stopped
-abbrev pub CutLeaves : ℕ → Outcome → Deed → Option Given → List (List ℕ) → List (List ℕ) → Halves → Type 0
+abbrev pub CutLeaves : ℕ → Outcome → Doing → Option Given → List (List ℕ) → List (List ℕ) → Halves → Type 0
 CutLeaves calls outcome deed (Some given) notes leaves halves =
     ((adds_record deed && nat_lt calls 4) ≡ false)
     × AreLeft (with_record notes deed.note) (with_record leaves deed.leaf) halves
@@ -256,7 +256,7 @@ no_leaves added none = ap (with_record []) none
 module _ (calls fuse : ℕ) (fused : min 4 (fuse - 3) ≡ min 4 calls) (outcome : Outcome) (pattern : HasPattern outcome)
   where
     -- one disk alone
-    one_cut : (deed : Deed) (disk : MemState) → NoneListed disk → (state new : NotesState MemState)
+    one_cut : (deed : Doing) (disk : MemState) → NoneListed disk → (state new : NotesState MemState)
         → HalfOpened (kept_of disk.history) (with_fuse fuse disk) state → deed.leaf ≡ None → (given : Option Given)
         → Rattle.node_journal.specs.Notes.Did mem_told mem_plan mem_faults deed.note state (stop_in given) new
         → CutLeaves calls outcome deed given (kept_of disk.history) []
@@ -287,19 +287,19 @@ module _ (calls fuse : ℕ) (fused : min 4 (fuse - 3) ≡ min 4 calls) (outcome 
         )
 
     -- both disks of a wallet
-    both_cut : {H : Type 0} (note leaf : Option (List ℕ)) (gives : _) (notes leaves : MemState) → NoneListed notes
+    both_cut : {H : Type 0} (note leaf : Option (List ℕ)) (response : _) (notes leaves : MemState) → NoneListed notes
         → NoneListed leaves → (state new : WalletState MemState H)
         → HalfOpened (kept_of notes.history) (with_fuse fuse notes) (notes_part state)
         → HalfOpened (kept_of leaves.history) (with_fuse fuse leaves) (leaves_part state)
         → (note ≡ None) ⊎ (leaf ≡ None) → (given : Option Given)
         → DidEither mem_told mem_plan mem_faults leaf note state (stop_in given) new
-        → CutLeaves calls outcome (record { gives = gives; note = note; leaf = leaf }) given (kept_of notes.history)
+        → CutLeaves calls outcome (record { response = response; note = note; leaf = leaf }) given (kept_of notes.history)
         (kept_of leaves.history)
         (record {
           notes = kept_half (crashed outcome new.notes_disk);
           leaves = Some (kept_half (crashed outcome new.leaves_disk));
         })
-    both_cut added None gives notes leaves none none' state new first second one (Some given) did =
+    both_cut added None response notes leaves none none' state new first second one (Some given) did =
         let by = went calls fuse fused outcome pattern (kept_of notes.history) notes none (notes_part state)
         first added
         (notes_part new) did.did in
@@ -309,7 +309,7 @@ module _ (calls fuse : ℕ) (fused : min 4 (fuse - 3) ≡ min 4 calls) (outcome 
           ap (λ (b : Bool). b && nat_lt calls 4) (or_false (is_some added)) ∙ by.0,
           record { left_notes = by.1; left_leaves = stays },
         )
-    both_cut added None gives notes leaves none none' state new first second one None did =
+    both_cut added None response notes leaves none none' state new first second one None did =
         let by = met calls fuse fused outcome pattern (kept_of notes.history) notes none (notes_part state)
         first added
         (notes_part new) did.did in
@@ -323,16 +323,16 @@ module _ (calls fuse : ℕ) (fused : min 4 (fuse - 3) ≡ min 4 calls) (outcome 
                 (sym (same_if (is_added calls outcome) (kept_of leaves.history))) stays;
           },
         )
-    both_cut (Some note) (Some leaf) gives notes leaves none none' state new first second one given did =
+    both_cut (Some note) (Some leaf) response notes leaves none none' state new first second one given did =
         absurd (elim one [ inl bad ↦ cc bad | inr bad ↦ cc bad ])
-    both_cut None (Some leaf) gives notes leaves none none' state new first second one (Some given) did =
+    both_cut None (Some leaf) response notes leaves none none' state new first second one (Some given) did =
         let by = went calls fuse fused outcome pattern (kept_of leaves.history) leaves none' (leaves_part
         state) second
         (Some leaf) (leaves_part new) did.did in
         let stays = idle calls fuse fused outcome pattern (kept_of notes.history) notes none (notes_part state) first
         new.notes_disk did.disk in
         (by.0, record { left_notes = stays; left_leaves = by.1 })
-    both_cut None (Some leaf) gives notes leaves none none' state new first second one None did =
+    both_cut None (Some leaf) response notes leaves none none' state new first second one None did =
         let by = met calls fuse fused outcome pattern (kept_of leaves.history) leaves none' (leaves_part state) second
         (Some leaf) (leaves_part new) did.did in
         let stays = idle calls fuse fused outcome pattern (kept_of notes.history) notes none (notes_part state) first
@@ -346,7 +346,7 @@ module _ (calls fuse : ℕ) (fused : min 4 (fuse - 3) ≡ min 4 calls) (outcome 
         )
 
     -- a node of either kind
-    pub node_cut : {H : Type 0} (dig : List ℕ → List ℕ) (deed : Deed) (down : DownNode) (opened ran : UpNode H)
+    pub node_cut : {H : Type 0} (dig : List ℕ → List ℕ) (deed : Doing) (down : DownNode) (opened ran : UpNode H)
         (given : Option Given) → KeepsAll (down_halves down) → NoneListedOf (down_halves down) → AddsFew deed opened
         → Opens dig (with_disks (with_fuse fuse) down) opened → UpDid deed opened (stop_in given) ran
         → CutLeaves calls outcome deed given (down_halves down).notes.records (leaves_of (down_halves down))
@@ -357,7 +357,7 @@ module _ (calls fuse : ℕ) (fused : min 4 (fuse - 3) ≡ min 4 calls) (outcome 
         let second = half_opened (leaf_records_in_of is_body (key_leaves state.records.notes))
         (leaf_reads is_body (key_leaves state.records.notes)) (kept_of leaves.history) (with_fuse fuse leaves)
         (leaves_part state) opens.opens_leaves (keeps.leaves (kept_half leaves) refl) in
-        both_cut deed.note deed.leaf deed.gives notes leaves none.notes (none.leaves (kept_half leaves) refl)
+        both_cut deed.note deed.leaf deed.response notes leaves none.notes (none.leaves (kept_half leaves) refl)
         state new first
         second few given did
     node_cut dig deed (WatcherDown notes) (WatcherUp state) (WatcherUp new) given keeps none few opens did =

@@ -13,13 +13,13 @@ use Rattle.leaf_journal.specs.Records.{messages_of}
 use Rattle.plasma_tx.specs.declared.call.RootCall.{RootCall}
 use Rattle.node_rules.specs.Wallet.{WalletRecords}
 use Rattle.world_rules.specs.World.{Role, Node}
-use Rattle.world_rules.specs.Deeds.{Deed, with_record, adds_record}
-use Rattle.world_rules.specs.declared.reply.Reply.{Reply}
-use Rattle.world_rules.specs.Steps.{with_records, after_crash}
-use Rattle.world_rules.specs.declared.given.Given.{Given}
-use Rattle.world_rules.specs.Given.{IsGiven}
-use Rattle.world_nodes.specs.declared.order.NodeOrder.{NodeOrder}
-use Rattle.world_nodes.specs.declared.order.NodeOrder.TheVariants.{Open}
+use Rattle.node_replies.specs.Orders.{Doing, adds_record, with_record}
+use Rattle.node_replies.specs.declared.reply.Reply.{Reply}
+use Rattle.world_rules.specs.Steps.{after_crash}
+use Rattle.node_replies.specs.declared.given.Given.{Given}
+use Rattle.node_replies.specs.Given.{IsGiven}
+use Rattle.node_replies.specs.declared.order.NodeOrder.{NodeOrder}
+use Rattle.node_replies.specs.declared.order.NodeOrder.TheVariants.{Open}
 use Rattle.world_nodes.specs.declared.order.CutEnd.{CutEnd}
 use Rattle.world_nodes.specs.declared.order.CutEnd.TheVariants.{Down as CutDown, Stopped as CutStopped, Done as CutDone}
 use Rattle.world_nodes.specs.declared.kept.Counts.{Counts}
@@ -28,8 +28,9 @@ use Rattle.world_nodes.specs.declared.up.UpNode.{UpNode}
 use Rattle.world_nodes.specs.declared.entry.Site.{Site}
 use Rattle.world_nodes.specs.declared.entry.Site.TheVariants.{Up, Down}
 use Rattle.world_nodes.specs.declared.entry.Member.{Member}
-use Rattle.world_nodes.specs.Orders.{fits, is_opening_order, order_deed}
-use Rattle.world_nodes.specs.Nodes.{NodeView, role_of, Spells, IsDone, Crashes}
+use Rattle.world_nodes.specs.Orders.{fits, is_opening_order}
+use Rattle.world_rules.specs.Orders.{node_does}
+use Rattle.world_nodes.specs.Nodes.{with_records, NodeView, role_of, Spells, IsDone, Crashes}
 use Rattle.world_nodes.specs.Cuts.{is_kept, DisksCrash, Ends, Cuts}
 use Rattle.world_nodes.specs.Inside.{Halves, crashed, leaves_of, bare_node, down_kind, down_halves, with_disks, up_kind, up_halves, up_hash, taken_down, Opens, UpDid, IsDownOf, stop_in, IsCutShort, IsCutOpening, opening_gives, counts_of, kept_behind, end_in, member_kind, is_up, halves_of, view_in, view_of, IsOf, IsWhole}
 use Rattle.world_nodes.proofs.Members.{stays_of}
@@ -43,16 +44,16 @@ use Rattle.world_nodes.proofs.CutDisks.{TellCut, node_tells, command_crashed, op
 -- an order of a node that is up
 pub command_done : {H : Type 0} (digest : H → List ℕ → List ℕ) (hash : H) (name : List ℕ) (account : ℕ)
     (member : Member) (offers more : List RootCall) (old : NodeView H) (site : Site H) (node new : UpNode H)
-    (log : List RootCall) (n : ℕ) (order : NodeOrder) (given : Given)
+    (log : List RootCall) (order : NodeOrder) (given : Given)
     → view_of hash name account member site offers ≡ old → IsWhole hash member site → Spells old → site ≡ Up node
     → fits old.node.role order ≡ true → is_opening_order order ≡ false
-    → UpDid (order_deed (digest (up_hash node)) log n (bare_node (up_halves node)) order) node None new
-    → IsGiven (order_deed (digest (up_hash node)) log n (bare_node (up_halves node)) order).gives given
+    → UpDid (node_does (digest (up_hash node)) log (bare_node (up_halves node)) order) node None new
+    → IsGiven (node_does (digest (up_hash node)) log (bare_node (up_halves node)) order).response given
     → more ≡ given.offers.items
-    → IsDone order (order_deed (digest old.hash) log n old.node order) old given
+    → IsDone order (node_does (digest old.hash) log old.node order) old given
     (view_of hash name account member (Up new) more)
     × Spells (view_of hash name account member (Up new) more) × IsWhole hash member (Up new)
-command_done {H} digest hash name account member offers more old site node new log n order given is whole
+command_done {H} digest hash name account member offers more old site node new log order given is whole
     spells at fit
     command did gives copied =
     let role = role_of (member_kind member) in
@@ -60,25 +61,25 @@ command_done {H} digest hash name account member offers more old site node new l
     let is' : view_of hash name account member (Up node) offers ≡ old =
     sym (ap (λ (s : Site H). view_of hash name account member s offers) at) ∙ is in
     let view = view_of hash name account member (Up node) offers in
-    let deed' = order_deed (digest (up_hash node)) log n (bare_node (up_halves node)) order in
-    let deed = order_deed (digest hash) log n view.node order in
+    let deed' = node_does (digest (up_hash node)) log (bare_node (up_halves node)) order in
+    let deed = node_does (digest hash) log view.node order in
     let same : deed' ≡ deed =
-    ap (λ (h : H). order_deed (digest h) log n (bare_node (up_halves node)) order) whole'.is_site.1
-    ∙ same_deed (digest hash) log n (bare_node (up_halves node)) view.node order refl command in
+    ap (λ (h : H). node_does (digest h) log (bare_node (up_halves node)) order) whole'.is_site.1
+    ∙ same_deed (digest hash) log (bare_node (up_halves node)) view.node order refl command in
     let fit' : fits (role_of (up_kind node)) order ≡ true =
     ap (λ k. fits (role_of k) order) whole'.is_site.0 ∙ (ap (λ (v : NodeView H). fits v.node.role order) is' ∙ fit) in
-    let few = adds_few (digest (up_hash node)) log n (bare_node (up_halves node)) node order fit' command in
-    let ran : UpRan deed node new = subst (λ (d : Deed). UpRan d node new) same (up_ran deed' node new few did) in
-    let gives' : IsGiven deed.gives given = subst (λ (d : Deed). IsGiven d.gives given) same gives in
+    let few = adds_few (digest (up_hash node)) log (bare_node (up_halves node)) node order fit' command in
+    let ran : UpRan deed node new = subst (λ (d : Doing). UpRan d node new) same (up_ran deed' node new few did) in
+    let gives' : IsGiven deed.response given = subst (λ (d : Doing). IsGiven d.response given) same gives in
     let keeps : KeepsAll (up_halves node) =
     view_keeps hash name account role true (up_halves node) offers (subst Spells (sym is') spells) in
-    let done' : IsDone order deed view given (view_in hash name account role true (up_halves new) deed.gives.offers) =
+    let done' : IsDone order deed view given (view_in hash name account role true (up_halves new) deed.response.offers) =
     done hash name account role (up_halves node) (up_halves new) offers order deed given ran.halves gives' in
     let done'' : IsDone order deed view given (view_of hash name account member (Up new) more) =
     subst (λ (os : List RootCall). IsDone order deed view given
     (view_in hash name account role true (up_halves new) os)) (sym (copied ∙ gives'.offers)) done' in
     let after : IsWhole hash member (Up new) = whole_ran hash member deed node new whole' ran in (
-      subst (λ (v : NodeView H). IsDone order (order_deed (digest v.hash) log n v.node order) v given
+      subst (λ (v : NodeView H). IsDone order (node_does (digest v.hash) log v.node order) v given
           (view_of hash name account member (Up new) more)) is' done'',
       keeps_view hash name account role true (up_halves new) more (up_has hash member new after)
           (ran_keeps deed (up_halves node) (up_halves new) ran.halves keeps),
@@ -88,13 +89,13 @@ command_done {H} digest hash name account member offers more old site node new l
 -- an opening of a node that is down
 pub opening_comes : {H : Type 0} (digest : H → List ℕ → List ℕ) (hash : H) (name : List ℕ) (account : ℕ)
     (member : Member) (offers more : List RootCall) (old : NodeView H) (site : Site H) (down : DownNode)
-    (up : UpNode H) (log : List RootCall) (n : ℕ) (given : Given)
+    (up : UpNode H) (log : List RootCall) (given : Given)
     → view_of hash name account member site offers ≡ old → IsWhole hash member site → Spells old → site ≡ Down down
     → Opens (digest hash) down up → up_hash up ≡ hash → IsGiven (opening_gives (up_halves up)) given → more ≡ []
-    → IsDone Open (order_deed (digest old.hash) log n old.node Open) old given
+    → IsDone Open (node_does (digest old.hash) log old.node Open) old given
     (view_of hash name account member (Up up) more)
     × Spells (view_of hash name account member (Up up) more) × IsWhole hash member (Up up)
-opening_comes {H} digest hash name account member offers more old site down up log n given is whole spells
+opening_comes {H} digest hash name account member offers more old site down up log given is whole spells
     at opens same gives none =
     let role = role_of (member_kind member) in
     let whole' : IsWhole hash member (Down down) = subst (IsWhole hash member) at whole in
@@ -105,19 +106,19 @@ opening_comes {H} digest hash name account member offers more old site down up l
     view_keeps hash name account role false (down_halves down) offers (subst Spells (sym is') spells) in
     let opened = up_opened (digest hash) down up opens keeps in
     let records = opened_same down up opened in
-    let gives' : IsGiven (order_deed (digest hash) log n view.node Open).gives given = record {
+    let gives' : IsGiven (node_does (digest hash) log view.node Open).response given = record {
       reply = gives.reply ∙ (λ i. Reply.Opened (length (records i).notes - 1) (length (messages_of (records
           i).leaves)));
       made = gives.made;
       offers = gives.offers;
     } in
-    let done' = opening_done (digest hash) log n hash name account role down up offers given opened gives' in
-    let done'' : IsDone Open (order_deed (digest hash) log n view.node Open) view given (view_of hash name
+    let done' = opening_done (digest hash) log hash name account role down up offers given opened gives' in
+    let done'' : IsDone Open (node_does (digest hash) log view.node Open) view given (view_of hash name
     account member (Up up) more) =
-    subst (λ (os : List RootCall). IsDone Open (order_deed (digest hash) log n view.node Open) view given
+    subst (λ (os : List RootCall). IsDone Open (node_does (digest hash) log view.node Open) view given
     (view_in hash name account role true (up_halves up) os)) (sym none) done' in
     let after : IsWhole hash member (Up up) = whole_opened hash member down up whole' opened same in (
-      subst (λ (v : NodeView H). IsDone Open (order_deed (digest v.hash) log n v.node Open) v given
+      subst (λ (v : NodeView H). IsDone Open (node_does (digest v.hash) log v.node Open) v given
           (view_of hash name account member (Up up) more)) is' done'',
       keeps_view hash name account role true (up_halves up) more (up_has hash member up after)
           (opened_keeps down up opened),
@@ -178,7 +179,7 @@ or_if : (b : Bool) (first second : Option (List ℕ)) → option_or (cond b firs
 or_if true first second = refl
 or_if false first second = refl
 
-kept_is : (b : Bool) (base halves : Halves) (deed : Deed)
+kept_is : (b : Bool) (base halves : Halves) (deed : Doing)
     → halves.notes.records ≡ cond b (with_record base.notes.records deed.note) base.notes.records
     → leaves_of halves ≡ cond b (with_record (leaves_of base) deed.leaf) (leaves_of base)
     → kept_behind (counts_of base) halves ≡ cond b (option_or deed.note deed.leaf) None
@@ -188,7 +189,7 @@ kept_is b base halves deed notes leaves =
     ∙ ((λ i. option_or (end_if b base.notes.records deed.note i) (end_if b (leaves_of base) deed.leaf i))
     ∙ or_if b deed.note deed.leaf)
 
-node_if : (b : Bool) (node : Node) (deed : Deed)
+node_if : (b : Bool) (node : Node) (deed : Doing)
     → after_crash (record node {
       notes = cond b (with_record node.notes deed.note) node.notes;
       leaves = cond b (with_record node.leaves deed.leaf) node.leaves;
@@ -198,8 +199,8 @@ node_if false node deed = refl
 
 -- how a command ended that was cut
 ends : {H : Type 0} (hash : H) (name : List ℕ) (account : ℕ) (role : Role) (offers : List RootCall) (calls : ℕ)
-    (outcome : Outcome) (order : NodeOrder) (deed : Deed) (base halves : Halves) (given : Option Given)
-    → is_opening_order order ≡ false → IfSome given (IsGiven deed.gives)
+    (outcome : Outcome) (order : NodeOrder) (deed : Doing) (base halves : Halves) (given : Option Given)
+    → is_opening_order order ≡ false → IfSome given (IsGiven deed.response)
     → CutLeaves calls outcome deed given base.notes.records (leaves_of base) halves
     → DisksCrash calls outcome order deed (view_in hash name account role true base offers)
     (view_in hash name account role false halves [])
@@ -244,7 +245,7 @@ of_if true member notes added is = stays_of member notes added is
 of_if false member notes added is = is
 
 -- what is left of a command keeps its records, and the entry is whole
-left_comes : {H : Type 0} (hash : H) (member : Member) (calls : ℕ) (outcome : Outcome) (deed : Deed)
+left_comes : {H : Type 0} (hash : H) (member : Member) (calls : ℕ) (outcome : Outcome) (deed : Doing)
     (given : Option Given) (notes leaves : List (List ℕ)) (new : DownNode) → down_kind new ≡ member_kind member
     → IsOf member notes → CutLeaves calls outcome deed given notes leaves (down_halves new)
     → KeepsAll (down_halves new) × IsWhole hash member (Down new)
@@ -263,16 +264,16 @@ left_comes hash member calls outcome deed None notes leaves new kind is left =
 
 pub cut_comes : {H : Type 0} (digest : H → List ℕ → List ℕ) (hash : H) (name : List ℕ) (account : ℕ)
     (member : Member) (offers more : List RootCall) (old : NodeView H) (site : Site H)
-    (down fused ran new : DownNode) (log : List RootCall) (n calls fuse : ℕ) (outcome : Outcome) (order : NodeOrder)
+    (down fused ran new : DownNode) (log : List RootCall) (calls fuse : ℕ) (outcome : Outcome) (order : NodeOrder)
     (given : Option Given) (before : Counts) (end : CutEnd)
     → view_of hash name account member site offers ≡ old → IsWhole hash member site → Spells old
     → old.node.is_up ≡ true → fits old.node.role order ≡ true → is_opening_order order ≡ false → HasPattern outcome
     → IsDownOf site down → before ≡ counts_of (down_halves down) → min 4 (fuse - 3) ≡ min 4 calls
-    → fused ≡ with_disks (with_fuse fuse) down → IsCutShort H (digest hash) log n order fused given ran
+    → fused ≡ with_disks (with_fuse fuse) down → IsCutShort H (digest hash) log order fused given ran
     → new ≡ with_disks (crashed outcome) ran → end ≡ end_in before (down_halves new) given → more ≡ []
-    → Cuts (digest old.hash) log n calls outcome order old end (view_of hash name account member (Down new) more)
+    → Cuts (digest old.hash) log calls outcome order old end (view_of hash name account member (Down new) more)
     × Spells (view_of hash name account member (Down new) more) × IsWhole hash member (Down new)
-cut_comes {H} digest hash name account member offers more old site down fused ran new log n calls fuse outcome
+cut_comes {H} digest hash name account member offers more old site down fused ran new log calls fuse outcome
     order given
     before end is whole spells up fit command pattern taken counted fuses fusing cut crashes ending none =
     let role = role_of (member_kind member) in
@@ -289,15 +290,15 @@ cut_comes {H} digest hash name account member offers more old site down fused ra
     subst (λ (d : DownNode). Opens (digest hash) d cut.opened) fusing cut.opens in
     let opened = up_opened (digest hash) (with_disks (with_fuse fuse) down) cut.opened opens
     (fused_keeps fuse down keeps') in
-    let deed' = order_deed (digest hash) log n (bare_node (up_halves cut.opened)) order in
-    let deed = order_deed (digest hash) log n view.node order in
+    let deed' = node_does (digest hash) log (bare_node (up_halves cut.opened)) order in
+    let deed = node_does (digest hash) log view.node order in
     let records = opened_same (with_disks (with_fuse fuse) down) cut.opened opened ∙ fused_same fuse down in
     let as_deed : deed' ≡ deed =
-    same_deed (digest hash) log n (bare_node (up_halves cut.opened)) view.node order records command in
+    same_deed (digest hash) log (bare_node (up_halves cut.opened)) view.node order records command in
     let fit' : fits (role_of (up_kind cut.opened)) order ≡ true =
     ap (λ k. fits (role_of k) order) (opened.kind ∙ (with_kind (with_fuse fuse) down ∙ whole'.is_site))
     ∙ (ap (λ (v : NodeView H). fits v.node.role order) is ∙ fit) in
-    let few = adds_few (digest hash) log n (bare_node (up_halves cut.opened)) cut.opened order fit' command in
+    let few = adds_few (digest hash) log (bare_node (up_halves cut.opened)) cut.opened order fit' command in
     let left' = node_cut calls fuse fuses outcome pattern (digest hash) deed' down cut.opened cut.ran given keeps'
     whole'.none_listed few opens cut.did in
     let after : with_disks (crashed outcome) (taken_down cut.ran) ≡ new =
@@ -306,18 +307,18 @@ cut_comes {H} digest hash name account member offers more old site down fused ra
     (down_halves new) =
     subst (λ (d : DownNode). CutLeaves calls outcome deed given (down_halves down).notes.records
     (leaves_of (down_halves down)) (down_halves d)) after
-    (subst (λ (d : Deed). CutLeaves calls outcome d given (down_halves down).notes.records
+    (subst (λ (d : Doing). CutLeaves calls outcome d given (down_halves down).notes.records
     (leaves_of (down_halves down)) (down_halves (with_disks (crashed outcome) (taken_down cut.ran)))) as_deed
     left') in
-    let gives : IfSome given (IsGiven deed.gives) =
-    subst (λ (d : Deed). IfSome given (IsGiven d.gives)) as_deed cut.gives in
+    let gives : IfSome given (IsGiven deed.response) =
+    subst (λ (d : Doing). IfSome given (IsGiven d.response)) as_deed cut.gives in
     let kind : down_kind new ≡ member_kind member =
     ap down_kind (sym after) ∙ (with_kind (crashed outcome) (taken_down cut.ran) ∙ (cut_kind deed' cut.opened cut.ran
     (stop_in given) cut.did ∙ (opened.kind ∙ (with_kind (with_fuse fuse) down ∙ whole'.is_site)))) in
     let comes = left_comes hash member calls outcome deed given (down_halves down).notes.records
     (leaves_of (down_halves down)) new kind whole'.identity left in
     let tells : TellCut calls deed (down_halves down) (down_halves (taken_down cut.ran)) =
-    subst (λ (d : Deed). TellCut calls d (down_halves down) (down_halves (taken_down cut.ran))) as_deed
+    subst (λ (d : Doing). TellCut calls d (down_halves down) (down_halves (taken_down cut.ran))) as_deed
     (node_tells calls fuse fuses outcome pattern (digest hash) deed' down cut.opened cut.ran given keeps'
     whole'.none_listed few opens cut.did) in
     let disks : DisksCrash calls outcome order deed view (view_in hash name account role false (down_halves new) []) =
@@ -329,13 +330,13 @@ cut_comes {H} digest hash name account member offers more old site down fused ra
     command gives left disks in
     let end_is : end_in (counts_of (down_halves down)) (down_halves new) given ≡ end =
     ap (λ (b : Counts). end_in b (down_halves new) given) (sym counted) ∙ sym ending in
-    let cuts : Cuts (digest old.hash) log n calls outcome order old end (view_of hash name account member (Down
+    let cuts : Cuts (digest old.hash) log calls outcome order old end (view_of hash name account member (Down
     new) []) =
-    subst (λ (v : NodeView H). Cuts (digest v.hash) log n calls outcome order v end
+    subst (λ (v : NodeView H). Cuts (digest v.hash) log calls outcome order v end
     (view_of hash name account member (Down new) [])) base
     (subst (λ (e : CutEnd). Ends calls outcome order deed view e (view_of hash name account member (Down new) []))
     end_is ended) in
-    subst (λ (os : List RootCall). Cuts (digest old.hash) log n calls outcome order old end
+    subst (λ (os : List RootCall). Cuts (digest old.hash) log calls outcome order old end
     (view_of hash name account member (Down new) os)
     × Spells (view_of hash name account member (Down new) os) × IsWhole hash member (Down new)) (sym none) (
       cuts,
@@ -345,20 +346,20 @@ cut_comes {H} digest hash name account member offers more old site down fused ra
 
 -- how an opening ended that was cut, and what is left of it
 opening_ends : {H : Type 0} (digest : H → List ℕ → List ℕ) (hash : H) (name : List ℕ) (account : ℕ)
-    (member : Member) (offers : List RootCall) (down left : DownNode) (log : List RootCall) (n calls : ℕ)
+    (member : Member) (offers : List RootCall) (down left : DownNode) (log : List RootCall) (calls : ℕ)
     (outcome : Outcome) (end : CutEnd) → KeepsAll (down_halves down) → IsWhole hash member (Down down)
     → IsCutOpening H (digest hash) calls (with_disks (with_fuse calls) down) end left
     → (let view = view_of hash name account member (Down down) offers in
     let after = with_disks (crashed outcome) left in
-    Cuts (digest hash) log n calls outcome Open view end (view_of hash name account member (Down after) [])
+    Cuts (digest hash) log calls outcome Open view end (view_of hash name account member (Down after) [])
     × (down_kind after ≡ member_kind member)
     × AreLeft (down_halves down).notes.records (leaves_of (down_halves down)) (down_halves after))
-opening_ends digest hash name account member offers down left log n calls outcome CutDown keeps whole cut = absurd cut
-opening_ends digest hash name account member offers down left log n calls outcome (CutStopped kept) keeps whole cut =
+opening_ends digest hash name account member offers down left log calls outcome CutDown keeps whole cut = absurd cut
+opening_ends digest hash name account member offers down left log calls outcome (CutStopped kept) keeps whole cut =
     let role = role_of (member_kind member) in
     let by = refused_cut calls cut.0 outcome (digest hash) down left keeps whole.none_listed cut.2 in
     let told = refused_tells calls cut.0 (digest hash) down left keeps whole.none_listed cut.2 in
-    let deed = order_deed (digest hash) log n (view_of hash name account member (Down down) offers).node Open in
+    let deed = node_does (digest hash) log (view_of hash name account member (Down down) offers).node Open in
     let after = with_disks (crashed outcome) left in (
       record {
         is_up = refl;
@@ -372,7 +373,7 @@ opening_ends digest hash name account member offers down left log n calls outcom
       with_kind (crashed outcome) left ∙ (by.0 ∙ whole.is_site),
       by.1,
     )
-opening_ends digest hash name account member offers down left log n calls outcome (CutDone given) keeps whole cut =
+opening_ends digest hash name account member offers down left log calls outcome (CutDone given) keeps whole cut =
     let role = role_of (member_kind member) in
     let fused = with_disks (with_fuse calls) down in
     let up = cut.1.0 in
@@ -388,7 +389,7 @@ opening_ends digest hash name account member offers down left log n calls outcom
     (subst (λ (w : WalletRecords). AreLeft w.notes w.leaves
     (down_halves (with_disks (crashed outcome) (taken_down up)))) records there) in
     let view = view_of hash name account member (Down down) offers in
-    let deed = order_deed (digest hash) log n view.node Open in
+    let deed = node_does (digest hash) log view.node Open in
     let disks : DisksCrash calls outcome Open deed view (view_in hash name account role false (down_halves after) []) =
     subst (λ (d : DownNode). DisksCrash calls outcome Open deed view
     (view_in hash name account role false (down_halves (with_disks (crashed outcome) d)) [])) back
@@ -418,13 +419,13 @@ opening_ends digest hash name account member offers down left log n calls outcom
 
 pub cut_opening_comes : {H : Type 0} (digest : H → List ℕ → List ℕ) (hash : H) (name : List ℕ) (account : ℕ)
     (member : Member) (offers more : List RootCall) (old : NodeView H) (site : Site H)
-    (down fused left new : DownNode) (log : List RootCall) (n calls : ℕ) (outcome : Outcome) (end : CutEnd)
+    (down fused left new : DownNode) (log : List RootCall) (calls : ℕ) (outcome : Outcome) (end : CutEnd)
     → view_of hash name account member site offers ≡ old → IsWhole hash member site → Spells old → site ≡ Down down
     → fused ≡ with_disks (with_fuse calls) down → IsCutOpening H (digest hash) calls fused end left
     → new ≡ with_disks (crashed outcome) left → more ≡ []
-    → Cuts (digest old.hash) log n calls outcome Open old end (view_of hash name account member (Down new) more)
+    → Cuts (digest old.hash) log calls outcome Open old end (view_of hash name account member (Down new) more)
     × Spells (view_of hash name account member (Down new) more) × IsWhole hash member (Down new)
-cut_opening_comes {H} digest hash name account member offers more old site down fused left new log n calls
+cut_opening_comes {H} digest hash name account member offers more old site down fused left new log calls
     outcome end is
     whole spells at fusing cut crashes none =
     let role = role_of (member_kind member) in
@@ -435,17 +436,17 @@ cut_opening_comes {H} digest hash name account member offers more old site down 
     view_keeps hash name account role false (down_halves down) offers (subst Spells (sym is') spells) in
     let cut' : IsCutOpening H (digest hash) calls (with_disks (with_fuse calls) down) end left =
     subst (λ (d : DownNode). IsCutOpening H (digest hash) calls d end left) fusing cut in
-    let by = opening_ends digest hash name account member offers down left log n calls outcome end keeps whole'
+    let by = opening_ends digest hash name account member offers down left log calls outcome end keeps whole'
     cut' in
     let after = with_disks (crashed outcome) left in
     let N = (down_halves down).notes.records in
     let L = leaves_of (down_halves down) in
-    let cuts : Cuts (digest old.hash) log n calls outcome Open old end (view_of hash name account member (Down
+    let cuts : Cuts (digest old.hash) log calls outcome Open old end (view_of hash name account member (Down
     after) []) =
-    subst (λ (v : NodeView H). Cuts (digest v.hash) log n calls outcome Open v end
+    subst (λ (v : NodeView H). Cuts (digest v.hash) log calls outcome Open v end
     (view_of hash name account member (Down after) [])) is' by.0 in
     let whole'' : IsWhole hash member (Down after) = whole_left hash member after N L by.1 by.2 whole'.identity in
-    let all : Cuts (digest old.hash) log n calls outcome Open old end (view_of hash name account member (Down
+    let all : Cuts (digest old.hash) log calls outcome Open old end (view_of hash name account member (Down
     after) [])
     × Spells (view_of hash name account member (Down after) []) × IsWhole hash member (Down after) = (
       cuts,
@@ -453,9 +454,9 @@ cut_opening_comes {H} digest hash name account member offers more old site down 
           (left_keeps N L (down_halves after) by.2),
       whole'',
     ) in
-    let at_new = subst (λ (d : DownNode). Cuts (digest old.hash) log n calls outcome Open old end
+    let at_new = subst (λ (d : DownNode). Cuts (digest old.hash) log calls outcome Open old end
     (view_of hash name account member (Down d) [])
     × Spells (view_of hash name account member (Down d) []) × IsWhole hash member (Down d)) (sym crashes) all in
-    subst (λ (os : List RootCall). Cuts (digest old.hash) log n calls outcome Open old end
+    subst (λ (os : List RootCall). Cuts (digest old.hash) log calls outcome Open old end
     (view_of hash name account member (Down new) os)
     × Spells (view_of hash name account member (Down new) os) × IsWhole hash member (Down new)) (sym none) at_new

@@ -15,7 +15,7 @@ use Rattle.node_journal.specs.Notes.{NotesState, Did, Opened}
 use Rattle.node_journal.specs.Role.{Kinds, are_of, read_of_kinds, role_in}
 use Rattle.leaf_journal.specs.Records.{leaf_records_read_of, leaf_records_in_of}
 use Rattle.leaf_journal.proofs.Form.{all_same}
-use Rattle.world_rules.specs.Deeds.{with_record}
+use Rattle.node_replies.specs.Orders.{with_record}
 use Rattle.world_nodes.specs.Nodes.{EachKeeps, with_append, with_opening}
 use Rattle.world_nodes.specs.Inside.{mem_told, mem_plan, mem_faults, NoneListed, Half, half_of, kept_half, crashed, IsBegun as IsLeft}
 

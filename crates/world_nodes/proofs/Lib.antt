@@ -8,7 +8,6 @@ pub mod Declared
 pub mod Places
 pub mod CutOpenings
 pub mod CutDisks
-pub mod SameDeeds
 pub mod Ready
 pub mod Roles
 pub mod ReadyAt

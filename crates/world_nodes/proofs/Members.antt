@@ -6,7 +6,7 @@ use Rattle.plasma_tx.specs.declared.owner.Owner.{Owner}
 use Rattle.node_rules.specs.declared.identity.WalletIdentity.{WalletIdentity}
 use Rattle.node_rules.specs.WalletRecords.{identity_text, owner_of, who_is}
 use Rattle.world_rules.specs.World.{is_wallet_role, owner_of_node}
-use Rattle.world_rules.specs.Deeds.{with_record}
+use Rattle.node_replies.specs.Orders.{with_record}
 use Rattle.world_nodes.specs.declared.entry.Site.{Site}
 use Rattle.world_nodes.specs.declared.entry.Site.TheVariants.{Gone}
 use Rattle.world_nodes.specs.declared.entry.Member.{Member}

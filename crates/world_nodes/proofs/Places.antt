@@ -4,10 +4,10 @@ use Rattle.crash_disk.specs.Memory.{with_fuse}
 use Rattle.crash_disk.specs.Outcomes.{HasPattern}
 use Rattle.crash_disk.specs.declared.outcome.Outcome.{Outcome}
 use Rattle.plasma_tx.specs.declared.call.RootCall.{RootCall}
-use Rattle.world_rules.specs.declared.given.Given.{Given}
-use Rattle.world_rules.specs.Given.{IsGiven}
-use Rattle.world_nodes.specs.declared.order.NodeOrder.{NodeOrder}
-use Rattle.world_nodes.specs.declared.order.NodeOrder.TheVariants.{Open}
+use Rattle.node_replies.specs.declared.given.Given.{Given}
+use Rattle.node_replies.specs.Given.{IsGiven}
+use Rattle.node_replies.specs.declared.order.NodeOrder.{NodeOrder}
+use Rattle.node_replies.specs.declared.order.NodeOrder.TheVariants.{Open}
 use Rattle.world_nodes.specs.declared.order.CutEnd.{CutEnd}
 use Rattle.world_nodes.specs.declared.kept.Counts.{Counts}
 use Rattle.world_nodes.specs.declared.down.DownNode.{DownNode}
@@ -15,7 +15,8 @@ use Rattle.world_nodes.specs.declared.up.UpNode.{UpNode}
 use Rattle.world_nodes.specs.declared.entry.Site.{Site}
 use Rattle.world_nodes.specs.declared.entry.Site.TheVariants.{Up, Down}
 use Rattle.world_nodes.specs.declared.entry.Member.{Member}
-use Rattle.world_nodes.specs.Orders.{fits, is_opening_order, order_deed}
+use Rattle.world_nodes.specs.Orders.{fits, is_opening_order}
+use Rattle.world_rules.specs.Orders.{node_does}
 use Rattle.world_nodes.specs.Nodes.{NodeView, role_of, Spells, IsDone, Crashes}
 use Rattle.world_nodes.specs.Cuts.{Cuts}
 use Rattle.world_nodes.specs.Inside.{crashed, bare_node, down_kind, down_halves, with_disks, up_kind, up_halves, up_hash, Opens, UpDid, IsDownOf, IsCutShort, IsCutOpening, opening_gives, counts_of, end_in, member_kind, view_of, IsWhole}
@@ -36,37 +37,37 @@ moved {H} hash name account member more after put P is all =
 pub command_at : {H : Type 0} (digest : H → List ℕ → List ℕ) (hash : H) (name : List ℕ) (account : ℕ)
     (member : Member) (offers more : List RootCall) (old : NodeView H) (site taken after : Site H) (node new :
     UpNode H)
-    (log : List RootCall) (n : ℕ) (order : NodeOrder) (given : Given)
+    (log : List RootCall) (order : NodeOrder) (given : Given)
     → view_of hash name account member site offers ≡ old → IsWhole hash member site → Spells old → taken ≡ site
     → taken ≡ Up node → fits old.node.role order ≡ true → is_opening_order order ≡ false
-    → UpDid (order_deed (digest (up_hash node)) log n (bare_node (up_halves node)) order) node None new
-    → IsGiven (order_deed (digest (up_hash node)) log n (bare_node (up_halves node)) order).gives given
+    → UpDid (node_does (digest (up_hash node)) log (bare_node (up_halves node)) order) node None new
+    → IsGiven (node_does (digest (up_hash node)) log (bare_node (up_halves node)) order).response given
     → more ≡ given.offers.items → after ≡ Up new
-    → IsDone order (order_deed (digest old.hash) log n old.node order) old given
+    → IsDone order (node_does (digest old.hash) log old.node order) old given
     (view_of hash name account member after more)
     × Spells (view_of hash name account member after more) × IsWhole hash member after
-command_at digest hash name account member offers more old site taken after node new log n order given is whole spells
+command_at digest hash name account member offers more old site taken after node new log order given is whole spells
     same at fit command did gives copied put =
     moved hash name account member more after (Up new)
-    (IsDone order (order_deed (digest old.hash) log n old.node order) old given) put
-    (command_done digest hash name account member offers more old site node new log n order given is whole spells
+    (IsDone order (node_does (digest old.hash) log old.node order) old given) put
+    (command_done digest hash name account member offers more old site node new log order given is whole spells
     (sym same ∙ at) fit command did gives copied)
 
 pub opening_at : {H : Type 0} (digest : H → List ℕ → List ℕ) (hash : H) (name : List ℕ) (account : ℕ)
     (member : Member) (offers more : List RootCall) (old : NodeView H) (site taken after : Site H) (down : DownNode)
-    (up : UpNode H) (log : List RootCall) (n : ℕ) (given : Given)
+    (up : UpNode H) (log : List RootCall) (given : Given)
     → view_of hash name account member site offers ≡ old → IsWhole hash member site → Spells old → taken ≡ site
     → taken ≡ Down down → Opens (digest hash) down up → up_hash up ≡ hash
     → IsGiven (opening_gives (up_halves up)) given → more ≡ [] → after ≡ Up up
-    → IsDone Open (order_deed (digest old.hash) log n old.node Open) old given
+    → IsDone Open (node_does (digest old.hash) log old.node Open) old given
     (view_of hash name account member after more)
     × Spells (view_of hash name account member after more) × IsWhole hash member after
-opening_at digest hash name account member offers more old site taken after down up log n given is whole spells
+opening_at digest hash name account member offers more old site taken after down up log given is whole spells
     same at
     opens same_hash gives none put =
     moved hash name account member more after (Up up)
-    (IsDone Open (order_deed (digest old.hash) log n old.node Open) old given) put
-    (opening_comes digest hash name account member offers more old site down up log n given is whole spells
+    (IsDone Open (node_does (digest old.hash) log old.node Open) old given) put
+    (opening_comes digest hash name account member offers more old site down up log given is whole spells
     (sym same ∙ at) opens same_hash gives none)
 
 pub crash_at : {H : Type 0} (hash : H) (name : List ℕ) (account : ℕ) (member : Member) (offers more : List RootCall)
@@ -84,41 +85,41 @@ crash_at {H} hash name account member offers more old site taken after down new 
 
 pub cut_at : {H : Type 0} (digest : H → List ℕ → List ℕ) (hash : H) (name : List ℕ) (account : ℕ)
     (member : Member) (offers more : List RootCall) (old : NodeView H) (site taken after : Site H)
-    (down fused ran new : DownNode) (log : List RootCall) (n calls fuse : ℕ) (outcome : Outcome) (order : NodeOrder)
+    (down fused ran new : DownNode) (log : List RootCall) (calls fuse : ℕ) (outcome : Outcome) (order : NodeOrder)
     (given : Option Given) (before : Counts) (end : CutEnd)
     → view_of hash name account member site offers ≡ old → IsWhole hash member site → Spells old
     → old.node.is_up ≡ true → fits old.node.role order ≡ true → is_opening_order order ≡ false → HasPattern outcome
     → taken ≡ site → IsDownOf taken down → before ≡ counts_of (down_halves down) → min 4 (fuse - 3) ≡ min 4 calls
-    → fused ≡ with_disks (with_fuse fuse) down → IsCutShort H (digest hash) log n order fused given ran
+    → fused ≡ with_disks (with_fuse fuse) down → IsCutShort H (digest hash) log order fused given ran
     → new ≡ with_disks (crashed outcome) ran → end ≡ end_in before (down_halves new) given → more ≡ []
     → after ≡ Down new
-    → Cuts (digest old.hash) log n calls outcome order old end (view_of hash name account member after more)
+    → Cuts (digest old.hash) log calls outcome order old end (view_of hash name account member after more)
     × Spells (view_of hash name account member after more) × IsWhole hash member after
-cut_at {H} digest hash name account member offers more old site taken after down fused ran new log n calls fuse
+cut_at {H} digest hash name account member offers more old site taken after down fused ran new log calls fuse
     outcome order
     given before end is whole spells up fit command pattern same at counted fuses fusing cut crashes ending none put =
     moved hash name account member more after (Down new)
-    (Cuts (digest old.hash) log n calls outcome order old end) put
-    (cut_comes digest hash name account member offers more old site down fused ran new log n calls fuse outcome
+    (Cuts (digest old.hash) log calls outcome order old end) put
+    (cut_comes digest hash name account member offers more old site down fused ran new log calls fuse outcome
     order given
     before end is whole spells up fit command pattern (subst (λ (s : Site H). IsDownOf s down) same at) counted fuses
     fusing cut crashes ending none)
 
 pub cut_opening_at : {H : Type 0} (digest : H → List ℕ → List ℕ) (hash : H) (name : List ℕ) (account : ℕ)
     (member : Member) (offers more : List RootCall) (old : NodeView H) (site taken after : Site H)
-    (down fused left new : DownNode) (log : List RootCall) (n calls : ℕ) (outcome : Outcome) (end : CutEnd)
+    (down fused left new : DownNode) (log : List RootCall) (calls : ℕ) (outcome : Outcome) (end : CutEnd)
     → view_of hash name account member site offers ≡ old → IsWhole hash member site → Spells old → taken ≡ site
     → taken ≡ Down down → fused ≡ with_disks (with_fuse calls) down
     → IsCutOpening H (digest hash) calls fused end left → new ≡ with_disks (crashed outcome) left → more ≡ []
     → after ≡ Down new
-    → Cuts (digest old.hash) log n calls outcome Open old end (view_of hash name account member after more)
+    → Cuts (digest old.hash) log calls outcome Open old end (view_of hash name account member after more)
     × Spells (view_of hash name account member after more) × IsWhole hash member after
-cut_opening_at digest hash name account member offers more old site taken after down fused left new log n calls
+cut_opening_at digest hash name account member offers more old site taken after down fused left new log calls
     outcome end
     is whole spells same at fusing cut crashes none put =
     moved hash name account member more after (Down new)
-    (Cuts (digest old.hash) log n calls outcome Open old end) put
-    (cut_opening_comes digest hash name account member offers more old site down fused left new log n calls
+    (Cuts (digest old.hash) log calls outcome Open old end) put
+    (cut_opening_comes digest hash name account member offers more old site down fused left new log calls
     outcome end is
     whole spells (sym same ∙ at) fusing cut crashes none)
 

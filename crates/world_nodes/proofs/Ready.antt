@@ -25,7 +25,7 @@ use Rattle.node_rules.proofs.WalletGrow.{wallet-parts}
 use Rattle.operator_rules.specs.Records.{operator_kinds}
 use Rattle.wallet_node.specs.State.{WalletState, notes_part, leaves_part}
 use Rattle.wallet_node.specs.Opening.{RefusesWallet, IsUnbound}
-use Rattle.world_rules.specs.Deeds.{Deed}
+use Rattle.node_replies.specs.Orders.{Doing}
 use Rattle.wallet_deeds.specs.Orders.{DidEither}
 use Rattle.world_nodes.specs.declared.down.DownNode.{DownNode}
 use Rattle.world_nodes.specs.declared.down.DownNode.TheVariants.{Wallet as WalletDown, Watcher as WatcherDown, Operator as OperatorDown}
@@ -344,7 +344,7 @@ closed-either : {H : Type 0} (note leaf : Option (List ℕ)) (old new : WalletSt
 closed-either added None old new did = did.did.0
 closed-either added (Some leaf) old new did = did.did.0
 
-was-closed : {H : Type 0} (deed : Deed) (old new : UpNode H) → UpDid deed old (Some Closed) new → up_closed old ≡ true
+was-closed : {H : Type 0} (deed : Doing) (old new : UpNode H) → UpDid deed old (Some Closed) new → up_closed old ≡ true
 was-closed deed (WalletUp old) (WalletUp new) did = closed-either deed.note deed.leaf old new did
 was-closed deed (WatcherUp old) (WatcherUp new) did = did.0.0
 was-closed deed (OperatorUp old) (OperatorUp new) did = did.0.0
@@ -356,7 +356,7 @@ was-closed deed (OperatorUp old) (WalletUp new) did = absurd did
 was-closed deed (OperatorUp old) (WatcherUp new) did = absurd did
 
 -- so none of a node that was just opened
-pub closed-never : {H : Type 0} (dig : List ℕ → List ℕ) (down : DownNode) (opened new : UpNode H) (deed : Deed)
+pub closed-never : {H : Type 0} (dig : List ℕ → List ℕ) (down : DownNode) (opened new : UpNode H) (deed : Doing)
     (stop : Stop) → Opens dig down opened → stop ≡ Closed → UpDid deed opened (Some stop) new → ⊥
 closed-never {H} dig down opened new deed stop opens is did =
     let closed = was-closed deed opened new
@@ -383,7 +383,7 @@ either-ran added (Some leaf) old new did unfused unfused' = (
   ran-one (Some leaf) (leaves_part old) (leaves_part new) did.did unfused',
 )
 
-pub ran-unfused : {H : Type 0} (deed : Deed) (old new : UpNode H) → UpDid deed old None new
+pub ran-unfused : {H : Type 0} (deed : Doing) (old new : UpNode H) → UpDid deed old None new
     → NoFuses (up_halves old) → NoFuses (up_halves new)
 ran-unfused deed (WalletUp old) (WalletUp new) did unfused =
     let by = either-ran deed.note deed.leaf old new did unfused.notes (unfused.leaves _ refl) in

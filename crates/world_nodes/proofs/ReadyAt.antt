@@ -1,5 +1,5 @@
 -- What the calls of an entry need of its disks, and leave them, by the places of the code.
-use Rattle.std.proofs.Common.{◌≡◌, ◌<◌, ◌≤◌, ◌^◌, ◌∷◌, [], ℕ, false, List, None, sym, ◌∙◌, ap, subst}
+use Rattle.std.proofs.Common.{◌≡◌, ◌<◌, ◌≤◌, ◌^◌, ◌∷◌, [], ℕ, false, List, None, refl, sym, ◌∙◌, ap, subst}
 use Rattle.std.specs.List.{All}
 use Rattle.crash_disk.specs.Disk.{content}
 use Rattle.crash_disk.specs.Memory.{with_fuse}
@@ -11,19 +11,19 @@ use Rattle.plasma_tx.specs.Views.{blocks}
 use Rattle.node_rules.specs.Wallet.{WalletRecords}
 use Rattle.node_rules.specs.WalletCommandLaws.{FitWords}
 use Rattle.world_rules.specs.World.{wallet_of}
-use Rattle.world_rules.specs.Deeds.{Deed}
-use Rattle.world_rules.specs.Steps.{with_records}
+use Rattle.node_replies.specs.Orders.{Doing}
 use Rattle.world_nodes.specs.declared.order.NodeKind.{NodeKind}
-use Rattle.world_nodes.specs.declared.order.NodeOrder.{NodeOrder}
+use Rattle.node_replies.specs.declared.order.NodeOrder.{NodeOrder}
 use Rattle.world_nodes.specs.declared.order.CutEnd.{CutEnd}
 use Rattle.world_nodes.specs.declared.down.DownNode.{DownNode}
 use Rattle.world_nodes.specs.declared.up.UpNode.{UpNode}
 use Rattle.world_nodes.specs.declared.entry.Site.{Site}
-use Rattle.world_nodes.specs.declared.entry.Site.TheVariants.{Up, Down}
+use Rattle.world_nodes.specs.declared.entry.Site.TheVariants.{Up, Down, Gone}
 use Rattle.world_nodes.specs.declared.entry.Member.{Member}
-use Rattle.world_nodes.specs.Orders.{order_deed}
-use Rattle.world_nodes.specs.Nodes.{NodeView, role_of, Spells, AreOf, IsOfRole, Crashes}
+use Rattle.world_rules.specs.Orders.{node_does}
+use Rattle.world_nodes.specs.Nodes.{with_records, NodeView, role_of, Spells, AreOf, IsOfRole, Crashes}
 use Rattle.world_nodes.specs.Cuts.{Cuts}
+use Rattle.world_nodes.specs.Boxed.{IsWholeSite}
 use Rattle.world_nodes.specs.Inside.{NoneListedOf, Halves, NoFuses, records_in, crashed, down_kind, down_halves, with_disks, up_closed, up_hash, up_halves, up_kind, MayOpen, IsToStop, Opens, UpDid, RunsOn, IsDownOf, IsThere, is_up, halves_of, member_kind, view_of, IsWhole, IsReady, IsEntry, IsDeclared, first_note}
 use Rattle.world_nodes.proofs.Runs.{KeepsAll, view_keeps}
 use Rattle.world_nodes.proofs.Cuts.{down_same, down_is, whole_down, with_kind}
@@ -121,12 +121,12 @@ module _ {H : Type 0} (digest : H → List ℕ → List ℕ) (hash : H) (name : 
         (crash-role (digest hash) outcome old (view_of hash name account member after more) crashed_so
         (role-here role))
 
-    pub cut-ready : (log : List RootCall) (n calls : ℕ) (order : NodeOrder) (end : CutEnd)
-        → Cuts (digest old.hash) log n calls outcome order old end (view_of hash name account member after more)
-        → IsOfRole (digest old.hash) (with_records old.node (order_deed (digest old.hash) log n old.node order))
+    pub cut-ready : (log : List RootCall) (calls : ℕ) (order : NodeOrder) (end : CutEnd)
+        → Cuts (digest old.hash) log calls outcome order old end (view_of hash name account member after more)
+        → IsOfRole (digest old.hash) (with_records old.node (node_does (digest old.hash) log old.node order))
         → IsReady (digest hash) (role_of (member_kind member)) after
-    cut-ready log n calls order end cuts added =
-        let left = cut-role (digest old.hash) log n calls outcome order old end
+    cut-ready log calls order end cuts added =
+        let left = cut-role (digest old.hash) log calls outcome order old end
         (view_of hash name account member after more) cuts role added in
         down-ready digest hash name account member after more ran new outcome put crashes
         (subst (λ (h : H). IsOfRole (digest h) (view_of hash name account member after more).node)
@@ -157,6 +157,16 @@ module _ {H : Type 0} (digest : H → List ℕ → List ℕ) (hash : H) (name : 
   pub role-down : (down : DownNode) → site ≡ Down down → IsOfRole (digest old.hash) old.node
   role-down down at = seen (Down down) at (subst (IsEntry digest hash member) at entry).1.1
 
+  site-role : Spells old → (s : Site H) → site ≡ s → IsWholeSite digest s → IsOfRole (digest old.hash) old.node
+  site-role spells (Up node) at role = role-up node at role
+  site-role spells (Down down) at role = role-down down at
+  site-role spells Gone at role =
+      absurd (subst IsThere at (there hash name account member site offers (subst Spells (sym is) spells)))
+
+  -- so it is at each site, where the records of a node that is up are of its role
+  pub role-at : Spells old → IsWholeSite digest site → IsOfRole (digest old.hash) old.node
+  role-at spells role = site-role spells site refl role
+
 -- ---- nodes that are ready
 
 module _ {H : Type 0} (digest : H → List ℕ → List ℕ) (hash : H) (member : Member) (site taken : Site H)
@@ -171,7 +181,7 @@ module _ {H : Type 0} (digest : H → List ℕ → List ℕ) (hash : H) (member 
   runs-at node at =
       let here = up-entry node at in runs-on node here.0.none_listed here.1 here.0.is_site.2
 
-  pub ran-ready : (node new : UpNode H) (after : Site H) (deed : Deed) → taken ≡ Up node → UpDid deed node None new
+  pub ran-ready : (node new : UpNode H) (after : Site H) (deed : Doing) → taken ≡ Up node → UpDid deed node None new
       → after ≡ Up new → IsReady (digest hash) (role_of (member_kind member)) after
   ran-ready node new after deed at did put =
       subst (IsReady (digest hash) (role_of (member_kind member))) (sym put)

@@ -24,13 +24,13 @@ use Rattle.operator_rules.specs.Records.{Identity, identity_text as operator_tex
 use Rattle.operator_rules.specs.Laws.{IsIdentity as IsOperatorIdentity}
 use Rattle.operator_rules.proofs.RecordTexts.{identity_in-text as operator_in-text}
 use Rattle.world_rules.specs.World.{Role, Wallet, Watcher, Operator, Node, wallet_of}
-use Rattle.world_rules.specs.Steps.{with_records, after_crash}
+use Rattle.world_rules.specs.Steps.{after_crash}
 use Rattle.wallet_deeds.proofs.OrderLaws.{orders_keep_the_role as wallet_orders_keep}
 use Rattle.watcher_deeds.proofs.OrderLaws.{orders_keep_the_role as watcher_orders_keep}
 use Rattle.operator_deeds.proofs.OrderLaws.{orders_keep_the_role as operator_orders_keep}
 use Rattle.world_nodes.specs.declared.order.NodeKind.TheVariants.{Wallet as WalletKind, Watcher as WatcherKind, Operator as OperatorKind}
-use Rattle.world_nodes.specs.declared.order.NodeOrder.{NodeOrder}
-use Rattle.world_nodes.specs.declared.order.NodeOrder.TheVariants.{Wallet as WalletOrdered, Watcher as WatcherOrdered, Operator as OperatorOrdered, Open}
+use Rattle.node_replies.specs.declared.order.NodeOrder.{NodeOrder}
+use Rattle.node_replies.specs.declared.order.NodeOrder.TheVariants.{Wallet as WalletOrdered, Watcher as WatcherOrdered, Operator as OperatorOrdered, Open}
 use Rattle.world_nodes.specs.declared.order.CutEnd.{CutEnd}
 use Rattle.world_nodes.specs.declared.order.CutEnd.TheVariants.{Down as CutDown, Stopped as CutStopped, Done as CutDone}
 use Rattle.world_nodes.specs.declared.down.DownNode.{DownNode}
@@ -38,8 +38,9 @@ use Rattle.world_nodes.specs.declared.entry.Site.{Site}
 use Rattle.world_nodes.specs.declared.entry.Site.TheVariants.{Up, Down, Gone}
 use Rattle.world_nodes.specs.declared.entry.Member.{Member}
 use Rattle.world_nodes.specs.declared.entry.Member.TheVariants.{Wallet as WalletMember, Watcher as WatcherMember, Operator as OperatorMember}
-use Rattle.world_nodes.specs.Orders.{fits, order_deed, IsFit}
-use Rattle.world_nodes.specs.Nodes.{NodeView, role_of, Spells, AreOf, IsOfRole, Crashes}
+use Rattle.world_nodes.specs.Orders.{fits, IsFit}
+use Rattle.world_rules.specs.Orders.{node_does}
+use Rattle.world_nodes.specs.Nodes.{with_records, NodeView, role_of, Spells, AreOf, IsOfRole, Crashes}
 use Rattle.world_nodes.specs.Cuts.{Cuts, is_kept}
 use Rattle.world_nodes.specs.Inside.{NoFuses, crashed, down_halves, with_disks, empty_disk, member_kind, view_of, IsThere, IsReady, IsEntry, IsIdentityOf}
 use Rattle.world_nodes.proofs.Members.{lost}
@@ -86,24 +87,24 @@ pub operator-alone : (who : Identity) → IsOperatorIdentity who → IsIdentityO
 operator-alone who is dig = ap (λ (o : Option Identity). is_some o && true) (operator_in-text who is)
 
 -- the records are of the role with what an order adds
-pub role-after : (dig : List ℕ → List ℕ) (log : List RootCall) (n : ℕ) (node : Node) (role : Role) (order : NodeOrder)
+pub role-after : (dig : List ℕ → List ℕ) (log : List RootCall) (node : Node) (role : Role) (order : NodeOrder)
     → AreOf dig role (wallet_of node) → fits role order ≡ true → IsFit order → FitWords (wallet_of node) log
-    → AreOf dig role (wallet_of (with_records node (order_deed dig log n node order)))
-role-after dig log n node Wallet (WalletOrdered order) is fit words all =
-    wallet_orders_keep dig log n (wallet_of node) order is words all
-role-after dig log n node Watcher (WatcherOrdered order) is fit words all =
-    watcher_orders_keep dig log n node.notes order is words
-role-after dig log n node Operator (OperatorOrdered order) is fit words all =
-    operator_orders_keep dig log n node.notes order is
-role-after dig log n node Wallet Open is fit words all = is
-role-after dig log n node Watcher Open is fit words all = is
-role-after dig log n node Operator Open is fit words all = is
-role-after dig log n node Wallet (WatcherOrdered order) is fit words all = absurd (cc fit)
-role-after dig log n node Wallet (OperatorOrdered order) is fit words all = absurd (cc fit)
-role-after dig log n node Watcher (WalletOrdered order) is fit words all = absurd (cc fit)
-role-after dig log n node Watcher (OperatorOrdered order) is fit words all = absurd (cc fit)
-role-after dig log n node Operator (WalletOrdered order) is fit words all = absurd (cc fit)
-role-after dig log n node Operator (WatcherOrdered order) is fit words all = absurd (cc fit)
+    → AreOf dig role (wallet_of (with_records node (node_does dig log node order)))
+role-after dig log node Wallet (WalletOrdered order) is fit words all =
+    wallet_orders_keep dig log (wallet_of node) order is words all
+role-after dig log node Watcher (WatcherOrdered order) is fit words all =
+    watcher_orders_keep dig log node.notes order is words
+role-after dig log node Operator (OperatorOrdered order) is fit words all =
+    operator_orders_keep dig log node.notes order is
+role-after dig log node Wallet Open is fit words all = is
+role-after dig log node Watcher Open is fit words all = is
+role-after dig log node Operator Open is fit words all = is
+role-after dig log node Wallet (WatcherOrdered order) is fit words all = absurd (cc fit)
+role-after dig log node Wallet (OperatorOrdered order) is fit words all = absurd (cc fit)
+role-after dig log node Watcher (WalletOrdered order) is fit words all = absurd (cc fit)
+role-after dig log node Watcher (OperatorOrdered order) is fit words all = absurd (cc fit)
+role-after dig log node Operator (WalletOrdered order) is fit words all = absurd (cc fit)
+role-after dig log node Operator (WatcherOrdered order) is fit words all = absurd (cc fit)
 
 -- ---- entries
 
@@ -143,19 +144,19 @@ pub crash-role : {H : Type 0} (dig : List ℕ → List ℕ) (outcome : Outcome) 
     → Crashes outcome old new → IsOfRole dig old.node → IsOfRole dig new.node
 crash-role dig outcome old new crashes role = subst (IsOfRole dig) (sym crashes.node) role
 
-pub cut-role : {H : Type 0} (dig : List ℕ → List ℕ) (log : List RootCall) (n calls : ℕ) (outcome : Outcome)
+pub cut-role : {H : Type 0} (dig : List ℕ → List ℕ) (log : List RootCall) (calls : ℕ) (outcome : Outcome)
     (order : NodeOrder) (old : NodeView H) (end : CutEnd) (new : NodeView H)
-    → Cuts dig log n calls outcome order old end new → IsOfRole dig old.node
-    → IsOfRole dig (with_records old.node (order_deed dig log n old.node order)) → IsOfRole dig new.node
-cut-role dig log n calls outcome order old CutDown new cuts before after =
+    → Cuts dig log calls outcome order old end new → IsOfRole dig old.node
+    → IsOfRole dig (with_records old.node (node_does dig log old.node order)) → IsOfRole dig new.node
+cut-role dig log calls outcome order old CutDown new cuts before after =
     subst (λ (v : NodeView _). IsOfRole dig v.node) (sym cuts.1) before
-cut-role dig log n calls outcome order old (CutStopped kept) new cuts before after =
-    let deed = order_deed dig log n old.node order in
+cut-role dig log calls outcome order old (CutStopped kept) new cuts before after =
+    let deed = node_does dig log old.node order in
     subst (IsOfRole dig) (sym cuts.node) (by (is_kept calls outcome order))
   where
     by : (b : Bool)
-        → IsOfRole dig (after_crash (if b then with_records old.node (order_deed dig log n old.node order) else old.node))
+        → IsOfRole dig (after_crash (if b then with_records old.node (node_does dig log old.node order) else old.node))
     by true = after
     by false = before
-cut-role dig log n calls outcome order old (CutDone given) new cuts before after =
+cut-role dig log calls outcome order old (CutDone given) new cuts before after =
     subst (IsOfRole dig) (sym cuts.1.node) after

@@ -13,24 +13,23 @@ use Rattle.node_rules.specs.WalletOpening.{leaves_of as key_leaves}
 use Rattle.operator_rules.specs.Records.{operator_kinds}
 use Rattle.wallet_node.specs.State.{WalletState, notes_part, leaves_part}
 use Rattle.world_rules.specs.World.{Role, Node, is_wallet_role, wallet_of}
-use Rattle.world_rules.specs.Deeds.{Deed, with_record}
-use Rattle.world_rules.specs.declared.given.Given.{Given}
-use Rattle.world_rules.specs.Given.{IsGiven}
-use Rattle.wallet_deeds.specs.Orders.{DidEither, order_deed as wallet_order_deed}
+use Rattle.node_replies.specs.Orders.{Doing, with_record, wallet_does, watcher_does, operator_does}
+use Rattle.node_replies.specs.declared.given.Given.{Given}
+use Rattle.node_replies.specs.Given.{IsGiven}
+use Rattle.wallet_deeds.specs.Orders.{DidEither}
 use Rattle.wallet_deeds.proofs.OrderLaws.{orders_add_one_record}
-use Rattle.watcher_deeds.specs.Orders.{order_deed as watcher_order_deed}
 use Rattle.watcher_deeds.proofs.OrderLaws.{orders_add_no_leaf as watchers_add_no_leaf}
-use Rattle.operator_deeds.specs.Orders.{order_deed as operator_order_deed}
 use Rattle.operator_deeds.proofs.OrderLaws.{orders_add_no_leaf as operators_add_no_leaf}
-use Rattle.world_nodes.specs.declared.order.NodeOrder.{NodeOrder}
-use Rattle.world_nodes.specs.declared.order.NodeOrder.TheVariants.{Wallet as WalletOrdered, Watcher as WatcherOrdered, Operator as OperatorOrdered, Open}
+use Rattle.node_replies.specs.declared.order.NodeOrder.{NodeOrder}
+use Rattle.node_replies.specs.declared.order.NodeOrder.TheVariants.{Wallet as WalletOrdered, Watcher as WatcherOrdered, Operator as OperatorOrdered, Open}
 use Rattle.world_nodes.specs.declared.down.DownNode.{DownNode}
 use Rattle.world_nodes.specs.declared.down.DownNode.TheVariants.{Wallet as WalletDown, Watcher as WatcherDown, Operator as OperatorDown}
 use Rattle.world_nodes.specs.declared.up.UpNode.{UpNode}
 use Rattle.world_nodes.specs.declared.up.UpNode.TheVariants.{Wallet as WalletUp, Watcher as WatcherUp, Operator as OperatorUp}
 use Rattle.world_nodes.specs.declared.entry.Site.TheVariants.{Up, Down}
 use Rattle.world_nodes.specs.declared.entry.Member.{Member}
-use Rattle.world_nodes.specs.Orders.{fits, is_opening_order, order_deed}
+use Rattle.world_nodes.specs.Orders.{fits, is_opening_order}
+use Rattle.world_rules.specs.Orders.{node_does}
 use Rattle.world_nodes.specs.Nodes.{role_of, EachKeeps, Spells, with_append, with_opening, IsDone}
 use Rattle.world_nodes.specs.Inside.{mem_told, mem_plan, mem_faults, NoneListed, Half, Halves, half_of, kept_of, kept_half, NoneListedOf, bare_node, down_kind, down_halves, up_kind, up_halves, up_hash, up_closed, Opens, UpDid, member_kind, view_in, IsOf, IsWhole}
 use Rattle.world_nodes.proofs.Halves.{HalfRan, half_stays, half_ran, stays_open, HalfOpened, half_opened, opened_listed, role_reads, leaf_reads}
@@ -113,52 +112,52 @@ LeavesRan added (Some old) (Some new) = HalfRan added old new
 LeavesRan added old new = ⊥
 
 -- what a deed did to both halves
-pub record HalvesRan (deed : Deed) (old new : Halves) : Type 0 where
+pub record HalvesRan (deed : Doing) (old new : Halves) : Type 0 where
   pub notes : HalfRan deed.note old.notes new.notes
   pub leaves : LeavesRan deed.leaf old.leaves new.leaves
 
 -- what it did to a node that is up
-pub record UpRan {H : Type 0} (deed : Deed) (old new : UpNode H) : Type 0 where
+pub record UpRan {H : Type 0} (deed : Doing) (old new : UpNode H) : Type 0 where
   pub kind : up_kind new ≡ up_kind old
   pub hash : up_hash new ≡ up_hash old
   pub open' : up_closed new ≡ false
   pub halves : HalvesRan deed (up_halves old) (up_halves new)
 
 -- a wallet's deed adds one record at most, and another node's no leaf
-abbrev pub AddsFew : {H : Type 0} → Deed → UpNode H → Type 0
+abbrev pub AddsFew : {H : Type 0} → Doing → UpNode H → Type 0
 AddsFew deed (WalletUp node) = (deed.note ≡ None) ⊎ (deed.leaf ≡ None)
 AddsFew deed node = deed.leaf ≡ None
 
-pub adds_few : {H : Type 0} (dig : List ℕ → List ℕ) (log : List RootCall) (n : ℕ) (bare : Node) (node : UpNode H)
+pub adds_few : {H : Type 0} (dig : List ℕ → List ℕ) (log : List RootCall) (bare : Node) (node : UpNode H)
     (order : NodeOrder) → fits (role_of (up_kind node)) order ≡ true → is_opening_order order ≡ false
-    → AddsFew (order_deed dig log n bare order) node
-adds_few dig log n bare (WalletUp node) (WalletOrdered order) fit command =
-    orders_add_one_record dig log n (wallet_of bare) order
-adds_few dig log n bare (WatcherUp node) (WatcherOrdered order) fit command =
-    watchers_add_no_leaf dig log n bare.notes order
-adds_few dig log n bare (OperatorUp node) (OperatorOrdered order) fit command =
-    operators_add_no_leaf dig log n bare.notes order
-adds_few dig log n bare (WalletUp node) (WatcherOrdered order) fit command = absurd (cc fit)
-adds_few dig log n bare (WalletUp node) (OperatorOrdered order) fit command = absurd (cc fit)
-adds_few dig log n bare (WatcherUp node) (WalletOrdered order) fit command = absurd (cc fit)
-adds_few dig log n bare (WatcherUp node) (OperatorOrdered order) fit command = absurd (cc fit)
-adds_few dig log n bare (OperatorUp node) (WalletOrdered order) fit command = absurd (cc fit)
-adds_few dig log n bare (OperatorUp node) (WatcherOrdered order) fit command = absurd (cc fit)
-adds_few dig log n bare (WalletUp node) Open fit command = absurd (cc command)
-adds_few dig log n bare (WatcherUp node) Open fit command = absurd (cc command)
-adds_few dig log n bare (OperatorUp node) Open fit command = absurd (cc command)
+    → AddsFew (node_does dig log bare order) node
+adds_few dig log bare (WalletUp node) (WalletOrdered order) fit command =
+    orders_add_one_record dig log (wallet_of bare) order
+adds_few dig log bare (WatcherUp node) (WatcherOrdered order) fit command =
+    watchers_add_no_leaf dig log bare.notes order
+adds_few dig log bare (OperatorUp node) (OperatorOrdered order) fit command =
+    operators_add_no_leaf dig log bare.notes order
+adds_few dig log bare (WalletUp node) (WatcherOrdered order) fit command = absurd (cc fit)
+adds_few dig log bare (WalletUp node) (OperatorOrdered order) fit command = absurd (cc fit)
+adds_few dig log bare (WatcherUp node) (WalletOrdered order) fit command = absurd (cc fit)
+adds_few dig log bare (WatcherUp node) (OperatorOrdered order) fit command = absurd (cc fit)
+adds_few dig log bare (OperatorUp node) (WalletOrdered order) fit command = absurd (cc fit)
+adds_few dig log bare (OperatorUp node) (WatcherOrdered order) fit command = absurd (cc fit)
+adds_few dig log bare (WalletUp node) Open fit command = absurd (cc command)
+adds_few dig log bare (WatcherUp node) Open fit command = absurd (cc command)
+adds_few dig log bare (OperatorUp node) Open fit command = absurd (cc command)
 
 -- what an order does is a matter of the records alone, but for an opening
-pub same_deed : (dig : List ℕ → List ℕ) (log : List RootCall) (n : ℕ) (node other : Node) (order : NodeOrder)
+pub same_deed : (dig : List ℕ → List ℕ) (log : List RootCall) (node other : Node) (order : NodeOrder)
     → wallet_of node ≡ wallet_of other → is_opening_order order ≡ false
-    → order_deed dig log n node order ≡ order_deed dig log n other order
-same_deed dig log n node other (WalletOrdered order) same command =
-    ap (λ w. wallet_order_deed dig log n w order) same
-same_deed dig log n node other (WatcherOrdered order) same command =
-    ap (λ w. watcher_order_deed dig log n w.notes order) same
-same_deed dig log n node other (OperatorOrdered order) same command =
-    ap (λ w. operator_order_deed dig log n w.notes order) same
-same_deed dig log n node other Open same command = absurd (cc command)
+    → node_does dig log node order ≡ node_does dig log other order
+same_deed dig log node other (WalletOrdered order) same command =
+    ap (λ w. wallet_does dig log w order) same
+same_deed dig log node other (WatcherOrdered order) same command =
+    ap (λ w. watcher_does dig log w.notes order) same
+same_deed dig log node other (OperatorOrdered order) same command =
+    ap (λ w. operator_does dig log w.notes order) same
+same_deed dig log node other Open same command = absurd (cc command)
 
 -- a wallet's part of it, by the records that are added
 wallet_ran : {H : Type 0} (note leaf : Option (List ℕ)) (old new : WalletState MemState H)
@@ -183,7 +182,7 @@ wallet_ran added (Some leaf) old new one did = (
   did.hash,
 )
 
-pub up_ran : {H : Type 0} (deed : Deed) (old new : UpNode H) → AddsFew deed old → UpDid deed old None new
+pub up_ran : {H : Type 0} (deed : Doing) (old new : UpNode H) → AddsFew deed old → UpDid deed old None new
     → UpRan deed old new
 up_ran deed (WalletUp old) (WalletUp new) few did =
     let ran = wallet_ran deed.note deed.leaf old new few did in
@@ -243,7 +242,7 @@ leaves_listed added (Some old) (Some new) ran none = λ half is.
 leaves_listed added None (Some new) ran none = absurd ran
 leaves_listed added (Some old) None ran none = absurd ran
 
-pub ran_keeps : (deed : Deed) (old new : Halves) → HalvesRan deed old new → KeepsAll old → KeepsAll new
+pub ran_keeps : (deed : Doing) (old new : Halves) → HalvesRan deed old new → KeepsAll old → KeepsAll new
 ran_keeps deed old new ran keeps = record {
   notes = ran.notes.keeps keeps.notes;
   leaves = leaves_keep deed.leaf old.leaves new.leaves ran.leaves keeps.leaves;
@@ -251,10 +250,10 @@ ran_keeps deed old new ran keeps = record {
 
 -- a node's order is done, which is up
 pub done : {H : Type 0} (hash : H) (name : List ℕ) (account : ℕ) (role : Role) (old new : Halves)
-    (offers : List RootCall) (order : NodeOrder) (deed : Deed) (given : Given) → HalvesRan deed old new
-    → IsGiven deed.gives given
+    (offers : List RootCall) (order : NodeOrder) (deed : Doing) (given : Given) → HalvesRan deed old new
+    → IsGiven deed.response given
     → IsDone order deed (view_in hash name account role true old offers) given
-    (view_in hash name account role true new deed.gives.offers)
+    (view_in hash name account role true new deed.response.offers)
 done hash name account role old new offers order deed given ran gives = record {
   gives = gives;
   node = λ i. record {
@@ -264,14 +263,14 @@ done hash name account role old new offers order deed given ran gives = record {
     is_up = true;
     notes = ran.notes.records i;
     leaves = leaves_records deed.leaf old.leaves new.leaves ran.leaves i;
-    offers = deed.gives.offers;
+    offers = deed.response.offers;
   };
   notes_disk = ran.notes.told;
   leaves_disk = leaves_told deed.leaf old.leaves new.leaves ran.leaves;
   hash = refl;
 }
 
-pub whole_ran : {H : Type 0} (hash : H) (member : Member) (deed : Deed) (old new : UpNode H)
+pub whole_ran : {H : Type 0} (hash : H) (member : Member) (deed : Doing) (old new : UpNode H)
     → IsWhole hash member (Up old) → UpRan deed old new → IsWhole hash member (Up new)
 whole_ran hash member deed old new whole ran = record {
   is_site = (ran.kind ∙ whole.is_site.0, ran.hash ∙ whole.is_site.1, ran.open');
@@ -408,14 +407,14 @@ whole_opened hash member down up whole opened same = record {
 }
 
 -- an opening is done of a node that was down
-pub opening_done : {H : Type 0} (dig : List ℕ → List ℕ) (log : List RootCall) (n : ℕ) (hash : H) (name : List ℕ)
+pub opening_done : {H : Type 0} (dig : List ℕ → List ℕ) (log : List RootCall) (hash : H) (name : List ℕ)
     (account : ℕ) (role : Role) (down : DownNode) (up : UpNode H) (offers : List RootCall) (given : Given)
     → UpOpened down up
     → (let old = view_in hash name account role false (down_halves down) offers in
-    IsGiven (order_deed dig log n old.node Open).gives given
-    → IsDone Open (order_deed dig log n old.node Open) old given
+    IsGiven (node_does dig log old.node Open).response given
+    → IsDone Open (node_does dig log old.node Open) old given
     (view_in hash name account role true (up_halves up) []))
-opening_done dig log n hash name account role down up offers given opened gives = record {
+opening_done dig log hash name account role down up offers given opened gives = record {
   gives = gives;
   node = λ i. record {
     name = name;

@@ -16,7 +16,7 @@ use Rattle.node_journal.specs.JournalLaws.{is_added, opens_gate}
 use Rattle.node_journal.proofs.Crash.{stopped_appends}
 use Rattle.node_journal.specs.Notes.{NotesState, Did}
 use Rattle.node_journal.specs.declared.stop.Stop.TheVariants.{DeviceFault}
-use Rattle.world_rules.specs.Deeds.{with_record}
+use Rattle.node_replies.specs.Orders.{with_record}
 use Rattle.world_nodes.specs.Nodes.{with_opening}
 use Rattle.world_nodes.specs.Cuts.{with_cut_append}
 use Rattle.world_nodes.specs.Inside.{IsBegun as IsLeft, mem_told, mem_plan, mem_faults, NoneListed, kept_half, crashed}

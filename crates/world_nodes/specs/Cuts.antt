@@ -9,34 +9,35 @@ use Rattle.node_journal.specs.Steps.{append_steps, open_steps}
 use Rattle.node_journal.specs.JournalLaws.{is_added}
 use Rattle.plasma_tx.specs.declared.call.RootCall.{RootCall}
 use Rattle.world_rules.specs.World.{Node}
-use Rattle.world_rules.specs.Deeds.{Deed, adds_record}
-use Rattle.world_rules.specs.Steps.{with_records, after_crash}
-use Rattle.world_rules.specs.Given.{IsGiven}
-use Rattle.world_nodes.specs.declared.order.NodeOrder.{NodeOrder}
+use Rattle.world_rules.specs.Orders.{node_does}
+use Rattle.world_rules.specs.Steps.{after_crash}
+use Rattle.node_replies.specs.Given.{IsGiven}
+use Rattle.node_replies.specs.Orders.{Doing, adds_record}
+use Rattle.node_replies.specs.declared.order.NodeOrder.{NodeOrder}
 use Rattle.world_nodes.specs.declared.order.CutEnd.{CutEnd}
 use Rattle.world_nodes.specs.declared.order.CutEnd.TheVariants.{Down, Stopped, Done}
-use Rattle.world_nodes.specs.Orders.{is_opening_order, order_deed}
-use Rattle.world_nodes.specs.Nodes.{NodeView, answers_down, with_opening, crashed_disk}
+use Rattle.world_nodes.specs.Orders.{is_opening_order}
+use Rattle.world_nodes.specs.Nodes.{NodeView, answers_down, with_records, with_opening, crashed_disk}
 
 -- The opening of a node that is down makes three calls on each disk, and an append four on its one. An order of which
 -- so many calls pass is stopped where it needs more.
-abbrev pub is_stopped : ℕ → Node → NodeOrder → Deed → Bool
-is_stopped calls node order deed =
-    if is_opening_order order then not node.is_up && nat_lt calls 3 else adds_record deed && nat_lt calls 4
+abbrev pub is_stopped : ℕ → Node → NodeOrder → Doing → Bool
+is_stopped calls node order doing =
+    if is_opening_order order then not node.is_up && nat_lt calls 3 else adds_record doing && nat_lt calls 4
 
 -- the record of an order that was stopped is kept
 abbrev pub is_kept : ℕ → Outcome → NodeOrder → Bool
 is_kept calls outcome order = not (is_opening_order order) && is_added calls outcome
 
 -- the record that is kept of an order that was stopped, if one is
-abbrev pub kept_record : ℕ → Outcome → NodeOrder → Deed → Option (List ℕ)
-kept_record calls outcome order deed =
-    if is_kept calls outcome order then option_or deed.note deed.leaf else None
+abbrev pub kept_record : ℕ → Outcome → NodeOrder → Doing → Option (List ℕ)
+kept_record calls outcome order doing =
+    if is_kept calls outcome order then option_or doing.note doing.leaf else None
 
 -- the node after an order that was stopped
-abbrev pub after_stop : ℕ → Outcome → NodeOrder → Node → Deed → Node
-after_stop calls outcome order node deed =
-    after_crash (if is_kept calls outcome order then with_records node deed else node)
+abbrev pub after_stop : ℕ → Outcome → NodeOrder → Node → Doing → Node
+after_stop calls outcome order node doing =
+    after_crash (if is_kept calls outcome order then with_records node doing else node)
 
 -- ---- disks
 
@@ -51,55 +52,55 @@ with_cut_append calls records (Some body) disk = with_made calls (append_steps (
 
 -- What the notes' disk tells when it crashes: it was opened for a command, which then made its append as far as its calls
 -- passed; an order that opens a node that is down opened it as far as the calls passed, and one that is up made none.
-abbrev pub cut_notes : ℕ → NodeOrder → Deed → Node → History → History
-cut_notes calls order deed node disk =
+abbrev pub cut_notes : ℕ → NodeOrder → Doing → Node → History → History
+cut_notes calls order doing node disk =
     if is_opening_order order
     then (if node.is_up then disk else with_cut_opening calls disk)
-    else with_cut_append calls node.notes deed.note (with_opening disk)
+    else with_cut_append calls node.notes doing.note (with_opening disk)
 
 -- What the leaves' disk tells then: the same, but that it is opened behind the notes' one, where that was opened.
-abbrev pub cut_leaves : ℕ → NodeOrder → Deed → Node → History → History
-cut_leaves calls order deed node disk =
+abbrev pub cut_leaves : ℕ → NodeOrder → Doing → Node → History → History
+cut_leaves calls order doing node disk =
     if is_opening_order order
     then (if node.is_up || nat_lt calls 3 then disk else with_opening disk)
-    else with_cut_append calls node.leaves deed.leaf (with_opening disk)
+    else with_cut_append calls node.leaves doing.leaf (with_opening disk)
 
 -- each disk of a node whose order was cut holds the image that the outcome leaves of it
-pub record DisksCrash {H : Type 0} (calls : ℕ) (outcome : Outcome) (order : NodeOrder) (deed : Deed)
+pub record DisksCrash {H : Type 0} (calls : ℕ) (outcome : Outcome) (order : NodeOrder) (doing : Doing)
     (old new : NodeView H) : Type 0 where
-  pub notes_disk : new.notes_disk ≡ crashed_disk outcome (cut_notes calls order deed old.node old.notes_disk)
+  pub notes_disk : new.notes_disk ≡ crashed_disk outcome (cut_notes calls order doing old.node old.notes_disk)
   pub leaves_disk : new.leaves_disk
-      ≡ option_map (λ disk. crashed_disk outcome (cut_leaves calls order deed old.node disk)) old.leaves_disk
+      ≡ option_map (λ disk. crashed_disk outcome (cut_leaves calls order doing old.node disk)) old.leaves_disk
 
 -- ---- ends
 
 -- an order that was stopped, and what is kept of it
-pub record IsStopped {H : Type 0} (calls : ℕ) (outcome : Outcome) (order : NodeOrder) (deed : Deed) (old : NodeView H)
+pub record IsStopped {H : Type 0} (calls : ℕ) (outcome : Outcome) (order : NodeOrder) (doing : Doing) (old : NodeView H)
     (kept : Option (List ℕ)) (new : NodeView H) : Type 0 where
   pub is_up : answers_down order old.node ≡ false
-  pub stopped : is_stopped calls old.node order deed ≡ true
-  pub keeps : kept ≡ kept_record calls outcome order deed
-  pub node : new.node ≡ after_stop calls outcome order old.node deed
-  pub disks : DisksCrash calls outcome order deed old new
+  pub stopped : is_stopped calls old.node order doing ≡ true
+  pub keeps : kept ≡ kept_record calls outcome order doing
+  pub node : new.node ≡ after_stop calls outcome order old.node doing
+  pub disks : DisksCrash calls outcome order doing old new
   pub hash : new.hash ≡ old.hash
 
 -- an order that was done before the crash
-pub record IsFinished {H : Type 0} (calls : ℕ) (outcome : Outcome) (order : NodeOrder) (deed : Deed)
+pub record IsFinished {H : Type 0} (calls : ℕ) (outcome : Outcome) (order : NodeOrder) (doing : Doing)
     (old new : NodeView H) : Type 0 where
   pub is_up : answers_down order old.node ≡ false
-  pub passed : is_stopped calls old.node order deed ≡ false
-  pub node : new.node ≡ after_crash (with_records old.node deed)
-  pub disks : DisksCrash calls outcome order deed old new
+  pub passed : is_stopped calls old.node order doing ≡ false
+  pub node : new.node ≡ after_crash (with_records old.node doing)
+  pub disks : DisksCrash calls outcome order doing old new
   pub hash : new.hash ≡ old.hash
 
 -- how a cut ended, by what the order does
-abbrev pub Ends : {H : Type 0} → ℕ → Outcome → NodeOrder → Deed → NodeView H → CutEnd → NodeView H → Type 0
-Ends calls outcome order deed old Down new = (answers_down order old.node ≡ true) × (new ≡ old)
-Ends calls outcome order deed old (Stopped kept) new = IsStopped calls outcome order deed old kept new
-Ends calls outcome order deed old (Done given) new = IsGiven deed.gives given × IsFinished calls outcome order deed old new
+abbrev pub Ends : {H : Type 0} → ℕ → Outcome → NodeOrder → Doing → NodeView H → CutEnd → NodeView H → Type 0
+Ends calls outcome order doing old Down new = (answers_down order old.node ≡ true) × (new ≡ old)
+Ends calls outcome order doing old (Stopped kept) new = IsStopped calls outcome order doing old kept new
+Ends calls outcome order doing old (Done given) new = IsGiven doing.response given × IsFinished calls outcome order doing old new
 
--- what a cut of an order of a node did, of which the node has number n
-abbrev pub Cuts : {H : Type 0} → (List ℕ → List ℕ) → List RootCall → ℕ → ℕ → Outcome → NodeOrder → NodeView H → CutEnd
+-- what a cut of an order of a node did
+abbrev pub Cuts : {H : Type 0} → (List ℕ → List ℕ) → List RootCall → ℕ → Outcome → NodeOrder → NodeView H → CutEnd
     → NodeView H → Type 0
-Cuts dig log n calls outcome order old end new =
-    Ends calls outcome order (order_deed dig log n old.node order) old end new
+Cuts dig log calls outcome order old end new =
+    Ends calls outcome order (node_does dig log old.node order) old end new

@@ -23,14 +23,14 @@ use Rattle.wallet_node.specs.Opening.{OpensWallet, RefusesWallet}
 use Rattle.world_rules.specs.World.{Role, Watcher, Node}
 use Rattle.leaf_journal.specs.Records.{messages_of}
 use Rattle.node_journal.specs.declared.refusal.JournalRefusal.TheVariants.{DeviceFault as JournalFault, NoMemory as JournalNoMemory}
-use Rattle.world_rules.specs.declared.reply.Reply.{Reply}
-use Rattle.world_rules.specs.Events.{Other}
-use Rattle.world_rules.specs.Deeds.{Gives, Deed, says}
+use Rattle.node_replies.specs.declared.reply.Reply.{Reply}
 use Rattle.wallet_deeds.specs.Orders.{Does}
-use Rattle.world_rules.specs.declared.given.Given.{Given}
-use Rattle.world_rules.specs.Given.{IsGiven}
+use Rattle.node_replies.specs.declared.given.Given.{Given}
+use Rattle.node_replies.specs.Given.{IsGiven}
+use Rattle.node_replies.specs.Orders.{Response, Doing, says}
+use Rattle.world_rules.specs.Orders.{node_does}
 use Rattle.world_nodes.specs.declared.order.NodeKind.{NodeKind}
-use Rattle.world_nodes.specs.declared.order.NodeOrder.{NodeOrder}
+use Rattle.node_replies.specs.declared.order.NodeOrder.{NodeOrder}
 use Rattle.world_nodes.specs.declared.order.NodeKind.TheVariants.{Wallet as WalletKind, Watcher as WatcherKind, Operator as OperatorKind}
 use Rattle.world_nodes.specs.declared.order.CutEnd.{CutEnd}
 use Rattle.world_nodes.specs.declared.order.CutEnd.TheVariants.{Down as CutDown, Stopped as CutStopped, Done as CutDone}
@@ -43,7 +43,6 @@ use Rattle.world_nodes.specs.declared.entry.Site.{Site}
 use Rattle.world_nodes.specs.declared.entry.Site.TheVariants.{Up, Down, Gone}
 use Rattle.world_nodes.specs.declared.entry.Member.{Member}
 use Rattle.world_nodes.specs.declared.entry.Member.TheVariants.{Wallet as WalletMember, Watcher as WatcherMember, Operator as OperatorMember}
-use Rattle.world_nodes.specs.Orders.{order_deed}
 use Rattle.world_nodes.specs.Nodes.{NodeView, EachKeeps, role_of, AreOf}
 
 -- ---- disks in memory
@@ -219,18 +218,18 @@ pub record IsToStop (H : Type 0) (dig : List ℕ → List ℕ) (down : DownNode)
   pub refused : (why : JournalRefusal) (left : DownNode) → RefusesDown dig down why left
       → (why ≡ JournalFault) ⊎ (why ≡ JournalNoMemory)
 
--- what an order did to a node that is up, by its deed, and that was stopped so, or not
-abbrev pub UpDid : {H : Type 0} → Deed → UpNode H → Option Stop → UpNode H → Type 0
-UpDid deed (WalletUp old) stop (WalletUp new) = Does mem_told mem_plan mem_faults deed old stop new
-UpDid deed (WatcherUp old) stop (WatcherUp new) =
-    Did mem_told mem_plan mem_faults deed.note old.notes stop new.notes × (new.hash ≡ old.hash)
-UpDid deed (OperatorUp old) stop (OperatorUp new) =
-    Did mem_told mem_plan mem_faults deed.note old.notes stop new.notes × (new.hash ≡ old.hash)
-UpDid deed old stop new = ⊥
+-- what an order did to a node that is up, by its doing, and that was stopped so, or not
+abbrev pub UpDid : {H : Type 0} → Doing → UpNode H → Option Stop → UpNode H → Type 0
+UpDid doing (WalletUp old) stop (WalletUp new) = Does mem_told mem_plan mem_faults doing old stop new
+UpDid doing (WatcherUp old) stop (WatcherUp new) =
+    Did mem_told mem_plan mem_faults doing.note old.notes stop new.notes × (new.hash ≡ old.hash)
+UpDid doing (OperatorUp old) stop (OperatorUp new) =
+    Did mem_told mem_plan mem_faults doing.note old.notes stop new.notes × (new.hash ≡ old.hash)
+UpDid doing old stop new = ⊥
 
 -- memory alone stops an order of the node
 abbrev pub RunsOn : {H : Type 0} → UpNode H → Type 0
-RunsOn {H} node = (deed : Deed) (stop : Stop) (new : UpNode H) → UpDid deed node (Some stop) new → stop ≡ NoMemory
+RunsOn {H} node = (doing : Doing) (stop : Stop) (new : UpNode H) → UpDid doing node (Some stop) new → stop ≡ NoMemory
 
 -- ---- what is taken from a site
 
@@ -250,19 +249,19 @@ abbrev pub stop_in : Option Given → Option Stop
 stop_in None = Some DeviceFault
 stop_in (Some given) = None
 
-pub record IsCutShort (H : Type 0) (dig : List ℕ → List ℕ) (log : List RootCall) (n : ℕ) (order : NodeOrder)
+pub record IsCutShort (H : Type 0) (dig : List ℕ → List ℕ) (log : List RootCall) (order : NodeOrder)
     (old : DownNode) (given : Option Given) (new : DownNode) : Type 0 where
   pub opened : UpNode H
   pub ran : UpNode H
   pub opens : Opens dig old opened
-  pub did : UpDid (order_deed dig log n (bare_node (up_halves opened)) order) opened (stop_in given) ran
-  pub gives : IfSome given (IsGiven (order_deed dig log n (bare_node (up_halves opened)) order).gives)
+  pub did : UpDid (node_does dig log (bare_node (up_halves opened)) order) opened (stop_in given) ran
+  pub gives : IfSome given (IsGiven (node_does dig log (bare_node (up_halves opened)) order).response)
   pub down : new ≡ taken_down ran
 
 -- what an opening gives out of a node with these halves
-abbrev pub opening_gives : Halves → Gives
+abbrev pub opening_gives : Halves → Response
 opening_gives halves =
-    says (Reply.Opened (length halves.notes.records - 1) (length (messages_of (leaves_of halves)))) (Other 0)
+    says (Reply.Opened (length halves.notes.records - 1) (length (messages_of (leaves_of halves))))
 
 -- an opening was run on disks that let so many calls pass, and ended so
 abbrev pub IsCutOpening : (H : Type 0) → (List ℕ → List ℕ) → ℕ → DownNode → CutEnd → DownNode → Type 0

@@ -17,17 +17,17 @@ use Rattle.node_rules.specs.Watcher.{identity_text as watcher_text, watcher_kind
 use Rattle.node_rules.specs.Wallet.{WalletRecords}
 use Rattle.node_rules.specs.WalletOpening.{is_wallet}
 use Rattle.operator_rules.specs.Records.{identity_text as operator_text, operator_kinds}
-use Rattle.world_rules.specs.declared.reply.Reply.{Reply}
-use Rattle.world_rules.specs.Events.{Idle}
+use Rattle.node_replies.specs.declared.reply.Reply.{Reply}
 use Rattle.world_rules.specs.World.{Role, Wallet, Watcher, Operator, Node, is_wallet_role, wallet_of}
-use Rattle.world_rules.specs.Deeds.{Deed, says}
-use Rattle.world_rules.specs.Steps.{new_node, after_command, after_crash}
-use Rattle.world_rules.specs.declared.given.Given.{Given}
-use Rattle.world_rules.specs.Given.{IsGiven}
+use Rattle.world_rules.specs.Orders.{node_does}
+use Rattle.world_rules.specs.Steps.{new_node, after_crash}
+use Rattle.node_replies.specs.declared.given.Given.{Given}
+use Rattle.node_replies.specs.Given.{IsGiven}
+use Rattle.node_replies.specs.Orders.{Doing, says, with_record}
 use Rattle.world_nodes.specs.declared.order.NodeKind.{NodeKind}
 use Rattle.world_nodes.specs.declared.order.NodeKind.TheVariants.{Wallet as WalletKind, Watcher as WatcherKind, Operator as OperatorKind}
-use Rattle.world_nodes.specs.declared.order.NodeOrder.{NodeOrder}
-use Rattle.world_nodes.specs.Orders.{is_opening_order, order_deed}
+use Rattle.node_replies.specs.declared.order.NodeOrder.{NodeOrder}
+use Rattle.world_nodes.specs.Orders.{is_opening_order}
 
 -- a node, what the disk of its notes and that of its leaves tell, and the digest that it is opened with; where the disks
 -- spell the node's records (Spells), wallets alone have one of leaves
@@ -88,6 +88,15 @@ brings_up order node = not node.is_up && is_opening_order order
 abbrev pub answers_down : NodeOrder → Node → Bool
 answers_down order node = not node.is_up && not (is_opening_order order)
 
+-- the node with the records that an order adds
+abbrev pub with_records : Node → Doing → Node
+with_records node doing =
+    record node { notes = with_record node.notes doing.note; leaves = with_record node.leaves doing.leaf }
+
+-- the node after an order: it is up, and offers what the order offers
+abbrev pub after_order : Node → Doing → Node
+after_order node doing = record (with_records node doing) { is_up = true; offers = doing.response.offers }
+
 -- what a disk tells after an append behind these records, if there was one
 abbrev pub with_append : List (List ℕ) → Option (List ℕ) → History → History
 with_append records None disk = disk
@@ -104,25 +113,25 @@ disk_after false records added disk = with_append records added disk
 
 -- an order of a node that is down, other than an opening: it is answered so, and nothing changes
 pub record IsDown {H : Type 0} (old : NodeView H) (given : Given) (new : NodeView H) : Type 0 where
-  pub gives : IsGiven (says Reply.Down Idle) given
+  pub gives : IsGiven (says Reply.Down) given
   pub stays : new ≡ old
 
 -- an order was done, and this is what it did
-pub record IsDone {H : Type 0} (order : NodeOrder) (deed : Deed) (old : NodeView H) (given : Given) (new : NodeView H)
+pub record IsDone {H : Type 0} (order : NodeOrder) (doing : Doing) (old : NodeView H) (given : Given) (new : NodeView H)
     : Type 0 where
-  pub gives : IsGiven deed.gives given
-  pub node : new.node ≡ after_command old.node deed
-  pub notes_disk : new.notes_disk ≡ disk_after (brings_up order old.node) old.node.notes deed.note old.notes_disk
+  pub gives : IsGiven doing.response given
+  pub node : new.node ≡ after_order old.node doing
+  pub notes_disk : new.notes_disk ≡ disk_after (brings_up order old.node) old.node.notes doing.note old.notes_disk
   pub leaves_disk : new.leaves_disk
-      ≡ option_map (disk_after (brings_up order old.node) old.node.leaves deed.leaf) old.leaves_disk
+      ≡ option_map (disk_after (brings_up order old.node) old.node.leaves doing.leaf) old.leaves_disk
   pub hash : new.hash ≡ old.hash
 
--- what an order of a node did, of which the node has number n
-abbrev pub Runs : {H : Type 0} → (List ℕ → List ℕ) → List RootCall → ℕ → NodeOrder → NodeView H → Given → NodeView H
+-- what an order of a node did
+abbrev pub Runs : {H : Type 0} → (List ℕ → List ℕ) → List RootCall → NodeOrder → NodeView H → Given → NodeView H
     → Type 0
-Runs dig log n order old given new =
+Runs dig log order old given new =
     MatchBool (answers_down order old.node) (IsDown old given new)
-    (IsDone order (order_deed dig log n old.node order) old given new)
+    (IsDone order (node_does dig log old.node order) old given new)
 
 -- ---- crashes
 

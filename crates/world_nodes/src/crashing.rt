@@ -2,7 +2,8 @@ ghost use Rattle.std.specs.Prelude.{◌≡◌, OnOk};
 ghost use Rattle.crash_disk.specs.Outcomes.{HasPattern};
 ghost use Rattle.world_nodes.specs.Nodes.{Spells, Crashes};
 
-use super::entry::{Entry, Site, down_of, offer_nothing, put, take};
+use super::boxed::BoxedSite;
+use super::entry::{Entry, down_of, offer_nothing, put, take};
 use crash_disk::Outcome;
 use plasma_base::{Hash32, NoMemory};
 
@@ -20,7 +21,8 @@ impl<H: Hash32 + Copy> Entry<H> {
         let site = take(&mut self.site);
         let down = down_of(site);
         let down = down.crash(outcome)?;
-        put(&mut self.site, Site::Down(down));
+        let kept = BoxedSite::down(self.alloc, down)?;
+        put(&mut self.site, kept);
         offer_nothing(&mut self.offers);
         Ok(())
     }

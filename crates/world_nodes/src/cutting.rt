@@ -1,25 +1,24 @@
 ghost use Rattle.std.specs.Prelude.{◌≡◌, ◌-◌, ◌<◌, ◌≤◌, min, ℕ, [], length, true, false, IfOk, OnOk};
 ghost use Rattle.crash_disk.specs.Outcomes.{HasPattern};
 ghost use Rattle.crash_disk.specs.Memory.{with_fuse};
-ghost use Rattle.world_nodes.specs.declared.order.NodeOrder.{NodeOrder};
-ghost use Rattle.world_nodes.specs.Orders.{fits, is_opening_order, order_deed, IsFit};
+ghost use Rattle.node_replies.specs.declared.order.NodeOrder.{NodeOrder};
+ghost use Rattle.world_nodes.specs.Orders.{fits, is_opening_order, IsFit};
 ghost use Rattle.world_nodes.specs.Nodes.{role_of, Spells};
 ghost use Rattle.world_nodes.specs.Cuts.{Cuts};
 ghost use Rattle.world_nodes.specs.Inside.{down_halves, down_kind, end_in, HaveJournals, MayOpen, IsToStop, IsCutShort, IsCutOpening};
 
+use super::boxed::BoxedSite;
 use super::down::{DownNode, are_bytes};
-use super::entry::{Entry, Site, closed_of, down_of, offer_nothing, put, take};
+use super::entry::{Entry, closed_of, down_of, offer_nothing, put, take};
 use super::kept::{Counts, count_records, kept_record};
-use super::order::{CutEnd, NodeOrder};
+use super::order::CutEnd;
 use super::up::{counts, run_up};
 use crash_disk::Outcome;
 use node_journal::Stop;
+use node_replies::{Given, NodeOrder, Reply, WalletOrder, WatcherOrder, says};
 use plasma_base::{Hash32, NoMemory};
 use plasma_tx::RootLog;
 use std::alloc::Global;
-use wallet_deeds::WalletOrder;
-use watcher_deeds::WatcherOrder;
-use world_rules::{Given, Reply, says};
 
 // What is left of an order that was cut: the disks, and what it gave, where no device fault stopped it.
 #[derive(Drop)]
@@ -71,12 +70,11 @@ fn run_cut<H: Hash32 + Copy>(
     log: &RootLog,
     order: &NodeOrder,
 ) -> Result<CutShort, NoMemory>
-    ghost n: { ℕ }
     requires fits { fits (role_of (down_kind down)) order.now ≡ true }
     requires is_command { is_opening_order order.now ≡ false }
     requires may_open { MayOpen (H.digest_of hash) down }
     ensures { IfOk result (λ cut.
-        IsCutShort H (H.digest_of hash) log.now.log n order.now down cut.given cut.down) }
+        IsCutShort H (H.digest_of hash) log.now.log order.now down cut.given cut.down) }
 {
     let mut node = down.open_up(alloc, hash)?;
     let ran = run_up(alloc, &mut node, log, order);
@@ -159,28 +157,8 @@ impl<H: Hash32 + Copy> Entry<H> {
         requires fits { fits self.old.node.role order.now ≡ true }
         requires pattern { HasPattern outcome.now }
         requires spells { Spells self.old }
-        ensures cuts { IfOk result (λ end. (n : ℕ)
-            → Cuts (H.digest_of self.old.hash) log.now.log n calls outcome.now order.now self.old end self.new) }
-        ensures spells { OnOk result (Spells self.new) }
-        ensures hash { self.new.hash ≡ self.old.hash }
-    {
-        self.cut_as(log, order, calls, outcome)
-    }
-
-    // Cuts an order of a node that has this number.
-    fn cut_as(
-        &mut self,
-        log: &RootLog,
-        order: &NodeOrder,
-        calls: u64,
-        outcome: &Outcome,
-    ) -> Result<CutEnd, NoMemory>
-        ghost n: { ℕ }
-        requires fits { fits self.old.node.role order.now ≡ true }
-        requires pattern { HasPattern outcome.now }
-        requires spells { Spells self.old }
         ensures cuts { IfOk result (λ end.
-            Cuts (H.digest_of self.old.hash) log.now.log n calls outcome.now order.now self.old end self.new) }
+            Cuts (H.digest_of self.old.hash) log.now.log calls outcome.now order.now self.old end self.new) }
         ensures spells { OnOk result (Spells self.new) }
         ensures hash { self.new.hash ≡ self.old.hash }
     {
@@ -194,11 +172,10 @@ impl<H: Hash32 + Copy> Entry<H> {
 
     // Cuts the order that opens the node.
     fn cut_open(&mut self, calls: u64, outcome: &Outcome) -> Result<CutEnd, NoMemory>
-        ghost n: { ℕ }
         requires pattern { HasPattern outcome.now }
         requires spells { Spells self.old }
         ensures cuts { IfOk result (λ end.
-            Cuts (H.digest_of self.old.hash) [] n calls outcome.now NodeOrder.Open self.old end self.new) }
+            Cuts (H.digest_of self.old.hash) [] calls outcome.now NodeOrder.Open self.old end self.new) }
         ensures spells { OnOk result (Spells self.new) }
         ensures hash { self.new.hash ≡ self.old.hash }
     {
@@ -213,12 +190,11 @@ impl<H: Hash32 + Copy> Entry<H> {
 
     // Cuts the opening of a node that is down.
     fn cut_opening(&mut self, calls: u64, outcome: &Outcome) -> Result<CutEnd, NoMemory>
-        ghost n: { ℕ }
         requires pattern { HasPattern outcome.now }
         requires spells { Spells self.old }
         requires is_down { self.old.node.is_up ≡ false }
         ensures cuts { IfOk result (λ end.
-            Cuts (H.digest_of self.old.hash) [] n calls outcome.now NodeOrder.Open self.old end self.new) }
+            Cuts (H.digest_of self.old.hash) [] calls outcome.now NodeOrder.Open self.old end self.new) }
         ensures spells { OnOk result (Spells self.new) }
         ensures hash { self.new.hash ≡ self.old.hash }
     {
@@ -228,7 +204,8 @@ impl<H: Hash32 + Copy> Entry<H> {
         let opened = open_cut(self.alloc, self.hash, down.fuse(calls), calls)?;
         let CutOpening { down, end } = opened;
         let down = down.crash(outcome)?;
-        put(&mut self.site, Site::Down(down));
+        let kept = BoxedSite::down(self.alloc, down)?;
+        put(&mut self.site, kept);
         offer_nothing(&mut self.offers);
         Ok(end)
     }
@@ -241,13 +218,12 @@ impl<H: Hash32 + Copy> Entry<H> {
         calls: u64,
         outcome: &Outcome,
     ) -> Result<CutEnd, NoMemory>
-        ghost n: { ℕ }
         requires fits { fits self.old.node.role order.now ≡ true }
         requires is_command { is_opening_order order.now ≡ false }
         requires pattern { HasPattern outcome.now }
         requires spells { Spells self.old }
         ensures cuts { IfOk result (λ end.
-            Cuts (H.digest_of self.old.hash) log.now.log n calls outcome.now order.now self.old end self.new) }
+            Cuts (H.digest_of self.old.hash) log.now.log calls outcome.now order.now self.old end self.new) }
         ensures spells { OnOk result (Spells self.new) }
         ensures hash { self.new.hash ≡ self.old.hash }
     {
@@ -265,14 +241,13 @@ impl<H: Hash32 + Copy> Entry<H> {
         calls: u64,
         outcome: &Outcome,
     ) -> Result<CutEnd, NoMemory>
-        ghost n: { ℕ }
         requires fits { fits self.old.node.role order.now ≡ true }
         requires is_command { is_opening_order order.now ≡ false }
         requires pattern { HasPattern outcome.now }
         requires is_up { self.old.node.is_up ≡ true }
         requires spells { Spells self.old }
         ensures cuts { IfOk result (λ end.
-            Cuts (H.digest_of self.old.hash) log.now.log n calls outcome.now order.now self.old end self.new) }
+            Cuts (H.digest_of self.old.hash) log.now.log calls outcome.now order.now self.old end self.new) }
         ensures spells { OnOk result (Spells self.new) }
         ensures hash { self.new.hash ≡ self.old.hash }
     {
@@ -287,7 +262,8 @@ impl<H: Hash32 + Copy> Entry<H> {
         let CutShort { down, given } = cut;
         let down = down.crash(outcome)?;
         let end = end_of(self.alloc, &down, &before, given)?;
-        put(&mut self.site, Site::Down(down));
+        let kept = BoxedSite::down(self.alloc, down)?;
+        put(&mut self.site, kept);
         offer_nothing(&mut self.offers);
         Ok(end)
     }

@@ -8,8 +8,9 @@ ghost use Rattle.world_nodes.specs.declared.order.NodeKind.{NodeKind};
 ghost use Rattle.world_nodes.specs.Nodes.{new_wallet, new_watcher, new_operator, role_of, Spells};
 ghost use Rattle.world_nodes.specs.Inside.{empty_disk, down_halves, down_kind, member_kind, first_note, AreBegun, IsDeclared, IsIdentityOf, IsOf, NoFuses};
 
+use super::boxed::{BoxedMember, BoxedSite};
 use super::down::DownNode;
-use super::entry::{Entry, Member, Site};
+use super::entry::{Entry, Member};
 use super::order::NodeKind;
 use crash_disk::MemDisk;
 use node_journal::InitRefusal;
@@ -51,14 +52,16 @@ fn over<H: Hash32 + Copy>(
     ensures spells { IfOk result Spells }
     ensures hash { IfOk result (λ entry. entry.hash ≡ hash) }
 {
+    let member = BoxedMember::new(alloc, member)?;
     let node = down.open_up(alloc, hash)?;
+    let site = BoxedSite::up(alloc, node)?;
     Ok(Entry {
         alloc,
         hash,
         name,
         account,
         member,
-        site: Site::Up(node),
+        site,
         offers: Vec::new(alloc),
     })
 }

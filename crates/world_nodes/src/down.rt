@@ -4,8 +4,11 @@ ghost use Rattle.crash_disk.specs.Memory.{with_fuse};
 ghost use Rattle.crash_disk.specs.Outcomes.{HasPattern};
 ghost use Rattle.node_journal.specs.declared.refusal.JournalRefusal.{JournalRefusal};
 ghost use Rattle.plasma_tx.specs.Spelling.{AreBytes};
+ghost use Rattle.world_nodes.specs.declared.entry.Site.{Site};
+ghost use Rattle.world_nodes.specs.Boxed.{site_in};
 ghost use Rattle.world_nodes.specs.Inside.{crashed, down_halves, with_disks, Opens, RefusesDown, MayOpen, IsToStop, up_hash};
 
+use super::boxed::Held;
 use super::up::UpNode;
 use crash_disk::{MemDisk, Outcome};
 use node_journal::{JournalRefusal, Returned};
@@ -202,5 +205,15 @@ impl DownNode {
                 }
             },
         }
+    }
+
+    // The node, held.
+    pub fn hold<H: Hash32 + Copy>(self, alloc: Global) -> Result<Held<H>, NoMemory>
+        ensures { IfOk result (λ held. site_in held ≡ Site.Down self) }
+    {
+        Ok(match self {
+            DownNode::Watcher { notes } => Held::DownWatcher(Box::new(alloc, notes)?),
+            down => Held::Down(Box::new(alloc, down)?),
+        })
     }
 }

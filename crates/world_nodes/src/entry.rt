@@ -7,6 +7,7 @@ ghost use Rattle.world_nodes.specs.declared.entry.Site.{Site};
 ghost use Rattle.world_nodes.specs.Nodes.{new_wallet, new_watcher, new_operator, role_of, Spells, IsOfRole};
 ghost use Rattle.world_nodes.specs.Inside.{is_up, member_kind, IsDownOf, IsThere};
 
+use super::boxed::{BoxedMember, BoxedSite};
 use super::down::DownNode;
 use super::order::NodeKind;
 use super::up::UpNode;
@@ -15,7 +16,6 @@ use plasma_base::{Bytes, Hash32, NoMemory};
 use plasma_tx::{Owner, RootCall};
 use std::alloc::Global;
 use std::marker::Model;
-use std::mem;
 
 /// Where a node is: up, down with its disks alone, or lost, once memory ran out.
 #[derive(Drop)]
@@ -40,8 +40,8 @@ pub struct Entry<H: Hash32 + Copy> {
     pub(crate) hash: H,
     pub(crate) name: Bytes,
     pub(crate) account: u64,
-    pub(crate) member: Member,
-    pub(crate) site: Site<H>,
+    pub(crate) member: BoxedMember,
+    pub(crate) site: BoxedSite<H>,
     pub(crate) offers: Vec<RootCall>,
 }
 
@@ -73,15 +73,15 @@ impl<H: Hash32 + Copy> Drop for Entry<H> {
 }
 
 // Takes the node out, and leaves it lost.
-pub fn take<H: Hash32 + Copy>(site: &mut Site<H>) -> Site<H>
+pub fn take<H: Hash32 + Copy>(site: &mut BoxedSite<H>) -> Site<H>
     ensures taken { result ≡ site.old }
     ensures gone { site.new ≡ Site.Gone }
 {
-    mem::replace(site, Site::Gone)
+    site.take()
 }
 
 // Puts a node there.
-pub fn put<H: Hash32 + Copy>(site: &mut Site<H>, new: Site<H>)
+pub fn put<H: Hash32 + Copy>(site: &mut BoxedSite<H>, new: BoxedSite<H>)
     ensures { site.new ≡ new }
 {
     *site = new;
@@ -142,11 +142,7 @@ impl<H: Hash32 + Copy> Entry<H> {
         requires { Spells self.now }
         ensures { IsOfRole (H.digest_of self.now.hash) self.now.node }
     {
-        match &self.site {
-            Site::Up(node) => node.is_whole(),
-            Site::Down(_) => {}
-            Site::Gone => {}
-        }
+        self.site.is_whole();
     }
 
     /// The node's name.
@@ -167,7 +163,7 @@ impl<H: Hash32 + Copy> Entry<H> {
     pub fn kind(&self) -> NodeKind
         ensures { role_of result ≡ self.now.node.role }
     {
-        match &self.member {
+        match self.member.get() {
             Member::Wallet { .. } => NodeKind::Wallet,
             Member::Watcher => NodeKind::Watcher,
             Member::Operator => NodeKind::Operator,
@@ -178,10 +174,7 @@ impl<H: Hash32 + Copy> Entry<H> {
     pub fn is_up(&self) -> bool
         ensures { result ≡ self.now.node.is_up }
     {
-        match &self.site {
-            Site::Up(_) => true,
-            _ => false,
-        }
+        self.site.is_up()
     }
 
     /// The calls that it offers, in order, lent.
@@ -195,8 +188,8 @@ impl<H: Hash32 + Copy> Entry<H> {
     pub fn owner(&self) -> Option<Owner>
         ensures { result ≡ (if is_wallet_role self.now.node.role then Some (owner_of_node self.now.node) else None) }
     {
-        match &self.member {
-            Member::Wallet { owner, .. } => Some(*owner),
+        match self.member.get() {
+            Member::Wallet { owner, .. } => Some(owner),
             _ => None,
         }
     }
@@ -206,7 +199,7 @@ impl<H: Hash32 + Copy> Entry<H> {
         ensures { result
             ≡ (if is_wallet_role self.now.node.role then Some (who_is self.now.node.notes).seed else None) }
     {
-        match &self.member {
+        match self.member.get() {
             Member::Wallet { who, .. } => Some(who.seed),
             _ => None,
         }

@@ -2,6 +2,7 @@
 //! orders, crashes, and cuts orders short.
 #![tactic(auto)]
 
+mod boxed;
 mod crashing;
 mod cutting;
 mod declaring;
@@ -14,4 +15,4 @@ mod running;
 mod up;
 
 pub use entry::Entry;
-pub use order::{CutEnd, NodeKind, NodeOrder};
+pub use order::{CutEnd, NodeKind};

@@ -1,17 +1,18 @@
 ghost use Rattle.std.specs.Prelude.{◌≡◌, ℕ, [], true, false, None, IfOk, OnOk};
-ghost use Rattle.world_rules.specs.Given.{IsGiven};
-ghost use Rattle.world_nodes.specs.Orders.{fits, is_opening_order, order_deed};
+ghost use Rattle.node_replies.specs.Given.{IsGiven};
+ghost use Rattle.world_rules.specs.Orders.{node_does};
+ghost use Rattle.world_nodes.specs.Orders.{fits, is_opening_order};
 ghost use Rattle.world_nodes.specs.Nodes.{role_of, Spells, IsDone, Runs};
 ghost use Rattle.world_nodes.specs.Inside.{bare_node, up_closed, up_halves, up_hash, up_kind, RunsOn, UpDid};
 
-use super::entry::{Entry, Site, put, put_offers, take, up_of};
-use super::order::NodeOrder;
+use super::boxed::BoxedSite;
+use super::entry::{Entry, put, put_offers, take, up_of};
 use super::up::{UpNode, run_up};
 use node_journal::Stop;
+use node_replies::{Given, NodeOrder, Reply, says};
 use plasma_base::{Hash32, NoMemory};
 use plasma_tx::{RootCall, RootLog};
 use std::alloc::Global;
-use world_rules::{Given, Reply, says};
 
 // A node that ran an order, what it gave, and a copy of what it offers.
 #[derive(Drop)]
@@ -39,16 +40,15 @@ fn run_node<H: Hash32 + Copy>(
     log: &RootLog,
     order: &NodeOrder,
 ) -> Result<Ran<H>, NoMemory>
-    ghost n: { ℕ }
     requires fits { fits (role_of (up_kind node)) order.now ≡ true }
     requires is_command { is_opening_order order.now ≡ false }
     requires is_open { up_closed node ≡ false }
     requires runs_on { RunsOn node }
     ensures did { IfOk result (λ ran. UpDid
-        (order_deed (H.digest_of (up_hash node)) log.now.log n (bare_node (up_halves node)) order.now)
+        (node_does (H.digest_of (up_hash node)) log.now.log (bare_node (up_halves node)) order.now)
         node None ran.node) }
     ensures gives { IfOk result (λ ran. IsGiven
-        (order_deed (H.digest_of (up_hash node)) log.now.log n (bare_node (up_halves node)) order.now).gives
+        (node_does (H.digest_of (up_hash node)) log.now.log (bare_node (up_halves node)) order.now).response
         ran.given) }
     ensures offers { IfOk result (λ ran. ran.offers.items ≡ ran.given.offers.items) }
 {
@@ -74,21 +74,8 @@ impl<H: Hash32 + Copy> Entry<H> {
     pub fn run(&mut self, log: &RootLog, order: &NodeOrder) -> Result<Given, NoMemory>
         requires fits { fits self.old.node.role order.now ≡ true }
         requires spells { Spells self.old }
-        ensures runs { IfOk result (λ given. (n : ℕ)
-            → Runs (H.digest_of self.old.hash) log.now.log n order.now self.old given self.new) }
-        ensures spells { OnOk result (Spells self.new) }
-        ensures hash { self.new.hash ≡ self.old.hash }
-    {
-        self.run_as(log, order)
-    }
-
-    // Runs an order of a node that has this number.
-    fn run_as(&mut self, log: &RootLog, order: &NodeOrder) -> Result<Given, NoMemory>
-        ghost n: { ℕ }
-        requires fits { fits self.old.node.role order.now ≡ true }
-        requires spells { Spells self.old }
         ensures runs { IfOk result (λ given.
-            Runs (H.digest_of self.old.hash) log.now.log n order.now self.old given self.new) }
+            Runs (H.digest_of self.old.hash) log.now.log order.now self.old given self.new) }
         ensures spells { OnOk result (Spells self.new) }
         ensures hash { self.new.hash ≡ self.old.hash }
     {
@@ -102,12 +89,11 @@ impl<H: Hash32 + Copy> Entry<H> {
 
     // Runs an order that doesn't open the node.
     fn obey(&mut self, log: &RootLog, order: &NodeOrder) -> Result<Given, NoMemory>
-        ghost n: { ℕ }
         requires fits { fits self.old.node.role order.now ≡ true }
         requires is_command { is_opening_order order.now ≡ false }
         requires spells { Spells self.old }
         ensures runs { IfOk result (λ given.
-            Runs (H.digest_of self.old.hash) log.now.log n order.now self.old given self.new) }
+            Runs (H.digest_of self.old.hash) log.now.log order.now self.old given self.new) }
         ensures spells { OnOk result (Spells self.new) }
         ensures hash { self.new.hash ≡ self.old.hash }
     {
@@ -119,13 +105,12 @@ impl<H: Hash32 + Copy> Entry<H> {
 
     // Runs an order of a node that is up.
     fn command(&mut self, log: &RootLog, order: &NodeOrder) -> Result<Given, NoMemory>
-        ghost n: { ℕ }
         requires fits { fits self.old.node.role order.now ≡ true }
         requires is_command { is_opening_order order.now ≡ false }
         requires spells { Spells self.old }
         requires is_up { self.old.node.is_up ≡ true }
         ensures done { IfOk result (λ given. IsDone order.now
-            (order_deed (H.digest_of self.old.hash) log.now.log n self.old.node order.now)
+            (node_does (H.digest_of self.old.hash) log.now.log self.old.node order.now)
             self.old given self.new) }
         ensures spells { OnOk result (Spells self.new) }
         ensures hash { self.new.hash ≡ self.old.hash }
@@ -138,7 +123,8 @@ impl<H: Hash32 + Copy> Entry<H> {
             given,
             offers,
         } = ran;
-        put(&mut self.site, Site::Up(node));
+        let kept = BoxedSite::up(self.alloc, node)?;
+        put(&mut self.site, kept);
         put_offers(&mut self.offers, offers);
         Ok(given)
     }

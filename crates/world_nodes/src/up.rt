@@ -1,22 +1,25 @@
 ghost use Rattle.std.specs.Prelude.{◌≡◌, ◌-◌, ℕ, true, false, length, IfOk};
 ghost use Rattle.node_journal.specs.Notes.{stopped_by};
 ghost use Rattle.leaf_journal.specs.Records.{messages_of};
-ghost use Rattle.world_rules.specs.Given.{IsGiven};
-ghost use Rattle.world_nodes.specs.Orders.{fits, is_opening_order, order_deed};
+ghost use Rattle.node_replies.specs.Given.{IsGiven};
+ghost use Rattle.world_rules.specs.Orders.{node_does};
+ghost use Rattle.world_nodes.specs.declared.entry.Site.{Site};
+ghost use Rattle.world_nodes.specs.Boxed.{site_in};
+ghost use Rattle.world_nodes.specs.Orders.{fits, is_opening_order};
 ghost use Rattle.world_nodes.specs.Nodes.{role_of, AreOf};
 ghost use Rattle.world_nodes.specs.Inside.{bare_node, leaves_of, records_in, taken_down, up_closed, up_halves, up_hash, up_kind, UpDid};
 
+use super::boxed::Held;
 use super::down::DownNode;
-use super::order::NodeOrder;
 use crash_disk::MemDisk;
 use node_journal::Stop;
+use node_replies::{Given, NodeOrder};
 use operator_core::Operator;
-use plasma_base::Hash32;
+use plasma_base::{Hash32, NoMemory};
 use plasma_tx::RootLog;
 use std::alloc::Global;
 use wallet_node::WalletNode;
 use watcher_node::WatcherNode;
-use world_rules::Given;
 
 /// A node that is up.
 pub enum UpNode<H: Hash32 + Copy> {
@@ -39,15 +42,14 @@ pub fn run_up<H: Hash32 + Copy>(
     log: &RootLog,
     order: &NodeOrder,
 ) -> Result<Given, Stop>
-    ghost n: { ℕ }
     requires fits { fits (role_of (up_kind node.old)) order.now ≡ true }
     requires is_command { is_opening_order order.now ≡ false }
     requires is_open { up_closed node.old ≡ false }
     ensures gives { IfOk result (λ given. IsGiven
-        (order_deed (H.digest_of (up_hash node.old)) log.now.log n (bare_node (up_halves node.old)) order.now).gives
+        (node_does (H.digest_of (up_hash node.old)) log.now.log (bare_node (up_halves node.old)) order.now).response
         given) }
     ensures did { UpDid
-        (order_deed (H.digest_of (up_hash node.old)) log.now.log n (bare_node (up_halves node.old)) order.now)
+        (node_does (H.digest_of (up_hash node.old)) log.now.log (bare_node (up_halves node.old)) order.now)
         node.old (stopped_by result) node.new }
 {
     match node {
@@ -107,5 +109,16 @@ impl<H: Hash32 + Copy> UpNode<H> {
                 notes: node.take_disk(),
             },
         }
+    }
+
+    // The node, held.
+    pub fn hold(self, alloc: Global) -> Result<Held<H>, NoMemory>
+        ensures { IfOk result (λ held. site_in held ≡ Site.Up self) }
+    {
+        Ok(match self {
+            UpNode::Wallet(node) => Held::Wallet(Box::new(alloc, node)?),
+            UpNode::Watcher(node) => Held::Watcher(Box::new(alloc, node)?),
+            UpNode::Operator(node) => Held::Operator(Box::new(alloc, node)?),
+        })
     }
 }

@@ -14,9 +14,12 @@ use Rattle.schedule_text.specs.declared.line.Line.{Line}
 use Rattle.schedule_text.specs.declared.command.Command.{Command}
 use Rattle.schedule_text.specs.declared.command.WalletCommand.{WalletCommand}
 use Rattle.schedule_text.specs.Grammar.{node_of}
-use Rattle.world_rules.specs.World.{Role, Node, Rogue, World, is_named, is_wallet_role, any_role, number_of, rogue_named, owner_of_node, owner_of_rogue, owner_named, new_owner_of, call_of, wallet_of}
+use Rattle.node_replies.specs.declared.order.WalletOrder.{WalletOrder}
+use Rattle.node_replies.specs.declared.order.NodeOrder.{NodeOrder}
+use Rattle.world_rules.specs.World.{Role, Wallet, Watcher, Operator, Node, Rogue, World, is_named, is_wallet_role, does_watch, any_role, number_of, rogue_named, owner_of_node, owner_of_rogue, owner_named, new_owner_of, call_of}
 use Rattle.world_rules.specs.Declarations.{is_declared, plays, is_sendable, has_declared_names, has_leaf_number, keeps_rules, keeps_rules_in}
-use Rattle.world_rules.specs.Deeds.{Deed, send_deed, wallet_command, deed_of}
+use Rattle.world_rules.specs.Orders.{wallet_order, watch_order, order_of, node_does}
+use Rattle.world_rules.specs.Deeds.{as_deed, deed_of}
 use Rattle.world_rules.specs.Steps.{LineEffect, called, raw_called, deposit_by, offer_numbered, entered, answers_down, commanded, down, crashed, cut, act_at, act_on, command_effect, cut_effect, signed_by, signed_body, effect_in, effect_of, with_mail, step}
 use Rattle.world_rules.specs.Laws.{LinesThatKeepTheRulesStep}
 
@@ -62,16 +65,17 @@ some-of None some = absurd (true≢false (sym some))
 -- ---- names
 
 module _ (dig : List ℕ → List ℕ) (world : World) where
-  -- a node that is declared does what every node of the name does
+  -- a node that is declared does what every node of the name and of its role does
   acts : (may : Role → Bool) (name : List ℕ) (act : ℕ → Node → Option LineEffect)
-      → is_declared may world name ≡ true → ((n : ℕ) (node : Node) → is_some (act n node) ≡ true)
+      → is_declared may world name ≡ true
+      → ((n : ℕ) (node : Node) → may node.role ≡ true → is_some (act n node) ≡ true)
       → is_some (act_on may world name act) ≡ true
   acts may name act declared each =
       let number = some-of (number_of may world name) declared in
       let node = position-is (is_named may name) world.nodes number.0 number.1 in
       ap (λ o. is_some (option_and_then (act_at world act) o)) number.1
       ∙ ap (λ o. is_some (option_and_then (act number.0) o)) node.1
-      ∙ each number.0 node.0
+      ∙ each number.0 node.0 (and_parts _ (may node.0.role) node.2).1
 
   -- a declared wallet has an owner
   owner-some : (name : List ℕ) → is_declared is_wallet_role world name ≡ true
@@ -84,44 +88,58 @@ module _ (dig : List ℕ → List ℕ) (world : World) where
       (option_map owner_of_rogue (rogue_named world name))
       (ap (λ o. is_some (option_map owner_of_node o)) found)
 
-  sends : (n : ℕ) (node : Node) (own : WalletCommand) → is_sendable world own ≡ true
-      → is_some (wallet_command dig world n (wallet_of node) own) ≡ true
-  sends n node (WalletCommand.Accept bundle) named = refl
-  sends n node (WalletCommand.Send coin to last) named =
-      is_some-map (send_deed dig world n (wallet_of node) coin last) (new_owner_of world to) ∙ named
-  sends n node (WalletCommand.Again coin) named = refl
-  sends n node (WalletCommand.Leave coin) named = refl
-  sends n node (WalletCommand.Reclaim bundle) named = refl
-  sends n node WalletCommand.Migrate named = refl
+  sends : (own : WalletCommand) → is_sendable world own ≡ true → is_some (wallet_order world own) ≡ true
+  sends (WalletCommand.Accept bundle) named = refl
+  sends (WalletCommand.Send coin to last) named =
+      is_some-map (λ owner. WalletOrder.Send coin owner last) (new_owner_of world to) ∙ named
+  sends (WalletCommand.Again coin) named = refl
+  sends (WalletCommand.Leave coin) named = refl
+  sends (WalletCommand.Reclaim bundle) named = refl
+  sends WalletCommand.Migrate named = refl
 
-  deed-some : (n : ℕ) (node : Node) (command : Command) → has_declared_names world command ≡ true
-      → is_some (deed_of dig world n node command) ≡ true
-  unfolding Rattle.world_rules.specs.Deeds.deed_of
-  deed-some n node (Command.Wallet name own) named = sends n node own named
-  deed-some n node (Command.Watcher name own) named = refl
-  deed-some n node (Command.Operator own) named = refl
-  deed-some n node (Command.Watch name) named = refl
-  deed-some n node (Command.Open name) named = refl
+  watches : (role : Role) → does_watch role ≡ true → is_some (watch_order role) ≡ true
+  watches Wallet may = refl
+  watches Watcher may = refl
+  watches Operator may = absurd (true≢false (sym may))
+
+  order-some : (role : Role) (command : Command) → plays command role ≡ true
+      → has_declared_names world command ≡ true → is_some (order_of world role command) ≡ true
+  unfolding order_of
+  order-some role (Command.Wallet name own) may named =
+      is_some-map NodeOrder.Wallet (wallet_order world own) ∙ sends own named
+  order-some role (Command.Watcher name own) may named = refl
+  order-some role (Command.Operator own) may named = refl
+  order-some role (Command.Watch name) may named = watches role may
+  order-some role (Command.Open name) may named = refl
+
+  deed-some : (n : ℕ) (node : Node) (command : Command) → plays command node.role ≡ true
+      → has_declared_names world command ≡ true → is_some (deed_of dig world n node command) ≡ true
+  unfolding deed_of
+  deed-some n node command may named =
+      is_some-map (λ order. as_deed n order (node_does dig world.chain.log node order))
+      (order_of world node.role command)
+      ∙ order-some node.role command may named
 
   command-some : (command : Command) → has_declared_names world command ≡ true → (n : ℕ) (node : Node)
-      → is_some (command_effect dig world command n node) ≡ true
-  command-some command named n node = by (answers_down node command)
+      → plays command node.role ≡ true → is_some (command_effect dig world command n node) ≡ true
+  command-some command named n node may = by (answers_down node command)
     where
       by : (b : Bool) → is_some (if b then Some (down world)
           else option_map (commanded world n node) (deed_of dig world n node command)) ≡ true
       by true = refl
       by false = is_some-map (commanded world n node) (deed_of dig world n node command)
-          ∙ deed-some n node command named
+          ∙ deed-some n node command may named
 
   cut-some : (calls : ℕ) (outcome : OutcomeToken) (command : Command) → has_declared_names world command ≡ true
-      → (n : ℕ) (node : Node) → is_some (cut_effect dig world calls outcome command n node) ≡ true
-  cut-some calls outcome command named n node = by (answers_down node command)
+      → (n : ℕ) (node : Node) → plays command node.role ≡ true
+      → is_some (cut_effect dig world calls outcome command n node) ≡ true
+  cut-some calls outcome command named n node may = by (answers_down node command)
     where
       by : (b : Bool) → is_some (if b then Some (down world)
           else option_map (cut world n node calls outcome command) (deed_of dig world n node command)) ≡ true
       by true = refl
       by false = is_some-map (cut world n node calls outcome command) (deed_of dig world n node command)
-          ∙ deed-some n node command named
+          ∙ deed-some n node command may named
 
   signs-some : (leaf coin parent : ℕ) (last : Option ℕ) (rogue : Option Rogue) (to : Option Owner)
       → has_leaf_number leaf rogue ≡ true → is_some to ≡ true
@@ -148,7 +166,8 @@ module _ (dig : List ℕ → List ℕ) (world : World) where
       is_some-map (raw_called dig world account) (call_of world account form)
       ∙ (and_parts _ (is_some (call_of world account form)) keeps).1
   effect-some (Line.Enter node number) keeps =
-      acts any_role node (λ n found. Some (entered dig world (offer_numbered number found))) keeps (λ n found. refl)
+      acts any_role node (λ n found. Some (entered dig world (offer_numbered number found))) keeps
+      (λ n found role. refl)
   effect-some (Line.Command command) keeps =
       let parts = and_parts (is_declared (plays command) world (node_of command)) (has_declared_names world command)
       keeps in
@@ -158,7 +177,7 @@ module _ (dig : List ℕ → List ℕ) (world : World) where
       let parts = and_parts (has_leaf_number leaf (rogue_named world rogue)) (is_some (new_owner_of world to)) keeps in
       signs-some leaf coin parent last (rogue_named world rogue) (new_owner_of world to) parts.0 parts.1
   effect-some (Line.Crash node outcome) keeps =
-      acts any_role node (λ n found. Some (crashed world n found)) keeps (λ n found. refl)
+      acts any_role node (λ n found. Some (crashed world n found)) keeps (λ n found role. refl)
   effect-some (Line.Cut node calls outcome command) keeps =
       let both = and_parts _ (is_declared (plays command) world (node_of command) && has_declared_names world command)
       keeps in

@@ -20,10 +20,10 @@ use Rattle.wallet_core.specs.State.{is_owner, is_noted}
 use Rattle.node_rules.specs.Kept.{chain_of, kept_of, links_handed}
 use Rattle.node_rules.specs.Wallet.{is_known}
 use Rattle.node_rules.proofs.KeptTexts.{handed-bundle}
-use Rattle.world_rules.specs.Deeds.{bundle_read}
+use Rattle.world_rules.specs.OrderEvents.{bundle_read}
 use Rattle.world_rules.specs.Safety.{was_deposited}
-use Rattle.world_rules.proofs.ByteTexts.{Small}
-use Rattle.world_rules.proofs.ItemTexts.{AreSmallOpenings, read-small, kept-small}
+use Rattle.node_replies.proofs.ByteTexts.{Small}
+use Rattle.node_replies.proofs.BundleTexts.{AreSmallOpenings, read-small, kept-small}
 use Rattle.std.specs.List.{range_with_len}
 use Rattle.coin_history.proofs.HistoryFound.{histories_are_found}
 

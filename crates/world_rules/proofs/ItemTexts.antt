@@ -1,86 +1,17 @@
--- Bundles and the operator's openings are bytes, and so is what is kept of a bundle that is.
-use Rattle.std.proofs.Common.{◌≡◌, ℕ, zero, suc, ◌==◌, nat_lt, Bool, true, false, if◌then◌else◌, List, [], ◌∷◌, ◌++◌, map, filter, length, Some, None, Ok, subst}
-use Rattle.std.specs.Prelude.{slice_index_or, not, option_map}
-use Rattle.std.specs.List.{AllByRecursion, concat, flat_map, cons_option, range_with_len}
+-- The operator's openings are bytes.
+use Rattle.std.proofs.Common.{ℕ, zero, suc, ◌==◌, nat_lt, Bool, true, false, if◌then◌else◌, List, [], ◌∷◌, ◌++◌, map, filter, length}
+use Rattle.std.specs.Prelude.{slice_index_or, not}
+use Rattle.std.specs.List.{AllByRecursion, concat, range_with_len}
 use Rattle.sparse_merkle.specs.declared.tree.Entry.{Entry}
 use Rattle.sparse_merkle.specs.MaskedPath.{proof_text}
 use Rattle.sparse_merkle.specs.PathProof.{is_default_at, kept_siblings, proof_of_path}
 use Rattle.sparse_merkle.specs.TreeDigest.{leaf_of, entry_of, with_leaf, subtree_digest, near_part, far_part, path_below, path_to}
-use Rattle.plasma_tx.specs.declared.opening.RawOpening.{RawOpening}
-use Rattle.plasma_tx.specs.declared.links.Link.{Link}
-use Rattle.plasma_tx.specs.declared.signed_tx.SignedTx.{SignedTx}
 use Rattle.plasma_tx.specs.Openings.{opening_text}
-use Rattle.plasma_tx.specs.Spelling.{number_text}
-use Rattle.plasma_tx.specs.Shown.{Rules}
 use Rattle.plasma_tx.proofs.Each.{all-append, all-filter}
-use Rattle.coin_history.specs.declared.bundle.Bundle.{Bundle}
-use Rattle.coin_history.specs.Bundles.{item_text, length_text, bundle_text, bundle_in}
-use Rattle.coin_history.specs.History.{transfer_of, links_in}
-use Rattle.coin_history.proofs.BundleLaws.{text-bundle_in}
 use Rattle.operator_rules.specs.Trees.{opening_in_tree}
 use Rattle.world_rules.specs.Laws.{IsDigest}
-use Rattle.world_rules.proofs.ByteTexts.{Small, small-nil, small-append, small-number, small-short, small-front, small-back}
-
--- ---- bundles
-
--- each opening's bytes are bytes
-abbrev pub IsSmallOpening : RawOpening → Type 0
-IsSmallOpening opening = Small opening.bytes
-
-abbrev pub AreSmallOpenings : List RawOpening → Type 0
-AreSmallOpenings openings = AllByRecursion IsSmallOpening openings
-
-items-small : (openings : List RawOpening) → AreSmallOpenings openings → Small (flat_map item_text openings)
-items-small [] small = small-nil
-items-small (opening ∷ openings) small =
-    small-append
-    (small-append (small-append (small-number opening.block) (small-short (length opening.bytes))) small.0)
-    (items-small openings small.1)
-
-pub small-bundle : (bundle : Bundle) → AreSmallOpenings bundle.openings → Small (bundle_text bundle)
-unfolding bundle_text
-small-bundle bundle small =
-    small-append
-    (small-append (small-append (small-number bundle.coin) (small-number bundle.tip))
-    (small-short (length bundle.openings)))
-    (items-small bundle.openings small)
-
-small-items : (openings : List RawOpening) → Small (flat_map item_text openings) → AreSmallOpenings openings
-small-items [] small = tt
-small-items (opening ∷ openings) small = (
-  small-back (number_text opening.block ++ length_text (length opening.bytes)) opening.bytes
-      (small-front (item_text opening) (flat_map item_text openings) small),
-  small-items openings (small-back (item_text opening) (flat_map item_text openings) small),
-)
-
-bundle-small : (bundle : Bundle) → Small (bundle_text bundle) → AreSmallOpenings bundle.openings
-unfolding bundle_text
-bundle-small bundle small =
-    small-items bundle.openings
-    (small-back (number_text bundle.coin ++ number_text bundle.tip ++ length_text (length bundle.openings))
-    (flat_map item_text bundle.openings) small)
-
--- the openings of a bundle that bytes spell
-pub read-small : (bytes : List ℕ) (bundle : Bundle) → Small bytes → bundle_in bytes ≡ Ok bundle
-    → AreSmallOpenings bundle.openings
-read-small bytes bundle small is =
-    bundle-small bundle (subst Small (text-bundle_in bytes bundle small.are is).0 small)
-
--- and those that are kept of it
-pub kept-small : (rules : Rules) (coin : ℕ) (openings : List RawOpening) → AreSmallOpenings openings
-    → AreSmallOpenings (map (λ (link : Link). link.opening) (links_in rules coin openings))
-unfolding links_in
-kept-small rules coin [] small = tt
-kept-small rules coin (opening ∷ openings) small =
-    let rest = kept-small rules coin openings small.1 in
-    elim (transfer_of rules coin opening) as (λ t. AreSmallOpenings
-    (map (λ (link : Link). link.opening)
-    (cons_option
-    (option_map (λ (tx : SignedTx). record { block = opening.block; tx = tx; opening = opening }) t)
-    (links_in rules coin openings)))) [
-      | None ↦ rest
-      | Some tx ↦ (small.0, rest)
-    ]
+use Rattle.node_replies.proofs.ByteTexts.{Small, small-nil, small-append, small-number, small-short}
+use Rattle.node_replies.proofs.BundleTexts.{IsSmallOpening}
 
 -- ---- the operator's trees
 

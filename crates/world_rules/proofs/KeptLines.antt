@@ -25,14 +25,14 @@ use Rattle.schedule_text.specs.Grammar.{node_of, IsLine}
 use Rattle.node_rules.specs.declared.identity.WalletIdentity.{WalletIdentity}
 use Rattle.node_rules.specs.WalletLaws.{IsIdentity}
 use Rattle.node_rules.specs.WalletRecords.{owner_of, secret_of, identity_text as wallet_text}
-use Rattle.world_rules.specs.declared.reply.Reply.{Reply}
+use Rattle.node_replies.specs.declared.reply.Reply.{Reply}
 use Rattle.world_rules.specs.Events.{Event, Declares, Joins, Bounces, Other, Idle, log_of}
 use Rattle.world_rules.specs.World.{Role, Wallet, Watcher, Node, Rogue, World, with_node, any_role, number_of, is_named, rogue_named, owner_named, new_owner_of, call_of}
 use Rattle.world_rules.specs.Declarations.{plays, declared_wallet, types_or_first}
 use Rattle.world_rules.specs.Deeds.{Deed, deed_of}
 use Rattle.world_rules.specs.Steps.{LineEffect, says, declares_wallet, declares_watcher, declares_rogue, log_in, called, raw_called, deposit_by, offer_numbered, entered, is_opening, answers_down, with_records, after_command, after_crash, commanded, down, crashed, outcome_of, is_stopped, without_offers, stopped, finished, cut, act_on, command_effect, cut_effect, signed_by, signed_body, effect_in, new_node}
 use Rattle.world_rules.specs.Laws.{IsDigest}
-use Rattle.world_rules.proofs.ByteTexts.{Small, small-nil, small-append, small-body, small-signature}
+use Rattle.node_replies.proofs.ByteTexts.{Small, small-nil, small-append, small-body, small-signature}
 use Rattle.world_rules.proofs.Shapes.{acted, IsCut, Kept, Lost, is_cut}
 use Rattle.world_rules.proofs.OwnEvents.{of_node}
 use Rattle.world_rules.proofs.Existence.{position-is}

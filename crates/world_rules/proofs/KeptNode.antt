@@ -17,11 +17,13 @@ use Rattle.schedule_text.specs.declared.command.OperatorCommand.{OperatorCommand
 use Rattle.node_rules.specs.declared.refusal.WalletRefusal.{WalletRefusal}
 use Rattle.node_rules.specs.Wallet.{WalletEffect}
 use Rattle.node_rules.specs.WalletCommandLaws.{with_more, after}
-use Rattle.world_rules.specs.Causes.{wallet_cause}
+use Rattle.node_replies.specs.Causes.{wallet_cause}
 use Rattle.world_rules.specs.World.{Role, Wallet, Watcher, Operator, Node, World, wallet_of, is_wallet_role, is_watcher_role, is_operator_role, bytes_of, new_owner_of}
-use Rattle.world_rules.specs.Deeds.{Gives, Deed, answered, wallet_deed, with_record}
+use Rattle.world_rules.specs.Deeds.{Gives, Deed}
+use Rattle.world_rules.proofs.ByCommand.{answered, wallet_deed}
+use Rattle.node_replies.specs.Orders.{with_record}
 use Rattle.world_rules.specs.Steps.{with_records}
-use Rattle.world_rules.proofs.ByteTexts.{Small, small-nil}
+use Rattle.node_replies.proofs.ByteTexts.{Small, small-nil}
 use Rattle.world_rules.proofs.OperatorItems.{AreSmallRecords}
 use Rattle.world_rules.proofs.Said.{Said, told}
 use Rattle.world_rules.proofs.KeptWallet.{KeptWallet, records-push}

@@ -13,7 +13,7 @@ use Rattle.world_rules.specs.Events.{Event, Idle, log_of}
 use Rattle.world_rules.specs.World.{Node, World, padded}
 use Rattle.world_rules.specs.Steps.{LineEffect, new_chain, new_world, operator_node, step, Run, no_lines, with_line, step_run, run_of, events_of, TraceEntry, effect_of}
 use Rattle.world_rules.specs.Laws.{IsDigest, WalletsKeepWhatEventsSay, WatchersKeepWhatEventsSay}
-use Rattle.world_rules.proofs.ByteTexts.{Small, small-nil, small-cons, small-append, small-number}
+use Rattle.node_replies.proofs.ByteTexts.{Small, small-nil, small-cons, small-append, small-number}
 use Rattle.world_rules.proofs.StepLaws.{stepped}
 use Rattle.world_rules.proofs.Said.{said, said-other, said-none}
 use Rattle.world_rules.proofs.HeldSame.{are_kept}

@@ -14,7 +14,7 @@ use Rattle.node_rules.specs.WalletRecords.{Note, Accepts as AcceptsNote, who_is,
 use Rattle.node_rules.specs.Wallet.{WalletRecords, who, noted}
 use Rattle.node_rules.specs.WalletOpening.{is_wallet}
 use Rattle.world_rules.specs.Events.{is_taken, is_bundle}
-use Rattle.world_rules.proofs.ByteTexts.{Small}
+use Rattle.node_replies.proofs.ByteTexts.{Small}
 use Rattle.world_rules.proofs.OperatorItems.{AreSmallRecords}
 use Rattle.world_rules.proofs.Said.{Said}
 use Rattle.world_rules.proofs.Handed.{IsKnownCoin}

@@ -18,10 +18,12 @@ use Rattle.node_rules.specs.Kept.{kept_of, links_handed}
 use Rattle.node_rules.specs.Watcher.{Guarded, Released, note_text, watcher_kinds, who_is, is_of, is_before, with_guard, guards_of, guards_in, guard_causes, guard_by, guard_effect, release_effect}
 use Rattle.node_rules.specs.WatcherLaws.{KeepsRole, AddsNote, AddsGuard}
 use Rattle.node_rules.proofs.WatcherRole.{commands_keep_the_role, commands_add_their_notes}
-use Rattle.world_rules.specs.Causes.{watcher_cause}
+use Rattle.node_replies.specs.Causes.{watcher_cause}
 use Rattle.world_rules.specs.Events.{Guards, Releases, is_bundle}
-use Rattle.world_rules.specs.Deeds.{answered, on_guarded, on_released, bundle_read, with_record}
-use Rattle.world_rules.proofs.ByteTexts.{Small, small-nil}
+use Rattle.world_rules.proofs.ByCommand.{answered, on_guarded, on_released}
+use Rattle.world_rules.specs.OrderEvents.{bundle_read}
+use Rattle.node_replies.specs.Orders.{with_record}
+use Rattle.node_replies.proofs.ByteTexts.{Small, small-nil}
 use Rattle.world_rules.proofs.Said.{Said, told}
 use Rattle.world_rules.proofs.Handed.{IsHanded, is_handed}
 use Rattle.plasma_tx.specs.Spelling.{AreBytes}

@@ -20,7 +20,7 @@ use Rattle.node_rules.specs.WalletRecords.{owner_of}
 use Rattle.node_rules.specs.Wallet.{who}
 use Rattle.world_rules.specs.Events.{Event, Joins, log_of}
 use Rattle.world_rules.specs.World.{Node, Rogue, World, wallet_of, owner_of_node, owner_of_rogue, with_node, is_named, is_wallet_role, rogue_named, owner_named, new_owner_of}
-use Rattle.world_rules.proofs.ByteTexts.{Small, small-take, small-drop}
+use Rattle.node_replies.proofs.ByteTexts.{Small, small-take, small-drop}
 use Rattle.world_rules.proofs.OperatorItems.{AreSmallRecords}
 use Rattle.world_rules.proofs.Said.{Said, said, nothing_said, is_said_of, said-other}
 use Rattle.world_rules.proofs.KeptWallet.{wallet-longer, records-push}

@@ -1,12 +1,11 @@
+pub mod ByCommand
 pub mod Shapes
 pub mod OwnEvents
 pub mod StepLaws
 pub mod Existence
-pub mod ByteTexts
 pub mod ItemTexts
 pub mod OperatorItems
 pub mod Said
-pub mod WalletEnds
 pub mod Handed
 pub mod KeptWallet
 pub mod WalletAccepts

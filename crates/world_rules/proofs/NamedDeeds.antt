@@ -23,10 +23,12 @@ use Rattle.node_rules.specs.Kept.{chain_of, checked_by, links_handed}
 use Rattle.node_rules.specs.Wallet.{WalletRecords, who, noted, accept_by, accept_effect, send_effect, again_answer, leave_effect, reclaim_effect, migrate_effect}
 use Rattle.node_rules.specs.Watcher.{guard_effect, release_effect}
 use Rattle.operator_rules.specs.Commands.{offer_effect, lay_effect, seal_effect, prove_answer, bundle_answer, absences_answer}
-use Rattle.world_rules.specs.Causes.{wallet_cause, watcher_cause, offer_cause, lay_cause, seal_cause, prove_cause}
+use Rattle.node_replies.specs.Causes.{wallet_cause, watcher_cause, offer_cause, lay_cause, seal_cause, prove_cause}
 use Rattle.world_rules.specs.Events.{Event, Accepts, Watches, Leaves, Seals}
 use Rattle.world_rules.specs.World.{Node, World, wallet_of, bytes_of, new_owner_of}
-use Rattle.world_rules.specs.Deeds.{Gives, Deed, answered, bundle_read, on_accepted, on_sent, on_sent_again, on_leaving, on_reclaimed, on_migrated, send_deed, wallet_command, on_guarded, on_released, watcher_command, on_pooled, on_laid, on_sealed, on_bundled, on_proved, operator_command, on_open, deed_of}
+use Rattle.world_rules.specs.Deeds.{Gives, Deed, deed_of}
+use Rattle.world_rules.proofs.ByCommand.{answered, on_accepted, on_sent, on_sent_again, on_leaving, on_reclaimed, on_migrated, send_deed, wallet_command, on_guarded, on_released, watcher_command, on_pooled, on_laid, on_sealed, on_bundled, on_proved, operator_command, on_open, command_deed, deed-by-command}
+use Rattle.world_rules.specs.OrderEvents.{bundle_read}
 use Rattle.world_rules.specs.Steps.{without_offers}
 use Rattle.world_rules.proofs.HeldTips.{IsCoin}
 use Rattle.world_rules.proofs.KeptNames.{is_plain}
@@ -151,16 +153,20 @@ module _ (dig : List ℕ → List ℕ) (world : World) (n : ℕ) where
   opening node true = Plain refl
   opening node false = Plain refl
 
+  told-is : (node : Node) (command : Command) (deed : Deed) → command_deed dig world n node command ≡ Some deed
+      → IsDeed log deed.gives.event
+  unfolding command_deed
+  told-is node (Command.Wallet name own) deed is = wallet-deed (wallet_of node) own deed is
+  told-is node (Command.Watcher name own) deed is =
+      subst (λ (d : Deed). IsDeed log d.gives.event) (some_same _ deed is) (watcher-deed node.notes own)
+  told-is node (Command.Operator own) deed is =
+      subst (λ (d : Deed). IsDeed log d.gives.event) (some_same _ deed is) (operator-deed node.notes own)
+  told-is node (Command.Watch name) deed is =
+      subst (λ (d : Deed). IsDeed log d.gives.event) (some_same _ deed is) (Plain refl)
+  told-is node (Command.Open name) deed is =
+      subst (λ (d : Deed). IsDeed log d.gives.event) (some_same _ deed is) (opening node node.is_up)
+
   -- the event of a deed is one of these
   pub deed-is : (node : Node) (command : Command) (deed : Deed) → deed_of dig world n node command ≡ Some deed
       → IsDeed log deed.gives.event
-  unfolding deed_of
-  deed-is node (Command.Wallet name own) deed is = wallet-deed (wallet_of node) own deed is
-  deed-is node (Command.Watcher name own) deed is =
-      subst (λ (d : Deed). IsDeed log d.gives.event) (some_same _ deed is) (watcher-deed node.notes own)
-  deed-is node (Command.Operator own) deed is =
-      subst (λ (d : Deed). IsDeed log d.gives.event) (some_same _ deed is) (operator-deed node.notes own)
-  deed-is node (Command.Watch name) deed is =
-      subst (λ (d : Deed). IsDeed log d.gives.event) (some_same _ deed is) (Plain refl)
-  deed-is node (Command.Open name) deed is =
-      subst (λ (d : Deed). IsDeed log d.gives.event) (some_same _ deed is) (opening node node.is_up)
+  deed-is node command deed is = told-is node command deed (deed-by-command dig world n node command deed is)

@@ -19,7 +19,7 @@ use Rattle.node_rules.specs.WatcherLaws.{IsIdentity as IsWatcherIdentity}
 use Rattle.node_rules.proofs.WalletTexts.{identity_in-text}
 use Rattle.node_rules.proofs.WatcherTexts.{identity_in-text as watcher_in-text}
 use Rattle.world_rules.specs.Events.{Declares}
-use Rattle.world_rules.proofs.ByteTexts.{Small, small-cons, small-append, small-take, small-number, small-short, small-sha256, small-key, length-key, small-zeros}
+use Rattle.node_replies.proofs.ByteTexts.{Small, small-cons, small-append, small-take, small-number, small-short, small-sha256, small-key, length-key, small-zeros}
 use Rattle.world_rules.proofs.Said.{nothing_said, told}
 use Rattle.world_rules.proofs.KeptWallet.{KeptWallet}
 use Rattle.world_rules.proofs.KeptWatcher.{KeptWatcher}

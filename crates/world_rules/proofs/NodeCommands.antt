@@ -18,15 +18,16 @@ use Rattle.node_rules.specs.Wallet.{WalletRecords, WalletEffect, who, used, acce
 use Rattle.node_rules.specs.WalletCommandLaws.{sent_body}
 use Rattle.node_rules.specs.Watcher.{guard_effect, release_effect}
 use Rattle.operator_rules.specs.Commands.{offer_effect, lay_effect, seal_effect, prove_answer, bundle_answer, absences_answer}
-use Rattle.world_rules.specs.Causes.{wallet_cause, watcher_cause, offer_cause, lay_cause, seal_cause, prove_cause}
+use Rattle.node_replies.specs.Causes.{wallet_cause, watcher_cause, offer_cause, lay_cause, seal_cause, prove_cause}
 use Rattle.world_rules.specs.World.{Node, World, wallet_of, is_wallet_role, is_watcher_role, is_operator_role, bytes_of, new_owner_of}
 use Rattle.world_rules.specs.Declarations.{plays}
-use Rattle.world_rules.specs.Deeds.{Gives, Deed, without_record, answered, noting_deed, on_accepted, on_sent, on_sent_again, on_leaving, on_reclaimed, on_migrated, send_deed, wallet_command, on_guarded, on_released, watcher_command, on_pooled, on_laid, on_sealed, on_bundled, on_proved, operator_command, due_at_node, on_watch, on_open, deed_of}
-use Rattle.world_rules.proofs.ByteTexts.{Small, small-nil, small-append, small-signature, small-body}
+use Rattle.world_rules.specs.Deeds.{Gives, Deed, deed_of}
+use Rattle.world_rules.proofs.ByCommand.{without_record, answered, noting_deed, on_accepted, on_sent, on_sent_again, on_leaving, on_reclaimed, on_migrated, send_deed, wallet_command, on_guarded, on_released, watcher_command, on_pooled, on_laid, on_sealed, on_bundled, on_proved, operator_command, due_at_node, on_watch, on_open, command_deed, deed-by-command}
+use Rattle.node_replies.proofs.ByteTexts.{Small, small-nil, small-append, small-signature, small-body}
 use Rattle.world_rules.proofs.OperatorItems.{AreSmallRecords, prove-small, bundle-made, absences-made, offer-noted, lay-noted, seal-noted}
 use Rattle.world_rules.specs.Laws.{IsDigest}
 use Rattle.world_rules.proofs.Said.{Said, told}
-use Rattle.world_rules.proofs.WalletEnds.{SendEnds, Refused, Sends, send_ends}
+use Rattle.node_replies.proofs.WalletEnds.{SendEnds, Refused, Sends, send_ends}
 use Rattle.world_rules.proofs.KeptWallet.{KeptWallet}
 use Rattle.world_rules.proofs.WalletAccepts.{accepts-kept}
 use Rattle.world_rules.proofs.WalletSends.{sends-kept}
@@ -211,15 +212,20 @@ module _ (dig : List ℕ → List ℕ) (is_digest : IsDigest dig) (s : Said) (wo
   opened-kept true = silent-kept (on_open n node true) refl refl
   opened-kept false = silent-kept (on_open n node false) refl refl
 
+  told-kept : (command : Command) (deed : Deed) → plays command node.role ≡ true → IsFit command
+      → command_deed dig world n node command ≡ Some deed → IsKept deed
+  unfolding command_deed
+  told-kept (Command.Wallet name own) deed role fit is = wallet-kept role own deed fit is
+  told-kept (Command.Watcher name own) deed role fit is =
+      subst IsKept (some_same _ deed is) (watcher-kept role own fit)
+  told-kept (Command.Operator own) deed role fit is =
+      subst IsKept (some_same _ deed is) (operator-kept role own fit)
+  told-kept (Command.Watch name) deed role fit is =
+      subst IsKept (some_same _ deed is) (silent-kept (on_watch n (due_at_node dig log node node.role)) refl refl)
+  told-kept (Command.Open name) deed role fit is =
+      subst IsKept (some_same _ deed is) (opened-kept node.is_up)
+
   pub command-kept : (command : Command) (deed : Deed) → plays command node.role ≡ true → IsFit command
       → deed_of dig world n node command ≡ Some deed → IsKept deed
-  unfolding deed_of
-  command-kept (Command.Wallet name own) deed role fit is = wallet-kept role own deed fit is
-  command-kept (Command.Watcher name own) deed role fit is =
-      subst IsKept (some_same _ deed is) (watcher-kept role own fit)
-  command-kept (Command.Operator own) deed role fit is =
-      subst IsKept (some_same _ deed is) (operator-kept role own fit)
-  command-kept (Command.Watch name) deed role fit is =
-      subst IsKept (some_same _ deed is) (silent-kept (on_watch n (due_at_node dig log node node.role)) refl refl)
-  command-kept (Command.Open name) deed role fit is =
-      subst IsKept (some_same _ deed is) (opened-kept node.is_up)
+  command-kept command deed role fit is =
+      told-kept command deed role fit (deed-by-command dig world n node command deed is)

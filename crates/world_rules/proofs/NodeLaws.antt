@@ -13,7 +13,9 @@ use Rattle.node_rules.specs.Kept.{links_handed}
 use Rattle.node_rules.specs.Wallet.{WalletRecords, noted, who, coin_state, accept_effect, send_effect, leave_effect, reclaim_effect}
 use Rattle.node_rules.proofs.WalletAdded.{accept-leaf, send-note, leave-leaf, reclaim-leaf, migrate-note}
 use Rattle.world_rules.specs.World.{Node, World, wallet_of, bytes_of, new_owner_of}
-use Rattle.world_rules.specs.Deeds.{Deed, send_deed, wallet_command, watcher_command, operator_command, with_record, adds_record, deed_of}
+use Rattle.world_rules.specs.Deeds.{Deed, deed_of}
+use Rattle.world_rules.proofs.ByCommand.{send_deed, wallet_command, watcher_command, operator_command, command_deed, deed-by-command}
+use Rattle.node_replies.specs.Orders.{with_record}
 use Rattle.world_rules.specs.Steps.{LineEffect, with_records, after_command, after_crash}
 use Rattle.world_rules.specs.Laws.{GrowsByOne, GrowsAtMost, ChangesOneNode, DeclaresOneNode, RecordsGrow}
 use Rattle.world_rules.proofs.Shapes.{Shape, Still, Enters, AddsWallet, AddsWatcher, AddsRogue, Crashes, Commands, Cuts, shape, IsCut, Kept, Lost, is_cut}
@@ -63,16 +65,16 @@ module _ (dig : List ℕ → List ℕ) (world : World) (n : ℕ) where
       subst AddsOne (some_same _ deed is) (inl (migrate-note wallet))
 
   -- watchers and the operator have no leaves
-  pub adds_one : (node : Node) (command : Command) (deed : Deed) → deed_of dig world n node command ≡ Some deed
-      → AddsOne deed
-  unfolding Rattle.world_rules.specs.Deeds.deed_of
-  adds_one node (Command.Wallet name own) deed is = wallet-one (wallet_of node) own deed is
-  adds_one node (Command.Watcher name own) deed is = subst AddsOne (some_same _ deed is) (inr (watching own))
+  told-one : (node : Node) (command : Command) (deed : Deed)
+      → command_deed dig world n node command ≡ Some deed → AddsOne deed
+  unfolding command_deed
+  told-one node (Command.Wallet name own) deed is = wallet-one (wallet_of node) own deed is
+  told-one node (Command.Watcher name own) deed is = subst AddsOne (some_same _ deed is) (inr (watching own))
     where
       watching : (own : _) → (watcher_command dig world n node.notes own).leaf ≡ None
       watching (WatcherCommand.Guard bundle) = refl
       watching (WatcherCommand.Release coin tip) = refl
-  adds_one node (Command.Operator own) deed is = subst AddsOne (some_same _ deed is) (inr (operating own))
+  told-one node (Command.Operator own) deed is = subst AddsOne (some_same _ deed is) (inr (operating own))
     where
       operating : (own : _) → (operator_command dig world n node.notes own).leaf ≡ None
       operating (OperatorCommand.Offer transfer) = refl
@@ -81,8 +83,12 @@ module _ (dig : List ℕ → List ℕ) (world : World) (n : ℕ) where
       operating (OperatorCommand.Bundle coin tip) = refl
       operating (OperatorCommand.Prove coin block) = refl
       operating (OperatorCommand.Absences coin after last) = refl
-  adds_one node (Command.Watch name) deed is = subst AddsOne (some_same _ deed is) (inl refl)
-  adds_one node (Command.Open name) deed is = subst AddsOne (some_same _ deed is) (inl refl)
+  told-one node (Command.Watch name) deed is = subst AddsOne (some_same _ deed is) (inl refl)
+  told-one node (Command.Open name) deed is = subst AddsOne (some_same _ deed is) (inl refl)
+
+  pub adds_one : (node : Node) (command : Command) (deed : Deed) → deed_of dig world n node command ≡ Some deed
+      → AddsOne deed
+  adds_one node command deed is = told-one node command deed (deed-by-command dig world n node command deed is)
 
 -- ---- so a node's records grow by at most one
 

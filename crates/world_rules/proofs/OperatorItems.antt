@@ -24,8 +24,9 @@ use Rattle.operator_rules.specs.Records.{Note, Offered, Laid, Sealed, spells_tra
 use Rattle.operator_rules.specs.Trees.{Forest, coin_named, forest_of, tree_of, tree_at, opening_in_tree}
 use Rattle.operator_rules.specs.Commands.{forest_in, offer_at, offer_of, offer_effect, lay_effect, seal_effect, prove_by, prove_answer, with_opening, openings_of, as_bundle, bundle_between, bundle_to, bundle_of, bundle_answer, absences_answer, tip_asked}
 use Rattle.world_rules.specs.Laws.{IsDigest}
-use Rattle.world_rules.proofs.ByteTexts.{Small, small-nil, small-cons, small-append, small-drop, small-number, small-back}
-use Rattle.world_rules.proofs.ItemTexts.{IsSmallOpening, AreSmallOpenings, small-bundle, IsSmallTree, tree-with, opening-small}
+use Rattle.node_replies.proofs.ByteTexts.{Small, small-nil, small-cons, small-append, small-drop, small-number, small-back}
+use Rattle.node_replies.proofs.BundleTexts.{IsSmallOpening, AreSmallOpenings, small-bundle}
+use Rattle.world_rules.proofs.ItemTexts.{IsSmallTree, tree-with, opening-small}
 use Rattle.std.proofs.lemmas.List.{reverse-append}
 use Rattle.coin_history.specs.Bundles.{bundle_text}
 use Rattle.operator_rules.specs.declared.TheConstants.{MOST_LAID}

@@ -13,10 +13,11 @@ use Rattle.schedule_text.specs.declared.command.OperatorCommand.{OperatorCommand
 use Rattle.node_rules.specs.Wallet.{WalletRecords, accept_effect, send_effect, again_answer, leave_effect, reclaim_effect, migrate_effect}
 use Rattle.node_rules.specs.Watcher.{guard_effect, release_effect}
 use Rattle.operator_rules.specs.Commands.{offer_effect, lay_effect, seal_effect, prove_answer, bundle_answer, absences_answer}
-use Rattle.world_rules.specs.Causes.{wallet_cause, watcher_cause, offer_cause, lay_cause, seal_cause, prove_cause}
+use Rattle.node_replies.specs.Causes.{wallet_cause, watcher_cause, offer_cause, lay_cause, seal_cause, prove_cause}
 use Rattle.world_rules.specs.Events.{Accepts, Guards, Releases, Binds, TakesBack, Watches, Leaves, Seals, Other}
 use Rattle.world_rules.specs.World.{Node, World, wallet_of, bytes_of, new_owner_of}
-use Rattle.world_rules.specs.Deeds.{Gives, Deed, answered, on_accepted, on_sent, on_sent_again, on_leaving, on_reclaimed, on_migrated, send_deed, wallet_command, on_guarded, on_released, watcher_command, on_pooled, on_laid, on_sealed, on_bundled, on_proved, operator_command, due_at_node, on_watch, on_open, deed_of}
+use Rattle.world_rules.specs.Deeds.{Gives, Deed, deed_of}
+use Rattle.world_rules.proofs.ByCommand.{answered, on_accepted, on_sent, on_sent_again, on_leaving, on_reclaimed, on_migrated, send_deed, wallet_command, on_guarded, on_released, watcher_command, on_pooled, on_laid, on_sealed, on_bundled, on_proved, operator_command, due_at_node, on_open, command_deed, deed-by-command}
 
 -- an event of node n, with what the node offers then
 pub data IsOwn (n : ℕ) (gives : Gives) : Type 0 where
@@ -113,20 +114,25 @@ opening : (n : ℕ) (node : Node) (b : Bool) → IsOwn n (on_open n node b)
 opening n node true = Others refl refl
 opening n node false = Others refl refl
 
+told_of : (dig : List ℕ → List ℕ) (world : World) (n : ℕ) (node : Node) (command : Command) (deed : Deed)
+    → command_deed dig world n node command ≡ Some deed → IsOfNode n command deed.gives
+unfolding command_deed
+told_of dig world n node (Command.Wallet name own) deed is = Owns (of_wallet dig world n (wallet_of node) own deed is)
+told_of dig world n node (Command.Watcher name own) deed is =
+    subst (λ (d : Deed). IsOfNode n (Command.Watcher name own) d.gives) (some_same _ deed is)
+    (Owns (of_watcher dig world n node.notes own))
+told_of dig world n node (Command.Operator own) deed is =
+    subst (λ (d : Deed). IsOfNode n (Command.Operator own) d.gives) (some_same _ deed is)
+    (of_operator dig world n node.notes own)
+told_of dig world n node (Command.Watch name) deed is =
+    subst (λ (d : Deed). IsOfNode n (Command.Watch name) d.gives) (some_same _ deed is)
+    (Owns (Watching (due_at_node dig world.chain.log node node.role) refl refl))
+told_of dig world n node (Command.Open name) deed is =
+    subst (λ (d : Deed). IsOfNode n (Command.Open name) d.gives) (some_same _ deed is)
+    (Owns (opening n node node.is_up))
+
 -- the event of each deed is one of the node's
 pub of_node : (dig : List ℕ → List ℕ) (world : World) (n : ℕ) (node : Node) (command : Command) (deed : Deed)
     → deed_of dig world n node command ≡ Some deed → IsOfNode n command deed.gives
-unfolding Rattle.world_rules.specs.Deeds.deed_of
-of_node dig world n node (Command.Wallet name own) deed is = Owns (of_wallet dig world n (wallet_of node) own deed is)
-of_node dig world n node (Command.Watcher name own) deed is =
-    subst (λ (d : Deed). IsOfNode n (Command.Watcher name own) d.gives) (some_same _ deed is)
-    (Owns (of_watcher dig world n node.notes own))
-of_node dig world n node (Command.Operator own) deed is =
-    subst (λ (d : Deed). IsOfNode n (Command.Operator own) d.gives) (some_same _ deed is)
-    (of_operator dig world n node.notes own)
-of_node dig world n node (Command.Watch name) deed is =
-    subst (λ (d : Deed). IsOfNode n (Command.Watch name) d.gives) (some_same _ deed is)
-    (Owns (Watching (due_at_node dig world.chain.log node node.role) refl refl))
-of_node dig world n node (Command.Open name) deed is =
-    subst (λ (d : Deed). IsOfNode n (Command.Open name) d.gives) (some_same _ deed is)
-    (Owns (opening n node node.is_up))
+of_node dig world n node command deed is =
+    told_of dig world n node command deed (deed-by-command dig world n node command deed is)

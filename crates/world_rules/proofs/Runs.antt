@@ -4,7 +4,7 @@ use Rattle.std.specs.Prelude.{set, slice_get}
 use Rattle.line_forms.proofs.FormLaws.{and_then_some, option_map_some}
 use Rattle.plasma_tx.proofs.Names.{some_same}
 use Rattle.schedule_text.specs.declared.line.Line.{Line}
-use Rattle.world_rules.specs.declared.reply.Reply.{Reply}
+use Rattle.node_replies.specs.declared.reply.Reply.{Reply}
 use Rattle.world_rules.specs.Events.{Idle}
 use Rattle.world_rules.specs.World.{World}
 use Rattle.world_rules.specs.Declarations.{keeps_rules}

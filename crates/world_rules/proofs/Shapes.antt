@@ -13,7 +13,7 @@ use Rattle.schedule_text.specs.declared.command.Command.{Command}
 use Rattle.schedule_text.specs.Grammar.{node_of}
 use Rattle.node_rules.specs.declared.identity.WalletIdentity.{WalletIdentity}
 use Rattle.plasma_tx.specs.Money.{balance_of}
-use Rattle.world_rules.specs.declared.reply.Reply.{Reply}
+use Rattle.node_replies.specs.declared.reply.Reply.{Reply}
 use Rattle.world_rules.specs.Events.{Other, Idle}
 use Rattle.world_rules.specs.World.{Role, Node, Rogue, World, with_node, any_role, number_of, rogue_named, owner_named, new_owner_of, call_of}
 use Rattle.world_rules.specs.Declarations.{plays, declared_wallet}

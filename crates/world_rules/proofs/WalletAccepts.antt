@@ -21,15 +21,16 @@ use Rattle.node_rules.specs.WalletOpening.{is_wallet}
 use Rattle.node_rules.specs.WalletCommandLaws.{after, AddsAccepted}
 use Rattle.node_rules.proofs.WalletGrow.{state-accepts, noted-grow}
 use Rattle.node_rules.proofs.WalletRole.{accepts_keep_the_role, accepts_add_their_notes}
-use Rattle.world_rules.specs.Causes.{wallet_cause}
+use Rattle.node_replies.specs.Causes.{wallet_cause}
 use Rattle.world_rules.specs.Events.{Accepts, is_bundle}
-use Rattle.world_rules.specs.Deeds.{answered, on_accepted, bundle_read}
+use Rattle.world_rules.proofs.ByCommand.{answered, on_accepted}
+use Rattle.world_rules.specs.OrderEvents.{bundle_read}
 use Rattle.world_rules.specs.Safety.{was_deposited}
-use Rattle.world_rules.proofs.ByteTexts.{Small, small-cons}
-use Rattle.world_rules.proofs.ItemTexts.{small-bundle}
+use Rattle.node_replies.proofs.ByteTexts.{Small, small-cons}
+use Rattle.node_replies.proofs.BundleTexts.{small-bundle}
 use Rattle.world_rules.proofs.Said.{Said, told}
 use Rattle.world_rules.proofs.Handed.{IsHanded, is_handed, IsKnownCoin, is_known_coin}
-use Rattle.world_rules.proofs.WalletEnds.{AcceptEnds, Refused, Known, New, accept_ends}
+use Rattle.node_replies.proofs.WalletEnds.{AcceptEnds, Refused, Known, New, accept_ends}
 use Rattle.world_rules.proofs.KeptWallet.{KeptWallet, state-me, with_note, noting}
 use Rattle.node_rules.specs.WalletLaws.{AddsNote}
 use Rattle.plasma_tx.specs.Views.{coin_at}

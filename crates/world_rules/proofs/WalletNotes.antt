@@ -19,13 +19,14 @@ use Rattle.node_rules.specs.WalletCommandLaws.{with_more, after, AddsLeaving, Ad
 use Rattle.node_rules.proofs.WalletGrow.{state-leaves, state-reclaims, noted-grow}
 use Rattle.node_rules.proofs.WalletAdded.{leave-note, leave-leaf, migrate-note}
 use Rattle.node_rules.proofs.WalletRole.{leaves_keep_the_role, leaves_add_their_notes, reclaims_keep_the_role, reclaims_add_their_notes, migrations_keep_the_role, migrations_add_the_marker}
-use Rattle.world_rules.specs.Causes.{wallet_cause}
+use Rattle.node_replies.specs.Causes.{wallet_cause}
 use Rattle.world_rules.specs.Events.{TakesBack}
-use Rattle.world_rules.specs.Deeds.{answered, on_leaving, on_reclaimed, on_migrated, bundle_read}
-use Rattle.world_rules.proofs.ByteTexts.{Small, small-cons, small-append, small-number, small-short}
+use Rattle.world_rules.proofs.ByCommand.{answered, on_leaving, on_reclaimed, on_migrated}
+use Rattle.world_rules.specs.OrderEvents.{bundle_read}
+use Rattle.node_replies.proofs.ByteTexts.{Small, small-cons, small-append, small-number, small-short}
 use Rattle.world_rules.proofs.OperatorItems.{AreSmallRecords}
 use Rattle.world_rules.proofs.Said.{Said, told}
-use Rattle.world_rules.proofs.WalletEnds.{ReclaimEnds, Refused, Takes, reclaim_ends}
+use Rattle.node_replies.proofs.WalletEnds.{ReclaimEnds, Refused, Takes, reclaim_ends}
 use Rattle.world_rules.proofs.KeptWallet.{KeptWallet, with_note, noting}
 use Rattle.world_rules.proofs.WalletSends.{among-key, words}
 

@@ -28,13 +28,13 @@ use Rattle.node_rules.specs.WalletCommandLaws.{after, FitWords, sent_body, Binds
 use Rattle.node_rules.proofs.WalletGrow.{wallet-parts}
 use Rattle.node_rules.proofs.WalletTips.{tag-long, tip-fits}
 use Rattle.node_rules.proofs.WalletRole.{sends_keep_the_role, sends_add_their_leaves, held-tip}
-use Rattle.world_rules.specs.Causes.{wallet_cause}
+use Rattle.node_replies.specs.Causes.{wallet_cause}
 use Rattle.world_rules.specs.Events.{Binds}
-use Rattle.world_rules.specs.Deeds.{answered, on_sent}
-use Rattle.world_rules.proofs.ByteTexts.{Small, small-body}
+use Rattle.world_rules.proofs.ByCommand.{answered, on_sent}
+use Rattle.node_replies.proofs.ByteTexts.{Small, small-body}
 use Rattle.world_rules.proofs.OperatorItems.{AreSmallRecords}
 use Rattle.world_rules.proofs.Said.{Said, told}
-use Rattle.world_rules.proofs.WalletEnds.{SendEnds, Refused, Sends, send_ends}
+use Rattle.node_replies.proofs.WalletEnds.{SendEnds, Refused, Sends, send_ends}
 use Rattle.world_rules.proofs.KeptWallet.{KeptWallet, records-push}
 
 -- ---- what the bytes of a transfer begin with

@@ -12,7 +12,7 @@ use Rattle.plasma_tx.specs.Table.{answer_to, is_accepted}
 use Rattle.schedule_text.specs.declared.line.Line.{Line}
 use Rattle.schedule_text.specs.declared.command.Command.{Command}
 use Rattle.schedule_text.specs.Grammar.{node_of, IsLine}
-use Rattle.world_rules.specs.declared.reply.Reply.{Reply}
+use Rattle.node_replies.specs.declared.reply.Reply.{Reply}
 use Rattle.plasma_tx.specs.Spelling.{AreBytes}
 use Rattle.wallet_core.specs.State.{holds as wallet_holds}
 use Rattle.node_rules.specs.WalletRecords.{leaves_in}

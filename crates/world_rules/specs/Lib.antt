@@ -1,7 +1,8 @@
 pub mod Events
 pub mod World
 pub mod Declarations
-pub mod Causes
+pub mod Orders
+pub mod OrderEvents
 pub mod Deeds
 pub mod Steps
 pub mod Exhibits
@@ -9,4 +10,3 @@ pub mod Safety
 pub mod Verdicts
 pub mod Texts
 pub mod Laws
-pub mod Given

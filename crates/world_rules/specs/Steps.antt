@@ -21,12 +21,13 @@ use Rattle.node_rules.specs.Watcher.{identity_text as watcher_text}
 use Rattle.node_rules.specs.WalletRecords.{identity_text as wallet_text, owner_of, secret_of}
 use Rattle.operator_rules.specs.Records.{identity_text as operator_text}
 use Rattle.world_rules.specs.declared.TheConstants.{MOST_MAIL}
-use Rattle.world_rules.specs.declared.reply.Reply.{Reply}
-use Rattle.world_rules.specs.Causes.{contract_cause}
+use Rattle.node_replies.specs.declared.reply.Reply.{Reply}
+use Rattle.node_replies.specs.Causes.{contract_cause}
 use Rattle.world_rules.specs.Events.{Event, Declares, Joins, Bounces, Watches, Leaves, Seals, Other, Idle}
 use Rattle.world_rules.specs.World.{Role, Wallet, Watcher, Operator, Node, Rogue, World, with_node, padded, any_role, number_of, rogue_named, owner_named, new_owner_of, call_of}
 use Rattle.world_rules.specs.Declarations.{plays, declared_wallet, keeps_rules}
-use Rattle.world_rules.specs.Deeds.{Deed, deed_of, with_record, adds_record}
+use Rattle.world_rules.specs.Deeds.{Deed, deed_of, adds_record}
+use Rattle.node_replies.specs.Orders.{with_record}
 
 -- ---- what a line does
 

@@ -19,14 +19,9 @@ use Rattle.plasma_tx.specs.Spelling.{owner_in}
 use Rattle.schedule_text.specs.declared.call_form.CallForm.{CallForm}
 use Rattle.node_rules.specs.WalletRecords.{who_is, owner_of}
 use Rattle.node_rules.specs.Wallet.{WalletRecords}
+pub use Rattle.node_replies.specs.Roles.{Role, Wallet, Watcher, Operator}
 
 -- ---- nodes
-
--- what a node is
-pub data Role : Type 0 where
-  Wallet : Role
-  Watcher : Role
-  Operator : Role
 
 -- A node: its name and account, what it is, whether it is up, the records that its disks keep, and the calls that it
 -- offers. The first of its notes is its identity. Wallets alone have leaves.

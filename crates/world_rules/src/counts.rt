@@ -2,7 +2,7 @@ ghost use Rattle.std.specs.Prelude.{◌≡◌, ◌++◌, OnOk, OnErr};
 ghost use Rattle.world_rules.specs.Texts.{count_text, line_counts_text, verdict_counts_text, counts_text};
 
 use super::verdict::Counts;
-use super::words::push_phrase;
+use node_replies::push_phrase;
 use plasma_base::NoMemory;
 
 fn push_count(out: &mut Vec<u8>, name: &[u8], number: u64) -> Result<(), NoMemory>

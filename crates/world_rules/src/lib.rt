@@ -1,34 +1,24 @@
 //! The world of a schedule, as definitions: what each line does to the contract and to the nodes, the trace that
-//! it leaves, its verdicts, and the words of what is promised of it. And in code what nodes' commands give out,
-//! and the text of a trace: its lines, verdicts and exhibit, and the causes of refusals.
+//! it leaves, its verdicts, and the words of what is promised of it. And in code the text of a trace: its lines,
+//! verdicts and exhibit.
 #![tactic(auto)]
 
-mod causes;
 mod counts;
-mod given;
 mod kept_laws;
 mod laws;
-mod offering;
 mod printing;
-mod replies;
-mod reply;
+mod trace;
 mod verdict;
 mod verdict_laws;
-mod words;
 
-pub use causes::{
-    contract_cause, history_cause, lay_cause, offer_cause, prove_cause, wallet_cause, watcher_cause,
-};
 pub use counts::print_counts;
-pub use given::{Given, makes, offers, refused, says};
 pub use kept_laws::events_are_what_disks_keep;
 pub use laws::{
     cuts_keep_as_appends_do, down_nodes_stay, items_are_made, lines_that_keep_the_rules_step,
     offers_are_of_events, records_grow, steps_keep_the_log, the_limits_are_these_numbers,
 };
-pub use offering::offer_kinds;
-pub use printing::{print_exhibit, print_line, print_reply, print_verdict};
-pub use reply::{OfferKind, OfferKinds, Reply, TraceLine};
+pub use printing::{print_exhibit, print_line, print_verdict};
+pub use trace::TraceLine;
 pub use verdict::{Counts, Exhibit, Verdict, VerdictKind};
 pub use verdict_laws::verdicts_are_given_once;
 

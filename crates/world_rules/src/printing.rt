@@ -1,12 +1,11 @@
 ghost use Rattle.std.specs.Prelude.{◌≡◌, ◌++◌, ◌∷◌, codes, length, take, OnOk, OnErr};
 ghost use Rattle.plasma_base.specs.HexText.{hex_text};
-ghost use Rattle.world_rules.specs.Texts.{reply_text, trace_line_text, verdict_kind_text, verdict_text, exhibit_words, exhibit_text};
+ghost use Rattle.world_rules.specs.Texts.{trace_line_text, verdict_kind_text, verdict_text, exhibit_words, exhibit_text};
 
-use super::replies::push_reply;
-use super::reply::{Reply, TraceLine};
+use super::trace::TraceLine;
 use super::verdict::{Exhibit, Verdict, VerdictKind};
-use super::words::{push_phrase, push_words, whole};
 use line_forms::push_number;
+use node_replies::{push_phrase, push_reply, push_words, whole};
 use plasma_base::{NoMemory, push_hex};
 
 #[tactic(auto, using(line_forms::proofs::PrintLaws::fronts), unfolding(crate::specs::Texts::trace_line_text))]
@@ -96,17 +95,6 @@ pub fn print_line(line: &TraceLine, out: &mut Vec<u8>) -> Result<(), NoMemory>
 {
     let before = out.len();
     let put = push_line(out, line);
-    whole(out, before, put)
-}
-
-/// Puts an answer at the end, as a trace line has it behind its number, without a line feed. Where memory runs out
-/// nothing changes.
-pub fn print_reply(reply: &Reply, out: &mut Vec<u8>) -> Result<(), NoMemory>
-    ensures ok { OnOk result (out.new.items ≡ out.old.items ++ reply_text reply.now) }
-    ensures err { OnErr result (out.new.items ≡ out.old.items) }
-{
-    let before = out.len();
-    let put = push_reply(out, reply);
     whole(out, before, put)
 }
 

@@ -10,7 +10,7 @@ use Rattle.coin_verdicts.specs.declared.fact.Fact.{Fact}
 use Rattle.run_trace.specs.Asked.{IsTold}
 use Rattle.world_rules.specs.World.{World}
 use Rattle.world_rules.specs.Events.{Joins, Bounces}
-use Rattle.world_rules.specs.declared.reply.Reply.{Reply}
+use Rattle.node_replies.specs.declared.reply.Reply.{Reply}
 use Rattle.world_rules.specs.Steps.{called, reply_to}
 use Rattle.run_trace.specs.Events.{IsEvent, event_of_call}
 use Rattle.world_scene.specs.Scenes.{SceneState, Shown, world_of, shown_of}

@@ -17,22 +17,19 @@ use Rattle.plasma_tx.specs.declared.owner.Owner.{Owner}
 use Rattle.plasma_tx.specs.declared.call.RootCall.{RootCall}
 use Rattle.schedule_text.specs.declared.command.WalletCommand.{WalletCommand}
 use Rattle.world_rules.specs.Declarations.{plays, is_sendable, has_declared_names, may_command}
-use Rattle.world_rules.specs.declared.reply.Reply.{Reply}
-use Rattle.world_rules.specs.Deeds.{deed_of}
-use Rattle.world_rules.specs.Steps.{LineEffect, effect_in, act_at, act_on, command_effect, commanded, down, is_opening, answers_down as is_down, after_command, crashed, entered, offer_numbered}
-use Rattle.world_rules.specs.declared.given.Given.{Given}
-use Rattle.wallet_deeds.specs.declared.order.WalletOrder.{WalletOrder}
-use Rattle.wallet_deeds.specs.Orders.{wallet_order, order_deed as wallet_deed}
-use Rattle.wallet_deeds.proofs.OrderLaws.{commands_are_orders as wallet_commands, watches_are_orders as wallet_watches}
-use Rattle.watcher_deeds.specs.Orders.{watcher_order}
-use Rattle.watcher_deeds.proofs.OrderLaws.{commands_are_orders as watcher_commands, watches_are_orders as watcher_watches}
-use Rattle.operator_deeds.specs.Orders.{operator_order}
-use Rattle.operator_deeds.proofs.OrderLaws.{commands_are_orders as operator_commands}
-use Rattle.world_nodes.specs.declared.order.NodeOrder.{NodeOrder}
-use Rattle.world_nodes.specs.Orders.{fits, is_opening_order, order_deed}
-use Rattle.world_nodes.specs.Nodes.{NodeView, answers_down, Runs, IsDown, IsDone}
+use Rattle.node_replies.specs.declared.reply.Reply.{Reply}
+use Rattle.world_rules.specs.Deeds.{as_deed, deed_of}
+use Rattle.world_rules.specs.Steps.{LineEffect, effect_in, act_at, act_on, command_effect, commanded, down, is_opening, answers_down as is_down, crashed, entered, offer_numbered}
+use Rattle.node_replies.specs.declared.given.Given.{Given}
+use Rattle.node_replies.specs.declared.order.WalletOrder.{WalletOrder}
+use Rattle.world_rules.specs.Orders.{wallet_order, watcher_order, operator_order, node_does}
+use Rattle.node_replies.specs.Orders.{Doing}
+use Rattle.node_replies.specs.declared.order.NodeOrder.{NodeOrder}
+use Rattle.world_nodes.specs.Orders.{fits, is_opening_order}
+use Rattle.world_nodes.specs.Nodes.{NodeView, answers_down, after_order, Runs, IsDown, IsDone}
 use Rattle.world_scene.specs.Scenes.{SceneState, Shown, world_of, node_in, shown_of, shows}
-use Rattle.world_scene.specs.Orders.{node_order, watch_order, OrderAt}
+use Rattle.world_scene.specs.Orders.{OrderAt}
+use Rattle.world_rules.specs.Orders.{order_of, watch_order}
 use Rattle.world_scene.specs.Steps.{shown_by, with_nodes, AllHash, RunsAt, CrashesAt, FitsAt, OfferAt}
 use Rattle.plasma_tx.specs.Shown.{tests_by, rules_of}
 use Rattle.run_trace.specs.declared.event.LineEvent.{LineEvent}
@@ -55,36 +52,6 @@ tells_some dig world line event effect does told found at =
     subst (TellsEffect dig world event) (some_same effect found (sym does ∙ at)) told
 
 -- ---- a command and its order
-
--- what a wallet's order does, as that of a node
-wallet_again : (dig : List ℕ → List ℕ) (world : World) (n : ℕ) (node : Node) (order : Option WalletOrder)
-    → option_map (wallet_deed dig world.chain.log n (wallet_of node)) order
-    ≡ option_map (order_deed dig world.chain.log n node) (option_map NodeOrder.Wallet order)
-wallet_again dig world n node None = refl
-wallet_again dig world n node (Some order) = refl
-
-watch_deed : (dig : List ℕ → List ℕ) (world : World) (n : ℕ) (node : Node) (name : List ℕ) (role : Role)
-    → node.role ≡ role → plays (Command.Watch name) role ≡ true
-    → deed_of dig world n node (Command.Watch name)
-    ≡ option_map (order_deed dig world.chain.log n node) (watch_order role)
-watch_deed dig world n node name Wallet is may = wallet_watches dig world n node name is
-watch_deed dig world n node name Watcher is may = watcher_watches dig world n node name is
-watch_deed dig world n node name Operator is may = absurd (grind (arith, may))
-
-pub command_deed : (dig : List ℕ → List ℕ) (world : World) (n : ℕ) (node : Node) (command : Command)
-    → plays command node.role ≡ true
-    → deed_of dig world n node command
-    ≡ option_map (order_deed dig world.chain.log n node) (node_order world node.role command)
-unfolding deed_of node_order
-command_deed dig world n node (Command.Wallet name command) may =
-    wallet_commands dig world n (wallet_of node) command
-    ∙ wallet_again dig world n node (wallet_order world command)
-command_deed dig world n node (Command.Watcher name command) may =
-    ap Some (watcher_commands dig world n node.notes command)
-command_deed dig world n node (Command.Operator command) may =
-    ap Some (operator_commands dig world n node.notes command)
-command_deed dig world n node (Command.Watch name) may = watch_deed dig world n node name node.role refl may
-command_deed dig world n node (Command.Open name) may = refl
 
 -- the order is one of the node's
 wallet_fits : (role : Role) (found : Option WalletOrder) (order : NodeOrder) → is_wallet_role role ≡ true
@@ -117,8 +84,8 @@ open_fits Watcher order is = subst (λ o. fits_by Watcher o ≡ true) is refl
 open_fits Operator order is = subst (λ o. fits_by Operator o ≡ true) is refl
 
 pub order_fits : (world : World) (role : Role) (command : Command) (order : NodeOrder)
-    → plays command role ≡ true → node_order world role command ≡ Some order → fits role order ≡ true
-unfolding node_order
+    → plays command role ≡ true → order_of world role command ≡ Some order → fits role order ≡ true
+unfolding order_of
 order_fits world role (Command.Wallet name command) order may is =
     wallet_fits role (wallet_order world command) order may is
 order_fits world role (Command.Watcher name command) order may is =
@@ -140,8 +107,8 @@ watch_opens Watcher order is = subst (λ o. opens_by o ≡ false) is refl
 watch_opens Operator order is = absurd (grind (arith, is))
 
 pub order_opens : (world : World) (role : Role) (command : Command) (order : NodeOrder)
-    → node_order world role command ≡ Some order → is_opening command ≡ is_opening_order order
-unfolding node_order
+    → order_of world role command ≡ Some order → is_opening command ≡ is_opening_order order
+unfolding order_of
 order_opens world role (Command.Wallet name command) order is =
     sym (wallet_opens (wallet_order world command) order is)
 order_opens world role (Command.Watcher name command) order is =
@@ -209,9 +176,6 @@ module _ {H : Type 0} (digest : H → List ℕ → List ℕ) (scene : SceneState
   abbrev dig : List ℕ → List ℕ
   dig = digest scene.hash
 
-  may : plays command ran.before.node.role ≡ true
-  may = found_plays scene (plays command) (node_of command) n ran.before found ran.stood
-
   does_at : effect_in dig (world_of scene) (Line.Command command)
       ≡ command_effect dig (world_of scene) command n ran.before.node
   unfolding effect_in
@@ -219,11 +183,14 @@ module _ {H : Type 0} (digest : H → List ℕ → List ℕ) (scene : SceneState
       acts_at scene (plays command) (node_of command) (command_effect dig (world_of scene) command) n ran.before
       found ran.stood
 
-  deed_at : deed_of dig (world_of scene) n ran.before.node command
-      ≡ Some (order_deed dig scene.chain.log n ran.before.node order)
+  abbrev doing : Doing
+  doing = node_does dig scene.chain.log ran.before.node order
+
+  deed_at : deed_of dig (world_of scene) n ran.before.node command ≡ Some (as_deed n order doing)
+  unfolding deed_of
   deed_at =
-      command_deed dig (world_of scene) n ran.before.node command may
-      ∙ ap (option_map (order_deed dig scene.chain.log n ran.before.node)) (ordered ran.before ran.stood)
+      ap (option_map (λ o. as_deed n o (node_does dig scene.chain.log ran.before.node o)))
+      (ordered ran.before ran.stood)
 
   opens_at : is_down ran.before.node command ≡ answers_down order ran.before.node
   opens_at =
@@ -258,15 +225,14 @@ module _ {H : Type 0} (digest : H → List ℕ → List ℕ) (scene : SceneState
       ∙ ap (λ world. Some (shown_by false given world)) after_all
 
   when_up : is_down ran.before.node command ≡ false
-      → IsDone order (order_deed dig scene.chain.log n ran.before.node order) ran.before given ran.after
+      → IsDone order doing ran.before given ran.after
       → shows dig (world_of scene) (Line.Command command)
       ≡ Some (shown_by false given (world_of (with_nodes scene nodes)))
   when_up is it =
-      let deed = order_deed dig scene.chain.log n ran.before.node order in
-      let world = with_node (world_of scene) n (after_command ran.before.node deed) in
+      let world = with_node (world_of scene) n (after_order ran.before.node doing) in
       chosen false is
       ∙ ap (λ d. option_map shown_of (option_map (commanded (world_of scene) n ran.before.node) d)) deed_at
-      ∙ ap (λ r. Some (shown_as r deed.gives.made world)) (sym it.gives.reply)
+      ∙ ap (λ r. Some (shown_as r doing.response.made world)) (sym it.gives.reply)
       ∙ ap (λ m. Some (shown_as given.reply m world)) (sym it.gives.made)
       ∙ ap (λ node. Some (shown_by false given (with_node (world_of scene) n node))) (sym it.node)
       ∙ ap (λ w. Some (shown_by false given w)) (sym (world_with_view scene n ran.after) ∙ after_all)
@@ -275,12 +241,12 @@ module _ {H : Type 0} (digest : H → List ℕ → List ℕ) (scene : SceneState
       ≡ Some (shown_by false given (world_of (with_nodes scene nodes)))
   command_shows =
       by (answers_down order ran.before.node) refl
-      (subst (λ d. Runs d scene.chain.log n order ran.before given ran.after)
+      (subst (λ d. Runs d scene.chain.log order ran.before given ran.after)
       (ap digest (all_at scene.nodes n ran.before scene.hash hashes ran.stood)) ran.runs)
     where
       by : (b : Bool) → answers_down order ran.before.node ≡ b
           → MatchBool b (IsDown ran.before given ran.after)
-          (IsDone order (order_deed dig scene.chain.log n ran.before.node order) ran.before given ran.after)
+          (IsDone order doing ran.before given ran.after)
           → shows dig (world_of scene) (Line.Command command)
           ≡ Some (shown_by false given (world_of (with_nodes scene nodes)))
       by true eq it = when_down (opens_at ∙ eq) it
@@ -302,19 +268,19 @@ module _ {H : Type 0} (digest : H → List ℕ → List ℕ) (scene : SceneState
       → Tells dig (world_of scene) (Line.Command command) event
   command_tells event told downs =
       by (answers_down order ran.before.node) refl
-      (subst (λ d. Runs d scene.chain.log n order ran.before given ran.after)
+      (subst (λ d. Runs d scene.chain.log order ran.before given ran.after)
       (ap digest (all_at scene.nodes n ran.before scene.hash hashes ran.stood)) ran.runs)
     where
       by : (b : Bool) → answers_down order ran.before.node ≡ b
           → MatchBool b (IsDown ran.before given ran.after)
-          (IsDone order (order_deed dig scene.chain.log n ran.before.node order) ran.before given ran.after)
+          (IsDone order doing ran.before given ran.after)
           → Tells dig (world_of scene) (Line.Command command) event
       by true eq it =
           tells_some dig (world_of scene) (Line.Command command) event (down (world_of scene))
           (effect_is true (opens_at ∙ eq)) (downs it.gives.reply)
       by false eq it =
           tells_some dig (world_of scene) (Line.Command command) event
-          (commanded (world_of scene) n ran.before.node (order_deed dig scene.chain.log n ran.before.node order))
+          (commanded (world_of scene) n ran.before.node (as_deed n order doing))
           (effect_is false (opens_at ∙ eq)
           ∙ ap (option_map (commanded (world_of scene) n ran.before.node)) deed_at)
           (told dig scene.chain.log ran.before.node it.gives (tests_by dig) (rules_of scene.chain) scene.chain.log)
@@ -353,8 +319,8 @@ wallet_names_none world (WalletCommand.Reclaim bundle) is = absurd (grind (arith
 wallet_names_none world WalletCommand.Migrate is = absurd (grind (arith, is))
 
 pub order_names : (world : World) (role : Role) (command : Command) (order : NodeOrder)
-    → node_order world role command ≡ Some order → has_declared_names world command ≡ true
-unfolding node_order
+    → order_of world role command ≡ Some order → has_declared_names world command ≡ true
+unfolding order_of
 order_names world role (Command.Wallet name command) order is = wallet_names world command order is
 order_names world role (Command.Watcher name command) order is = refl
 order_names world role (Command.Operator command) order is = refl
@@ -367,8 +333,8 @@ watches_always Watcher may is = absurd (grind (arith, is))
 watches_always Operator may is = absurd (grind (arith, may))
 
 pub no_order_names : (world : World) (role : Role) (command : Command) → plays command role ≡ true
-    → node_order world role command ≡ None → has_declared_names world command ≡ false
-unfolding node_order
+    → order_of world role command ≡ None → has_declared_names world command ≡ false
+unfolding order_of
 no_order_names world role (Command.Wallet name command) may is = wallet_names_none world command is
 no_order_names world role (Command.Watcher name command) may is = absurd (grind (arith, is))
 no_order_names world role (Command.Operator command) may is = absurd (grind (arith, is))

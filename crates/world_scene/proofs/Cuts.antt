@@ -9,19 +9,21 @@ use Rattle.line_forms.specs.declared.tokens.OutcomeToken.{OutcomeToken}
 use Rattle.schedule_text.specs.declared.line.Line.{Line}
 use Rattle.schedule_text.specs.declared.command.Command.{Command}
 use Rattle.schedule_text.specs.Grammar.{node_of}
-use Rattle.world_rules.specs.declared.reply.Reply.{Reply}
+use Rattle.node_replies.specs.declared.reply.Reply.{Reply}
 use Rattle.world_rules.specs.World.{Role, Wallet, Watcher, Operator, Node, World, is_wallet_role, with_node, number_of}
 use Rattle.world_rules.specs.Declarations.{plays}
-use Rattle.world_rules.specs.Deeds.{Deed, deed_of, adds_record}
+use Rattle.world_rules.specs.Deeds.{Deed, as_deed, deed_of, adds_record}
 use Rattle.world_rules.specs.Events.{Event, Other}
 use Rattle.world_rules.specs.Steps.{says, without_offers, effect_in, cut_effect, cut, stopped, finished, down, is_opening, is_stopped as is_cut_short, outcome_of, with_records, after_crash, answers_down as is_down}
-use Rattle.world_rules.specs.declared.given.Given.{Given}
-use Rattle.world_rules.specs.Given.{IsGiven}
-use Rattle.world_nodes.specs.declared.order.NodeOrder.{NodeOrder}
+use Rattle.node_replies.specs.declared.given.Given.{Given}
+use Rattle.node_replies.specs.Given.{IsGiven}
+use Rattle.node_replies.specs.Orders.{Doing}
+use Rattle.node_replies.specs.declared.order.NodeOrder.{NodeOrder}
 use Rattle.world_nodes.specs.declared.order.CutEnd.{CutEnd}
 use Rattle.world_nodes.specs.declared.order.CutEnd.TheVariants.{Down, Stopped, Done}
-use Rattle.wallet_deeds.specs.declared.order.WalletOrder.{WalletOrder}
-use Rattle.world_nodes.specs.Orders.{fits, is_opening_order, order_deed}
+use Rattle.node_replies.specs.declared.order.WalletOrder.{WalletOrder}
+use Rattle.world_nodes.specs.Orders.{fits, is_opening_order}
+use Rattle.world_rules.specs.Orders.{node_does}
 use Rattle.world_nodes.specs.Nodes.{NodeView, answers_down}
 use Rattle.world_nodes.specs.Cuts.{is_stopped, Ends, IsStopped, IsFinished}
 use Rattle.plasma_tx.specs.Shown.{tests_by, rules_of}
@@ -32,7 +34,7 @@ use Rattle.world_scene.specs.Events.{Tells, TellsInRuns, HasWallets, EndTells}
 use Rattle.world_scene.specs.Scenes.{SceneState, Shown, node_in, world_of, shown_of, shows}
 use Rattle.world_scene.specs.Orders.{OrderAt}
 use Rattle.world_scene.specs.Steps.{shown_by, shown_at_end, with_nodes, AllHash, CutsAt}
-use Rattle.world_scene.proofs.Commands.{command_deed, order_opens, found_plays, order_fits_at, acts_at, world_with_view, set_back, all_at, tells_some}
+use Rattle.world_scene.proofs.Commands.{order_opens, order_fits_at, acts_at, world_with_view, set_back, all_at, tells_some}
 
 same_bytes : (xs ys : List ℕ) → bytes_eq xs ys ≡ true → xs ≡ ys
 same_bytes xs ys is = (bytes_eq-Decides xs ys).0 is
@@ -90,8 +92,11 @@ module _ {H : Type 0} (digest : H → List ℕ → List ℕ) (scene : SceneState
   abbrev node : Node
   node = was.before.node
 
+  abbrev doing : Doing
+  doing = node_does dig scene.chain.log node order
+
   abbrev deed : Deed
-  deed = order_deed dig scene.chain.log n node order
+  deed = as_deed n order doing
 
   abbrev line : Line
   line = Line.Cut (node_of command) calls token command
@@ -107,15 +112,14 @@ module _ {H : Type 0} (digest : H → List ℕ → List ℕ) (scene : SceneState
       found was.stood
 
   deed_at : deed_of dig (world_of scene) n node command ≡ Some deed
+  unfolding deed_of
   deed_at =
-      command_deed dig (world_of scene) n node command
-      (found_plays scene (plays command) (node_of command) n was.before found was.stood)
-      ∙ ap (option_map (order_deed dig scene.chain.log n node)) (ordered was.before was.stood)
+      ap (option_map (λ o. as_deed n o (node_does dig scene.chain.log node o))) (ordered was.before was.stood)
 
   down_at : is_down node command ≡ answers_down order node
   down_at = ap (λ opens. not node.is_up && not opens) opening
 
-  short_at : is_cut_short calls node command deed ≡ is_stopped calls node order deed
+  short_at : is_cut_short calls node command deed ≡ is_stopped calls node order doing
   short_at =
       ap (λ opens. if opens then not node.is_up && nat_lt calls 3 else adds_record deed && nat_lt calls 4) opening
 
@@ -147,7 +151,7 @@ module _ {H : Type 0} (digest : H → List ℕ → List ℕ) (scene : SceneState
       is ∙ ap (option_map (cut (world_of scene) n node calls token command)) deed_at)
 
   when_stopped : (kept : Option (List ℕ))
-      → IsStopped calls (outcome_of token) order deed was.before kept was.after
+      → IsStopped calls (outcome_of token) order doing was.before kept was.after
       → shows dig (world_of scene) line ≡ Some (shown_at_end (Stopped kept) after)
   when_stopped kept it =
       when_up (down_at ∙ it.is_up)
@@ -160,8 +164,8 @@ module _ {H : Type 0} (digest : H → List ℕ → List ℕ) (scene : SceneState
       ∙ ap (λ one. Some (shown_at_end (Stopped kept) (with_node (world_of scene) n one))) (sym it.node)
       ∙ ap (λ world. Some (shown_at_end (Stopped kept) world)) after_is
 
-  when_done : (given : Given) → IsGiven deed.gives given
-      → IsFinished calls (outcome_of token) order deed was.before was.after
+  when_done : (given : Given) → IsGiven doing.response given
+      → IsFinished calls (outcome_of token) order doing was.before was.after
       → shows dig (world_of scene) line ≡ Some (shown_at_end (Done given) after)
   when_done given gives it =
       when_up (down_at ∙ it.is_up)
@@ -176,10 +180,10 @@ module _ {H : Type 0} (digest : H → List ℕ → List ℕ) (scene : SceneState
 
   pub cut_shows : shows dig (world_of scene) line ≡ Some (shown_at_end end after)
   cut_shows =
-      by end (subst (λ d. Ends calls (outcome_of token) order (order_deed d scene.chain.log n node order) was.before end
+      by end (subst (λ d. Ends calls (outcome_of token) order (node_does d scene.chain.log node order) was.before end
       was.after) (ap digest (all_at scene.nodes n was.before scene.hash hashes was.stood)) was.cuts)
     where
-      by : (e : CutEnd) → Ends calls (outcome_of token) order deed was.before e was.after
+      by : (e : CutEnd) → Ends calls (outcome_of token) order doing was.before e was.after
           → shows dig (world_of scene) line ≡ Some (shown_at_end e after)
       by Down it = when_down (down_at ∙ it.0) it.1
       by (Stopped kept) it = when_stopped kept it
@@ -216,10 +220,10 @@ module _ {H : Type 0} (digest : H → List ℕ → List ℕ) (scene : SceneState
 
   pub cut_tells : (event : LineEvent) → EndTells n order end event → TellsInRuns dig (world_of scene) line event
   cut_tells event told wallets =
-      by end (subst (λ d. Ends calls (outcome_of token) order (order_deed d scene.chain.log n node order) was.before end
+      by end (subst (λ d. Ends calls (outcome_of token) order (node_does d scene.chain.log node order) was.before end
       was.after) (ap digest (all_at scene.nodes n was.before scene.hash hashes was.stood)) was.cuts) told
     where
-      by : (e : CutEnd) → Ends calls (outcome_of token) order deed was.before e was.after → EndTells n order e event
+      by : (e : CutEnd) → Ends calls (outcome_of token) order doing was.before e was.after → EndTells n order e event
           → Tells dig (world_of scene) line event
       by Down it tells =
           tells_some dig (world_of scene) line event (down (world_of scene)) (effect_down (down_at ∙ it.0)) tells

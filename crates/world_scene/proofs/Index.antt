@@ -13,14 +13,14 @@ use Rattle.crash_disk.specs.declared.outcome.Outcome.{Outcome}
 use Rattle.plasma_tx.specs.declared.call.RootCall.{RootCall}
 use Rattle.world_rules.specs.World.{Node}
 use Rattle.world_rules.specs.Declarations.{is_wallet_account, wallet_nodes}
-use Rattle.world_rules.specs.Deeds.{Deed}
-use Rattle.world_rules.specs.Steps.{with_records, after_crash}
-use Rattle.world_rules.specs.declared.given.Given.{Given}
-use Rattle.world_nodes.specs.declared.order.NodeOrder.{NodeOrder}
+use Rattle.node_replies.specs.Orders.{Doing}
+use Rattle.world_rules.specs.Steps.{after_crash}
+use Rattle.node_replies.specs.declared.given.Given.{Given}
+use Rattle.node_replies.specs.declared.order.NodeOrder.{NodeOrder}
 use Rattle.world_nodes.specs.declared.order.CutEnd.{CutEnd}
 use Rattle.world_nodes.specs.declared.order.CutEnd.TheVariants.{Down, Stopped, Done}
-use Rattle.world_nodes.specs.Orders.{order_deed}
-use Rattle.world_nodes.specs.Nodes.{NodeView, answers_down, Runs, IsDown, IsDone}
+use Rattle.world_rules.specs.Orders.{node_does}
+use Rattle.world_nodes.specs.Nodes.{NodeView, answers_down, with_records, Runs, IsDown, IsDone}
 use Rattle.world_nodes.specs.Cuts.{Cuts, is_kept}
 use Rattle.world_scene.specs.declared.names.Roles.{Roles}
 use Rattle.world_scene.specs.declared.places.Places.{Places}
@@ -135,32 +135,32 @@ one_more {H} old new accounts more views view puts fresh accounts_are it =
 
 -- ---- what a node does
 
-ran_as : {H : Type 0} (dig : List ℕ → List ℕ) (log : List RootCall) (n : ℕ) (order : NodeOrder) (before : NodeView H)
-    (given : Given) (after : NodeView H) → Runs dig log n order before given after
+ran_as : {H : Type 0} (dig : List ℕ → List ℕ) (log : List RootCall) (order : NodeOrder) (before : NodeView H)
+    (given : Given) (after : NodeView H) → Runs dig log order before given after
     → declared_as after.node ≡ declared_as before.node
-ran_as {H} dig log n order before given after = by (answers_down order before.node)
+ran_as {H} dig log order before given after = by (answers_down order before.node)
   where
     by : (down : Bool) → MatchBool down (IsDown before given after)
-        (IsDone order (order_deed dig log n before.node order) before given after)
+        (IsDone order (node_does dig log before.node order) before given after)
         → declared_as after.node ≡ declared_as before.node
     by true it = ap (λ (view : NodeView H). declared_as view.node) it.stays
     by false it = ap declared_as it.node
 
-stopped_as : (kept : Bool) (node : Node) (deed : Deed)
-    → declared_as (after_crash (if kept then with_records node deed else node)) ≡ declared_as node
-stopped_as true node deed = refl
-stopped_as false node deed = refl
+stopped_as : (kept : Bool) (node : Node) (doing : Doing)
+    → declared_as (after_crash (if kept then with_records node doing else node)) ≡ declared_as node
+stopped_as true node doing = refl
+stopped_as false node doing = refl
 
-cut_as : {H : Type 0} (dig : List ℕ → List ℕ) (log : List RootCall) (n calls : ℕ) (outcome : Outcome)
+cut_as : {H : Type 0} (dig : List ℕ → List ℕ) (log : List RootCall) (calls : ℕ) (outcome : Outcome)
     (order : NodeOrder) (before : NodeView H) (end : CutEnd) (after : NodeView H)
-    → Cuts dig log n calls outcome order before end after
+    → Cuts dig log calls outcome order before end after
     → declared_as after.node ≡ declared_as before.node
-cut_as {H} dig log n calls outcome order before Down after it =
+cut_as {H} dig log calls outcome order before Down after it =
     ap (λ (view : NodeView H). declared_as view.node) it.1
-cut_as dig log n calls outcome order before (Stopped kept) after it =
+cut_as dig log calls outcome order before (Stopped kept) after it =
     ap declared_as it.node
-    ∙ stopped_as (is_kept calls outcome order) before.node (order_deed dig log n before.node order)
-cut_as dig log n calls outcome order before (Done given) after it = ap declared_as it.1.node
+    ∙ stopped_as (is_kept calls outcome order) before.node (node_does dig log before.node order)
+cut_as dig log calls outcome order before (Done given) after it = ap declared_as it.1.node
 
 module _ {H : Type 0} (places : Places) (accounts : List ℕ) (old new : List (NodeView H))
     (it : IsIndexed places accounts (all_declared old)) where
@@ -178,7 +178,7 @@ module _ {H : Type 0} (places : Places) (accounts : List ℕ) (old new : List (N
       → RunsAt digest log n order old given new → IsIndexed places accounts (all_declared new)
   ran_index digest log n order given ran =
       set_at n ran.before ran.after ran.stood ran.is
-      (ran_as (digest ran.before.hash) log n order ran.before given ran.after ran.runs)
+      (ran_as (digest ran.before.hash) log order ran.before given ran.after ran.runs)
 
   pub crashed_index : (n : ℕ) (outcome : Outcome) → CrashesAt n outcome old new
       → IsIndexed places accounts (all_declared new)
@@ -190,7 +190,7 @@ module _ {H : Type 0} (places : Places) (accounts : List ℕ) (old new : List (N
       → IsIndexed places accounts (all_declared new)
   cut_index digest log n calls outcome order end cut =
       set_at n cut.before cut.after cut.stood cut.is
-      (cut_as (digest cut.before.hash) log n calls outcome order cut.before end cut.after cut.cuts)
+      (cut_as (digest cut.before.hash) log calls outcome order cut.before end cut.after cut.cuts)
 
 -- ---- wallets
 

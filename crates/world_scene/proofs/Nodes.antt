@@ -5,8 +5,8 @@ use Rattle.std.proofs.lemmas.List.Elements.{All-set}
 use Rattle.std.proofs.lemmas.Option.{slice_get-get_or}
 use Rattle.crash_disk.specs.declared.outcome.Outcome.{Outcome}
 use Rattle.plasma_tx.specs.declared.call.RootCall.{RootCall}
-use Rattle.world_rules.specs.declared.given.Given.{Given}
-use Rattle.world_nodes.specs.declared.order.NodeOrder.{NodeOrder}
+use Rattle.node_replies.specs.declared.given.Given.{Given}
+use Rattle.node_replies.specs.declared.order.NodeOrder.{NodeOrder}
 use Rattle.world_nodes.specs.declared.order.CutEnd.{CutEnd}
 use Rattle.world_nodes.specs.Cuts.{Cuts}
 use Rattle.world_nodes.specs.Nodes.{NodeView, Spells, Runs, Crashes}
@@ -30,7 +30,7 @@ module _ {H : Type 0} (nodes : List (NodeView H)) (n : ℕ) (view : NodeView H) 
 pub runs_at : {H : Type 0} (digest : H → List ℕ → List ℕ) (log : List RootCall) (nodes : List (NodeView H)) (n : ℕ)
     (before after : NodeView H) (order : NodeOrder) (given : Given)
     → n < length nodes → before ≡ slice_index_or nodes n before
-    → Runs (digest before.hash) log n order before given after
+    → Runs (digest before.hash) log order before given after
     → RunsAt digest log n order nodes given (slice_set nodes n after)
 runs_at digest log nodes n before after order given inside is runs = record {
   before = before;
@@ -56,7 +56,7 @@ crashes_at nodes n before after outcome inside is crashes = record {
 pub cuts_at : {H : Type 0} (digest : H → List ℕ → List ℕ) (log : List RootCall) (nodes : List (NodeView H))
     (n calls : ℕ) (outcome : Outcome) (before after : NodeView H) (order : NodeOrder) (end : CutEnd)
     → n < length nodes → before ≡ slice_index_or nodes n before
-    → Cuts (digest before.hash) log n calls outcome order before end after
+    → Cuts (digest before.hash) log calls outcome order before end after
     → CutsAt digest log n calls outcome order nodes end (slice_set nodes n after)
 cuts_at digest log nodes n calls outcome before after order end inside is cuts = record {
   before = before;

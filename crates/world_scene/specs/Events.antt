@@ -9,7 +9,7 @@ use Rattle.world_rules.specs.Steps.{LineEffect, effect_in}
 use Rattle.run_trace.specs.declared.event.LineEvent.{LineEvent}
 use Rattle.run_trace.specs.Events.{IsEvent}
 use Rattle.run_trace.specs.Orders.{TellsFinished, TellsStopped}
-use Rattle.world_nodes.specs.declared.order.NodeOrder.{NodeOrder}
+use Rattle.node_replies.specs.declared.order.NodeOrder.{NodeOrder}
 use Rattle.world_nodes.specs.declared.order.CutEnd.{CutEnd}
 
 -- the event in memory is that of an order of node n that was cut and ended so

@@ -5,8 +5,8 @@ use Rattle.schedule_text.specs.declared.line.Line.{Line}
 use Rattle.schedule_text.specs.declared.command.Command.{Command}
 use Rattle.world_rules.specs.World.{any_role, number_of}
 use Rattle.world_rules.specs.Steps.{outcome_of}
-use Rattle.world_rules.specs.declared.given.Given.{Given}
-use Rattle.world_nodes.specs.declared.order.NodeOrder.{NodeOrder}
+use Rattle.node_replies.specs.declared.given.Given.{Given}
+use Rattle.node_replies.specs.declared.order.NodeOrder.{NodeOrder}
 use Rattle.world_nodes.specs.declared.order.CutEnd.{CutEnd}
 use Rattle.world_scene.specs.Scenes.{SceneState, world_of}
 use Rattle.world_scene.specs.Orders.{IsChosen}

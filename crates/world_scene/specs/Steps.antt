@@ -3,14 +3,14 @@ use Rattle.std.specs.Prelude.{◌≡◌, ℕ, ◌&&◌, ◌||◌, not, nat_lt, B
 use Rattle.std.specs.List.{All}
 use Rattle.crash_disk.specs.declared.outcome.Outcome.{Outcome}
 use Rattle.plasma_tx.specs.declared.call.RootCall.{RootCall}
-use Rattle.world_rules.specs.declared.reply.Reply.{Reply}
+use Rattle.node_replies.specs.declared.reply.Reply.{Reply}
 use Rattle.node_rules.specs.declared.identity.WalletIdentity.{WalletIdentity}
 use Rattle.world_rules.specs.declared.TheConstants.{MOST_WALLETS}
 use Rattle.world_rules.specs.World.{Rogue, World}
 use Rattle.world_rules.specs.Steps.{offer_numbered}
 use Rattle.world_rules.specs.Declarations.{is_new_name, wallet_nodes, is_declared_account, is_caller, is_wallet_seed}
-use Rattle.world_rules.specs.declared.given.Given.{Given}
-use Rattle.world_nodes.specs.declared.order.NodeOrder.{NodeOrder}
+use Rattle.node_replies.specs.declared.given.Given.{Given}
+use Rattle.node_replies.specs.declared.order.NodeOrder.{NodeOrder}
 use Rattle.world_nodes.specs.declared.order.CutEnd.{CutEnd}
 use Rattle.world_nodes.specs.Cuts.{Cuts}
 use Rattle.world_nodes.specs.Orders.{fits}
@@ -59,7 +59,7 @@ pub record RunsAt {H : Type 0} (digest : H → List ℕ → List ℕ) (log : Lis
   pub after : NodeView H
   pub stood : slice_get old n ≡ Some before
   pub is : new ≡ set old n after
-  pub runs : Runs (digest before.hash) log n order before given after
+  pub runs : Runs (digest before.hash) log order before given after
 
 -- the order is one of node n's
 abbrev pub FitsAt : {H : Type 0} → List (NodeView H) → ℕ → NodeOrder → Type 0
@@ -94,7 +94,7 @@ pub record CutsAt {H : Type 0} (digest : H → List ℕ → List ℕ) (log : Lis
   pub after : NodeView H
   pub stood : slice_get old n ≡ Some before
   pub is : new ≡ set old n after
-  pub cuts : Cuts (digest before.hash) log n calls outcome order before end after
+  pub cuts : Cuts (digest before.hash) log calls outcome order before end after
 
 -- what a cut shows that ended so, with the world after it
 abbrev pub shown_at_end : CutEnd → World → Shown

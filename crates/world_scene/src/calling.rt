@@ -9,11 +9,11 @@ ghost use Rattle.world_scene.specs.Events.{TellsEffect};
 
 use super::answer::LineAnswer;
 use super::scene::Scene;
+use node_replies::Reply;
 use plasma_base::{Bytes, Hash32, NoMemory};
 use plasma_tx::{Owner, RootCall};
 use run_trace::{LineEvent, event_of_call, fact_asked, fact_told};
 use std::alloc::Global;
-use world_rules::Reply;
 use world_tokens::reply_to;
 
 // A line is answered so, makes nothing, and is this event. It takes no memory.

@@ -15,12 +15,12 @@ use super::node_list::{Nodes, let_go};
 use super::orders::Chosen;
 use super::refusal::StepRefusal;
 use super::scene::Scene;
+use node_replies::{Given, NodeOrder};
 use plasma_base::{Hash32, NoMemory};
 use plasma_tx::RootLog;
 use run_trace::{LineEvent, event_of_given};
 use schedule_text::Command;
-use world_nodes::{Entry, NodeOrder};
-use world_rules::Given;
+use world_nodes::Entry;
 
 // Runs an order of the node with this number.
 fn run_at<H: Hash32 + Copy>(

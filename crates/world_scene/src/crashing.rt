@@ -19,10 +19,10 @@ use super::refusal::StepRefusal;
 use super::scene::Scene;
 use crash_disk::Outcome;
 use line_forms::OutcomeToken;
+use node_replies::Reply;
 use plasma_base::{Hash32, NoMemory};
 use run_trace::LineEvent;
 use world_nodes::Entry;
-use world_rules::Reply;
 use world_tokens::outcome_of;
 
 // The node with this number goes down, and its disks crash.

@@ -23,13 +23,13 @@ use super::refusal::StepRefusal;
 use super::scene::Scene;
 use crash_disk::Outcome;
 use line_forms::OutcomeToken;
+use node_replies::{Given, NodeOrder, Reply};
 use plasma_base::{Hash32, NoMemory};
 use plasma_tx::RootLog;
 use run_trace::{LineEvent, event_of_finished, event_of_stopped};
 use schedule_text::Command;
 use std::alloc::Global;
-use world_nodes::{CutEnd, Entry, NodeOrder};
-use world_rules::{Given, Reply};
+use world_nodes::{CutEnd, Entry};
 use world_tokens::outcome_of;
 
 // Runs an order of the node with this number, of which so many device calls pass, and then its disks crash.

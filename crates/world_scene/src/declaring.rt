@@ -17,11 +17,12 @@ use super::calling::{idles, says};
 use super::refusal::StepRefusal;
 use super::scene::Scene;
 use lms_sign::LmsTypes;
+use node_replies::Reply;
 use node_rules::WalletIdentity;
 use plasma_base::{Bytes, Hash32, NoMemory};
 use run_trace::LineEvent;
 use world_nodes::Entry;
-use world_rules::{MOST_WALLETS, Reply};
+use world_rules::MOST_WALLETS;
 use world_tokens::{Rogue, declared_wallet};
 
 impl<H: Hash32 + Copy> Scene<H> {

@@ -14,11 +14,11 @@ use super::calling::idles;
 use super::names::Roles;
 use super::refusal::StepRefusal;
 use super::scene::Scene;
+use node_replies::Reply;
 use plasma_base::{Hash32, NoMemory};
 use plasma_tx::RootCall;
 use schedule_text::CallForm;
 use world_nodes::Entry;
-use world_rules::Reply;
 
 // The call that a node offers by this number, counted from 1, lent.
 fn numbered(offers: &[RootCall], number: u64) -> Option<&RootCall>

@@ -2,24 +2,20 @@ ghost use Rattle.std.specs.Prelude.{◌≡◌, ◌<◌, true, false, length, IfO
 ghost use Rattle.line_forms.specs.Tokens.{IsHexOrName};
 ghost use Rattle.world_rules.specs.Declarations.{plays, may_command};
 ghost use Rattle.world_rules.specs.World.{new_owner_of};
-ghost use Rattle.wallet_deeds.specs.Orders.{wallet_order};
-ghost use Rattle.watcher_deeds.specs.Orders.{watcher_order};
-ghost use Rattle.operator_deeds.specs.Orders.{operator_order};
+ghost use Rattle.world_rules.specs.Orders.{order_of, operator_order, wallet_order, watch_order, watcher_order};
 ghost use Rattle.world_scene.specs.Names.{passes};
 ghost use Rattle.world_scene.specs.Scenes.{world_of};
-ghost use Rattle.world_scene.specs.Orders.{node_order, watch_order, HasOwner, NamesOwner, OrderAt, IsChosen};
+ghost use Rattle.world_scene.specs.Orders.{HasOwner, NamesOwner, OrderAt, IsChosen};
 ghost use Rattle.world_nodes.specs.Nodes.{role_of};
 
 use super::names::Roles;
 use super::refusal::StepRefusal;
 use super::scene::Scene;
 use line_forms::HexOrName;
-use operator_deeds::OperatorOrder;
+use node_replies::{NodeOrder, OperatorOrder, WalletOrder, WatcherOrder};
 use plasma_base::{Hash32, NoMemory};
 use schedule_text::{Command, OperatorCommand, WalletCommand, WatcherCommand};
-use wallet_deeds::WalletOrder;
-use watcher_deeds::WatcherOrder;
-use world_nodes::{NodeKind, NodeOrder};
+use world_nodes::NodeKind;
 
 // Which nodes have the command.
 pub fn roles_of(command: &Command) -> Roles
@@ -127,14 +123,14 @@ impl<H: Hash32 + Copy> Scene<H> {
     }
 
     // The order that a command of a node of this kind stands for.
-    #[tactic(auto, unfolding(crate::specs::Orders::node_order))]
+    #[tactic(auto, unfolding(world_rules::specs::Orders::order_of))]
     pub(crate) fn order_of(
         &self,
         kind: NodeKind,
         command: &Command,
     ) -> Result<Option<NodeOrder>, NoMemory>
         requires { NamesOwner command.now }
-        ensures { IfOk result (λ order. order ≡ node_order (world_of self.now) (role_of kind) command.now) }
+        ensures { IfOk result (λ order. order ≡ order_of (world_of self.now) (role_of kind) command.now) }
     {
         Ok(match command {
             Command::Wallet { command, .. } => self.wallet_order(command)?.map(NodeOrder::Wallet),

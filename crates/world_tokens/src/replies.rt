@@ -2,10 +2,10 @@ ghost use Rattle.std.specs.Prelude.{◌≡◌, ◌≢◌, IfOk};
 ghost use Rattle.plasma_tx.specs.declared.answer.Answer.{Answer};
 ghost use Rattle.world_rules.specs.Steps.{reply_to};
 
+use node_replies::{Reply, contract_cause};
 use plasma_base::NoMemory;
 use plasma_tx::Answer;
 use std::alloc::Global;
-use world_rules::{Reply, contract_cause};
 
 /// The reply that says the contract's answer to a call, with the text of the cause where it refuses. It is
 /// `NoMemory` where the contract's answer is that memory ran out, and where it runs out here.

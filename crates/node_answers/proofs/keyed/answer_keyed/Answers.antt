@@ -1,6 +1,6 @@
 use Rattle.std.proofs.Common.{subst}
 use Rattle.leaf_journal.specs.NodeWords.{notes_of}
-use Rattle.operator_deeds.specs.Orders.{order_deed}
+use Rattle.node_replies.specs.Orders.{operator_does}
 use Rattle.operator_deeds.proofs.OrderLaws.{orders_add_no_leaf}
 use Rattle.node_answers.specs.Desks.{desk_outcome, desk_records, keyed}
 use Rattle.node_answers.specs.Doing.{DidDesk}
@@ -20,8 +20,8 @@ returns-in-Order-clause-did g c =
     c.answer_order.new.node.notes (notes_of old.desk))
     c.in-Order.ensures
     (notes-did g.D.Disk.told g.D.Disk.plan g.D.Disk.faults
-    (order_deed dig log 0 old.node.notes.records c.in-Order.order).note
-    (order_deed dig log 0 old.node.notes.records c.in-Order.order).leaf old.node.notes (notes_of old.desk)
+    (operator_does dig log old.node.notes.records c.in-Order.order).note
+    (operator_does dig log old.node.notes.records c.in-Order.order).leaf old.node.notes (notes_of old.desk)
     c.answer_order.new.node.notes c.answer_order.result
-    (orders_add_no_leaf dig log 0 old.node.notes.records c.in-Order.order)
+    (orders_add_no_leaf dig log old.node.notes.records c.in-Order.order)
     c.requires.desk_open c.answer_order.ensures.did)

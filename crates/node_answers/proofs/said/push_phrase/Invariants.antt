@@ -1,5 +1,5 @@
 use Rattle.std.proofs.Common.{◌≡◌, ◌++◌, take}
-use Rattle.world_rules.specs.Causes.{numbers_text}
+use Rattle.node_replies.specs.Causes.{numbers_text}
 use Rattle.node_answers.proofs.said.push_phrase.Given as goal
 
 abbrev pub invariant-loop-number : goal.invariant-loop-number

@@ -1,14 +1,14 @@
 use Rattle.std.proofs.Common.{Err, sym}
 use Rattle.operator_rules.specs.Commands.{lay_effect}
 use Rattle.operator_core.specs.State.{lay_stop}
-use Rattle.world_rules.specs.Causes.{lay_cause}
-use Rattle.world_rules.specs.Deeds.{on_laid}
+use Rattle.node_replies.specs.Causes.{lay_cause}
+use Rattle.node_replies.specs.Orders.{on_laid}
 use Rattle.operator_deeds.proofs.Orders.{lay-refused, given-refused, did-refused}
 use Rattle.operator_deeds.proofs.adding.lay.Goals as goal
 
 pub returns-in-Err-clause-gives : goal.returns-in-Err-clause-gives
 returns-in-Err-clause-gives g c =
-    given-refused g.n lay_cause (on_laid g.n c.args.coin) (lay_effect c.args.coin c.args.leaf.now).answer c.in-Err.why
+    given-refused lay_cause (on_laid c.args.coin) (lay_effect c.args.coin c.args.leaf.now).answer c.in-Err.why
     (lay_stop (Err c.in-Err.why)) c.lay_refusal.result c.in-Err.ensures.answer c.lay_refusal.ensures.gives
     c.lay_refusal.ensures.stop
 

@@ -2,8 +2,8 @@ use Rattle.std.proofs.Common.{Err}
 use Rattle.operator_rules.specs.Commands.{offer_effect}
 use Rattle.operator_core.specs.State.{offer_stop}
 use Rattle.operator_core.proofs.Offers.{refused_note}
-use Rattle.world_rules.specs.Causes.{offer_cause}
-use Rattle.world_rules.specs.Deeds.{on_pooled}
+use Rattle.node_replies.specs.Causes.{offer_cause}
+use Rattle.node_replies.specs.Orders.{on_pooled}
 use Rattle.operator_deeds.proofs.Orders.{given-refused, did-refused}
 use Rattle.operator_deeds.proofs.adding.offer.Goals as goal
 
@@ -12,7 +12,7 @@ returns-in-Err-clause-gives g c =
     let node = c.args.node.now in
     let effect =
     offer_effect (g.H.Hash32.digest_of node.hash) node.notes.records c.args.log.now.log c.args.transfer.now in
-    given-refused g.n offer_cause (on_pooled g.n) effect.answer c.in-Err.why (offer_stop (Err c.in-Err.why))
+    given-refused offer_cause on_pooled effect.answer c.in-Err.why (offer_stop (Err c.in-Err.why))
     c.offer_refusal.result c.in-Err.ensures.answer c.offer_refusal.ensures.gives c.offer_refusal.ensures.stop
 
 pub returns-in-Err-clause-did : goal.returns-in-Err-clause-did

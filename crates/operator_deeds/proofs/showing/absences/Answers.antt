@@ -1,12 +1,12 @@
 use Rattle.operator_rules.specs.Commands.{absences_answer}
-use Rattle.world_rules.specs.Deeds.{on_bundled}
+use Rattle.node_replies.specs.Orders.{on_bundled}
 use Rattle.operator_deeds.proofs.Orders.{given-unproved}
 use Rattle.operator_deeds.proofs.showing.absences.Goals as goal
 
 pub returns-in-Err-clause-gives : goal.returns-in-Err-clause-gives
 returns-in-Err-clause-gives g c =
     let node = c.args.node.now in
-    given-unproved g.n (on_bundled g.n)
+    given-unproved on_bundled
     (absences_answer (g.H.Hash32.digest_of node.hash) node.notes.records c.args.log.now.log c.args.coin c.args.after
     c.args.last)
     c.in-Err.why c.refusal.result (λ other. c.in-Err.ensures.value (λ e. other (cc e))) c.refusal.ensures.gives

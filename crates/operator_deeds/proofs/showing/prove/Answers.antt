@@ -1,12 +1,12 @@
 use Rattle.operator_rules.specs.Commands.{prove_answer}
-use Rattle.world_rules.specs.Deeds.{on_proved}
+use Rattle.node_replies.specs.Orders.{on_proved}
 use Rattle.operator_deeds.proofs.Orders.{given-unproved}
 use Rattle.operator_deeds.proofs.showing.prove.Goals as goal
 
 pub returns-in-Err-clause-gives : goal.returns-in-Err-clause-gives
 returns-in-Err-clause-gives g c =
     let node = c.args.node.now in
-    given-unproved g.n (on_proved g.n)
+    given-unproved on_proved
     (prove_answer (g.H.Hash32.digest_of node.hash) node.notes.records c.args.log.now.log c.args.coin c.args.block)
     c.in-Err.why c.refusal.result (λ other. c.in-Err.ensures (λ e. other (cc e))) c.refusal.ensures.gives
     c.refusal.ensures.memory

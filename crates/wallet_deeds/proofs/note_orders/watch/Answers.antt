@@ -1,13 +1,12 @@
 use Rattle.std.proofs.Common.{refl, ap, ◌∙◌}
 use Rattle.std.specs.List.{filter_map}
-use Rattle.world_rules.specs.declared.reply.Reply.{Reply}
-use Rattle.world_rules.specs.Deeds.{kind_of}
-use Rattle.wallet_deeds.specs.Orders.{order_deed}
+use Rattle.node_replies.specs.declared.reply.Reply.{Reply}
+use Rattle.node_replies.specs.Orders.{kind_of, wallet_does}
 use Rattle.wallet_deeds.proofs.note_orders.watch.Goals as goal
 
 pub returns-clause-gives : goal.returns-clause-gives
-unfolding order_deed
-returns-clause-gives g c = λ n. record {
+unfolding wallet_does
+returns-clause-gives g c = record {
   reply =
       c.offers.ensures.reply
       ∙ ap Reply.Offers
@@ -17,5 +16,5 @@ returns-clause-gives g c = λ n. record {
 }
 
 pub returns-clause-did : goal.returns-clause-did
-unfolding order_deed
-returns-clause-did g c = λ n. record { did = (c.requires, refl); disk = refl; leaves = refl; hash = refl }
+unfolding wallet_does
+returns-clause-did g c = record { did = (c.requires, refl); disk = refl; leaves = refl; hash = refl }

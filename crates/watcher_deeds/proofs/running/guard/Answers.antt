@@ -1,7 +1,7 @@
 use Rattle.node_rules.specs.Watcher.{guard_effect}
 use Rattle.watcher_node.specs.State.{stop_in}
-use Rattle.world_rules.specs.Causes.{watcher_cause}
-use Rattle.world_rules.specs.Deeds.{on_guarded}
+use Rattle.node_replies.specs.Causes.{watcher_cause}
+use Rattle.node_replies.specs.Orders.{on_guarded}
 use Rattle.watcher_deeds.proofs.Orders.{guard-refused, given-refused, did-refused}
 use Rattle.watcher_deeds.proofs.running.guard.Goals as goal
 
@@ -9,7 +9,7 @@ pub returns-in-Err-clause-gives : goal.returns-in-Err-clause-gives
 returns-in-Err-clause-gives g c =
     let node = c.args.node.now in
     let effect = guard_effect (g.H.Hash32.digest_of node.hash) node.notes.records c.args.log.now.log c.args.bundle.now in
-    given-refused g.n watcher_cause (on_guarded g.n c.args.bundle.now) effect.answer c.in-Err.why (stop_in c.in-Err.why)
+    given-refused watcher_cause on_guarded effect.answer c.in-Err.why (stop_in c.in-Err.why)
     c.refusal.result c.in-Err.ensures.answer c.refusal.ensures.gives c.refusal.ensures.stop
 
 pub returns-in-Err-clause-did : goal.returns-in-Err-clause-did

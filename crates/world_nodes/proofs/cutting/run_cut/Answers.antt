@@ -1,8 +1,8 @@
 use Rattle.std.proofs.Common.{Some, None, subst}
 use Rattle.node_journal.specs.declared.stop.Stop.{Stop}
-use Rattle.world_rules.specs.Deeds.{Deed}
-use Rattle.world_rules.specs.Given.{IsGiven}
-use Rattle.world_nodes.specs.Orders.{order_deed}
+use Rattle.node_replies.specs.Orders.{Doing}
+use Rattle.node_replies.specs.Given.{IsGiven}
+use Rattle.world_rules.specs.Orders.{node_does}
 use Rattle.world_nodes.specs.Inside.{bare_node, up_halves, up_hash, UpDid}
 use Rattle.world_nodes.proofs.Ready.{closed-never}
 use Rattle.world_nodes.proofs.cutting.run_cut.Goals as goal
@@ -11,14 +11,14 @@ pub returns-in-Ok : goal.returns-in-Ok
 returns-in-Ok g c =
     let node = c.in_ok-node.node in
     let new = c.run_up-ran.new.node in
-    let deed : g.row.H.Denot → Deed = λ h. order_deed (g.H.Hash32.digest_of h) c.args.log.now.log g.n
+    let deed : g.row.H.Denot → Doing = λ h. node_does (g.H.Hash32.digest_of h) c.args.log.now.log
     (bare_node (up_halves node)) c.args.order.now in
     record {
       opened = node;
       ran = new;
       opens = c.in_ok-node.ensures.opens;
       did = subst (λ (h : g.row.H.Denot). UpDid (deed h) node None new) c.in_ok-node.ensures.hash c.in-Ok.ensures.did;
-      gives = subst (λ (h : g.row.H.Denot). IsGiven (deed h).gives c.in-Ok.given) c.in_ok-node.ensures.hash
+      gives = subst (λ (h : g.row.H.Denot). IsGiven (deed h).response c.in-Ok.given) c.in_ok-node.ensures.hash
           c.in-Ok.ensures.gives;
       down = c.take_down-down.ensures;
     }
@@ -27,7 +27,7 @@ pub returns-in-DeviceFault : goal.returns-in-DeviceFault
 returns-in-DeviceFault g c =
     let node = c.in_ok-node.node in
     let new = c.run_up-ran.new.node in
-    let deed : g.row.H.Denot → Deed = λ h. order_deed (g.H.Hash32.digest_of h) c.args.log.now.log g.n
+    let deed : g.row.H.Denot → Doing = λ h. node_does (g.H.Hash32.digest_of h) c.args.log.now.log
     (bare_node (up_halves node)) c.args.order.now in
     let did = subst (λ (s : Stop). UpDid (deed (up_hash node)) node (Some s) new)
     c.in-DeviceFault.is c.in-Err.ensures.did in
@@ -44,6 +44,6 @@ returns-in-DeviceFault g c =
 pub unreachable-requires : goal.unreachable-requires
 unreachable-requires g c =
     closed-never (g.H.Hash32.digest_of c.args.hash) c.args.down c.in_ok-node.node c.run_up-ran.new.node
-    (order_deed (g.H.Hash32.digest_of (up_hash c.in_ok-node.node)) c.args.log.now.log g.n
+    (node_does (g.H.Hash32.digest_of (up_hash c.in_ok-node.node)) c.args.log.now.log
     (bare_node (up_halves c.in_ok-node.node)) c.args.order.now) c.in-Err.stop
     c.in_ok-node.ensures.opens c.in-Closed.is c.in-Err.ensures.did

@@ -13,7 +13,7 @@ returns-clause-runs g c =
     IfOk-weaker c.run.result _ _
     (λ given runs. runs_at g.H.Hash32.digest_of c.args.log.now.log c.args.entries.now.items c.args.n
     c.index_mut-entry.result.now c.run.new.self c.args.order.now given c.requires.inside (search rules)
-    (runs c.args.n))
+    runs)
     c.run.ensures.runs
 
 pub returns-clause-spells : goal.returns-clause-spells

@@ -13,7 +13,7 @@ returns-clause-cuts g c =
     IfOk-weaker c.cut.result _ _
     (λ end cuts. cuts_at g.H.Hash32.digest_of c.args.log.now.log c.args.entries.now.items c.args.n c.args.calls
     c.args.outcome.now c.index_mut-entry.result.now c.cut.new.self c.args.order.now end c.requires.inside (search rules)
-    (cuts c.args.n))
+    cuts)
     c.cut.ensures.cuts
 
 pub returns-clause-spells : goal.returns-clause-spells

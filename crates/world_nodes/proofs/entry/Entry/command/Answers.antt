@@ -1,5 +1,5 @@
-use Rattle.std.proofs.Common.{◌∙◌, rules}
-use Rattle.world_nodes.specs.Orders.{order_deed}
+use Rattle.std.proofs.Common.{◌∙◌}
+use Rattle.world_rules.specs.Orders.{node_does}
 use Rattle.world_nodes.specs.Inside.{bare_node, up_halves, up_hash}
 use Rattle.world_nodes.proofs.Places.{command_at, up_fits}
 use Rattle.world_nodes.proofs.Roles.{lost-entry}
@@ -10,53 +10,54 @@ pub invariant_of-self : goal.invariant_of-self
 invariant_of-self g c = let e = c.self.inside in
     lost-entry g.H.Hash32.digest_of e.hash e.member e.site c.take-site.new.site c.self.invariant c.take-site.ensures.gone
 
+pub invariant_of-self-in_err-kept : goal.invariant_of-self-in_err-kept
+invariant_of-self-in_err-kept g c = let e = c.self.inside in
+    lost-entry g.H.Hash32.digest_of e.hash e.member e.site c.take-site.new.site c.self.invariant c.take-site.ensures.gone
+
 pub invariant_of-self-2 : goal.invariant_of-self-2
 invariant_of-self-2 g c = let e = c.self.inside in (
   (command_at g.H.Hash32.digest_of e.hash e.name e.account e.member e.offers.items c.put_offers.new.offers.items
       c.args.self.now e.site c.take-site.result c.put.new.site c.up_of-node.result c.in_ok-ran.ran.node
-      c.args.log.now.log g.n
-      c.args.order.now c.in_ok-ran.ran.given c.self.view_is c.self.invariant.0 c.requires.1.1.1.0 c.take-site.ensures.taken
-      c.up_of-node.ensures c.requires.1.0 c.requires.1.1.0 c.in_ok-ran.ensures.did c.in_ok-ran.ensures.gives
-      (c.put_offers.ensures ∙ c.in_ok-ran.ensures.offers) c.put.ensures).2,
+      c.args.log.now.log
+      c.args.order.now c.in_ok-ran.ran.given c.self.view_is c.self.invariant.0 c.requires.spells c.take-site.ensures.taken
+      c.up_of-node.ensures c.requires.fits c.requires.is_command c.in_ok-ran.ensures.did c.in_ok-ran.ensures.gives
+      (c.put_offers.ensures ∙ c.in_ok-ran.ensures.offers) (c.put.ensures ∙ c.in_ok-kept.ensures)).2,
   ran-ready g.H.Hash32.digest_of e.hash e.member e.site c.take-site.result c.self.invariant c.take-site.ensures.taken
       c.up_of-node.result c.in_ok-ran.ran.node c.put.new.site
-      (order_deed (g.H.Hash32.digest_of (up_hash c.up_of-node.result)) c.args.log.now.log g.n
-      (bare_node (up_halves c.up_of-node.result)) c.args.order.now) c.up_of-node.ensures c.in_ok-ran.ensures.did c.put.ensures,
+      (node_does (g.H.Hash32.digest_of (up_hash c.up_of-node.result)) c.args.log.now.log
+      (bare_node (up_halves c.up_of-node.result)) c.args.order.now) c.up_of-node.ensures c.in_ok-ran.ensures.did (c.put.ensures ∙ c.in_ok-kept.ensures),
 )
 
 pub returns-clause-done : goal.returns-clause-done
 returns-clause-done g c = let e = c.self.inside in
     (command_at g.H.Hash32.digest_of e.hash e.name e.account e.member e.offers.items c.put_offers.new.offers.items
     c.args.self.now e.site c.take-site.result c.put.new.site c.up_of-node.result c.in_ok-ran.ran.node
-    c.args.log.now.log g.n
-    c.args.order.now c.in_ok-ran.ran.given c.self.view_is c.self.invariant.0 c.requires.1.1.1.0 c.take-site.ensures.taken
-    c.up_of-node.ensures c.requires.1.0 c.requires.1.1.0 c.in_ok-ran.ensures.did c.in_ok-ran.ensures.gives
-    (c.put_offers.ensures ∙ c.in_ok-ran.ensures.offers) c.put.ensures).0
+    c.args.log.now.log
+    c.args.order.now c.in_ok-ran.ran.given c.self.view_is c.self.invariant.0 c.requires.spells c.take-site.ensures.taken
+    c.up_of-node.ensures c.requires.fits c.requires.is_command c.in_ok-ran.ensures.did c.in_ok-ran.ensures.gives
+    (c.put_offers.ensures ∙ c.in_ok-ran.ensures.offers) (c.put.ensures ∙ c.in_ok-kept.ensures)).0
 
 pub returns-clause-spells : goal.returns-clause-spells
 returns-clause-spells g c = let e = c.self.inside in
     (command_at g.H.Hash32.digest_of e.hash e.name e.account e.member e.offers.items c.put_offers.new.offers.items
     c.args.self.now e.site c.take-site.result c.put.new.site c.up_of-node.result c.in_ok-ran.ran.node
-    c.args.log.now.log g.n
-    c.args.order.now c.in_ok-ran.ran.given c.self.view_is c.self.invariant.0 c.requires.1.1.1.0 c.take-site.ensures.taken
-    c.up_of-node.ensures c.requires.1.0 c.requires.1.1.0 c.in_ok-ran.ensures.did c.in_ok-ran.ensures.gives
-    (c.put_offers.ensures ∙ c.in_ok-ran.ensures.offers) c.put.ensures).1
+    c.args.log.now.log
+    c.args.order.now c.in_ok-ran.ran.given c.self.view_is c.self.invariant.0 c.requires.spells c.take-site.ensures.taken
+    c.up_of-node.ensures c.requires.fits c.requires.is_command c.in_ok-ran.ensures.did c.in_ok-ran.ensures.gives
+    (c.put_offers.ensures ∙ c.in_ok-ran.ensures.offers) (c.put.ensures ∙ c.in_ok-kept.ensures)).1
 
-pub run_node-requires : goal.run_node-requires
-run_node-requires g c = let e = c.self.inside in λ lives within. (
-  search rules,
-  (
+pub run_node-requires-clause-fits : goal.run_node-requires-clause-fits
+run_node-requires-clause-fits g c = let e = c.self.inside in
     up_fits e.hash e.name e.account e.member e.offers.items c.args.self.now e.site c.take-site.result
-        c.up_of-node.result c.args.order.now c.self.view_is c.self.invariant.0 c.requires.1.0
-        c.take-site.ensures.taken c.up_of-node.ensures,
-    (
-      c.requires.1.1.0,
-      (
-        open-at g.H.Hash32.digest_of e.hash e.member e.site c.take-site.result c.self.invariant
-            c.take-site.ensures.taken c.up_of-node.result c.up_of-node.ensures,
-        runs-at g.H.Hash32.digest_of e.hash e.member e.site c.take-site.result c.self.invariant
-            c.take-site.ensures.taken c.up_of-node.result c.up_of-node.ensures,
-      ),
-    ),
-  ),
-)
+    c.up_of-node.result c.args.order.now c.self.view_is c.self.invariant.0 c.requires.fits
+    c.take-site.ensures.taken c.up_of-node.ensures
+
+pub run_node-requires-clause-is_open : goal.run_node-requires-clause-is_open
+run_node-requires-clause-is_open g c = let e = c.self.inside in
+    open-at g.H.Hash32.digest_of e.hash e.member e.site c.take-site.result c.self.invariant
+    c.take-site.ensures.taken c.up_of-node.result c.up_of-node.ensures
+
+pub run_node-requires-clause-runs_on : goal.run_node-requires-clause-runs_on
+run_node-requires-clause-runs_on g c = let e = c.self.inside in
+    runs-at g.H.Hash32.digest_of e.hash e.member e.site c.take-site.result c.self.invariant
+    c.take-site.ensures.taken c.up_of-node.result c.up_of-node.ensures

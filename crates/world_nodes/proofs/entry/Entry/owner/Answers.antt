@@ -1,4 +1,4 @@
-use Rattle.std.proofs.Common.{◌≡◌, Some, None, cond, subst}
+use Rattle.std.proofs.Common.{◌≡◌, Some, None, cond, sym, ◌∙◌, subst}
 use Rattle.world_rules.specs.World.{is_wallet_role, owner_of_node}
 use Rattle.world_nodes.specs.Nodes.{NodeView}
 use Rattle.world_nodes.proofs.Members.{wallet_owner}
@@ -11,4 +11,4 @@ returns-in-Wallet g c =
     v.node)) None)
     c.self.view_is
     (wallet_owner e.hash e.name e.account e.member e.site e.offers.items c.in-Wallet.who c.in-Wallet.owner
-    c.in-Wallet.is c.self.invariant.0)
+    (sym c.get.ensures ∙ c.in-Wallet.is) c.self.invariant.0)

@@ -1,4 +1,4 @@
-use Rattle.std.proofs.Common.{◌≡◌, Some, None, cond, subst}
+use Rattle.std.proofs.Common.{◌≡◌, Some, None, cond, sym, ◌∙◌, subst}
 use Rattle.node_rules.specs.WalletRecords.{who_is}
 use Rattle.world_rules.specs.World.{is_wallet_role}
 use Rattle.world_nodes.specs.Nodes.{NodeView}
@@ -12,4 +12,4 @@ returns-in-Wallet g c =
     v.node.notes).seed) None)
     c.self.view_is
     (wallet_seed e.hash e.name e.account e.member e.site e.offers.items c.in-Wallet.who c.in-Wallet.owner
-    c.in-Wallet.is c.self.invariant.0)
+    (sym c.get.ensures ∙ c.in-Wallet.is) c.self.invariant.0)

@@ -1,0 +1,3 @@
+pub mod ByteTexts
+pub mod BundleTexts
+pub mod WalletEnds

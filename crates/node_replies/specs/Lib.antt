@@ -1,0 +1,5 @@
+pub mod Roles
+pub mod Causes
+pub mod Texts
+pub mod Orders
+pub mod Given

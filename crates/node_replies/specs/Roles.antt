@@ -1,0 +1,6 @@
+-- What a node is.
+
+pub data Role : Type 0 where
+  Wallet : Role
+  Watcher : Role
+  Operator : Role
