@@ -10,7 +10,7 @@ use Rattle.node_journal.specs.Role.{role_in}
 use Rattle.node_journal.specs.declared.refusal.JournalRefusal.{JournalRefusal}
 use Rattle.node_journal.specs.declared.refusal.JournalRefusal.TheVariants.{AlreadyMade as MadeRefusal, NotJournal as PlaceRefusal, DeviceFault as FaultRefusal, Closed as ClosedRefusal, RecordTooLong as LongRefusal, NoMemory as MemoryRefusal}
 use Rattle.node_journal.specs.declared.refusal.InitRefusal.{InitRefusal}
-use Rattle.world_rules.specs.World.{Role, Wallet, Watcher, Operator}
+use Rattle.node_replies.specs.Roles.{Role, Wallet, Watcher, Operator}
 use Rattle.run_endings.specs.declared.status.Status.{Status}
 use Rattle.run_endings.specs.declared.status.Status.TheVariants.{Done, NoMemory}
 use Rattle.run_endings.specs.Outputs.{EndsAs}
@@ -22,7 +22,7 @@ use Rattle.node_runs.specs.Sessions.{Outside}
 use Rattle.node_runs.specs.Runs.{RunsNotes, RunsWatcher, RunsWallet}
 use Rattle.node_runs.specs.Operators.{RunsOperator}
 use Rattle.node_lives.specs.Disks.{Pair}
-use Rattle.node_lives.specs.Calls.{Asked, ToBegin, ToRun, ToUseNoDisk, BeginsAs, RunsAs, DoesAsked, Starves}
+use Rattle.node_lives.specs.Calls.{Begun, NotesAlone, BothDisks, Asked, ToBegin, ToRun, ToUseNoDisk, BeginsAs, RunsAs, DoesAsked, Starves}
 use Rattle.node_lives.specs.Standing.{kinds_of}
 use Rattle.node_lives.proofs.Quiet.{Quietly, quiet-same, opening-quiet}
 use Rattle.node_lives.proofs.Taken.{AllRecorded, init-taken, pair-taken}
@@ -67,22 +67,17 @@ module _ {D : Type 0} (told : D → Option History) (plan : D → Option FaultPl
       (all : AllRecorded (told old.notes))
       (apart : (other : Role) → (other ≡ role → ⊥) → (found : List (List ℕ))
       → role_in (kinds_of dig other) (content before) ≡ Ok found → ⊥) where
-    begins-quiet : (other : Role) (identity : List ℕ) (outside : Outside) (status : Status)
-        → BeginsAs told plan faults dig other identity old new outside status
+    begins-quiet : (disks : Begun) (identity : List ℕ) (outside : Outside) (status : Status)
+        → BeginsAs told plan faults dig disks identity old new outside status
         → (status ≡ Done → ⊥) × QuietBoth old new
-    begins-quiet Wallet identity outside status inits =
+    begins-quiet BothDisks identity outside status inits =
         let taken = pair-taken told plan faults identity old.notes old.leaves new.notes new.leaves inits.answer before
         all
         is inits.inits in (
           not-done inits.answer status outside.taken outside.after inits.ends taken.0,
           record { notes = taken.1.0; leaves = taken.1.1 },
         )
-    begins-quiet Watcher identity outside status (inits, same) =
-        let taken = init-taken told plan identity old.notes new.notes inits.answer before all is inits.inits in (
-          not-done inits.answer status outside.taken outside.after inits.ends taken.0,
-          record { notes = taken.1; leaves = same },
-        )
-    begins-quiet Operator identity outside status (inits, same) =
+    begins-quiet NotesAlone identity outside status (inits, same) =
         let taken = init-taken told plan identity old.notes new.notes inits.answer before all is inits.inits in (
           not-done inits.answer status outside.taken outside.after inits.ends taken.0,
           record { notes = taken.1; leaves = same },
@@ -126,10 +121,10 @@ module _ {D : Type 0} (told : D → Option History) (plan : D → Option FaultPl
     -- what a call did that isn't a run of the role
     pub asked-quiet : (asked : Asked) (outside : Outside) (status : Status) → (asked ≡ ToRun role → ⊥)
         → DoesAsked told plan faults dig asked old new outside status
-        → ((other : Role) (identity : List ℕ) → asked ≡ ToBegin other identity → status ≡ Done → ⊥)
+        → ((disks : Begun) (identity : List ℕ) → asked ≡ ToBegin disks identity → status ≡ Done → ⊥)
         × QuietBoth old new
-    asked-quiet (ToBegin other identity) outside status never did =
-        let quiet = begins-quiet other identity outside status did in
+    asked-quiet (ToBegin disks identity) outside status never did =
+        let quiet = begins-quiet disks identity outside status did in
         (λ one named same done. quiet.0 done, quiet.1)
     asked-quiet (ToRun other) outside status never did = (
       λ one named wrong. absurd (cc wrong),

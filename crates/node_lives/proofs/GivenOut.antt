@@ -12,9 +12,9 @@ use Rattle.streamed_lines.specs.Streams.{Rules, Stream, with_answer}
 use Rattle.streamed_lines.specs.Reading.{next_text}
 use Rattle.run_endings.specs.declared.status.Status.{Status}
 use Rattle.wallet_node.specs.State.{WalletState}
-use Rattle.world_rules.specs.declared.reply.Reply.{Reply}
-use Rattle.wallet_deeds.specs.declared.order.WalletOrder.{WalletOrder}
-use Rattle.wallet_deeds.specs.Orders.{order_deed}
+use Rattle.node_replies.specs.declared.reply.Reply.{Reply}
+use Rattle.node_replies.specs.declared.order.WalletOrder.{WalletOrder}
+use Rattle.node_replies.specs.Orders.{wallet_does as order_does}
 use Rattle.node_lines.specs.declared.wallet_line.WalletLine.{WalletLine}
 use Rattle.node_lines.specs.Grammar.{wallet_line_in}
 use Rattle.node_lines.proofs.GrammarLaws.{wallet_line_text-in}
@@ -97,8 +97,8 @@ module _ {D : Type 0} (told : D → Option History) (plan : D → Option FaultPl
           → IsOfLeaf next q (gives_at told plan faults dig before.run order).made
       unfolding wallet_outcome
       next-gives here few =
-          let deed = order_deed at.dig log 0 (records_of at.kept) order in
-          let is : outcome_of deed ≡ outcome =
+          let doing = order_does at.dig log (records_of at.kept) order in
+          let is : outcome_of doing ≡ outcome =
           sym (ap (asked at.dig log (records_of at.kept)) ordered) in
           let good : IsGood at.dig (records_of at.kept) =
           subst (λ (d : List ℕ → List ℕ). IsGood d (records_of at.kept)) (sym here.dig_is) here.good in
@@ -106,7 +106,8 @@ module _ {D : Type 0} (told : D → Option History) (plan : D → Option FaultPl
           let gives = order-gives at.dig log (records_of at.kept) good few order
           (sane-order line (wallet_line_text-in (next_text bytes before) line command).1 order ordered) q reply in
           subst
-          (λ (o : Outcome). IsOfLeaf (with_either_record (records_of at.kept) o.leaf o.note) q deed.gives.made) is gives
+          (λ (o : Outcome). IsOfLeaf (with_either_record (records_of at.kept) o.leaf o.note) q doing.response.made) is
+          gives
 
       behind-gives : (spelling : List ℕ) → next_text bytes before ≡ text_of spelling → GoesOn rules before spelling
           stream

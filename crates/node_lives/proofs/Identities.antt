@@ -1,5 +1,6 @@
 -- An identity's bytes are one of its role.
-use Rattle.std.proofs.Common.{◌≡◌, ◌<◌, ◌++◌, ◌∷◌, ℕ, Bool, true, false, if◌then◌else◌, List, [], Option, None, is_some, sym, ap, ◌∙◌, subst, lit<}
+use Rattle.std.proofs.Common.{◌≡◌, ◌<◌, ◌++◌, ◌∷◌, ℕ, Bool, true, false, if◌then◌else◌, List, [], Option, Some, None, is_some, sym, ap, subst, lit<}
+use Rattle.std.specs.Prelude.{IfSome}
 use Rattle.std.specs.Option.{option_map_or}
 use Rattle.node_rules.specs.declared.identity.WalletIdentity.{WalletIdentity}
 use Rattle.node_rules.specs.Watcher.{WatcherIdentity, identity_text as watcher_text}
@@ -9,29 +10,35 @@ use Rattle.node_rules.proofs.WalletTexts.{identity_in-text as wallet_in-text}
 use Rattle.operator_rules.specs.Records.{Identity, seed_text, identity_mark, who_is, identity_text as operator_text}
 use Rattle.operator_rules.specs.Laws.{IsIdentity as IsOperator}
 use Rattle.operator_rules.proofs.RecordTexts.{identity_in-text as operator_in-text}
-use Rattle.world_rules.proofs.ByteTexts.{Small, small-nil, small-cons, small-append, small-number, small-short}
+use Rattle.node_replies.proofs.ByteTexts.{Small, small-nil, small-cons, small-append, small-number, small-short}
+use Rattle.plasma_tx.specs.Spelling.{AreBytes}
+use Rattle.node_lives.specs.Standing.{HasDigests}
 use Rattle.node_lives.specs.Laws.{IdentitiesAreOfTheirRoles}
 
 watcher-small : (who : WatcherIdentity) → Small who.tag → Small (watcher_text who)
 unfolding watcher_text
 watcher-small who tag = small-cons 17 (lit< tt) (small-append tag (small-number who.account))
 
-operator-small : (who : Identity) → Small who.tag → who.key_seed ≡ None → Small (operator_text who)
-unfolding operator_text
-operator-small who tag none =
-    small-cons (identity_mark who.key_seed)
-    (subst (λ (s : Option (List ℕ)). identity_mark s < 256) (sym none) (lit< tt))
-    (small-append (small-append tag (small-number who.account))
-    (subst (λ (s : Option (List ℕ)). Small (seed_text s)) (sym none) small-nil))
+small-mark : (seed : Option (List ℕ)) → identity_mark seed < 256
+small-mark None = lit< tt
+small-mark (Some seed) = lit< tt
 
-operator-keyless : (who : Identity) → IsOperator who → who.key_seed ≡ None
-    → (who_is (operator_text who ∷ [])).key_seed ≡ None
+small-seed : (seed : Option (List ℕ)) → IfSome seed AreBytes → Small (seed_text seed)
+small-seed None are = small-nil
+small-seed (Some seed) are = record { are = are }
+
+operator-small : (who : Identity) → Small who.tag → IfSome who.key_seed AreBytes → Small (operator_text who)
+unfolding operator_text
+operator-small who tag seed =
+    small-cons (identity_mark who.key_seed) (small-mark who.key_seed)
+    (small-append (small-append tag (small-number who.account)) (small-seed who.key_seed seed))
+
+operator-seed : (who : Identity) → IsOperator who → (who_is (operator_text who ∷ [])).key_seed ≡ who.key_seed
 unfolding who_is
-operator-keyless who is none =
+operator-seed who is =
     ap (λ (found : Option Identity).
     (option_map_or (λ (w : Identity). w) found (record { tag = []; account = 0; key_seed = None })).key_seed)
     (operator_in-text who is)
-    ∙ none
 
 wallet-small : (who : WalletIdentity) → Small who.tag → Small who.seed → Small (wallet_text who)
 unfolding wallet_text
@@ -53,16 +60,16 @@ identities_are_of_their_roles dig = record {
   watcher = λ who is tag. record {
     is = ap is_some (watcher_in-text who is);
     bytes = (watcher-small who (record { are = tag })).are;
-    keyless = tt;
+    digests = tt;
   };
-  operator = λ who is tag none. record {
+  operator = λ who is tag seed digests. record {
     is = ap is_some (operator_in-text who is);
-    bytes = (operator-small who (record { are = tag }) none).are;
-    keyless = operator-keyless who is none;
+    bytes = (operator-small who (record { are = tag }) seed).are;
+    digests = subst (HasDigests dig) (sym (operator-seed who is)) digests;
   };
   wallet = λ who is tag seed. record {
     is = ap is_some (wallet_in-text who is);
     bytes = (wallet-small who (record { are = tag }) (record { are = seed })).are;
-    keyless = tt;
+    digests = tt;
   };
 }

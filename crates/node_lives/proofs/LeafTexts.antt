@@ -19,12 +19,11 @@ use Rattle.node_rules.specs.WalletRecords.{leaves_in}
 use Rattle.node_rules.specs.Wallet.{WalletRecords, WalletEffect, who, used, sent_by, send_body, names_coin, last_leaf, accept_effect, send_effect, again_by, again_answer, leave_effect, reclaim_effect, migrate_effect}
 use Rattle.node_rules.specs.WalletCommandLaws.{FitWords, sent_body, AddsSent}
 use Rattle.node_rules.proofs.WalletRole.{sends_add_their_leaves}
-use Rattle.world_rules.specs.declared.reply.Reply.{Reply}
-use Rattle.world_rules.specs.Causes.{wallet_cause}
-use Rattle.world_rules.specs.Deeds.{Gives, Deed, answered, wallet_deed, on_accepted, on_sent, on_sent_again, on_leaving, on_reclaimed, on_migrated}
-use Rattle.world_rules.proofs.WalletEnds.{SendEnds, Refused, Sends, send_ends}
-use Rattle.wallet_deeds.specs.declared.order.WalletOrder.{WalletOrder}
-use Rattle.wallet_deeds.specs.Orders.{order_deed}
+use Rattle.node_replies.specs.declared.reply.Reply.{Reply}
+use Rattle.node_replies.specs.Causes.{wallet_cause}
+use Rattle.node_replies.specs.Orders.{Response, Doing, answered, wallet_doing, on_accepted, on_sent, on_leaving, on_reclaimed, on_migrated, wallet_does}
+use Rattle.node_replies.proofs.WalletEnds.{SendEnds, Refused, Sends, send_ends}
+use Rattle.node_replies.specs.declared.order.WalletOrder.{WalletOrder}
 use Rattle.node_lines.specs.declared.wallet_line.WalletLine.{WalletLine}
 use Rattle.node_lines.specs.Grammar.{IsWalletLine}
 use Rattle.node_answers.specs.declared.wallet.WalletAsk.{WalletAsk}
@@ -105,29 +104,29 @@ module _ (dig : List ℕ → List ℕ) (log : List RootCall) (wallet : WalletRec
   words : FitWords wallet log
   words = record { notes = good.bytes; blocks = few }
 
-  -- what a deed gives out by a leaf
-  abbrev GivesLeaf : Deed → Type 0
-  GivesLeaf deed = (q : ℕ) → deed.gives.reply ≡ Reply.Sent q
-      → IsOfLeaf (with_either_record wallet deed.leaf deed.note) q deed.gives.made
+  -- what an order gives out by a leaf
+  abbrev GivesLeaf : Doing → Type 0
+  GivesLeaf doing = (q : ℕ) → doing.response.reply ≡ Reply.Sent q
+      → IsOfLeaf (with_either_record wallet doing.leaf doing.note) q doing.response.made
 
-  -- a deed that isn't answered with one
-  other-gives : {A : Type 0} (give : A → Gives) → ((done : A) (q : ℕ) → (give done).reply ≡ Reply.Sent q → ⊥)
-      → (effect : WalletEffect (Result A WalletRefusal)) → GivesLeaf (wallet_deed 0 give effect)
+  -- an order that isn't answered with one
+  other-gives : {A : Type 0} (give : A → Response) → ((done : A) (q : ℕ) → (give done).reply ≡ Reply.Sent q → ⊥)
+      → (effect : WalletEffect (Result A WalletRefusal)) → GivesLeaf (wallet_doing give effect)
   other-gives give never effect q = by effect.answer
     where
-      by : (answer : Result _ WalletRefusal) → (answered 0 wallet_cause give answer).reply ≡ Reply.Sent q
-          → IsOfLeaf (with_either_record wallet effect.leaf effect.note) q (answered 0 wallet_cause give answer).made
+      by : (answer : Result _ WalletRefusal) → (answered wallet_cause give answer).reply ≡ Reply.Sent q
+          → IsOfLeaf (with_either_record wallet effect.leaf effect.note) q (answered wallet_cause give answer).made
       by (Ok done) is = absurd (never done q is)
       by (Err why) is = absurd (cc is)
 
   send-gives : (coin : ℕ) (to : Owner) (last : Option ℕ) → coin < 2 ^ 64 → IsOwner to → IfSome last (λ n. n < 2 ^ 64)
-      → GivesLeaf (wallet_deed 0 (on_sent 0) (send_effect dig wallet log coin to last))
+      → GivesLeaf (wallet_doing on_sent (send_effect dig wallet log coin to last))
   send-gives coin to last coin_fits owner last_fits = by _ (send_ends dig wallet log coin to last) refl
     where
       by : (effect : WalletEffect (Result Sent WalletRefusal)) → SendEnds dig wallet log coin to last effect
-          → send_effect dig wallet log coin to last ≡ effect → GivesLeaf (wallet_deed 0 (on_sent 0) effect)
+          → send_effect dig wallet log coin to last ≡ effect → GivesLeaf (wallet_doing on_sent effect)
       by effect (Refused why is) same =
-          subst (λ e. GivesLeaf (wallet_deed 0 (on_sent 0) e)) (sym is) (λ q wrong. absurd (cc wrong))
+          subst (λ e. GivesLeaf (wallet_doing on_sent e)) (sym is) (λ q wrong. absurd (cc wrong))
       by effect (Sends tip held is) same =
           let body = sent_body wallet coin tip to last in
           let added : IfSome (send_body wallet body).leaf (AddsSent dig wallet log coin to last) =
@@ -139,7 +138,7 @@ module _ (dig : List ℕ → List ℕ) (log : List RootCall) (wallet : WalletRec
           subst
           (λ (t : ℕ). messages_of (wallet.leaves ++ binding_record wallet.leaves (body_text body) ∷ [])
           ≡ messages_of wallet.leaves ++ body_text (sent_body wallet coin t to last) ∷ []) one added.2.messages in
-          subst (λ e. GivesLeaf (wallet_deed 0 (on_sent 0) e)) (sym is)
+          subst (λ e. GivesLeaf (wallet_doing on_sent e)) (sym is)
           (λ q sent.
           let number : used wallet ≡ q = cc sent in
           record {
@@ -171,14 +170,14 @@ module _ (dig : List ℕ → List ℕ) (log : List RootCall) (wallet : WalletRec
           cc wrong)
 
   again-gives : (coin q : ℕ)
-      → (answered 0 wallet_cause (on_sent_again 0) (again_answer wallet coin)).reply ≡ Reply.Sent q
-      → IsOfLeaf wallet q (answered 0 wallet_cause (on_sent_again 0) (again_answer wallet coin)).made
+      → (answered wallet_cause on_sent (again_answer wallet coin)).reply ≡ Reply.Sent q
+      → IsOfLeaf wallet q (answered wallet_cause on_sent (again_answer wallet coin)).made
   unfolding again_answer
   again-gives coin q = by (last_leaf (leaves_in wallet.leaves) coin) refl
     where
       by : (o : Option ℕ) → last_leaf (leaves_in wallet.leaves) coin ≡ o
-          → (answered 0 wallet_cause (on_sent_again 0) (again_by wallet o)).reply ≡ Reply.Sent q
-          → IsOfLeaf wallet q (answered 0 wallet_cause (on_sent_again 0) (again_by wallet o)).made
+          → (answered wallet_cause on_sent (again_by wallet o)).reply ≡ Reply.Sent q
+          → IsOfLeaf wallet q (answered wallet_cause on_sent (again_by wallet o)).made
       by None none is = absurd (cc is)
       by (Some k) found is =
           let there = last-binds coin k found in
@@ -192,18 +191,18 @@ module _ (dig : List ℕ → List ℕ) (log : List RootCall) (wallet : WalletRec
           }
 
   -- what an order gives out by a leaf
-  pub order-gives : (order : WalletOrder) → IsSaneOrder order → GivesLeaf (order_deed dig log 0 wallet order)
-  unfolding order_deed
+  pub order-gives : (order : WalletOrder) → IsSaneOrder order → GivesLeaf (wallet_does dig log wallet order)
+  unfolding wallet_does
   order-gives (WalletOrder.Accept bundle) sane =
-      other-gives (on_accepted 0 bundle) (λ done q wrong. cc wrong) (accept_effect dig wallet log bundle)
+      other-gives on_accepted (λ done q wrong. cc wrong) (accept_effect dig wallet log bundle)
   order-gives (WalletOrder.Send coin to last) sane = send-gives coin to last sane.0 sane.1 sane.2
   order-gives (WalletOrder.Again coin) sane = again-gives coin
   order-gives (WalletOrder.Leave coin) sane =
-      other-gives (on_leaving 0) (λ done q wrong. cc wrong) (leave_effect dig wallet log coin)
+      other-gives on_leaving (λ done q wrong. cc wrong) (leave_effect dig wallet log coin)
   order-gives (WalletOrder.Reclaim bundle) sane =
-      other-gives (on_reclaimed 0 bundle) (λ done q wrong. cc wrong) (reclaim_effect dig wallet log bundle)
+      other-gives on_reclaimed (λ done q wrong. cc wrong) (reclaim_effect dig wallet log bundle)
   order-gives WalletOrder.Migrate sane =
-      other-gives (on_migrated 0) (λ done q wrong. cc wrong) (migrate_effect wallet)
+      other-gives on_migrated (λ done q wrong. cc wrong) (migrate_effect wallet)
   order-gives WalletOrder.Watch sane = λ q wrong. absurd (cc wrong)
 
 -- ---- later

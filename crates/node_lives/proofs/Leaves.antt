@@ -4,10 +4,10 @@ use Rattle.std.specs.List.{Contains}
 use Rattle.std.proofs.lemmas.List.Elements.{All-head}
 use Rattle.crash_disk.specs.Disk.{History, FaultPlan}
 use Rattle.node_rules.specs.Wallet.{WalletRecords}
-use Rattle.world_rules.specs.World.{Wallet, Watcher, Operator}
+use Rattle.node_replies.specs.Roles.{Wallet, Watcher, Operator}
 use Rattle.run_endings.specs.declared.status.Status.{Status}
-use Rattle.world_rules.specs.declared.reply.Reply.{Reply}
-use Rattle.wallet_deeds.specs.declared.order.WalletOrder.{WalletOrder}
+use Rattle.node_replies.specs.declared.reply.Reply.{Reply}
+use Rattle.node_replies.specs.declared.order.WalletOrder.{WalletOrder}
 use Rattle.node_lines.specs.declared.wallet_line.WalletLine.{WalletLine}
 use Rattle.node_lines.specs.Grammar.{wallet_line_in}
 use Rattle.node_answers.specs.declared.wallet.WalletAsk.{WalletAsk}

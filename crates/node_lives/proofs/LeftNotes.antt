@@ -11,7 +11,7 @@ use Rattle.run_endings.specs.declared.status.Status.{Status}
 use Rattle.node_answers.specs.Answers.{Outcome}
 use Rattle.node_roles.specs.Notes.{NodeAt, NotesAt}
 use Rattle.node_sessions.specs.Sessions.{calls_of}
-use Rattle.world_rules.specs.Deeds.{with_record}
+use Rattle.node_replies.specs.Orders.{with_record}
 use Rattle.node_runs.specs.Sessions.{Outside}
 use Rattle.node_runs.specs.Runs.{notes_found, NotesSession}
 use Rattle.node_lives.specs.Answered.{lines_answered}

@@ -6,20 +6,25 @@ mod Stays
 mod Sessions
 mod Roles
 mod Statuses
-mod Keyless
 mod Foreign
+mod Seeds
 mod OwnNotes
 mod RoleKept
 mod WalletOrders
 mod OwnWallet
+mod DeskOrders
+mod OwnDesk
 mod Begun
 mod Life
 mod LeftNotes
 mod LeftWallet
+mod LeftDesk
 mod Answered
 mod LeafTexts
 mod GivenOut
 mod Leaves
+mod Drives
+mod SampleLines
 mod Samples
-mod Identities
+pub mod Identities
 mod Written

@@ -10,7 +10,7 @@ use Rattle.node_journal.specs.Role.{are_of, role_in}
 use Rattle.node_journal.proofs.Lives.{in_keeps}
 use Rattle.node_rules.specs.Wallet.{WalletRecords}
 use Rattle.node_rules.proofs.WalletGrow.{wallet-parts}
-use Rattle.world_rules.specs.World.{Role, Wallet, Watcher, Operator}
+use Rattle.node_replies.specs.Roles.{Role, Wallet, Watcher, Operator}
 use Rattle.run_endings.specs.declared.status.Status.{Status}
 use Rattle.run_endings.specs.declared.status.Status.TheVariants.{Done, NotJournal}
 use Rattle.node_rules.specs.Watcher.{who_is as watcher_is}
@@ -21,20 +21,21 @@ use Rattle.node_runs.specs.Sessions.{Outside}
 use Rattle.node_runs.specs.Runs.{RunsWatcher}
 use Rattle.node_runs.specs.Operators.{operator_tag}
 use Rattle.node_lives.specs.Disks.{Pair}
-use Rattle.node_lives.specs.Calls.{Asked, ToBegin, ToRun, ToUseNoDisk, RunsAs, DoesAsked, Starves, Call}
+use Rattle.node_lives.specs.Calls.{Begun, Asked, ToBegin, ToRun, ToUseNoDisk, RunsAs, DoesAsked, Starves, Call}
 use Rattle.node_lives.specs.Disks.{Lies, Stays, Crashed, BothLie, BothTell}
 use Rattle.node_lives.specs.Lives.{LieBehind, IsLife}
-use Rattle.node_lives.specs.Standing.{identity_alone, kinds_of, Stand}
+use Rattle.node_lives.specs.Standing.{identity_alone, HasDigests, kinds_of, LeavesStay, Stand}
 use Rattle.node_lives.specs.Laws.{FindsTheNode, BegunNodesStay}
 use Rattle.node_lives.proofs.Quiet.{LeavesNoMore}
 use Rattle.node_lives.proofs.Taken.{AllRecorded}
 use Rattle.node_lives.proofs.Stays.{quiet-stays}
 use Rattle.node_lives.proofs.Roles.{role-recorded, none-other}
 use Rattle.node_lives.proofs.Foreign.{QuietBoth, asked-quiet, starves-quiet}
-use Rattle.node_lives.proofs.Keyless.{Keyless, alone-keyless, keyless-on, keyless-seed, keyless-runs}
+use Rattle.node_lives.proofs.Seeds.{HasSeed, seed-on, seed-is, Seeded, alone-seeded, RunsSeeded, seeded-runs, keyless-runs}
 use Rattle.node_lives.proofs.RoleKept.{watcher-kept, operator-kept}
 use Rattle.node_lives.proofs.OwnNotes.{own-stays as own-notes-stay, opened-own}
 use Rattle.node_lives.proofs.OwnWallet.{own-stays as own-wallet-stays}
+use Rattle.node_lives.proofs.OwnDesk.{own-stays as own-desk-stays}
 use Rattle.node_lives.proofs.Begun.{begun-stands}
 
 pub tells-some : {T : Type 0} (told : Option T) → is_some told ≡ true → (x : T) × (told ≡ Some x)
@@ -71,6 +72,13 @@ module _ {D : Type 0} (told : D → Option History) (plan : D → Option FaultPl
             may,
       ))
 
+  -- an operator's leaves, where it has a key
+  leaves-lie : (seed : Option (List ℕ)) (leaves : List (List ℕ)) (left next : D) → Lies told left next
+      → LeavesStay dig told seed leaves left → LeavesStay dig told seed leaves next
+  leaves-lie None leaves left next lie stay = tt
+  leaves-lie (Some seed) leaves left next lie stay = λ now is image may.
+      (let there = lies-no-more left next lie now is in stay there.0 there.1 image (there.2 image may))
+
   pub lies-stand : (role : Role) (first : WalletRecords) (left next : Pair D) → BothLie told left next
       → Stand dig told role first left → Stand dig told role first next
   lies-stand Wallet first left next lie stand = λ n is l also one other may leaves.
@@ -79,8 +87,12 @@ module _ {D : Type 0} (told : D → Option History) (plan : D → Option FaultPl
       stand notes.0 notes.1 others.0 others.1 one other (notes.2 one may) (others.2 other leaves)
   lies-stand Watcher first left next lie stand = λ now is image may.
       (let notes = lies-no-more left.notes next.notes lie.0 now is in stand notes.0 notes.1 image (notes.2 image may))
-  lies-stand Operator first left next lie stand = λ now is image may.
-      (let notes = lies-no-more left.notes next.notes lie.0 now is in stand notes.0 notes.1 image (notes.2 image may))
+  lies-stand Operator first left next lie stand = (
+    λ now is image may.
+        (let notes = lies-no-more left.notes next.notes lie.0 now is in
+        stand.0 notes.0 notes.1 image (notes.2 image may)),
+    leaves-lie (who_is first.notes).key_seed first.leaves left.leaves next.leaves lie.1 stand.1,
+  )
 
   -- the newest of some calls behind a first one
   abbrev pub newest : List (Call told plan faults dig) → Call told plan faults dig → Call told plan faults dig
@@ -117,7 +129,7 @@ module _ {D : Type 0} (told : D → Option History) (plan : D → Option FaultPl
       let parts = in_keeps (are_of (kinds_of dig Watcher)) image there.0 there.1 in
       record { records = there.0; keeps = parts.0; are = parts.1 }
   notes-are Operator first pair tells stand now is image may =
-      let there = stand now is image may in
+      let there = stand.0 now is image may in
       let parts = in_keeps (are_of (kinds_of dig Operator)) image there.0 there.1 in
       record { records = there.0; keeps = parts.0; are = parts.1 }
 
@@ -137,16 +149,18 @@ module _ {D : Type 0} (told : D → Option History) (plan : D → Option FaultPl
       quiet-stays (are_of (kinds_of dig Watcher)) first.notes (told old.notes) (told new.notes) (λ now is. h)
       quiet.notes
       stand)
-  quiet-stand Operator first old new tells quiet stand =
-      (let h = tells-some (told old.notes) tells.0 in
-      quiet-stays (are_of (kinds_of dig Operator)) first.notes (told old.notes) (told new.notes) (λ now is. h)
-      quiet.notes stand)
+  quiet-stand Operator first old new tells quiet stand = (
+    (let h = tells-some (told old.notes) tells.0 in
+        quiet-stays (are_of (kinds_of dig Operator)) first.notes (told old.notes) (told new.notes) (λ now is. h)
+        quiet.notes stand.0),
+    subst (LeavesStay dig told (who_is first.notes).key_seed first.leaves) (sym quiet.leaves) stand.1,
+  )
 
   module _ (role : Role) (first : WalletRecords) where
     -- the facts of a call, and what stands behind it
     pub record Kept (asked : Asked) (status : Status) (new : Pair D) : Type 0 where
       pub runs : asked ≡ ToRun role → status ≡ NotJournal → ⊥
-      pub begins : (other : Role) (identity : List ℕ) → asked ≡ ToBegin other identity → status ≡ Done → ⊥
+      pub begins : (disks : Begun) (identity : List ℕ) → asked ≡ ToBegin disks identity → status ≡ Done → ⊥
       pub stands : Stand dig told role first new
 
     foreign-keeps : (asked : Asked) (old new : Pair D) (outside : Outside) (status : Status)
@@ -165,42 +179,74 @@ module _ {D : Type 0} (told : D → Option History) (plan : D → Option FaultPl
           stands = quiet-stand role first old new tells quiet.1 stand;
         }
 
-  -- the notes of an operator without a key are opened as such
-  pub opened-none : (first : WalletRecords) (old new : Pair D) (outside : Outside) (status : Status)
-      → Keyless Operator first → BothTell told old → Stand dig told Operator first old → (opened : NotesState D)
-      → Opened told plan faults (role_in (kinds_of dig Operator)) old.notes opened
-      → (who_is opened.records).key_seed ≡ None
-  opened-none first old new outside status keyless tells stand opened opens =
+  -- the notes of an operator are opened with its seed
+  pub opened-has : (seed : Option (List ℕ)) (first : WalletRecords) (old new : Pair D) (outside : Outside)
+      (status : Status) → HasSeed seed first.notes → BothTell told old → Stand dig told Operator first old
+      → (opened : NotesState D) → Opened told plan faults (role_in (kinds_of dig Operator)) old.notes opened
+      → HasSeed seed opened.records
+  opened-has seed first old new outside status has tells stand opened opens =
       let n = tells-some (told old.notes) tells.0 in
-      keyless-seed opened.records
-      (keyless-on first.notes opened.records keyless
+      seed-on seed first.notes opened.records has
       (opened-own dig (kinds_of dig Operator) operator_tag operator_line_in operator_outcome (operator-kept dig)
-      first.notes told plan faults old.notes new.notes outside (Unit {0}) status n.0 n.1 (stand n.0 n.1) opened
-      opens).on)
+      first.notes told plan faults old.notes new.notes outside (Unit {0}) status n.0 n.1 (stand.0 n.0 n.1) opened
+      opens).on
+
+  module _ (first : WalletRecords) (old new : Pair D) (outside : Outside) (status : Status)
+      (tells : BothTell told old) (stand : Stand dig told Operator first old) where
+    operator-keeps : (seed : Option (List ℕ)) → HasSeed seed first.notes → HasDigests dig seed
+        → RunsSeeded told plan faults dig old.notes old.leaves new.notes new.leaves outside (Unit {0}) status seed
+        → (status ≡ NotJournal → ⊥) × Stand dig told Operator first new
+    operator-keeps None has digests runs =
+        let n = tells-some (told old.notes) tells.0 in
+        let alone = keyless-runs told plan faults dig old.notes old.leaves new.notes new.leaves outside (Unit {0})
+        status runs in
+        let kept = own-notes-stay dig (kinds_of dig Operator) operator_tag operator_line_in operator_outcome
+        (operator-kept dig) first.notes told plan faults old.notes new.notes outside (Unit {0}) status n.0 n.1
+        (stand.0 n.0 n.1) alone.0 in (
+          kept.0,
+          (
+            kept.1,
+            subst (λ (s : Option (List ℕ)). LeavesStay dig told s first.leaves new.leaves)
+                (sym (seed-is None first.notes has)) tt,
+          ),
+        )
+    operator-keeps (Some seed) has digests runs =
+        let n = tells-some (told old.notes) tells.0 in
+        let l = tells-some (told old.leaves) tells.1 in
+        let same = seed-is (Some seed) first.notes has in
+        let leaves : LeavesStay dig told (Some seed) first.leaves old.leaves =
+        subst (λ (s : Option (List ℕ)). LeavesStay dig told s first.leaves old.leaves) same stand.1 in
+        let kept = own-desk-stays seed dig digests first told plan faults old.notes old.leaves new.notes new.leaves
+        outside (Unit {0}) status has n.0 l.0 n.1 l.1 (stand.0 n.0 n.1) (leaves l.0 l.1) runs in (
+          kept.0,
+          (
+            kept.1.0,
+            subst (λ (s : Option (List ℕ)). LeavesStay dig told s first.leaves new.leaves) (sym same) kept.1.1,
+          ),
+        )
 
   own-keeps : (role : Role) (first : WalletRecords) (old new : Pair D) (outside : Outside) (status : Status)
-      → Keyless role first → BothTell told old → Stand dig told role first old
+      → Seeded dig role first → BothTell told old → Stand dig told role first old
       → RunsAs told plan faults dig role old new outside status
       → (status ≡ NotJournal → ⊥) × Stand dig told role first new
   unfolding RunsWatcher
-  own-keeps Wallet first old new outside status keyless tells stand runs =
+  own-keeps Wallet first old new outside status seeded tells stand runs =
       let n = tells-some (told old.notes) tells.0 in
       let l = tells-some (told old.leaves) tells.1 in
       own-wallet-stays dig first told plan faults old.notes old.leaves new.notes new.leaves outside (Unit {0}) status
       n.0 l.0 n.1 l.1 (stand n.0 n.1 l.0 l.1) runs
-  own-keeps Watcher first old new outside status keyless tells stand (runs, same) =
+  own-keeps Watcher first old new outside status seeded tells stand (runs, same) =
       (let n = tells-some (told old.notes) tells.0 in
       own-notes-stay dig (kinds_of dig Watcher) (λ records. (watcher_is records).tag) watcher_line_in watcher_outcome
       (watcher-kept dig) first.notes told plan faults old.notes new.notes
       outside (Unit {0}) status n.0 n.1 (stand n.0 n.1) runs)
-  own-keeps Operator first old new outside status keyless tells stand runs =
-      let n = tells-some (told old.notes) tells.0 in
-      let alone = keyless-runs told plan faults dig old.notes old.leaves new.notes new.leaves outside (Unit {0}) status
-      (opened-none first old new outside status keyless tells stand) runs in
-      own-notes-stay dig (kinds_of dig Operator) operator_tag operator_line_in operator_outcome (operator-kept dig)
-      first.notes told plan faults old.notes new.notes outside (Unit {0}) status n.0 n.1 (stand n.0 n.1) alone.0
+  own-keeps Operator first old new outside status seeded tells stand runs =
+      operator-keeps first old new outside status tells stand seeded.seed seeded.has seeded.digests
+      (seeded-runs told plan faults dig old.notes old.leaves new.notes new.leaves outside (Unit {0}) status seeded.seed
+      (λ opened opens. seed-is seeded.seed opened.records
+      (opened-has seeded.seed first old new outside status seeded.has tells stand opened opens)) runs)
 
-  module _ (role : Role) (first : WalletRecords) (keyless : Keyless role first) where
+  module _ (role : Role) (first : WalletRecords) (seeded : Seeded dig role first) where
     pub call-keeps : (call : Call told plan faults dig) → BothTell told call.old → Stand dig told role first call.old
         → Kept role first call.asked call.status call.new
     call-keeps call tells stand = by call.did
@@ -219,7 +265,7 @@ module _ {D : Type 0} (told : D → Option History) (plan : D → Option FaultPl
           | inr never ↦
               foreign-keeps role first call.asked call.old call.new call.outside call.status never tells stand did
           | inl own ↦
-              (let kept = own-keeps role first call.old call.new call.outside call.status keyless tells stand
+              (let kept = own-keeps role first call.old call.new call.outside call.status seeded tells stand
               (subst (λ (a : Asked). DoesAsked told plan faults dig a call.old call.new call.outside call.status) own
               did)
               in
@@ -236,7 +282,7 @@ module _ {D : Type 0} (told : D → Option History) (plan : D → Option FaultPl
     pub record StandsAt (call : Call told plan faults dig) : Type 0 where
       pub handed : Stand dig told role first call.old
       pub runs : call.asked ≡ ToRun role → call.status ≡ NotJournal → ⊥
-      pub begins : (other : Role) (identity : List ℕ) → call.asked ≡ ToBegin other identity → call.status ≡ Done → ⊥
+      pub begins : (disks : Begun) (identity : List ℕ) → call.asked ≡ ToBegin disks identity → call.status ≡ Done → ⊥
       pub left : Stand dig told role first call.new
 
     calls-keep : (later earlier : List (Call told plan faults dig)) (start : Call told plan faults dig)
@@ -263,8 +309,8 @@ module _ {D : Type 0} (told : D → Option History) (plan : D → Option FaultPl
   pub begun_nodes_stay : BegunNodesStay told plan faults dig
   begun_nodes_stay role later earlier first life begins =
       let alone = identity_alone begins.identity in
-      let keyless = alone-keyless role begins.identity begins.is.keyless in
-      All-weaker (StandsAt role alone keyless) (FindsTheNode told plan faults dig role begins.identity)
+      let seeded = alone-seeded dig role begins.identity begins.is.digests in
+      All-weaker (StandsAt role alone seeded) (FindsTheNode told plan faults dig role begins.identity)
       (λ call at. record {
         runs = at.runs;
         begins = at.begins;
@@ -272,4 +318,4 @@ module _ {D : Type 0} (told : D → Option History) (plan : D → Option FaultPl
         left = at.left;
       })
       later
-      (stands-on role alone keyless later earlier first life (begun-stands told plan faults dig role first begins))
+      (stands-on role alone seeded later earlier first life (begun-stands told plan faults dig role first begins))

@@ -20,7 +20,7 @@ use Rattle.run_endings.specs.declared.status.Status.TheVariants.{Done, Refused, 
 use Rattle.node_answers.specs.Answers.{Outcome}
 use Rattle.node_roles.specs.Notes.{NodeAt, keeping, NotesAt, with_note}
 use Rattle.node_roles.specs.Deeds.{left_with, notes_do}
-use Rattle.world_rules.specs.Deeds.{with_record}
+use Rattle.node_replies.specs.Orders.{with_record}
 use Rattle.node_sessions.specs.Sessions.{SessionState, begun, calls_of}
 use Rattle.node_runs.specs.Disks.{Keeps, Failed}
 use Rattle.node_runs.specs.Endings.{refused_output, session_output, fault_output}

@@ -4,7 +4,7 @@ use Rattle.plasma_tx.specs.declared.call.RootCall.{RootCall}
 use Rattle.node_journal.specs.Role.{are_of}
 use Rattle.node_rules.specs.Watcher.{watcher_kinds}
 use Rattle.operator_rules.specs.Records.{operator_kinds}
-use Rattle.world_rules.specs.Deeds.{with_record}
+use Rattle.node_replies.specs.Orders.{with_record}
 use Rattle.watcher_deeds.specs.Laws.{HasBytes}
 use Rattle.watcher_deeds.proofs.OrderLaws.{orders_keep_the_role as watcher_orders_keep}
 use Rattle.operator_deeds.proofs.OrderLaws.{orders_keep_the_role as operator_orders_keep}
@@ -26,14 +26,14 @@ pub watcher-kept : (dig : List ℕ → List ℕ) (log : List RootCall) (records 
     → are_of (watcher_kinds dig) (with_record records (watcher_outcome dig log records command).note) ≡ true
 unfolding watcher_outcome
 watcher-kept dig log records line command spells is =
-    watcher_orders_keep dig log 0 records (watcher_order command) is
+    watcher_orders_keep dig log records (watcher_order command) is
     (line-bytes command (watcher_line_text-in line command spells).1)
 
 -- a receipt and a migration are refused, and add nothing
 asked-kept : (dig : List ℕ → List ℕ) (log : List RootCall) (records : List (List ℕ)) (ask : OperatorAsk)
     → are_of operator_kinds records ≡ true
     → are_of operator_kinds (with_record records (keyless dig log records ask).note) ≡ true
-asked-kept dig log records (OperatorAsk.Order order) is = operator_orders_keep dig log 0 records order is
+asked-kept dig log records (OperatorAsk.Order order) is = operator_orders_keep dig log records order is
 asked-kept dig log records (OperatorAsk.Receipt transfer due) is = is
 asked-kept dig log records OperatorAsk.Migrate is = is
 

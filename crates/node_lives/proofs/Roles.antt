@@ -10,7 +10,7 @@ use Rattle.node_journal.specs.Role.{Kinds, are_of, front_of, read_of_kinds, role
 use Rattle.node_rules.specs.Watcher.{identity_in as watcher_in}
 use Rattle.node_rules.specs.WalletRecords.{identity_in as wallet_in, identity_of as wallet_identity_of, types_in, may_be_second}
 use Rattle.operator_rules.specs.Records.{identity_in as operator_in, identity_of as operator_identity_of}
-use Rattle.world_rules.specs.World.{Role, Wallet, Watcher, Operator}
+use Rattle.node_replies.specs.Roles.{Role, Wallet, Watcher, Operator}
 use Rattle.node_lives.specs.Standing.{kinds_of}
 use Rattle.node_lives.proofs.Quiet.{HasRecord}
 use Rattle.node_lives.proofs.Stays.{keeps-same}

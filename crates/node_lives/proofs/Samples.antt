@@ -1,307 +1,338 @@
--- A small life: two inits of a watcher, of which a device fault stopped the first; three runs, of which one reads
--- nothing,
--- one meets a device fault, and one is of another role; and crashes. So the laws don't hold for want of a life.
-use Rattle.std.proofs.Common.{◌≡◌, ◌≤◌, ◌<◌, ℕ, Bool, true, false, List, [], ◌∷◌, length, Option, Some, None, Ok, Err, refl, ap, ◌∙◌, subst, inl, inr, lit<, lit≤}
-use Rattle.std.specs.Prelude.{replicate}
-use Rattle.std.proofs.lemmas.List.Elements.{All-nil}
-use Rattle.plasma_base.specs.Causes.{faults_after}
-use Rattle.crash_disk.specs.Disk.{Step, History, fresh_history, content, unsynced_ranges, FaultPlan}
-use Rattle.crash_disk.specs.Calls.{Course, passed, failed_after, after_course, with_made, Made, GoesByPlan}
-use Rattle.crash_disk.proofs.Left.{content_may_be_left}
-use Rattle.node_journal.specs.Image.{most, journal_in}
-use Rattle.node_journal.specs.Journal.{IsSettled}
+-- A small life of a wallet is one: each of its calls did what its clause says.
+use Rattle.std.proofs.Common.{◌≡◌, ◌≤◌, ◌<◌, ◌++◌, ℕ, true, false, List, [], ◌∷◌, codes, Some, Result, Ok, Err, refl, sym, ap, ◌∙◌, subst, inl, inr, lit<, lit≤}
+use Rattle.crash_disk.specs.Disk.{Step, content, synced_content, LeavesOnly}
+use Rattle.crash_disk.specs.Calls.{WhereTold, passed, failed_after}
+use Rattle.crash_disk.specs.declared.outcome.Outcome.TheVariants.{Old}
+use Rattle.crash_disk.proofs.Images.{outcomes}
+use Rattle.node_journal.specs.Image.{journal_in}
+use Rattle.node_journal.specs.Journal.{IsSettled, KeepsWithOrWithout}
 use Rattle.node_journal.specs.Steps.{open_steps}
-use Rattle.node_journal.specs.Notes.{NotesState, Opened}
-use Rattle.node_journal.specs.Role.{are_of, read_of_kinds, role_in}
-use Rattle.node_journal.specs.Begin.{journal_steps, init_steps, InitsOver}
-use Rattle.node_journal.specs.declared.refusal.JournalRefusal.TheVariants.{NotJournal as JournalPlace, DeviceFault as JournalFault}
+use Rattle.node_journal.specs.Notes.{Opened}
+use Rattle.node_journal.specs.Role.{are_of, role_in}
+use Rattle.node_journal.specs.Begin.{is_taken, journal_steps, init_steps, InitsOver, PassesInit}
 use Rattle.node_journal.specs.declared.refusal.InitRefusal.TheVariants.{DeviceFault as InitFault}
-use Rattle.node_journal.proofs.Crash.{settled_now}
-use Rattle.node_journal.proofs.Rest.{appends_settle}
-use Rattle.node_rules.specs.Watcher.{watcher_kinds, identity_in as watcher_in}
-use Rattle.operator_rules.specs.Records.{operator_kinds, identity_in as operator_in}
-use Rattle.world_rules.specs.World.{Watcher, Operator}
+use Rattle.node_journal.proofs.Rest.{settled_rests, course_leaves}
+use Rattle.leaf_journal.specs.Records.{marker, leaf_records_of, leaf_records_read_of, leaf_records_in_of, records_behind_of}
+use Rattle.node_rules.specs.WalletRecords.{wallet_kinds, is_body, identity_in, notes_of}
+use Rattle.node_rules.specs.WalletOpening.{leaves_of}
+use Rattle.wallet_node.specs.State.{leaves_part}
+use Rattle.wallet_node.specs.Opening.{OpensWallet}
+use Rattle.node_replies.specs.Roles.{Wallet}
+use Rattle.node_lines.specs.declared.wallet_line.WalletLine.{WalletLine}
+use Rattle.node_lines.specs.Grammar.{wallet_line_in}
+use Rattle.node_answers.specs.Answers.{Outcome}
+use Rattle.node_roles.specs.Notes.{NodeAt}
+use Rattle.node_roles.specs.Wallets.{WalletAt}
+use Rattle.node_sessions.specs.Sessions.{SessionState, begun}
+use Rattle.streamed_lines.specs.Bounds.{TakesFew}
 use Rattle.streamed_lines.specs.Lines.{lines_in}
-use Rattle.streamed_lines.specs.Streams.{stream_from, stream_of}
+use Rattle.streamed_lines.specs.Streams.{Streamed, stream_of}
+use Rattle.run_endings.specs.Outputs.{EndsAs}
+use Rattle.run_endings.specs.Texts.{device_fault_text, refused_text}
 use Rattle.run_endings.specs.declared.status.Status.{Status}
-use Rattle.run_endings.specs.declared.status.Status.TheVariants.{Done, BadLine, DeviceFault, NotJournal}
+use Rattle.run_endings.specs.declared.status.Status.TheVariants.{Done, Refused, DeviceFault}
+use Rattle.node_runs.specs.Disks.{Keeps, MayKeep, opened_at, KeepsBoth, EitherFailed}
+use Rattle.node_runs.specs.Endings.{session_output, last_text}
+use Rattle.node_runs.specs.Inits.{InitsPair}
 use Rattle.node_runs.specs.Sessions.{Outside}
-use Rattle.node_runs.specs.Runs.{RunsWatcher}
-use Rattle.node_runs.specs.Operators.{RunsOperator}
-use Rattle.node_runs.specs.Inits.{InitsNotes}
-use Rattle.node_lives.specs.Disks.{Pair, Lies, Stays, Crashed}
-use Rattle.node_lives.specs.Calls.{Asked, ToBegin, ToRun, DoesAsked, Call}
+use Rattle.node_runs.specs.Runs.{WalletSession, RunsWallet}
+use Rattle.node_lives.specs.Disks.{Pair, Stays, Crashed}
+use Rattle.node_lives.specs.Calls.{Asked, BothDisks, ToBegin, ToRun, DoesAsked}
 use Rattle.node_lives.specs.Lives.{IsLife}
+use Rattle.node_lives.specs.Answered.{wallet_ran, ran_as, ran_by}
+use Rattle.node_lives.specs.Samples.{Drive, told, foretold, met, identity, input, DriveCall, SmallLife}
 use Rattle.node_lives.proofs.Roles.{ok-of, role-found}
+use Rattle.node_lives.proofs.SampleLines.{migrate-spelled, log_text, migrate_line, migrates, wallet_with, found, rules, log_read, log-runs, may-next, next-is, answered-session, refused-session}
+use Rattle.node_lives.proofs.Drives.{after, asked, made, all-passed, telling, blank, stopped_notes, begun_notes, begun_leaves, opened, faulted_leaves, crashed_notes, crashed_leaves, marked_leaves, opened_settled, begun_notes_settled, begun_leaves_settled, crashed_notes_settled, crashed_leaves_settled, marked_leaves_settled}
 
--- ---- a disk that tells its history and counts its faults
+-- ---- the inits
 
-record Drive : Type 0 where
-  history : History
-  met : ℕ
-
-abbrev told : Drive → Option History
-told drive = Some drive.history
-
-abbrev foretold : Drive → Option FaultPlan
-foretold drive = None
-
-abbrev met : Drive → ℕ
-met drive = drive.met
-
--- behind device calls that went so
-abbrev after : Course → (List ℕ → List Step) → Bool → Drive → Drive
-after course steps failed drive = record {
-  history = after_course course (steps (content drive.history)) drive.history;
-  met = faults_after drive.met failed;
-}
-
--- they were made so, and the plan, of which there is none, foretold nothing
-made : (course : Course) (steps : List ℕ → List Step) (count : ℕ) (failed : Bool) (old : Drive)
-    → GoesByPlan count course None None → Made told foretold steps count course old (after course steps failed old)
-made course steps count failed old goes = record { calls = refl; planned = goes }
-
-all-passed : (count : ℕ) → GoesByPlan count passed None None
-all-passed count = (λ plan is. absurd (cc is), refl)
-
-first-failed : (count : ℕ) → 0 < count → GoesByPlan count (failed_after 0) None None
-first-failed count some = (some, λ plan is. absurd (cc is), refl)
-
--- ---- the watcher's identity: its mark, a tag of zeros and the account 0
-
-abbrev identity : List ℕ
-identity = 17 ∷ replicate 40 0
-
--- the disks of the notes, and that of the leaves, which stays
-abbrev blank : Drive
-blank = record { history = fresh_history []; met = 0 }
-
--- the first device call of the first init fails
-abbrev stopped : Drive
-stopped = after (failed_after 0) (init_steps identity) true blank
-
--- a crash leaves nothing, as there was nothing
-abbrev anew : Drive
-anew = record { history = fresh_history []; met = 5 }
-
--- the second init makes the journal
-abbrev begun : Drive
-begun = after passed (init_steps identity) false anew
-
--- a run reads an empty input; the next one meets a device fault; a crash comes; and an operator's run finds no operator
-abbrev opened : Drive
-opened = after passed open_steps false begun
-
-abbrev faulted : Drive
-faulted = after (failed_after 0) open_steps true opened
-
-abbrev crashed : Drive
-crashed = record { history = fresh_history (content faulted.history); met = 0 }
-
-abbrev refused : Drive
-refused = after passed open_steps false crashed
-
--- ---- what they keep
-
-empty_settled : IsSettled (with_made 6 (journal_steps []) anew.history) []
-empty_settled = settled_now _ [] (record {
-  gate = 0;
-  rest = [];
-  is = refl;
-  closed = refl;
-  fits = All-nil (λ body. length body ≤ most);
-}) refl
-
-begun_settled : IsSettled begun.history (identity ∷ [])
-begun_settled = appends_settle (with_made 6 (journal_steps []) anew.history) [] identity empty_settled (lit≤ tt)
-
--- a disk that was only read since keeps the same
-read_settled : (course : Course) (failed : Bool) (drive : Drive) → IsSettled drive.history (identity ∷ [])
-    → unsynced_ranges (after course open_steps failed drive).history ≡ []
-    → content (after course open_steps failed drive).history ≡ content drive.history
-    → IsSettled (after course open_steps failed drive).history (identity ∷ [])
-read_settled course failed drive settled none same = settled_now _ (identity ∷ []) (record {
-  gate = settled.kept.gate;
-  rest = settled.kept.rest;
-  is = same ∙ settled.kept.is;
-  closed = settled.kept.closed;
-  fits = settled.kept.fits;
-}) none
-
-opened_settled : IsSettled opened.history (identity ∷ [])
-opened_settled = read_settled passed false begun begun_settled refl refl
-
-crashed_settled : IsSettled crashed.history (identity ∷ [])
-crashed_settled = settled_now _ (identity ∷ []) (record {
-  gate = opened_settled.kept.gate;
-  rest = opened_settled.kept.rest;
-  is = opened_settled.kept.is;
-  closed = opened_settled.kept.closed;
-  fits = opened_settled.kept.fits;
-}) refl
-
--- ---- what was done
-
--- what a disk tells is its history
-telling : (drive : Drive) (P : History → Type 0) → P drive.history → (before : History) → told drive ≡ Some before
-    → P before
-telling drive P holds before is = (let same : drive.history ≡ before = cc is in subst P same holds)
-
--- nothing is told of what comes in and goes out
-abbrev untold : Outside
-untold = record { left = None; later = None; taken = None; after = None }
-
-abbrev both : Drive → Pair Drive
-both notes = record { notes = notes; leaves = blank }
-
-init_stops : InitsNotes told foretold met None None DeviceFault identity blank stopped
+init_stops : InitsPair told foretold met (Some []) (Some device_fault_text) DeviceFault identity blank blank
+    stopped_notes blank
 init_stops = record {
   answer = Err InitFault;
-  inits =
-      telling blank (λ before. InitsOver told foretold (init_steps identity) (content before) blank (Err InitFault)
-      stopped)
-      (0, made (failed_after 0) (init_steps identity) _ true blank (first-failed _ (lit< tt)));
-  count = refl;
+  inits = inl ((record { history = refl; fails = λ plan is. absurd (cc is); goes_on = refl }, refl), refl);
   begun = tt;
+  empty = tt;
   ends = (refl, refl);
 }
 
-init_passes : InitsNotes told foretold met None None Done identity anew begun
+passes_init : (steps : List ℕ → List Step) (drive : Drive) → is_taken (content drive.history) ≡ false
+    → PassesInit told foretold met steps drive (after passed steps false drive)
+passes_init steps drive free = record {
+  inits =
+      telling drive (λ before. InitsOver told foretold steps (content before) drive (Ok tt)
+      (after passed steps false drive))
+      (free, made passed steps _ false drive (all-passed _));
+  count = refl;
+}
+
+init_passes : InitsPair told foretold met (Some []) (Some (codes "made" ++ 10 ∷ [])) Done identity stopped_notes blank
+    begun_notes begun_leaves
 init_passes = record {
   answer = Ok tt;
-  inits =
-      telling anew (λ before. InitsOver told foretold (init_steps identity) (content before) anew (Ok tt) begun)
-      (refl, made passed (init_steps identity) _ false anew (all-passed _));
-  count = refl;
-  begun = telling begun (λ now. IsSettled now (identity ∷ [])) begun_settled;
+  inits = (
+    asked false stopped_notes,
+    record {
+      called = record { history = refl; fails = λ plan is. absurd (cc is); goes_on = refl };
+      count = refl;
+    },
+    (passes_init (init_steps identity) (asked false stopped_notes) refl, passes_init journal_steps blank refl),
+  );
+  begun = telling begun_notes (λ now. IsSettled now (identity ∷ [])) begun_notes_settled;
+  empty = telling begun_leaves (λ now. IsSettled now []) begun_leaves_settled;
   ends = (refl, refl);
 }
 
 module _ (dig : List ℕ → List ℕ) where
-  watcher_are : are_of (watcher_kinds dig) (identity ∷ []) ≡ true
-  unfolding watcher_in
-  watcher_are = refl
+  -- ---- the openings
 
-  notes_opened : NotesState Drive
-  notes_opened = record { disk = opened; closed = false; records = identity ∷ [] }
+  wallet_are : are_of (wallet_kinds dig) (identity ∷ []) ≡ true
+  unfolding identity_in
+  wallet_are = refl
 
-  opens : Opened told foretold met (role_in (watcher_kinds dig)) begun notes_opened
-  unfolding notes_opened
-  opens = record {
-    kept =
-        telling begun (λ before. role_in (watcher_kinds dig) (content before) ≡ Ok (identity ∷ []))
-        (role-found (watcher_kinds dig) (content begun.history) (identity ∷ []) begun_settled.read watcher_are);
-    made = made passed open_steps 3 false begun (all-passed 3);
+  opens_part : (read : List ℕ → Result (List (List ℕ)) ℕ) (drive : Drive) (records : List (List ℕ))
+      → IsSettled drive.history records → read (content drive.history) ≡ Ok records
+      → Opened told foretold met read drive (record { disk = opened drive; closed = false; records = records })
+  opens_part read drive records settled reads = record {
+    kept = telling drive (λ before. read (content before) ≡ Ok records) reads;
+    made = made passed open_steps 3 false drive (all-passed 3);
     count = refl;
     is_open = refl;
-    settled = telling opened (λ now. IsSettled now (identity ∷ [])) opened_settled;
+    settled = telling (opened drive) (λ now. IsSettled now records) (opened_settled drive records settled);
   }
 
-  -- a run of the watcher that reads nothing: its first line is missing
-  run_reads_nothing : RunsWatcher told foretold met dig begun opened untold (Unit {0}) BadLine
-  unfolding RunsWatcher notes_opened stream_of stream_from lines_in
-  run_reads_nothing = inl (
-    notes_opened,
-    opens,
-    inl (record {
-      bytes = [];
+  abbrev count : ℕ
+  count = leaves_of (identity ∷ [])
+
+  opens : (notes leaves : Drive) (records : List (List ℕ)) → IsSettled notes.history (identity ∷ [])
+      → IsSettled leaves.history records → leaf_records_of is_body count records ≡ Ok records
+      → OpensWallet told foretold met dig notes leaves (wallet_with dig notes leaves records)
+  unfolding notes_of
+  opens notes leaves records settled leaves_settled are = record {
+    opens_notes =
+        opens_part (role_in (wallet_kinds dig)) notes (identity ∷ []) settled
+        (role-found (wallet_kinds dig) (content notes.history) (identity ∷ []) settled.read wallet_are);
+    opens_leaves =
+        opens_part (leaf_records_in_of is_body count) leaves records leaves_settled
+        (ap (leaf_records_read_of is_body count) (ok-of (journal_in (content leaves.history)) records
+        leaves_settled.read) ∙ are);
+    bound = refl;
+  }
+
+  -- ---- the runs
+
+  abbrev outside : List ℕ → Outside
+  outside text = record { left = Some input; later = Some []; taken = Some []; after = Some text }
+
+  -- the disks of a wallet that was opened, as its session finds them
+  found-keeps : (drive : Drive) (records : List (List ℕ)) → IsSettled drive.history records
+      → Keeps told met (record { records = records; told = Some drive.history; faults = drive.met }) drive
+  found-keeps drive records settled = record {
+    told_is = refl;
+    faults_are = refl;
+    settled = telling drive (λ now. IsSettled now records) settled;
+  }
+
+  notes_first : IsSettled (opened begun_notes).history (identity ∷ [])
+  notes_first = opened_settled begun_notes (identity ∷ []) begun_notes_settled
+
+  leaves_first : IsSettled (opened begun_leaves).history []
+  leaves_first = opened_settled begun_leaves [] begun_leaves_settled
+
+  notes_second : IsSettled (opened crashed_notes).history (identity ∷ [])
+  notes_second = opened_settled crashed_notes (identity ∷ []) crashed_notes_settled
+
+  -- the marker met a fault
+  marker_fails : MayKeep told met marker (opened_at told met (leaves_part (wallet_with dig begun_notes begun_leaves [])))
+      faulted_leaves
+  marker_fails = record {
+    passed = 2;
+    few = lit< tt;
+    told_is = refl;
+    any_moment =
+        telling (opened begun_leaves)
+        (λ before. WhereTold (told faulted_leaves) (λ now. LeavesOnly before now (KeepsWithOrWithout [] marker)))
+        (telling faulted_leaves
+        (λ now. LeavesOnly (opened begun_leaves).history now (KeepsWithOrWithout [] marker))
+        (course_leaves (opened begun_leaves).history [] marker
+        (settled_rests (opened begun_leaves).history [] leaves_first) (lit≤ tt) (failed_after 2)));
+    faults_are = refl;
+  }
+
+  abbrev Session : Drive → Drive → List (List ℕ) → Drive → Drive → List ℕ → Status → Type 0
+  Session notes leaves records new_notes new_leaves text status =
+      WalletSession told foretold met dig (wallet_with dig notes leaves records) new_notes new_leaves (outside text)
+      (Unit {0}) status
+
+  faults : Session begun_notes begun_leaves [] (opened begun_notes) faulted_leaves device_fault_text DeviceFault
+  faults = inr (inl (record {
+    bytes = input;
+    ended = true;
+    stream = log_read dig begun_notes begun_leaves [];
+    gave = record { given = refl; end = λ is. refl };
+    begins = record {
+      front = log_text;
+      rest = migrate_line;
+      whole = refl;
+      runs = log-runs dig begun_notes begun_leaves [];
+    };
+    ends = (refl, refl);
+    left = (
+      may-next dig begun_notes begun_leaves [],
+      (
+        WalletLine.Migrate,
+        ap wallet_line_in (next-is dig begun_notes begun_leaves []) ∙ migrate-spelled,
+        subst (λ (o : Outcome). EitherFailed told met o.leaf o.note (found dig begun_notes begun_leaves []).kept
+            (opened begun_notes) faulted_leaves) (sym (migrates dig))
+            (marker_fails, found-keeps (opened begun_notes) (identity ∷ []) notes_first),
+      ),
+    );
+  }))
+
+  -- a session that comes to this
+  module _ (notes leaves : Drive) (records : List (List ℕ)) (new_notes new_leaves : Drive) (text : List ℕ)
+      (status : Status) where
+    comes : (streamed : Streamed (SessionState (NodeAt WalletAt)) (List ℕ))
+        → stream_of (rules dig notes leaves records) (begun (found dig notes leaves records)) input true ≡ streamed
+        → EndsAs (session_output streamed) status (Some []) (Some text) (Unit {0})
+        → TakesFew input streamed.ending
+        → KeepsBoth told met streamed.stream.run.node.kept new_notes new_leaves
+        → Session notes leaves records new_notes new_leaves text status
+    comes streamed is ends few left = inl (record {
+      bytes = input;
       ended = true;
-      gave = record { given = refl; end = λ is. tt };
-      ends = (refl, refl);
-      few = lit< tt;
-      left = record {
-        told_is = refl;
-        faults_are = refl;
-        settled = telling opened (λ now. IsSettled now (identity ∷ [])) opened_settled;
-      };
-    }),
-  )
+      gave = record { given = refl; end = λ is. refl };
+      ends =
+          subst (λ (s : Streamed (SessionState (NodeAt WalletAt)) (List ℕ)).
+          EndsAs (session_output s) status (Some []) (Some text) (Unit {0})) (sym is) ends;
+      few =
+          subst (λ (s : Streamed (SessionState (NodeAt WalletAt)) (List ℕ)). TakesFew input s.ending) (sym is) few;
+      left =
+          subst (λ (s : Streamed (SessionState (NodeAt WalletAt)) (List ℕ)).
+          KeepsBoth told met s.stream.run.node.kept new_notes new_leaves) (sym is) left;
+    })
 
-  -- one whose opening meets a device fault
-  run_is_stopped : RunsWatcher told foretold met dig opened faulted untold (Unit {0}) DeviceFault
-  unfolding RunsWatcher
-  run_is_stopped = inr (
-    JournalFault,
-    record {
-      refused = (0, made (failed_after 0) open_steps 3 true opened (first-failed 3 (lit< tt)));
-      count = refl;
-    },
-    record { gave = record { given = refl; end = λ is. absurd (cc is) }; ends = (refl, refl) },
-  )
+  answers : Session crashed_notes crashed_leaves [] (opened crashed_notes) marked_leaves
+      (codes "migrated" ++ 10 ∷ []) Done
+  unfolding last_text
+  answers =
+      comes crashed_notes crashed_leaves [] (opened crashed_notes) marked_leaves (codes "migrated" ++ 10 ∷ []) Done _
+      (answered-session dig crashed_notes crashed_leaves) (refl, refl) tt
+      (record {
+        of_notes = found-keeps (opened crashed_notes) (identity ∷ []) notes_second;
+        of_leaves = found-keeps marked_leaves (marker ∷ []) marked_leaves_settled;
+      })
 
-  -- one of an operator, whose first record is missing
-  other_place : role_in operator_kinds (content crashed.history) ≡ Err 4
-  unfolding operator_in
-  other_place =
-      ap (read_of_kinds operator_kinds)
-      (ok-of (journal_in (content crashed.history)) (identity ∷ []) crashed_settled.read)
-
-  run_finds_no_operator : RunsOperator told foretold met dig crashed blank refused blank untold (Unit {0}) NotJournal
-  unfolding RunsOperator
-  run_finds_no_operator = inr (
-    JournalPlace 4,
-    record {
-      refused = (
-        made passed open_steps 3 false crashed (all-passed 3),
-        telling crashed (λ before. role_in operator_kinds (content before) ≡ Err 4) other_place,
-      );
-      count = refl;
-    },
-    refl,
-    record { gave = record { given = refl; end = λ is. absurd (cc is) }; ends = (refl, refl) },
-  )
+  refuses : Session (opened crashed_notes) marked_leaves (marker ∷ []) (opened (opened crashed_notes))
+      (opened marked_leaves) (refused_text (codes "already-new")) Refused
+  unfolding lines_in last_text
+  refuses =
+      comes (opened crashed_notes) marked_leaves (marker ∷ []) (opened (opened crashed_notes)) (opened marked_leaves)
+      (refused_text (codes "already-new")) Refused _
+      (refused-session dig (opened crashed_notes) marked_leaves) (refl, refl) (lit< tt)
+      (record {
+        of_notes =
+            found-keeps (opened (opened crashed_notes)) (identity ∷ [])
+            (opened_settled (opened crashed_notes) (identity ∷ []) notes_second);
+        of_leaves =
+            found-keeps (opened marked_leaves) (marker ∷ [])
+            (opened_settled marked_leaves (marker ∷ []) marked_leaves_settled);
+      })
 
   -- ---- the life
 
-  abbrev MyCall : Type 0
-  MyCall = Call told foretold met dig
+  abbrev pair : Drive → Drive → Pair Drive
+  pair notes leaves = record { notes = notes; leaves = leaves }
 
-  abbrev one_call : Asked → Drive → Drive → Status → Type 0
-  one_call asked old new status = DoesAsked told foretold met dig asked (both old) (both new) untold status
-
-  abbrev call_of : (asked : Asked) (old new : Drive) (status : Status) → one_call asked old new status → MyCall
-  call_of asked old new status did = record {
+  abbrev call_of : (asked : Asked) (old new : Pair Drive) (text : List ℕ) (status : Status)
+      → DoesAsked told foretold met dig asked old new (outside text) status → DriveCall dig
+  call_of asked old new text status did = record {
     asked = asked;
-    old = both old;
-    new = both new;
-    outside = untold;
+    old = old;
+    new = new;
+    outside = outside text;
     status = status;
     did = inl did;
   }
 
-  -- the calls, the newest first
-  abbrev sample : List MyCall
-  sample =
-      (
-      call_of (ToRun Operator) crashed refused NotJournal run_finds_no_operator
-      ∷ call_of (ToRun Watcher) opened faulted DeviceFault (run_is_stopped, refl)
-      ∷ call_of (ToRun Watcher) begun opened BadLine (run_reads_nothing, refl)
-      ∷ call_of (ToBegin Watcher identity) anew begun Done (init_passes, refl)
-      ∷ call_of (ToBegin Watcher identity) blank stopped DeviceFault (init_stops, refl)
-      ∷ []
-      )
+  abbrev run_of : (notes leaves : Drive) (records : List (List ℕ)) (new_notes new_leaves : Drive) (text : List ℕ)
+      (status : Status) → OpensWallet told foretold met dig notes leaves (wallet_with dig notes leaves records)
+      → Session notes leaves records new_notes new_leaves text status
+      → RunsWallet told foretold met dig notes leaves new_notes new_leaves (outside text) (Unit {0}) status
+  unfolding RunsWallet
+  run_of notes leaves records new_notes new_leaves text status opens session =
+      inl (wallet_with dig notes leaves records, opens, session)
 
-  -- they are a life: between the two inits a crash came, as behind the third run
-  sample_life : IsLife told foretold met dig sample
-  unfolding IsLife
-  sample_life =
-      let stays : Lies told blank blank = Stays refl in (
+  run_faults : RunsWallet told foretold met dig begun_notes begun_leaves (opened begun_notes) faulted_leaves
+      (outside device_fault_text) (Unit {0}) DeviceFault
+  unfolding records_behind_of
+  run_faults =
+      run_of begun_notes begun_leaves [] (opened begun_notes) faulted_leaves device_fault_text DeviceFault
+      (opens begun_notes begun_leaves [] begun_notes_settled begun_leaves_settled refl) faults
+
+  run_answers : RunsWallet told foretold met dig crashed_notes crashed_leaves (opened crashed_notes) marked_leaves
+      (outside (codes "migrated" ++ 10 ∷ [])) (Unit {0}) Done
+  unfolding records_behind_of
+  run_answers =
+      run_of crashed_notes crashed_leaves [] (opened crashed_notes) marked_leaves (codes "migrated" ++ 10 ∷ []) Done
+      (opens crashed_notes crashed_leaves [] crashed_notes_settled crashed_leaves_settled refl) answers
+
+  run_refuses : RunsWallet told foretold met dig (opened crashed_notes) marked_leaves (opened (opened crashed_notes))
+      (opened marked_leaves) (outside (refused_text (codes "already-new"))) (Unit {0}) Refused
+  unfolding records_behind_of
+  run_refuses =
+      run_of (opened crashed_notes) marked_leaves (marker ∷ []) (opened (opened crashed_notes)) (opened marked_leaves)
+      (refused_text (codes "already-new")) Refused
+      (opens (opened crashed_notes) marked_leaves (marker ∷ []) notes_second marked_leaves_settled refl) refuses
+
+  pub small_life : SmallLife dig
+  unfolding IsLife ran_by ran_as wallet_ran RunsWallet run_of run_answers run_refuses answers refuses comes
+  small_life = record {
+    stopped =
+        call_of (ToBegin BothDisks identity) (pair blank blank) (pair stopped_notes blank) device_fault_text DeviceFault
+        init_stops;
+    begun =
+        call_of (ToBegin BothDisks identity) (pair stopped_notes blank) (pair begun_notes begun_leaves)
+        (codes "made" ++ 10 ∷ []) Done init_passes;
+    faulted =
+        call_of (ToRun Wallet) (pair begun_notes begun_leaves) (pair (opened begun_notes) faulted_leaves)
+        device_fault_text DeviceFault run_faults;
+    answered =
+        call_of (ToRun Wallet) (pair crashed_notes crashed_leaves) (pair (opened crashed_notes) marked_leaves)
+        (codes "migrated" ++ 10 ∷ []) Done run_answers;
+    refused =
+        call_of (ToRun Wallet) (pair (opened crashed_notes) marked_leaves)
+        (pair (opened (opened crashed_notes)) (opened marked_leaves)) (refused_text (codes "already-new")) Refused
+        run_refuses;
+    life = (
+      (refl, refl),
+      (Stays refl, Stays refl),
+      (
         (refl, refl),
-        (Crashed faulted.history (content faulted.history) refl (content_may_be_left faulted.history) refl, stays),
+        (
+          Crashed (opened begun_notes).history (synced_content (opened begun_notes).history) refl
+              (outcomes Old (opened begun_notes).history) refl,
+          Crashed faulted_leaves.history (synced_content faulted_leaves.history) refl
+              (outcomes Old faulted_leaves.history) refl,
+        ),
         (
           (refl, refl),
-          (Stays refl, stays),
-          (
-            (refl, refl),
-            (Stays refl, stays),
-            (
-              (refl, refl),
-              (
-                Crashed stopped.history (content stopped.history) refl (content_may_be_left stopped.history) refl,
-                stays,
-              ),
-              ((refl, refl), tt, tt),
-            ),
-          ),
+          (Stays refl, Stays refl),
+          ((refl, refl), (Stays refl, Stays refl), ((refl, refl), tt, tt)),
         ),
-      )
+      ),
+    );
+    stopped_is = record { asked_is = refl; status_is = refl; begins = refl; wrote = refl };
+    begun_is = record { asked_is = refl; status_is = refl; begins = refl; wrote = refl };
+    faulted_is = record { asked_is = refl; status_is = refl; begins = refl; wrote = refl };
+    answered_is = record { asked_is = refl; status_is = refl; begins = refl; wrote = refl };
+    refused_is = record { asked_is = refl; status_is = refl; begins = refl; wrote = refl };
+    image = synced_content faulted_leaves.history;
+    crash = refl;
+    less = λ same. cc same;
+    left =
+        ap (λ (s : Streamed (SessionState (NodeAt WalletAt)) (List ℕ)). Some s.stream.run.node.kept.leaves.records)
+        (answered-session dig crashed_notes crashed_leaves);
+    found = refl;
+  }

@@ -12,13 +12,11 @@ use Rattle.node_rules.specs.WalletRecords.{note_text}
 use Rattle.node_rules.specs.Wallet.{WalletRecords, WalletEffect, who, coin_state, accept_effect, send_effect, leave_from, leave_effect, reclaim_effect, migrate_effect}
 use Rattle.node_rules.specs.WalletOpening.{is_wallet}
 use Rattle.node_rules.proofs.WalletAdded.{leave-note, migrate-note}
-use Rattle.world_rules.specs.Deeds.{with_record as with_deed}
-use Rattle.world_rules.proofs.ByteTexts.{small-cons, small-append, small-number, small-short}
-use Rattle.world_rules.proofs.ItemTexts.{small-bundle}
-use Rattle.world_rules.proofs.Handed.{is_handed}
-use Rattle.world_rules.proofs.WalletEnds.{AcceptEnds, ReclaimEnds, Refused, Known, New, Takes, accept_ends, reclaim_ends}
-use Rattle.wallet_deeds.specs.declared.order.WalletOrder.{WalletOrder}
-use Rattle.wallet_deeds.specs.Orders.{order_deed}
+use Rattle.node_replies.specs.Orders.{with_record as with_deed, wallet_does}
+use Rattle.node_replies.proofs.ByteTexts.{small-cons, small-append, small-number, small-short}
+use Rattle.node_replies.proofs.BundleTexts.{small-bundle, handed-small}
+use Rattle.node_replies.proofs.WalletEnds.{AcceptEnds, ReclaimEnds, Refused, Known, New, Takes, accept_ends, reclaim_ends}
+use Rattle.node_replies.specs.declared.order.WalletOrder.{WalletOrder}
 use Rattle.wallet_deeds.specs.Laws.{IsFitOrder}
 use Rattle.wallet_deeds.proofs.Effects.{send-note}
 use Rattle.wallet_deeds.proofs.OrderLaws.{orders_add_one_record, orders_keep_the_role}
@@ -52,7 +50,7 @@ module _ (dig : List ℕ → List ℕ) (log : List RootCall) (wallet : WalletRec
           subst (λ (o : Option (List ℕ)). IfSome o AreBytes) (sym (ap (λ e. e.note) is))
           (small-cons 2 (lit< tt)
           (small-bundle (kept_of links)
-          (is_handed dig (who wallet).tag log bytes links (record { are = are }) handed).small)).are
+          (handed-small dig (who wallet).tag log bytes links (record { are = are }) handed))).are
 
   leave-bytes : (coin : ℕ) → IfSome (leave_effect dig wallet log coin).note AreBytes
   unfolding leave_effect note_text
@@ -73,8 +71,8 @@ module _ (dig : List ℕ → List ℕ) (log : List RootCall) (wallet : WalletRec
           (small-cons 5 (lit< tt)
           (small-append (small-append (small-number taken.coin) (small-number taken.tip)) (small-short taken.q))).are
 
-  order-bytes : (order : WalletOrder) → IsFitOrder order → IfSome (order_deed dig log 0 wallet order).note AreBytes
-  unfolding order_deed
+  order-bytes : (order : WalletOrder) → IsFitOrder order → IfSome (wallet_does dig log wallet order).note AreBytes
+  unfolding wallet_does
   order-bytes (WalletOrder.Accept bundle) fit = accept-bytes bundle fit
   order-bytes (WalletOrder.Send coin to last) fit =
       if-none (send_effect dig wallet log coin to last).note (send-note dig wallet log coin to last)
@@ -144,17 +142,17 @@ either-goes first wallet (Some leaf) note on =
 module _ (dig : List ℕ → List ℕ) (log : List RootCall) (wallet : WalletRecords) (good : IsGood dig wallet)
     (few : blocks log < 2 ^ 64) where
   order-good : (order : WalletOrder) → IsFitOrder order
-      → IsGood dig (with_either_record wallet (order_deed dig log 0 wallet order).leaf
-      (order_deed dig log 0 wallet order).note)
+      → IsGood dig (with_either_record wallet (wallet_does dig log wallet order).leaf
+      (wallet_does dig log wallet order).note)
   order-good order fit =
-      let deed = order_deed dig log 0 wallet order in
-      let kept = orders_keep_the_role dig log 0 wallet order good.is fit
+      let doing = wallet_does dig log wallet order in
+      let kept = orders_keep_the_role dig log wallet order good.is fit
       (record { notes = good.bytes; blocks = few }) in
       record {
         is =
             subst (λ (w : WalletRecords). is_wallet dig w ≡ true)
-            (same-after wallet deed.leaf deed.note (orders_add_one_record dig log 0 wallet order)) kept;
-        bytes = either-bytes wallet deed.leaf deed.note good.bytes (order-bytes dig log wallet order fit);
+            (same-after wallet doing.leaf doing.note (orders_add_one_record dig log wallet order)) kept;
+        bytes = either-bytes wallet doing.leaf doing.note good.bytes (order-bytes dig log wallet order fit);
       }
 
   ask-good : (ask : WalletAsk) → ((order : WalletOrder) → ask ≡ WalletAsk.Order order → IsFitOrder order)

@@ -10,7 +10,7 @@ use Rattle.run_endings.specs.declared.status.Status.{Status}
 use Rattle.run_endings.specs.declared.status.Status.TheVariants.{Done, Refused, Usage, BadLine, ReadFault, WriteFault, DeviceFault, NoMemory, TooLong, NotJournal, AlreadyMade}
 use Rattle.run_endings.specs.Outputs.{Output, EndsAs}
 use Rattle.operator_rules.specs.Records.{who_is}
-use Rattle.world_rules.specs.World.{Role, Wallet, Watcher, Operator}
+use Rattle.node_replies.specs.Roles.{Role, Wallet, Watcher, Operator}
 use Rattle.node_sessions.specs.Sessions.{SessionState, begun}
 use Rattle.streamed_lines.specs.declared.ending.Ending.TheVariants.{Complete}
 use Rattle.node_runs.specs.Endings.{last_text, session_output, fault_output}

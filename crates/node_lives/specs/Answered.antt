@@ -3,14 +3,13 @@ use Rattle.std.specs.Prelude.{◌≡◌, ◌⊎◌, ◌<◌, ℕ, List, [], Opti
 use mathlib.Core.Logic.{inl, inr}
 use Rattle.crash_disk.specs.Disk.{History, FaultPlan}
 use Rattle.node_journal.specs.Notes.{NotesState}
-use Rattle.world_rules.specs.World.{Role, Wallet, Watcher, Operator}
-use Rattle.world_rules.specs.declared.reply.Reply.{Reply}
-use Rattle.world_rules.specs.Deeds.{Gives}
+use Rattle.node_replies.specs.Roles.{Role, Wallet, Watcher, Operator}
+use Rattle.node_replies.specs.declared.reply.Reply.{Reply}
 use Rattle.wallet_node.specs.State.{WalletState}
 use Rattle.plasma_tx.specs.declared.call.RootCall.{RootCall}
 use Rattle.node_rules.specs.Wallet.{WalletRecords}
-use Rattle.wallet_deeds.specs.declared.order.WalletOrder.{WalletOrder}
-use Rattle.wallet_deeds.specs.Orders.{order_deed}
+use Rattle.node_replies.specs.declared.order.WalletOrder.{WalletOrder}
+use Rattle.node_replies.specs.Orders.{Response, wallet_does}
 use Rattle.node_lines.specs.declared.wallet_line.WalletLine.{WalletLine}
 use Rattle.node_journal.specs.Role.{role_in}
 use Rattle.node_rules.specs.Watcher.{watcher_kinds, who_is as watcher_is}
@@ -158,9 +157,9 @@ module _ {D : Type 0} (told : D → Option History) (plan : D → Option FaultPl
   wallet_ran_in call = wallet_ran_by call.asked call.old call.new call.outside call.status call.did
 
   -- what an order gives out at a wallet to which its commands came
-  abbrev pub gives_at : SessionState (NodeAt WalletAt) → WalletOrder → Gives
+  abbrev pub gives_at : SessionState (NodeAt WalletAt) → WalletOrder → Response
   gives_at session order =
-      (order_deed session.node.dig (calls_of session.log) 0 (records_of session.node.kept) order).gives
+      (wallet_does session.node.dig (calls_of session.log) (records_of session.node.kept) order).response
 
   -- A wallet's run answered `sent q` to one of its lines, with these bytes: a command spelled there, behind the lines
   -- before it.

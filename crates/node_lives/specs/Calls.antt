@@ -1,7 +1,7 @@
 -- A call of the program over the two disks of a node: what it was asked for, and what it did.
 use Rattle.std.specs.Prelude.{◌≡◌, ◌⊎◌, ℕ, List, Option}
 use Rattle.crash_disk.specs.Disk.{History, FaultPlan}
-use Rattle.world_rules.specs.World.{Role, Wallet, Watcher, Operator}
+use Rattle.node_replies.specs.Roles.{Role, Wallet, Watcher, Operator}
 use Rattle.run_endings.specs.declared.status.Status.{Status}
 use Rattle.run_endings.specs.declared.status.Status.TheVariants.{NoMemory}
 use Rattle.node_runs.specs.Sessions.{Outside}
@@ -10,9 +10,14 @@ use Rattle.node_runs.specs.Operators.{RunsOperator}
 use Rattle.node_runs.specs.Inits.{InitsNotes, InitsPair}
 use Rattle.node_lives.specs.Disks.{Pair}
 
--- what a call is asked for: to begin a node of a role with this identity; to run one; or something that uses no disk
+-- which disks an init begins: that of the notes alone, or both
+pub data Begun : Type 0 where
+  NotesAlone : Begun
+  BothDisks : Begun
+
+-- what a call is asked for: to begin disks with this identity; to run a node of a role; or something that uses no disk
 pub data Asked : Type 0 where
-  ToBegin : Role → List ℕ → Asked
+  ToBegin : Begun → List ℕ → Asked
   ToRun : Role → Asked
   ToUseNoDisk : Asked
 
@@ -23,12 +28,12 @@ Starves old new status = (status ≡ NoMemory) × (new ≡ old)
 -- over disks that tell their history, foretell their faults and count them, and under a digest
 module _ {D : Type 0} (told : D → Option History) (plan : D → Option FaultPlan) (faults : D → ℕ)
     (dig : List ℕ → List ℕ) where
-  -- what an init of the role with this identity did to the disks, and outside, with this status; of an operator that
-  -- of one without a key, which leaves the other disk
-  abbrev pub BeginsAs : Role → List ℕ → Pair D → Pair D → Outside → Status → Type 0
-  BeginsAs Wallet identity old new outside status =
+  -- what an init of these disks with this identity did to them, and outside, with this status; one of the notes alone
+  -- leaves the other disk
+  abbrev pub BeginsAs : Begun → List ℕ → Pair D → Pair D → Outside → Status → Type 0
+  BeginsAs BothDisks identity old new outside status =
       InitsPair told plan faults outside.taken outside.after status identity old.notes old.leaves new.notes new.leaves
-  BeginsAs role identity old new outside status =
+  BeginsAs NotesAlone identity old new outside status =
       InitsNotes told plan faults outside.taken outside.after status identity old.notes new.notes
       × (new.leaves ≡ old.leaves)
 
@@ -43,7 +48,7 @@ module _ {D : Type 0} (told : D → Option History) (plan : D → Option FaultPl
 
   -- what a call did that was asked for this
   abbrev pub DoesAsked : Asked → Pair D → Pair D → Outside → Status → Type 0
-  DoesAsked (ToBegin role identity) old new outside status = BeginsAs role identity old new outside status
+  DoesAsked (ToBegin disks identity) old new outside status = BeginsAs disks identity old new outside status
   DoesAsked (ToRun role) old new outside status = RunsAs role old new outside status
   DoesAsked ToUseNoDisk old new outside status = new ≡ old
 

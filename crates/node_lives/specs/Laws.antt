@@ -1,5 +1,5 @@
 -- What holds of a node's whole life, whatever runs come, faults and crashes.
-use Rattle.std.specs.Prelude.{◌≡◌, ◌≢◌, ◌⊎◌, ℕ, List, ◌∷◌, ◌++◌, Option, Some, None}
+use Rattle.std.specs.Prelude.{◌≡◌, ◌≢◌, ◌⊎◌, ℕ, List, [], ◌∷◌, ◌++◌, Option, Some, None, IfSome}
 use Rattle.std.specs.List.{All, Contains}
 use Rattle.crash_disk.specs.Disk.{History, FaultPlan}
 use Rattle.plasma_tx.specs.Spelling.{AreBytes}
@@ -8,32 +8,42 @@ use Rattle.node_rules.specs.Watcher.{WatcherIdentity, identity_text as watcher_t
 use Rattle.node_rules.specs.WatcherLaws.{IsIdentity as IsWatcher}
 use Rattle.node_rules.specs.WalletRecords.{identity_text as wallet_text}
 use Rattle.node_rules.specs.WalletLaws.{IsIdentity as IsWallet}
-use Rattle.operator_rules.specs.Records.{Identity as OperatorIdentity, identity_text as operator_text}
+use Rattle.operator_rules.specs.Records.{Identity as OperatorIdentity, identity_text as operator_text, who_is}
 use Rattle.operator_rules.specs.Laws.{IsIdentity as IsOperator}
 use Rattle.node_rules.specs.Wallet.{WalletRecords}
-use Rattle.world_rules.specs.World.{Role, Wallet, Watcher, Operator}
+use Rattle.node_replies.specs.Roles.{Role, Wallet, Watcher, Operator}
 use Rattle.streamed_lines.specs.declared.ending.Ending.{Ending}
 use Rattle.streamed_lines.specs.Outside.{WroteFront}
 use Rattle.run_endings.specs.Texts.{device_fault_text}
 use Rattle.node_runs.specs.Endings.{last_text}
 use Rattle.run_endings.specs.declared.status.Status.TheVariants.{Done, NotJournal}
-use Rattle.node_lives.specs.Calls.{ToBegin, ToRun, Call}
+use Rattle.node_lives.specs.Calls.{Begun, NotesAlone, BothDisks, ToBegin, ToRun, Call}
 use Rattle.node_lives.specs.Lives.{IsLife}
-use Rattle.node_lives.specs.Standing.{identity_alone, GoOn, IsIdentityOf, Stand}
+use Rattle.node_lives.specs.Standing.{identity_alone, GoOn, HasDigests, IsIdentityOf, Stand}
 use Rattle.node_lives.specs.Answered.{Ran, ran_in, GivesOut}
 
 -- what a run whose disks were opened says of its end: nothing where all lines were answered
 abbrev pub IsLastLine : List ℕ → Type 0
 IsLastLine last = ((ending : Ending (List ℕ)) × (last ≡ last_text ending)) ⊎ (last ≡ device_fault_text)
 
--- an identity of the type whose tag and seed are bytes is one of its role, an operator's where it has no key
+-- an identity of the type whose tag and seed are bytes is one of its role
 pub record IdentitiesAreOfTheirRoles (dig : List ℕ → List ℕ) : Type 0 where
   pub watcher : (who : WatcherIdentity) → IsWatcher who → AreBytes who.tag
       → IsIdentityOf dig Watcher (watcher_text who)
-  pub operator : (who : OperatorIdentity) → IsOperator who → AreBytes who.tag → who.key_seed ≡ None
-      → IsIdentityOf dig Operator (operator_text who)
+  pub operator : (who : OperatorIdentity) → IsOperator who → AreBytes who.tag → IfSome who.key_seed AreBytes
+      → HasDigests dig who.key_seed → IsIdentityOf dig Operator (operator_text who)
   pub wallet : (who : WalletIdentity) → IsWallet who → AreBytes who.tag → AreBytes who.seed
       → IsIdentityOf dig Wallet (wallet_text who)
+
+-- which disks an init of the role with this identity begins: those of an operator by its key
+abbrev pub by_key : Option (List ℕ) → Begun
+by_key None = NotesAlone
+by_key (Some seed) = BothDisks
+
+abbrev pub begun_of : Role → List ℕ → Begun
+begun_of Wallet identity = BothDisks
+begun_of Watcher identity = NotesAlone
+begun_of Operator identity = by_key (who_is (identity ∷ [])).key_seed
 
 -- over disks that tell their history, foretell their faults and count them, and under a digest
 module _ {D : Type 0} (told : D → Option History) (plan : D → Option FaultPlan) (faults : D → ℕ)
@@ -42,7 +52,7 @@ module _ {D : Type 0} (told : D → Option History) (plan : D → Option FaultPl
   pub record Begins (role : Role) (call : Call told plan faults dig) : Type 0 where
     pub identity : List ℕ
     pub is : IsIdentityOf dig role identity
-    pub asked : call.asked ≡ ToBegin role identity
+    pub asked : call.asked ≡ ToBegin (begun_of role identity) identity
     pub made : call.status ≡ Done
 
   -- A later call of a node of the role with this identity: a run of the role finds a journal of it, an init begins
@@ -50,7 +60,7 @@ module _ {D : Type 0} (told : D → Option History) (plan : D → Option FaultPl
   -- the role, in each image of a crash.
   pub record FindsTheNode (role : Role) (identity : List ℕ) (call : Call told plan faults dig) : Type 0 where
     pub runs : call.asked ≡ ToRun role → call.status ≢ NotJournal
-    pub begins : (other : Role) (anew : List ℕ) → call.asked ≡ ToBegin other anew → call.status ≢ Done
+    pub begins : (disks : Begun) (anew : List ℕ) → call.asked ≡ ToBegin disks anew → call.status ≢ Done
     pub handed : Stand dig told role (identity_alone identity) call.old
     pub left : Stand dig told role (identity_alone identity) call.new
 

@@ -4,3 +4,4 @@ pub mod Lives
 pub mod Standing
 pub mod Answered
 pub mod Laws
+pub mod Samples

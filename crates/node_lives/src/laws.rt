@@ -1,19 +1,20 @@
 ghost use Rattle.std.specs.Prelude.{List, ℕ};
+ghost use Rattle.node_lives.specs.Samples.{SmallLife};
 ghost use Rattle.node_lives.specs.Laws.{IdentitiesAreOfTheirRoles, BegunNodesStay, RunsWriteTheirAnswers, AnsweredRecordsStand, LeavesGiveOutOneMessage};
 
 use crash_disk::Disk;
 
-/// Once a wallet, a watcher or an operator without a key was begun, each later call finds it, whatever came between:
-/// runs of any role with any input, broken off by any fault or for want of memory, inits, and crashes. No run of its
-/// role is refused as no journal, no init begins one again, and each image that a crash may leave of its disks keeps
-/// its identity, and records of its role.
+/// Once a wallet, a watcher or an operator, with a key or without one, was begun, each later call finds it, whatever
+/// came between: runs of any role with any input, broken off by any fault or for want of memory, inits, and crashes. No
+/// run of its role is refused as no journal, no init begins one again, and each image that a crash may leave of its
+/// disks keeps its identity, and records of its role.
 pub fn begun_nodes_stay<D: Disk>()
     ensures { (dig : List ℕ → List ℕ) → BegunNodesStay D.told D.plan D.faults dig }
 {}
 
-/// The records of the lines that a run of a wallet, a watcher or an operator without a key answered stand in every later
-/// call since: in each image that a crash may leave of the disks that it is handed, and in front of what a later run of
-/// the role finds.
+/// The records of the lines that a run of a wallet, a watcher or an operator answered stand in every later call since:
+/// in each image that a crash may leave of the disks that it is handed, and in front of what a later run of the role
+/// finds.
 pub fn answered_records_stand<D: Disk>()
     ensures { (dig : List ℕ → List ℕ) → AnsweredRecordsStand D.told D.plan D.faults dig }
 {}
@@ -25,13 +26,20 @@ pub fn leaves_give_out_one_message<D: Disk>()
 {}
 
 /// What a run of a node wrote is a beginning of its answers, or all of them and a beginning of what it says of its end.
-/// So a byte of an answer of a wallet, a watcher or an operator without a key is written of a line alone whose record
-/// stands in every later call.
+/// So a byte of an answer is written of a line alone whose record stands in every later call.
 pub fn runs_write_their_answers<D: Disk>()
     ensures { (dig : List ℕ → List ℕ) → RunsWriteTheirAnswers D.told D.plan D.faults dig }
 {}
 
-/// The bytes of an identity are one of its role, where its fields are of their types, and an operator's has no key.
+/// The bytes of an identity are one of its role, where its fields are of their types, and where an operator's has a key,
+/// the digests have 32 bytes.
 pub fn identities_are_of_their_roles()
     ensures { (dig : List ℕ → List ℕ) → IdentitiesAreOfTheirRoles dig }
+{}
+
+/// A small life of a wallet is a life, so the laws above speak of some: a device fault stops an init, the next one makes
+/// the wallet, a fault breaks off a run as its record is added, and a crash follows; the next run adds the record and is
+/// answered, and a last one finds it.
+pub fn a_small_life_is_one()
+    ensures { (dig : List ℕ → List ℕ) → SmallLife dig }
 {}

@@ -5,6 +5,6 @@
 mod laws;
 
 pub use laws::{
-    answered_records_stand, begun_nodes_stay, identities_are_of_their_roles,
+    a_small_life_is_one, answered_records_stand, begun_nodes_stay, identities_are_of_their_roles,
     leaves_give_out_one_message, runs_write_their_answers,
 };

@@ -1,5 +1,5 @@
 -- A node's run, where why its reading failed is left out.
-use Rattle.std.proofs.Common.{◌⊎◌, ℕ, List, Option, Some, None, Result, inl, inr}
+use Rattle.std.proofs.Common.{ℕ, List, Option, Some, None, inl, inr}
 use Rattle.crash_disk.specs.Disk.{History, FaultPlan}
 use Rattle.plasma_tx.specs.declared.call.RootCall.{RootCall}
 use Rattle.node_journal.specs.Notes.{NotesState}

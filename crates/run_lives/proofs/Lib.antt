@@ -1,2 +1,3 @@
 mod AnyFailure
 mod LifeLaws
+mod Spelled

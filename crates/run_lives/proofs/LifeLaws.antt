@@ -1,5 +1,5 @@
 -- What a run of the program does is a call of a node's life.
-use Rattle.std.proofs.Common.{◌≡◌, ◌⊎◌, ℕ, false, List, Option, Some, None, refl, ap, ◌∙◌, subst, inl, inr}
+use Rattle.std.proofs.Common.{◌≡◌, ℕ, false, List, Option, Some, None, refl, ap, ◌∙◌, subst, inl, inr}
 use Rattle.crash_disk.specs.Disk.{History, FaultPlan}
 use Rattle.run_words.specs.declared.form.Form.{Form}
 use Rattle.run_words.specs.declared.form.Form.TheVariants.{Replay, Brief, Wallet, Operator, Watcher, InitWallet, InitOperator, InitWatcher, Make, Verify, HssInit, HssSign, HssVerify, Audit, Archive}

@@ -5,34 +5,50 @@ use Rattle.node_rules.specs.Watcher.{identity_text as watcher_text}
 use Rattle.node_rules.specs.WalletRecords.{identity_text as wallet_text}
 use Rattle.operator_rules.specs.Records.{identity_text as operator_text}
 use Rattle.hss_runs.specs.Identity.{identity_text as signer_text}
-use Rattle.world_rules.specs.World.{Wallet as WalletRole, Watcher as WatcherRole, Operator as OperatorRole}
+use Rattle.node_replies.specs.Roles.{Wallet as WalletRole, Watcher as WatcherRole, Operator as OperatorRole}
 use Rattle.run_words.specs.declared.form.Form.{Form}
 use Rattle.run_words.specs.declared.form.Form.TheVariants.{Wallet, Operator, Watcher, InitWallet, InitOperator, InitWatcher, HssInit, HssSign}
+use Rattle.run_words.specs.Forms.{form_of}
+use Rattle.lms_sign.specs.declared.types.LmsTypes.{LmsTypes}
 use Rattle.run_endings.specs.declared.status.Status.{Status}
 use Rattle.streamed_lines.specs.Outside.{ReadsToFault}
 use Rattle.node_runs.specs.Sessions.{Outside}
 use Rattle.node_lives.specs.Disks.{Pair}
-use Rattle.node_lives.specs.Calls.{Asked, ToBegin, ToRun, ToUseNoDisk, DoesAsked, Starves}
+use Rattle.node_lives.specs.Calls.{NotesAlone, BothDisks, Asked, ToBegin, ToRun, ToUseNoDisk, DoesAsked, Starves}
+use Rattle.node_lives.specs.Standing.{HasDigests, IsIdentityOf}
 use Rattle.replay_run.specs.Forms.{uses_notes, uses_leaves}
 use Rattle.replay_run.specs.Does.{Does}
 
--- What the form of a run asks for, as a call on the two disks of a node. An init of both disks is asked for as a
--- wallet's, with the identity that it makes, whosever that is. A two-level signer's run is no call of a life.
+-- What the form of a run asks for, as a call on the two disks of a node. A two-level signer's run is no call of a life.
 abbrev pub asked_of : Option Form → Option Asked
 asked_of (Some Wallet) = Some (ToRun WalletRole)
 asked_of (Some Operator) = Some (ToRun OperatorRole)
 asked_of (Some Watcher) = Some (ToRun WatcherRole)
 asked_of (Some (InitWallet tag account seed types)) =
-    Some (ToBegin WalletRole (wallet_text (record { tag = tag; account = account; seed = seed; types = types })))
+    Some (ToBegin BothDisks (wallet_text (record { tag = tag; account = account; seed = seed; types = types })))
 asked_of (Some (InitOperator tag account None)) =
-    Some (ToBegin OperatorRole (operator_text (record { tag = tag; account = account; key_seed = None })))
+    Some (ToBegin NotesAlone (operator_text (record { tag = tag; account = account; key_seed = None })))
 asked_of (Some (InitOperator tag account (Some seed))) =
-    Some (ToBegin WalletRole (operator_text (record { tag = tag; account = account; key_seed = Some seed })))
+    Some (ToBegin BothDisks (operator_text (record { tag = tag; account = account; key_seed = Some seed })))
 asked_of (Some (InitWatcher tag account)) =
-    Some (ToBegin WatcherRole (watcher_text (record { tag = tag; account = account })))
-asked_of (Some (HssInit seed)) = Some (ToBegin WalletRole (signer_text seed))
+    Some (ToBegin NotesAlone (watcher_text (record { tag = tag; account = account })))
+asked_of (Some (HssInit seed)) = Some (ToBegin BothDisks (signer_text seed))
 asked_of (Some (HssSign message)) = None
 asked_of form = Some ToUseNoDisk
+
+-- What the words of an init spell is an identity of its role, as the laws of lives ask of the init that began a node: a
+-- watcher's, an operator's and a wallet's. For one of an operator with a key the digests have 32 bytes.
+pub record InitsAreOfTheirRoles (dig : List ℕ → List ℕ) : Type 0 where
+  pub watcher : (words : List (List ℕ)) (tag : List ℕ) (account : ℕ)
+      → form_of words ≡ Some (InitWatcher tag account)
+      → IsIdentityOf dig WatcherRole (watcher_text (record { tag = tag; account = account }))
+  pub operator : (words : List (List ℕ)) (tag : List ℕ) (account : ℕ) (seed : Option (List ℕ))
+      → form_of words ≡ Some (InitOperator tag account seed) → HasDigests dig seed
+      → IsIdentityOf dig OperatorRole (operator_text (record { tag = tag; account = account; key_seed = seed }))
+  pub wallet : (words : List (List ℕ)) (tag : List ℕ) (account : ℕ) (seed : List ℕ) (types : LmsTypes)
+      → form_of words ≡ Some (InitWallet tag account seed types)
+      → IsIdentityOf dig WalletRole
+      (wallet_text (record { tag = tag; account = account; seed = seed; types = types }))
 
 -- over disks that tell their history, foretell their faults and count them, and under a digest
 module _ {D : Type 0} (told : D → Option History) (plan : D → Option FaultPlan) (faults : D → ℕ)

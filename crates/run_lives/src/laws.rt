@@ -1,5 +1,5 @@
 ghost use Rattle.std.specs.Prelude.{List, ℕ};
-ghost use Rattle.run_lives.specs.Calls.{RunsAreCalls};
+ghost use Rattle.run_lives.specs.Calls.{RunsAreCalls, InitsAreOfTheirRoles};
 
 use crash_disk::Disk;
 
@@ -9,4 +9,10 @@ use crash_disk::Disk;
 /// such call.
 pub fn runs_are_calls<D: Disk>()
     ensures { (dig : List ℕ → List ℕ) → RunsAreCalls D.told D.plan D.faults dig }
+{}
+
+/// What the words of an `init` of a wallet, a watcher or an operator spell is an identity of its role, as the laws of
+/// `node_lives` ask of the `init` that began a node. For an operator with a key the digests have 32 bytes.
+pub fn inits_are_of_their_roles()
+    ensures { (dig : List ℕ → List ℕ) → InitsAreOfTheirRoles dig }
 {}

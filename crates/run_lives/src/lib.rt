@@ -3,4 +3,4 @@
 
 mod laws;
 
-pub use laws::runs_are_calls;
+pub use laws::{inits_are_of_their_roles, runs_are_calls};
