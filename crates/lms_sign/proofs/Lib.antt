@@ -4,4 +4,5 @@ pub mod Nodes
 pub mod Laws
 pub mod LaneFacts
 pub mod BlockFacts
+pub mod BeginFacts
 pub mod ChainFacts

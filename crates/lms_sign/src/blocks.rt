@@ -1,12 +1,13 @@
 //! Steps of chains on four strings at a time: the message of each fills one block of SHA-256 with its padding.
 
-ghost use Rattle.std.specs.Prelude.{◌≡◌, ℕ, ◌+◌, ◌^◌, ◌<◌, ◌≤◌, [], length, slice_index, slice_index_or};
+ghost use Rattle.std.specs.Prelude.{◌≡◌, ℕ, ◌+◌, ◌^◌, ◌<◌, ◌≤◌, ◌++◌, [], length, slice_index, slice_index_or, take};
 ghost use Rattle.sha2.specs.Sha256.{digest_bytes, word_at};
-ghost use Rattle.lms_sign.specs.Lanes.{HasWords, first_digest, lane, write_four};
+ghost use Rattle.lms_sign.specs.Types.{u32str};
+ghost use Rattle.lms_sign.specs.Lanes.{HasWords, IsBegun, first_digest, five_rounds, lane, write_four};
 ghost use Rattle.lms_sign.specs.OneTime.{chain_step};
 
 use super::fields::{put, u8str, u16str, u32str};
-use super::lanes::first_hash;
+use super::lanes::{first_five_rounds, first_hash};
 use std::simd::u32x4;
 
 // What pads a message of 55 bytes to a block: a bit 1, zeros, and the length in bits, 440.
@@ -14,7 +15,8 @@ const PADDING: [u8; 9] = [0x80, 0, 0, 0, 0, 0, 0, 1, 0xb8];
 
 // The block of a step of a chain.
 fn chain_block(id: &[u8; 16], q: u32, i: u16, j: u8, string: &[u8; 32]) -> [u8; 64]
-    ensures { first_digest result ≡ chain_step id.now q i j string.now }
+    ensures digest { first_digest result ≡ chain_step id.now q i j string.now }
+    ensures begins { take 20 result ≡ id.now ++ u32str q }
 {
     let mut block = [0; 64];
     put(&mut block, 0, id);
@@ -70,11 +72,12 @@ fn lane_digest(hash: &[u32x4; 8], j: usize) -> [u8; 32]
     digest
 }
 
-// The digests of four messages that fill a block each.
-fn digests(blocks: &[[u8; 64]; 4]) -> [[u8; 32]; 4]
+// The digests of four messages that fill a block each, of which these are the first five rounds.
+fn digests(begun: &[u32x4; 8], blocks: &[[u8; 64]; 4]) -> [[u8; 32]; 4]
+    requires { (j : ℕ) → j < 4 → lane j begun.now ≡ five_rounds (slice_index_or blocks.now j []) }
     ensures { (j : ℕ) → j < 4 → slice_index_or result j [] ≡ first_digest (slice_index_or blocks.now j []) }
 {
-    let hash = first_hash(block_words(blocks));
+    let hash = first_hash(*begun, block_words(blocks));
     [
         lane_digest(&hash, 0),
         lane_digest(&hash, 1),
@@ -83,8 +86,25 @@ fn digests(blocks: &[[u8; 64]; 4]) -> [[u8; 32]; 4]
     ]
 }
 
-/// One step, from place j, of four chains of leaf q, which the numbers name. The strings stand at the chains' numbers.
-pub(crate) fn step_four(id: &[u8; 16], q: u32, j: u8, numbers: [usize; 4], strings: &mut [[u8; 32]])
+/// The first five rounds of all steps of the chains of leaf q, which digest its identifier and its number alone.
+pub(crate) fn begin_steps(id: &[u8; 16], q: u32) -> [u32x4; 8]
+    ensures { IsBegun id.now q result }
+{
+    let block = chain_block(id, q, 0, 0, &[0; 32]);
+    first_five_rounds(block_words(&[block; 4]))
+}
+
+/// One step, from place j, of four chains of leaf q, which the numbers name, behind the first five rounds. The strings
+/// stand at the chains' numbers.
+pub(crate) fn step_four(
+    begun: &[u32x4; 8],
+    id: &[u8; 16],
+    q: u32,
+    j: u8,
+    numbers: [usize; 4],
+    strings: &mut [[u8; 32]],
+)
+    requires begun { IsBegun id.now q begun.now }
     requires small { length strings.old ≤ 2 ^ 16 }
     requires rising { (slice_index numbers 0 < slice_index numbers 1) × (slice_index numbers 1 < slice_index numbers 2)
         × (slice_index numbers 2 < slice_index numbers 3) }
@@ -99,7 +119,7 @@ pub(crate) fn step_four(id: &[u8; 16], q: u32, j: u8, numbers: [usize; 4], strin
         chain_block(id, q, third as u16, j, &strings[third]),
         chain_block(id, q, fourth as u16, j, &strings[fourth]),
     ];
-    let [one, two, three, four] = digests(&blocks);
+    let [one, two, three, four] = digests(begun, &blocks);
     strings[first] = one;
     strings[second] = two;
     strings[third] = three;

@@ -2,9 +2,11 @@
 
 ghost use Rattle.std.specs.Prelude.{◌≡◌, true, false, ℕ, ◌+◌, ◌-◌, ◌^◌, ◌<◌, ◌≤◌, [], max, length, slice_index_or};
 ghost use Rattle.lms_sign.specs.OneTime.{chain_value};
+ghost use Rattle.lms_sign.specs.Lanes.{IsBegun};
 ghost use Rattle.lms_sign.specs.Chains.{IsSpan, has_place, span_at, string_after};
 
-use super::blocks::step_four;
+use super::blocks::{begin_steps, step_four};
+use std::simd::u32x4;
 
 /// The places of a chain from which it takes a step: those from the first up to the end.
 #[derive(Clone, Copy)]
@@ -40,7 +42,15 @@ fn next_chain(spans: &[Span], place: u8, start: usize) -> usize
 
 // One step of each chain that takes one from the place. Where fewer than four are left, the strings behind the chains'
 // go with them, which are no chain's.
-fn step_all(id: &[u8; 16], q: u32, place: u8, spans: &[Span], strings: &mut [[u8; 32]])
+fn step_all(
+    begun: &[u32x4; 8],
+    id: &[u8; 16],
+    q: u32,
+    place: u8,
+    spans: &[Span],
+    strings: &mut [[u8; 32]],
+)
+    requires begun { IsBegun id.now q begun.now }
     requires room { length spans.now + 3 ≤ length strings.old }
     requires small { length strings.old ≤ 2 ^ 16 }
     ensures { (n : ℕ) → n < length spans.now
@@ -51,7 +61,7 @@ fn step_all(id: &[u8; 16], q: u32, place: u8, spans: &[Span], strings: &mut [[u8
         let second = next_chain(spans, place, first + 1);
         let third = next_chain(spans, place, second + 1);
         let fourth = next_chain(spans, place, third + 1);
-        step_four(id, q, place, [first, second, third, fourth], strings);
+        step_four(begun, id, q, place, [first, second, third, fourth], strings);
         first = next_chain(spans, place, fourth + 1);
     }
 }
@@ -66,7 +76,8 @@ pub(crate) fn take_steps(id: &[u8; 16], q: u32, end: u8, spans: &[Span], strings
         ≡ chain_value id.now q n (span_at spans.now n).from ((span_at spans.now n).to - (span_at spans.now n).from)
         (slice_index_or strings.old n []) }
 {
+    let begun = begin_steps(id, q);
     'places: for place in 0..end {
-        step_all(id, q, place, spans, strings);
+        step_all(&begun, id, q, place, spans, strings);
     }
 }

@@ -11,6 +11,8 @@ use Rattle.sparse_merkle.specs.TreeDigest.{node_string, subtree_digest, default_
 use Rattle.sparse_merkle.specs.declared.tree.Entry.{Entry}
 use Rattle.sparse_merkle.proofs.TreeLaws.{default_digest-suc}
 use Rattle.merkle_pages.specs.Nodes.{part_at, KeepsDefaults, KeepsNodes, IsClear, KeepsNode, AddsPart}
+use Rattle.merkle_pages.specs.Kept.{node_in, KeepsTree}
+use Rattle.merkle_pages.specs.declared.kept.KeptPages.{KeptPages}
 use Rattle.merkle_pages.specs.Pages.{name_at, place_at, kept_digest, node_at, PutsNode}
 use Rattle.merkle_pages.specs.declared.pages.PageName.{PageName}
 use Rattle.merkle_pages.proofs.PageLaws.{place-level, prefix-from, name_at-prefix, place_at-prefix, page_node-none}
@@ -29,19 +31,31 @@ kept-read digest default = elim (cases_Bool (bytes_eq digest default)) [
   | inr isnt ↦ rw isnt refl
 ]
 
+-- what stands for the siblings of a coin's way up are the digests of their parts
+pub siblings-kept : (dig : List ℕ → List ℕ) (entries : List Entry) (root : List ℕ) (kept : KeptPages)
+    (defaults siblings : List (List ℕ)) (coin : ℕ) → coin < 2 ^ 64 → KeepsTree dig entries root kept
+    → AreDefaults dig defaults
+    → ((k : ℕ) → k < 64 → slice_index_or siblings k []
+    ≡ unwrap_or (node_in k (bit_xor coin (2 ^ k)) kept) (slice_index_or defaults k []))
+    → (k : ℕ) → k < 64
+    → slice_index_or siblings k [] ≡ subtree_digest dig k (part_at k (bit_xor coin (2 ^ k)) entries)
+siblings-kept dig entries root kept defaults siblings coin lt h are is k in_tree =
+    is k in_tree
+    ∙ ap (λ (d : List ℕ). unwrap_or (node_in k (bit_xor coin (2 ^ k)) kept) d) (are k in_tree)
+    ∙ h.nodes k (bit_xor coin (2 ^ k)) in_tree (xor_lt 64 coin (2 ^ k) lt (pow_below k 64 in_tree))
+
 module _ {S T : Type 0} (dig : List ℕ → List ℕ) (entries : List Entry) where
-  -- what stands for the siblings of a coin's way up are the digests of their parts
-  pub siblings-are : (root : List ℕ) (pages : HashMap PageName (HashMap ℕ (List ℕ) S) T)
-      (defaults siblings : List (List ℕ)) (coin : ℕ) → coin < 2 ^ 64 → KeepsNodes dig entries root pages
-      → AreDefaults dig defaults
-      → ((k : ℕ) → k < 64 → slice_index_or siblings k []
-      ≡ unwrap_or (node_at k (bit_xor coin (2 ^ k)) pages) (slice_index_or defaults k []))
-      → (k : ℕ) → k < 64
-      → slice_index_or siblings k [] ≡ subtree_digest dig k (part_at k (bit_xor coin (2 ^ k)) entries)
-  siblings-are root pages defaults siblings coin lt h are is k in_tree =
-      is k in_tree
-      ∙ ap (λ (d : List ℕ). unwrap_or (node_at k (bit_xor coin (2 ^ k)) pages) d) (are k in_tree)
-      ∙ h.nodes k (bit_xor coin (2 ^ k)) in_tree (xor_lt 64 coin (2 ^ k) lt (pow_below k 64 in_tree))
+  -- pages that keep the nodes of a tree keep them in memory of their own
+  pub tree-kept : (root : List ℕ) (pages : HashMap PageName (HashMap ℕ (List ℕ) S) T) (kept : KeptPages)
+      → KeepsNodes dig entries root pages
+      → ((level coin : ℕ) → node_in level coin kept ≡ node_at level coin pages) → KeepsTree dig entries root kept
+  tree-kept root pages kept h same = record {
+    map = h.map;
+    root_is = h.root_is;
+    nodes = λ level coin in_tree lt.
+        ap (λ (o : Option (List ℕ)). unwrap_or o (default_digest dig level)) (same level coin)
+        ∙ h.nodes level coin in_tree lt;
+  }
 
   -- ---- one node
 

@@ -8,6 +8,7 @@
 #![tactic(auto)]
 
 mod defaults;
+mod kept;
 mod leaves;
 mod nodes;
 mod pages;

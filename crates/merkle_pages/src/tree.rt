@@ -2,12 +2,13 @@ ghost use Rattle.std.specs.Prelude.{◌≡◌, length, IfOk, IfErr, IsTrue};
 ghost use Rattle.sparse_merkle.specs.MaskedPath.{proof_path, is_canonical};
 ghost use Rattle.sparse_merkle.specs.Opening.{is_opening};
 ghost use Rattle.sparse_merkle.specs.PathProof.{proof_of_path};
+ghost use Rattle.merkle_pages.specs.Kept.{KeepsTree};
 ghost use Rattle.sparse_merkle.specs.TreeDigest.{leaf_of, root_of, path_to};
 
 use super::defaults::Defaults;
+use super::kept::KeptPages;
 use super::leaves::Leaves;
 use super::nodes::add_nodes;
-use super::pages::{Pages, siblings};
 use plasma_base::{Hash32, NoMemory};
 use sparse_merkle::Proof;
 use std::alloc::Global;
@@ -25,17 +26,39 @@ pub struct PagedTree<H: Hash32 + Copy> {
     defaults: Defaults<H>,
     root: [u8; 32],
     leaves: Leaves,
-    pages: Pages,
+    pages: KeptPages,
 }
 
 impl<H: Hash32 + Copy> Model for PagedTree<H> {
-    ghost use Rattle.merkle_pages.specs.Nodes.{HashedMap, KeepsNodes};
+    ghost use Rattle.merkle_pages.specs.Nodes.{HashedMap};
+    ghost use Rattle.merkle_pages.specs.Kept.{KeepsTree};
 
     ghost Value = { HashedMap H };
 
     ghost view = { λ t. record { hash = t.defaults; entries = t.leaves } };
 
-    ghost invariant = { λ t. KeepsNodes (H.digest_of t.defaults) t.leaves t.root t.pages };
+    ghost invariant = { λ t. KeepsTree (H.digest_of t.defaults) t.leaves t.root t.pages };
+}
+
+// The root of a tree, and the pages of its other nodes.
+#[derive(Drop)]
+struct TreeNodes {
+    root: [u8; 32],
+    pages: KeptPages,
+}
+
+// The nodes of the tree of a map.
+fn nodes_of<H: Hash32 + Copy>(
+    alloc: Global,
+    defaults: &Defaults<H>,
+    leaves: &Leaves,
+) -> Result<TreeNodes, NoMemory>
+    ensures { IfOk result (λ nodes. KeepsTree (H.digest_of defaults.now) leaves.now nodes.root nodes.pages) }
+{
+    let mut pages = HashMap::new(alloc);
+    let root = add_nodes(alloc, defaults, leaves, &mut pages)?;
+    let kept = KeptPages::new(alloc, pages)?;
+    Ok(TreeNodes { root, pages: kept })
 }
 
 impl<H: Hash32 + Copy> PagedTree<H> {
@@ -45,15 +68,17 @@ impl<H: Hash32 + Copy> PagedTree<H> {
         ensures made { IfOk result (λ tree. tree ≡ record { hash = defaults; entries = leaves }) }
         ensures returned { IfErr result (λ returned. returned ≡ leaves) }
     {
-        let mut pages = HashMap::new(alloc);
-        match add_nodes(alloc, &defaults, &leaves, &mut pages) {
-            Ok(root) => Ok(PagedTree {
-                alloc,
-                defaults,
-                root,
-                leaves,
-                pages,
-            }),
+        match nodes_of(alloc, &defaults, &leaves) {
+            Ok(nodes) => {
+                let TreeNodes { root, pages } = nodes;
+                Ok(PagedTree {
+                    alloc,
+                    defaults,
+                    root,
+                    leaves,
+                    pages,
+                })
+            }
             Err(_) => Err(leaves),
         }
     }
@@ -101,7 +126,7 @@ impl<H: Hash32 + Copy> PagedTree<H> {
             (path_to (H.digest_of self.now.hash) coin self.now.entries)) }
     {
         let defaults = self.defaults.below();
-        let siblings = siblings(&self.pages, coin, defaults);
+        let siblings = self.pages.siblings(coin, defaults);
         Proof::of_path(self.alloc, defaults, &siblings)
     }
 }

@@ -1,8 +1,9 @@
-use Rattle.std.proofs.Common.{◌≡◌, ◌++◌, ◌∙◌, ap, sym, refl, arith, length, length-append}
+use Rattle.std.proofs.Common.{◌≡◌, ℕ, List, take, ◌++◌, ◌∙◌, ap, sym, refl, arith, length, length-append}
 use Rattle.lms_sign.specs.Types.{u8str, u16str, u32str}
 use Rattle.lms_sign.specs.Lanes.{first_digest}
 use Rattle.lms_sign.proofs.Lists.{all_of_front, length-u8str, length-u16str, length-u32str, put_first, put_on}
 use Rattle.lms_sign.proofs.BlockFacts.{block_padding, sha256-block}
+use Rattle.lms_sign.proofs.BeginFacts.{take-front}
 use Rattle.lms_sign.proofs.blocks.chain_block.Goals as goal
 
 pub returns : goal.returns
@@ -22,4 +23,10 @@ returns c =
     let whole = all_of_front c.put-6.new.out _ 64 (c.put-6.auto.out ∙ c.put-5.auto.out ∙ c.put-4.auto.out
     ∙ c.put-3.auto.out ∙ c.put-2.auto.out ∙ c.put.auto.out) sixth in
     let long : length message ≡ 55 = simp (length-append, length-u32str, length-u16str, length-u8str) (omega arith) in
-    ap first_digest whole ∙ rw (c.u32str.ensures, c.u16str.ensures, c.u8str.ensures) (sym (sha256-block message long))
+    record {
+      digest = ap first_digest whole
+          ∙ rw (c.u32str.ensures, c.u16str.ensures, c.u8str.ensures) (sym (sha256-block message long));
+      begins = ap (take 20) whole ∙ take-front (id ++ c.u32str.result) c.u16str.result c.u8str.result string block_padding
+          (omega (arith, length-append id c.u32str.result, four, c.told-id))
+          ∙ ap (λ (s : List ℕ). id ++ s) c.u32str.ensures;
+    }

@@ -3,7 +3,7 @@ use Rattle.std.specs.Int.Bits.{bit_xor}
 use Rattle.sparse_merkle.specs.TreeDigest.{IsMap, AreDefaults, path_to}
 use Rattle.sparse_merkle.proofs.PathProof.{proof_of_path-made}
 use Rattle.sparse_merkle.proofs.ProofLaws.{proof_path-made, opens-made, is_canonical-made}
-use Rattle.merkle_pages.proofs.NodeLaws.{siblings-are}
+use Rattle.merkle_pages.proofs.NodeLaws.{siblings-kept}
 use Rattle.merkle_pages.proofs.PartLaws.{IsSibling-xor, path_to-from}
 use Rattle.merkle_pages.proofs.tree.PagedTree.prove.Goals as goal
 
@@ -15,7 +15,7 @@ returns-clause-path g c =
     let path = path_to-from dig c.args.coin entries (λ k. bit_xor c.args.coin (2 ^ k)) siblings
     (omega arith) c.self.invariant.map.small (λ k lt. IsSibling-xor c.args.coin k (omega arith) lt)
     c.siblings-siblings.ensures.long
-    (siblings-are dig entries c.self.inside.root c.self.inside.pages c.below-defaults.result.now siblings c.args.coin
+    (siblings-kept dig entries c.self.inside.root c.self.inside.pages c.below-defaults.result.now siblings c.args.coin
     (omega arith) c.self.invariant c.below-defaults.ensures c.siblings-siblings.ensures.are) in
     rw (← c.self.view_is) (proof_path-made c.of_path.result dig c.below-defaults.result.now siblings
     (path_to dig c.args.coin entries) c.below-defaults.ensures c.siblings-siblings.ensures.long path c.of_path.ensures)
