@@ -13,7 +13,7 @@ use Rattle.receipt_audit.specs.declared.refusal.IssueRefusal.{IssueRefusal}
 use Rattle.receipt_audit.specs.Desk.{IssueEffect, IssueStop, AtOperator, AtDesk, DidIssue, issue_or, issue_effect}
 use Rattle.lms_sign.specs.declared.secret.Secret.{Secret}
 use Rattle.plasma_tx.specs.declared.call.RootCall.{RootCall}
-use Rattle.node_answers.specs.declared.said.Said.{Said}
+use Rattle.node_sessions.specs.declared.said.Said.{Said}
 use Rattle.node_answers.specs.Answers.{StopsIn, IsSaid}
 use Rattle.node_answers.specs.Desks.{stop_at, issue_says}
 use Rattle.node_answers.specs.Doing.{DidNotes, DidEach, DidDesk}

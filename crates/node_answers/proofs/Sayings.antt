@@ -4,7 +4,7 @@ use Rattle.std.specs.Prelude.{IsErrAnd}
 use Rattle.node_journal.specs.declared.stop.Stop.{Stop}
 use Rattle.node_journal.specs.declared.stop.Stop.TheVariants.{Closed, NoMemory, DeviceFault}
 use Rattle.node_replies.specs.declared.reply.Reply.{Reply}
-use Rattle.node_answers.specs.declared.said.Said.{Said}
+use Rattle.node_sessions.specs.declared.said.Said.{Said}
 use Rattle.node_answers.specs.Answers.{said_by, StopsIn}
 
 -- its text

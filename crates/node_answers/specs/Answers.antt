@@ -23,8 +23,8 @@ use Rattle.node_journal.specs.declared.stop.Stop.{Stop}
 use Rattle.node_journal.specs.declared.stop.Stop.TheVariants.{NoMemory}
 use Rattle.node_answers.specs.declared.wallet.WalletAsk.{WalletAsk}
 use Rattle.node_answers.specs.declared.operator.OperatorAsk.{OperatorAsk}
-use Rattle.node_answers.specs.declared.said.Said.{Said}
-use Rattle.node_answers.specs.declared.said.Said.TheVariants.{Answered, Refused}
+use Rattle.node_sessions.specs.declared.said.Said.{Said}
+use Rattle.node_sessions.specs.declared.said.Said.TheVariants.{Answered, Refused}
 
 -- ---- what is given out, as text; 10 is the line feed
 

@@ -5,8 +5,8 @@ use Rattle.node_journal.specs.Notes.{NotesState, Did}
 use Rattle.node_journal.specs.declared.stop.Stop.{Stop}
 use Rattle.node_journal.specs.declared.stop.Stop.TheVariants.{DeviceFault}
 use Rattle.wallet_node.specs.State.{WalletState}
-use Rattle.wallet_deeds.specs.Orders.{DidEither}
-use Rattle.node_answers.specs.declared.said.Said.{Said}
+use Rattle.node_deeds.specs.WalletOrders.{DidEither}
+use Rattle.node_sessions.specs.declared.said.Said.{Said}
 use Rattle.node_answers.specs.Answers.{StopsIn}
 
 -- over disks that tell their history, foretell their faults and count them

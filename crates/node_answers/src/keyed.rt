@@ -10,12 +10,13 @@ ghost use Rattle.node_answers.specs.Doing.{DidDesk, DidNotes};
 
 use super::operator::{OperatorAsk, answer_order, ask_of};
 use super::receipts::{issue_cause, stop_of, words_of};
-use super::said::{Said, put_words, refused};
+use super::said::{put_words, refused};
 use crash_disk::Disk;
 use leaf_journal::MigrateRefusal;
 use lms_sign::SecretKey;
 use node_journal::Stop;
 use node_lines::OperatorLine;
+use node_sessions::Said;
 use operator_core::Operator;
 use plasma_base::Hash32;
 use plasma_tx::RootLog;

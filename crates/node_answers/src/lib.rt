@@ -11,6 +11,5 @@ mod watcher;
 
 pub use keyed::{KeyedOperator, answer_keyed};
 pub use operator::answer_operator;
-pub use said::Said;
 pub use wallet::answer_wallet;
 pub use watcher::answer_watcher;

@@ -3,13 +3,14 @@ ghost use Rattle.node_replies.specs.Orders.{operator_does};
 ghost use Rattle.node_answers.specs.Answers.{operator_ask, outcome_of, operator_outcome, IsSaid};
 ghost use Rattle.node_answers.specs.Doing.{DidNotes};
 
-use super::said::{Said, put_given, refused};
+use super::said::{put_given, refused};
 use crash_disk::Disk;
 use node_journal::Stop;
 use node_lines::OperatorLine;
 use node_replies::OperatorOrder;
+use node_sessions::Said;
 use operator_core::Operator;
-use operator_deeds::run;
+use node_deeds::run_operator_order;
 use plasma_base::{Bytes, Hash32};
 use plasma_tx::RootLog;
 use std::alloc::Global;
@@ -59,7 +60,7 @@ pub fn answer_order<D: Disk, H: Hash32 + Copy>(
     ensures untold { OnErr result (text.new.items ≡ text.old.items) }
     ensures hash { node.new.hash ≡ node.old.hash }
 {
-    let given = run(alloc, node, log, order)?;
+    let given = run_operator_order(alloc, node, log, order)?;
     Ok(put_given(alloc, given, text)?)
 }
 

@@ -3,24 +3,16 @@ ghost use Rattle.std.specs.List.{flat_map};
 ghost use Rattle.node_replies.specs.Causes.{phrase};
 ghost use Rattle.node_replies.specs.Orders.{Response};
 ghost use Rattle.node_replies.specs.Given.{IsGiven};
-ghost use Rattle.node_answers.specs.declared.said.Said.{Said};
+ghost use Rattle.node_sessions.specs.declared.said.Said.{Said};
 ghost use Rattle.node_answers.specs.Answers.{made_text, offer_text, given_text, said, IsSaid};
 
 use line_forms::push_number;
 use node_replies::{Given, Reply, print_reply};
+use node_sessions::Said;
 use plasma_base::{Bytes, NoMemory, push_hex};
 use plasma_tx::RootCall;
 use root_log::print_call;
 use std::alloc::Global;
-
-/// What a node's command came to.
-#[derive(Debug, Drop)]
-pub enum Said {
-    /// It was answered, and its answer was put.
-    Answered,
-    /// It was refused for this cause, and added nothing.
-    Refused { cause: Bytes },
-}
 
 /// Puts words, and numbers after them, at the end.
 pub fn push_phrase(out: &mut Vec<u8>, words: &[u8], numbers: &[u64]) -> Result<(), NoMemory>

@@ -7,16 +7,17 @@ ghost use Rattle.node_replies.specs.Orders.{wallet_does};
 ghost use Rattle.node_answers.specs.Answers.{state_words, wallet_ask, outcome_of, wallet_outcome, IsSaid};
 ghost use Rattle.node_answers.specs.Doing.{DidWallet};
 
-use super::said::{Said, push_phrase, put_given, put_words};
+use super::said::{push_phrase, put_given, put_words};
 use crash_disk::Disk;
 use node_journal::Stop;
 use node_lines::WalletLine;
 use node_replies::WalletOrder;
+use node_sessions::Said;
 use plasma_base::{Hash32, NoMemory, push_hex};
 use plasma_tx::RootLog;
 use std::alloc::Global;
 use wallet_core::CoinState;
-use wallet_deeds::run;
+use node_deeds::run_wallet_order;
 use wallet_node::WalletNode;
 
 /// What a command of a wallet asks for: an order, what a coin is to it, or who it is.
@@ -75,7 +76,7 @@ fn answer_order<D: Disk, H: Hash32 + Copy>(
         node.old.records order.now).note node.old result node.new }
     ensures untold { OnErr result (text.new.items ≡ text.old.items) }
 {
-    let given = run(alloc, node, log, order)?;
+    let given = run_wallet_order(alloc, node, log, order)?;
     Ok(put_given(alloc, given, text)?)
 }
 

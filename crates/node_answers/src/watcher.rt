@@ -2,15 +2,16 @@ ghost use Rattle.std.specs.Prelude.{◌≡◌, false, IfOk, OnErr};
 ghost use Rattle.node_answers.specs.Answers.{watcher_order, watcher_outcome, IsSaid};
 ghost use Rattle.node_answers.specs.Doing.{DidNotes};
 
-use super::said::{Said, put_given};
+use super::said::put_given;
 use crash_disk::Disk;
 use node_journal::Stop;
 use node_lines::WatcherLine;
 use node_replies::WatcherOrder;
+use node_sessions::Said;
 use plasma_base::Hash32;
 use plasma_tx::RootLog;
 use std::alloc::Global;
-use watcher_deeds::run;
+use node_deeds::run_watcher_order;
 use watcher_node::WatcherNode;
 
 // The order that a line is.
@@ -44,6 +45,6 @@ pub fn answer_watcher<D: Disk, H: Hash32 + Copy>(
     ensures hash { node.new.hash ≡ node.old.hash }
 {
     let order = order_of(line);
-    let given = run(alloc, node, log, &order)?;
+    let given = run_watcher_order(alloc, node, log, &order)?;
     Ok(put_given(alloc, given, text)?)
 }

@@ -24,7 +24,7 @@ use Rattle.node_rules.proofs.WalletGrow.{kind-follows, marker-kind}
 use Rattle.operator_rules.specs.declared.refusal.OfferRefusal.{OfferRefusal}
 use Rattle.operator_rules.specs.Records.{operator_kinds, who_is}
 use Rattle.operator_rules.specs.Commands.{offer_effect}
-use Rattle.operator_deeds.proofs.OrderLaws.{orders_keep_the_role, orders_add_no_leaf}
+use Rattle.node_deeds.proofs.OperatorOrderLaws.{orders_keep_the_role, orders_add_no_leaf}
 use Rattle.receipt_audit.specs.Promises.{promise_mark, promise_text, begins_promise, is_promise}
 use Rattle.receipt_audit.specs.Desk.{IssueEffect, desk_secret, issue_causes, issue_effect, promise_for, record_or}
 use Rattle.receipt_audit.specs.declared.promise.Promise.{Promise}

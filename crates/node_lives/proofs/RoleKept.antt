@@ -5,9 +5,9 @@ use Rattle.node_journal.specs.Role.{are_of}
 use Rattle.node_rules.specs.Watcher.{watcher_kinds}
 use Rattle.operator_rules.specs.Records.{operator_kinds}
 use Rattle.node_replies.specs.Orders.{with_record}
-use Rattle.watcher_deeds.specs.Laws.{HasBytes}
-use Rattle.watcher_deeds.proofs.OrderLaws.{orders_keep_the_role as watcher_orders_keep}
-use Rattle.operator_deeds.proofs.OrderLaws.{orders_keep_the_role as operator_orders_keep}
+use Rattle.node_deeds.specs.WatcherLaws.{HasBytes}
+use Rattle.node_deeds.proofs.WatcherOrderLaws.{orders_keep_the_role as watcher_orders_keep}
+use Rattle.node_deeds.proofs.OperatorOrderLaws.{orders_keep_the_role as operator_orders_keep}
 use Rattle.node_lines.specs.declared.watcher_line.WatcherLine.{WatcherLine}
 use Rattle.node_lines.specs.declared.operator_line.OperatorLine.{OperatorLine}
 use Rattle.node_lines.specs.Grammar.{IsWatcherLine, watcher_line_in, operator_line_in}

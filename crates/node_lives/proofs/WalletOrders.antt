@@ -17,9 +17,9 @@ use Rattle.node_replies.proofs.ByteTexts.{small-cons, small-append, small-number
 use Rattle.node_replies.proofs.BundleTexts.{small-bundle, handed-small}
 use Rattle.node_replies.proofs.WalletEnds.{AcceptEnds, ReclaimEnds, Refused, Known, New, Takes, accept_ends, reclaim_ends}
 use Rattle.node_replies.specs.declared.order.WalletOrder.{WalletOrder}
-use Rattle.wallet_deeds.specs.Laws.{IsFitOrder}
-use Rattle.wallet_deeds.proofs.Effects.{send-note}
-use Rattle.wallet_deeds.proofs.OrderLaws.{orders_add_one_record, orders_keep_the_role}
+use Rattle.node_deeds.specs.WalletLaws.{IsFitOrder}
+use Rattle.node_deeds.proofs.WalletEffects.{send-note}
+use Rattle.node_deeds.proofs.WalletOrderLaws.{orders_add_one_record, orders_keep_the_role}
 use Rattle.node_lines.specs.declared.wallet_line.WalletLine.{WalletLine}
 use Rattle.node_lines.specs.Grammar.{IsWalletLine, wallet_line_in}
 use Rattle.node_lines.proofs.GrammarLaws.{wallet_line_text-in}

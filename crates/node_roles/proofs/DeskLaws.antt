@@ -6,8 +6,8 @@ use Rattle.crash_disk.specs.Disk.{History, FaultPlan}
 use Rattle.node_journal.specs.Notes.{NotesState, Did}
 use Rattle.node_journal.specs.declared.stop.Stop.{Stop}
 use Rattle.node_journal.specs.declared.stop.Stop.TheVariants.{Closed, NoMemory, DeviceFault}
-use Rattle.node_answers.specs.declared.said.Said.{Said}
-use Rattle.node_answers.specs.declared.said.Said.TheVariants.{Answered, Refused}
+use Rattle.node_sessions.specs.declared.said.Said.{Said}
+use Rattle.node_sessions.specs.declared.said.Said.TheVariants.{Answered, Refused}
 use Rattle.node_answers.specs.Answers.{Outcome, IsSaid}
 use Rattle.node_answers.specs.Desks.{DeskRecords, desk_records}
 use Rattle.node_answers.specs.Doing.{DidEach, DidDesk}

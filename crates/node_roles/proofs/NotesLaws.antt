@@ -10,8 +10,8 @@ use Rattle.node_journal.specs.Steps.{append_steps}
 use Rattle.node_journal.specs.Notes.{NotesState, Adds, Fails, Did, KeepsAtAnyMoment}
 use Rattle.node_journal.specs.declared.stop.Stop.{Stop}
 use Rattle.node_journal.specs.declared.stop.Stop.TheVariants.{Closed, NoMemory, DeviceFault}
-use Rattle.node_answers.specs.declared.said.Said.{Said}
-use Rattle.node_answers.specs.declared.said.Said.TheVariants.{Answered, Refused}
+use Rattle.node_sessions.specs.declared.said.Said.{Said}
+use Rattle.node_sessions.specs.declared.said.Said.TheVariants.{Answered, Refused}
 use Rattle.node_answers.specs.Answers.{Outcome, IsSaid}
 use Rattle.node_answers.specs.Doing.{DidNotes}
 use Rattle.node_sessions.specs.Commands.{IsDone}

@@ -11,9 +11,9 @@ use Rattle.node_journal.specs.declared.stop.Stop.TheVariants.{Closed, NoMemory, 
 use Rattle.node_rules.specs.Wallet.{WalletRecords}
 use Rattle.node_rules.specs.WalletRecords.{who_is}
 use Rattle.wallet_node.specs.State.{WalletState, notes_part, leaves_part}
-use Rattle.wallet_deeds.specs.Orders.{DidEither}
-use Rattle.node_answers.specs.declared.said.Said.{Said}
-use Rattle.node_answers.specs.declared.said.Said.TheVariants.{Answered, Refused}
+use Rattle.node_deeds.specs.WalletOrders.{DidEither}
+use Rattle.node_sessions.specs.declared.said.Said.{Said}
+use Rattle.node_sessions.specs.declared.said.Said.TheVariants.{Answered, Refused}
 use Rattle.node_answers.specs.Answers.{Outcome, IsSaid}
 use Rattle.node_answers.specs.Doing.{DidWallet}
 use Rattle.node_sessions.specs.Commands.{IsDone}

@@ -1,10 +1,10 @@
 ghost use Rattle.std.specs.Prelude.{◌≡◌};
 
 use crash_disk::Disk;
-use node_answers::{KeyedOperator, Said, answer_keyed};
+use node_answers::{KeyedOperator, answer_keyed};
 use node_journal::Stop;
 use node_lines::{LineRefusal, OperatorLine, read_operator_line};
-use node_sessions::Commanded;
+use node_sessions::{Commanded, Said};
 use plasma_base::Hash32;
 use plasma_tx::RootLog;
 use std::alloc::Global;

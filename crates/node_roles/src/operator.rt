@@ -1,10 +1,10 @@
 ghost use Rattle.std.specs.Prelude.{◌≡◌};
 
 use crash_disk::Disk;
-use node_answers::{Said, answer_operator};
+use node_answers::answer_operator;
 use node_journal::Stop;
 use node_lines::{LineRefusal, OperatorLine, read_operator_line};
-use node_sessions::Commanded;
+use node_sessions::{Commanded, Said};
 use operator_core::Operator;
 use plasma_base::Hash32;
 use plasma_tx::RootLog;

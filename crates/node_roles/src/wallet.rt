@@ -1,10 +1,10 @@
 ghost use Rattle.std.specs.Prelude.{◌≡◌};
 
 use crash_disk::Disk;
-use node_answers::{Said, answer_wallet};
+use node_answers::answer_wallet;
 use node_journal::Stop;
 use node_lines::{LineRefusal, WalletLine, read_wallet_line};
-use node_sessions::Commanded;
+use node_sessions::{Commanded, Said};
 use plasma_base::Hash32;
 use plasma_tx::RootLog;
 use std::alloc::Global;

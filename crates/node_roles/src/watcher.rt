@@ -1,10 +1,10 @@
 ghost use Rattle.std.specs.Prelude.{◌≡◌};
 
 use crash_disk::Disk;
-use node_answers::{Said, answer_watcher};
+use node_answers::answer_watcher;
 use node_journal::Stop;
 use node_lines::{LineRefusal, WatcherLine, read_watcher_line};
-use node_sessions::Commanded;
+use node_sessions::{Commanded, Said};
 use plasma_base::Hash32;
 use plasma_tx::RootLog;
 use std::alloc::Global;

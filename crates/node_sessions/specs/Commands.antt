@@ -2,8 +2,8 @@
 use Rattle.std.specs.Prelude.{◌≡◌, ◌⊎◌, ℕ, List, ◌++◌, Option, Some, Result, Ok, Err}
 use Rattle.node_journal.specs.declared.stop.Stop.{Stop as NodeStop}
 use Rattle.node_journal.specs.declared.stop.Stop.TheVariants.{NoMemory as NodeMemory, DeviceFault}
-use Rattle.node_answers.specs.declared.said.Said.{Said}
-use Rattle.node_answers.specs.declared.said.Said.TheVariants.{Answered, Refused}
+use Rattle.node_sessions.specs.declared.said.Said.{Said}
+use Rattle.node_sessions.specs.declared.said.Said.TheVariants.{Answered, Refused}
 use Rattle.streamed_lines.specs.declared.ending.Halt.{Halt}
 use Rattle.streamed_lines.specs.declared.ending.Halt.TheVariants.{Stops, Failed, NoMemory}
 use Rattle.plasma_tx.specs.declared.call.RootCall.{RootCall}

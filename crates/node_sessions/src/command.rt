@@ -3,8 +3,8 @@ ghost use Rattle.node_sessions.specs.Sessions.{command_line};
 ghost use Rattle.node_sessions.specs.Commands.{Leaves, HaltsCommand, IsHaltedNode};
 
 use super::commanded::Commanded;
+use super::said::Said;
 use line_forms::LineRefusal;
-use node_answers::Said;
 use node_journal::Stop as NodeStop;
 use plasma_base::Bytes;
 use plasma_tx::RootLog;

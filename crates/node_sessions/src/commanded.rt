@@ -3,8 +3,8 @@ ghost use Rattle.plasma_tx.specs.declared.call.RootCall.{RootCall};
 ghost use Rattle.node_journal.specs.declared.stop.Stop.{Stop};
 ghost use Rattle.node_sessions.specs.Commands.{IsDone, IsUntold};
 
+use super::said::Said;
 use line_forms::LineRefusal;
-use node_answers::Said;
 use node_journal::Stop;
 use plasma_tx::RootLog;
 use std::alloc::Global;

@@ -5,8 +5,10 @@ mod command;
 mod commanded;
 mod laws;
 mod log;
+mod said;
 mod session;
 
 pub use commanded::Commanded;
 pub use laws::done_commands_are_answered;
+pub use said::Said;
 pub use session::Session;

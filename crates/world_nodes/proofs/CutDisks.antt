@@ -24,7 +24,7 @@ use Rattle.wallet_node.specs.State.{WalletState, notes_part, leaves_part}
 use Rattle.world_rules.specs.World.{Role}
 use Rattle.node_replies.specs.Orders.{Doing}
 use Rattle.node_replies.specs.declared.given.Given.{Given}
-use Rattle.wallet_deeds.specs.Orders.{DidEither}
+use Rattle.node_deeds.specs.WalletOrders.{DidEither}
 use Rattle.node_replies.specs.declared.order.NodeOrder.{NodeOrder}
 use Rattle.node_replies.specs.declared.order.NodeOrder.TheVariants.{Open}
 use Rattle.world_nodes.specs.declared.down.DownNode.{DownNode}

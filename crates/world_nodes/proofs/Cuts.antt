@@ -22,7 +22,7 @@ use Rattle.world_rules.specs.World.{Role}
 use Rattle.node_replies.specs.Orders.{Doing, adds_record, with_record}
 use Rattle.world_rules.specs.Steps.{after_crash}
 use Rattle.node_replies.specs.declared.given.Given.{Given}
-use Rattle.wallet_deeds.specs.Orders.{DidEither}
+use Rattle.node_deeds.specs.WalletOrders.{DidEither}
 use Rattle.world_nodes.specs.declared.down.DownNode.{DownNode}
 use Rattle.world_nodes.specs.declared.down.DownNode.TheVariants.{Wallet as WalletDown, Watcher as WatcherDown, Operator as OperatorDown}
 use Rattle.world_nodes.specs.declared.up.UpNode.{UpNode}

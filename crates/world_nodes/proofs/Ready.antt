@@ -26,7 +26,7 @@ use Rattle.operator_rules.specs.Records.{operator_kinds}
 use Rattle.wallet_node.specs.State.{WalletState, notes_part, leaves_part}
 use Rattle.wallet_node.specs.Opening.{RefusesWallet, IsUnbound}
 use Rattle.node_replies.specs.Orders.{Doing}
-use Rattle.wallet_deeds.specs.Orders.{DidEither}
+use Rattle.node_deeds.specs.WalletOrders.{DidEither}
 use Rattle.world_nodes.specs.declared.down.DownNode.{DownNode}
 use Rattle.world_nodes.specs.declared.down.DownNode.TheVariants.{Wallet as WalletDown, Watcher as WatcherDown, Operator as OperatorDown}
 use Rattle.world_nodes.specs.declared.up.UpNode.{UpNode}

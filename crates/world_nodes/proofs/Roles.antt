@@ -25,9 +25,9 @@ use Rattle.operator_rules.specs.Laws.{IsIdentity as IsOperatorIdentity}
 use Rattle.operator_rules.proofs.RecordTexts.{identity_in-text as operator_in-text}
 use Rattle.world_rules.specs.World.{Role, Wallet, Watcher, Operator, Node, wallet_of}
 use Rattle.world_rules.specs.Steps.{after_crash}
-use Rattle.wallet_deeds.proofs.OrderLaws.{orders_keep_the_role as wallet_orders_keep}
-use Rattle.watcher_deeds.proofs.OrderLaws.{orders_keep_the_role as watcher_orders_keep}
-use Rattle.operator_deeds.proofs.OrderLaws.{orders_keep_the_role as operator_orders_keep}
+use Rattle.node_deeds.proofs.WalletOrderLaws.{orders_keep_the_role as wallet_orders_keep}
+use Rattle.node_deeds.proofs.WatcherOrderLaws.{orders_keep_the_role as watcher_orders_keep}
+use Rattle.node_deeds.proofs.OperatorOrderLaws.{orders_keep_the_role as operator_orders_keep}
 use Rattle.world_nodes.specs.declared.order.NodeKind.TheVariants.{Wallet as WalletKind, Watcher as WatcherKind, Operator as OperatorKind}
 use Rattle.node_replies.specs.declared.order.NodeOrder.{NodeOrder}
 use Rattle.node_replies.specs.declared.order.NodeOrder.TheVariants.{Wallet as WalletOrdered, Watcher as WatcherOrdered, Operator as OperatorOrdered, Open}

@@ -16,10 +16,10 @@ use Rattle.world_rules.specs.World.{Role, Node, is_wallet_role, wallet_of}
 use Rattle.node_replies.specs.Orders.{Doing, with_record, wallet_does, watcher_does, operator_does}
 use Rattle.node_replies.specs.declared.given.Given.{Given}
 use Rattle.node_replies.specs.Given.{IsGiven}
-use Rattle.wallet_deeds.specs.Orders.{DidEither}
-use Rattle.wallet_deeds.proofs.OrderLaws.{orders_add_one_record}
-use Rattle.watcher_deeds.proofs.OrderLaws.{orders_add_no_leaf as watchers_add_no_leaf}
-use Rattle.operator_deeds.proofs.OrderLaws.{orders_add_no_leaf as operators_add_no_leaf}
+use Rattle.node_deeds.specs.WalletOrders.{DidEither}
+use Rattle.node_deeds.proofs.WalletOrderLaws.{orders_add_one_record}
+use Rattle.node_deeds.proofs.WatcherOrderLaws.{orders_add_no_leaf as watchers_add_no_leaf}
+use Rattle.node_deeds.proofs.OperatorOrderLaws.{orders_add_no_leaf as operators_add_no_leaf}
 use Rattle.node_replies.specs.declared.order.NodeOrder.{NodeOrder}
 use Rattle.node_replies.specs.declared.order.NodeOrder.TheVariants.{Wallet as WalletOrdered, Watcher as WatcherOrdered, Operator as OperatorOrdered, Open}
 use Rattle.world_nodes.specs.declared.down.DownNode.{DownNode}

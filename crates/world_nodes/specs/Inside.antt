@@ -24,7 +24,7 @@ use Rattle.world_rules.specs.World.{Role, Watcher, Node}
 use Rattle.leaf_journal.specs.Records.{messages_of}
 use Rattle.node_journal.specs.declared.refusal.JournalRefusal.TheVariants.{DeviceFault as JournalFault, NoMemory as JournalNoMemory}
 use Rattle.node_replies.specs.declared.reply.Reply.{Reply}
-use Rattle.wallet_deeds.specs.Orders.{Does}
+use Rattle.node_deeds.specs.WalletOrders.{Does}
 use Rattle.node_replies.specs.declared.given.Given.{Given}
 use Rattle.node_replies.specs.Given.{IsGiven}
 use Rattle.node_replies.specs.Orders.{Response, Doing, says}

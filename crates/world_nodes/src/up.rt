@@ -54,15 +54,15 @@ pub fn run_up<H: Hash32 + Copy>(
 {
     match node {
         UpNode::Wallet(node) => match order {
-            NodeOrder::Wallet(order) => wallet_deeds::run(alloc, node, log, order),
+            NodeOrder::Wallet(order) => node_deeds::run_wallet_order(alloc, node, log, order),
             _ => unreachable!(),
         },
         UpNode::Watcher(node) => match order {
-            NodeOrder::Watcher(order) => watcher_deeds::run(alloc, node, log, order),
+            NodeOrder::Watcher(order) => node_deeds::run_watcher_order(alloc, node, log, order),
             _ => unreachable!(),
         },
         UpNode::Operator(node) => match order {
-            NodeOrder::Operator(order) => operator_deeds::run(alloc, node, log, order),
+            NodeOrder::Operator(order) => node_deeds::run_operator_order(alloc, node, log, order),
             _ => unreachable!(),
         },
     }

@@ -1,7 +1,7 @@
 use Rattle.std.proofs.Common.{subst}
 use Rattle.leaf_journal.specs.NodeWords.{notes_of}
 use Rattle.node_replies.specs.Orders.{operator_does}
-use Rattle.operator_deeds.proofs.OrderLaws.{orders_add_no_leaf}
+use Rattle.node_deeds.proofs.OperatorOrderLaws.{orders_add_no_leaf}
 use Rattle.node_answers.specs.Desks.{desk_outcome, desk_records, keyed}
 use Rattle.node_answers.specs.Doing.{DidDesk}
 use Rattle.node_answers.proofs.DeskDeeds.{notes-did}

@@ -1,7 +1,7 @@
 use Rattle.std.proofs.Common.{None, Ok, Err, refl, sym, ◌∙◌}
 use Rattle.leaf_journal.specs.NodeWords.{notes_of}
 use Rattle.receipt_audit.specs.Desk.{issue_effect, issue_stop}
-use Rattle.node_answers.specs.declared.said.Said.TheVariants.{Refused}
+use Rattle.node_sessions.specs.declared.said.Said.TheVariants.{Refused}
 use Rattle.node_answers.proofs.DeskDeeds.{issue-did, promised, quiet, ran-out, ran-out-of}
 use Rattle.node_answers.proofs.keyed.answer_receipt.Goals as goal
 

@@ -1,0 +1,29 @@
+use Rattle.std.proofs.Common.{None, rules, refl}
+use Rattle.node_replies.specs.Orders.{on_sent, wallet_does}
+use Rattle.node_replies.specs.Given.{IsGiven}
+use Rattle.node_deeds.proofs.WalletOutcomes.{ok-gives, err-gives, leafed, err-did}
+use Rattle.node_deeds.proofs.WalletEffects.{send-note, send-bare}
+use Rattle.node_deeds.proofs.wallet.leaf_orders.send.Goals as goal
+
+pub returns-in-Ok-clause-gives : goal.returns-in-Ok-clause-gives
+unfolding wallet_does
+returns-in-Ok-clause-gives g c =
+    let is : IsGiven (on_sent c.in-Ok.field-0) c.makes.result = search rules in
+    ok-gives on_sent _ _ _ (c.in-Ok.ensures.answer refl) is
+
+pub returns-in-Ok-clause-did : goal.returns-in-Ok-clause-did
+unfolding wallet_does
+returns-in-Ok-clause-did g c =
+    leafed g.D.Disk.told g.D.Disk.plan g.D.Disk.faults _ _ _ _ None (send-note _ _ _ _ _ _) c.in-Ok.ensures.did
+
+pub returns-in-Err-clause-gives : goal.returns-in-Err-clause-gives
+unfolding wallet_does
+returns-in-Err-clause-gives g c =
+    err-gives on_sent _ c.in-Err.why _ c.in-Err.ensures.answer c.refuse.ensures
+
+pub returns-in-Err-clause-did : goal.returns-in-Err-clause-did
+unfolding wallet_does
+returns-in-Err-clause-did g c =
+    err-did g.D.Disk.told g.D.Disk.plan g.D.Disk.faults _ _ _ _ c.in-Err.why _
+    (λ free. send-bare _ _ _ _ _ _ _ (c.in-Err.ensures.answer free)) c.refuse.ensures
+    (leafed g.D.Disk.told g.D.Disk.plan g.D.Disk.faults _ _ _ _ _ (send-note _ _ _ _ _ _) c.in-Err.ensures.did)
