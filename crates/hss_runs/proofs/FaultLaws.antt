@@ -10,7 +10,8 @@ use Rattle.run_endings.specs.declared.status.Status.{Status}
 use Rattle.run_endings.specs.declared.status.Status.TheVariants.{Done, Refused, Usage, BadLine, ReadFault, WriteFault, DeviceFault, NoMemory, TooLong, NotJournal, AlreadyMade}
 use Rattle.run_endings.specs.Statuses.{FaultsBy}
 use Rattle.run_endings.specs.Outputs.{Output, EndsAs}
-use Rattle.node_runs.specs.Endings.{fault_output, refused_output}
+use Rattle.run_endings.specs.Endings.{fault_output}
+use Rattle.node_runs.specs.Endings.{refused_output}
 use Rattle.node_runs.specs.Faults.{CountsEither}
 use Rattle.node_runs.proofs.FaultLaws.{notes-met}
 use Rattle.hss_runs.specs.Identity.{seed_of}

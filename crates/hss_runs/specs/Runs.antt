@@ -11,7 +11,8 @@ use Rattle.node_journal.specs.Notes.{NotesState, Added, AddFailed, Opened, Refus
 use Rattle.run_endings.specs.declared.status.Status.{Status}
 use Rattle.run_endings.specs.declared.status.Status.TheVariants.{NoMemory}
 use Rattle.run_endings.specs.Outputs.{EndsAs}
-use Rattle.node_runs.specs.Endings.{fault_output, refused_output}
+use Rattle.run_endings.specs.Endings.{fault_output}
+use Rattle.node_runs.specs.Endings.{refused_output}
 use Rattle.hss_keys.specs.declared.entry.Entry.{Entry}
 use Rattle.hss_keys.specs.Entries.{entry_text}
 use Rattle.hss_keys.specs.Form.{level_records_in}

@@ -5,10 +5,10 @@ ghost use Rattle.node_runs.specs.Inits.{InitsPair};
 ghost use Rattle.node_runs.specs.Faults.{CountsEither};
 ghost use Rattle.hss_runs.specs.Identity.{identity_text};
 
-use super::ending::put_init_answer;
 use super::identity::identity_record;
 use crash_disk::Disk;
 use node_journal::begin_pair;
+use node_runs::put_init_answer;
 use plasma_outside::Sink;
 use run_endings::Status;
 use std::alloc::Global;

@@ -8,13 +8,14 @@ ghost use Rattle.hss_runs.specs.Signing.{is_signable, next_leaf, signing, signs}
 ghost use Rattle.hss_runs.specs.Runs.{RunsSigner, Signs};
 
 use super::answer::Answer;
-use super::ending::{put_opening_refusal, put_refused};
+use super::ending::put_refused;
 use super::next::{NextLeaf, next_leaf};
 use super::opening::{ReturnedBoth, Signer, open_signer};
 use super::signing::bind_next;
 use crash_disk::Disk;
 use hss_keys::{HssSecret, Levels};
 use node_journal::Stop;
+use node_runs::put_opening_refusal;
 use plasma_base::NoMemory;
 use plasma_outside::Sink;
 use run_endings::{Status, put_line};

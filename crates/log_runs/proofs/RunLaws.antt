@@ -20,7 +20,8 @@ use Rattle.run_endings.specs.Statuses.{status_of_refusal}
 use Rattle.run_endings.specs.Outputs.{Output, EndsAs}
 use Rattle.run_endings.proofs.EndingLaws.{ends-whole, ends-stopped}
 use Rattle.log_runs.specs.Following.{Following, LogRun, begun, log_rules}
-use Rattle.log_runs.specs.Runs.{status_of, status_of_run, last_text, output_of, lines_of, TakesFewBy, RunsLog}
+use Rattle.run_endings.specs.Endings.{status_of, last_text, session_output}
+use Rattle.log_runs.specs.Runs.{status_of_run, lines_of, TakesFewBy, RunsLog}
 use Rattle.log_runs.proofs.GrowLaws.{front-grows}
 
 -- ---- what a sink holds
@@ -75,10 +76,10 @@ module _ {A W : Type 0} (following : Following A) (Ran : W → LogRun A → Type
     whole : Output
     whole = record { status = status_of ending; answers = answers.put ++ text; last = last_text ending }
 
-    output-is : output_of (lines_of following answers.bytes answers.ended) ≡ whole
+    output-is : session_output (lines_of following answers.bytes answers.ended) ≡ whole
     unfolding whole
     output-is =
-        ap (λ (s : Streamed (LogRun A) (List ℕ)). output_of s) answers.ends.streams
+        ap (λ (s : Streamed (LogRun A) (List ℕ)). session_output s) answers.ends.streams
         ∙ ap (λ told. record { status = status_of ending; answers = told; last = last_text ending })
         (sym answers.ends.told)
 
@@ -154,7 +155,7 @@ module _ {A W : Type 0} (following : Following A) (Ran : W → LogRun A → Type
         ended = broke.ended;
         gave = broke.gave;
         ends =
-            ends-stopped refusal (output_of all) taken put_then failed
+            ends-stopped refusal (session_output all) taken put_then failed
             (record {
               front = record {
                 front = broke.put;

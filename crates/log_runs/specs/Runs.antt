@@ -2,40 +2,15 @@
 use Rattle.std.specs.Prelude.{ℕ, Bool, List, [], Option, Result, Ok, Err}
 use Rattle.plasma_outside.specs.declared.sink.SinkRefusal.{SinkRefusal}
 use Rattle.streamed_lines.specs.declared.ending.Ending.{Ending}
-use Rattle.streamed_lines.specs.declared.ending.Ending.TheVariants.{Complete, BadLine, ReadFault, TooLong, Ended}
 use Rattle.streamed_lines.specs.Streams.{Streamed, stream_of}
 use Rattle.streamed_lines.specs.Bounds.{TakesFew}
 use Rattle.streamed_lines.specs.Outside.{Gave}
 use Rattle.run_endings.specs.declared.status.Status.{Status}
 use Rattle.run_endings.specs.declared.status.Status.TheVariants.{Done, Refused, BadLine as BadLineStatus, ReadFault as ReadFaultStatus, TooLong as TooLongStatus}
 use Rattle.run_endings.specs.Statuses.{status_of_refusal}
-use Rattle.run_endings.specs.Outputs.{Output, EndsAs}
-use Rattle.run_endings.specs.Texts.{bad_line_text, too_long_text, refused_text, read_fault_text}
+use Rattle.run_endings.specs.Outputs.{EndsAs}
+use Rattle.run_endings.specs.Endings.{status_of, session_output}
 use Rattle.log_runs.specs.Following.{Following, LogRun, begun, log_rules}
-
--- the status of a run that ended so
-abbrev pub status_of : Ending (List ℕ) → Status
-status_of Complete = Done
-status_of (BadLine n) = BadLineStatus
-status_of ReadFault = ReadFaultStatus
-status_of (TooLong n) = TooLongStatus
-status_of (Ended n cause) = Refused
-
--- the last line of one: none where all lines were answered
-unfoldable pub last_text : Ending (List ℕ) → List ℕ
-last_text Complete = []
-last_text (BadLine n) = bad_line_text n
-last_text ReadFault = read_fault_text
-last_text (TooLong n) = too_long_text n
-last_text (Ended n cause) = refused_text cause
-
--- what is written of lines that were answered up to this
-abbrev pub output_of : {R : Type 0} → Streamed R (List ℕ) → Output
-output_of streamed = record {
-  status = status_of streamed.ending;
-  answers = streamed.stream.text;
-  last = last_text streamed.ending;
-}
 
 -- a line that ended a run was answered before more was taken
 abbrev pub TakesFewBy : Status → List ℕ → Ending (List ℕ) → Type 0
@@ -55,7 +30,7 @@ pub record RunsLog {A : Type 0} (following : Following A) (left later taken afte
   pub bytes : List ℕ
   pub ended : Bool
   pub gave : Gave left later bytes ended
-  pub ends : EndsAs (output_of (lines_of following bytes ended)) status taken after failed
+  pub ends : EndsAs (session_output (lines_of following bytes ended)) status taken after failed
   pub few : TakesFewBy status bytes (lines_of following bytes ended).ending
 
 -- the status of a run whose lines were answered up to this, or that was stopped

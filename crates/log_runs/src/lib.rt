@@ -7,7 +7,6 @@ mod archive_asks;
 mod archive_line;
 mod audit;
 mod causes;
-mod ending;
 mod follower;
 mod laws;
 mod log_session;

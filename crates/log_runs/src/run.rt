@@ -7,12 +7,11 @@ ghost use Rattle.run_endings.specs.Statuses.{is_write_fault, ReadsBy};
 ghost use Rattle.log_runs.specs.Following.{begun, log_rules};
 ghost use Rattle.log_runs.specs.Runs.{RunsLog, status_of_run};
 
-use super::ending::{push_last, status_of};
 use super::follower::Follower;
 use super::log_session::LogSession;
 use plasma_base::Bytes;
 use plasma_outside::{Sink, SinkRefusal, Source};
-use run_endings::Status;
+use run_endings::{Status, push_last, status_of};
 use std::alloc::Global;
 use streamed_lines::{Break, Ending, answer_lines, put_text};
 

@@ -5,12 +5,12 @@ ghost use Rattle.node_answers.specs.Doing.{DidNotes};
 
 use super::said::{put_given, refused};
 use crash_disk::Disk;
+use node_deeds::run_operator_order;
 use node_journal::Stop;
 use node_lines::OperatorLine;
 use node_replies::OperatorOrder;
 use node_sessions::Said;
 use operator_core::Operator;
-use node_deeds::run_operator_order;
 use plasma_base::{Bytes, Hash32};
 use plasma_tx::RootLog;
 use std::alloc::Global;

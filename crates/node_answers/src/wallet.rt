@@ -9,6 +9,7 @@ ghost use Rattle.node_answers.specs.Doing.{DidWallet};
 
 use super::said::{push_phrase, put_given, put_words};
 use crash_disk::Disk;
+use node_deeds::run_wallet_order;
 use node_journal::Stop;
 use node_lines::WalletLine;
 use node_replies::WalletOrder;
@@ -17,7 +18,6 @@ use plasma_base::{Hash32, NoMemory, push_hex};
 use plasma_tx::RootLog;
 use std::alloc::Global;
 use wallet_core::CoinState;
-use node_deeds::run_wallet_order;
 use wallet_node::WalletNode;
 
 /// What a command of a wallet asks for: an order, what a coin is to it, or who it is.

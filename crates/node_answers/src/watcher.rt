@@ -4,6 +4,7 @@ ghost use Rattle.node_answers.specs.Doing.{DidNotes};
 
 use super::said::put_given;
 use crash_disk::Disk;
+use node_deeds::run_watcher_order;
 use node_journal::Stop;
 use node_lines::WatcherLine;
 use node_replies::WatcherOrder;
@@ -11,7 +12,6 @@ use node_sessions::Said;
 use plasma_base::Hash32;
 use plasma_tx::RootLog;
 use std::alloc::Global;
-use node_deeds::run_watcher_order;
 use watcher_node::WatcherNode;
 
 // The order that a line is.

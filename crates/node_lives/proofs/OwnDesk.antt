@@ -31,7 +31,8 @@ use Rattle.node_roles.specs.Deeds.{left_with}
 use Rattle.node_roles.specs.Desks.{DeskAt, records_of_desk, with_each, desk_does}
 use Rattle.node_sessions.specs.Sessions.{SessionState, begun, calls_of}
 use Rattle.node_runs.specs.Disks.{Keeps, Failed, KeepsDesk, EachFailed}
-use Rattle.node_runs.specs.Endings.{refused_output, session_output, fault_output}
+use Rattle.run_endings.specs.Endings.{session_output, fault_output}
+use Rattle.node_runs.specs.Endings.{refused_output}
 use Rattle.node_runs.specs.Sessions.{Outside, BrokenAt}
 use Rattle.node_runs.specs.Operators.{desk_records_in, operator_tag, desk_rules, desk_found, DeskSession, RefusesDesk}
 use Rattle.node_lives.specs.Standing.{GoOn, desk_leaves, are_promised}

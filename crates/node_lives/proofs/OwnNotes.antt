@@ -23,7 +23,8 @@ use Rattle.node_roles.specs.Deeds.{left_with, notes_do}
 use Rattle.node_replies.specs.Orders.{with_record}
 use Rattle.node_sessions.specs.Sessions.{SessionState, begun, calls_of}
 use Rattle.node_runs.specs.Disks.{Keeps, Failed}
-use Rattle.node_runs.specs.Endings.{refused_output, session_output, fault_output}
+use Rattle.run_endings.specs.Endings.{session_output, fault_output}
+use Rattle.node_runs.specs.Endings.{refused_output}
 use Rattle.node_runs.specs.Sessions.{Outside, BrokenAt}
 use Rattle.node_runs.specs.Runs.{notes_rules, notes_found, NotesSession, RunsNotes}
 use Rattle.node_lives.proofs.Sessions.{session-holds, run-holds, spelled-in}

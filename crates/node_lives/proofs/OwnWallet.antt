@@ -34,7 +34,8 @@ use Rattle.node_roles.specs.Records.{with_either_record}
 use Rattle.node_roles.specs.Wallets.{WalletAt, records_of, with_either, wallet_does}
 use Rattle.node_sessions.specs.Sessions.{SessionState, begun, calls_of}
 use Rattle.node_runs.specs.Disks.{Keeps, MayKeep, Failed, KeepsBoth, EitherFailed}
-use Rattle.node_runs.specs.Endings.{session_output, refused_output, fault_output}
+use Rattle.run_endings.specs.Endings.{session_output, fault_output}
+use Rattle.node_runs.specs.Endings.{refused_output}
 use Rattle.node_runs.specs.Sessions.{Outside, BrokenAt}
 use Rattle.node_runs.specs.Runs.{wallet_rules, wallet_found, WalletSession, RunsWallet}
 use Rattle.node_lives.specs.Standing.{GoOn, KeepWallet, WalletStays}

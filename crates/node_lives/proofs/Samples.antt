@@ -32,7 +32,7 @@ use Rattle.run_endings.specs.Texts.{device_fault_text, refused_text}
 use Rattle.run_endings.specs.declared.status.Status.{Status}
 use Rattle.run_endings.specs.declared.status.Status.TheVariants.{Done, Refused, DeviceFault}
 use Rattle.node_runs.specs.Disks.{Keeps, MayKeep, opened_at, KeepsBoth, EitherFailed}
-use Rattle.node_runs.specs.Endings.{session_output, last_text}
+use Rattle.run_endings.specs.Endings.{session_output, last_text}
 use Rattle.node_runs.specs.Inits.{InitsPair}
 use Rattle.node_runs.specs.Sessions.{Outside}
 use Rattle.node_runs.specs.Runs.{WalletSession, RunsWallet}

@@ -9,7 +9,8 @@ use Rattle.streamed_lines.specs.declared.ending.Ending.TheVariants.{Complete, Ba
 use Rattle.run_endings.specs.declared.status.Status.{Status}
 use Rattle.run_endings.specs.declared.status.Status.TheVariants.{Done, Refused, Usage, BadLine, ReadFault, WriteFault, DeviceFault, NoMemory, TooLong, NotJournal, AlreadyMade}
 use Rattle.run_endings.specs.Outputs.{Output, EndsAs}
-use Rattle.node_runs.specs.Endings.{status_of, refused_output, init_output}
+use Rattle.run_endings.specs.Endings.{status_of}
+use Rattle.node_runs.specs.Endings.{refused_output, init_output}
 
 -- it is the output's, or the text was stopped
 pub ends-by : (output : Output) (status : Status) (before after : Option (List ℕ)) (failed : Type 0)

@@ -13,7 +13,7 @@ use Rattle.operator_rules.specs.Records.{who_is}
 use Rattle.node_replies.specs.Roles.{Role, Wallet, Watcher, Operator}
 use Rattle.node_sessions.specs.Sessions.{SessionState, begun}
 use Rattle.streamed_lines.specs.declared.ending.Ending.TheVariants.{Complete}
-use Rattle.node_runs.specs.Endings.{last_text, session_output, fault_output}
+use Rattle.run_endings.specs.Endings.{last_text, session_output, fault_output}
 use Rattle.node_runs.specs.Sessions.{Outside, RunsSession}
 use Rattle.node_runs.specs.Runs.{RunsWatcher, RunsWallet}
 use Rattle.node_runs.specs.Operators.{RunsBehind, RunsOperator}

@@ -15,7 +15,7 @@ use Rattle.node_replies.specs.Roles.{Role, Wallet, Watcher, Operator}
 use Rattle.streamed_lines.specs.declared.ending.Ending.{Ending}
 use Rattle.streamed_lines.specs.Outside.{WroteFront}
 use Rattle.run_endings.specs.Texts.{device_fault_text}
-use Rattle.node_runs.specs.Endings.{last_text}
+use Rattle.run_endings.specs.Endings.{last_text}
 use Rattle.run_endings.specs.declared.status.Status.TheVariants.{Done, NotJournal}
 use Rattle.node_lives.specs.Calls.{Begun, NotesAlone, BothDisks, ToBegin, ToRun, Call}
 use Rattle.node_lives.specs.Lives.{IsLife}

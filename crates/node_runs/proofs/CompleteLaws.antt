@@ -44,7 +44,8 @@ use Rattle.run_endings.specs.declared.status.Status.TheVariants.{Done, Refused, 
 use Rattle.run_endings.specs.Statuses.{IsDoneUnlessFailed}
 use Rattle.run_endings.specs.Outputs.{EndsAs}
 use Rattle.run_endings.proofs.EndingLaws.{ends-done}
-use Rattle.node_runs.specs.Endings.{status_of, session_output, fault_output, refused_output, init_output}
+use Rattle.run_endings.specs.Endings.{status_of, session_output, fault_output}
+use Rattle.node_runs.specs.Endings.{refused_output, init_output}
 use Rattle.node_runs.specs.Disks.{opened_at, both_opened}
 use Rattle.node_runs.specs.Sessions.{Outside, BrokenAt, RunsSession}
 use Rattle.node_runs.specs.Runs.{NotesSession, RunsNotes, RunsWatcher, RunsWallet}

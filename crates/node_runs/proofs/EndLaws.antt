@@ -10,7 +10,7 @@ use Rattle.run_endings.specs.declared.status.Status.{Status}
 use Rattle.run_endings.specs.declared.status.Status.TheVariants.{Done, Refused, Usage, BadLine as BadLineStatus, ReadFault as ReadFaultStatus, WriteFault, DeviceFault, NoMemory, TooLong as TooLongStatus, NotJournal, AlreadyMade}
 use Rattle.run_endings.specs.Statuses.{ReadsBy}
 use Rattle.run_endings.specs.Outputs.{Output, Stops, EndsAs}
-use Rattle.node_runs.specs.Endings.{status_of}
+use Rattle.run_endings.specs.Endings.{status_of}
 
 -- nothing was written of a text
 pub front-none : (before : Option (List ℕ)) (text : List ℕ) → WroteFront before before text

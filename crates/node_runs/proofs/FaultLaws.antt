@@ -31,7 +31,8 @@ use Rattle.run_endings.specs.declared.status.Status.TheVariants.{Done, Refused, 
 use Rattle.run_endings.specs.Statuses.{FaultsBy}
 use Rattle.run_endings.specs.Outputs.{Output, EndsAs}
 use Rattle.wallet_node.specs.Opening.{IsUnbound, RefusesWallet}
-use Rattle.node_runs.specs.Endings.{status_of, session_output, fault_output, refused_output, init_output}
+use Rattle.run_endings.specs.Endings.{status_of, session_output, fault_output}
+use Rattle.node_runs.specs.Endings.{refused_output, init_output}
 use Rattle.node_runs.specs.Disks.{Failed, EitherFailed, EachFailed}
 use Rattle.node_runs.specs.Faults.{Counts, CountsEither}
 use Rattle.node_runs.specs.Inits.{InitsNotes, InitsPair}

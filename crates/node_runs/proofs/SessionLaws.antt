@@ -18,7 +18,7 @@ use Rattle.node_sessions.specs.Commands.{IsHaltedNode}
 use Rattle.run_endings.specs.declared.status.Status.{Status}
 use Rattle.run_endings.specs.declared.status.Status.TheVariants.{Done, Refused, Usage, BadLine as BadLineStatus, ReadFault as ReadFaultStatus, WriteFault, DeviceFault, NoMemory, TooLong as TooLongStatus, NotJournal, AlreadyMade}
 use Rattle.run_endings.specs.Outputs.{EndsAs}
-use Rattle.node_runs.specs.Endings.{status_of, last_text, session_output, fault_output}
+use Rattle.run_endings.specs.Endings.{status_of, last_text, session_output, fault_output}
 use Rattle.node_runs.specs.Sessions.{Outside, AtNext, BrokenAt, RunsSession}
 use Rattle.node_runs.proofs.EndLaws.{ends-more, failed-of}
 

@@ -1,44 +1,13 @@
--- What a run of a node writes, by what ended it.
-use Rattle.std.specs.Prelude.{ℕ, List, [], ◌∷◌, ◌++◌, codes, Result, Ok, Err}
+-- What a run of a node writes whose disks are not opened or not begun, and what one writes of an init.
+use Rattle.std.specs.Prelude.{[], ◌∷◌, ◌++◌, codes, Result, Ok, Err}
 use Rattle.node_journal.specs.declared.refusal.JournalRefusal.{JournalRefusal}
 use Rattle.node_journal.specs.declared.refusal.JournalRefusal.TheVariants.{NotJournal as NotJournalRefusal, DeviceFault as DeviceRefusal}
 use Rattle.node_journal.specs.declared.refusal.InitRefusal.{InitRefusal}
 use Rattle.node_journal.specs.declared.refusal.InitRefusal.TheVariants.{AlreadyMade as InitMade, DeviceFault as InitFault, NoMemory as InitNoMemory}
-use Rattle.streamed_lines.specs.declared.ending.Ending.{Ending}
-use Rattle.streamed_lines.specs.declared.ending.Ending.TheVariants.{Complete, BadLine, ReadFault, TooLong, Ended}
-use Rattle.streamed_lines.specs.Streams.{Streamed}
-use Rattle.run_endings.specs.declared.status.Status.{Status}
-use Rattle.run_endings.specs.declared.status.Status.TheVariants.{Done, Refused, BadLine as BadLineStatus, ReadFault as ReadFaultStatus, DeviceFault, NoMemory, TooLong as TooLongStatus, NotJournal, AlreadyMade}
+use Rattle.run_endings.specs.declared.status.Status.TheVariants.{Done, NoMemory, NotJournal, AlreadyMade}
 use Rattle.run_endings.specs.Outputs.{Output}
-use Rattle.run_endings.specs.Texts.{bad_line_text, too_long_text, not_journal_text, already_made_text, refused_text, read_fault_text, device_fault_text}
-
--- the status of a session that ended so
-abbrev pub status_of : Ending (List ℕ) → Status
-status_of Complete = Done
-status_of (BadLine n) = BadLineStatus
-status_of ReadFault = ReadFaultStatus
-status_of (TooLong n) = TooLongStatus
-status_of (Ended n cause) = Refused
-
--- the last line of one: none where all lines were answered
-unfoldable pub last_text : Ending (List ℕ) → List ℕ
-last_text Complete = []
-last_text (BadLine n) = bad_line_text n
-last_text ReadFault = read_fault_text
-last_text (TooLong n) = too_long_text n
-last_text (Ended n cause) = refused_text cause
-
--- a session: its answers, and what ended it
-abbrev pub session_output : {R : Type 0} → Streamed R (List ℕ) → Output
-session_output session = record {
-  status = status_of session.ending;
-  answers = session.stream.text;
-  last = last_text session.ending;
-}
-
--- answers behind which a command met a device fault
-abbrev pub fault_output : List ℕ → Output
-fault_output answers = record { status = DeviceFault; answers = answers; last = device_fault_text }
+use Rattle.run_endings.specs.Texts.{not_journal_text, already_made_text}
+use Rattle.run_endings.specs.Endings.{fault_output}
 
 -- an opening that was refused
 abbrev pub refused_output : JournalRefusal → Output

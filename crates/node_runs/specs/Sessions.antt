@@ -9,7 +9,7 @@ use Rattle.node_sessions.specs.Sessions.{SessionState, begun, calls_of, commande
 use Rattle.run_endings.specs.declared.status.Status.{Status}
 use Rattle.run_endings.specs.declared.status.Status.TheVariants.{WriteFault, NoMemory}
 use Rattle.run_endings.specs.Outputs.{EndsAs}
-use Rattle.node_runs.specs.Endings.{session_output, fault_output}
+use Rattle.run_endings.specs.Endings.{session_output, fault_output}
 
 -- what the source of a run had left and its sink had taken, before and after, where they tell it
 pub record Outside : Type 0 where

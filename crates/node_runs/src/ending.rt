@@ -2,25 +2,12 @@ ghost use Rattle.std.specs.Prelude.{◌≡◌, ◌++◌, ℕ, List, false, OnOk}
 ghost use Rattle.plasma_base.specs.Causes.{faults_after};
 ghost use Rattle.run_endings.specs.Statuses.{is_write_fault};
 ghost use Rattle.run_endings.specs.Outputs.{EndsAs};
-ghost use Rattle.node_runs.specs.Endings.{status_of, last_text, fault_output};
+ghost use Rattle.run_endings.specs.Endings.{status_of, last_text, fault_output};
 
 use plasma_base::{Bytes, NoMemory};
 use plasma_outside::Sink;
-use run_endings::{Status, push_bad_line, push_refused, push_too_long};
+use run_endings::{Status, push_last, status_of};
 use streamed_lines::{Ending, put_text};
-
-// The status of a session that ended so.
-fn status_of(ending: &Ending<Bytes>) -> Status
-    ensures { result ≡ status_of ending.now }
-{
-    match ending {
-        Ending::Complete => Status::Done,
-        Ending::BadLine { .. } => Status::BadLine,
-        Ending::ReadFault => Status::ReadFault,
-        Ending::TooLong { .. } => Status::TooLong,
-        Ending::Ended { .. } => Status::Refused,
-    }
-}
 
 // Puts words at the end.
 fn push_words(out: &mut Vec<u8>, words: &[u8]) -> Result<(), NoMemory>
@@ -28,20 +15,6 @@ fn push_words(out: &mut Vec<u8>, words: &[u8]) -> Result<(), NoMemory>
 {
     out.extend_from_slice(words)?;
     Ok(())
-}
-
-// Puts the last line of a session that ended so at the end.
-#[tactic(auto, unfolding(crate::specs::Endings::last_text))]
-fn push_last(out: &mut Vec<u8>, ending: &Ending<Bytes>) -> Result<(), NoMemory>
-    ensures { OnOk result (out.new.items ≡ out.old.items ++ last_text ending.now) }
-{
-    match ending {
-        Ending::Complete => Ok(()),
-        Ending::BadLine { line } => push_bad_line(out, *line),
-        Ending::ReadFault => push_words(out, b"read fault\n"),
-        Ending::TooLong { line } => push_too_long(out, *line),
-        Ending::Ended { cause, .. } => push_refused(out, cause.as_slice()),
-    }
 }
 
 // Puts the gathered text, with which a run ends that has this status.

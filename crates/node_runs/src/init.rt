@@ -44,8 +44,12 @@ fn put_refusal<K: Sink>(alloc: Global, sink: &mut K, why: InitRefusal) -> Status
     }
 }
 
-// Puts what an init was answered.
-fn put_answer<K: Sink>(alloc: Global, sink: &mut K, answer: Result<(), InitRefusal>) -> Status
+/// Puts what an init was answered, with which its run ends: `made`, or why it was refused.
+pub fn put_init_answer<K: Sink>(
+    alloc: Global,
+    sink: &mut K,
+    answer: Result<(), InitRefusal>,
+) -> Status
     ensures ends { EndsAs (init_output answer) result (K.taken sink.old) (K.taken sink.new) ⊥ }
     ensures no_read_fault { result ≢ Status.ReadFault }
     ensures sink_faults { K.faults sink.new ≡ faults_after (K.faults sink.old) (is_write_fault result) }
@@ -71,7 +75,7 @@ pub fn init_watcher<D: Disk, K: Sink>(
     ensures sink_faults { K.faults sink.new ≡ faults_after (K.faults sink.old) (is_write_fault result.1) }
 {
     let (notes, answer) = watcher_node::init(alloc, notes, tag, account);
-    let status = put_answer(alloc, sink, answer);
+    let status = put_init_answer(alloc, sink, answer);
     (notes, status)
 }
 
@@ -89,7 +93,7 @@ pub fn init_operator<D: Disk, K: Sink>(
     ensures sink_faults { K.faults sink.new ≡ faults_after (K.faults sink.old) (is_write_fault result.1) }
 {
     let (notes, answer) = operator_core::init(alloc, notes, tag, account);
-    let status = put_answer(alloc, sink, answer);
+    let status = put_init_answer(alloc, sink, answer);
     (notes, status)
 }
 
@@ -109,7 +113,7 @@ pub fn init_wallet<D: Disk, K: Sink>(
     ensures sink_faults { K.faults sink.new ≡ faults_after (K.faults sink.old) (is_write_fault result.2) }
 {
     let (notes, leaves, answer) = wallet_node::init(alloc, notes, leaves, who);
-    let status = put_answer(alloc, sink, answer);
+    let status = put_init_answer(alloc, sink, answer);
     (notes, leaves, status)
 }
 
@@ -133,6 +137,6 @@ pub fn init_operator_with_key<D: Disk, K: Sink>(
     let (notes, leaves, answer) = operator_core::init_with_key(
         alloc, notes, leaves, tag, account, seed,
     );
-    let status = put_answer(alloc, sink, answer);
+    let status = put_init_answer(alloc, sink, answer);
     (notes, leaves, status)
 }

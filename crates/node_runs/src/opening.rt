@@ -26,7 +26,7 @@ fn put_not_journal<K: Sink>(alloc: Global, sink: &mut K, place: u64) -> Status
 
 /// Ends a run whose opening was refused for this, and says why; for want of memory it says nothing. An opening is never
 /// refused for another cause than these three.
-pub fn put_refusal<K: Sink>(alloc: Global, sink: &mut K, why: JournalRefusal) -> Status
+pub fn put_opening_refusal<K: Sink>(alloc: Global, sink: &mut K, why: JournalRefusal) -> Status
     ensures ends { EndsAs (refused_output why) result (K.taken sink.old) (K.taken sink.new) ⊥ }
     ensures no_read_fault { result ≢ Status.ReadFault }
     ensures sink_faults { K.faults sink.new ≡ faults_after (K.faults sink.old) (is_write_fault result) }

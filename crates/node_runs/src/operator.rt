@@ -8,7 +8,7 @@ ghost use Rattle.run_endings.specs.Statuses.{is_write_fault, ReadsBy};
 ghost use Rattle.node_runs.specs.Operators.{RunsBehind, RunsOperator};
 ghost use Rattle.node_runs.specs.Prompt.{OperatorPromptly, PromptlyBehind};
 
-use super::opening::put_refusal;
+use super::opening::put_opening_refusal;
 use super::session::run_session;
 use crash_disk::Disk;
 use node_answers::KeyedOperator;
@@ -58,7 +58,7 @@ pub fn run_operator<D: Disk, H: Hash32 + Copy, S: Source, K: Sink>(
         },
         Err(returned) => {
             let Returned { disk, why } = returned;
-            let status = put_refusal(alloc, sink, why);
+            let status = put_opening_refusal(alloc, sink, why);
             (disk, leaves, status)
         }
     }
@@ -89,7 +89,7 @@ fn run_with_key<D: Disk, H: Hash32 + Copy, S: Source, K: Sink>(
     ensures sink_faults { K.faults sink.new ≡ faults_after (K.faults sink.old) (is_write_fault result.2) }
 {
     let Ok(key) = desk_key(alloc, seed) else {
-        let status = put_refusal(alloc, sink, JournalRefusal::NoMemory);
+        let status = put_opening_refusal(alloc, sink, JournalRefusal::NoMemory);
         return (node.take_disk(), leaves, status);
     };
     match Desk::open(alloc, leaves, &key) {
@@ -106,7 +106,7 @@ fn run_with_key<D: Disk, H: Hash32 + Copy, S: Source, K: Sink>(
         }
         Err(returned) => {
             let Returned { disk, why } = returned;
-            let status = put_refusal(alloc, sink, why);
+            let status = put_opening_refusal(alloc, sink, why);
             (node.take_disk(), disk, status)
         }
     }

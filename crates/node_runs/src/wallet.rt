@@ -5,7 +5,7 @@ ghost use Rattle.run_endings.specs.Statuses.{is_write_fault, ReadsBy};
 ghost use Rattle.node_runs.specs.Runs.{RunsWallet};
 ghost use Rattle.node_runs.specs.Prompt.{WalletPromptly};
 
-use super::opening::put_refusal;
+use super::opening::put_opening_refusal;
 use super::session::run_session;
 use crash_disk::Disk;
 use node_roles::WalletRun;
@@ -48,7 +48,7 @@ pub fn run_wallet<D: Disk, H: Hash32 + Copy, S: Source, K: Sink>(
         }
         Err(returned) => {
             let ReturnedBoth { notes, leaves, why } = returned;
-            let status = put_refusal(alloc, sink, why);
+            let status = put_opening_refusal(alloc, sink, why);
             (notes, leaves, status)
         }
     }

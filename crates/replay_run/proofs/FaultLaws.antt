@@ -17,7 +17,8 @@ use Rattle.hss_runs.proofs.FaultLaws.{signer-counts}
 use Rattle.log_runs.specs.Following.{Following}
 use Rattle.log_runs.specs.Auditing.{auditing}
 use Rattle.log_runs.specs.Archiving.{archiving}
-use Rattle.log_runs.specs.Runs.{RunsLog, lines_of, output_of, status_of as log_status}
+use Rattle.run_endings.specs.Endings.{status_of as log_status, session_output}
+use Rattle.log_runs.specs.Runs.{RunsLog, lines_of}
 use Rattle.replay_run.specs.declared.ending.NoCause.{NoCause}
 use Rattle.replay_run.specs.Forms.{is_verified, uses_notes, uses_leaves}
 use Rattle.replay_run.specs.Output.{status_of, usage_output, replay_output, brief_output, make_output, verify_output}
@@ -64,7 +65,7 @@ module _ {D : Type 0} (told : D → Option History) (plan : D → Option FaultPl
       → new_notes ≡ notes → new_leaves ≡ leaves → FaultsBy status Met
   followed following does notes_stay leaves_stay =
       let lines = lines_of following does.bytes does.ended in
-      unused (output_of lines) _ (log-other lines.ending) does.ends notes_stay leaves_stay
+      unused (session_output lines) _ (log-other lines.ending) does.ends notes_stay leaves_stay
 
   pub does-count : (form : Option Form)
       → DoesForm told plan faults dig notes leaves new_notes new_leaves outside failed status form

@@ -1,3 +1,4 @@
 pub mod Statuses
 pub mod Outputs
 pub mod Texts
+pub mod Endings

@@ -2,10 +2,10 @@
 //! sink, its source and its disks.
 #![tactic(auto)]
 
+mod ending;
 mod status;
 mod text;
 
+pub use ending::{push_last, status_of};
 pub use status::Status;
-pub use text::{
-    push_already_made, push_bad_line, push_not_journal, push_refused, push_too_long, put_line,
-};
+pub use text::{push_already_made, push_not_journal, push_refused, put_line};

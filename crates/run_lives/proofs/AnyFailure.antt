@@ -9,7 +9,7 @@ use Rattle.run_endings.specs.declared.status.Status.TheVariants.{Done, Refused, 
 use Rattle.run_endings.specs.Outputs.{Output, EndsAs}
 use Rattle.operator_rules.specs.Records.{who_is}
 use Rattle.node_sessions.specs.Sessions.{SessionState, begun}
-use Rattle.node_runs.specs.Endings.{session_output}
+use Rattle.run_endings.specs.Endings.{session_output}
 use Rattle.node_runs.specs.Sessions.{Outside, RunsSession}
 use Rattle.node_runs.specs.Runs.{RunsWatcher, RunsWallet}
 use Rattle.node_runs.specs.Operators.{RunsBehind, RunsOperator}

@@ -12,6 +12,7 @@ ghost use Rattle.world_nodes.specs.Inside.{bare_node, leaves_of, records_in, tak
 use super::boxed::Held;
 use super::down::DownNode;
 use crash_disk::MemDisk;
+use node_deeds::{run_operator_order, run_wallet_order, run_watcher_order};
 use node_journal::Stop;
 use node_replies::{Given, NodeOrder};
 use operator_core::Operator;
@@ -54,15 +55,15 @@ pub fn run_up<H: Hash32 + Copy>(
 {
     match node {
         UpNode::Wallet(node) => match order {
-            NodeOrder::Wallet(order) => node_deeds::run_wallet_order(alloc, node, log, order),
+            NodeOrder::Wallet(order) => run_wallet_order(alloc, node, log, order),
             _ => unreachable!(),
         },
         UpNode::Watcher(node) => match order {
-            NodeOrder::Watcher(order) => node_deeds::run_watcher_order(alloc, node, log, order),
+            NodeOrder::Watcher(order) => run_watcher_order(alloc, node, log, order),
             _ => unreachable!(),
         },
         UpNode::Operator(node) => match order {
-            NodeOrder::Operator(order) => node_deeds::run_operator_order(alloc, node, log, order),
+            NodeOrder::Operator(order) => run_operator_order(alloc, node, log, order),
             _ => unreachable!(),
         },
     }

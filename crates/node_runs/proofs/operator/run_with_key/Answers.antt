@@ -25,7 +25,7 @@ returns-in_default-clause-runs g c =
       NoMemory,
       inr (refl, refl),
       c.take_disk.ensures,
-      record { gave = gave-none _; ends = c.put_refusal-status.ensures.ends },
+      record { gave = gave-none _; ends = c.put_opening_refusal-status.ensures.ends },
     )
 
 pub run_session-run-requires : goal.run_session-run-requires
@@ -101,5 +101,5 @@ returns-in-Err-clause-runs g c =
           (leaves_of (public_key_of key))) c.args.leaves c.in-Err.returned.why c.in-Err.returned.disk) c.in-Ok.ensures
           c.in-Err.ensures.refused),
       c.take_disk-in-Err.ensures,
-      record { gave = gave-none _; ends = c.put_refusal-status-in-Err.ensures.ends },
+      record { gave = gave-none _; ends = c.put_opening_refusal-status-in-Err.ensures.ends },
     )

@@ -1,7 +1,7 @@
 use Rattle.node_sessions.specs.Commands.{IsSession, IsHaltedSession}
 use Rattle.streamed_lines.specs.Outside.{ReadsToFault}
 use Rattle.streamed_lines.proofs.PromptLaws.{prompt-more}
-use Rattle.node_runs.specs.Endings.{status_of, last_text, fault_output}
+use Rattle.run_endings.specs.Endings.{status_of, last_text, fault_output}
 use Rattle.node_runs.proofs.EndLaws.{ends-wrote}
 use Rattle.node_runs.proofs.SessionLaws.{answered-runs, faulted-runs, refused-runs, starved-runs}
 use Rattle.node_runs.proofs.session.run_session.Goals as goal

@@ -1,13 +1,13 @@
 ghost use Rattle.std.specs.Prelude.{◌≡◌, ◌++◌, false, OnOk};
 ghost use Rattle.run_endings.specs.Statuses.{is_write_fault};
-ghost use Rattle.log_runs.specs.Runs.{status_of, last_text};
+ghost use Rattle.run_endings.specs.Endings.{status_of, last_text};
 
-use super::phrases::push_words;
+use super::status::Status;
+use super::text::{push_bad_line, push_refused, push_too_long};
 use plasma_base::{Bytes, NoMemory};
-use run_endings::{Status, push_bad_line, push_refused, push_too_long};
 use streamed_lines::Ending;
 
-/// The status of a run that ended so.
+/// The status of a run whose lines ended so.
 pub fn status_of(ending: &Ending<Bytes>) -> Status
     ensures status { result ≡ status_of ending.now }
     ensures no_write_fault { is_write_fault result ≡ false }
@@ -21,8 +21,16 @@ pub fn status_of(ending: &Ending<Bytes>) -> Status
     }
 }
 
-/// Puts the last line of a run that ended so at the end.
-#[tactic(auto, unfolding(crate::specs::Runs::last_text))]
+// Puts words at the end.
+fn push_words(out: &mut Vec<u8>, words: &[u8]) -> Result<(), NoMemory>
+    ensures { OnOk result (out.new.items ≡ out.old.items ++ words.now) }
+{
+    out.extend_from_slice(words)?;
+    Ok(())
+}
+
+/// Puts the last line of a run whose lines ended so at the end: none where all were answered.
+#[tactic(auto, unfolding(crate::specs::Endings::last_text))]
 pub fn push_last(out: &mut Vec<u8>, ending: &Ending<Bytes>) -> Result<(), NoMemory>
     ensures { OnOk result (out.new.items ≡ out.old.items ++ last_text ending.now) }
 {

@@ -1,4 +1,4 @@
-use Rattle.hss_runs.proofs.ending.put_opening_refusal.Goals as goal
+use Rattle.node_runs.proofs.opening.put_opening_refusal.Goals as goal
 
 pub returns-in-DeviceFault-clause-ends : goal.returns-in-DeviceFault-clause-ends
 returns-in-DeviceFault-clause-ends g c = rw c.in-DeviceFault.is c.put_line.ensures.output
