@@ -23,7 +23,7 @@ use Rattle.world_rules.proofs.StepLaws.{stepped}
 use Rattle.world_rules.proofs.Runs.{begun, set-same, set-other, push-same, push-other}
 use Rattle.world_rules.proofs.Said.{Said, said, told, is_said_of, said-other}
 use Rattle.world_rules.proofs.KeptNode.{IsFit}
-use Rattle.world_rules.proofs.KeptWorld.{KeptWorld, few-blocks}
+use Rattle.world_rules.proofs.KeptWorld.{KeptWorld, world-feeds}
 use Rattle.world_rules.proofs.NodeEvents.{IsTold, command-told, cut-of, other-of}
 use Rattle.world_laws.specs.Headline.{IsRun}
 use Rattle.world_laws.proofs.Lists.{some_same, none_some}
@@ -129,7 +129,7 @@ module _ (dig : List ℕ → List ℕ) (events : List Event) (world : World) (ke
       (λ wallet. subst (λ (s : Said). AreShown world.chain.tag s.accepted (accepted_in dig after.notes)) (sym own.is)
       (subst (λ (records : List (List ℕ)).
       AreShown world.chain.tag (told deed.gives.event (said events n)).accepted (accepted_in dig records)) (sym notes)
-      (accepts-shown dig world n node (said events n) kept.mail (few-blocks dig events world kept) wallet
+      (accepts-shown dig world n node (said events n) (world-feeds dig events world kept) wallet
       ((kept.nodes n node done.node_is).wallet wallet)
       (wallet-node events world.chain.tag n node
       (is-wallet events world.chain.tag n node (keeps.nodes.each n node done.node_is) wallet)).2

@@ -19,7 +19,6 @@ use Rattle.world_rules.proofs.Shapes.{IsDone, IsCut, Kept, Lost, is_cut}
 use Rattle.world_rules.proofs.OwnEvents.{IsOfNode, Owns, Sealing, of_node}
 use Rattle.world_rules.proofs.StepLaws.{stepped}
 use Rattle.world_rules.proofs.NodeLaws.{adds_one, grows}
-use Rattle.world_rules.proofs.OfferLaws.{own-by}
 use Rattle.world_rules.proofs.Runs.{begun}
 use Rattle.world_laws.specs.Headline.{IsRun}
 use Rattle.world_laws.proofs.Lists.{some_same, none_some}
@@ -94,7 +93,7 @@ crash-acts world n node is = record {
 -- the node of a deed's event: its own, or the operator
 event-named : (n : ℕ) (command : Command) (gives : Gives) → IsOfNode n command gives
     → (named : ℕ) × (node_in gives.event ≡ Some named) × ((named ≡ n) ⊎ (named ≡ 0))
-event-named n command gives (Owns own) = (n, (own-by n gives own).node, inl refl)
+event-named n command gives (Owns own) = (n, own.node, inl refl)
 event-named n command gives (Sealing call own command_is event_is offers) = (0, ap node_in event_is, inr refl)
 
 cut-named : (n : ℕ) (event : Event) (named : ℕ) → node_in event ≡ Some named → (named ≡ n) ⊎ (named ≡ 0)

@@ -24,8 +24,12 @@ use Rattle.node_replies.specs.Causes.{prove_cause}
 use Rattle.world_rules.specs.Events.{Other}
 use Rattle.world_rules.specs.World.{Node, World, is_operator_role, is_named, number_of}
 use Rattle.world_rules.specs.Declarations.{plays}
-use Rattle.world_rules.specs.Deeds.{Deed, deed_of}
-use Rattle.world_rules.proofs.ByCommand.{answered, on_bundled, without_record, command_deed, deed-by-command}
+use Rattle.world_rules.specs.Deeds.{Deed, as_deed, deed_of}
+use Rattle.node_replies.specs.declared.order.NodeOrder.{NodeOrder}
+use Rattle.node_replies.specs.declared.order.OperatorOrder.{OperatorOrder}
+use Rattle.node_replies.specs.Orders.{without_record, answered, on_bundled, operator_does}
+use Rattle.world_rules.specs.Orders.{order_of}
+use Rattle.world_rules.specs.OrderEvents.{event_of}
 use Rattle.world_rules.specs.Steps.{LineEffect, answers_down, commanded, down, cut, without_offers, command_effect, cut_effect, effect_in, step}
 use Rattle.world_rules.specs.Laws.{IsCommandIn}
 use Rattle.world_rules.proofs.Existence.{position-is}
@@ -99,25 +103,29 @@ module _ (dig : List ℕ → List ℕ) (world : World) (coin asked tip : ℕ) wh
   abbrev command : Command
   command = Command.Operator (OperatorCommand.Bundle coin asked)
 
+  abbrev order : NodeOrder
+  order = NodeOrder.Operator (OperatorOrder.Bundle coin asked)
+
   -- what is answered with a bundle
   answered-bundle : (n : ℕ) (result : Result Bundle ProveRefusal)
-      → (answered n prove_cause (on_bundled n) result).reply ≡ Reply.Bundled tip
+      → (answered prove_cause on_bundled result).reply ≡ Reply.Bundled tip
       → (bundle : Bundle) × (result ≡ Ok bundle) × (bundle.tip ≡ tip)
-      × ((answered n prove_cause (on_bundled n) result).made ≡ bundle_text bundle)
-      × ((answered n prove_cause (on_bundled n) result).event ≡ Other n)
+      × ((answered prove_cause on_bundled result).made ≡ bundle_text bundle)
+      × (event_of n order (answered prove_cause on_bundled result) ≡ Other n)
+  unfolding event_of
   answered-bundle n (Ok bundle) is = (bundle, refl, cc is, refl, refl)
   answered-bundle n (Err why) is = absurd (cc is)
 
   abbrev deed_at : ℕ → Node → Deed
   deed_at n node =
-      without_record (answered n prove_cause (on_bundled n)
-      (bundle_answer dig node.notes world.chain.log coin asked))
+      as_deed n order
+      (without_record (answered prove_cause on_bundled (bundle_answer dig node.notes world.chain.log coin asked)))
 
   -- the deed of the command is that one
   deed-made : (n : ℕ) (node : Node) (deed : Deed) → deed_of dig world n node command ≡ Some deed
       → deed_at n node ≡ deed
-  unfolding command_deed
-  deed-made n node deed is = some_same (deed_at n node) deed (deed-by-command dig world n node command deed is)
+  unfolding deed_of order_of operator_does
+  deed-made n node deed is = some_same (deed_at n node) deed is
 
   plain-made : (n : ℕ) (node : Node) (effect : LineEffect) → slice_get world.nodes n ≡ Some node
       → is_operator_role node.role ≡ true → command_effect dig world command n node ≡ Some effect

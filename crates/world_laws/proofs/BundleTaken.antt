@@ -16,11 +16,11 @@ use Rattle.node_rules.specs.WalletRecords.{Accepts, note_text, owner_of, notes_o
 use Rattle.node_rules.specs.Wallet.{WalletRecords, WalletEffect, answers, notes_it, unless, who, noted, standing_causes, is_known, accept_by, accept_effect}
 use Rattle.node_replies.specs.declared.reply.Reply.{Reply}
 use Rattle.node_replies.specs.Causes.{wallet_cause}
-use Rattle.world_rules.proofs.ByCommand.{answered, on_accepted}
+use Rattle.node_replies.specs.Orders.{answered, on_accepted}
 use Rattle.world_rules.proofs.KeptWallet.{state-me}
 use Rattle.world_laws.specs.Bundles.{IsTakenBundle}
 
-module _ (dig : List ℕ → List ℕ) (wallet : WalletRecords) (log : List RootCall) (n : ℕ) (bytes : List ℕ)
+module _ (dig : List ℕ → List ℕ) (wallet : WalletRecords) (log : List RootCall) (bytes : List ℕ)
     (links : Links) where
   abbrev size : ℕ
   size = length (note_text (Accepts (kept_of links)))
@@ -29,7 +29,7 @@ module _ (dig : List ℕ → List ℕ) (wallet : WalletRecords) (log : List Root
   taken = record { coin = links.coin; tip = tip_of links }
 
   abbrev reply_of : WalletEffect (Result Accepted WalletRefusal) → Reply
-  reply_of effect = (answered n wallet_cause (on_accepted n bytes) effect.answer).reply
+  reply_of effect = (answered wallet_cause on_accepted effect.answer).reply
 
   -- what an accept of the wallet's own history does, by what is so of the coin
   abbrev ends : Bool → Option ℕ → Bool → WalletEffect (Result Accepted WalletRefusal)

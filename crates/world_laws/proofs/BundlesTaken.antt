@@ -31,8 +31,11 @@ use Rattle.node_replies.specs.Causes.{wallet_cause}
 use Rattle.world_rules.specs.Events.{Event, Joins, log_of}
 use Rattle.world_rules.specs.World.{Role, Wallet, Watcher, Operator, Node, World, is_wallet_role, number_of, owner_of_node, wallet_of, bytes_of}
 use Rattle.world_rules.specs.Safety.{is_joined}
-use Rattle.world_rules.proofs.ByCommand.{answered, on_accepted, wallet_deed, command_deed, deed-by-command}
-use Rattle.world_rules.specs.Deeds.{Deed, deed_of}
+use Rattle.node_replies.specs.declared.order.NodeOrder.{NodeOrder}
+use Rattle.node_replies.specs.declared.order.WalletOrder.{WalletOrder}
+use Rattle.node_replies.specs.Orders.{answered, on_accepted, wallet_doing, wallet_does}
+use Rattle.world_rules.specs.Orders.{order_of}
+use Rattle.world_rules.specs.Deeds.{Deed, as_deed, deed_of}
 use Rattle.world_rules.specs.Steps.{LineEffect, TraceEntry, Run, down, commanded, command_effect, effect_in, step, events_of}
 use Rattle.world_rules.proofs.KeptRun.{run-kept}
 use Rattle.world_rules.proofs.KeptWorld.{KeptWorld}
@@ -234,19 +237,17 @@ wallet-tag events tag n node Operator is_role is = absurd (false≢true is_role)
 -- the deed of an accept
 accept-deed : (dig : List ℕ → List ℕ) (world : World) (name : List ℕ) (n : ℕ) (node : Node) (token : HexOrItem)
     (deed : Deed) → deed_of dig world n node (Command.Wallet name (WalletCommand.Accept token)) ≡ Some deed
-    → wallet_deed n (on_accepted n (bytes_of world token))
-    (accept_effect dig (wallet_of node) world.chain.log (bytes_of world token)) ≡ deed
-unfolding command_deed
-accept-deed dig world name n node token deed is =
-    some_same _ deed
-    (deed-by-command dig world n node (Command.Wallet name (WalletCommand.Accept token)) deed is)
+    → as_deed n (NodeOrder.Wallet (WalletOrder.Accept (bytes_of world token)))
+    (wallet_doing on_accepted (accept_effect dig (wallet_of node) world.chain.log (bytes_of world token))) ≡ deed
+unfolding deed_of order_of wallet_does
+accept-deed dig world name n node token deed is = some_same _ deed is
 
 -- what the wallet answers that is up
 accept-reply : (dig : List ℕ → List ℕ) (world : World) (name : List ℕ) (n : ℕ) (node : Node) (token : HexOrItem)
     (effect : LineEffect) → number_of is_wallet_role world name ≡ Some n → slice_get world.nodes n ≡ Some node
     → node.is_up ≡ true
     → step dig (Some world) (Line.Command (Command.Wallet name (WalletCommand.Accept token))) ≡ Some effect
-    → effect.reply ≡ (answered n wallet_cause (on_accepted n (bytes_of world token))
+    → effect.reply ≡ (answered wallet_cause on_accepted
     (accept_effect dig (wallet_of node) world.chain.log (bytes_of world token)).answer).reply
 unfolding effect_in
 accept-reply dig world name n node token effect number node_is is_up is =
@@ -265,7 +266,7 @@ accept-reply dig world name n node token effect number node_is is_up is =
         → (if not b && true then Some (down world)
         else option_map (commanded world n node)
         (deed_of dig world n node (Command.Wallet name (WalletCommand.Accept token)))) ≡ Some bare
-        → bare.reply ≡ (answered n wallet_cause (on_accepted n (bytes_of world token))
+        → bare.reply ≡ (answered wallet_cause on_accepted
         (accept_effect dig (wallet_of node) world.chain.log (bytes_of world token)).answer).reply
     by bare true up is =
         let asked = Command.Wallet name (WalletCommand.Accept token) in
@@ -292,16 +293,16 @@ taken-by dig lines run world node n coin tip name bytes token effect run_is own 
     (wallet-tag (events_of run.entries) world.chain.tag n node node.role role one.is)).2 in
     let handed : links_handed dig (who_is_wallet node.notes).tag world.chain.log bytes ≡ Ok own.links =
     ap (λ (tag : List ℕ). links_handed dig tag world.chain.log bytes) tag_is ∙ own.handed in
-    let taken = taken-bundle dig (wallet_of node) world.chain.log n bytes own.links handed own.mine short in
-    let answer : effect.reply ≡ (answered n wallet_cause (on_accepted n bytes)
+    let taken = taken-bundle dig (wallet_of node) world.chain.log bytes own.links handed own.mine short in
+    let answer : effect.reply ≡ (answered wallet_cause on_accepted
     (accept_effect dig (wallet_of node) world.chain.log bytes).answer).reply =
     accept-reply dig world name n node token effect number node_is is_up is
-    ∙ ap (λ (b : List ℕ). (answered n wallet_cause (on_accepted n b)
+    ∙ ap (λ (b : List ℕ). (answered wallet_cause on_accepted
     (accept_effect dig (wallet_of node) world.chain.log b).answer).reply) bytes_are in
     subst (IsTakenBundle world.chain.log coin tip) (sym answer)
-    (subst (λ (t : ℕ). IsTakenBundle world.chain.log coin t (answered n wallet_cause (on_accepted n bytes)
+    (subst (λ (t : ℕ). IsTakenBundle world.chain.log coin t (answered wallet_cause on_accepted
     (accept_effect dig (wallet_of node) world.chain.log bytes).answer).reply) own.tip_is
-    (subst (λ (c : ℕ). IsTakenBundle world.chain.log c (tip_of own.links) (answered n wallet_cause (on_accepted n bytes)
+    (subst (λ (c : ℕ). IsTakenBundle world.chain.log c (tip_of own.links) (answered wallet_cause on_accepted
     (accept_effect dig (wallet_of node) world.chain.log bytes).answer).reply) own.coin_is taken))
 
 -- ---- the law

@@ -1,6 +1,6 @@
 -- What commands offer: challenges and answers by a watch, a wallet's own start by a leave, the operator's commit by a
 -- seal. None of it deposits, and a start is by the account of the wallet that offers it.
-use Rattle.std.proofs.Common.{◌≡◌, ℕ, Bool, true, false, List, [], ◌∷◌, Option, Some, None, Ok, Err, inl, inr, refl, sym, ap, ◌∙◌, subst}
+use Rattle.std.proofs.Common.{◌≡◌, ℕ, true, false, List, [], Option, Some, None, Ok, Err, inl, inr, refl, sym, ap, ◌∙◌, subst}
 use Rattle.std.specs.Prelude.{Result}
 use Rattle.std.specs.List.{range_with_len}
 use Rattle.std.specs.Option.{option_map_or}
@@ -12,50 +12,48 @@ use Rattle.plasma_tx.specs.declared.views.ExitView.{ExitView}
 use Rattle.plasma_tx.specs.Links.{last_spend}
 use Rattle.plasma_tx.specs.Views.{coins, exits_of}
 use Rattle.plasma_tx.proofs.Names.{some_same}
-use Rattle.line_forms.proofs.FormLaws.{option_map_some}
 use Rattle.schedule_text.specs.declared.command.Command.{Command}
-use Rattle.schedule_text.specs.declared.command.WalletCommand.{WalletCommand}
-use Rattle.schedule_text.specs.declared.command.WatcherCommand.{WatcherCommand}
-use Rattle.schedule_text.specs.declared.command.OperatorCommand.{OperatorCommand}
 use Rattle.schedule_text.specs.Grammar.{node_of}
 use Rattle.wallet_core.specs.declared.coin_state.CoinState.{CoinState}
 use Rattle.wallet_core.specs.declared.coin_state.CoinState.TheVariants.{Nothing, Sending, Leaving, Held}
 use Rattle.node_rules.specs.declared.refusal.WalletRefusal.{WalletRefusal}
 use Rattle.node_rules.specs.Kept.{kept_links}
 use Rattle.node_rules.specs.WalletRecords.{owner_of}
-use Rattle.node_rules.specs.Wallet.{WalletRecords, who, coin_state, links_at, start_by, start_of, exit_start, leave_from, leave_effect, due_in, watch_answer as wallet_watch, accept_effect, send_effect, again_answer, reclaim_effect, migrate_effect}
-use Rattle.node_rules.specs.Watcher.{due_for_kept, guards_in, who_is as who_is_watcher, watch_answer as watcher_watch, guard_effect, release_effect}
-use Rattle.operator_rules.specs.Commands.{offer_effect, lay_effect, seal_effect, prove_answer, bundle_answer, absences_answer}
+use Rattle.node_rules.specs.Wallet.{WalletRecords, who, coin_state, links_at, start_by, start_of, exit_start, leave_from, leave_effect, due_in, watch_answer as wallet_watch}
+use Rattle.node_rules.specs.Watcher.{due_for_kept, guards_in, who_is as who_is_watcher, watch_answer as watcher_watch}
 use Rattle.watch_duty.specs.Duty.{due_for, due_of}
 use Rattle.watch_duty.proofs.Members.{Has, has-flat_map}
 use Rattle.watch_duty.proofs.Dues.{IsDue, DueAfter, DueBetween, DueBefore, DueRespond, due_for-due}
-use Rattle.node_replies.specs.Causes.{wallet_cause, watcher_cause, offer_cause, lay_cause, prove_cause}
-use Rattle.world_rules.specs.World.{Role, Wallet, Watcher, Operator, Node, World, is_named, is_wallet_role, wallet_of, owner_of_node, bytes_of, new_owner_of}
+use Rattle.world_rules.specs.World.{Node, World, is_named, is_wallet_role, is_operator_role, wallet_of, owner_of_node}
 use Rattle.world_rules.specs.Declarations.{plays}
-use Rattle.world_rules.specs.Deeds.{Gives, Deed}
-use Rattle.world_rules.proofs.ByCommand.{answered, on_accepted, on_sent, on_sent_again, on_leaving, on_reclaimed, on_migrated, send_deed, wallet_command, on_guarded, on_released, watcher_command, on_pooled, on_laid, on_bundled, on_proved, operator_command, due_at_node, on_open, command_deed, deed-by-command}
+use Rattle.world_rules.specs.Deeds.{Deed}
+use Rattle.node_replies.specs.declared.order.NodeOrder.{NodeOrder}
+use Rattle.world_rules.specs.Events.{Event}
+use Rattle.world_rules.proofs.OrderEnds.{OrderEnds, Leaving, Watching, GuardWatching, Sealing, IsOrderAt, order-role, ordered, deed-ends}
 use Rattle.world_rules.proofs.Shapes.{IsDone}
 use Rattle.world_rules.proofs.Existence.{position-is}
 use Rattle.world_laws.specs.Legal.{starts_by, deposits_by}
 use Rattle.world_laws.proofs.Identities.{IsOffer}
+use Rattle.world_laws.proofs.OperatorLines.{commits_root}
 
 -- ---- challenges and answers
 
--- the call neither deposits nor starts
+-- the call neither deposits nor starts, and is no commit
 pub record IsQuiet (call : RootCall) : Type 0 where
   pub deposits : (account : ℕ) → deposits_by account call ≡ false
   pub starts : (account : ℕ) → starts_by account call ≡ false
+  pub commits : commits_root call ≡ false
 
 quiet-due : (log : List RootCall) (account : ℕ) (links : Links) (exit : ExitView) (call : RootCall)
     → IsDue log account links exit call → IsQuiet call
 quiet-due log account links exit call (DueAfter link after early is) =
-    subst IsQuiet is (record { deposits = λ a. refl; starts = λ a. refl })
+    subst IsQuiet is (record { deposits = λ a. refl; starts = λ a. refl; commits = refl })
 quiet-due log account links exit call (DueBetween link later after early is) =
-    subst IsQuiet is (record { deposits = λ a. refl; starts = λ a. refl })
+    subst IsQuiet is (record { deposits = λ a. refl; starts = λ a. refl; commits = refl })
 quiet-due log account links exit call (DueBefore later fresh early is) =
-    subst IsQuiet is (record { deposits = λ a. refl; starts = λ a. refl })
+    subst IsQuiet is (record { deposits = λ a. refl; starts = λ a. refl; commits = refl })
 quiet-due log account links exit call (DueRespond challenge link at has unanswered after early is) =
-    subst IsQuiet is (record { deposits = λ a. refl; starts = λ a. refl })
+    subst IsQuiet is (record { deposits = λ a. refl; starts = λ a. refl; commits = refl })
 
 due-quiet : (log : List RootCall) (account : ℕ) (links : Links) (call : RootCall)
     → Has (due_of log account (record { links = links })) call → IsQuiet call
@@ -91,12 +89,6 @@ watcher-quiet dig notes log call h =
     (guards_in dig notes) call h in
     linked-quiet log (who_is_watcher notes).account (kept_links (who_is_watcher notes).tag log found.0) call found.2
 
-watch-quiet : (dig : List ℕ → List ℕ) (log : List RootCall) (node : Node) (role : Role) (call : RootCall)
-    → Has (due_at_node dig log node role) call → IsQuiet call
-watch-quiet dig log node Wallet call h = wallet-quiet dig (wallet_of node) log call h
-watch-quiet dig log node Watcher call h = watcher-quiet dig node.notes log call h
-watch-quiet dig log node Operator call h = absurd h
-
 -- ---- starts
 
 -- a start is by its account
@@ -110,10 +102,16 @@ start-no_deposit : (account tip : ℕ) (links : Links) (last : Option Link) (by 
 start-no_deposit account tip links None by = refl
 start-no_deposit account tip links (Some link) by = refl
 
+start-no_commit : (account tip : ℕ) (links : Links) (last : Option Link)
+    → commits_root (start_by account tip links last) ≡ false
+start-no_commit account tip links None = refl
+start-no_commit account tip links (Some link) = refl
+
 -- what a leave answers is a start by the wallet's account
 pub record IsStart (account : ℕ) (call : RootCall) : Type 0 where
   pub deposits : (by : ℕ) → deposits_by by call ≡ false
   pub starts : (by : ℕ) → starts_by by call ≡ true → account ≡ by
+  pub commits : commits_root call ≡ false
 
 abbrev not_held : Result RootCall WalletRefusal
 not_held = Err WalletRefusal.NotHeld
@@ -131,6 +129,7 @@ module _ (dig : List ℕ → List ℕ) (wallet : WalletRecords) (log : List Root
           subst (IsStart (who wallet).account) same (record {
             deposits = start-no_deposit (who wallet).account tip links (last_spend links);
             starts = start-by (who wallet).account tip links (last_spend links);
+            commits = start-no_commit (who wallet).account tip links (last_spend links);
           })
 
   pub leave-start : (coin : ℕ) → (leave_effect dig wallet log coin).answer ≡ Ok call
@@ -144,95 +143,6 @@ module _ (dig : List ℕ → List ℕ) (wallet : WalletRecords) (log : List Root
       by (Sending tip q) is = absurd (cc is)
       by (Leaving tip) is = exit-start coin tip is
       by (Held tip) is = exit-start coin tip is
-
--- ---- deeds
-
--- each call that is given is so
-abbrev OffersAll : (RootCall → Type 0) → Gives → Type 0
-OffersAll P gives = (call : RootCall) → Has gives.offers call → P call
-
--- a refusal offers nothing, so what is answered does as each answer does
-answered-all : {A E : Type 0} (P : RootCall → Type 0) (n : ℕ) (cause : E → List ℕ) (give : A → Gives)
-    (result : Result A E) → ((answer : A) → result ≡ Ok answer → OffersAll P (give answer))
-    → OffersAll P (answered n cause give result)
-answered-all P n cause give (Ok answer) each = each answer refl
-answered-all P n cause give (Err why) each = λ call h. absurd h
-
-module _ (dig : List ℕ → List ℕ) (world : World) (n : ℕ) where
-  wallet-offers : (wallet : WalletRecords) (own : WalletCommand) (deed : Deed)
-      → wallet_command dig world n wallet own ≡ Some deed → OffersAll (IsStart (who wallet).account) deed.gives
-  wallet-offers wallet (WalletCommand.Accept bundle) deed is =
-      let bytes = bytes_of world bundle in
-      let P = IsStart (who wallet).account in
-      subst (λ (d : Deed). OffersAll P d.gives) (some_same _ deed is)
-      (answered-all P n wallet_cause (on_accepted n bytes) (accept_effect dig wallet world.chain.log bytes).answer
-      (λ taken made call h. absurd h))
-  wallet-offers wallet (WalletCommand.Send coin to last) deed is =
-      let found = option_map_some (send_deed dig world n wallet coin last) (new_owner_of world to) deed is in
-      let P = IsStart (who wallet).account in
-      subst (λ (d : Deed). OffersAll P d.gives) found.2
-      (answered-all P n wallet_cause (on_sent n) (send_effect dig wallet world.chain.log coin found.0 last).answer
-      (λ sent made call h. absurd h))
-  wallet-offers wallet (WalletCommand.Again coin) deed is =
-      let P = IsStart (who wallet).account in
-      subst (λ (d : Deed). OffersAll P d.gives) (some_same _ deed is)
-      (answered-all P n wallet_cause (on_sent_again n) (again_answer wallet coin) (λ sent made call h. absurd h))
-  wallet-offers wallet (WalletCommand.Leave coin) deed is =
-      let P = IsStart (who wallet).account in
-      subst (λ (d : Deed). OffersAll P d.gives) (some_same _ deed is)
-      (answered-all P n wallet_cause (on_leaving n) (leave_effect dig wallet world.chain.log coin).answer
-      (λ start made call h. only start made call h))
-    where
-      only : (start : RootCall) → (leave_effect dig wallet world.chain.log coin).answer ≡ Ok start
-          → (call : RootCall) → Has (start ∷ []) call → IsStart (who wallet).account call
-      only start made call (inl same) =
-          subst (IsStart (who wallet).account) same (leave-start dig wallet world.chain.log start coin made)
-      only start made call (inr none) = absurd none
-  wallet-offers wallet (WalletCommand.Reclaim bundle) deed is =
-      let bytes = bytes_of world bundle in
-      let P = IsStart (who wallet).account in
-      subst (λ (d : Deed). OffersAll P d.gives) (some_same _ deed is)
-      (answered-all P n wallet_cause (on_reclaimed n bytes) (reclaim_effect dig wallet world.chain.log bytes).answer
-      (λ taken made call h. absurd h))
-  wallet-offers wallet WalletCommand.Migrate deed is =
-      let P = IsStart (who wallet).account in
-      subst (λ (d : Deed). OffersAll P d.gives) (some_same _ deed is)
-      (answered-all P n wallet_cause (on_migrated n) (migrate_effect wallet).answer (λ done made call h. absurd h))
-
-  watcher-offers : (notes : List (List ℕ)) (own : WatcherCommand)
-      → OffersAll IsQuiet (watcher_command dig world n notes own).gives
-  watcher-offers notes (WatcherCommand.Guard bundle) =
-      let bytes = bytes_of world bundle in
-      answered-all IsQuiet n watcher_cause (on_guarded n bytes) (guard_effect dig notes world.chain.log bytes).answer
-      (λ taken made call h. absurd h)
-  watcher-offers notes (WatcherCommand.Release coin tip) =
-      answered-all IsQuiet n watcher_cause (on_released n coin tip) (release_effect dig notes coin tip).answer
-      (λ done made call h. absurd h)
-
-  operator-offers : (notes : List (List ℕ)) (own : OperatorCommand)
-      → OffersAll IsQuiet (operator_command dig world n notes own).gives
-  unfolding seal_effect
-  operator-offers notes (OperatorCommand.Offer transfer) =
-      answered-all IsQuiet n offer_cause (on_pooled n)
-      (offer_effect dig notes world.chain.log (bytes_of world transfer)).answer (λ coin made call h. absurd h)
-  operator-offers notes (OperatorCommand.Lay coin leaf) =
-      answered-all IsQuiet n lay_cause (on_laid n coin) (lay_effect coin (bytes_of world leaf)).answer
-      (λ done made call h. absurd h)
-  operator-offers notes OperatorCommand.Seal = committed
-    where
-      committed : (call : RootCall) → Has (operator_command dig world n notes OperatorCommand.Seal).gives.offers call
-          → IsQuiet call
-      committed call (inl same) = subst IsQuiet same (record { deposits = λ a. refl; starts = λ a. refl })
-      committed call (inr none) = absurd none
-  operator-offers notes (OperatorCommand.Bundle coin tip) =
-      answered-all IsQuiet n prove_cause (on_bundled n) (bundle_answer dig notes world.chain.log coin tip)
-      (λ bundle made call h. absurd h)
-  operator-offers notes (OperatorCommand.Prove coin block) =
-      answered-all IsQuiet n prove_cause (on_proved n) (prove_answer dig notes world.chain.log coin block)
-      (λ opening made call h. absurd h)
-  operator-offers notes (OperatorCommand.Absences coin after last) =
-      answered-all IsQuiet n prove_cause (on_bundled n) (absences_answer dig notes world.chain.log coin after last)
-      (λ bundle made call h. absurd h)
 
 -- ---- so each node offers
 
@@ -252,41 +162,50 @@ done-role dig world command n node deed done =
     (and_parts _ (plays command node.role) (ap named (sym same) ∙ found.2)).1
 
 -- what a command offers, where a wallet's notes say the account of its node
-offers-by-command : (dig : List ℕ → List ℕ) (world : World) (command : Command) (n : ℕ) (node : Node) (deed : Deed)
-    → IsDone dig world command n node deed
-    → command_deed dig world n node command ≡ Some deed
-    → (is_wallet_role node.role ≡ true → (owner_of_node node).account ≡ node.account)
-    → (call : RootCall) → Has deed.gives.offers call → IsOffer node call
-unfolding command_deed owner_of
-offers-by-command dig world (Command.Wallet name own) n node deed done deed_is account call h =
-    let role = done-role dig world (Command.Wallet name own) n node deed done in
-    let start = wallet-offers dig world n (wallet_of node) own deed deed_is call h in record {
-      deposits = start.deposits;
-      starts = λ by is. (role, sym (account role) ∙ start.starts by is);
-    }
-offers-by-command dig world (Command.Watcher name own) n node deed done deed_is account call h =
-    quiet-offer node call
-    (watcher-offers dig world n node.notes own call
-    (subst (λ (d : Deed). Has d.gives.offers call) (sym (some_same _ deed deed_is)) h))
-offers-by-command dig world (Command.Operator own) n node deed done deed_is account call h =
-    quiet-offer node call
-    (operator-offers dig world n node.notes own call
-    (subst (λ (d : Deed). Has d.gives.offers call) (sym (some_same _ deed deed_is)) h))
-offers-by-command dig world (Command.Watch name) n node deed done deed_is account call h =
-    quiet-offer node call
-    (watch-quiet dig world.chain.log node node.role call
-    (subst (λ (d : Deed). Has d.gives.offers call) (sym (some_same _ deed deed_is)) h))
-offers-by-command dig world (Command.Open name) n node deed done deed_is account call h =
-    absurd (opened node.is_up (subst (λ (d : Deed). Has d.gives.offers call) (sym (some_same _ deed deed_is)) h))
-  where
-    opened : (b : Bool) → Has (on_open n node b).offers call → ⊥
-    opened true h = h
-    opened false h = h
-
 pub deed-offers : (dig : List ℕ → List ℕ) (world : World) (command : Command) (n : ℕ) (node : Node) (deed : Deed)
     → IsDone dig world command n node deed
     → (is_wallet_role node.role ≡ true → (owner_of_node node).account ≡ node.account)
     → (call : RootCall) → Has deed.gives.offers call → IsOffer node call
-deed-offers dig world command n node deed done account =
-    offers-by-command dig world command n node deed done
-    (deed-by-command dig world n node command deed done.deed_is) account
+unfolding owner_of
+deed-offers dig world command n node deed done account call has =
+    let own = ordered dig world n node command deed done.deed_is in
+    by own.order deed.gives.event deed.gives.offers
+    (order-role world node.role command own.order (done-role dig world command n node deed done) own.order_is)
+    (deed-ends dig world n node command deed own) has
+  where
+    by : (order : NodeOrder) (event : Event) (calls : List RootCall) → IsOrderAt node.role order
+        → OrderEnds dig world.chain.log n node order event calls → Has calls call → IsOffer node call
+    by order event calls role (Leaving coin start made) (inl same) =
+        let leaves = subst (IsStart (who (wallet_of node)).account) same
+        (leave-start dig (wallet_of node) world.chain.log start coin made) in
+        record { deposits = leaves.deposits; starts = λ by is. (role, sym (account role) ∙ leaves.starts by is) }
+    by order event calls role (Leaving coin start made) (inr none) = absurd none
+    by order event calls role Watching has =
+        quiet-offer node call (wallet-quiet dig (wallet_of node) world.chain.log call has)
+    by order event calls role GuardWatching has =
+        quiet-offer node call (watcher-quiet dig node.notes world.chain.log call has)
+    by order event calls role Sealing (inl same) =
+        subst (IsOffer node) same (record { deposits = λ a. refl; starts = λ a is. absurd (false≢true is) })
+    by order event calls role Sealing (inr none) = absurd none
+    by order event calls role ends has = absurd has
+
+-- a node that isn't the operator offers no commit
+pub deed-quiet : (dig : List ℕ → List ℕ) (world : World) (command : Command) (n : ℕ) (node : Node) (deed : Deed)
+    → IsDone dig world command n node deed → is_operator_role node.role ≡ false
+    → (call : RootCall) → Has deed.gives.offers call → commits_root call ≡ false
+deed-quiet dig world command n node deed done other call has =
+    let own = ordered dig world n node command deed done.deed_is in
+    by own.order deed.gives.event deed.gives.offers
+    (order-role world node.role command own.order (done-role dig world command n node deed done) own.order_is)
+    (deed-ends dig world n node command deed own) has
+  where
+    by : (order : NodeOrder) (event : Event) (calls : List RootCall) → IsOrderAt node.role order
+        → OrderEnds dig world.chain.log n node order event calls → Has calls call → commits_root call ≡ false
+    by order event calls role (Leaving coin start made) (inl same) =
+        (subst (IsStart (who (wallet_of node)).account) same
+        (leave-start dig (wallet_of node) world.chain.log start coin made)).commits
+    by order event calls role (Leaving coin start made) (inr none) = absurd none
+    by order event calls role Watching has = (wallet-quiet dig (wallet_of node) world.chain.log call has).commits
+    by order event calls role GuardWatching has = (watcher-quiet dig node.notes world.chain.log call has).commits
+    by order event calls role Sealing has = absurd (false≢true (sym other ∙ role))
+    by order event calls role ends has = absurd has

@@ -22,7 +22,7 @@ use Rattle.world_rules.proofs.StepLaws.{stepped}
 use Rattle.world_rules.proofs.Runs.{begun, set-same, set-other, push-same, push-other}
 use Rattle.world_rules.proofs.Said.{Said, said, told, is_said_of, said-other}
 use Rattle.world_rules.proofs.KeptNode.{IsFit}
-use Rattle.world_rules.proofs.KeptWorld.{KeptWorld}
+use Rattle.world_rules.proofs.KeptWorld.{KeptWorld, world-feeds}
 use Rattle.world_rules.proofs.NodeEvents.{IsTold, command-told, cut-of, other-of}
 use Rattle.world_rules.proofs.KeptRun.{run-kept}
 use Rattle.world_laws.specs.Headline.{IsRun}
@@ -145,7 +145,7 @@ module _ (dig : List ℕ → List ℕ) (events : List Event) (world : World) (ke
       (λ watcher. subst (λ (s : Said). AreShown world.chain.tag s.guarded (guards_in dig after.notes)) (sym own.is)
       (subst (λ (records : List (List ℕ)).
       AreShown world.chain.tag (told deed.gives.event (said events n)).guarded (guards_in dig records)) (sym notes)
-      (deed-shown dig world n node (said events n) kept.mail watcher ((kept.nodes n node done.node_is).watcher watcher)
+      (deed-shown dig world n node (said events n) (world-feeds dig events world kept) watcher ((kept.nodes n node done.node_is).watcher watcher)
       (watcher-tag events world.chain.tag n node (is-watcher events world keeps n node done.node_is watcher))
       (guards n node done.node_is watcher) command deed fit done)))
 

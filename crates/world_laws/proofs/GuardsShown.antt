@@ -12,7 +12,6 @@ use Rattle.coin_history.specs.declared.bundle.Bundle.{Bundle}
 use Rattle.coin_history.specs.declared.refusal.HistoryRefusal.{HistoryRefusal}
 use Rattle.coin_history.specs.History.{links_in}
 use Rattle.schedule_text.specs.declared.command.Command.{Command}
-use Rattle.schedule_text.specs.declared.command.WatcherCommand.{WatcherCommand}
 use Rattle.node_rules.specs.declared.answers.Accepted.{Accepted}
 use Rattle.node_rules.specs.declared.refusal.WatcherRefusal.{WatcherRefusal}
 use Rattle.node_rules.specs.declared.refusal.WatcherRefusal.TheVariants.{NoGuard}
@@ -22,19 +21,19 @@ use Rattle.node_rules.specs.Watcher.{Guarded, Released, note_text, who_is, is_of
 use Rattle.node_rules.specs.WatcherLaws.{AddsNote, AddsGuard}
 use Rattle.node_rules.proofs.WatcherRole.{commands_add_their_notes}
 use Rattle.watch_duty.proofs.Members.{Has, has-cases, has-filter}
-use Rattle.node_replies.specs.Causes.{watcher_cause}
 use Rattle.world_rules.specs.Events.{Event, Guards, Releases, is_bundle}
-use Rattle.world_rules.specs.World.{Role, Wallet, Watcher, Operator, Node, World, is_wallet_role, is_watcher_role, is_operator_role, bytes_of}
-use Rattle.world_rules.proofs.ByCommand.{answered, on_guarded, on_released, on_open, watcher_command, command_deed, deed-by-command}
-use Rattle.world_rules.specs.OrderEvents.{bundle_read}
-use Rattle.node_replies.specs.Orders.{with_record}
-use Rattle.world_rules.specs.Deeds.{Deed}
+use Rattle.world_rules.specs.World.{Node, World, is_watcher_role}
+use Rattle.node_replies.specs.declared.order.NodeOrder.{NodeOrder}
+use Rattle.node_replies.specs.declared.order.WatcherOrder.{WatcherOrder}
+use Rattle.node_replies.specs.Orders.{with_record, on_guarded, on_released, watcher_does}
+use Rattle.world_rules.specs.Orders.{node_does}
+use Rattle.world_rules.specs.OrderEvents.{bundle_read, event_of}
+use Rattle.world_rules.proofs.OrderEnds.{watcher_told, IsOrderAt, order-role, ordered}
+use Rattle.world_rules.specs.Deeds.{Deed, as_deed}
 use Rattle.node_replies.proofs.ByteTexts.{Small, small-nil}
 use Rattle.world_rules.proofs.Said.{Said, told}
 use Rattle.world_rules.proofs.KeptWatcher.{KeptWatcher}
-use Rattle.world_rules.proofs.KeptNode.{IsFit, IsFitWatcher, token-small}
-use Rattle.world_rules.proofs.OperatorItems.{AreSmallRecords}
-use Rattle.world_laws.proofs.Lists.{some_same}
+use Rattle.world_rules.proofs.KeptNode.{Feeds, IsFit, IsFitOrder, order-fit, watcher-alone}
 use Rattle.world_rules.proofs.Shapes.{IsDone}
 use Rattle.world_laws.proofs.DeedOffers.{done-role}
 use Rattle.world_laws.proofs.Handed.{handed-history}
@@ -163,10 +162,10 @@ module _ (dig : List ℕ → List ℕ) (tag : List ℕ) (s : Said) (log : List R
 
   abbrev IsGuarded : ℕ → List ℕ → Effect (Result Accepted WatcherRefusal) → Type 0
   IsGuarded n bytes effect =
-      IsAfter (answered n watcher_cause (on_guarded n bytes) effect.answer).event effect.note
+      IsAfter (watcher_told n (WatcherOrder.Guard bytes) on_guarded effect.answer) effect.note
 
   pub guard-shown : (n : ℕ) (bytes : List ℕ) → Small bytes → IsGuarded n bytes (guard_effect dig records log bytes)
-  unfolding guard_effect
+  unfolding guard_effect event_of
   guard-shown n bytes small =
       at (links_handed dig (who_is records).tag log bytes) refl
       (commands_add_their_notes dig records log bytes 0 0 kept.is small.are (lit< tt) (lit< tt)).0
@@ -198,10 +197,10 @@ module _ (dig : List ℕ → List ℕ) (tag : List ℕ) (s : Said) (log : List R
 
   abbrev IsReleased : ℕ → ℕ → ℕ → Effect (Result (Unit {0}) WatcherRefusal) → Type 0
   IsReleased n c e effect =
-      IsAfter (answered n watcher_cause (on_released n c e) effect.answer).event effect.note
+      IsAfter (watcher_told n (WatcherOrder.Release c e) on_released effect.answer) effect.note
 
   pub release-shown : (n c e : ℕ) → c < 2 ^ 64 → e < 2 ^ 64 → IsReleased n c e (release_effect dig records c e)
-  unfolding release_effect
+  unfolding release_effect event_of
   release-shown n c e coin_fits tip_fits =
       by (list_any (is_of c e) (guards_in dig records))
       (commands_add_their_notes dig records log [] c e kept.is small-nil.are coin_fits tip_fits).1
@@ -211,59 +210,32 @@ module _ (dig : List ℕ → List ℕ) (tag : List ℕ) (s : Said) (log : List R
       by true adds = release-new n c e (note_text (Released c e)) adds
       by false adds = shown
 
--- what a watcher's own command leaves
-module _ (dig : List ℕ → List ℕ) (world : World) (n : ℕ) (node : Node) (s : Said)
-    (mail : AreSmallRecords world.mail) (role : is_watcher_role node.role ≡ true)
-    (kept : KeptWatcher dig s node.notes) (tag_is : (who_is node.notes).tag ≡ world.chain.tag)
+-- what a watcher's command leaves
+module _ (dig : List ℕ → List ℕ) (world : World) (n : ℕ) (node : Node) (s : Said) (feeds : Feeds world)
+    (role : is_watcher_role node.role ≡ true) (kept : KeptWatcher dig s node.notes)
+    (tag_is : (who_is node.notes).tag ≡ world.chain.tag)
     (shown : AreShown world.chain.tag s.guarded (guards_in dig node.notes)) where
   abbrev ShownAfter : Deed → Type 0
   ShownAfter deed =
       AreShown world.chain.tag (told deed.gives.event s).guarded (guards_in dig (with_record node.notes deed.note))
 
-  watcher-shown : (own : WatcherCommand) → IsFitWatcher own → ShownAfter (watcher_command dig world n node.notes own)
-  watcher-shown (WatcherCommand.Guard bundle) fit =
-      guard-shown dig world.chain.tag s world.chain.log node.notes kept tag_is shown n (bytes_of world bundle)
-      (token-small world bundle mail fit)
-  watcher-shown (WatcherCommand.Release coin tip) fit =
+  order-shown : (order : NodeOrder) → IsOrderAt node.role order → IsFitOrder order
+      → ShownAfter (as_deed n order (node_does dig world.chain.log node order))
+  unfolding watcher_does event_of
+  order-shown (NodeOrder.Watcher (WatcherOrder.Guard bytes)) at fit =
+      guard-shown dig world.chain.tag s world.chain.log node.notes kept tag_is shown n bytes fit
+  order-shown (NodeOrder.Watcher (WatcherOrder.Release coin tip)) at fit =
       release-shown dig world.chain.tag s world.chain.log node.notes kept tag_is shown n coin tip fit.0 fit.1
-
-  not-wallet : is_wallet_role node.role ≡ true → ⊥
-  not-wallet = by node.role role
-    where
-      by : (r : Role) → is_watcher_role r ≡ true → is_wallet_role r ≡ true → ⊥
-      by Wallet watcher wallet = false≢true watcher
-      by Watcher watcher wallet = false≢true wallet
-      by Operator watcher wallet = false≢true wallet
-
-  not-operator : is_operator_role node.role ≡ true → ⊥
-  not-operator = by node.role role
-    where
-      by : (r : Role) → is_watcher_role r ≡ true → is_operator_role r ≡ true → ⊥
-      by Wallet watcher operator = false≢true watcher
-      by Watcher watcher operator = false≢true operator
-      by Operator watcher operator = false≢true watcher
-
-  -- each command of a watcher
-  shown-by-command : (command : Command) (deed : Deed) → IsFit command → IsDone dig world command n node deed
-      → command_deed dig world n node command ≡ Some deed
-      → ShownAfter deed
-  unfolding command_deed
-  shown-by-command (Command.Wallet name own) deed fit done deed_is =
-      absurd (not-wallet (done-role dig world (Command.Wallet name own) n node deed done))
-  shown-by-command (Command.Watcher name own) deed fit done deed_is =
-      subst ShownAfter (some_same _ deed deed_is) (watcher-shown own fit)
-  shown-by-command (Command.Operator own) deed fit done deed_is =
-      absurd (not-operator (done-role dig world (Command.Operator own) n node deed done))
-  shown-by-command (Command.Watch name) deed fit done deed_is = subst ShownAfter (some_same _ deed deed_is) shown
-  shown-by-command (Command.Open name) deed fit done deed_is =
-      subst ShownAfter (some_same _ deed deed_is) (opened node.is_up)
-    where
-      opened : (b : Bool)
-          → AreShown world.chain.tag (told (on_open n node b).event s).guarded (guards_in dig node.notes)
-      opened true = shown
-      opened false = shown
+  order-shown (NodeOrder.Watcher WatcherOrder.Watch) at fit = shown
+  order-shown (NodeOrder.Wallet order) at fit = absurd (false≢true (sym (watcher-alone node.role role).0 ∙ at))
+  order-shown (NodeOrder.Operator order) at fit = absurd (false≢true (sym (watcher-alone node.role role).1 ∙ at))
+  order-shown NodeOrder.Open at fit = shown
 
   pub deed-shown : (command : Command) (deed : Deed) → IsFit command → IsDone dig world command n node deed
       → ShownAfter deed
   deed-shown command deed fit done =
-      shown-by-command command deed fit done (deed-by-command dig world n node command deed done.deed_is)
+      let own = ordered dig world n node command deed done.deed_is in
+      subst ShownAfter own.deed_is
+      (order-shown own.order
+      (order-role world node.role command own.order (done-role dig world command n node deed done) own.order_is)
+      (order-fit world feeds node.role command own.order fit own.order_is))

@@ -1,12 +1,11 @@
 -- In every run, a wallet's notes have each coin and block with which its leaves offered to leave; and each bundle that
 -- they accept has openings.
-use Rattle.std.proofs.Common.{◌≡◌, ◌≢◌, ◌⊎◌, ℕ, ◌^◌, ◌<◌, ◌==◌, ◌&&◌, true, false, List, [], ◌∷◌, ◌++◌, Option, Some, None, Ok, Err, inl, inr, refl, sym, ap, ◌∙◌, subst}
+use Rattle.std.proofs.Common.{◌≡◌, ◌≢◌, ◌⊎◌, ℕ, ◌^◌, ◌<◌, ◌==◌, ◌&&◌, Bool, true, false, List, [], ◌∷◌, ◌++◌, Option, Some, None, Ok, Err, inl, inr, refl, sym, ap, ◌∙◌, subst}
 use Rattle.std.specs.Prelude.{Result, IfSome, option_map}
 use Rattle.std.specs.List.{All, AllByRecursion}
-use Rattle.std.proofs.lemmas.Bool.{eq-eqb, and_from, or_left, or_right}
+use Rattle.std.proofs.lemmas.Bool.{eq-eqb, and_from, or_left, or_right, false≢true, true≢false}
 use Rattle.std.proofs.lemmas.List.Elements.{All-push}
 use Rattle.std.proofs.lemmas.List.Folds.{list_any-append}
-use Rattle.line_forms.proofs.FormLaws.{option_map_some}
 use Rattle.plasma_tx.specs.declared.links.Links.{Links}
 use Rattle.plasma_tx.specs.declared.owner.Owner.{Owner}
 use Rattle.plasma_tx.specs.declared.call.RootCall.{RootCall}
@@ -15,7 +14,6 @@ use Rattle.plasma_tx.specs.Views.{blocks, coin_at}
 use Rattle.plasma_tx.specs.declared.views.CoinView.{CoinView}
 use Rattle.coin_history.specs.declared.bundle.Bundle.{Bundle}
 use Rattle.coin_history.specs.History.{links_of}
-use Rattle.schedule_text.specs.declared.command.WalletCommand.{WalletCommand}
 use Rattle.wallet_core.specs.declared.notes.CoinTip.{CoinTip}
 use Rattle.wallet_core.specs.declared.notes.Notes.{Notes}
 use Rattle.wallet_core.specs.declared.coin_state.CoinState.{CoinState}
@@ -27,21 +25,27 @@ use Rattle.node_rules.specs.Kept.{kept_of, chain_of}
 use Rattle.node_rules.specs.WalletLaws.{AddsNote}
 use Rattle.node_rules.specs.WalletCommandLaws.{HaveOpenings, AddsAccepted, AddsLeaving, AddsReclaimed}
 use Rattle.node_rules.specs.WalletRecords.{Note, Accepts as AcceptsNote, LeavesWith, Reclaims, note_text, owner_of, notes_of, accepted_of, state_notes, leaves_in, coin_tip}
-use Rattle.node_rules.specs.Wallet.{WalletRecords, who, noted, coin_state, kept_at, links_at, start_of, leave_from, accept_effect, send_effect, again_answer, leave_effect, reclaim_effect, migrate_effect}
+use Rattle.node_rules.specs.Wallet.{WalletRecords, who, noted, coin_state, kept_at, links_at, start_of, leave_from, accept_effect, send_effect, leave_effect, reclaim_effect}
 use Rattle.node_rules.proofs.WalletGrow.{noted-grow, state-accepts, state-leaves, state-reclaims, accepted-accepts, accepted-leaves, accepted-reclaims}
 use Rattle.node_rules.proofs.WalletAdded.{send-note, migrate-note}
 use Rattle.node_rules.proofs.WalletRole.{accepts_add_their_notes, leaves_add_their_notes, leaves_are_answered, reclaims_add_their_notes}
 use Rattle.node_rules.proofs.ExitTips.{exits_are_of_the_tip}
-use Rattle.node_replies.specs.Causes.{wallet_cause}
 use Rattle.world_rules.specs.Events.{Event, Leaves, coin_of_call}
-use Rattle.world_rules.specs.World.{World, bytes_of, new_owner_of}
-use Rattle.world_rules.specs.Deeds.{Gives, Deed}
-use Rattle.world_rules.proofs.ByCommand.{answered, without_record, wallet_deed, on_accepted, on_sent, on_sent_again, on_leaving, on_reclaimed, on_migrated, send_deed, wallet_command}
-use Rattle.node_replies.specs.Orders.{with_record, exit_block}
+use Rattle.world_rules.specs.World.{Node, World, wallet_of, is_wallet_role}
+use Rattle.world_rules.specs.Deeds.{Deed, as_deed}
+use Rattle.node_replies.specs.declared.order.NodeOrder.{NodeOrder}
+use Rattle.node_replies.specs.declared.order.WalletOrder.{WalletOrder}
+use Rattle.node_replies.specs.Orders.{with_record, exit_block, on_leaving, wallet_does}
+use Rattle.world_rules.specs.Orders.{node_does}
+use Rattle.world_rules.specs.OrderEvents.{event_of}
+use Rattle.world_rules.proofs.OrderEnds.{OrderEnds, Leaving as LeavingEnds, wallet_told, IsOrderAt, order-role, ordered, order-ends}
+use Rattle.world_rules.proofs.Shapes.{IsDone}
+use Rattle.world_laws.proofs.DeedOffers.{done-role}
+use Rattle.schedule_text.specs.declared.command.Command.{Command}
 use Rattle.node_replies.proofs.ByteTexts.{Small}
 use Rattle.world_rules.proofs.Said.{Said}
 use Rattle.world_rules.proofs.KeptWallet.{KeptWallet, with_note}
-use Rattle.world_rules.proofs.KeptNode.{IsFitWallet, Feeds, token-small}
+use Rattle.world_rules.proofs.KeptNode.{Feeds, IsFit, IsFitOrder, order-fit, wallet-alone}
 use Rattle.world_rules.proofs.WalletSends.{words}
 use Rattle.world_laws.proofs.Lists.{some_same}
 use Rattle.world_laws.proofs.Offers.{StartsAt, start-at}
@@ -156,13 +160,6 @@ pub record StillLeft (dig : List ℕ → List ℕ) (wallet after : WalletRecords
   pub still : StillNoted dig wallet after
   pub left : (m : ℕ) (call : RootCall) → event ≡ Leaves m call
       → is_noted (coin_of_call call) (exit_block call) (noted dig after).leaving ≡ true
-
--- an answer that is no leave
-answered-other : {A E : Type 0} (n : ℕ) (cause : E → List ℕ) (give : A → Gives) (result : Result A E)
-    → ((answer : A) (m : ℕ) (call : RootCall) → (give answer).event ≡ Leaves m call → ⊥)
-    → (m : ℕ) (call : RootCall) → (answered n cause give result).event ≡ Leaves m call → ⊥
-answered-other n cause give (Ok answer) other m call is = other answer m call is
-answered-other n cause give (Err why) other m call is = cc is
 
 module _ (dig : List ℕ → List ℕ) (wallet : WalletRecords) (log : List RootCall) (coin : ℕ) where
   leave-made : (state : CoinState) → coin_state dig wallet log coin ≡ state
@@ -291,69 +288,83 @@ abbrev pub after_deed : WalletRecords → Deed → WalletRecords
 after_deed wallet deed =
     record { notes = with_record wallet.notes deed.note; leaves = with_record wallet.leaves deed.leaf }
 
-module _ (dig : List ℕ → List ℕ) (s : Said) (world : World) (feeds : Feeds world) (wallet : WalletRecords)
-    (kept : KeptWallet dig s world.chain.log wallet) (have : HaveOpenings dig wallet) (n : ℕ) where
+-- an order that leaves
+abbrev is_leave : NodeOrder → Bool
+is_leave (NodeOrder.Wallet (WalletOrder.Leave coin)) = true
+is_leave order = false
+
+module _ (dig : List ℕ → List ℕ) (s : Said) (world : World) (feeds : Feeds world) (n : ℕ) (node : Node)
+    (role : is_wallet_role node.role ≡ true) (kept : KeptWallet dig s world.chain.log (wallet_of node))
+    (have : HaveOpenings dig (wallet_of node)) where
   abbrev log : List RootCall
   log = world.chain.log
+
+  abbrev wallet : WalletRecords
+  wallet = wallet_of node
+
+  abbrev deed_by : NodeOrder → Deed
+  deed_by order = as_deed n order (node_does dig log node order)
 
   abbrev IsStillLeft : Deed → Type 0
   IsStillLeft deed = StillLeft dig wallet (after_deed wallet deed) deed.gives.event
 
-  -- a deed whose event is no leave
-  pub other-left : (deed : Deed) → Noting dig wallet deed.note
-      → ((m : ℕ) (call : RootCall) → deed.gives.event ≡ Leaves m call → ⊥) → IsStillLeft deed
-  other-left deed noting other = record {
-    still = still-noted dig wallet deed.note deed.leaf noting;
-    left = λ m call is. absurd (other m call is);
+  -- only a leave is an event that leaves
+  no-leave : (order : NodeOrder) (event : Event) (calls : List RootCall) → is_leave order ≡ false
+      → OrderEnds dig log n node order event calls → (m : ℕ) (call : RootCall) → event ≡ Leaves m call → ⊥
+  no-leave order event calls other (LeavingEnds coin start made) m call is = true≢false other
+  no-leave order event calls other ends m call is = cc is
+
+  other-left : (order : NodeOrder) → is_leave order ≡ false → Noting dig wallet (deed_by order).note
+      → IsStillLeft (deed_by order)
+  other-left order other noting = record {
+    still = still-noted dig wallet (deed_by order).note (deed_by order).leaf noting;
+    left = λ m call is. absurd (no-leave order _ _ other (order-ends dig log n node order) m call is);
   }
 
-  pub wallet-left : (own : WalletCommand) (deed : Deed) → IsFitWallet own
-      → wallet_command dig world n wallet own ≡ Some deed → IsStillLeft deed
-  wallet-left (WalletCommand.Accept bundle) deed fit is =
-      let bytes = bytes_of world bundle in
-      let effect = accept_effect dig wallet log bytes in
-      subst IsStillLeft (some_same _ deed is)
-      (other-left (wallet_deed n (on_accepted n bytes) effect)
-      (accept-noting dig s log wallet kept feeds.few bytes (token-small world bundle feeds.mail fit))
-      (answered-other n wallet_cause (on_accepted n bytes) effect.answer (λ taken m call is. cc is)))
-  wallet-left (WalletCommand.Send coin to last) deed fit is =
-      let found = option_map_some (send_deed dig world n wallet coin last) (new_owner_of world to) deed is in
-      let effect = send_effect dig wallet log coin found.0 last in
-      subst IsStillLeft found.2
-      (other-left (wallet_deed n (on_sent n) effect) (send-noting dig s log wallet kept feeds.few coin found.0 last)
-      (answered-other n wallet_cause (on_sent n) effect.answer (λ sent m call is. cc is)))
-  wallet-left (WalletCommand.Again coin) deed fit is =
-      let answer = again_answer wallet coin in
-      subst IsStillLeft (some_same _ deed is)
-      (other-left (without_record (answered n wallet_cause (on_sent_again n) answer)) (NoNote refl)
-      (answered-other n wallet_cause (on_sent_again n) answer (λ sent m call is. cc is)))
-  wallet-left (WalletCommand.Leave coin) deed fit is =
+  wallet-left : (order : WalletOrder) → IsFitOrder (NodeOrder.Wallet order)
+      → IsStillLeft (deed_by (NodeOrder.Wallet order))
+  unfolding wallet_does event_of
+  wallet-left (WalletOrder.Accept bytes) fit =
+      other-left (NodeOrder.Wallet (WalletOrder.Accept bytes)) refl
+      (accept-noting dig s log wallet kept feeds.few bytes fit)
+  wallet-left (WalletOrder.Send coin to last) fit =
+      other-left (NodeOrder.Wallet (WalletOrder.Send coin to last)) refl
+      (send-noting dig s log wallet kept feeds.few coin to last)
+  wallet-left (WalletOrder.Leave coin) fit =
       let effect = leave_effect dig wallet log coin in
-      subst IsStillLeft (some_same _ deed is) (record {
+      record {
         still = still-noted dig wallet effect.note effect.leaf
             (leave-noting dig s log wallet kept feeds.few coin fit);
         left = by effect.answer refl;
-      })
+      }
     where
       by : (result : Result RootCall WalletRefusal) → (leave_effect dig wallet log coin).answer ≡ result
-          → (m : ℕ) (call : RootCall) → (answered n wallet_cause (on_leaving n) result).event ≡ Leaves m call
+          → (m : ℕ) (call : RootCall) → wallet_told n (WalletOrder.Leave coin) on_leaving result ≡ Leaves m call
           → is_noted (coin_of_call call) (exit_block call)
-          (noted dig (after_deed wallet (wallet_deed n (on_leaving n) (leave_effect dig wallet log coin)))).leaving
-          ≡ true
+          (noted dig (after_deed wallet (deed_by (NodeOrder.Wallet (WalletOrder.Leave coin))))).leaving ≡ true
       by (Err why) answered m call is = absurd (cc is)
       by (Ok start) answered m call is =
           let same : start ≡ call = cc is in
           leave-left dig s log wallet kept feeds.few coin fit have call
           (answered ∙ ap (λ (k : RootCall). Ok k) same)
-  wallet-left (WalletCommand.Reclaim bundle) deed fit is =
-      let bytes = bytes_of world bundle in
-      let effect = reclaim_effect dig wallet log bytes in
-      subst IsStillLeft (some_same _ deed is)
-      (other-left (wallet_deed n (on_reclaimed n bytes) effect)
-      (reclaim-noting dig s log wallet kept feeds.few bytes (token-small world bundle feeds.mail fit))
-      (answered-other n wallet_cause (on_reclaimed n bytes) effect.answer (λ taken m call is. cc is)))
-  wallet-left WalletCommand.Migrate deed fit is =
-      let effect = migrate_effect wallet in
-      subst IsStillLeft (some_same _ deed is)
-      (other-left (wallet_deed n (on_migrated n) effect) (NoNote (migrate-note wallet))
-      (answered-other n wallet_cause (on_migrated n) effect.answer (λ done m call is. cc is)))
+  wallet-left (WalletOrder.Reclaim bytes) fit =
+      other-left (NodeOrder.Wallet (WalletOrder.Reclaim bytes)) refl
+      (reclaim-noting dig s log wallet kept feeds.few bytes fit)
+  wallet-left WalletOrder.Migrate fit =
+      other-left (NodeOrder.Wallet WalletOrder.Migrate) refl (NoNote (migrate-note wallet))
+  wallet-left order fit = other-left (NodeOrder.Wallet order) refl (NoNote refl)
+
+  order-left : (order : NodeOrder) → IsOrderAt node.role order → IsFitOrder order → IsStillLeft (deed_by order)
+  order-left (NodeOrder.Wallet order) at fit = wallet-left order fit
+  order-left (NodeOrder.Watcher order) at fit = absurd (false≢true (sym (wallet-alone node.role role).0 ∙ at))
+  order-left (NodeOrder.Operator order) at fit = absurd (false≢true (sym (wallet-alone node.role role).1 ∙ at))
+  order-left NodeOrder.Open at fit = other-left NodeOrder.Open refl (NoNote refl)
+
+  pub deed-left : (command : Command) (deed : Deed) → IsFit command → IsDone dig world command n node deed
+      → IsStillLeft deed
+  deed-left command deed fit done =
+      let own = ordered dig world n node command deed done.deed_is in
+      subst IsStillLeft own.deed_is
+      (order-left own.order
+      (order-role world node.role command own.order (done-role dig world command n node deed done) own.order_is)
+      (order-fit world feeds node.role command own.order fit own.order_is))

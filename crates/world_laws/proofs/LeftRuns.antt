@@ -17,14 +17,12 @@ use Rattle.node_rules.specs.WalletCommandLaws.{HaveOpenings}
 use Rattle.node_rules.specs.WalletRecords.{notes_of, accepted_of}
 use Rattle.node_rules.specs.Wallet.{WalletRecords, noted}
 use Rattle.world_rules.specs.Events.{Event, Joins, Bounces, Idle, Watches, Leaves, Seals, Other, coin_of_call, node_in, is_command_of}
-use Rattle.world_rules.specs.World.{Role, Wallet, Watcher, Operator, Node, World, is_wallet_role, is_watcher_role, is_operator_role, wallet_of}
+use Rattle.world_rules.specs.World.{Node, World, is_wallet_role, wallet_of}
 use Rattle.world_rules.specs.Deeds.{Gives, Deed}
-use Rattle.world_rules.proofs.ByCommand.{without_record, due_at_node, on_watch, on_open, command_deed, deed-by-command}
 use Rattle.node_replies.specs.Orders.{exit_block}
 use Rattle.world_rules.specs.Steps.{LineEffect, called, new_chain, operator_node, with_records, after_command, after_crash, cut, without_offers, step, entry_of, Run, events_of}
 use Rattle.world_rules.proofs.Said.{said}
 use Rattle.world_rules.proofs.OwnEvents.{IsOfNode, Owns, Sealing, of_node}
-use Rattle.world_rules.proofs.OfferLaws.{own-by}
 use Rattle.world_rules.proofs.KeptNode.{IsFit}
 use Rattle.world_rules.proofs.KeptWorld.{KeptWorld, world-feeds}
 use Rattle.world_rules.proofs.KeptRun.{run-kept}
@@ -35,10 +33,9 @@ use Rattle.world_laws.specs.Headline.{IsRun}
 use Rattle.world_laws.specs.Legal.{left_by, is_left}
 use Rattle.world_laws.proofs.Lists.{some_same, none_some}
 use Rattle.world_laws.proofs.Identities.{next-unknown}
-use Rattle.world_laws.proofs.DeedOffers.{done-role}
 use Rattle.world_laws.proofs.Acts.{over_lines, runs-keep}
 use Rattle.world_laws.proofs.Origins.{Does, Rests, Enters, AddsWallet, AddsWatcher, AddsRogue, Crashes, Commands, Cuts, does}
-use Rattle.world_laws.proofs.LeftNotes.{NoNote, StillLeft, after_deed, other-left, wallet-left}
+use Rattle.world_laws.proofs.LeftNotes.{StillLeft, after_deed, deed-left as wallet-deed-left}
 
 -- ---- what is left by one more event
 
@@ -174,20 +171,10 @@ bare-openings dig wallet identity is =
 
 -- ---- commands
 
-wallet-alone : (role : Role) → is_wallet_role role ≡ true
-    → (is_watcher_role role ≡ false) × (is_operator_role role ≡ false)
-wallet-alone Wallet is = (refl, refl)
-wallet-alone Watcher is = absurd (false≢true is)
-wallet-alone Operator is = absurd (false≢true is)
-
-open-other : (n : ℕ) (node : Node) (b : Bool) (m : ℕ) (call : RootCall) → (on_open n node b).event ≡ Leaves m call → ⊥
-open-other n node true m call is = cc is
-open-other n node false m call is = cc is
-
 -- a leave is of the node whose command it is
 own-leave : (n : ℕ) (command : Command) (gives : Gives) → IsOfNode n command gives → (m : ℕ) (call : RootCall)
     → gives.event ≡ Leaves m call → m ≡ n
-own-leave n command gives (Owns own) m call is = some_same m n (sym (ap node_in is) ∙ (own-by n gives own).node)
+own-leave n command gives (Owns own) m call is = some_same m n (sym (ap node_in is) ∙ own.node)
 own-leave n command gives (Sealing call own command_is event_is offers) m left is = absurd (cc (sym event_is ∙ is))
 
 -- a cut's event is no leave
@@ -199,41 +186,13 @@ cut-other n event m call is = cc is
 
 module _ (dig : List ℕ → List ℕ) (events : List Event) (world : World) (kept : KeptWorld dig events world)
     (are : AreLeft dig events world.nodes) where
-  -- what a command leaves of a wallet's notes
-  left-by-command : (command : Command) (n : ℕ) (node : Node) (deed : Deed) → IsFit command
-      → IsDone dig world command n node deed
-      → command_deed dig world n node command ≡ Some deed → is_wallet_role node.role ≡ true
-      → StillLeft dig (wallet_of node) (after_deed (wallet_of node) deed) deed.gives.event
-  unfolding command_deed
-  left-by-command (Command.Wallet name own) n node deed fit done deed_is wallet =
-      wallet-left dig (said events n) world (world-feeds dig events world kept) (wallet_of node)
-      ((kept.nodes n node done.node_is).wallet wallet) (are.each n node done.node_is wallet).openings n own deed fit
-      deed_is
-  left-by-command (Command.Watcher name own) n node deed fit done deed_is wallet =
-      absurd (false≢true (sym (wallet-alone node.role wallet).0
-      ∙ done-role dig world (Command.Watcher name own) n node deed done))
-  left-by-command (Command.Operator own) n node deed fit done deed_is wallet =
-      absurd (false≢true (sym (wallet-alone node.role wallet).1
-      ∙ done-role dig world (Command.Operator own) n node deed done))
-  left-by-command (Command.Watch name) n node deed fit done deed_is wallet =
-      subst (λ (d : Deed). StillLeft dig (wallet_of node) (after_deed (wallet_of node) d) d.gives.event)
-      (some_same _ deed deed_is)
-      (other-left dig (said events n) world (world-feeds dig events world kept) (wallet_of node)
-      ((kept.nodes n node done.node_is).wallet wallet) (are.each n node done.node_is wallet).openings n
-      (without_record (on_watch n (due_at_node dig world.chain.log node node.role))) (NoNote refl)
-      (λ m call is. cc is))
-  left-by-command (Command.Open name) n node deed fit done deed_is wallet =
-      subst (λ (d : Deed). StillLeft dig (wallet_of node) (after_deed (wallet_of node) d) d.gives.event)
-      (some_same _ deed deed_is)
-      (other-left dig (said events n) world (world-feeds dig events world kept) (wallet_of node)
-      ((kept.nodes n node done.node_is).wallet wallet) (are.each n node done.node_is wallet).openings n
-      (without_record (on_open n node node.is_up)) (NoNote refl) (open-other n node node.is_up))
-
   deed-left : (command : Command) (n : ℕ) (node : Node) (deed : Deed) → IsFit command
       → IsDone dig world command n node deed → is_wallet_role node.role ≡ true
       → StillLeft dig (wallet_of node) (after_deed (wallet_of node) deed) deed.gives.event
   deed-left command n node deed fit done wallet =
-      left-by-command command n node deed fit done (deed-by-command dig world n node command deed done.deed_is) wallet
+      wallet-deed-left dig (said events n) world (world-feeds dig events world kept) n node wallet
+      ((kept.nodes n node done.node_is).wallet wallet) (are.each n node done.node_is wallet).openings command deed fit
+      done
 
   -- a crash
   crash-left : (n : ℕ) (node : Node) → slice_get world.nodes n ≡ Some node

@@ -60,7 +60,6 @@ pub mod LookedSamples
 pub mod ExhibitSamples
 pub mod BundleTaken
 pub mod OperatorLines
-pub mod QuietOffers
 pub mod OperatorKeeping
 pub mod OperatorSteps
 pub mod OperatorRuns

@@ -34,19 +34,19 @@ use Rattle.node_replies.specs.Causes.{offer_cause, prove_cause}
 use Rattle.world_rules.specs.Events.{Event, Joins, Bounces, Watches, Leaves, Seals, Idle, node_in, is_command_of}
 use Rattle.world_rules.specs.World.{Operator, Node, World, with_node, bytes_of}
 use Rattle.world_rules.specs.Declarations.{plays}
-use Rattle.world_rules.specs.Deeds.{Gives, Deed, deed_of}
-use Rattle.world_rules.proofs.ByCommand.{answered, on_pooled, on_bundled, on_proved, operator_command, on_open, command_deed, deed-by-command}
-use Rattle.node_replies.specs.Orders.{with_record}
+use Rattle.world_rules.specs.Deeds.{Deed, as_deed, deed_of}
+use Rattle.node_replies.specs.declared.order.NodeOrder.{NodeOrder}
+use Rattle.node_replies.specs.Orders.{with_record, Response, answered, on_pooled, on_bundled, on_proved, operator_does}
+use Rattle.world_rules.specs.Orders.{operator_order, order_of, on_open}
+use Rattle.world_rules.proofs.OrderEnds.{each-answer}
 use Rattle.world_rules.specs.Steps.{LineEffect, called, with_records, after_command, after_crash, commanded, crashed, cut, without_offers}
 use Rattle.world_rules.proofs.OperatorItems.{AreSmallRecords}
 use Rattle.world_rules.proofs.KeptNode.{IsFit, token-small}
-use Rattle.world_rules.proofs.OfferLaws.{own-by}
 use Rattle.world_rules.proofs.OwnEvents.{IsOfNode, Owns, Sealing, of_node}
 use Rattle.world_rules.proofs.Shapes.{IsDone, IsCut, Kept, Lost, is_cut}
 use Rattle.world_laws.specs.Bundles.{lays, is_commit, commits_since}
 use Rattle.world_laws.proofs.Lists.{some_same, none_some}
-use Rattle.world_laws.proofs.DeedOffers.{done-role}
-use Rattle.world_laws.proofs.QuietOffers.{deed-quiet}
+use Rattle.world_laws.proofs.DeedOffers.{done-role, deed-quiet}
 use Rattle.world_laws.proofs.OperatorLines.{commits_root, IsOffered, Moves, Rests, Calls, AddsWallet, AddsWatcher, AddsRogue, Crashes, Commands, Cuts}
 use Rattle.world_laws.proofs.OperatorKeeping.{IsOther, IsKeeping, keeps-here, keeps-push, keeps-set, keeps-joins, keeps-own, keeps-note}
 
@@ -91,72 +91,62 @@ unfolding offer_effect
 offer-ends dig notes log bytes =
     offer-read dig (who_is notes).tag log (forest_in notes) bytes (signed_in (who_is notes).tag bytes)
 
-answered-none : {A E : Type 0} (n : ℕ) (cause : E → List ℕ) (give : A → Gives) (result : Result A E)
-    → ((answer : A) → (give answer).offers ≡ []) → (answered n cause give result).offers ≡ []
-answered-none n cause give (Ok answer) none = none answer
-answered-none n cause give (Err why) none = refl
+-- a refusal offers nothing, so what is answered offers nothing where no answer does
+none-offered : {A E : Type 0} (cause : E → List ℕ) (give : A → Response) (result : Result A E)
+    → ((answer : A) → (give answer).offers ≡ []) → (answered cause give result).offers ≡ []
+none-offered cause give result none =
+    each-answer (λ r. r.offers ≡ []) cause give result (λ answer is. none answer) (λ why. refl)
 
 module _ (dig : List ℕ → List ℕ) (world : World) (op : Node) where
   abbrev IsOwnDeed : Deed → Type 0
   IsOwnDeed deed = OwnDeed dig op.notes world.chain.log deed
 
-  pooled : (token : _) → AreBytes (bytes_of world token)
-      → IsOwnDeed (operator_command dig world 0 op.notes (OperatorCommand.Offer token))
-  pooled token bytes_are = by (offer-ends dig op.notes world.chain.log bytes)
+  abbrev does : OperatorCommand → Deed
+  does own =
+      as_deed 0 (NodeOrder.Operator (operator_order world own))
+      (operator_does dig world.chain.log op.notes (operator_order world own))
+
+  operator-deed : (own : OperatorCommand) → lays (Command.Operator own) ≡ false → IsFit (Command.Operator own)
+      → AreSmallRecords world.mail → IsOwnDeed (does own)
+  unfolding operator_does seal_effect
+  operator-deed (OperatorCommand.Offer token) free fit mail = by (offer-ends dig op.notes world.chain.log bytes)
     where
       bytes : List ℕ
       bytes = bytes_of world token
 
-      none : (answered 0 offer_cause (on_pooled 0) (offer_effect dig op.notes world.chain.log bytes).answer).offers
-          ≡ []
-      none = answered-none 0 offer_cause (on_pooled 0) (offer_effect dig op.notes world.chain.log bytes).answer
-          (λ coin. refl)
+      none : (answered offer_cause on_pooled (offer_effect dig op.notes world.chain.log bytes).answer).offers ≡ []
+      none = none-offered offer_cause on_pooled (offer_effect dig op.notes world.chain.log bytes).answer (λ coin. refl)
 
       by : OfferEnds bytes (offer_effect dig op.notes world.chain.log bytes)
-          → IsOwnDeed (operator_command dig world 0 op.notes (OperatorCommand.Offer token))
+          → IsOwnDeed (does (OperatorCommand.Offer token))
       by (inl nothing) = Adds nothing none
-      by (inr taken) = Pools bytes taken.0 bytes_are taken.1 taken.2 taken.2 none
-
-  operator-deed : (own : OperatorCommand) → lays (Command.Operator own) ≡ false → IsFit (Command.Operator own)
-      → AreSmallRecords world.mail → IsOwnDeed (operator_command dig world 0 op.notes own)
-  unfolding seal_effect
-  operator-deed (OperatorCommand.Offer token) free fit mail = pooled token (token-small world token mail fit).are
+      by (inr taken) = Pools bytes taken.0 (token-small world token mail fit).are taken.1 taken.2 taken.2 none
   operator-deed (OperatorCommand.Lay coin leaf) free fit mail = absurd (true≢false free)
   operator-deed OperatorCommand.Seal free fit mail = SealsPool refl refl
   operator-deed (OperatorCommand.Bundle coin tip) free fit mail =
-      Adds refl (answered-none 0 prove_cause (on_bundled 0) (bundle_answer dig op.notes world.chain.log coin tip)
+      Adds refl (none-offered prove_cause on_bundled (bundle_answer dig op.notes world.chain.log coin tip)
       (λ bundle. refl))
   operator-deed (OperatorCommand.Prove coin block) free fit mail =
-      Adds refl (answered-none 0 prove_cause (on_proved 0) (prove_answer dig op.notes world.chain.log coin block)
+      Adds refl (none-offered prove_cause on_proved (prove_answer dig op.notes world.chain.log coin block)
       (λ opening. refl))
   operator-deed (OperatorCommand.Absences coin after last) free fit mail =
-      Adds refl (answered-none 0 prove_cause (on_bundled 0)
-      (absences_answer dig op.notes world.chain.log coin after last) (λ bundle. refl))
-
-  own-by-command : (command : Command) (deed : Deed) → lays command ≡ false → IsFit command → op.role ≡ Operator
-      → plays command op.role ≡ true → AreSmallRecords world.mail → command_deed dig world 0 op command ≡ Some deed
-      → IsOwnDeed deed
-  unfolding command_deed
-  own-by-command (Command.Operator own) deed free fit role may mail is =
-      subst (λ (d : Deed). IsOwnDeed d) (some_same _ deed is) (operator-deed own free fit mail)
-  own-by-command (Command.Open name) deed free fit role may mail is =
-      subst (λ (d : Deed). IsOwnDeed d) (some_same _ deed is) (Adds refl (opened op.is_up))
-    where
-      opened : (b : Bool) → (on_open 0 op b).offers ≡ []
-      opened true = refl
-      opened false = refl
-  own-by-command (Command.Wallet name own) deed free fit role may mail is =
-      absurd (false≢true (sym (ap (plays (Command.Wallet name own)) role) ∙ may))
-  own-by-command (Command.Watcher name own) deed free fit role may mail is =
-      absurd (false≢true (sym (ap (plays (Command.Watcher name own)) role) ∙ may))
-  own-by-command (Command.Watch name) deed free fit role may mail is =
-      absurd (false≢true (sym (ap (plays (Command.Watch name)) role) ∙ may))
+      Adds refl (none-offered prove_cause on_bundled (absences_answer dig op.notes world.chain.log coin after last)
+      (λ bundle. refl))
 
   own-deed : (command : Command) (deed : Deed) → lays command ≡ false → IsFit command → op.role ≡ Operator
       → plays command op.role ≡ true → AreSmallRecords world.mail → deed_of dig world 0 op command ≡ Some deed
       → IsOwnDeed deed
+  unfolding deed_of order_of
+  own-deed (Command.Operator own) deed free fit role may mail is =
+      subst IsOwnDeed (some_same _ deed is) (operator-deed own free fit mail)
+  own-deed (Command.Open name) deed free fit role may mail is =
+      subst IsOwnDeed (some_same _ deed is) (Adds refl (opened op.is_up))
+    where
+      opened : (b : Bool) → (on_open op b).offers ≡ []
+      opened true = refl
+      opened false = refl
   own-deed command deed free fit role may mail is =
-      own-by-command command deed free fit role may mail (deed-by-command dig world 0 op command deed is)
+      absurd (false≢true (sym (ap (plays command) role) ∙ may))
 
 -- ---- events
 
@@ -303,7 +293,7 @@ module _ (dig : List ℕ → List ℕ) (events : List Event) (world : World)
   others-event command n node deed done = by (of_node dig world (suc n) node command deed done.deed_is)
     where
       by : IsOfNode (suc n) command deed.gives → node_in deed.gives.event ≡ Some (suc n)
-      by (Owns own) = (own-by (suc n) deed.gives own).node
+      by (Owns own) = own.node
       by (Sealing call own command_is event_is offers) =
           absurd (false≢true (sym (keeping.others n node done.node_is).role
           ∙ sym (ap (λ (c : Command). plays c node.role) command_is)

@@ -1,5 +1,5 @@
 -- What a wallet's command gives out that is answered with a leaf is the body that the leaf binds, with the signature.
-use Rattle.std.proofs.Common.{◌≡◌, ℕ, ◌^◌, ◌<◌, ◌&&◌, not, Bool, true, false, if◌then◌else◌, List, [], ◌∷◌, ◌++◌, Option, Some, None, Ok, Err, inl, inr, refl, sym, ap, ◌∙◌, subst, bytes_eq}
+use Rattle.std.proofs.Common.{◌≡◌, ℕ, ◌^◌, ◌<◌, ◌&&◌, not, Bool, true, false, if◌then◌else◌, List, [], ◌∷◌, ◌++◌, Option, Some, None, inl, inr, refl, sym, ap, ◌∙◌, subst, bytes_eq}
 use Rattle.std.specs.Prelude.{Result, IfSome, slice_get, unwrap_or, option_map}
 use Rattle.std.proofs.lemmas.Bool.{and_parts, eq-eqb}
 use Rattle.line_forms.specs.declared.tokens.OutcomeToken.{OutcomeToken}
@@ -27,16 +27,21 @@ use Rattle.node_rules.proofs.WalletRole.{held-tip}
 use Rattle.node_replies.specs.declared.reply.Reply.{Reply}
 use Rattle.node_replies.specs.Causes.{wallet_cause}
 use Rattle.world_rules.specs.Events.{Event, Binds, Watches, Leaves, Seals, Other, bound_by, leaf_at}
-use Rattle.world_rules.specs.World.{Node, World, with_node, is_named, is_wallet_role, number_of, wallet_of, bytes_of, new_owner_of}
-use Rattle.world_rules.specs.Deeds.{Gives, Deed, deed_of}
-use Rattle.world_rules.proofs.ByCommand.{answered, on_accepted, on_sent, on_sent_again, on_leaving, on_reclaimed, on_migrated, send_deed, wallet_command, command_deed, deed-by-command}
+use Rattle.world_rules.specs.World.{Node, World, with_node, is_named, is_wallet_role, number_of, wallet_of}
+use Rattle.world_rules.specs.Deeds.{Gives, Deed, as_deed, deed_of}
+use Rattle.node_replies.specs.declared.order.NodeOrder.{NodeOrder}
+use Rattle.node_replies.specs.declared.order.WalletOrder.{WalletOrder}
+use Rattle.node_replies.specs.Orders.{Response, answered, on_accepted, on_sent, on_leaving, on_reclaimed, on_migrated, again_does, wallet_does}
+use Rattle.world_rules.specs.Orders.{wallet_order, order_of, node_does}
+use Rattle.world_rules.specs.OrderEvents.{event_of}
+use Rattle.world_rules.proofs.OrderEnds.{ordered, each-answer}
 use Rattle.world_rules.specs.Steps.{LineEffect, says, is_opening, with_records, after_crash, answers_down, commanded, down, is_stopped, outcome_of, without_offers, stopped, finished, cut, command_effect, cut_effect, effect_in}
 use Rattle.world_rules.specs.Laws.{IsCommandIn}
 use Rattle.world_rules.proofs.Existence.{position-is}
 use Rattle.world_rules.proofs.FitLines.{command-fit, cut-fit}
-use Rattle.world_rules.proofs.KeptNode.{IsGoodOwner, IsFitWallet}
+use Rattle.world_rules.proofs.KeptNode.{IsGoodOwner, IsFitWallet, IsFitOrder, order-fit}
 use Rattle.world_rules.proofs.KeptWallet.{KeptWallet}
-use Rattle.world_rules.proofs.KeptWorld.{KeptWorld, to-owner, few-blocks}
+use Rattle.world_rules.proofs.KeptWorld.{KeptWorld, world-feeds, few-blocks}
 use Rattle.world_rules.proofs.Said.{said}
 use Rattle.world_rules.proofs.Shapes.{acted}
 use Rattle.node_replies.proofs.WalletEnds.{SendEnds, Refused, Sends, send_ends}
@@ -75,12 +80,19 @@ module _ (dig : List ℕ → List ℕ) (events : List Event) (world : World) (ke
   wallet-kept : KeptWallet dig (said events n) log wallet
   wallet-kept = (kept.nodes n node node_is).wallet role
 
+  -- what an order gives out
+  abbrev MakesBy : WalletOrder → Response → Type 0
+  MakesBy order response =
+      (q : ℕ) → response.reply ≡ Reply.Sent q
+      → IsMade events n node (event_of n (NodeOrder.Wallet order) response) response.made q
+
   -- what isn't answered with a leaf
-  others : {A E : Type 0} (cause : E → List ℕ) (give : A → Gives)
-      → ((answer : A) (q : ℕ) → (give answer).reply ≡ Reply.Sent q → ⊥) → (result : Result A E)
-      → Makes (answered n cause give result)
-  others cause give never (Ok answer) q is = absurd (never answer q is)
-  others cause give never (Err why) q is = absurd (cc is)
+  others : {A : Type 0} (order : WalletOrder) (give : A → Response)
+      → ((answer : A) (q : ℕ) → (give answer).reply ≡ Reply.Sent q → ⊥) → (result : Result A WalletRefusal)
+      → MakesBy order (answered wallet_cause give result)
+  others order give never result =
+      each-answer (MakesBy order) wallet_cause give result (λ answer made q is. absurd (never answer q is))
+      (λ why q wrong. absurd (cc wrong))
 
   -- a transfer that is signed
   module _ (coin : ℕ) (to : Owner) (last : Option ℕ) (coin_fits : coin < 2 ^ 64) (good : IsGoodOwner to)
@@ -106,19 +118,21 @@ module _ (dig : List ℕ → List ℕ) (events : List Event) (world : World) (ke
         ∙ leaf-newest (bound_by events n) q body
         (sym number ∙ used-is dig (said events n) log wallet wallet-kept)
 
-    sends : Makes (answered n wallet_cause (on_sent n) (send_effect dig wallet log coin to last).answer)
+    sends : MakesBy (WalletOrder.Send coin to last)
+        (answered wallet_cause on_sent (send_effect dig wallet log coin to last).answer)
+    unfolding event_of
     sends = by (send_ends dig wallet log coin to last)
       where
-        MakesBy : WalletEffect (Result Sent WalletRefusal) → Type 0
-        MakesBy effect = Makes (answered n wallet_cause (on_sent n) effect.answer)
+        Sends_by : WalletEffect (Result Sent WalletRefusal) → Type 0
+        Sends_by effect = MakesBy (WalletOrder.Send coin to last) (answered wallet_cause on_sent effect.answer)
 
         by : SendEnds dig wallet log coin to last (send_effect dig wallet log coin to last)
-            → MakesBy (send_effect dig wallet log coin to last)
-        by (Refused why is) = subst MakesBy (sym is) (λ q wrong. absurd (cc wrong))
+            → Sends_by (send_effect dig wallet log coin to last)
+        by (Refused why is) = subst Sends_by (sym is) (λ q wrong. absurd (cc wrong))
         by (Sends tip held is) =
             let body = sent_body wallet coin tip to last in
             let sign : ℕ → List ℕ = λ q. signature_of (secret_of (who wallet)) q (body_text body) in
-            subst MakesBy (sym is)
+            subst Sends_by (sym is)
             (λ q same.
             let number : used wallet ≡ q = cc same in
             record {
@@ -128,12 +142,12 @@ module _ (dig : List ℕ → List ℕ) (events : List Event) (world : World) (ke
             })
 
   -- a transfer that is made again
-  again : (coin : ℕ) → Makes (answered n wallet_cause (on_sent_again n) (again_answer wallet coin))
-  unfolding again_answer bound_by said
+  again : (coin : ℕ) → MakesBy (WalletOrder.Again coin) (again_does wallet coin).response
+  unfolding again_answer bound_by said event_of
   again coin = by (last_leaf (leaves_in wallet.leaves) coin) refl
     where
       of : (k q : ℕ) → last_leaf (leaves_in wallet.leaves) coin ≡ Some k → k ≡ q
-          → IsMade events n node (on_sent_again n (record { q = k; bytes = [] })).event
+          → IsMade events n node (Other n)
           (unwrap_or (slice_get (messages_of wallet.leaves) k) []
           ++ signature_of (secret_of (who wallet)) k (unwrap_or (slice_get (messages_of wallet.leaves) k) [])) q
       of k q found same =
@@ -148,39 +162,38 @@ module _ (dig : List ℕ → List ℕ) (events : List Event) (world : World) (ke
           }
 
       by : (o : Option ℕ) → last_leaf (leaves_in wallet.leaves) coin ≡ o
-          → Makes (answered n wallet_cause (on_sent_again n) (again_by wallet o))
+          → MakesBy (WalletOrder.Again coin) (answered wallet_cause on_sent (again_by wallet o))
       by None none q is = absurd (cc is)
       by (Some k) found q is = of k q found (cc is)
 
-  wallet-makes : (own : WalletCommand) (deed : Deed) → IsFitWallet own
-      → wallet_command dig world n wallet own ≡ Some deed → Makes deed.gives
-  wallet-makes (WalletCommand.Accept bundle) deed fit is =
-      let bytes = bytes_of world bundle in
-      subst (λ (d : Deed). Makes d.gives) (some_same _ deed is)
-      (others wallet_cause (on_accepted n bytes) (λ taken q wrong. cc wrong) (accept_effect dig wallet log bytes).answer)
-  wallet-makes (WalletCommand.Send coin to last) deed fit is =
-      let found = option_map_some (send_deed dig world n wallet coin last) (new_owner_of world to) deed is in
-      subst (λ (d : Deed). Makes d.gives) found.2
-      (sends coin found.0 last fit.0 (to-owner dig events world kept to found.0 fit.1 found.1) fit.2)
-  wallet-makes (WalletCommand.Again coin) deed fit is =
-      subst (λ (d : Deed). Makes d.gives) (some_same _ deed is) (again coin)
-  wallet-makes (WalletCommand.Leave coin) deed fit is =
-      subst (λ (d : Deed). Makes d.gives) (some_same _ deed is)
-      (others wallet_cause (on_leaving n) (λ call q wrong. cc wrong) (leave_effect dig wallet log coin).answer)
-  wallet-makes (WalletCommand.Reclaim bundle) deed fit is =
-      let bytes = bytes_of world bundle in
-      subst (λ (d : Deed). Makes d.gives) (some_same _ deed is)
-      (others wallet_cause (on_reclaimed n bytes) (λ taken q wrong. cc wrong)
-      (reclaim_effect dig wallet log bytes).answer)
-  wallet-makes WalletCommand.Migrate deed fit is =
-      subst (λ (d : Deed). Makes d.gives) (some_same _ deed is)
-      (others wallet_cause (on_migrated n) (λ done q wrong. cc wrong) (migrate_effect wallet).answer)
+  wallet-makes : (order : WalletOrder) → IsFitOrder (NodeOrder.Wallet order)
+      → MakesBy order (wallet_does dig log wallet order).response
+  unfolding wallet_does
+  wallet-makes (WalletOrder.Accept bytes) fit =
+      others (WalletOrder.Accept bytes) on_accepted (λ taken q wrong. cc wrong)
+      (accept_effect dig wallet log bytes).answer
+  wallet-makes (WalletOrder.Send coin to last) fit = sends coin to last fit.0 fit.1 fit.2
+  wallet-makes (WalletOrder.Again coin) fit = again coin
+  wallet-makes (WalletOrder.Leave coin) fit =
+      others (WalletOrder.Leave coin) on_leaving (λ call q wrong. cc wrong) (leave_effect dig wallet log coin).answer
+  wallet-makes (WalletOrder.Reclaim bytes) fit =
+      others (WalletOrder.Reclaim bytes) on_reclaimed (λ taken q wrong. cc wrong)
+      (reclaim_effect dig wallet log bytes).answer
+  wallet-makes WalletOrder.Migrate fit =
+      others WalletOrder.Migrate on_migrated (λ done q wrong. cc wrong) (migrate_effect wallet).answer
+  wallet-makes WalletOrder.Watch fit = λ q wrong. absurd (cc wrong)
 
   deed-makes : (name : List ℕ) (own : WalletCommand) (deed : Deed) → IsFitWallet own
       → deed_of dig world n node (Command.Wallet name own) ≡ Some deed → Makes deed.gives
-  unfolding command_deed
+  unfolding order_of
   deed-makes name own deed fit is =
-      wallet-makes own deed fit (deed-by-command dig world n node (Command.Wallet name own) deed is)
+      let command = Command.Wallet name own in
+      let by = ordered dig world n node command deed is in
+      let found = option_map_some NodeOrder.Wallet (wallet_order world own) by.order by.order_is in
+      subst (λ (d : Deed). Makes d.gives) by.deed_is
+      (subst (λ (o : NodeOrder). IsFitOrder o → Makes (as_deed n o (node_does dig log node o)).gives) found.2
+      (wallet-makes found.0)
+      (order-fit world (world-feeds dig events world kept) node.role command by.order fit by.order_is))
 
   -- so does a line with the command, cut or not
   abbrev MakesLine : LineEffect → Type 0

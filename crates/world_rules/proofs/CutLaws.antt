@@ -13,7 +13,7 @@ use Rattle.world_rules.specs.Events.{Other}
 use Rattle.world_rules.specs.World.{Role, Node, World, with_node, any_role, number_of}
 use Rattle.world_rules.specs.Declarations.{plays}
 use Rattle.world_rules.specs.Deeds.{Deed, adds_record, deed_of}
-use Rattle.world_rules.proofs.ByCommand.{command_deed, deed-by-command}
+use Rattle.world_rules.specs.Orders.{order_of}
 use Rattle.node_replies.specs.Orders.{with_record}
 use Rattle.world_rules.specs.Steps.{LineEffect, says, without_offers, with_records, after_crash, with_mail, step, stopped, finished, cut, is_stopped, is_opening, answers_down, outcome_of, act_at, act_on, command_effect, cut_effect, commanded, down, crashed, effect_in}
 use Rattle.world_rules.specs.Laws.{CrashesLeaveTheRecords, IsCommandIn, StaysDown, DownNodesStay, IsCutTo, CutsKeepAsAppendsDo, CutOpeningsLeaveTheRecords}
@@ -194,10 +194,8 @@ cuts_keep_as_appends_do dig world name calls outcome command n node deed effect 
 -- an opening adds no record
 opening-none : (dig : List ℕ → List ℕ) (world : World) (n : ℕ) (node : Node) (name : List ℕ) (deed : Deed)
     → deed_of dig world n node (Command.Open name) ≡ Some deed → with_records node deed ≡ node
-unfolding command_deed
-opening-none dig world n node name deed is =
-    subst (λ d. with_records node d ≡ node)
-    (some_same _ deed (deed-by-command dig world n node (Command.Open name) deed is)) refl
+unfolding deed_of order_of
+opening-none dig world n node name deed is = subst (λ d. with_records node d ≡ node) (some_same _ deed is) refl
 
 pub cut_openings_leave_the_records : CutOpeningsLeaveTheRecords
 cut_openings_leave_the_records dig world name opened calls outcome n node deed effect number node_is deed_is is =

@@ -1,6 +1,6 @@
 -- What events say of a node is what its records are, and each command keeps it so and makes bytes.
 use Rattle.std.proofs.Common.{◌≡◌, ℕ, ◌^◌, ◌<◌, ◌-◌, ◌==◌, Bool, true, false, if◌then◌else◌, List, [], ◌∷◌, Option, Some, None, refl, sym, ◌∙◌, subst, zero, suc}
-use Rattle.std.specs.Prelude.{Result, IfSome, slice_get, unwrap_or}
+use Rattle.std.specs.Prelude.{Result, IfSome, slice_get, unwrap_or, option_map}
 use Rattle.std.proofs.lemmas.Bool.{false≢true}
 use Rattle.line_forms.specs.declared.tokens.HexOrItem.{HexOrItem}
 use Rattle.line_forms.specs.declared.tokens.HexOrName.{HexOrName}
@@ -19,9 +19,15 @@ use Rattle.node_rules.specs.Wallet.{WalletEffect}
 use Rattle.node_rules.specs.WalletCommandLaws.{with_more, after}
 use Rattle.node_replies.specs.Causes.{wallet_cause}
 use Rattle.world_rules.specs.World.{Role, Wallet, Watcher, Operator, Node, World, wallet_of, is_wallet_role, is_watcher_role, is_operator_role, bytes_of, new_owner_of}
-use Rattle.world_rules.specs.Deeds.{Gives, Deed}
-use Rattle.world_rules.proofs.ByCommand.{answered, wallet_deed}
-use Rattle.node_replies.specs.Orders.{with_record}
+use Rattle.world_rules.specs.Deeds.{Deed, as_deed}
+use Rattle.node_replies.specs.declared.order.WalletOrder.{WalletOrder}
+use Rattle.node_replies.specs.declared.order.WatcherOrder.{WatcherOrder}
+use Rattle.node_replies.specs.declared.order.OperatorOrder.{OperatorOrder}
+use Rattle.node_replies.specs.declared.order.NodeOrder.{NodeOrder}
+use Rattle.world_rules.specs.Orders.{watch_order, order_of}
+use Rattle.world_rules.proofs.OrderEnds.{wallet_told}
+use Rattle.plasma_tx.proofs.Names.{some_same}
+use Rattle.node_replies.specs.Orders.{Response, answered, wallet_doing, with_record}
 use Rattle.world_rules.specs.Steps.{with_records}
 use Rattle.node_replies.proofs.ByteTexts.{Small, small-nil}
 use Rattle.world_rules.proofs.OperatorItems.{AreSmallRecords}
@@ -89,6 +95,60 @@ IsFit (Command.Operator own) = IsFitOperator own
 IsFit (Command.Watch name) = Unit {0}
 IsFit (Command.Open name) = Unit {0}
 
+-- ---- their orders
+
+abbrev pub IsFitOrder : NodeOrder → Type 0
+IsFitOrder (NodeOrder.Wallet (WalletOrder.Accept bytes)) = Small bytes
+IsFitOrder (NodeOrder.Wallet (WalletOrder.Send coin to last)) =
+    (coin < 2 ^ 64) × IsGoodOwner to × IfSome last (λ n. n < 2 ^ 64)
+IsFitOrder (NodeOrder.Wallet (WalletOrder.Leave coin)) = coin < 2 ^ 64
+IsFitOrder (NodeOrder.Wallet (WalletOrder.Reclaim bytes)) = Small bytes
+IsFitOrder (NodeOrder.Watcher (WatcherOrder.Guard bytes)) = Small bytes
+IsFitOrder (NodeOrder.Watcher (WatcherOrder.Release coin tip)) = (coin < 2 ^ 64) × (tip < 2 ^ 64)
+IsFitOrder (NodeOrder.Operator (OperatorOrder.Offer bytes)) = Small bytes
+IsFitOrder (NodeOrder.Operator (OperatorOrder.Lay coin leaf)) = Small leaf
+IsFitOrder order = Unit {0}
+
+-- the order of a command in the grammar, whose tokens the world feeds
+pub order-fit : (world : World) (feeds : Feeds world) (role : Role) (command : Command) (order : NodeOrder)
+    → IsFit command → order_of world role command ≡ Some order → IsFitOrder order
+unfolding order_of
+order-fit world feeds role command order fit is = by command fit is
+  where
+    sent : (coin : ℕ) (to : HexOrName) (last : Option ℕ) → IsFitWallet (WalletCommand.Send coin to last)
+        → (found : Option Owner) → new_owner_of world to ≡ found
+        → option_map NodeOrder.Wallet (option_map (λ owner. WalletOrder.Send coin owner last) found) ≡ Some order
+        → IsFitOrder order
+    sent coin to last fit None found wrong = absurd (cc wrong)
+    sent coin to last fit (Some owner) found is =
+        subst IsFitOrder (some_same _ order is) (fit.0, feeds.owners to owner fit.1 found, fit.2)
+
+    by : (command : Command) → IsFit command → order_of world role command ≡ Some order → IsFitOrder order
+    by (Command.Wallet name (WalletCommand.Accept bundle)) fit is =
+        subst IsFitOrder (some_same _ order is) (token-small world bundle feeds.mail fit)
+    by (Command.Wallet name (WalletCommand.Send coin to last)) fit is =
+        sent coin to last fit (new_owner_of world to) refl is
+    by (Command.Wallet name (WalletCommand.Again coin)) fit is = subst IsFitOrder (some_same _ order is) tt
+    by (Command.Wallet name (WalletCommand.Leave coin)) fit is = subst IsFitOrder (some_same _ order is) fit
+    by (Command.Wallet name (WalletCommand.Reclaim bundle)) fit is =
+        subst IsFitOrder (some_same _ order is) (token-small world bundle feeds.mail fit)
+    by (Command.Wallet name WalletCommand.Migrate) fit is = subst IsFitOrder (some_same _ order is) tt
+    by (Command.Watcher name (WatcherCommand.Guard bundle)) fit is =
+        subst IsFitOrder (some_same _ order is) (token-small world bundle feeds.mail fit)
+    by (Command.Watcher name (WatcherCommand.Release coin tip)) fit is = subst IsFitOrder (some_same _ order is) fit
+    by (Command.Operator (OperatorCommand.Offer transfer)) fit is =
+        subst IsFitOrder (some_same _ order is) (token-small world transfer feeds.mail fit)
+    by (Command.Operator (OperatorCommand.Lay coin leaf)) fit is =
+        subst IsFitOrder (some_same _ order is) (token-small world leaf feeds.mail fit)
+    by (Command.Operator own) fit is = subst IsFitOrder (some_same _ order is) tt
+    by (Command.Watch name) fit is = watching role is
+      where
+        watching : (r : Role) → watch_order r ≡ Some order → IsFitOrder order
+        watching Wallet is = subst IsFitOrder (some_same _ order is) tt
+        watching Watcher is = subst IsFitOrder (some_same _ order is) tt
+        watching Operator wrong = absurd (cc wrong)
+    by (Command.Open name) fit is = subst IsFitOrder (some_same _ order is) tt
+
 -- ---- what a command leaves
 
 -- what a deed of a node leaves, and what it makes
@@ -97,13 +157,13 @@ pub record IsKeptDeed (dig : List ℕ → List ℕ) (s : Said) (log : List RootC
   pub kept : KeptNode dig (told deed.gives.event s) log (with_records node deed)
   pub made : Small deed.gives.made
 
-wallet-alone : (role : Role) → is_wallet_role role ≡ true → (is_watcher_role role ≡ false)
+pub wallet-alone : (role : Role) → is_wallet_role role ≡ true → (is_watcher_role role ≡ false)
     × (is_operator_role role ≡ false)
 wallet-alone Wallet is = (refl, refl)
 wallet-alone Watcher is = absurd (false≢true is)
 wallet-alone Operator is = absurd (false≢true is)
 
-watcher-alone : (role : Role) → is_watcher_role role ≡ true → (is_wallet_role role ≡ false)
+pub watcher-alone : (role : Role) → is_watcher_role role ≡ true → (is_wallet_role role ≡ false)
     × (is_operator_role role ≡ false)
 watcher-alone Wallet is = absurd (false≢true is)
 watcher-alone Watcher is = (refl, refl)
@@ -143,14 +203,14 @@ module _ (dig : List ℕ → List ℕ) (s : Said) (log : List RootCall) (node : 
   }
 
   -- by a wallet's effect
-  pub by-effect : {A : Type 0} → is_wallet_role node.role ≡ true → (n : ℕ) (give : A → Gives)
+  pub by-effect : {A : Type 0} → is_wallet_role node.role ≡ true → (n : ℕ) (order : WalletOrder) (give : A → Response)
       (effect : WalletEffect (Result A WalletRefusal))
-      → KeptWallet dig (told (answered n wallet_cause give effect.answer).event s) log (after effect (wallet_of node))
-      → Small (answered n wallet_cause give effect.answer).made
-      → IsKeptDeed dig s log node (wallet_deed n give effect)
-  by-effect role n give effect kept made =
-      of-wallet role (wallet_deed n give effect)
-      (subst (KeptWallet dig (told (answered n wallet_cause give effect.answer).event s) log)
+      → KeptWallet dig (told (wallet_told n order give effect.answer) s) log (after effect (wallet_of node))
+      → Small (answered wallet_cause give effect.answer).made
+      → IsKeptDeed dig s log node (as_deed n (NodeOrder.Wallet order) (wallet_doing give effect))
+  by-effect role n order give effect kept made =
+      of-wallet role (as_deed n (NodeOrder.Wallet order) (wallet_doing give effect))
+      (subst (KeptWallet dig (told (wallet_told n order give effect.answer) s) log)
       (λ i. record {
         notes = records-more node.notes effect.note i;
         leaves = records-more node.leaves effect.leaf i;

@@ -18,11 +18,11 @@ use Rattle.node_rules.specs.Kept.{kept_of, links_handed}
 use Rattle.node_rules.specs.Watcher.{Guarded, Released, note_text, watcher_kinds, who_is, is_of, is_before, with_guard, guards_of, guards_in, guard_causes, guard_by, guard_effect, release_effect}
 use Rattle.node_rules.specs.WatcherLaws.{KeepsRole, AddsNote, AddsGuard}
 use Rattle.node_rules.proofs.WatcherRole.{commands_keep_the_role, commands_add_their_notes}
-use Rattle.node_replies.specs.Causes.{watcher_cause}
 use Rattle.world_rules.specs.Events.{Guards, Releases, is_bundle}
-use Rattle.world_rules.proofs.ByCommand.{answered, on_guarded, on_released}
-use Rattle.world_rules.specs.OrderEvents.{bundle_read}
-use Rattle.node_replies.specs.Orders.{with_record}
+use Rattle.node_replies.specs.declared.order.WatcherOrder.{WatcherOrder}
+use Rattle.world_rules.proofs.OrderEnds.{watcher_told}
+use Rattle.world_rules.specs.OrderEvents.{bundle_read, event_of}
+use Rattle.node_replies.specs.Orders.{with_record, on_guarded, on_released}
 use Rattle.node_replies.proofs.ByteTexts.{Small, small-nil}
 use Rattle.world_rules.proofs.Said.{Said, told}
 use Rattle.world_rules.proofs.Handed.{IsHanded, is_handed}
@@ -237,10 +237,11 @@ module _ (dig : List ℕ → List ℕ) (s : Said) (log : List RootCall) (records
 
   abbrev pub IsGuarded : ℕ → List ℕ → Effect (Result Accepted WatcherRefusal) → Type 0
   IsGuarded n bytes effect =
-      KeptWatcher dig (told (answered n watcher_cause (on_guarded n bytes) effect.answer).event s)
+      KeptWatcher dig (told (watcher_told n (WatcherOrder.Guard bytes) on_guarded effect.answer) s)
       (with_record records effect.note)
 
   pub guards-kept : (n : ℕ) (bytes : List ℕ) → Small bytes → IsGuarded n bytes (guard_effect dig records log bytes)
+  unfolding event_of
   guards-kept n bytes small = by (guard_ends dig records log bytes)
     where
       tag : List ℕ
@@ -273,7 +274,7 @@ module _ (dig : List ℕ → List ℕ) (s : Said) (log : List RootCall) (records
 
   abbrev pub IsReleased : ℕ → ℕ → ℕ → Effect (Result (Unit {0}) WatcherRefusal) → Type 0
   IsReleased n c e effect =
-      KeptWatcher dig (told (answered n watcher_cause (on_released n c e) effect.answer).event s)
+      KeptWatcher dig (told (watcher_told n (WatcherOrder.Release c e) on_released effect.answer) s)
       (with_record records effect.note)
 
   releases-note : (n a t : ℕ) (body : List ℕ) → KeepsRole dig records body → AddsNote dig records (Released a t) body
@@ -287,7 +288,7 @@ module _ (dig : List ℕ → List ℕ) (s : Said) (log : List RootCall) (records
   }
 
   pub releases-kept : (n a t : ℕ) → a < 2 ^ 64 → t < 2 ^ 64 → IsReleased n a t (release_effect dig records a t)
-  unfolding release_effect
+  unfolding release_effect event_of
   releases-kept n a t coin_fits tip_fits =
       by (list_any (is_of a t) (guards_in dig records))
       (commands_keep_the_role dig records log [] a t kept.is bytes-none).1

@@ -1,4 +1,5 @@
 pub mod ByCommand
+pub mod OrderEnds
 pub mod Shapes
 pub mod OwnEvents
 pub mod StepLaws

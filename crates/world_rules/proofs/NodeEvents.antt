@@ -6,7 +6,7 @@ use Rattle.schedule_text.specs.declared.command.Command.{Command}
 use Rattle.world_rules.specs.Events.{Event, Declares, Joins, Bounces, Accepts, Guards, Releases, Binds, TakesBack, Watches, Leaves, Seals, Other, Idle, log_of, node_in}
 use Rattle.world_rules.specs.Deeds.{Gives}
 use Rattle.world_rules.specs.Steps.{without_offers}
-use Rattle.world_rules.proofs.OwnEvents.{IsOwn, Accepting, Guarding, Releasing, Binding, TakingBack, Watching, Leaving, Others, IsOfNode, Owns, Sealing}
+use Rattle.world_rules.proofs.OwnEvents.{IsOfNode, Owns, Sealing}
 use Rattle.world_rules.proofs.Said.{said, told, is_said_of, said-own, said-other, cut-told}
 use Rattle.world_rules.proofs.KeptWorld.{IsOf}
 
@@ -49,16 +49,6 @@ near n events (Joins call) is = absurd (cc is)
 near n events (Bounces call) is = absurd (cc is)
 near n events Idle is = absurd (cc is)
 
-own-node : (n : ℕ) (gives : Gives) → IsOwn n gives → node_in gives.event ≡ Some n
-own-node n gives (Accepting bundle event offers) = ap node_in event
-own-node n gives (Guarding bundle event offers) = ap node_in event
-own-node n gives (Releasing c e event offers) = ap node_in event
-own-node n gives (Binding body event offers) = ap node_in event
-own-node n gives (TakingBack q bundle event offers) = ap node_in event
-own-node n gives (Watching calls event offers) = ap node_in event
-own-node n gives (Leaving call event offers) = ap node_in event
-own-node n gives (Others event offers) = ap node_in event
-
 cut-node : (n : ℕ) (event : Event) → node_in event ≡ Some n → node_in (without_offers n event) ≡ Some n
 cut-node n (Watches v calls) is = refl
 cut-node n (Leaves v call) is = refl
@@ -69,7 +59,7 @@ cut-node n event is = is
 pub command-told : (n : ℕ) (events : List Event) (command : Command) (gives : Gives) → IsOfNode n command gives
     → IsTold n events gives.event gives.event
 unfolding log_of
-command-told n events command gives (Owns own) = near n events gives.event (own-node n gives own)
+command-told n events command gives (Owns own) = near n events gives.event own.node
 command-told n events command gives (Sealing call own is event offers) =
     subst (λ (e : Event). IsTold n events e e) (sym event) (still n events (Seals call) refl (λ m. refl) refl)
 
@@ -81,7 +71,7 @@ cut-of n events command gives own =
     record { of = known.of; is = known.is ∙ cut-told n gives.event (said events n) }
   where
     by : IsOfNode n command gives → node_in (without_offers n gives.event) ≡ Some n
-    by (Owns own) = cut-node n gives.event (own-node n gives own)
+    by (Owns own) = cut-node n gives.event own.node
     by (Sealing call own is event offers) = ap (λ (e : Event). node_in (without_offers n e)) event
 
 -- an event that is none of the named ones

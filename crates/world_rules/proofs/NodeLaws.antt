@@ -1,21 +1,21 @@
 -- What each step does to the nodes and their records.
 use Rattle.std.proofs.Common.{◌≡◌, ◌⊎◌, ℕ, List, Option, Some, None, inl, inr, refl, sym, ap, ◌∙◌, subst}
 use Rattle.std.specs.Prelude.{set, slice_get}
-use Rattle.line_forms.proofs.FormLaws.{option_map_some}
 use Rattle.plasma_tx.specs.declared.owner.Owner.{Owner}
-use Rattle.plasma_tx.proofs.Names.{some_same}
 use Rattle.coin_history.specs.Bundles.{bundle_in}
 use Rattle.schedule_text.specs.declared.command.Command.{Command}
-use Rattle.schedule_text.specs.declared.command.WalletCommand.{WalletCommand}
-use Rattle.schedule_text.specs.declared.command.WatcherCommand.{WatcherCommand}
-use Rattle.schedule_text.specs.declared.command.OperatorCommand.{OperatorCommand}
 use Rattle.node_rules.specs.Kept.{links_handed}
 use Rattle.node_rules.specs.Wallet.{WalletRecords, noted, who, coin_state, accept_effect, send_effect, leave_effect, reclaim_effect}
 use Rattle.node_rules.proofs.WalletAdded.{accept-leaf, send-note, leave-leaf, reclaim-leaf, migrate-note}
-use Rattle.world_rules.specs.World.{Node, World, wallet_of, bytes_of, new_owner_of}
-use Rattle.world_rules.specs.Deeds.{Deed, deed_of}
-use Rattle.world_rules.proofs.ByCommand.{send_deed, wallet_command, watcher_command, operator_command, command_deed, deed-by-command}
-use Rattle.node_replies.specs.Orders.{with_record}
+use Rattle.world_rules.specs.World.{Node, World, wallet_of}
+use Rattle.world_rules.specs.Deeds.{Deed, as_deed, deed_of}
+use Rattle.world_rules.proofs.OrderEnds.{ordered}
+use Rattle.world_rules.specs.Orders.{node_does}
+use Rattle.node_replies.specs.declared.order.NodeOrder.{NodeOrder}
+use Rattle.node_replies.specs.declared.order.WalletOrder.{WalletOrder}
+use Rattle.node_replies.specs.declared.order.WatcherOrder.{WatcherOrder}
+use Rattle.node_replies.specs.declared.order.OperatorOrder.{OperatorOrder}
+use Rattle.node_replies.specs.Orders.{with_record, wallet_does, watcher_does, operator_does}
 use Rattle.world_rules.specs.Steps.{LineEffect, with_records, after_command, after_crash}
 use Rattle.world_rules.specs.Laws.{GrowsByOne, GrowsAtMost, ChangesOneNode, DeclaresOneNode, RecordsGrow}
 use Rattle.world_rules.proofs.Shapes.{Shape, Still, Enters, AddsWallet, AddsWatcher, AddsRogue, Crashes, Commands, Cuts, shape, IsCut, Kept, Lost, is_cut}
@@ -49,46 +49,38 @@ module _ (dig : List ℕ → List ℕ) (world : World) (n : ℕ) where
   unfolding Rattle.node_rules.specs.Wallet.reclaim_effect
   reclaim-one wallet bytes = reclaim-leaf dig wallet world.chain.log (bundle_in bytes)
 
-  wallet-one : (wallet : WalletRecords) (own : WalletCommand) (deed : Deed)
-      → wallet_command dig world n wallet own ≡ Some deed → AddsOne deed
-  wallet-one wallet (WalletCommand.Accept bundle) deed is =
-      subst AddsOne (some_same _ deed is) (inr (accept-one wallet (bytes_of world bundle)))
-  wallet-one wallet (WalletCommand.Send coin to last) deed is =
-      let found = option_map_some (send_deed dig world n wallet coin last) (new_owner_of world to) deed is in
-      subst AddsOne found.2 (inl (send-one wallet coin found.0 last))
-  wallet-one wallet (WalletCommand.Again coin) deed is = subst AddsOne (some_same _ deed is) (inl refl)
-  wallet-one wallet (WalletCommand.Leave coin) deed is =
-      subst AddsOne (some_same _ deed is) (inr (leave-one wallet coin))
-  wallet-one wallet (WalletCommand.Reclaim bundle) deed is =
-      subst AddsOne (some_same _ deed is) (inr (reclaim-one wallet (bytes_of world bundle)))
-  wallet-one wallet WalletCommand.Migrate deed is =
-      subst AddsOne (some_same _ deed is) (inl (migrate-note wallet))
+  wallet-one : (wallet : WalletRecords) (order : WalletOrder)
+      → ((wallet_does dig world.chain.log wallet order).note ≡ None)
+      ⊎ ((wallet_does dig world.chain.log wallet order).leaf ≡ None)
+  unfolding wallet_does
+  wallet-one wallet (WalletOrder.Accept bytes) = inr (accept-one wallet bytes)
+  wallet-one wallet (WalletOrder.Send coin to last) = inl (send-one wallet coin to last)
+  wallet-one wallet (WalletOrder.Leave coin) = inr (leave-one wallet coin)
+  wallet-one wallet (WalletOrder.Reclaim bytes) = inr (reclaim-one wallet bytes)
+  wallet-one wallet WalletOrder.Migrate = inl (migrate-note wallet)
+  wallet-one wallet order = inl refl
 
   -- watchers and the operator have no leaves
-  told-one : (node : Node) (command : Command) (deed : Deed)
-      → command_deed dig world n node command ≡ Some deed → AddsOne deed
-  unfolding command_deed
-  told-one node (Command.Wallet name own) deed is = wallet-one (wallet_of node) own deed is
-  told-one node (Command.Watcher name own) deed is = subst AddsOne (some_same _ deed is) (inr (watching own))
+  order-one : (node : Node) (order : NodeOrder)
+      → AddsOne (as_deed n order (node_does dig world.chain.log node order))
+  unfolding watcher_does operator_does
+  order-one node (NodeOrder.Wallet order) = wallet-one (wallet_of node) order
+  order-one node (NodeOrder.Watcher order) = inr (watching order)
     where
-      watching : (own : _) → (watcher_command dig world n node.notes own).leaf ≡ None
-      watching (WatcherCommand.Guard bundle) = refl
-      watching (WatcherCommand.Release coin tip) = refl
-  told-one node (Command.Operator own) deed is = subst AddsOne (some_same _ deed is) (inr (operating own))
+      watching : (own : WatcherOrder) → (watcher_does dig world.chain.log node.notes own).leaf ≡ None
+      watching WatcherOrder.Watch = refl
+      watching own = refl
+  order-one node (NodeOrder.Operator order) = inr (operating order)
     where
-      operating : (own : _) → (operator_command dig world n node.notes own).leaf ≡ None
-      operating (OperatorCommand.Offer transfer) = refl
-      operating (OperatorCommand.Lay coin leaf) = refl
-      operating OperatorCommand.Seal = refl
-      operating (OperatorCommand.Bundle coin tip) = refl
-      operating (OperatorCommand.Prove coin block) = refl
-      operating (OperatorCommand.Absences coin after last) = refl
-  told-one node (Command.Watch name) deed is = subst AddsOne (some_same _ deed is) (inl refl)
-  told-one node (Command.Open name) deed is = subst AddsOne (some_same _ deed is) (inl refl)
+      operating : (own : OperatorOrder) → (operator_does dig world.chain.log node.notes own).leaf ≡ None
+      operating OperatorOrder.Seal = refl
+      operating own = refl
+  order-one node NodeOrder.Open = inl refl
 
   pub adds_one : (node : Node) (command : Command) (deed : Deed) → deed_of dig world n node command ≡ Some deed
       → AddsOne deed
-  adds_one node command deed is = told-one node command deed (deed-by-command dig world n node command deed is)
+  adds_one node command deed is =
+      let own = ordered dig world n node command deed is in subst AddsOne own.deed_is (order-one node own.order)
 
 -- ---- so a node's records grow by at most one
 

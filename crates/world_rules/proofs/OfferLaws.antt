@@ -23,37 +23,17 @@ use Rattle.world_rules.specs.Deeds.{Deed, Gives}
 use Rattle.world_rules.specs.Steps.{LineEffect, new_chain, operator_node, called, event_of_call, without_offers, with_records, after_command, after_crash, with_mail, step, TraceEntry, entry_of, Run, run_of, events_of}
 use Rattle.world_rules.specs.Laws.{OffersAreOfEvents, DownNodesOfferNothing}
 use Rattle.world_rules.proofs.Shapes.{Shape, Still, Enters, AddsWallet, AddsWatcher, AddsRogue, Crashes, Commands, Cuts, IsDone, shape, IsCut, Kept, Lost, is_cut}
-use Rattle.world_rules.proofs.OwnEvents.{IsOwn, Accepting, Guarding, Releasing, Binding, TakingBack, Watching, Leaving, Others, IsOfNode, Owns, Sealing, of_node}
+use Rattle.world_rules.proofs.OwnEvents.{IsBy, IsOfNode, Owns, Sealing, of_node}
 use Rattle.world_rules.proofs.StepLaws.{stepped}
 use Rattle.world_rules.proofs.Existence.{position-parts}
 use Rattle.world_rules.proofs.Runs.{set-same, set-other, push-same, push-other, begun, over_run}
 
 -- ---- events
 
--- the event is a command of node n, by which it offers these calls
-pub record IsBy (n : ℕ) (event : Event) (calls : List RootCall) : Type 0 where
-  pub node : node_in event ≡ Some n
-  pub calls_are : offered event ≡ calls
-
-by-event : (n : ℕ) (gives : Gives) (event : Event) (calls : List RootCall) → node_in event ≡ Some n
-    → gives.event ≡ event → offered event ≡ calls → gives.offers ≡ calls → IsBy n gives.event gives.offers
-by-event n gives event calls node event_is calls_are offers =
-    record { node = ap node_in event_is ∙ node; calls_are = ap offered event_is ∙ calls_are ∙ sym offers }
-
-pub own-by : (n : ℕ) (gives : Gives) → IsOwn n gives → IsBy n gives.event gives.offers
-own-by n gives (Accepting bundle event offers) = by-event n gives (Accepts n bundle) [] refl event refl offers
-own-by n gives (Guarding bundle event offers) = by-event n gives (Guards n bundle) [] refl event refl offers
-own-by n gives (Releasing c e event offers) = by-event n gives (Releases n c e) [] refl event refl offers
-own-by n gives (Binding body event offers) = by-event n gives (Binds n body) [] refl event refl offers
-own-by n gives (TakingBack q bundle event offers) = by-event n gives (TakesBack n q bundle) [] refl event refl offers
-own-by n gives (Watching calls event offers) = by-event n gives (Watches n calls) calls refl event refl offers
-own-by n gives (Leaving call event offers) = by-event n gives (Leaves n call) (call ∷ []) refl event refl offers
-own-by n gives (Others event offers) = by-event n gives (Other n) [] refl event refl offers
-
 -- a command of the operator is by node 0
 pub node-by : (n : ℕ) (command : Command) (gives : Gives) → IsOfNode n command gives
     → ((own : OperatorCommand) → command ≡ Command.Operator own → n ≡ 0) → IsBy n gives.event gives.offers
-node-by n command gives (Owns own) is_zero = own-by n gives own
+node-by n command gives (Owns own) is_zero = own
 node-by n command gives (Sealing call own is event offers) is_zero =
     record { node = ap node_in event ∙ ap Some (sym (is_zero own is)); calls_are = ap offered event ∙ sym offers }
 

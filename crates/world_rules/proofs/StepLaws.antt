@@ -9,14 +9,14 @@ use Rattle.plasma_tx.specs.Shown.{tests_by, rules_of}
 use Rattle.plasma_tx.specs.Table.{answer_to, is_accepted, log_after}
 use Rattle.schedule_text.specs.declared.line.Line.{Line}
 use Rattle.schedule_text.specs.declared.command.Command.{Command}
-use Rattle.world_rules.specs.Events.{Event, Joins, Bounces, Declares, Idle, Other, Watches, Leaves, Seals, log_of}
+use Rattle.world_rules.specs.Events.{Event, Joins, Bounces, Declares, Idle, Other, Watches, Leaves, Seals, log_of, node_in}
 use Rattle.world_rules.specs.World.{Node, World}
 use Rattle.world_rules.specs.Declarations.{keeps_rules, keeps_rules_in}
 use Rattle.world_rules.specs.Deeds.{Deed, Gives}
 use Rattle.world_rules.specs.Steps.{LineEffect, called, without_offers, effect_in, effect_of, with_mail, step}
 use Rattle.world_rules.specs.Laws.{LeavesTheLog, AppendsOneCall, StepsKeepTheLog}
 use Rattle.world_rules.proofs.Shapes.{Shape, Still, Enters, AddsWallet, AddsWatcher, AddsRogue, Crashes, Commands, Cuts, shape, IsCut, Kept, Lost, is_cut}
-use Rattle.world_rules.proofs.OwnEvents.{IsOwn, Accepting, Guarding, Releasing, Binding, TakingBack, Watching, Leaving, Others, IsOfNode, Owns, Sealing, of_node}
+use Rattle.world_rules.proofs.OwnEvents.{IsOfNode, Owns, Sealing, of_node}
 
 -- ---- a step
 
@@ -43,21 +43,15 @@ stepped dig world line effect is = by (keeps_rules_in world line) refl is
 -- ---- the log
 
 -- an event of a node enters no call
-own-no-call : (n : ℕ) (gives : Gives) → IsOwn n gives → log_of (gives.event ∷ []) ≡ []
+own-no-call : (n : ℕ) (event : Event) → node_in event ≡ Some n → log_of (event ∷ []) ≡ []
 unfolding Rattle.world_rules.specs.Events.log_of
-own-no-call n gives (Accepting bundle event offers) = ap (λ e. log_of (e ∷ [])) event
-own-no-call n gives (Guarding bundle event offers) = ap (λ e. log_of (e ∷ [])) event
-own-no-call n gives (Releasing c e event offers) = ap (λ e. log_of (e ∷ [])) event
-own-no-call n gives (Binding body event offers) = ap (λ e. log_of (e ∷ [])) event
-own-no-call n gives (TakingBack q bundle event offers) = ap (λ e. log_of (e ∷ [])) event
-own-no-call n gives (Watching calls event offers) = ap (λ e. log_of (e ∷ [])) event
-own-no-call n gives (Leaving call event offers) = ap (λ e. log_of (e ∷ [])) event
-own-no-call n gives (Others event offers) = ap (λ e. log_of (e ∷ [])) event
+own-no-call n (Joins call) is = absurd (cc is)
+own-no-call n event is = refl
 
 node-no-call : (n : ℕ) (command : Command) (gives : Gives) → IsOfNode n command gives
     → log_of (gives.event ∷ []) ≡ []
 unfolding Rattle.world_rules.specs.Events.log_of
-node-no-call n command gives (Owns own) = own-no-call n gives own
+node-no-call n command gives (Owns own) = own-no-call n gives.event own.node
 node-no-call n command gives (Sealing call own is event offers) = ap (λ e. log_of (e ∷ [])) event
 
 -- nor does it where it is cut

@@ -21,10 +21,11 @@ use Rattle.node_rules.specs.WalletOpening.{is_wallet}
 use Rattle.node_rules.specs.WalletCommandLaws.{after, AddsAccepted}
 use Rattle.node_rules.proofs.WalletGrow.{state-accepts, noted-grow}
 use Rattle.node_rules.proofs.WalletRole.{accepts_keep_the_role, accepts_add_their_notes}
-use Rattle.node_replies.specs.Causes.{wallet_cause}
 use Rattle.world_rules.specs.Events.{Accepts, is_bundle}
-use Rattle.world_rules.proofs.ByCommand.{answered, on_accepted}
-use Rattle.world_rules.specs.OrderEvents.{bundle_read}
+use Rattle.node_replies.specs.declared.order.WalletOrder.{WalletOrder}
+use Rattle.node_replies.specs.Orders.{on_accepted}
+use Rattle.world_rules.proofs.OrderEnds.{wallet_told}
+use Rattle.world_rules.specs.OrderEvents.{bundle_read, event_of}
 use Rattle.world_rules.specs.Safety.{was_deposited}
 use Rattle.node_replies.proofs.ByteTexts.{Small, small-cons}
 use Rattle.node_replies.proofs.BundleTexts.{small-bundle}
@@ -184,10 +185,11 @@ module _ (dig : List ℕ → List ℕ) (s : Said) (log : List RootCall) (wallet 
   -- what an accept leaves, and what is said then
   abbrev pub IsAccepted : ℕ → WalletEffect (Result Accepted WalletRefusal) → Type 0
   IsAccepted n effect =
-      KeptWallet dig (told (answered n wallet_cause (on_accepted n bytes) effect.answer).event s) log
+      KeptWallet dig (told (wallet_told n (WalletOrder.Accept bytes) on_accepted effect.answer) s) log
       (after effect wallet)
 
   pub accepts-kept : (n : ℕ) → IsAccepted n (accept_effect dig wallet log bytes)
+  unfolding event_of
   accepts-kept n = by (accept_ends dig wallet log bytes)
     where
       tag : List ℕ

@@ -19,10 +19,11 @@ use Rattle.node_rules.specs.WalletCommandLaws.{with_more, after, AddsLeaving, Ad
 use Rattle.node_rules.proofs.WalletGrow.{state-leaves, state-reclaims, noted-grow}
 use Rattle.node_rules.proofs.WalletAdded.{leave-note, leave-leaf, migrate-note}
 use Rattle.node_rules.proofs.WalletRole.{leaves_keep_the_role, leaves_add_their_notes, reclaims_keep_the_role, reclaims_add_their_notes, migrations_keep_the_role, migrations_add_the_marker}
-use Rattle.node_replies.specs.Causes.{wallet_cause}
 use Rattle.world_rules.specs.Events.{TakesBack}
-use Rattle.world_rules.proofs.ByCommand.{answered, on_leaving, on_reclaimed, on_migrated}
-use Rattle.world_rules.specs.OrderEvents.{bundle_read}
+use Rattle.node_replies.specs.declared.order.WalletOrder.{WalletOrder}
+use Rattle.node_replies.specs.Orders.{on_leaving, on_reclaimed, on_migrated}
+use Rattle.world_rules.proofs.OrderEnds.{wallet_told}
+use Rattle.world_rules.specs.OrderEvents.{bundle_read, event_of}
 use Rattle.node_replies.proofs.ByteTexts.{Small, small-cons, small-append, small-number, small-short}
 use Rattle.world_rules.proofs.OperatorItems.{AreSmallRecords}
 use Rattle.world_rules.proofs.Said.{Said, told}
@@ -66,11 +67,12 @@ module _ (dig : List ℕ → List ℕ) (s : Said) (log : List RootCall) (wallet 
 
   abbrev pub IsTakenBack : ℕ → List ℕ → WalletEffect (Result Reclaimed WalletRefusal) → Type 0
   IsTakenBack n bytes effect =
-      KeptWallet dig (told (answered n wallet_cause (on_reclaimed n bytes) effect.answer).event s) log
+      KeptWallet dig (told (wallet_told n (WalletOrder.Reclaim bytes) on_reclaimed effect.answer) s) log
       (after effect wallet)
 
   pub reclaims-kept : (n : ℕ) (bytes : List ℕ) → Small bytes
       → IsTakenBack n bytes (reclaim_effect dig wallet log bytes)
+  unfolding event_of
   reclaims-kept n bytes small = by (reclaim_ends dig wallet log bytes)
     where
       by : ReclaimEnds (reclaim_effect dig wallet log bytes)
@@ -129,20 +131,21 @@ module _ (dig : List ℕ → List ℕ) (s : Said) (log : List RootCall) (wallet 
         noted = kept.noted;
       })
 
-  leaves-silent : (n : ℕ) (result : Result RootCall WalletRefusal)
-      → told (answered n wallet_cause (on_leaving n) result).event s ≡ s
-  leaves-silent n (Ok call) = refl
-  leaves-silent n (Err why) = refl
+  leaves-silent : (n coin : ℕ) (result : Result RootCall WalletRefusal)
+      → told (wallet_told n (WalletOrder.Leave coin) on_leaving result) s ≡ s
+  unfolding event_of
+  leaves-silent n coin (Ok call) = refl
+  leaves-silent n coin (Err why) = refl
 
   pub leaves-kept : (n coin : ℕ) → coin < 2 ^ 64
       → KeptWallet dig
-      (told (answered n wallet_cause (on_leaving n) (leave_effect dig wallet log coin).answer).event s) log
+      (told (wallet_told n (WalletOrder.Leave coin) on_leaving (leave_effect dig wallet log coin).answer) s) log
       (after (leave_effect dig wallet log coin) wallet)
   unfolding leave_effect
   leaves-kept n coin fits =
       let effect = leave_effect dig wallet log coin in
       let none : effect.leaf ≡ None = leave-leaf dig wallet log coin (coin_state dig wallet log coin) in
-      subst (λ (t : Said). KeptWallet dig t log (after effect wallet)) (sym (leaves-silent n effect.answer))
+      subst (λ (t : Said). KeptWallet dig t log (after effect wallet)) (sym (leaves-silent n coin effect.answer))
       (after-note effect.note effect.leaf none
       (λ body added.
       let left = leave-note dig wallet log coin (coin_state dig wallet log coin) body added in
@@ -162,7 +165,8 @@ module _ (dig : List ℕ → List ℕ) (s : Said) (log : List RootCall) (wallet 
   -- ---- migrate
 
   migrates-silent : (n : ℕ) (result : Result (Unit {0}) WalletRefusal)
-      → told (answered n wallet_cause (on_migrated n) result).event s ≡ s
+      → told (wallet_told n WalletOrder.Migrate on_migrated result) s ≡ s
+  unfolding event_of
   migrates-silent n (Ok done) = refl
   migrates-silent n (Err why) = refl
 
@@ -186,7 +190,7 @@ module _ (dig : List ℕ → List ℕ) (s : Said) (log : List RootCall) (wallet 
   }
 
   pub migrates-kept : (n : ℕ)
-      → KeptWallet dig (told (answered n wallet_cause (on_migrated n) (migrate_effect wallet).answer).event s) log
+      → KeptWallet dig (told (wallet_told n WalletOrder.Migrate on_migrated (migrate_effect wallet).answer) s) log
       (after (migrate_effect wallet) wallet)
   migrates-kept n =
       let effect = migrate_effect wallet in

@@ -28,9 +28,11 @@ use Rattle.node_rules.specs.WalletCommandLaws.{after, FitWords, sent_body, Binds
 use Rattle.node_rules.proofs.WalletGrow.{wallet-parts}
 use Rattle.node_rules.proofs.WalletTips.{tag-long, tip-fits}
 use Rattle.node_rules.proofs.WalletRole.{sends_keep_the_role, sends_add_their_leaves, held-tip}
-use Rattle.node_replies.specs.Causes.{wallet_cause}
 use Rattle.world_rules.specs.Events.{Binds}
-use Rattle.world_rules.proofs.ByCommand.{answered, on_sent}
+use Rattle.node_replies.specs.declared.order.WalletOrder.{WalletOrder}
+use Rattle.node_replies.specs.Orders.{on_sent}
+use Rattle.world_rules.proofs.OrderEnds.{wallet_told}
+use Rattle.world_rules.specs.OrderEvents.{event_of}
 use Rattle.node_replies.proofs.ByteTexts.{Small, small-body}
 use Rattle.world_rules.proofs.OperatorItems.{AreSmallRecords}
 use Rattle.world_rules.proofs.Said.{Said, told}
@@ -105,7 +107,8 @@ module _ (dig : List ℕ → List ℕ) (s : Said) (log : List RootCall) (wallet 
       (key : Small to.key) (last_fits : IfSome last (λ n. n < 2 ^ 64)) where
     abbrev pub IsSent : ℕ → WalletEffect (Result Sent WalletRefusal) → Type 0
     IsSent n effect =
-        KeptWallet dig (told (answered n wallet_cause (on_sent n) effect.answer).event s) log (after effect wallet)
+        KeptWallet dig (told (wallet_told n (WalletOrder.Send coin to last) on_sent effect.answer) s) log
+        (after effect wallet)
 
     sent-is : (tip : ℕ) → coin_state dig wallet log coin ≡ Held tip → IsBody (sent_body wallet coin tip to last)
     sent-is tip held = record {
@@ -142,6 +145,7 @@ module _ (dig : List ℕ → List ℕ) (s : Said) (log : List RootCall) (wallet 
     }
 
     pub sends-kept : (n : ℕ) → IsSent n (send_effect dig wallet log coin to last)
+    unfolding event_of
     sends-kept n = by (send_ends dig wallet log coin to last)
       where
         by : SendEnds dig wallet log coin to last (send_effect dig wallet log coin to last)
