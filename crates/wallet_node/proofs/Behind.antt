@@ -1,6 +1,6 @@
 -- What an opening of leaves behind notes does.
-use Rattle.std.proofs.Common.{◌≡◌, ℕ, true, false, List, Option, Ok, Err, inr, refl, ◌∙◌, ap, subst, length-take-le, arith}
-use Rattle.std.specs.Prelude.{Result, IfErr}
+use Rattle.std.proofs.Common.{◌≡◌, ℕ, true, false, List, Option, Ok, Err, inr, refl, sym, ◌∙◌, ap, subst, length-take-le, arith}
+use Rattle.std.specs.Prelude.{Result, IfOk, IfErr}
 use Rattle.sha2.specs.Sha256.{sha256}
 use Rattle.sha2.proofs.Facts256.{length-sha256}
 use Rattle.plasma_base.specs.Causes.{faults_after}
@@ -24,6 +24,7 @@ use Rattle.node_rules.specs.declared.identity.WalletIdentity.{WalletIdentity}
 use Rattle.node_rules.specs.WalletRecords.{is_body, leaves_in, secret_of, who_is}
 use Rattle.node_rules.specs.WalletOpening.{leaves_of}
 use Rattle.wallet_node.specs.declared.opening.ReturnedBoth.{ReturnedBoth}
+use Rattle.wallet_node.specs.State.{WalletState, leaves_part}
 use Rattle.wallet_node.specs.Opening.{IsUnbound, OpensNotes, OpensLeaves, RefusesBehind, RefusesLeaves, RefusesWallet}
 
 -- the wallet's key has as many leaves as its types say
@@ -77,6 +78,24 @@ behind-none told plan faults dig notes disk = record {
   refused = (0, (λ one. absurd (omega (arith, one))), none_made told plan disk);
   count = refl;
 }
+
+-- what the wallet has of leaves that were opened
+pub behind-over : {D H : Type 0} (told : D → Option History) (plan : D → Option FaultPlan) (faults : D → ℕ)
+    (dig : List ℕ → List ℕ) (notes : NotesState D) (disk : D) (opened : LeavesState D) (key : List ℕ) (hash : H)
+    (result : Result (WalletState D H) (ReturnedBoth D)) → OpensLeaves told plan faults dig notes disk (as_notes opened)
+    → opened ≡ record { disk = opened.disk; closed = false; key = key; records = opened.records }
+    → IfOk result (λ node. node ≡ record {
+      notes_disk = notes.disk;
+      leaves_disk = opened.disk;
+      closed = false;
+      records = record { notes = notes.records; leaves = opened.records };
+      hash = hash;
+    })
+    → IfOk result (λ node. OpensLeaves told plan faults dig notes disk (leaves_part node))
+behind-over told plan faults dig notes disk opened key hash (Err returned) opens is over = tt
+behind-over {D} told plan faults dig notes disk opened key hash (Ok node) opens is over =
+    let same : as_notes opened ≡ leaves_part node = ap as_notes is ∙ sym (ap leaves_part over) in
+    subst (λ (leaves : NotesState D). OpensLeaves told plan faults dig notes disk leaves) same opens
 
 -- what was refused behind leaves that were opened
 pub behind-unbound : {D T : Type 0} (told : D → Option History) (plan : D → Option FaultPlan) (faults : D → ℕ)

@@ -13,3 +13,4 @@ pub mod Unbound
 pub mod Behind
 pub mod OneMessage
 pub mod OneDisk
+pub mod SharedHistories

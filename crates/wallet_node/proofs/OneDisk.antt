@@ -1,8 +1,8 @@
 -- A device fault is of one of a wallet's disks.
-use Rattle.std.proofs.Common.{◌≡◌, ◌∙◌, ℕ, true, List, Option, Some, None, inl, inr, ap}
+use Rattle.std.proofs.Common.{◌≡◌, ◌∙◌, ℕ, true, Option, Some, None, inl, inr, ap}
 use Rattle.plasma_base.specs.Causes.{faults_after}
 use Rattle.crash_disk.specs.Disk.{History, FaultPlan}
-use Rattle.wallet_node.specs.Faults.{MetByNotes, MetByLeaves, NotesFaultsAreOfNotes, LeavesFaultsAreOfLeaves, OpeningsFailOnOneDisk, InitsFailOnOneDisk}
+use Rattle.wallet_node.specs.Faults.{NotesFaultsAreOfNotes, LeavesFaultsAreOfLeaves, OpeningsFailOnOneDisk, InitsFailOnOneDisk}
 
 module _ {D : Type 0} (told : D → Option History) (plan : D → Option FaultPlan) (faults : D → ℕ) where
   pub notes_faults : (H : Type 0) → NotesFaultsAreOfNotes H told plan faults

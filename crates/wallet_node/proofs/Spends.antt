@@ -33,9 +33,9 @@ use Rattle.std.proofs.lemmas.Option.{slice_get_within}
 use Rattle.plasma_tx.specs.Spelling.{body_at_start}
 use Rattle.leaf_journal.specs.Records.{messages_of}
 use Rattle.wallet_core.specs.declared.notes.LeafRecord.{LeafRecord}
-use Rattle.node_rules.specs.WalletRecords.{accepted_of, notes_of, leaves_in}
+use Rattle.node_rules.specs.WalletRecords.{who_is, accepted_of, notes_of, leaves_in}
 use Rattle.node_rules.specs.Wallet.{WalletRecords, names_coin, last_leaf, who, kept_at, links_at, start_by, start_of, exit_start, due_at, due_in}
-use Rattle.wallet_node.specs.Inside.{is_kept_at, links_behind, spends_at}
+use Rattle.wallet_node.specs.Inside.{MemoryState, memory_in, is_kept_at, links_behind, spends_at}
 
 -- what is kept of a coin up to a tip, or nothing
 abbrev kept_or_none : ℕ → ℕ → Option Bundle → Bundle
@@ -49,43 +49,32 @@ links_found tag coin tip all =
 same-coin : (coin tip : ℕ) (kept : Bundle) → is_of coin tip kept ≡ true → kept.coin ≡ coin
 same-coin coin tip kept is = grind (arith, nat_tests, (and_parts (kept.coin == coin) (kept.tip == tip) is).0)
 
-pub spends-some : (tag : List ℕ) (coin tip : ℕ) (all : List Bundle) (one : KeptCoin)
-    → Some one ≡ find (is_kept_at coin tip) (map (kept_coin_of tag) all)
-    → one.spends ≡ links_found tag coin tip all
-spends-some tag coin tip [] one is = absurd (cc is)
-spends-some tag coin tip (kept ∷ all) one is =
-    at (spends-some tag coin tip all one) (is_of coin tip kept) refl is
-  where
-    at : (Some one ≡ find (is_kept_at coin tip) (map (kept_coin_of tag) all)
-        → one.spends ≡ links_found tag coin tip all)
-        → (b : Bool) → is_of coin tip kept ≡ b
-        → Some one ≡ find (is_kept_at coin tip) (map (kept_coin_of tag) (kept ∷ all))
-        → one.spends ≡ links_found tag coin tip (kept ∷ all)
-    at back true here found =
-        let first : Some one ≡ Some (kept_coin_of tag kept) = rw here at found in
-        let same : one ≡ kept_coin_of tag kept = cc first in
-        rw here
-        (ap (λ (k : KeptCoin). k.spends) same
-        ∙ ap (λ (c : ℕ). links_in (chain_of tag) c kept.openings) (same-coin coin tip kept here))
-    at back false other found = (
-        let rest : Some one ≡ find (is_kept_at coin tip) (map (kept_coin_of tag) all) = rw other at found in
-        rw other (back rest))
-
-pub spends-none : (tag : List ℕ) (coin tip : ℕ) (all : List Bundle)
-    → None ≡ find (is_kept_at coin tip) (map (kept_coin_of tag) all) → [] ≡ links_found tag coin tip all
+pub spends-kept : (tag : List ℕ) (coin tip : ℕ) (all : List Bundle)
+    → option_map_or (λ (kept : KeptCoin). kept.spends) (find (is_kept_at coin tip) (map (kept_coin_of tag) all)) []
+    ≡ links_found tag coin tip all
 unfolding links_in
-spends-none tag coin tip [] is = refl
-spends-none tag coin tip (kept ∷ all) is =
-    at (spends-none tag coin tip all) (is_of coin tip kept) refl is
+spends-kept tag coin tip [] = refl
+spends-kept tag coin tip (kept ∷ all) = at (spends-kept tag coin tip all) (is_of coin tip kept) refl
   where
-    at : (None ≡ find (is_kept_at coin tip) (map (kept_coin_of tag) all) → [] ≡ links_found tag coin tip all)
+    at : option_map_or (λ (kept : KeptCoin). kept.spends) (find (is_kept_at coin tip) (map (kept_coin_of tag) all)) []
+        ≡ links_found tag coin tip all
         → (b : Bool) → is_of coin tip kept ≡ b
-        → None ≡ find (is_kept_at coin tip) (map (kept_coin_of tag) (kept ∷ all))
-        → [] ≡ links_found tag coin tip (kept ∷ all)
-    at back true here found = (let wrong : None ≡ Some (kept_coin_of tag kept) = rw here at found in absurd (cc wrong))
-    at back false other found = (
-        let rest : None ≡ find (is_kept_at coin tip) (map (kept_coin_of tag) all) = rw other at found in
-        rw other (back rest))
+        → option_map_or (λ (kept : KeptCoin). kept.spends)
+        (find (is_kept_at coin tip) (map (kept_coin_of tag) (kept ∷ all))) []
+        ≡ links_found tag coin tip (kept ∷ all)
+    at back true here =
+        rw here (ap (λ (c : ℕ). links_in (chain_of tag) c kept.openings) (same-coin coin tip kept here))
+    at back false other = rw other back
+
+-- so are they in what is kept of the records
+pub spends-in-memory : (dig : List ℕ → List ℕ) (records : WalletRecords) (coin tip : ℕ) (memory : MemoryState)
+    → memory ≡ memory_in dig records.notes
+    → option_map_or (λ (kept : KeptCoin). kept.spends) (find (is_kept_at coin tip) memory.kept) []
+    ≡ spends_at dig records coin tip
+spends-in-memory dig records coin tip memory is =
+    ap (λ (m : MemoryState). option_map_or (λ (kept : KeptCoin). kept.spends) (find (is_kept_at coin tip) m.kept) [])
+    is
+    ∙ spends-kept (who_is records.notes).tag coin tip (accepted_of (notes_of dig records.notes))
 
 -- it is of the coin
 found-coin : (coin tip : ℕ) (all : List Bundle) → (kept_or_none coin tip (find (is_of coin tip) all)).coin ≡ coin

@@ -3,3 +3,4 @@ pub mod Opening
 pub mod Faults
 pub mod Inside
 pub mod Lives
+pub mod SharedHistories

@@ -3,6 +3,7 @@
 #![tactic(auto)]
 
 mod change;
+mod kept_coins;
 mod key;
 mod laws;
 mod leaf_commands;

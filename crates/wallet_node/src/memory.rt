@@ -1,13 +1,14 @@
 ghost use Rattle.std.specs.Prelude.{◌≡◌, [], find, OnOk, OnErr, IfOk};
-ghost use Rattle.std.specs.Option.{option_copied};
+ghost use Rattle.std.specs.Option.{option_map_or};
 ghost use Rattle.std.specs.Ordering.{nat_cmp};
 ghost use Rattle.std.specs.BTreeSet.{insert_key};
 ghost use Rattle.wallet_node.specs.Inside.{changed, undone, is_kept_at};
 
 use super::change::Change;
+use super::kept_coins::KeptCoins;
 use node_rules::KeptCoin;
 use plasma_base::NoMemory;
-use plasma_tx::Owner;
+use plasma_tx::{Link, Owner};
 use std::alloc::Global;
 use std::marker::Model;
 use std::mem;
@@ -17,7 +18,7 @@ use wallet_core::{CoinTip, LeafNumbers, Notes, Tips};
 #[derive(Drop)]
 pub struct Memory {
     noted: Notes,
-    kept: Vec<KeptCoin>,
+    kept: KeptCoins,
 }
 
 impl Model for Memory {
@@ -25,7 +26,7 @@ impl Model for Memory {
 
     ghost Value = { MemoryState };
 
-    ghost view = { λ m. record { noted = m.noted; kept = m.kept.items } };
+    ghost view = { λ m. record { noted = m.noted; kept = m.kept } };
 }
 
 // How a change is taken back that was just taken over.
@@ -54,7 +55,7 @@ impl Memory {
                 leaving: Tips::new(alloc),
                 reclaimed: LeafNumbers::new(alloc),
             },
-            kept: Vec::new(alloc),
+            kept: KeptCoins::new(alloc),
         }
     }
 
@@ -65,13 +66,11 @@ impl Memory {
         &self.noted
     }
 
-    // The first that was taken up of the coin with this tip.
-    pub fn kept(&self, coin: u64, tip: u64) -> Option<&KeptCoin>
-        ensures { option_copied result ≡ find (is_kept_at coin tip) self.now.kept }
+    // The links of the first that was taken up of the coin with this tip; none where there is none.
+    pub fn spends_at(&self, coin: u64, tip: u64) -> &[Link]
+        ensures { result.now ≡ option_map_or (λ kept. kept.spends) (find (is_kept_at coin tip) self.now.kept) [] }
     {
-        self.kept
-            .iter()
-            .find(|kept| kept.coin == coin && kept.tip == tip)
+        self.kept.spends_at(coin, tip)
     }
 
     // A coin is taken up.
@@ -79,13 +78,16 @@ impl Memory {
         ensures ok { OnOk result (self.new ≡ changed (Change.Accepts coin) self.old) }
         ensures err { OnErr result (self.new ≡ self.old) }
     {
-        self.kept.reserve(1)?;
-        self.noted.accepted.push(CoinTip {
+        let noted = CoinTip {
             coin: coin.coin,
             tip: coin.tip,
-        })?;
-        self.kept.push(coin).unwrap();
-        Ok(())
+        };
+        self.kept.add(coin)?;
+        let pushed = self.noted.accepted.push(noted);
+        if pushed.is_err() {
+            self.kept.pop();
+        }
+        pushed
     }
 
     // A coin is left with.

@@ -57,10 +57,7 @@ impl<D: Disk, H: Hash32 + Copy> WalletNode<D, H> {
     fn spends_at(&self, coin: u64, tip: u64) -> &[Link]
         ensures { result.now ≡ spends_at (H.digest_of self.now.hash) self.now.records coin tip }
     {
-        match self.memory.kept(coin, tip) {
-            Some(kept) => kept.spends.as_slice(),
-            None => &[],
-        }
+        self.memory.spends_at(coin, tip)
     }
 
     // The start of the wallet's exit of a coin that the log has.
