@@ -1,6 +1,6 @@
 -- The wallets of a run whose lines are in the grammar and made bytes have a wallet's records.
-use Rattle.std.proofs.Common.{◌≡◌, ℕ, zero, suc, ◌^◌, ◌<◌, ◌≤◌, Bool, true, false, if◌then◌else◌, List, [], ◌∷◌, ◌++◌, length, set, Option, Some, None, refl, sym, subst, arith}
-use Rattle.std.specs.Prelude.{slice_get, find, option_map}
+use Rattle.std.proofs.Common.{◌≡◌, ℕ, zero, suc, ◌^◌, ◌<◌, ◌≤◌, Bool, true, false, if◌then◌else◌, List, [], ◌∷◌, ◌++◌, length, set, Option, Some, None, refl, sym, ◌∙◌, subst, arith}
+use Rattle.std.specs.Prelude.{Result, slice_get, find, option_map}
 use Rattle.std.specs.List.{AllByRecursion}
 use Rattle.std.specs.Option.{option_or}
 use Rattle.std.specs.Str.{bytes_eq}
@@ -9,7 +9,6 @@ use Rattle.line_forms.specs.declared.tokens.HexOrName.{HexOrName}
 use Rattle.line_forms.specs.declared.tokens.OutcomeToken.{OutcomeToken}
 use Rattle.line_forms.specs.declared.tokens.TheConstants.{OWNER_BYTES}
 use Rattle.line_forms.specs.Tokens.{IsHexOrName}
-use Rattle.line_forms.proofs.FormLaws.{option_map_some}
 use Rattle.plasma_tx.specs.declared.owner.Owner.{Owner}
 use Rattle.plasma_tx.specs.declared.call.RootCall.{RootCall}
 use Rattle.plasma_tx.specs.declared.answer.Answer.{Answer}
@@ -24,22 +23,25 @@ use Rattle.plasma_tx.specs.RuleLaws.{Shows}
 use Rattle.plasma_tx.proofs.Accepted.{accepted_calls_show}
 use Rattle.plasma_tx.proofs.Each.{all-append, all-found, all-weaker}
 use Rattle.schedule_text.specs.declared.command.Command.{Command}
-use Rattle.schedule_text.specs.declared.command.WalletCommand.{WalletCommand}
+use Rattle.node_rules.specs.declared.refusal.WalletRefusal.{WalletRefusal}
 use Rattle.node_rules.specs.WalletRecords.{owner_of}
-use Rattle.node_rules.specs.WalletCommandLaws.{with_more}
-use Rattle.node_rules.specs.Wallet.{WalletRecords, who, accept_effect, send_effect, leave_effect, reclaim_effect, migrate_effect}
-use Rattle.world_rules.specs.World.{Role, Wallet, Watcher, Operator, Node, Rogue, World, wallet_of, owner_of_node, owner_of_rogue, with_node, bytes_of, is_named, is_wallet_role, is_watcher_role, is_operator_role, rogue_named, owner_named, new_owner_of}
+use Rattle.node_rules.specs.WalletCommandLaws.{with_more, after}
+use Rattle.node_rules.specs.Wallet.{WalletRecords, WalletEffect, who, accept_effect, send_effect, leave_effect, reclaim_effect, migrate_effect}
+use Rattle.world_rules.specs.World.{Node, Rogue, World, wallet_of, owner_of_node, owner_of_rogue, with_node, is_named, is_wallet_role, rogue_named, owner_named, new_owner_of}
 use Rattle.world_rules.specs.Declarations.{plays}
-use Rattle.world_rules.specs.Deeds.{Deed, deed_of}
-use Rattle.node_replies.specs.Orders.{with_record}
-use Rattle.world_rules.proofs.ByCommand.{wallet_command, send_deed, command_deed, deed-by-command}
+use Rattle.world_rules.specs.Deeds.{Deed, as_deed, deed_of}
+use Rattle.node_replies.specs.declared.order.NodeOrder.{NodeOrder}
+use Rattle.node_replies.specs.declared.order.WalletOrder.{WalletOrder}
+use Rattle.node_replies.specs.Orders.{Response, Doing, wallet_doing, with_record, on_accepted, on_sent, on_leaving, on_reclaimed, on_migrated, wallet_does}
+use Rattle.world_rules.specs.Orders.{node_does}
+use Rattle.world_rules.proofs.OrderEnds.{IsOrderAt, order-role, ordered}
 use Rattle.world_rules.specs.Steps.{LineEffect, called, entered, with_records, after_command, after_crash, commanded, crashed, cut}
 use Rattle.node_replies.proofs.ByteTexts.{Small, small-take, small-drop}
 use Rattle.world_rules.proofs.OperatorItems.{AreSmallRecords}
 use Rattle.world_rules.proofs.Shapes.{IsCut, Kept, Lost, is_cut}
 use Rattle.world_rules.proofs.Said.{Said}
 use Rattle.world_rules.proofs.KeptWallet.{KeptWallet, wallet-longer, records-push}
-use Rattle.world_rules.proofs.KeptNode.{IsGoodOwner, IsFitWallet, IsFit, token-small}
+use Rattle.world_rules.proofs.KeptNode.{IsGoodOwner, Feeds, IsFit, IsFitOrder, order-fit, wallet-alone}
 use Rattle.world_rules.proofs.KeptWorld.{IsGoodRogue}
 use Rattle.world_rules.proofs.WalletAccepts.{accepts-kept}
 use Rattle.world_rules.proofs.WalletSends.{sends-kept}
@@ -229,97 +231,77 @@ module _ (dig : List ℕ → List ℕ) (world : World) (kept : KeepsWallets dig 
 
   -- ---- commands
 
-  -- records with what a command adds
+  -- what a command may take from the world
+  feeds : Feeds world
+  feeds = record { mail = kept.mail; owners = to-owner; few = few-blocks }
+
+  -- records with what an order adds
   more-same : (records : List (List ℕ)) (added : Option (List ℕ)) → with_more added records ≡ with_record records added
   more-same records None = refl
   more-same records (Some body) = refl
 
-  -- the records after a command are a wallet's
-  abbrev IsKeptWith : WalletRecords → Option (List ℕ) → Option (List ℕ) → Type 0
-  IsKeptWith wallet note leaf =
+  -- the records after an order are a wallet's
+  abbrev IsKeptBy : WalletRecords → Doing → Type 0
+  IsKeptBy wallet doing =
       (s : Said) × KeptWallet dig s world.chain.log
-      (record { notes = with_record wallet.notes note; leaves = with_record wallet.leaves leaf })
+      (record { notes = with_record wallet.notes doing.note; leaves = with_record wallet.leaves doing.leaf })
 
-  kept-with : (s : Said) (wallet : WalletRecords) (note leaf : Option (List ℕ))
-      → KeptWallet dig s world.chain.log
-      (record { notes = with_more note wallet.notes; leaves = with_more leaf wallet.leaves })
-      → IsKeptWith wallet note leaf
-  kept-with s wallet note leaf is = (
+  kept-by : {A : Type 0} (s : Said) (wallet : WalletRecords) (give : A → Response)
+      (effect : WalletEffect (Result A WalletRefusal)) → KeptWallet dig s world.chain.log (after effect wallet)
+      → IsKeptBy wallet (wallet_doing give effect)
+  kept-by s wallet give effect is = (
     s,
     subst (KeptWallet dig s world.chain.log)
-        (λ i. record { notes = more-same wallet.notes note i; leaves = more-same wallet.leaves leaf i }) is,
+        (λ i. record {
+          notes = more-same wallet.notes effect.note i;
+          leaves = more-same wallet.leaves effect.leaf i;
+        }) is,
   )
 
-  abbrev IsKeptBy : WalletRecords → Deed → Type 0
-  IsKeptBy wallet deed = IsKeptWith wallet deed.note deed.leaf
-
   wallet-keeps : (n : ℕ) (s : Said) (wallet : WalletRecords) → KeptWallet dig s world.chain.log wallet
-      → (own : WalletCommand) (deed : Deed) → IsFitWallet own → wallet_command dig world n wallet own ≡ Some deed
-      → IsKeptBy wallet deed
-  wallet-keeps n s wallet has (WalletCommand.Accept bundle) deed fit is =
-      let bytes = bytes_of world bundle in
-      let effect = accept_effect dig wallet world.chain.log bytes in
-      subst (IsKeptBy wallet) (some_same _ deed is)
-      (kept-with _ wallet effect.note effect.leaf
-      (accepts-kept dig s world.chain.log wallet has bytes (token-small world bundle kept.mail fit) n))
-  wallet-keeps n s wallet has (WalletCommand.Send coin to last) deed fit is =
-      let found = option_map_some (send_deed dig world n wallet coin last) (new_owner_of world to) deed is in
-      let owner = to-owner to found.0 fit.1 found.1 in
-      let effect = send_effect dig wallet world.chain.log coin found.0 last in
-      subst (IsKeptBy wallet) found.2
-      (kept-with _ wallet effect.note effect.leaf
-      (sends-kept dig s world.chain.log wallet has few-blocks coin found.0 last fit.0 owner.is owner.key fit.2 n))
-  wallet-keeps n s wallet has (WalletCommand.Again coin) deed fit is =
-      subst (IsKeptBy wallet) (some_same _ deed is) (s, has)
-  wallet-keeps n s wallet has (WalletCommand.Leave coin) deed fit is =
-      let effect = leave_effect dig wallet world.chain.log coin in
-      subst (IsKeptBy wallet) (some_same _ deed is)
-      (kept-with _ wallet effect.note effect.leaf
-      (leaves-kept dig s world.chain.log wallet has few-blocks n coin fit))
-  wallet-keeps n s wallet has (WalletCommand.Reclaim bundle) deed fit is =
-      let bytes = bytes_of world bundle in
-      let effect = reclaim_effect dig wallet world.chain.log bytes in
-      subst (IsKeptBy wallet) (some_same _ deed is)
-      (kept-with _ wallet effect.note effect.leaf
-      (reclaims-kept dig s world.chain.log wallet has few-blocks n bytes (token-small world bundle kept.mail fit)))
-  wallet-keeps n s wallet has WalletCommand.Migrate deed fit is =
-      let effect = migrate_effect wallet in
-      subst (IsKeptBy wallet) (some_same _ deed is)
-      (kept-with _ wallet effect.note effect.leaf
-      (migrates-kept dig s world.chain.log wallet has few-blocks n))
+      → (order : WalletOrder) → IsFitOrder (NodeOrder.Wallet order)
+      → IsKeptBy wallet (wallet_does dig world.chain.log wallet order)
+  unfolding wallet_does
+  wallet-keeps n s wallet has (WalletOrder.Accept bytes) fit =
+      kept-by _ wallet on_accepted (accept_effect dig wallet world.chain.log bytes)
+      (accepts-kept dig s world.chain.log wallet has bytes fit n)
+  wallet-keeps n s wallet has (WalletOrder.Send coin to last) fit =
+      kept-by _ wallet on_sent (send_effect dig wallet world.chain.log coin to last)
+      (sends-kept dig s world.chain.log wallet has few-blocks coin to last fit.0 fit.1.is fit.1.key fit.2 n)
+  wallet-keeps n s wallet has (WalletOrder.Again coin) fit = (s, has)
+  wallet-keeps n s wallet has (WalletOrder.Leave coin) fit =
+      kept-by _ wallet on_leaving (leave_effect dig wallet world.chain.log coin)
+      (leaves-kept dig s world.chain.log wallet has few-blocks n coin fit)
+  wallet-keeps n s wallet has (WalletOrder.Reclaim bytes) fit =
+      kept-by _ wallet on_reclaimed (reclaim_effect dig wallet world.chain.log bytes)
+      (reclaims-kept dig s world.chain.log wallet has few-blocks n bytes fit)
+  wallet-keeps n s wallet has WalletOrder.Migrate fit =
+      kept-by _ wallet on_migrated (migrate_effect wallet)
+      (migrates-kept dig s world.chain.log wallet has few-blocks n)
+  wallet-keeps n s wallet has WalletOrder.Watch fit = (s, has)
 
-  -- a wallet plays no command of another node
-  not-watcher : (role : Role) → is_watcher_role role ≡ true → is_wallet_role role ≡ true → ⊥
-  not-watcher Wallet watcher is = false≢true watcher
-  not-watcher Watcher watcher is = false≢true is
-  not-watcher Operator watcher is = false≢true watcher
-
-  not-operator : (role : Role) → is_operator_role role ≡ true → is_wallet_role role ≡ true → ⊥
-  not-operator Wallet operator is = false≢true operator
-  not-operator Watcher operator is = false≢true operator
-  not-operator Operator operator is = false≢true is
-
-  told-keeps : (n : ℕ) (node : Node) (command : Command) (deed : Deed) → plays command node.role ≡ true
-      → IsFit command → command_deed dig world n node command ≡ Some deed → IsKept dig world.chain.log node
-      → IsKept dig world.chain.log (with_records node deed)
-  unfolding command_deed
-  told-keeps n node (Command.Wallet name own) deed role fit is has = λ wallet.
+  -- a wallet has no order of another node
+  order-keeps : (n : ℕ) (node : Node) (order : NodeOrder) → IsOrderAt node.role order → IsFitOrder order
+      → IsKept dig world.chain.log node
+      → IsKept dig world.chain.log
+      (with_records node (as_deed n order (node_does dig world.chain.log node order)))
+  order-keeps n node (NodeOrder.Wallet order) at fit has = λ wallet.
       let it = has wallet in
-      wallet-keeps n it.0 (wallet_of node) it.1 own deed fit is
-  told-keeps n node (Command.Watcher name own) deed role fit is has = λ wallet.
-      absurd (not-watcher node.role role wallet)
-  told-keeps n node (Command.Operator own) deed role fit is has = λ wallet.
-      absurd (not-operator node.role role wallet)
-  told-keeps n node (Command.Watch name) deed role fit is has =
-      subst (λ (d : Deed). IsKept dig world.chain.log (with_records node d)) (some_same _ deed is) has
-  told-keeps n node (Command.Open name) deed role fit is has =
-      subst (λ (d : Deed). IsKept dig world.chain.log (with_records node d)) (some_same _ deed is) has
+      wallet-keeps n it.0 (wallet_of node) it.1 order fit
+  order-keeps n node (NodeOrder.Watcher order) at fit has = λ wallet.
+      absurd (false≢true (sym (wallet-alone node.role wallet).0 ∙ at))
+  order-keeps n node (NodeOrder.Operator order) at fit has = λ wallet.
+      absurd (false≢true (sym (wallet-alone node.role wallet).1 ∙ at))
+  order-keeps n node NodeOrder.Open at fit has = has
 
   command-keeps : (n : ℕ) (node : Node) (command : Command) (deed : Deed) → plays command node.role ≡ true
       → IsFit command → deed_of dig world n node command ≡ Some deed → IsKept dig world.chain.log node
       → IsKept dig world.chain.log (with_records node deed)
-  command-keeps n node command deed role fit is =
-      told-keeps n node command deed role fit (deed-by-command dig world n node command deed is)
+  command-keeps n node command deed role fit is has =
+      let own = ordered dig world n node command deed is in
+      subst (λ (d : Deed). IsKept dig world.chain.log (with_records node d)) own.deed_is
+      (order-keeps n node own.order (order-role world node.role command own.order role own.order_is)
+      (order-fit world feeds node.role command own.order fit own.order_is) has)
 
   -- ---- one node
 

@@ -1,4 +1,3 @@
-pub mod ByCommand
 pub mod OrderEnds
 pub mod Shapes
 pub mod OwnEvents
