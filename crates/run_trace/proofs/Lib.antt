@@ -8,5 +8,6 @@ pub mod AnswerLaws
 pub mod StopLaws
 pub mod Exhibited
 pub mod Marking
+pub mod Holding
 pub mod Meeting
 pub mod Telling

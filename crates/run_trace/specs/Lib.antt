@@ -4,6 +4,7 @@ pub mod Events
 pub mod Orders
 pub mod Reading
 pub mod Told
+pub mod Histories
 pub mod Keeping
 pub mod Marks
 pub mod Meetings

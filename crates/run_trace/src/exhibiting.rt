@@ -1,45 +1,50 @@
-ghost use Rattle.std.specs.Prelude.{◌≡◌, not, map, set, true, IfOk};
+ghost use Rattle.std.specs.Prelude.{◌≡◌, ◌<◌, length, Some, IfOk};
+ghost use Rattle.std.specs.List.{slice_get};
 ghost use Rattle.std.specs.Option.{option_copied};
-ghost use Rattle.trace_exhibits.specs.Opened.{AreMarked};
-ghost use Rattle.trace_exhibits.specs.Lines.{shown_in, event_of as event_of_line};
-ghost use Rattle.trace_exhibits.specs.Laws.{is_marked_new};
-ghost use Rattle.run_trace.specs.Marks.{event_of, declares, binds, joined, shows};
-ghost use Rattle.run_trace.specs.Meetings.{is_met, IsShownAgain, IsMetBy};
+ghost use Rattle.trace_exhibits.specs.Lines.{told_of};
+ghost use Rattle.run_trace.specs.Marks.{declares, binds, joined};
+ghost use Rattle.run_trace.specs.Meetings.{was_shown, told_new, told_shown, told_at, firsts_with, AreFirsts};
 
 use super::mark::Mark;
-use coin_history::Bundle;
+use super::shown::Shown;
 use plasma_base::NoMemory;
 use plasma_tx::{Body, Owner, RootCall};
 use std::alloc::Global;
 use std::marker::Model;
-use trace_exhibits::ExhibitLine;
+use trace_exhibits::{ExhibitLine, ExhibitLines};
 
-/// What marks stand for, lent: each list has the oldest first.
+/// Marks and what they stand for, lent: each list has the oldest first. They are the lines of an exhibit.
 #[derive(Drop)]
 pub(crate) struct Named<'a> {
+    pub(crate) marks: &'a [Mark],
     pub(crate) owners: &'a [Owner],
     pub(crate) bodies: &'a [Body],
     pub(crate) calls: &'a [RootCall],
-    pub(crate) bundles: &'a [Bundle],
+    pub(crate) shown: &'a Shown,
+    /// For each bundle the number of the first mark that shows it.
+    pub(crate) firsts: &'a [usize],
 }
 
 impl<'a> Model for Named<'a> {
-    ghost use Rattle.run_trace.specs.Marks.{Kept};
+    ghost use Rattle.run_trace.specs.Meetings.{Lined};
 
-    ghost Value = { Kept };
+    ghost Value = { Lined };
 
     ghost view = { λ n. record {
-      owners = n.owners.now;
-      bodies = n.bodies.now;
-      calls = n.calls.now;
-      bundles = n.bundles.now;
+      kept = record {
+        owners = n.owners.now;
+        bodies = n.bodies.now;
+        calls = n.calls.now;
+        bundles = n.shown.now;
+      };
+      marks = n.marks.now;
+      firsts = n.firsts.now;
     } };
 }
 
 // A declared wallet, as a line of the exhibit.
 fn declares(wallet: u64, owner: Option<&Owner>) -> ExhibitLine<'_>
-    ensures line { event_of_line result ≡ declares wallet (option_copied owner.entry) }
-    ensures new { is_marked_new result ≡ true }
+    ensures { told_of result ≡ told_new (declares wallet (option_copied owner.entry)) }
 {
     match owner {
         Some(owner) => ExhibitLine::Declares { wallet, owner },
@@ -49,8 +54,7 @@ fn declares(wallet: u64, owner: Option<&Owner>) -> ExhibitLine<'_>
 
 // A bound body.
 fn binds(wallet: u64, body: Option<&Body>) -> ExhibitLine<'_>
-    ensures line { event_of_line result ≡ binds wallet (option_copied body.entry) }
-    ensures new { is_marked_new result ≡ true }
+    ensures { told_of result ≡ told_new (binds wallet (option_copied body.entry)) }
 {
     match body {
         Some(body) => ExhibitLine::Binds { wallet, body },
@@ -60,8 +64,7 @@ fn binds(wallet: u64, body: Option<&Body>) -> ExhibitLine<'_>
 
 // An accepted call.
 fn joins(call: Option<&RootCall>) -> ExhibitLine<'_>
-    ensures line { event_of_line result ≡ joined (option_copied call.entry) }
-    ensures new { is_marked_new result ≡ true }
+    ensures { told_of result ≡ told_new (joined (option_copied call.entry)) }
 {
     match call {
         Some(call) => ExhibitLine::Joins { call },
@@ -70,64 +73,90 @@ fn joins(call: Option<&RootCall>) -> ExhibitLine<'_>
 }
 
 // An accepted bundle, which is new or was shown before.
-fn shows(bundle: Option<&Bundle>, is_new: bool) -> ExhibitLine<'_>
-    ensures line { event_of_line result ≡ shows (option_copied bundle.entry) }
-    ensures new { is_new ≡ true → is_marked_new result ≡ true }
+fn shows(shown: &Shown, place: usize, is_new: bool) -> ExhibitLine<'_>
+    ensures { told_of result ≡ told_shown (slice_get shown.now place) is_new }
 {
-    match bundle {
+    match shown.get(place) {
         Some(bundle) => ExhibitLine::Shows {
             coin: bundle.coin,
-            openings: bundle.openings.as_slice(),
+            openings: bundle.openings,
             is_new,
         },
         None => ExhibitLine::Other,
     }
 }
 
-// Marks the place as met, and says whether it was not.
-fn meet(met: &mut [bool], place: usize) -> bool
-    ensures new { result ≡ not (is_met met.old place) }
-    ensures met { met.new ≡ set met.old place true }
+// Whether a mark before the one with this number shows the bundle at the place.
+fn was_shown(firsts: &[usize], place: usize, number: usize) -> bool
+    ensures { result ≡ was_shown firsts.now place number }
 {
-    if place >= met.len() {
-        return true;
+    place < firsts.len() && firsts[place] < number
+}
+
+// Notes that the mark with this number shows its bundle, unless one with a lower number does.
+fn note_first(firsts: &mut [usize], number: usize, mark: Mark)
+    ensures { firsts.new ≡ firsts_with firsts.old number mark }
+{
+    if let Mark::Shows { place } = mark {
+        if place < firsts.len() && number < firsts[place] {
+            firsts[place] = number;
+        }
     }
-    let is_new = !met[place];
-    met[place] = true;
-    is_new
+}
+
+/// For each of so many bundles the number of the first mark that shows it; the count of marks where none does.
+pub(crate) fn firsts_of(
+    alloc: Global,
+    marks: &[Mark],
+    bundles: usize,
+) -> Result<Vec<usize>, NoMemory>
+    ensures { IfOk result (λ firsts. AreFirsts marks.now firsts.items) }
+{
+    let mut firsts = Vec::new(alloc);
+    firsts.resize(bundles, marks.len())?;
+    for number in 0..marks.len() {
+        note_first(firsts.as_mut_slice(), number, marks[number]);
+    }
+    Ok(firsts)
+}
+
+// The mark at a place.
+fn mark_at(marks: &[Mark], place: usize) -> Mark
+    requires { place < length marks.now }
+    ensures { slice_get marks.now place ≡ Some result }
+{
+    marks[place]
 }
 
 impl<'a> Named<'a> {
-    // The line of a mark. A bundle is shown as new where its place was not met before.
-    fn line_of(&self, mark: Mark, met: &mut [bool]) -> ExhibitLine<'a>
-        ensures line { event_of_line result ≡ event_of self.now mark }
-        ensures again { IsShownAgain met.old mark result }
-        ensures met { IsMetBy met.old mark met.new }
+    // The line of the mark with this number. A bundle is shown as new where no earlier mark shows it.
+    fn line_of(&self, number: usize, mark: Mark) -> ExhibitLine<'a>
+        ensures { told_of result ≡ told_at self.now.kept self.now.firsts number mark }
     {
         match mark {
             Mark::Declares { wallet, place } => declares(wallet, self.owners.get(place)),
             Mark::Binds { wallet, place } => binds(wallet, self.bodies.get(place)),
             Mark::Joins { place } => joins(self.calls.get(place)),
-            Mark::Shows { place } => shows(self.bundles.get(place), meet(met, place)),
+            Mark::Shows { place } => shows(
+                self.shown,
+                place,
+                !was_shown(self.firsts, place, number),
+            ),
             Mark::Other => ExhibitLine::Other,
         }
     }
+}
 
-    /// The lines of the exhibit that marks stand for. Each bundle is shown as new where its mark is its first.
-    pub(crate) fn lines_of(
-        &self,
-        alloc: Global,
-        marks: &[Mark],
-    ) -> Result<Vec<ExhibitLine<'a>>, NoMemory>
-        ensures marked { IfOk result (λ lines. AreMarked (shown_in lines.items)) }
-        ensures lines { IfOk result (λ lines. map event_of_line lines.items ≡ map (event_of self.now) marks.now) }
-    {
-        let mut lines = Vec::with_capacity(alloc, marks.len())?;
-        let mut met = Vec::new(alloc);
-        met.resize(self.bundles.len(), false)?;
-        for mark in marks {
-            lines.push(self.line_of(*mark, met.as_mut_slice()))?;
-        }
-        Ok(lines)
+impl<'a> ExhibitLines for Named<'a> {
+    ghost use Rattle.run_trace.specs.Meetings.{told_by};
+
+    ghost told = { told_by };
+
+    fn len(&self) -> usize {
+        self.marks.len()
+    }
+
+    fn line(&self, place: usize) -> ExhibitLine<'_> {
+        self.line_of(place, mark_at(self.marks, place))
     }
 }

@@ -1,8 +1,12 @@
-ghost use Rattle.std.specs.Prelude.{◌≡◌, [], true, IfOk, OnOk, IfSome, Some};
+ghost use Rattle.std.specs.Prelude.{◌≡◌, [], length, IfOk, MatchOption, IfSome, Some, None};
 ghost use Rattle.std.specs.List.{slice_get};
 ghost use Rattle.trace_exhibits.specs.Lines.{accepts};
+ghost use Rattle.run_trace.specs.declared.place.ShownPlace.{ShownPlace};
 ghost use Rattle.run_trace.specs.Keeping.{IsAdded};
+ghost use Rattle.run_trace.specs.Marks.{shows};
 
+use super::histories::Histories;
+use super::place::ShownPlace;
 use coin_history::Bundle;
 use plasma_base::NoMemory;
 use plasma_tx::RawOpening;
@@ -10,62 +14,50 @@ use std::alloc::Global;
 use std::collections::HashMap;
 use std::marker::Model;
 
-/// The bundles that nodes accepted, each once, and by coin where they stand.
+/// The bundles that nodes accepted, each once. Those of a coin whose history grows share its openings. By history
+/// and count it has where they stand; no contract speaks of that, since a wrong entry costs memory alone.
 #[derive(Drop)]
 pub(crate) struct Shown {
-    bundles: Vec<Bundle>,
-    places: HashMap<u64, Vec<usize>>,
+    histories: Histories,
+    places: Vec<ShownPlace>,
+    by_count: HashMap<(usize, usize), usize>,
 }
 
 impl Model for Shown {
-    ghost use Rattle.std.specs.Prelude.{List};
+    ghost use Rattle.std.specs.Prelude.{List, map};
+    ghost use Rattle.std.specs.List.{All};
     ghost use Rattle.coin_history.specs.declared.bundle.Bundle.{Bundle};
 
     ghost Value = { List Bundle };
 
-    ghost view = { λ s. s.bundles.items };
+    ghost use Rattle.run_trace.specs.Histories.{bundle_at, IsPlaced};
+
+    ghost view = { λ s. map (bundle_at s.histories) s.places.items };
+
+    // Its histories are there, and long enough.
+    ghost invariant = { λ s. All (IsPlaced s.histories) s.places.items };
 }
 
-// Whether the openings are one.
-fn is_same_opening(one: &RawOpening, other: &RawOpening) -> bool
-    ensures { result ≡ true → one.now ≡ other.now }
-{
-    one.block == other.block && one.bytes.as_slice() == other.bytes.as_slice()
+/// What is shown of a coin, lent.
+#[derive(Clone, Copy)]
+pub(crate) struct ShownBundle<'a> {
+    pub(crate) coin: u64,
+    pub(crate) openings: &'a [RawOpening],
 }
 
-// Whether the openings are the same, one by one.
-fn are_same(openings: &[RawOpening], others: &[RawOpening]) -> bool
-    ensures { result ≡ true → openings.now ≡ others.now }
+// The place at which as much of the same history is shown, if there is one.
+fn place_among(
+    places: &[ShownPlace],
+    by_count: &HashMap<(usize, usize), usize>,
+    wanted: ShownPlace,
+) -> Option<usize>
+    ensures { IfSome result (λ place. (other : ShownPlace) × (slice_get places.now place ≡ Some other)
+        × (other.coin ≡ wanted.coin) × (other.history ≡ wanted.history) × (other.count ≡ wanted.count)) }
 {
-    if openings.len() != others.len() {
-        return false;
-    }
-    for i in 0..openings.len() {
-        if !is_same_opening(&openings[i], &others[i]) {
-            return false;
-        }
-    }
-    true
-}
-
-// Whether the bundles show the same of one coin.
-fn is_same(one: &Bundle, other: &Bundle) -> bool
-    ensures { result ≡ true → accepts one.now.coin one.now.openings ≡ accepts other.now.coin other.now.openings }
-{
-    one.coin == other.coin && are_same(one.openings.as_slice(), other.openings.as_slice())
-}
-
-// The first of these places at which a bundle shows the same.
-fn place_among(bundles: &[Bundle], places: &[usize], bundle: &Bundle) -> Option<usize>
-    ensures { IfSome result (λ place. (other : Bundle) × (slice_get bundles.now place ≡ Some other)
-        × (accepts other.coin other.openings ≡ accepts bundle.now.coin bundle.now.openings)) }
-{
-    for place in places {
-        if let Some(other) = bundles.get(*place) {
-            if is_same(other, bundle) {
-                return Some(*place);
-            }
-        }
+    let place = *by_count.get(&(wanted.history, wanted.count))?;
+    let other = places.get(place)?;
+    if other.coin == wanted.coin && other.history == wanted.history && other.count == wanted.count {
+        return Some(place);
     }
     None
 }
@@ -76,52 +68,54 @@ impl Shown {
         ensures { result ≡ [] }
     {
         Shown {
-            bundles: Vec::new(alloc),
-            places: HashMap::new(alloc),
+            histories: Histories::new(alloc),
+            places: Vec::new(alloc),
+            by_count: HashMap::new(alloc),
         }
     }
 
-    /// The bundles, the oldest first.
-    pub(crate) fn bundles(&self) -> &[Bundle]
-        ensures { result.now ≡ self.now }
+    /// How many bundles there are.
+    pub(crate) fn len(&self) -> usize
+        ensures { result ≡ length self.now }
     {
-        self.bundles.as_slice()
+        self.places.len()
     }
 
-    // The place of a bundle that shows the same, if there is one.
-    fn place_of(&self, bundle: &Bundle) -> Option<usize>
-        ensures { IfSome result (λ place. (other : Bundle) × (slice_get self.now place ≡ Some other)
-            × (accepts other.coin other.openings ≡ accepts bundle.now.coin bundle.now.openings)) }
+    /// The bundle at a place, the oldest at 0.
+    pub(crate) fn get(&self, place: usize) -> Option<ShownBundle<'_>>
+        ensures { MatchOption result (slice_get self.now place ≡ None)
+            (λ shown. shows (slice_get self.now place) ≡ accepts shown.coin shown.openings.now) }
     {
-        match self.places.get(&bundle.coin) {
-            Some(places) => place_among(&self.bundles, places, bundle),
-            None => None,
-        }
-    }
-
-    // Notes that a bundle of the coin stands at the place.
-    fn note_place(&mut self, alloc: Global, coin: u64, place: usize) -> Result<(), NoMemory>
-        ensures { OnOk result (self.new ≡ self.old) }
-    {
-        let mut places = match self.places.remove(&coin) {
-            Some(places) => places,
-            None => Vec::new(alloc),
-        };
-        places.push(place)?;
-        self.places.insert(coin, places)?;
-        Ok(())
+        let shown = self.places.get(place)?;
+        Some(ShownBundle {
+            coin: shown.coin,
+            openings: self.histories.beginning(shown.history, shown.count),
+        })
     }
 
     /// Adds a bundle, unless one that shows the same is there: its place.
     pub(crate) fn add(&mut self, alloc: Global, bundle: Bundle) -> Result<usize, NoMemory>
         ensures { IfOk result (λ place. IsAdded self.old bundle place self.new) }
     {
-        if let Some(place) = self.place_of(&bundle) {
+        let Bundle {
+            coin,
+            tip,
+            openings,
+        } = bundle;
+        let count = openings.as_slice().len();
+        let history = self.histories.hold(alloc, coin, openings)?;
+        let added = ShownPlace {
+            coin,
+            tip,
+            history,
+            count,
+        };
+        if let Some(place) = place_among(&self.places, &self.by_count, added) {
             return Ok(place);
         }
-        let place = self.bundles.len();
-        self.note_place(alloc, bundle.coin, place)?;
-        self.bundles.push(bundle)?;
+        let place = self.places.len();
+        self.by_count.insert((history, count), place)?;
+        self.places.push(added)?;
         Ok(place)
     }
 }

@@ -14,7 +14,7 @@ ghost use Rattle.run_trace.specs.Traces.{no_trace, Tells};
 ghost use Rattle.run_trace.specs.Keeping.{IsShown, IsKept, calls_in};
 
 use super::event::LineEvent;
-use super::exhibiting::Named;
+use super::exhibiting::{Named, firsts_of};
 use super::fact::fact_of;
 use super::mark::Mark;
 use super::shown::Shown;
@@ -194,13 +194,15 @@ impl Trace {
             → Tells tests rules events self.now → log.now.log ≡ log_of events
             → IfOk result (λ exhibit. exhibit ≡ exhibit_of (H.digest_of h.now) log.now.tag events) }
     {
-        let named = Named {
+        let firsts = firsts_of(self.alloc, &self.marks, self.shown.len())?;
+        let lines = Named {
+            marks: &self.marks,
             owners: &self.owners,
             bodies: &self.bodies,
             calls: log.events(),
-            bundles: self.shown.bundles(),
+            shown: &self.shown,
+            firsts: &firsts,
         };
-        let lines = named.lines_of(self.alloc, &self.marks)?;
         exhibit_of(self.alloc, h, &log.tag(), &lines)
     }
 }

@@ -4,6 +4,7 @@ pub mod Added
 pub mod KeptWallets
 pub mod MetLaws
 pub mod Reading
+pub mod Accepted
 pub mod Lined
 pub mod TestedLaws
 pub mod Marks

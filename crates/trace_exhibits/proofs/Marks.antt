@@ -1,18 +1,17 @@
 -- Marks stay right as lines grow.
-use Rattle.std.proofs.Common.{◌≡◌, ◌⊎◌, ℕ, zero, suc, ◌+◌, ◌≤◌, Bool, true, false, List, [], ◌∷◌, ◌++◌, length, map, Option, Some, None, option_map, inl, inr, refl, sym, ap, ◌∙◌, subst, arith}
+use Rattle.std.proofs.Common.{◌≡◌, ◌⊎◌, ℕ, zero, suc, ◌+◌, ◌≤◌, false, List, [], ◌∷◌, ◌++◌, length, map, take, get_or, Option, Some, None, option_map, inl, inr, refl, sym, ap, ◌∙◌, subst, arith}
 use Rattle.std.specs.List.{slice_get}
-use Rattle.std.proofs.lemmas.Bool.{true≢false}
-use Rattle.std.proofs.lemmas.List.{append-nil}
+use Rattle.std.proofs.lemmas.List.{append-nil, take_more}
 use Rattle.std.proofs.lemmas.List.Concat.{flat_map-append}
-use Rattle.std.proofs.lemmas.Option.{slice_get-map, slice_get_within}
+use Rattle.std.proofs.lemmas.Option.{slice_get-map, slice_get_within, get_or_from_slice_get}
 use Rattle.plasma_tx.specs.declared.opening.RawOpening.{RawOpening}
-use Rattle.watch_duty.specs.Laws.{openings_of_call}
-use Rattle.world_rules.specs.Events.{Event, Accepts, coin_of_call}
+use Rattle.world_rules.specs.Events.{Event}
+use Rattle.world_rules.specs.Exhibits.{openings_of, coin_of}
 use Rattle.trace_exhibits.proofs.Lined.{events_of-append, events_of-none, events_of-one}
 use Rattle.trace_exhibits.specs.Opened.{Opened, AreMarked}
-use Rattle.trace_exhibits.specs.Lines.{accepts, read_of, event_of, events_of, opened, shown_of, shown_in}
+use Rattle.trace_exhibits.specs.Told.{ToldLine, opened, shown_of, shown_in, events_of}
+use Rattle.trace_exhibits.specs.Lines.{read_of}
 use Rattle.trace_exhibits.specs.Laws.{NoLinesAreLines, LinesGrow, IsMarked, MarksGrow}
-use Rattle.trace_exhibits.specs.declared.lines.ExhibitLine.{ExhibitLine}
 
 -- ---- places in lists
 
@@ -100,88 +99,62 @@ marks-more shown more marked added number one is old = elim (get-cases shown mor
 
 -- ---- lines
 
-shown-by-line : (lines : List ExhibitLine) (k : ℕ) (other : ExhibitLine) (one : Opened)
+shown-by-line : (lines : List ToldLine) (k : ℕ) (other : ToldLine) (one : Opened)
     → slice_get lines k ≡ Some other → WasShown (shown_of other) one → WasShown (shown_in lines) one
 unfolding shown_in
 shown-by-line [] k other one is was = absurd (let wrong : None ≡ Some other = is in cc wrong)
 shown-by-line (line ∷ lines) zero other one is was =
     let e : line ≡ other = cc is in
     was-left (shown_of line) (shown_in lines) one
-    (subst (λ (l : ExhibitLine). WasShown (shown_of l) one) (sym e) was)
+    (subst (λ (l : ToldLine). WasShown (shown_of l) one) (sym e) was)
 shown-by-line (line ∷ lines) (suc k) other one is was =
     was-right (shown_of line) (shown_in lines) one (shown-by-line lines k other one is was)
 
--- the coin and the openings that an event accepts
-coin_by : Event → ℕ
-coin_by (Accepts w bundle) = bundle.coin
-coin_by event = 0
+-- the openings that an event accepts of its coin
+openings_in : Event → List RawOpening
+openings_in event = openings_of (coin_of event) event
 
-openings_by : Event → List RawOpening
-openings_by (Accepts w bundle) = bundle.openings
-openings_by event = []
-
-accepts_by : Event → Bool
-accepts_by (Accepts w bundle) = true
-accepts_by event = false
-
-at-openings : (c coin : ℕ) (mark is_new : Bool) (os openings : List RawOpening) (j : ℕ) (o : RawOpening)
-    → accepts c os ≡ accepts coin openings → slice_get openings j ≡ Some o
-    → WasShown (map (opened c mark) os) (opened coin is_new o)
-unfolding coin_by openings_by
-at-openings c coin mark is_new os openings j o e is = record {
+-- a line of the same event shows the opening
+shown-again : (other line : ToldLine) (j : ℕ) (o : RawOpening) (one : Opened) → other.event ≡ line.event
+    → slice_get (openings_in line.event) j ≡ Some o → opened (coin_of line.event) line.is_new o ≡ one
+    → WasShown (shown_of other) one
+unfolding openings_in
+shown-again other line j o one same is e = record {
   number = j;
-  other = opened c mark o;
-  at = map-got (opened c mark) os j o (ap (λ all. slice_get all j) (ap openings_by e) ∙ is);
-  coin = ap coin_by e;
-  opening = refl;
+  other = opened (coin_of other.event) other.is_new o;
+  at =
+      map-got (opened (coin_of other.event) other.is_new) (openings_in other.event) j o
+      (ap (λ event. slice_get (openings_in event) j) same ∙ is);
+  coin = ap coin_of same ∙ ap (λ (x : Opened). x.coin) e;
+  opening = ap (λ (x : Opened). x.opening) e;
 }
 
-none-accepted : (event : Event) (coin : ℕ) (openings : List RawOpening) → accepts_by event ≡ false
-    → event ≡ accepts coin openings → ⊥
-unfolding accepts_by
-none-accepted event coin openings none e = true≢false (sym (ap accepts_by e) ∙ none)
-
-by-line : (other : ExhibitLine) (coin : ℕ) (is_new : Bool) (openings : List RawOpening) (j : ℕ) (o : RawOpening)
-    → event_of other ≡ accepts coin openings → slice_get openings j ≡ Some o
-    → WasShown (shown_of other) (opened coin is_new o)
-unfolding accepts_by
-by-line (ExhibitLine.Declares w me) coin is_new openings j o e is =
-    absurd (none-accepted (event_of (ExhibitLine.Declares w me)) coin openings refl e)
-by-line (ExhibitLine.Binds w body) coin is_new openings j o e is =
-    absurd (none-accepted (event_of (ExhibitLine.Binds w body)) coin openings refl e)
-by-line (ExhibitLine.Joins call) coin is_new openings j o e is =
-    at-openings (coin_of_call call.now) coin true is_new (openings_of_call (coin_of_call call.now) call.now) openings j
-    o
-    e is
-by-line (ExhibitLine.Shows c os mark) coin is_new openings j o e is =
-    at-openings c coin mark is_new os.now openings j o e is
-by-line ExhibitLine.Other coin is_new openings j o e is =
-    absurd (none-accepted (event_of ExhibitLine.Other) coin openings refl e)
-
 -- what a line shows that isn't marked as new was shown before
-line-shown : (lines : List ExhibitLine) (line : ExhibitLine) → IsMarked lines line → (j : ℕ) (one : Opened)
+line-shown : (lines : List ToldLine) (line : ToldLine) → IsMarked lines line → (j : ℕ) (one : Opened)
     → slice_get (shown_of line) j ≡ Some one → one.is_new ≡ false → WasShown (shown_in lines) one
-line-shown lines (ExhibitLine.Declares w me) marked j one is old =
-    absurd (let wrong : None ≡ Some one = is in cc wrong)
-line-shown lines (ExhibitLine.Binds w body) marked j one is old =
-    absurd (let wrong : None ≡ Some one = is in cc wrong)
-line-shown lines ExhibitLine.Other marked j one is old = absurd (let wrong : None ≡ Some one = is in cc wrong)
-line-shown lines (ExhibitLine.Joins call) marked j one is old =
-    let got = get-mapped (opened (coin_of_call call.now) true) (openings_of_call (coin_of_call call.now) call.now) j one
-    is in
-    absurd (true≢false (ap (λ (x : Opened). x.is_new) got.2 ∙ old))
-line-shown lines (ExhibitLine.Shows coin openings is_new) marked j one is old =
-    let got = get-mapped (opened coin is_new) openings.now j one is in
+unfolding openings_in
+line-shown lines line marked j one is old =
+    let got = get-mapped (opened (coin_of line.event) line.is_new) (openings_in line.event) j one is in
     let was = marked (ap (λ (x : Opened). x.is_new) got.2 ∙ old) in
-    shown-by-line lines was.0 was.1 one was.2
-    (subst (WasShown (shown_of was.1)) got.2
-    (by-line was.1 coin is_new openings.now j got.0 was.3 got.1))
+    shown-by-line lines was.0 was.1 one was.2 (shown-again was.1 line j got.0 one was.3 got.1 got.2)
 
-shown_in-more : (lines : List ExhibitLine) (line : ExhibitLine)
+shown_in-more : (lines : List ToldLine) (line : ToldLine)
     → shown_in (lines ++ line ∷ []) ≡ shown_in lines ++ shown_of line
 unfolding shown_in
 shown_in-more lines line =
     flat_map-append shown_of lines (line ∷ []) ∙ ap (λ all. shown_in lines ++ all) (append-nil (shown_of line))
+
+pub shown_in-none : shown_in [] ≡ []
+unfolding shown_in
+shown_in-none = refl
+
+-- what the lines up to a number show
+pub shown_in-next : (lines : List ToldLine) (number : ℕ) (line : ToldLine) → slice_get lines number ≡ Some line
+    → shown_in (take (number + 1) lines) ≡ shown_in (take number lines) ++ shown_of line
+shown_in-next lines number line is =
+    ap shown_in (take_more lines number line (slice_get_within lines number line is))
+    ∙ shown_in-more (take number lines) (get_or lines number line)
+    ∙ ap (λ one. shown_in (take number lines) ++ shown_of one) (get_or_from_slice_get lines number line line is)
 
 -- ---- the laws
 
@@ -191,8 +164,8 @@ no-lines = (sym events_of-none, λ number one is old. absurd (let wrong : None �
 
 pub lines-grow : LinesGrow
 lines-grow lines line events event are same =
-    ap (λ first. first ∷ map read_of events) same
-    ∙ ap (λ all. event_of line ∷ all) are
+    ap (λ one. one ∷ map read_of events) same
+    ∙ ap (λ all. line.event ∷ all) are
     ∙ sym (events_of-append lines (line ∷ []) ∙ ap (λ all. all ++ events_of lines) (events_of-one line))
 
 pub marks-grow : MarksGrow

@@ -2,6 +2,7 @@ pub mod Opened
 pub mod Met
 pub mod Ways
 pub mod Strings
+pub mod Told
 pub mod Lines
 pub mod Wallets
 pub mod Tested

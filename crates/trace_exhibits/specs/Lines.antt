@@ -1,11 +1,10 @@
 -- What the lines of a trace are to its exhibit.
-use Rattle.std.specs.Prelude.{◌≡◌, ℕ, Bool, true, List, [], map, reverse}
-use Rattle.std.specs.List.{flat_map}
+use Rattle.std.specs.Prelude.{◌≡◌, ℕ, Bool, true, List, map}
 use Rattle.plasma_tx.specs.declared.call.RootCall.{RootCall}
 use Rattle.plasma_tx.specs.declared.opening.RawOpening.{RawOpening}
 use Rattle.watch_duty.specs.Laws.{openings_of_call}
 use Rattle.world_rules.specs.Events.{Event, Declares, Binds, Joins, Accepts, Guards, TakesBack, Idle, coin_of_call}
-use Rattle.trace_exhibits.specs.Opened.{Opened}
+use Rattle.trace_exhibits.specs.Told.{ToldLine, events_of}
 use Rattle.trace_exhibits.specs.declared.lines.ExhibitLine.{ExhibitLine}
 
 -- some node accepts openings of a coin
@@ -34,24 +33,15 @@ event_of (ExhibitLine.Joins call) = joins call.now
 event_of (ExhibitLine.Shows coin openings is_new) = accepts coin openings.now
 event_of ExhibitLine.Other = Idle
 
--- the events that lines tell, the newest first
-unfoldable pub events_of : List ExhibitLine → List Event
-events_of lines = reverse (map event_of lines)
+-- whether what a line shows is marked as new; so is a line that shows nothing
+abbrev pub is_marked_new : ExhibitLine → Bool
+is_marked_new (ExhibitLine.Shows coin openings is_new) = is_new
+is_marked_new line = true
+
+-- what an exhibit reads of a line
+abbrev pub told_of : ExhibitLine → ToldLine
+told_of line = record { event = event_of line; is_new = is_marked_new line }
 
 -- the lines, the oldest first, tell what an exhibit reads of the events
-abbrev pub AreLines : List ExhibitLine → List Event → Type 0
+abbrev pub AreLines : List ToldLine → List Event → Type 0
 AreLines lines events = map read_of events ≡ events_of lines
-
--- an opening of a coin with its mark
-abbrev pub opened : ℕ → Bool → RawOpening → Opened
-opened coin is_new opening = record { coin = coin; opening = opening; is_new = is_new }
-
--- the openings that a line shows, and those of all lines
-abbrev pub shown_of : ExhibitLine → List Opened
-shown_of (ExhibitLine.Joins call) =
-    map (opened (coin_of_call call.now) true) (openings_of_call (coin_of_call call.now) call.now)
-shown_of (ExhibitLine.Shows coin openings is_new) = map (opened coin is_new) openings.now
-shown_of line = []
-
-unfoldable pub shown_in : List ExhibitLine → List Opened
-shown_in lines = flat_map shown_of lines

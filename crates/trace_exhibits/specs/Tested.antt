@@ -2,7 +2,7 @@
 use Rattle.std.specs.Prelude.{◌≡◌, ℕ, Bool, true, false, List}
 use Rattle.plasma_tx.specs.declared.opening.RawOpening.{RawOpening}
 use Rattle.world_rules.specs.Events.{Event}
-use Rattle.trace_exhibits.specs.Lines.{opened}
+use Rattle.trace_exhibits.specs.Told.{opened}
 use Rattle.trace_exhibits.specs.Met.{is_met}
 use Rattle.trace_exhibits.specs.Wallets.{is_forged_in}
 use Rattle.trace_exhibits.specs.declared.tested.Tested.{Tested}

@@ -9,6 +9,7 @@ use super::forging::leaf_in;
 use super::lines::{ExhibitLine, push_shown};
 use super::shown::ShownOpening;
 use super::tested::Tested;
+use super::told::ExhibitLines;
 use super::wallets::Known;
 use plasma_base::NoMemory;
 use std::alloc::Global;
@@ -16,23 +17,23 @@ use std::alloc::Global;
 /// The number of the first of these lines, the oldest first, that shows a forgery: a leaf with this tag whose
 /// signature is valid under the key of a wallet that an earlier line declares, over a body that no earlier leaf of
 /// it bound. `None` where none does.
-pub fn first_forgery(
+pub fn first_forgery<L: ExhibitLines>(
     alloc: Global,
     tag: &[u8; 32],
-    lines: &[ExhibitLine<'_>],
+    lines: &L,
 ) -> Result<Option<u64>, NoMemory>
-    ensures { IfOk result (λ found. (events : List Event) → AreLines lines.now events
+    ensures { IfOk result (λ found. (events : List Event) → AreLines (L.told lines.now) events
         → found ≡ first_forgery tag.now events) }
 {
     let mut known = Known::new(alloc);
     let mut tested = Tested::new(alloc);
     for number in 0..lines.len() {
-        let line = &lines[number];
-        if shows_forgery(alloc, tag, &known, &mut tested, line)? {
+        let line = lines.line(number);
+        if shows_forgery(alloc, tag, &known, &mut tested, &line)? {
             return Ok(Some(number as u64 + 1));
         }
-        known.add(line)?;
-        tested.pass(line);
+        known.add(&line)?;
+        tested.pass(&line);
     }
     Ok(None)
 }

@@ -13,6 +13,7 @@ mod lines;
 mod met;
 mod shown;
 mod tested;
+mod told;
 mod wallets;
 mod way;
 
@@ -23,3 +24,4 @@ pub use forging::forges;
 pub use laws::{lines_grow, marks_grow};
 pub use lines::ExhibitLine;
 pub use shown::{Clash, ShownOpening};
+pub use told::ExhibitLines;

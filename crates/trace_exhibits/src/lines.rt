@@ -2,9 +2,11 @@ ghost use Rattle.std.specs.Prelude.{◌≡◌, ◌++◌, true, map, OnOk, IfOk};
 ghost use Rattle.plasma_tx.specs.Views.{block_of};
 ghost use Rattle.watch_duty.specs.Laws.{openings_of_call, shown_openings};
 ghost use Rattle.world_rules.specs.Events.{coin_of_call};
-ghost use Rattle.trace_exhibits.specs.Lines.{opened, shown_of, shown_in};
+ghost use Rattle.trace_exhibits.specs.Told.{opened, shown_of, shown_in};
+ghost use Rattle.trace_exhibits.specs.Lines.{told_of};
 
 use super::shown::ShownOpening;
+use super::told::ExhibitLines;
 use plasma_base::NoMemory;
 use plasma_tx::{Body, Owner, RawOpening, RootCall, Shown};
 use std::alloc::Global;
@@ -38,16 +40,16 @@ pub enum ExhibitLine<'a> {
 }
 
 /// The openings that the lines show, in their order.
-#[tactic(auto, unfolding(crate::specs::Lines::shown_in))]
-pub(crate) fn shown_in<'a>(
+pub(crate) fn shown_in<L: ExhibitLines>(
     alloc: Global,
-    lines: &[ExhibitLine<'a>],
-) -> Result<Vec<ShownOpening<'a>>, NoMemory>
-    ensures { IfOk result (λ shown. shown.items ≡ shown_in lines.now) }
+    lines: &L,
+) -> Result<Vec<ShownOpening<'_>>, NoMemory>
+    ensures { IfOk result (λ shown. shown.items ≡ shown_in (L.told lines.now)) }
 {
     let mut shown = Vec::new(alloc);
-    for line in lines {
-        push_shown(line, &mut shown)?;
+    for number in 0..lines.len() {
+        let line = lines.line(number);
+        push_shown(&line, &mut shown)?;
     }
     Ok(shown)
 }
@@ -57,7 +59,7 @@ pub(crate) fn push_shown<'a>(
     line: &ExhibitLine<'a>,
     shown: &mut Vec<ShownOpening<'a>>,
 ) -> Result<(), NoMemory>
-    ensures { OnOk result (shown.new.items ≡ shown.old.items ++ shown_of line.now) }
+    ensures { OnOk result (shown.new.items ≡ shown.old.items ++ shown_of (told_of line.now)) }
 {
     match line {
         ExhibitLine::Joins { call } => push_call(call, shown),

@@ -3,7 +3,8 @@ use Rattle.std.specs.List.{list_any}
 use Rattle.std.proofs.lemmas.Bool.{true≢false}
 use Rattle.std.proofs.lemmas.List.{take_all}
 use Rattle.watch_duty.proofs.Members.{any-has, contains-has}
-use Rattle.trace_exhibits.specs.Lines.{shown_of}
+use Rattle.trace_exhibits.specs.Told.{shown_of}
+use Rattle.trace_exhibits.specs.Lines.{told_of}
 use Rattle.trace_exhibits.specs.Wallets.{is_forged_in}
 use Rattle.trace_exhibits.proofs.Lined.{line-forges}
 use Rattle.trace_exhibits.proofs.forgeries.shows_forgery.Goals as goal
@@ -14,12 +15,12 @@ returns-then-branch c = λ events keeps tested.
     let test = is_forged_in c.args.tag.now events in
     let items = c.deref-one-items.result.now in
     let all = c.deref-one-items.ensures.value ∙ c.in_ok-push_shown.ensures
-    ∙ ap (λ front. front ++ shown_of line) c.new-shown.ensures.items in
+    ∙ ap (λ front. front ++ shown_of (told_of line)) c.new-shown.ensures.items in
     let found = any-has test items c.one-item.result
     (contains-has items c.one-item.result (c.loop-one.one-index, c.loop-one-test.true, sym c.one-item.is))
     (sym (c.in_ok-is_forged.ensures events keeps (c.loop-one.invariant events keeps tested).1).0
     ∙ c.if-branch.true) in (
-      sym (line-forges c.args.tag.now events line ∙ ap (list_any test) (sym all) ∙ found),
+      sym (line-forges c.args.tag.now events (told_of line) ∙ ap (list_any test) (sym all) ∙ found),
       λ wrong. absurd (true≢false wrong),
     )
 
@@ -29,9 +30,9 @@ returns c = λ events keeps tested.
     let test = is_forged_in c.args.tag.now events in
     let items = c.deref-one-items.result.now in
     let all = c.deref-one-items.ensures.value ∙ c.in_ok-push_shown.ensures
-    ∙ ap (λ front. front ++ shown_of line) c.new-shown.ensures.items in
+    ∙ ap (λ front. front ++ shown_of (told_of line)) c.new-shown.ensures.items in
     let kept = c.loop-one.invariant events keeps tested in (
-      sym (line-forges c.args.tag.now events line ∙ ap (list_any test) (sym all)
+      sym (line-forges c.args.tag.now events (told_of line) ∙ ap (list_any test) (sym all)
           ∙ ap (list_any test) (sym (take_all c.loop-one.one-index items c.loop-one-test.false))
           ∙ kept.0),
       λ _. kept.1,

@@ -1,5 +1,5 @@
 use Rattle.std.proofs.Common.{◌≡◌, ◌++◌, map, take}
-use Rattle.trace_exhibits.specs.Lines.{opened}
+use Rattle.trace_exhibits.specs.Told.{opened}
 use Rattle.trace_exhibits.proofs.lines.push_openings.Given as goal
 
 abbrev pub invariant-loop-opening : goal.invariant-loop-opening

@@ -1,4 +1,4 @@
-use Rattle.trace_exhibits.specs.Lines.{opened}
+use Rattle.trace_exhibits.specs.Told.{opened}
 use Rattle.trace_exhibits.proofs.TestedLaws.{still-none}
 use Rattle.trace_exhibits.proofs.tested.Tested.pass.Goals as goal
 
