@@ -16,6 +16,7 @@ use Rattle.plasma_tx.specs.Views.{blocks}
 use Rattle.plasma_tx.proofs.Parts.{length-range}
 use Rattle.node_journal.specs.Effect.{first_cause}
 use Rattle.node_journal.specs.Role.{are_of}
+use Rattle.node_journal.proofs.Lives.{itself}
 use Rattle.leaf_journal.specs.Records.{leaf_records_of, may_follow_of, binding_record, is_marked, marker, messages_of}
 use Rattle.leaf_journal.proofs.Binding.{binding_follows}
 use Rattle.leaf_journal.proofs.Form.{all_same, one_more}
@@ -36,8 +37,10 @@ use Rattle.node_lines.specs.declared.operator_line.OperatorLine.{OperatorLine}
 use Rattle.node_answers.specs.declared.operator.OperatorAsk.{OperatorAsk}
 use Rattle.node_answers.specs.Answers.{operator_ask}
 use Rattle.node_answers.specs.Desks.{desk_records, secret_of, keyed, desk_outcome}
+use Rattle.node_roles.specs.Roles.{wallet_records, records_of_desk, desk_commands}
 use Rattle.node_lives.specs.Standing.{desk_leaves, are_promised}
-use Rattle.node_lives.proofs.Seeds.{HasSeed, seed-is}
+use Rattle.node_lives.proofs.Seeds.{HasSeed, seed-on, seed-is}
+use Rattle.node_lives.proofs.Own.{more-on, Growing}
 
 -- ---- the leaves of the key
 
@@ -102,16 +105,16 @@ pub record IsDesk (seed : List ℕ) (desk : WalletRecords) : Type 0 where
   pub leaves : are_promised seed desk.leaves ≡ true
 
 -- with what a command adds both are so still
-pub record Grows (seed : List ℕ) (desk : WalletRecords) (note leaf : Option (List ℕ)) : Type 0 where
-  pub notes : are_of operator_kinds (with_record desk.notes note) ≡ true
-  pub leaves : are_promised seed (with_record desk.leaves leaf) ≡ true
+record GrowsBy (seed : List ℕ) (desk : WalletRecords) (note leaf : Option (List ℕ)) : Type 0 where
+  notes : are_of operator_kinds (with_record desk.notes note) ≡ true
+  leaves : are_promised seed (with_record desk.leaves leaf) ≡ true
 
 module _ (seed : List ℕ) (dig : List ℕ → List ℕ) (digests : (bytes : List ℕ) → length (dig bytes) ≡ 32)
     (log : List RootCall) (desk : WalletRecords) (is : IsDesk seed desk) where
   -- a command that adds no leaf
   leafless : (note leaf : Option (List ℕ)) → are_of operator_kinds (with_record desk.notes note) ≡ true
-      → leaf ≡ None → Grows seed desk note leaf
-  leafless note leaf notes none = record {
+      → leaf ≡ None → GrowsBy seed desk note leaf
+  leafless added leaf notes none = record {
     notes = notes;
     leaves =
         ap (λ (l : Option (List ℕ)). are_promised seed (with_record desk.leaves l)) none ∙ is.leaves;
@@ -124,7 +127,7 @@ module _ (seed : List ℕ) (dig : List ℕ → List ℕ) (digests : (bytes : Lis
       ap is_ok (one_more is_promise (desk_leaves seed) desk.leaves body (promised-all seed desk.leaves is.leaves) may)
 
   migration-grows : (marked : Bool) → is_marked desk.leaves ≡ marked
-      → Grows seed desk None (if marked then None else Some marker)
+      → GrowsBy seed desk None (if marked then None else Some marker)
   migration-grows true there = leafless None None is.notes refl
   migration-grows false there = record {
     notes = is.notes;
@@ -170,16 +173,16 @@ module _ (seed : List ℕ) (dig : List ℕ → List ℕ) (digests : (bytes : Lis
     bound-or none (Err why) answered = is.leaves
     bound-or none (Ok coin) answered = leaf-bound none coin (sym answered)
 
-    issue-grows : Grows seed desk effect.note effect.leaf
+    issue-grows : GrowsBy seed desk effect.note effect.leaf
     issue-grows = by (first_cause causes) refl
       where
-        by : (cause : Option IssueRefusal) → first_cause causes ≡ cause → Grows seed desk effect.note effect.leaf
+        by : (cause : Option IssueRefusal) → first_cause causes ≡ cause → GrowsBy seed desk effect.note effect.leaf
         by (Some why) found =
-            subst (λ (e : IssueEffect). Grows seed desk e.note e.leaf)
+            subst (λ (e : IssueEffect). GrowsBy seed desk e.note e.leaf)
             (sym (effect-refused dig dig secret desk.notes desk.leaves log bytes due why found))
             (leafless None None is.notes refl)
         by None none =
-            subst (λ (e : IssueEffect). Grows seed desk e.note e.leaf)
+            subst (λ (e : IssueEffect). GrowsBy seed desk e.note e.leaf)
             (sym (effect-issued dig dig secret desk.notes desk.leaves log bytes due none))
             (record {
               notes = offer-keeps;
@@ -191,7 +194,7 @@ module _ (seed : List ℕ) (dig : List ℕ → List ℕ) (digests : (bytes : Lis
       ap (λ (s : Option (List ℕ)). desk_secret (unwrap_or s [])) (seed-is (Some seed) desk.notes is.has)
 
   ask-grows : (ask : OperatorAsk)
-      → Grows seed desk (keyed dig log (desk_records desk.notes desk.leaves) ask).note
+      → GrowsBy seed desk (keyed dig log (desk_records desk.notes desk.leaves) ask).note
       (keyed dig log (desk_records desk.notes desk.leaves) ask).leaf
   ask-grows (OperatorAsk.Order order) =
       leafless (operator_does dig log desk.notes order).note (operator_does dig log desk.notes order).leaf
@@ -200,8 +203,21 @@ module _ (seed : List ℕ) (dig : List ℕ → List ℕ) (digests : (bytes : Lis
       issue-grows (secret_of desk.notes) secret-same transfer due
   ask-grows OperatorAsk.Migrate = migration-grows (is_marked desk.leaves) refl
 
-  pub outcome-grows : (command : OperatorLine)
-      → Grows seed desk (desk_outcome dig log (desk_records desk.notes desk.leaves) command).note
+  outcome-grows : (command : OperatorLine)
+      → GrowsBy seed desk (desk_outcome dig log (desk_records desk.notes desk.leaves) command).note
       (desk_outcome dig log (desk_records desk.notes desk.leaves) command).leaf
   unfolding desk_outcome
   outcome-grows command = ask-grows (operator_ask command)
+
+pub desk-grows : (seed : List ℕ) (dig : List ℕ → List ℕ) → ((bytes : List ℕ) → length (dig bytes) ≡ 32)
+    → Growing dig (IsDesk seed) desk_commands
+desk-grows seed dig digests log parts line command few spells is =
+    let desk = wallet_records parts in
+    let outcome = desk_outcome dig log (records_of_desk parts) command in
+    let grows = outcome-grows seed dig digests log desk is command in
+    let has = seed-on (Some seed) desk.notes (with_record desk.notes outcome.note) is.has
+    (more-on desk.notes desk.notes outcome.note (itself desk.notes)) in
+    record {
+      noted = record { notes = grows.notes; has = has; leaves = is.leaves };
+      both = record { notes = grows.notes; has = has; leaves = grows.leaves };
+    }

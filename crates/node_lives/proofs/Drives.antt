@@ -12,7 +12,7 @@ use Rattle.node_journal.specs.Begin.{journal_steps, init_steps}
 use Rattle.node_journal.proofs.Crash.{settled_now}
 use Rattle.node_journal.proofs.Rest.{appends_settle}
 use Rattle.leaf_journal.specs.Records.{marker}
-use Rattle.node_lives.specs.Samples.{Drive, told, foretold, met, identity}
+use Rattle.node_lives.specs.Samples.{Drive, told, foretold, identity}
 
 -- behind device calls that went so
 abbrev pub after : Course → (List ℕ → List Step) → Bool → Drive → Drive

@@ -3,29 +3,22 @@
 use Rattle.std.proofs.Common.{◌≡◌, ℕ, List, Option, Some, Result, Ok, Err, ap, inl, inr}
 use Rattle.std.specs.Prelude.{OnOk}
 use Rattle.crash_disk.specs.Disk.{History, content, FaultPlan}
-use Rattle.crash_disk.specs.Calls.{passed, failed_after, stopped_after}
-use Rattle.plasma_tx.specs.declared.call.RootCall.{RootCall}
-use Rattle.node_journal.specs.Journal.{RefusesOpen}
 use Rattle.node_journal.specs.Role.{role_in}
-use Rattle.node_journal.specs.declared.refusal.JournalRefusal.{JournalRefusal}
-use Rattle.node_journal.specs.declared.refusal.JournalRefusal.TheVariants.{AlreadyMade as MadeRefusal, NotJournal as PlaceRefusal, DeviceFault as FaultRefusal, Closed as ClosedRefusal, RecordTooLong as LongRefusal, NoMemory as MemoryRefusal}
 use Rattle.node_journal.specs.declared.refusal.InitRefusal.{InitRefusal}
 use Rattle.node_replies.specs.Roles.{Role, Wallet, Watcher, Operator}
 use Rattle.run_endings.specs.declared.status.Status.{Status}
 use Rattle.run_endings.specs.declared.status.Status.TheVariants.{Done, NoMemory}
 use Rattle.run_endings.specs.Outputs.{EndsAs}
-use Rattle.node_rules.specs.Watcher.{who_is as watcher_is}
-use Rattle.node_lines.specs.Grammar.{watcher_line_in}
-use Rattle.node_answers.specs.Answers.{Outcome, watcher_outcome}
 use Rattle.node_runs.specs.Endings.{init_output}
 use Rattle.node_runs.specs.Sessions.{Outside}
-use Rattle.node_runs.specs.Runs.{RunsNotes, RunsWatcher, RunsWallet}
+use Rattle.node_runs.specs.Runs.{RunsWatcher, RunsWallet}
 use Rattle.node_runs.specs.Operators.{RunsOperator}
 use Rattle.node_lives.specs.Disks.{Pair}
 use Rattle.node_lives.specs.Calls.{Begun, NotesAlone, BothDisks, Asked, ToBegin, ToRun, ToUseNoDisk, BeginsAs, RunsAs, DoesAsked, Starves}
 use Rattle.node_lives.specs.Standing.{kinds_of}
-use Rattle.node_lives.proofs.Quiet.{Quietly, quiet-same, opening-quiet}
+use Rattle.node_lives.proofs.Quiet.{Quietly, quiet-same}
 use Rattle.node_lives.proofs.Taken.{AllRecorded, init-taken, pair-taken}
+use Rattle.node_lives.proofs.Opens.{refused-quiet}
 use Rattle.node_lives.proofs.Statuses.{ends-other, init-done}
 
 never-ok : (answer : Result Unit InitRefusal) → OnOk answer ⊥ → answer ≡ Ok tt → ⊥
@@ -52,16 +45,6 @@ module _ {D : Type 0} (told : D → Option History) (plan : D → Option FaultPl
     leaves = ap (λ (p : Pair D). p.leaves) is;
   }
 
-  -- an opening that was refused
-  pub refused-quiet : (read : List ℕ → Result (List (List ℕ)) ℕ) (old new : D) (why : JournalRefusal)
-      → RefusesOpen read told plan old why new → Quietly (told old) (told new)
-  refused-quiet read old new FaultRefusal is = opening-quiet (failed_after is.0) (told old) (told new) is.1.calls
-  refused-quiet read old new MemoryRefusal is = opening-quiet (stopped_after is.0) (told old) (told new) is.2.calls
-  refused-quiet read old new (PlaceRefusal place) is = opening-quiet passed (told old) (told new) is.0.calls
-  refused-quiet read old new ClosedRefusal is = absurd is
-  refused-quiet read old new (LongRefusal count) is = absurd is
-  refused-quiet read old new (MadeRefusal count) is = absurd is
-
   -- over notes that keep records of no other role
   module _ (role : Role) (old new : Pair D) (before : History) (is : told old.notes ≡ Some before)
       (all : AllRecorded (told old.notes))
@@ -83,38 +66,27 @@ module _ {D : Type 0} (told : D → Option History) (plan : D → Option FaultPl
           record { notes = taken.1; leaves = same },
         )
 
-    notes-quiet : {L : Type 0} (other : Role) (tag : List (List ℕ) → List ℕ) (command_in : List ℕ → Option L)
-        (outcome : (List ℕ → List ℕ) → List RootCall → List (List ℕ) → L → Outcome) (outside : Outside)
-        (status : Status) → (other ≡ role → ⊥)
-        → RunsNotes told plan faults dig (role_in (kinds_of dig other)) tag command_in outcome old.notes new.notes
-        outside (Unit {0}) status
-        → Quietly (told old.notes) (told new.notes)
-    notes-quiet other tag command_in outcome outside status never (inl (opened, opens, session)) =
-        absurd (apart other never opened.records (opens.kept before is))
-    notes-quiet other tag command_in outcome outside status never (inr (why, refuses, refused)) =
-        refused-quiet (role_in (kinds_of dig other)) old.notes new.notes why refuses.refused
-
     runs-quiet : (other : Role) (outside : Outside) (status : Status) → (other ≡ role → ⊥)
         → RunsAs told plan faults dig other old new outside status → QuietBoth old new
     unfolding RunsWatcher RunsOperator RunsWallet
     runs-quiet Wallet outside status never (inl (opened, opens, session)) =
         absurd (apart Wallet never opened.records.notes (opens.opens_notes.kept before is))
     runs-quiet Wallet outside status never (inr (why, inl (refuses, same), refused)) = record {
-      notes = refused-quiet (role_in (kinds_of dig Wallet)) old.notes new.notes why refuses.refused;
+      notes = refused-quiet told plan (role_in (kinds_of dig Wallet)) old.notes new.notes why refuses.refused;
       leaves = same;
     }
     runs-quiet Wallet outside status never (inr (why, inr (opened, opens, refuses), refused)) =
         absurd (apart Wallet never opened.records (opens.kept before is))
-    runs-quiet Watcher outside status never (runs, same) =
-        record {
-          notes = notes-quiet Watcher (λ records. (watcher_is records).tag) watcher_line_in watcher_outcome
-              outside status never runs;
-          leaves = same;
-        }
+    runs-quiet Watcher outside status never (inl (opened, opens, session), same) =
+        absurd (apart Watcher never opened.records (opens.kept before is))
+    runs-quiet Watcher outside status never (inr (why, refuses, refused), same) = record {
+      notes = refused-quiet told plan (role_in (kinds_of dig Watcher)) old.notes new.notes why refuses.refused;
+      leaves = same;
+    }
     runs-quiet Operator outside status never (inl (opened, opens, behind)) =
         absurd (apart Operator never opened.records (opens.kept before is))
-    runs-quiet Operator outside status never (inr (why, refuses, same, refused)) = record {
-      notes = refused-quiet (role_in (kinds_of dig Operator)) old.notes new.notes why refuses.refused;
+    runs-quiet Operator outside status never (inr (why, (refuses, same), refused)) = record {
+      notes = refused-quiet told plan (role_in (kinds_of dig Operator)) old.notes new.notes why refuses.refused;
       leaves = same;
     }
 

@@ -28,10 +28,10 @@ use Rattle.node_lines.specs.declared.wallet_line.WalletLine.{WalletLine}
 use Rattle.node_lines.specs.Grammar.{IsWalletLine}
 use Rattle.node_answers.specs.declared.wallet.WalletAsk.{WalletAsk}
 use Rattle.node_answers.specs.Answers.{wallet_ask}
-use Rattle.node_roles.specs.Records.{with_either_record}
 use Rattle.line_forms.specs.Forms.{IsOptional}
 use Rattle.line_forms.specs.Tokens.{number}
 use Rattle.node_lives.specs.Standing.{GoOn}
+use Rattle.node_lives.proofs.Own.{with_added}
 use Rattle.node_lives.proofs.WalletOrders.{IsGood}
 
 -- the bytes are those that a wallet gives out of the message that leaf q binds
@@ -107,7 +107,7 @@ module _ (dig : List ℕ → List ℕ) (log : List RootCall) (wallet : WalletRec
   -- what an order gives out by a leaf
   abbrev GivesLeaf : Doing → Type 0
   GivesLeaf doing = (q : ℕ) → doing.response.reply ≡ Reply.Sent q
-      → IsOfLeaf (with_either_record wallet doing.leaf doing.note) q doing.response.made
+      → IsOfLeaf (with_added wallet doing.note doing.leaf) q doing.response.made
 
   -- an order that isn't answered with one
   other-gives : {A : Type 0} (give : A → Response) → ((done : A) (q : ℕ) → (give done).reply ≡ Reply.Sent q → ⊥)
@@ -115,7 +115,7 @@ module _ (dig : List ℕ → List ℕ) (log : List RootCall) (wallet : WalletRec
   other-gives give never effect q = by effect.answer
     where
       by : (answer : Result _ WalletRefusal) → (answered wallet_cause give answer).reply ≡ Reply.Sent q
-          → IsOfLeaf (with_either_record wallet effect.leaf effect.note) q (answered wallet_cause give answer).made
+          → IsOfLeaf (with_added wallet effect.note effect.leaf) q (answered wallet_cause give answer).made
       by (Ok done) is = absurd (never done q is)
       by (Err why) is = absurd (cc is)
 

@@ -12,13 +12,14 @@ use Rattle.node_lines.specs.declared.wallet_line.WalletLine.{WalletLine}
 use Rattle.node_lines.specs.Grammar.{wallet_line_in}
 use Rattle.node_answers.specs.declared.wallet.WalletAsk.{WalletAsk}
 use Rattle.node_answers.specs.Answers.{wallet_ask}
-use Rattle.node_roles.specs.Notes.{NodeAt}
-use Rattle.node_roles.specs.Wallets.{WalletAt}
+use Rattle.node_roles.specs.Notes.{NotesAt}
+use Rattle.node_roles.specs.Nodes.{NodeAt}
+use Rattle.node_roles.specs.Roles.{wallet_parts, wallet_commands}
 use Rattle.node_sessions.specs.Sessions.{SessionState, begun, commanded}
 use Rattle.streamed_lines.specs.Streams.{Stream}
 use Rattle.streamed_lines.specs.Reading.{next_text}
 use Rattle.node_runs.specs.Sessions.{Outside, Begins as BeginsLines}
-use Rattle.node_runs.specs.Runs.{RunsWallet, wallet_rules, wallet_found}
+use Rattle.node_runs.specs.Runs.{RunsWallet, node_rules, node_found}
 use Rattle.node_lives.specs.Disks.{Pair, BothTell}
 use Rattle.node_lives.specs.Calls.{Asked, ToBegin, ToRun, ToUseNoDisk, RunsAs, DoesAsked, Starves, Call}
 use Rattle.node_lives.specs.Lives.{IsLife}
@@ -26,31 +27,24 @@ use Rattle.node_lives.specs.Standing.{identity_alone, GoOn, Stand}
 use Rattle.node_lives.specs.Answered.{WalletRan, ran_of, lines_answered, wallet_ran, wallet_ran_by, wallet_ran_in, gives_at, GivesOut}
 use Rattle.node_lives.specs.Laws.{Begins, LeavesGiveOutOneMessage}
 use Rattle.node_lives.proofs.WalletOrders.{IsGood}
-use Rattle.node_lives.proofs.OwnWallet.{opened-own}
-use Rattle.node_lives.proofs.LeftWallet.{left-stays, anew}
+use Rattle.node_lives.proofs.OwnWallet.{wallet-leaves, opened-own}
 use Rattle.node_lives.proofs.LeafTexts.{IsOfLeaf, leaf-stays, leaf-one}
 use Rattle.node_lives.proofs.GivenOut.{same-who, session-gives}
 use Rattle.node_lives.proofs.Begun.{begun-stands}
-use Rattle.node_lives.proofs.Stays.{further}
-use Rattle.node_lives.proofs.Life.{tells-some, StandsAt, stands-on, newest, lies-stand, lie-behind, call-keeps}
+use Rattle.node_lives.proofs.Opens.{tells-some}
+use Rattle.node_lives.proofs.Life.{StandsAt, stands-on, newest, lies-stand, lie-behind, call-keeps}
 
 contains-cons : {X : Type 0} (x : X) (xs : List X) (y : X) → Contains (x ∷ xs) y → (x ≡ y) ⊎ Contains xs y
 contains-cons x xs y (zero, within, is) = inl is
 contains-cons x xs y (suc k, within, is) = inr (k, omega (arith, within), is)
 
-both-on : (first old now : WalletRecords) → GoOn first old → GoOn old now → GoOn first now
-both-on first old now on more = record {
-  notes = further first.notes old.notes now.notes on.notes more.notes;
-  leaves = further first.leaves old.leaves now.leaves on.leaves more.leaves;
-}
-
 module _ {D : Type 0} (told : D → Option History) (plan : D → Option FaultPlan) (faults : D → ℕ)
     (dig : List ℕ → List ℕ) where
   -- what a run gave out, as `GivesOut`
   record GivesIn (ran : WalletRan D) (q : ℕ) (made : List ℕ) : Type 0 where
-    before : Stream (SessionState (NodeAt WalletAt))
-    lines : BeginsLines (wallet_rules told plan faults dig ran.opened)
-        (begun (wallet_found told plan faults dig ran.opened)) ran.lines.bytes before
+    before : Stream (SessionState (NodeAt NotesAt))
+    lines : BeginsLines (node_rules told plan faults dig wallet_commands (wallet_parts ran.opened))
+        (begun (node_found told plan faults dig (wallet_parts ran.opened))) ran.lines.bytes before
     answered : before.count < ran.lines.stream.count
     line : WalletLine
     spelled : commanded wallet_line_in before.run (next_text ran.lines.bytes before) ≡ Some line
@@ -90,22 +84,19 @@ module _ {D : Type 0} (told : D → Option History) (plan : D → Option FaultPl
   run-leaves first old new outside status tells stand (inl (opened, opens, session)) one is =
       let n = tells-some (told old.notes) tells.0 in
       let l = tells-some (told old.leaves) tells.1 in
-      let own = opened-own dig first told plan faults old.notes old.leaves new.notes new.leaves outside (Unit {0})
-      status
-      n.0 l.0 n.1 l.1 (stand n.0 n.1 l.0 l.1) opened opens in
-      let here = anew dig first _ own in
-      let stays = left-stays dig told plan faults old.notes old.leaves new.notes new.leaves outside (Unit {0}) status
-      opened
-      here session in
+      let own = opened-own dig told plan faults first old.notes old.leaves n.0 l.0 n.1 l.1 (stand n.0 n.1 l.0 l.1)
+      opened opens in
+      let leaves = wallet-leaves dig told faults new.notes new.leaves plan opened outside (Unit {0}) status first own
+      session in
       let ran : WalletRan D = record { opened = opened; lines = lines_answered session } in
       let same : ran ≡ one = cc is in
       subst (LeafRun first new) same (record {
-        on = both-on first opened.records (ran_of ran).left own.on stays.1;
-        left = stays.0;
-        good = stays.2;
+        on = leaves.own.on;
+        left = leaves.stays;
+        good = leaves.own.good;
         gives =
             λ q made g. subst (IsOfLeaf (ran_of ran).left q) g.made_is
-            (session-gives told plan faults dig new.notes new.leaves outside (Unit {0}) status opened here session
+            (session-gives told plan faults dig new.notes new.leaves outside (Unit {0}) status opened first own session
             g.before g.lines g.answered g.line g.spelled g.order g.ordered q g.reply);
       })
   run-leaves first old new outside status tells stand (inr refused) one is = absurd (cc is)

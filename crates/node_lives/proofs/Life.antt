@@ -1,46 +1,34 @@
 -- What stands on a node's disks stands behind each later call.
-use Rattle.std.proofs.Common.{◌≡◌, ◌⊎◌, ℕ, true, List, [], ◌∷◌, ◌++◌, Option, Some, None, is_some, refl, sym, ap, ◌∙◌, subst, inl, inr}
+use Rattle.std.proofs.Common.{◌≡◌, ◌⊎◌, ℕ, true, List, [], ◌∷◌, ◌++◌, Option, Some, None, refl, sym, ap, ◌∙◌, subst, inl, inr}
 use Rattle.std.specs.List.{All, AllByRecursion}
 use Rattle.std.proofs.lemmas.List.Elements.{All-from_recursion, All-weaker}
 use Rattle.crash_disk.specs.Disk.{History, fresh_history, content, MayLeave, FaultPlan}
 use Rattle.crash_disk.proofs.Left.{content_may_be_left, fresh_disk_leaves_itself}
 use Rattle.node_journal.specs.Journal.{Keeps}
-use Rattle.node_journal.specs.Notes.{NotesState, Opened}
-use Rattle.node_journal.specs.Role.{are_of, role_in}
+use Rattle.node_journal.specs.Role.{are_of}
 use Rattle.node_journal.proofs.Lives.{in_keeps}
 use Rattle.node_rules.specs.Wallet.{WalletRecords}
 use Rattle.node_rules.proofs.WalletGrow.{wallet-parts}
 use Rattle.node_replies.specs.Roles.{Role, Wallet, Watcher, Operator}
 use Rattle.run_endings.specs.declared.status.Status.{Status}
 use Rattle.run_endings.specs.declared.status.Status.TheVariants.{Done, NotJournal}
-use Rattle.node_rules.specs.Watcher.{who_is as watcher_is}
 use Rattle.operator_rules.specs.Records.{who_is}
-use Rattle.node_lines.specs.Grammar.{watcher_line_in, operator_line_in}
-use Rattle.node_answers.specs.Answers.{watcher_outcome, operator_outcome}
 use Rattle.node_runs.specs.Sessions.{Outside}
-use Rattle.node_runs.specs.Runs.{RunsWatcher}
-use Rattle.node_runs.specs.Operators.{operator_tag}
 use Rattle.node_lives.specs.Disks.{Pair}
-use Rattle.node_lives.specs.Calls.{Begun, Asked, ToBegin, ToRun, ToUseNoDisk, RunsAs, DoesAsked, Starves, Call}
+use Rattle.node_lives.specs.Calls.{Begun, Asked, ToBegin, ToRun, ToUseNoDisk, DoesAsked, Starves, Call}
 use Rattle.node_lives.specs.Disks.{Lies, Stays, Crashed, BothLie, BothTell}
 use Rattle.node_lives.specs.Lives.{LieBehind, IsLife}
-use Rattle.node_lives.specs.Standing.{identity_alone, HasDigests, kinds_of, LeavesStay, Stand}
+use Rattle.node_lives.specs.Standing.{identity_alone, kinds_of, LeavesStay, Stand}
 use Rattle.node_lives.specs.Laws.{FindsTheNode, BegunNodesStay}
 use Rattle.node_lives.proofs.Quiet.{LeavesNoMore}
 use Rattle.node_lives.proofs.Taken.{AllRecorded}
 use Rattle.node_lives.proofs.Stays.{quiet-stays}
 use Rattle.node_lives.proofs.Roles.{role-recorded, none-other}
 use Rattle.node_lives.proofs.Foreign.{QuietBoth, asked-quiet, starves-quiet}
-use Rattle.node_lives.proofs.Seeds.{HasSeed, seed-on, seed-is, Seeded, alone-seeded, RunsSeeded, seeded-runs, keyless-runs}
-use Rattle.node_lives.proofs.RoleKept.{watcher-kept, operator-kept}
-use Rattle.node_lives.proofs.OwnNotes.{own-stays as own-notes-stay, opened-own}
-use Rattle.node_lives.proofs.OwnWallet.{own-stays as own-wallet-stays}
-use Rattle.node_lives.proofs.OwnDesk.{own-stays as own-desk-stays}
+use Rattle.node_lives.proofs.Seeds.{Seeded, alone-seeded}
+use Rattle.node_lives.proofs.Opens.{tells-some}
+use Rattle.node_lives.proofs.OwnRuns.{run-on}
 use Rattle.node_lives.proofs.Begun.{begun-stands}
-
-pub tells-some : {T : Type 0} (told : Option T) → is_some told ≡ true → (x : T) × (told ≡ Some x)
-tells-some None is = absurd (cc is)
-tells-some (Some x) is = (x, refl)
 
 -- the call runs a node of the role, or it doesn't
 own-run : (asked : Asked) (role : Role) → (asked ≡ ToRun role) ⊎ (asked ≡ ToRun role → ⊥)
@@ -179,73 +167,6 @@ module _ {D : Type 0} (told : D → Option History) (plan : D → Option FaultPl
           stands = quiet-stand role first old new tells quiet.1 stand;
         }
 
-  -- the notes of an operator are opened with its seed
-  pub opened-has : (seed : Option (List ℕ)) (first : WalletRecords) (old new : Pair D) (outside : Outside)
-      (status : Status) → HasSeed seed first.notes → BothTell told old → Stand dig told Operator first old
-      → (opened : NotesState D) → Opened told plan faults (role_in (kinds_of dig Operator)) old.notes opened
-      → HasSeed seed opened.records
-  opened-has seed first old new outside status has tells stand opened opens =
-      let n = tells-some (told old.notes) tells.0 in
-      seed-on seed first.notes opened.records has
-      (opened-own dig (kinds_of dig Operator) operator_tag operator_line_in operator_outcome (operator-kept dig)
-      first.notes told plan faults old.notes new.notes outside (Unit {0}) status n.0 n.1 (stand.0 n.0 n.1) opened
-      opens).on
-
-  module _ (first : WalletRecords) (old new : Pair D) (outside : Outside) (status : Status)
-      (tells : BothTell told old) (stand : Stand dig told Operator first old) where
-    operator-keeps : (seed : Option (List ℕ)) → HasSeed seed first.notes → HasDigests dig seed
-        → RunsSeeded told plan faults dig old.notes old.leaves new.notes new.leaves outside (Unit {0}) status seed
-        → (status ≡ NotJournal → ⊥) × Stand dig told Operator first new
-    operator-keeps None has digests runs =
-        let n = tells-some (told old.notes) tells.0 in
-        let alone = keyless-runs told plan faults dig old.notes old.leaves new.notes new.leaves outside (Unit {0})
-        status runs in
-        let kept = own-notes-stay dig (kinds_of dig Operator) operator_tag operator_line_in operator_outcome
-        (operator-kept dig) first.notes told plan faults old.notes new.notes outside (Unit {0}) status n.0 n.1
-        (stand.0 n.0 n.1) alone.0 in (
-          kept.0,
-          (
-            kept.1,
-            subst (λ (s : Option (List ℕ)). LeavesStay dig told s first.leaves new.leaves)
-                (sym (seed-is None first.notes has)) tt,
-          ),
-        )
-    operator-keeps (Some seed) has digests runs =
-        let n = tells-some (told old.notes) tells.0 in
-        let l = tells-some (told old.leaves) tells.1 in
-        let same = seed-is (Some seed) first.notes has in
-        let leaves : LeavesStay dig told (Some seed) first.leaves old.leaves =
-        subst (λ (s : Option (List ℕ)). LeavesStay dig told s first.leaves old.leaves) same stand.1 in
-        let kept = own-desk-stays seed dig digests first told plan faults old.notes old.leaves new.notes new.leaves
-        outside (Unit {0}) status has n.0 l.0 n.1 l.1 (stand.0 n.0 n.1) (leaves l.0 l.1) runs in (
-          kept.0,
-          (
-            kept.1.0,
-            subst (λ (s : Option (List ℕ)). LeavesStay dig told s first.leaves new.leaves) (sym same) kept.1.1,
-          ),
-        )
-
-  own-keeps : (role : Role) (first : WalletRecords) (old new : Pair D) (outside : Outside) (status : Status)
-      → Seeded dig role first → BothTell told old → Stand dig told role first old
-      → RunsAs told plan faults dig role old new outside status
-      → (status ≡ NotJournal → ⊥) × Stand dig told role first new
-  unfolding RunsWatcher
-  own-keeps Wallet first old new outside status seeded tells stand runs =
-      let n = tells-some (told old.notes) tells.0 in
-      let l = tells-some (told old.leaves) tells.1 in
-      own-wallet-stays dig first told plan faults old.notes old.leaves new.notes new.leaves outside (Unit {0}) status
-      n.0 l.0 n.1 l.1 (stand n.0 n.1 l.0 l.1) runs
-  own-keeps Watcher first old new outside status seeded tells stand (runs, same) =
-      (let n = tells-some (told old.notes) tells.0 in
-      own-notes-stay dig (kinds_of dig Watcher) (λ records. (watcher_is records).tag) watcher_line_in watcher_outcome
-      (watcher-kept dig) first.notes told plan faults old.notes new.notes
-      outside (Unit {0}) status n.0 n.1 (stand n.0 n.1) runs)
-  own-keeps Operator first old new outside status seeded tells stand runs =
-      operator-keeps first old new outside status tells stand seeded.seed seeded.has seeded.digests
-      (seeded-runs told plan faults dig old.notes old.leaves new.notes new.leaves outside (Unit {0}) status seeded.seed
-      (λ opened opens. seed-is seeded.seed opened.records
-      (opened-has seeded.seed first old new outside status seeded.has tells stand opened opens)) runs)
-
   module _ (role : Role) (first : WalletRecords) (seeded : Seeded dig role first) where
     pub call-keeps : (call : Call told plan faults dig) → BothTell told call.old → Stand dig told role first call.old
         → Kept role first call.asked call.status call.new
@@ -265,14 +186,15 @@ module _ {D : Type 0} (told : D → Option History) (plan : D → Option FaultPl
           | inr never ↦
               foreign-keeps role first call.asked call.old call.new call.outside call.status never tells stand did
           | inl own ↦
-              (let kept = own-keeps role first call.old call.new call.outside call.status seeded tells stand
+              (let kept = run-on told plan faults dig role first call.old call.new call.outside call.status seeded tells
+              stand
               (subst (λ (a : Asked). DoesAsked told plan faults dig a call.old call.new call.outside call.status) own
               did)
               in
               record {
-                runs = λ same. kept.0;
+                runs = λ same. kept.runs;
                 begins = λ other identity asked wrong. absurd (cc (own, asked));
-                stands = kept.1;
+                stands = kept.stands;
               })
         ]
 

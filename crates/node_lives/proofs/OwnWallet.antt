@@ -1,12 +1,9 @@
 -- What a run of a wallet leaves on its two disks, where both are a wallet's: they stay so, with the records of the
--- lines
--- that it answered.
-use Rattle.std.proofs.Common.{◌≡◌, ◌≤◌, ◌<◌, ◌^◌, ℕ, Bool, true, List, Option, Some, None, Result, Ok, Err, refl, sym, ap, ◌∙◌, subst, inl, inr, arith}
+-- lines that it answered.
+use Rattle.std.proofs.Common.{◌≡◌, ◌≤◌, ◌<◌, ◌^◌, ℕ, true, List, Option, Some, None, Ok, refl, ap, ◌∙◌, subst, inl, inr, arith}
 use Rattle.crash_disk.specs.Disk.{History, content, FaultPlan}
-use Rattle.crash_disk.specs.Calls.{WhereTold, passed}
+use Rattle.crash_disk.specs.Calls.{WhereTold}
 use Rattle.crash_disk.proofs.Left.{content_may_be_left}
-use Rattle.plasma_tx.specs.declared.call.RootCall.{RootCall}
-use Rattle.plasma_tx.specs.Views.{blocks}
 use Rattle.node_journal.specs.Image.{journal_in}
 use Rattle.node_journal.specs.Journal.{Keeps as KeepsRecords}
 use Rattle.node_journal.specs.Notes.{NotesState, Opened}
@@ -14,109 +11,46 @@ use Rattle.node_journal.specs.Role.{role_in}
 use Rattle.node_journal.specs.declared.refusal.JournalRefusal.{JournalRefusal}
 use Rattle.node_journal.specs.declared.refusal.JournalRefusal.TheVariants.{NotJournal as PlaceRefusal}
 use Rattle.leaf_journal.specs.Records.{leaf_records_of, leaf_records_read_of, leaf_records_in_of}
-use Rattle.node_rules.specs.Wallet.{WalletRecords, who as wallet_is}
+use Rattle.node_rules.specs.Wallet.{WalletRecords}
 use Rattle.node_rules.specs.WalletRecords.{wallet_kinds, is_body, leaves_in, notes_of, are_bound_notes}
 use Rattle.node_rules.specs.WalletOpening.{leaves_of}
 use Rattle.node_rules.proofs.WalletGrow.{AreWallet, wallet-parts}
 use Rattle.streamed_lines.specs.declared.TheConstants.{MOST_LINES}
-use Rattle.streamed_lines.specs.Streams.{Stream, stream_of}
-use Rattle.streamed_lines.specs.Reading.{next_text}
-use Rattle.run_endings.specs.declared.status.Status.{Status}
-use Rattle.run_endings.specs.declared.status.Status.TheVariants.{Done, Refused, Usage, BadLine, ReadFault, WriteFault, DeviceFault, NoMemory, TooLong, NotJournal, AlreadyMade}
 use Rattle.wallet_node.specs.State.{WalletState, notes_part, leaves_part}
 use Rattle.wallet_node.specs.Opening.{OpensWallet, RefusesWallet}
-use Rattle.node_lines.specs.declared.wallet_line.WalletLine.{WalletLine}
-use Rattle.node_lines.specs.Grammar.{wallet_line_in}
-use Rattle.node_answers.specs.Answers.{wallet_outcome}
-use Rattle.node_roles.specs.Notes.{NodeAt, keeping}
-use Rattle.node_roles.specs.Deeds.{left_with}
-use Rattle.node_roles.specs.Records.{with_either_record}
-use Rattle.node_roles.specs.Wallets.{WalletAt, records_of, with_either, wallet_does}
-use Rattle.node_sessions.specs.Sessions.{SessionState, begun, calls_of}
-use Rattle.node_runs.specs.Disks.{Keeps, MayKeep, Failed, KeepsBoth, EitherFailed}
-use Rattle.run_endings.specs.Endings.{session_output, fault_output}
-use Rattle.node_runs.specs.Endings.{refused_output}
-use Rattle.node_runs.specs.Sessions.{Outside, BrokenAt}
-use Rattle.node_runs.specs.Runs.{wallet_rules, wallet_found, WalletSession, RunsWallet}
+use Rattle.node_replies.specs.Orders.{with_record}
+use Rattle.node_answers.specs.Answers.{Outcome}
+use Rattle.node_roles.specs.Notes.{NotesAt, with_note}
+use Rattle.node_roles.specs.Parts.{Parts, both, OfLeaves, PartFails}
+use Rattle.node_roles.specs.Nodes.{records_at}
+use Rattle.node_roles.specs.Roles.{wallet_parts, wallet_records, wallet_commands}
+use Rattle.node_runs.specs.Disks.{Keeps, MayKeep, KeepsNode, NodeFailed}
+use Rattle.node_runs.specs.Sessions.{Outside}
+use Rattle.node_runs.specs.Runs.{node_found, NodeSession}
+use Rattle.run_endings.specs.declared.status.Status.{Status}
 use Rattle.node_lives.specs.Standing.{GoOn, KeepWallet, WalletStays}
-use Rattle.node_lives.proofs.Quiet.{Quietly, opening-quiet, quiet-same}
-use Rattle.node_lives.proofs.Lines.{may-few}
-use Rattle.node_lives.proofs.Stays.{fault-images}
-use Rattle.node_lives.proofs.Sessions.{session-holds, run-holds, spelled-in}
-use Rattle.node_lives.proofs.Roles.{ok-of, role-found}
-use Rattle.node_lives.proofs.OwnNotes.{found-same}
-use Rattle.node_lives.proofs.Foreign.{refused-quiet}
-use Rattle.node_lives.proofs.Statuses.{ends-other, session-other, refused-other}
-use Rattle.node_lives.proofs.WalletOrders.{IsGood, either-goes, outcome-good}
+use Rattle.node_lives.specs.Answered.{lines_answered}
+use Rattle.node_lives.proofs.Quiet.{Quietly, quiet-same}
+use Rattle.node_lives.proofs.Stays.{keeps-same, fault-images}
+use Rattle.node_lives.proofs.Roles.{ok-of, role-read, role-found}
+use Rattle.node_lives.proofs.Opens.{refused-quiet, opened-quiet}
+use Rattle.node_lives.proofs.Own.{all-same, both-on, with_added, adds-on, noted, records_with, Grows, IsOwn, Leaves, Growing, session-leaves}
+use Rattle.node_lives.proofs.WalletOrders.{IsGood, outcome-grows}
 
 -- so few lines make few blocks
 pub few-blocks : (count : ℕ) → count ≤ MOST_LINES → count < 2 ^ 64
 few-blocks count few = omega (arith, few)
 
-module _ (dig : List ℕ → List ℕ) (first : WalletRecords) where
-  -- a node's records are a wallet's and go on behind the first ones
-  pub record IsOwn (at : NodeAt WalletAt) : Type 0 where
-    pub dig_is : at.dig ≡ dig
-    pub good : IsGood dig (records_of at.kept)
-    pub on : GoOn first (records_of at.kept)
-
-  pub with-either : (at : WalletAt) (leaf note : Option (List ℕ))
-      → with_either_record (records_of at) leaf note ≡ records_of (with_either at leaf note)
-  with-either at None None = refl
-  with-either at None (Some note) = refl
-  with-either at (Some leaf) note = refl
-
-  pub good-more : (log : List RootCall) (at : NodeAt WalletAt) (line : List ℕ) (command : WalletLine)
-      → blocks log ≤ MOST_LINES → wallet_line_in line ≡ Some command → IsOwn at
-      → IsGood dig (with_either_record (records_of at.kept)
-      (wallet_outcome at.dig log (records_of at.kept) command).leaf
-      (wallet_outcome at.dig log (records_of at.kept) command).note)
-  good-more log at line command few spells own =
-      let here : IsGood at.dig (records_of at.kept) =
-      subst (λ (d : List ℕ → List ℕ). IsGood d (records_of at.kept)) (sym own.dig_is) own.good in
-      let more = outcome-good at.dig log (records_of at.kept) here (few-blocks (blocks log) few) line command spells in
-      subst
-      (λ (d : List ℕ → List ℕ). IsGood d (with_either_record (records_of at.kept)
-      (wallet_outcome at.dig log (records_of at.kept) command).leaf
-      (wallet_outcome at.dig log (records_of at.kept) command).note))
-      own.dig_is more
-
-  pub own-with : (log : List RootCall) (at : NodeAt WalletAt) (line : List ℕ) (command : WalletLine)
-      → blocks log ≤ MOST_LINES → wallet_line_in line ≡ Some command → IsOwn at
-      → IsOwn (keeping at (with_either at.kept
-      (wallet_outcome at.dig log (records_of at.kept) command).leaf
-      (wallet_outcome at.dig log (records_of at.kept) command).note))
-  own-with log at line command few spells own =
-      let outcome = wallet_outcome at.dig log (records_of at.kept) command in
-      let same = with-either at.kept outcome.leaf outcome.note in
-      record {
-        dig_is = own.dig_is;
-        good = subst (IsGood dig) same (good-more log at line command few spells own);
-        on = subst (GoOn first) same (either-goes first (records_of at.kept) outcome.leaf outcome.note own.on);
-      }
-
-  pub own-step : (log : List RootCall) (at : NodeAt WalletAt) (line : List ℕ) (command : WalletLine)
-      (left : NodeAt WalletAt) (text : List ℕ) → blocks log ≤ MOST_LINES → wallet_line_in line ≡ Some command
-      → IsOwn at → wallet_does log at command ≡ Ok (left, text) → IsOwn left
-  own-step log at line command left text few spells own did =
-      by (wallet_outcome at.dig log (records_of at.kept) command).says did
-    where
-      now : NodeAt WalletAt
-      now = keeping at (with_either at.kept (wallet_outcome at.dig log (records_of at.kept) command).leaf
-          (wallet_outcome at.dig log (records_of at.kept) command).note)
-
-      by : (says : Result (List ℕ) (List ℕ)) → left_with now says ≡ Ok (left, text) → IsOwn left
-      by (Err cause) is = absurd (cc is)
-      by (Ok said) is =
-          (let pair : (now, said) ≡ (left, text) = cc is in
-          subst IsOwn (ap (λ (p : NodeAt WalletAt × List ℕ). p.0) pair)
-          (own-with log at line command few spells own))
+module _ (dig : List ℕ → List ℕ) where
+  pub wallet-grows : Growing dig (IsGood dig) wallet_commands
+  wallet-grows log parts line command few spells good =
+      outcome-grows dig log (wallet_records parts) good (few-blocks _ few) line command spells
 
   -- ---- two images
 
-  images-stay : (kept : WalletRecords) (one other : List ℕ) → KeepsRecords kept.notes one
-      → KeepsRecords kept.leaves other → IsGood dig kept → GoOn first kept → KeepWallet dig first one other
-  images-stay kept one other notes leaves good on = record {
+  images-stay : (records kept : WalletRecords) (one other : List ℕ) → KeepsRecords kept.notes one
+      → KeepsRecords kept.leaves other → IsGood dig kept → GoOn records kept → KeepWallet dig records one other
+  images-stay records kept one other notes leaves good on = record {
     kept = kept;
     keeps_notes = notes;
     keeps_leaves = leaves;
@@ -125,200 +59,168 @@ module _ (dig : List ℕ → List ℕ) (first : WalletRecords) where
     goes_on = on;
   }
 
-  module _ {D : Type 0} (told : D → Option History) (plan : D → Option FaultPlan) (faults : D → ℕ)
-      (notes leaves new_notes new_leaves : D) (outside : Outside) (failed : Type 0) (status : Status) where
-    abbrev pub BothStay : D → D → Type 0
-    BothStay notes leaves = WhereTold (told notes) (λ n. WhereTold (told leaves) (WalletStays dig first n))
+  module _ {D : Type 0} (told : D → Option History) (faults : D → ℕ) (new_notes new_leaves : D) where
+    abbrev pub BothStay : WalletRecords → Type 0
+    BothStay records = WhereTold (told new_notes) (λ n. WhereTold (told new_leaves) (WalletStays dig records n))
 
-    abbrev Left : Type 0
-    Left = (status ≡ NotJournal → ⊥) × BothStay new_notes new_leaves
+    pub both-earlier : (one other : WalletRecords) → GoOn one other → BothStay other → BothStay one
+    both-earlier one other on stays n is l also image behind may left =
+        let kept = stays n is l also image behind may left in
+        images-stay one kept.kept image behind kept.keeps_notes kept.keeps_leaves
+        (record { is = kept.is; bytes = kept.bytes }) (both-on one other kept.kept on kept.goes_on)
 
     -- both disks are handed back with such records
-    pub kept-stay : (at : NodeAt WalletAt) → IsOwn at → KeepsBoth told faults at.kept new_notes new_leaves
-        → BothStay new_notes new_leaves
-    kept-stay at own keeps n is l also one other may left =
-        images-stay (records_of at.kept) one other ((keeps.of_notes.settled n is).images one may)
-        ((keeps.of_leaves.settled l also).images other left) own.good own.on
+    kept-stay : (at : Parts NotesAt) → IsGood dig (wallet_records (records_at at))
+        → KeepsNode told faults at (both new_notes new_leaves) → BothStay (wallet_records (records_at at))
+    kept-stay at good keeps = by at.leaves good keeps.1
+      where
+        by : (leaves : Option NotesAt) → IsGood dig (records_with at.notes leaves)
+            → OfLeaves (Keeps told faults) leaves (Some new_leaves) → BothStay (records_with at.notes leaves)
+        by None good kept = absurd kept
+        by (Some leaves) good kept = λ n is l also one other may left.
+            images-stay _ (records_with at.notes (Some leaves)) one other ((keeps.0.settled n is).images one may)
+            ((kept.settled l also).images other left) good (all-same _)
 
     -- behind a device fault of the notes, or of the leaves
-    note-stays : (at : NodeAt WalletAt) (note : Option (List ℕ)) → IsOwn at
-        → IsGood dig (with_either_record (records_of at.kept) None note)
-        → Failed told faults note at.kept.notes new_notes → Keeps told faults at.kept.leaves new_leaves
-        → BothStay new_notes new_leaves
-    note-stays at None own more failing keeps n is l also one other may left = absurd failing
-    note-stays at (Some body) own more failing keeps n is l also one other may left =
-        let rest = (keeps.settled l also).images other left in
-        elim (fault-images at.kept.notes.records body failing.passed at.kept.notes.told (told new_notes)
-        failing.told_is failing.any_moment n is one may) [
-          | inl without ↦ images-stay (records_of at.kept) one other without rest own.good own.on
-          | inr with' ↦
-              images-stay (with_either_record (records_of at.kept) None (Some body)) one other with' rest more
-              (either-goes first (records_of at.kept) None (Some body) own.on)
-        ]
+    module _ (notes : NotesAt) where
+      note-stays : (leaves : Option NotesAt) (note : Option (List ℕ)) → IsGood dig (records_with notes leaves)
+          → IsGood dig (with_added (records_with notes leaves) note None)
+          → PartFails (MayKeep told faults) note (Some notes) (Some new_notes)
+          → OfLeaves (Keeps told faults) leaves (Some new_leaves) → BothStay (records_with notes leaves)
+      note-stays leaves None good more fails keeps = absurd fails
+      note-stays None (Some body) good more fails keeps = absurd keeps
+      note-stays (Some leaves) (Some body) good more fails keeps = λ n is l also one other may left.
+          let records = records_with notes (Some leaves) in
+          let rest = (keeps.settled l also).images other left in
+          elim (fault-images notes.records body fails.passed notes.told (told new_notes) fails.told_is
+          fails.any_moment n is one may) [
+            | inl without ↦ images-stay records records one other without rest good (all-same records)
+            | inr with' ↦
+                images-stay records (with_added records (Some body) None) one other with' rest more
+                (adds-on records records (Some body) None (all-same records))
+          ]
 
-    leaf-stays : (at : NodeAt WalletAt) (leaf : List ℕ) (note : Option (List ℕ)) → IsOwn at
-        → IsGood dig (with_either_record (records_of at.kept) (Some leaf) note)
-        → MayKeep told faults leaf at.kept.leaves new_leaves → Keeps told faults at.kept.notes new_notes
-        → BothStay new_notes new_leaves
-    leaf-stays at leaf note own more failing keeps n is l also one other may left =
-        let rest = (keeps.settled n is).images one may in
-        elim (fault-images at.kept.leaves.records leaf failing.passed at.kept.leaves.told (told new_leaves)
-        failing.told_is failing.any_moment l also other left) [
-          | inl without ↦ images-stay (records_of at.kept) one other rest without own.good own.on
-          | inr with' ↦
-              images-stay (with_either_record (records_of at.kept) (Some leaf) note) one other rest with' more
-              (either-goes first (records_of at.kept) (Some leaf) note own.on)
-        ]
+      leaf-stays : (leaves : Option NotesAt) (added leaf : Option (List ℕ))
+          → IsGood dig (with_added (records_with notes leaves) added None)
+          → IsGood dig (with_added (records_with notes leaves) added leaf)
+          → Keeps told faults (with_note notes added) new_notes
+          → PartFails (MayKeep told faults) leaf leaves (Some new_leaves) → BothStay (records_with notes leaves)
+      leaf-stays leaves added None good more keeps fails = absurd fails
+      leaf-stays None added (Some body) good more keeps fails = absurd fails
+      leaf-stays (Some leaves) added (Some body) good more keeps fails = λ n is l also one other may left.
+          let records = records_with notes (Some leaves) in
+          let front : KeepsRecords (with_record notes.records added) one =
+          subst (λ (kept : List (List ℕ)). KeepsRecords kept one) (noted notes added)
+          ((keeps.settled n is).images one may) in
+          elim (fault-images leaves.records body fails.passed leaves.told (told new_leaves) fails.told_is
+          fails.any_moment l also other left) [
+            | inl without ↦
+                images-stay records (with_added records added None) one other front without good
+                (adds-on records records added None (all-same records))
+            | inr with' ↦
+                images-stay records (with_added records added (Some body)) one other front with' more
+                (adds-on records records added (Some body) (all-same records))
+          ]
 
-    pub either-stays : (at : NodeAt WalletAt) (leaf note : Option (List ℕ)) → IsOwn at
-        → IsGood dig (with_either_record (records_of at.kept) leaf note)
-        → EitherFailed told faults leaf note at.kept new_notes new_leaves → BothStay new_notes new_leaves
-    either-stays at None note own more failing = note-stays at note own more failing.0 failing.1
-    either-stays at (Some leaf) note own more failing = leaf-stays at leaf note own more failing.0 failing.1
+    fault-stays : (at : Parts NotesAt) (outcome : Outcome) → IsGood dig (wallet_records (records_at at))
+        → Grows (IsGood dig) (wallet_records (records_at at)) outcome
+        → NodeFailed told faults outcome at (both new_notes new_leaves) → BothStay (wallet_records (records_at at))
+    fault-stays at outcome good grows (inl (fails, keeps)) =
+        note-stays at.notes at.leaves outcome.note good grows.noted fails keeps
+    fault-stays at outcome good grows (inr (keeps, fails)) =
+        leaf-stays at.notes at.leaves outcome.note outcome.leaf grows.noted grows.both keeps fails
 
-    pub broken-stays : (status : Status) (ended : Bool) (bytes : List ℕ)
-        (stream : Stream (SessionState (NodeAt WalletAt)))
-        → IsOwn stream.run.node → blocks (calls_of stream.run.log) ≤ stream.count
-        → BrokenAt wallet_line_in (λ at. KeepsBoth told faults at.kept new_notes new_leaves)
-        (λ log at line. KeepsBoth told faults (with_either at.kept
-        (wallet_outcome at.dig log (records_of at.kept) line).leaf
-        (wallet_outcome at.dig log (records_of at.kept) line).note) new_notes new_leaves)
-        status ended bytes stream
-        → (status ≡ NotJournal → ⊥) × BothStay new_notes new_leaves
-    broken-stays WriteFault ended bytes stream own few is = (λ wrong. cc, kept-stay stream.run.node own is)
-    broken-stays NoMemory ended bytes stream own few (inl is) = (λ wrong. cc, kept-stay stream.run.node own is)
-    broken-stays NoMemory ended bytes stream own few (inr (may, (command, spells, is))) = (
-      λ wrong. cc,
-      kept-stay _ (own-with (calls_of stream.run.log) stream.run.node (next_text bytes stream) command
-          (omega (arith, few, may-few ended bytes stream may))
-          (spelled-in wallet_line_in stream.run (next_text bytes stream) command spells) own) is,
-    )
-    broken-stays Done ended bytes stream own few is = absurd is
-    broken-stays Refused ended bytes stream own few is = absurd is
-    broken-stays Usage ended bytes stream own few is = absurd is
-    broken-stays BadLine ended bytes stream own few is = absurd is
-    broken-stays ReadFault ended bytes stream own few is = absurd is
-    broken-stays DeviceFault ended bytes stream own few is = absurd is
-    broken-stays TooLong ended bytes stream own few is = absurd is
-    broken-stays NotJournal ended bytes stream own few is = absurd is
-    broken-stays AlreadyMade ended bytes stream own few is = absurd is
+    -- so a session leaves them
+    pub wallet-leaves : (plan : D → Option FaultPlan) (opened : WalletState D (Unit {0})) (outside : Outside)
+        (failed : Type 0) (status : Status) (first : WalletRecords)
+        → IsOwn dig (IsGood dig) first (node_found told plan faults dig (wallet_parts opened))
+        → (session : NodeSession told plan faults dig wallet_commands (wallet_parts opened) (both new_notes new_leaves)
+        outside failed status)
+        → Leaves dig (IsGood dig) BothStay first (lines_answered session).stream.run.node
+    wallet-leaves plan opened outside failed status first own session =
+        session-leaves dig (IsGood dig) wallet_commands wallet-grows told plan faults (both new_notes new_leaves)
+        BothStay both-earlier kept-stay fault-stays (wallet_parts opened) outside failed status first own session
 
-    module _ (opened : WalletState D (Unit {0})) (own : IsOwn (wallet_found told plan faults dig opened)) where
-      abbrev found : NodeAt WalletAt
-      found = wallet_found told plan faults dig opened
+  -- ---- the opening, over disks that are a wallet's and stay
 
-      abbrev tag : List ℕ
-      tag = (wallet_is opened.records).tag
+  module _ {D : Type 0} (told : D → Option History) (plan : D → Option FaultPlan) (faults : D → ℕ)
+      (first : WalletRecords) (notes leaves : D) (of_notes of_leaves : History) (is : told notes ≡ Some of_notes)
+      (also : told leaves ≡ Some of_leaves) (stay : WalletStays dig first of_notes of_leaves) where
+    pub kept : KeepWallet dig first (content of_notes) (content of_leaves)
+    kept = stay (content of_notes) (content of_leaves) (content_may_be_left of_notes) (content_may_be_left of_leaves)
 
-      session-stays : WalletSession told plan faults dig opened new_notes new_leaves outside failed status → Left
-      session-stays (inl answered) =
-          let holds = session-holds tag wallet_line_in wallet_does IsOwn own-step found answered.bytes answered.ended
-          own
-          in (
-            ends-other
-                (session_output (stream_of (wallet_rules told plan faults dig opened) (begun found) answered.bytes
-                answered.ended))
-                status NotJournal outside.taken outside.after failed answered.ends
-                (session-other _) (λ wrong. cc) (λ wrong. cc),
-            kept-stay _ holds.node answered.left,
-          )
-      session-stays (inr (inl faulted)) =
-          let stream = faulted.stream in
-          let holds = run-holds tag wallet_line_in wallet_does IsOwn own-step found faulted.begins.front stream
-          faulted.begins.runs own in
-          let line = next_text faulted.bytes stream in
-          let command = faulted.left.1.0 in (
-            ends-other (fault_output stream.text) status NotJournal outside.taken outside.after ⊥ faulted.ends
-                (λ wrong. cc)
-                (λ wrong. cc) (λ wrong. cc),
-            either-stays stream.run.node _ _ holds.node
-                (good-more (calls_of stream.run.log) stream.run.node line command
-                (omega (arith, holds.few, may-few faulted.ended faulted.bytes stream faulted.left.0))
-                (spelled-in wallet_line_in stream.run line command faulted.left.1.1) holds.node) faulted.left.1.2,
-          )
-      session-stays (inr (inr broken)) =
-          let holds = run-holds tag wallet_line_in wallet_does IsOwn own-step found broken.begins.front broken.stream
-          broken.begins.runs own in
-          broken-stays status broken.ended broken.bytes broken.stream holds.node holds.few broken.left
+    role : AreWallet dig kept.kept
+    role = wallet-parts dig kept.kept kept.is
 
-    -- over disks that are a wallet's and stay
-    module _ (of_notes of_leaves : History) (is : told notes ≡ Some of_notes) (also : told leaves ≡ Some of_leaves)
-        (stay : WalletStays dig first of_notes of_leaves) where
-      pub kept : KeepWallet dig first (content of_notes) (content of_leaves)
-      kept = stay (content of_notes) (content of_leaves) (content_may_be_left of_notes) (content_may_be_left of_leaves)
+    -- what is opened of the notes, and of the leaves behind them
+    notes-same : (opened : NotesState D) → Opened told plan faults (role_in (wallet_kinds dig)) notes opened
+        → kept.kept.notes ≡ opened.records
+    notes-same opened opens =
+        keeps-same (content of_notes) kept.kept.notes opened.records kept.keeps_notes
+        (role-read (wallet_kinds dig) (content of_notes) opened.records (opens.kept of_notes is)).0
 
-      role : AreWallet dig kept.kept
-      role = wallet-parts dig kept.kept kept.is
+    leaves-are : (opened : NotesState D) → kept.kept.notes ≡ opened.records
+        → leaf_records_in_of is_body (leaves_of opened.records) (content of_leaves) ≡ Ok kept.kept.leaves
+    leaves-are opened same =
+        ap (leaf_records_read_of is_body (leaves_of opened.records))
+        (ok-of (journal_in (content of_leaves)) kept.kept.leaves kept.keeps_leaves)
+        ∙ subst (λ (l : List (List ℕ)). leaf_records_of is_body (leaves_of l) kept.kept.leaves ≡ Ok kept.kept.leaves)
+        same role.leaves
 
-      -- what is opened of the notes, and of the leaves behind them
-      notes-same : (opened : NotesState D) → Opened told plan faults (role_in (wallet_kinds dig)) notes opened
-          → kept.kept.notes ≡ opened.records
-      notes-same opened opens =
-          found-same (wallet_kinds dig) (content of_notes) kept.kept.notes opened.records kept.keeps_notes
-          (opens.kept of_notes is)
+    leaves-same : (opened found : NotesState D) → kept.kept.notes ≡ opened.records
+        → Opened told plan faults (leaf_records_in_of is_body (leaves_of opened.records)) leaves found
+        → kept.kept.leaves ≡ found.records
+    leaves-same opened found same opens =
+        (let read = opens.kept of_leaves also in let there = leaves-are opened same in cc (read, there))
 
-      leaves-are : (opened : NotesState D) → kept.kept.notes ≡ opened.records
-          → leaf_records_in_of is_body (leaves_of opened.records) (content of_leaves) ≡ Ok kept.kept.leaves
-      leaves-are opened same =
-          ap (leaf_records_read_of is_body (leaves_of opened.records))
-          (ok-of (journal_in (content of_leaves)) kept.kept.leaves kept.keeps_leaves)
-          ∙ subst (λ (l : List (List ℕ)). leaf_records_of is_body (leaves_of l) kept.kept.leaves ≡ Ok kept.kept.leaves)
-          same role.leaves
+    pub opened-own : (opened : WalletState D (Unit {0})) → OpensWallet told plan faults dig notes leaves opened
+        → IsOwn dig (IsGood dig) first (node_found told plan faults dig (wallet_parts opened))
+    opened-own opened opens =
+        let one = notes-same (notes_part opened) opens.opens_notes in
+        let other = leaves-same (notes_part opened) (leaves_part opened) one opens.opens_leaves in
+        let same : kept.kept ≡ opened.records = λ i. record { notes = one i; leaves = other i } in
+        record {
+          dig_is = refl;
+          good = subst (IsGood dig) same (record { is = kept.is; bytes = kept.bytes });
+          on = subst (GoOn first) same kept.goes_on;
+        }
 
-      leaves-same : (opened found : NotesState D) → kept.kept.notes ≡ opened.records
-          → Opened told plan faults (leaf_records_in_of is_body (leaves_of opened.records)) leaves found
-          → kept.kept.leaves ≡ found.records
-      leaves-same opened found same opens =
-          (let read = opens.kept of_leaves also in let there = leaves-are opened same in cc (read, there))
-
-      pub opened-own : (opened : WalletState D (Unit {0})) → OpensWallet told plan faults dig notes leaves opened
-          → IsOwn (wallet_found told plan faults dig opened)
-      opened-own opened opens =
-          let one = notes-same (notes_part opened) opens.opens_notes in
-          let other = leaves-same (notes_part opened) (leaves_part opened) one opens.opens_leaves in
-          let same : kept.kept ≡ opened.records = λ i. record { notes = one i; leaves = other i } in
-          record {
-            dig_is = refl;
-            good = subst (IsGood dig) same (record { is = kept.is; bytes = kept.bytes });
-            on = subst (GoOn first) same kept.goes_on;
-          }
-
+    module _ (new_notes new_leaves : D) where
       -- an opening that was refused leaves no more
-      pub refused-both : (why : JournalRefusal)
+      refused-both : (why : JournalRefusal)
           → RefusesWallet told plan faults dig notes leaves why new_notes new_leaves
           → Quietly (told notes) (told new_notes) × Quietly (told leaves) (told new_leaves)
       refused-both why (inl (refuses, same)) = (
-        refused-quiet told plan faults dig (role_in (wallet_kinds dig)) notes new_notes why refuses.refused,
+        refused-quiet told plan (role_in (wallet_kinds dig)) notes new_notes why refuses.refused,
         quiet-same (told leaves) (told new_leaves) (ap told same),
       )
       refused-both why (inr (opened, opens, (same, inl refuses))) = (
-        subst (λ (d : D). Quietly (told notes) (told d)) (sym same)
-            (opening-quiet passed (told notes) (told opened.disk) opens.made.calls),
-        refused-quiet told plan faults dig (leaf_records_in_of is_body (leaves_of opened.records)) leaves new_leaves
+        opened-quiet told plan faults _ notes opened new_notes opens same,
+        refused-quiet told plan (leaf_records_in_of is_body (leaves_of opened.records)) leaves new_leaves
             why refuses.refused,
       )
       refused-both why (inr (opened, opens, (same, inr (behind, opening, one, unbound)))) = (
-        subst (λ (d : D). Quietly (told notes) (told d)) (sym same)
-            (opening-quiet passed (told notes) (told opened.disk) opens.made.calls),
-        subst (λ (d : D). Quietly (told leaves) (told d)) (sym one)
-            (opening-quiet passed (told leaves) (told behind.disk) opening.made.calls),
+        opened-quiet told plan faults _ notes opened new_notes opens same,
+        opened-quiet told plan faults _ leaves behind new_leaves opening one,
       )
 
-      quiet-stay : Quietly (told notes) (told new_notes) → Quietly (told leaves) (told new_leaves)
-          → BothStay new_notes new_leaves
-      quiet-stay quiet still n has l too one other may left =
-          stay one other (quiet of_notes n is has one may) (still of_leaves l also too other left)
+      pub refused-stays : (why : JournalRefusal)
+          → RefusesWallet told plan faults dig notes leaves why new_notes new_leaves
+          → BothStay told faults new_notes new_leaves first
+      refused-stays why refuses n has l too one other may left =
+          let quiet = refused-both why refuses in
+          stay one other (quiet.0 of_notes n is has one may) (quiet.1 of_leaves l also too other left)
 
       -- none is refused for a place
-      no-place : (place : ℕ) → RefusesWallet told plan faults dig notes leaves (PlaceRefusal place) new_notes new_leaves
-          → ⊥
-      no-place place (inl (refuses, same)) =
+      refused-place : (place : ℕ)
+          → RefusesWallet told plan faults dig notes leaves (PlaceRefusal place) new_notes new_leaves → ⊥
+      refused-place place (inl (refuses, same)) =
           (let read = role-found (wallet_kinds dig) (content of_notes) kept.kept.notes kept.keeps_notes role.role in
           let not = refuses.refused.1 of_notes is in cc (read, not))
-      no-place place (inr (opened, opens, (same, inl refuses))) =
+      refused-place place (inr (opened, opens, (same, inl refuses))) =
           (let read = leaves-are opened (notes-same opened opens) in
           let not = refuses.refused.1 of_leaves also in cc (read, not))
-      no-place place (inr (opened, opens, (same, inr (behind, opening, one, unbound)))) =
+      refused-place place (inr (opened, opens, (same, inr (behind, opening, one, unbound)))) =
           (let n = notes-same opened opens in
           let l = leaves-same opened behind n opening in
           let bound : are_bound_notes (leaves_in behind.records) (notes_of dig opened.records) ≡ true =
@@ -327,15 +229,10 @@ module _ (dig : List ℕ → List ℕ) (first : WalletRecords) where
           role.bound) in
           cc (bound, unbound.0))
 
-      pub own-stays : RunsWallet told plan faults dig notes leaves new_notes new_leaves outside failed status → Left
-      unfolding RunsWallet
-      own-stays (inl (opened, opens, session)) = session-stays opened (opened-own opened opens) session
-      own-stays (inr (why, refuses, refused)) =
-          let quiet = refused-both why refuses in (
-            ends-other (refused_output why) status NotJournal outside.taken outside.after ⊥ refused.ends
-                (refused-other why (λ place same. no-place place
-                (subst (λ (w : JournalRefusal). RefusesWallet told plan faults dig notes leaves w new_notes
-                new_leaves) same
-                refuses))) (λ wrong. cc) (λ wrong. cc),
-            quiet-stay quiet.0 quiet.1,
-          )
+      pub no-place : (why : JournalRefusal)
+          → RefusesWallet told plan faults dig notes leaves why new_notes new_leaves → (place : ℕ)
+          → why ≡ PlaceRefusal place → ⊥
+      no-place why refuses place same =
+          refused-place place
+          (subst (λ (w : JournalRefusal). RefusesWallet told plan faults dig notes leaves w new_notes new_leaves) same
+          refuses)

@@ -1,19 +1,21 @@
--- The commands of a watcher and of an operator keep the role of their records.
-use Rattle.std.proofs.Common.{◌≡◌, ℕ, true, List, Some}
+-- The commands of a watcher, and of an operator without a key, keep the role of their records, and add no leaf.
+use Rattle.std.proofs.Common.{◌≡◌, ℕ, true, List, [], None, ap, ◌∙◌}
 use Rattle.plasma_tx.specs.declared.call.RootCall.{RootCall}
-use Rattle.node_journal.specs.Role.{are_of}
+use Rattle.node_journal.specs.Role.{Kinds, are_of}
+use Rattle.node_rules.specs.Wallet.{WalletRecords}
 use Rattle.node_rules.specs.Watcher.{watcher_kinds}
 use Rattle.operator_rules.specs.Records.{operator_kinds}
 use Rattle.node_replies.specs.Orders.{with_record}
 use Rattle.node_deeds.specs.WatcherLaws.{HasBytes}
-use Rattle.node_deeds.proofs.WatcherOrderLaws.{orders_keep_the_role as watcher_orders_keep}
-use Rattle.node_deeds.proofs.OperatorOrderLaws.{orders_keep_the_role as operator_orders_keep}
+use Rattle.node_deeds.proofs.WatcherOrderLaws.{orders_keep_the_role as watcher_orders_keep, orders_add_no_leaf as watcher_adds_no_leaf}
+use Rattle.node_deeds.proofs.OperatorOrderLaws.{orders_keep_the_role as operator_orders_keep, orders_add_no_leaf}
 use Rattle.node_lines.specs.declared.watcher_line.WatcherLine.{WatcherLine}
-use Rattle.node_lines.specs.declared.operator_line.OperatorLine.{OperatorLine}
-use Rattle.node_lines.specs.Grammar.{IsWatcherLine, watcher_line_in, operator_line_in}
+use Rattle.node_lines.specs.Grammar.{IsWatcherLine}
 use Rattle.node_lines.proofs.GrammarLaws.{watcher_line_text-in}
 use Rattle.node_answers.specs.declared.operator.OperatorAsk.{OperatorAsk}
-use Rattle.node_answers.specs.Answers.{watcher_order, operator_ask, watcher_outcome, keyless, operator_outcome}
+use Rattle.node_answers.specs.Answers.{Outcome, watcher_order, operator_ask, watcher_outcome, keyless, operator_outcome}
+use Rattle.node_roles.specs.Roles.{wallet_records, watcher_commands, operator_commands}
+use Rattle.node_lives.proofs.Own.{Grows, Growing}
 
 -- the bytes of a watcher's command that a line spells are bytes
 line-bytes : (line : WatcherLine) → IsWatcherLine line → HasBytes (watcher_order line)
@@ -21,24 +23,37 @@ line-bytes (WatcherLine.Guard bundle) is = is.0
 line-bytes (WatcherLine.Release coin tip) is = tt
 line-bytes WatcherLine.Watch is = tt
 
-pub watcher-kept : (dig : List ℕ → List ℕ) (log : List RootCall) (records : List (List ℕ)) (line : List ℕ)
-    (command : WatcherLine) → watcher_line_in line ≡ Some command → are_of (watcher_kinds dig) records ≡ true
-    → are_of (watcher_kinds dig) (with_record records (watcher_outcome dig log records command).note) ≡ true
+-- the records of a node without leaves, whose notes are of a role
+pub record AreAlone (kinds : Kinds) (records : WalletRecords) : Type 0 where
+  pub notes : are_of kinds records.notes ≡ true
+  pub leaves : records.leaves ≡ []
+
+alone-grows : (kinds : Kinds) (records : WalletRecords) (outcome : Outcome) → AreAlone kinds records
+    → outcome.leaf ≡ None → are_of kinds (with_record records.notes outcome.note) ≡ true
+    → Grows (AreAlone kinds) records outcome
+alone-grows kinds records outcome is leafless notes = record {
+  noted = record { notes = notes; leaves = is.leaves };
+  both = record { notes = notes; leaves = ap (with_record records.leaves) leafless ∙ is.leaves };
+}
+
+pub watcher-grows : (dig : List ℕ → List ℕ) → Growing dig (AreAlone (watcher_kinds dig)) watcher_commands
 unfolding watcher_outcome
-watcher-kept dig log records line command spells is =
-    watcher_orders_keep dig log records (watcher_order command) is
-    (line-bytes command (watcher_line_text-in line command spells).1)
+watcher-grows dig log parts line command few spells is =
+    alone-grows (watcher_kinds dig) (wallet_records parts) (watcher_outcome dig log parts.notes command) is
+    (watcher_adds_no_leaf dig log parts.notes (watcher_order command))
+    (watcher_orders_keep dig log parts.notes (watcher_order command) is.notes
+    (line-bytes command (watcher_line_text-in line command spells).1))
 
 -- a receipt and a migration are refused, and add nothing
-asked-kept : (dig : List ℕ → List ℕ) (log : List RootCall) (records : List (List ℕ)) (ask : OperatorAsk)
-    → are_of operator_kinds records ≡ true
-    → are_of operator_kinds (with_record records (keyless dig log records ask).note) ≡ true
-asked-kept dig log records (OperatorAsk.Order order) is = operator_orders_keep dig log records order is
-asked-kept dig log records (OperatorAsk.Receipt transfer due) is = is
-asked-kept dig log records OperatorAsk.Migrate is = is
+ask-grows : (dig : List ℕ → List ℕ) (log : List RootCall) (records : WalletRecords) (ask : OperatorAsk)
+    → AreAlone operator_kinds records → Grows (AreAlone operator_kinds) records (keyless dig log records.notes ask)
+ask-grows dig log records (OperatorAsk.Order order) is =
+    alone-grows operator_kinds records (keyless dig log records.notes (OperatorAsk.Order order)) is
+    (orders_add_no_leaf dig log records.notes order) (operator_orders_keep dig log records.notes order is.notes)
+ask-grows dig log records (OperatorAsk.Receipt transfer due) is = record { noted = is; both = is }
+ask-grows dig log records OperatorAsk.Migrate is = record { noted = is; both = is }
 
-pub operator-kept : (dig : List ℕ → List ℕ) (log : List RootCall) (records : List (List ℕ)) (line : List ℕ)
-    (command : OperatorLine) → operator_line_in line ≡ Some command → are_of operator_kinds records ≡ true
-    → are_of operator_kinds (with_record records (operator_outcome dig log records command).note) ≡ true
+pub operator-grows : (dig : List ℕ → List ℕ) → Growing dig (AreAlone operator_kinds) operator_commands
 unfolding operator_outcome
-operator-kept dig log records line command spells is = asked-kept dig log records (operator_ask command) is
+operator-grows dig log parts line command few spells is =
+    ask-grows dig log (wallet_records parts) (operator_ask command) is

@@ -15,8 +15,10 @@ use Rattle.node_replies.specs.Orders.{wallet_does as order_does}
 use Rattle.node_lines.specs.declared.wallet_line.WalletLine.{WalletLine}
 use Rattle.node_lines.specs.Grammar.{wallet_line_in}
 use Rattle.node_answers.specs.Answers.{Outcome, given_text, wallet_outcome}
-use Rattle.node_roles.specs.Notes.{NodeAt, keeping}
-use Rattle.node_roles.specs.Wallets.{WalletAt, with_either, wallet_do, wallet_does}
+use Rattle.node_roles.specs.Notes.{NotesAt, with_note}
+use Rattle.node_roles.specs.Parts.{with_effect}
+use Rattle.node_roles.specs.Nodes.{NodeAt, keeping, node_with, node_does}
+use Rattle.node_roles.specs.Roles.{wallet_parts, wallet_commands}
 use Rattle.node_sessions.specs.Sessions.{SessionState, begun, joins, first_log, leaves, done, command_line, next_line}
 use Rattle.streamed_lines.specs.declared.ending.Ending.{Ending}
 use Rattle.streamed_lines.specs.declared.ending.Stop.{Stop}
@@ -24,7 +26,7 @@ use Rattle.streamed_lines.specs.declared.ending.Ending.TheVariants.{Complete, Re
 use Rattle.streamed_lines.specs.Lines.{lines_in, is_whole, text_of, is_too_long}
 use Rattle.streamed_lines.specs.Streams.{Rules, Stream, Streamed, no_lines, next_number, with_answer, stream_or, goes_on, line_stream, stream_from, stream_of}
 use Rattle.streamed_lines.specs.Reading.{RunsTo, MayBeAnswered, next_text}
-use Rattle.node_runs.specs.Runs.{wallet_rules, wallet_found}
+use Rattle.node_runs.specs.Runs.{node_rules, node_found}
 use Rattle.node_lives.specs.Samples.{Drive, told, foretold, met, identity, first_line, input}
 use Rattle.node_lives.proofs.Drives.{opened}
 
@@ -109,18 +111,18 @@ module _ (dig : List ℕ → List ℕ) where
   }
 
   module _ (notes leaves_disk : Drive) (records : List (List ℕ)) where
-    abbrev pub found : NodeAt WalletAt
-    found = wallet_found told foretold met dig (wallet_with notes leaves_disk records)
+    abbrev pub found : NodeAt NotesAt
+    found = node_found told foretold met dig (wallet_parts (wallet_with notes leaves_disk records))
 
-    abbrev pub rules : Rules (SessionState (NodeAt WalletAt)) (List ℕ)
-    rules = wallet_rules told foretold met dig (wallet_with notes leaves_disk records)
+    abbrev pub rules : Rules (SessionState (NodeAt NotesAt)) (List ℕ)
+    rules = node_rules told foretold met dig wallet_commands (wallet_parts (wallet_with notes leaves_disk records))
 
     -- behind the log
-    abbrev pub log_read : Stream (SessionState (NodeAt WalletAt))
+    abbrev pub log_read : Stream (SessionState (NodeAt NotesAt))
     log_read = record { run = record { log = Some chain; is_over = true; node = found }; count = 2; text = [] }
 
     -- behind its first line
-    abbrev log_begun : SessionState (NodeAt WalletAt)
+    abbrev log_begun : SessionState (NodeAt NotesAt)
     log_begun = record { log = Some chain; is_over = false; node = found }
 
     log-begins : rules.next (begun found) first_line ≡ Ok (log_begun, [])
@@ -157,7 +159,7 @@ module _ (dig : List ℕ → List ℕ) where
     session-is : (outcome : Outcome)
         → wallet_outcome dig [] (record { notes = identity ∷ []; leaves = records }) WalletLine.Migrate ≡ outcome
         → stream_of rules (begun found) input true
-        ≡ goes_on log_read (stream_or log_read (leaves log_read.run (done (wallet_do found outcome))))
+        ≡ goes_on log_read (stream_or log_read (leaves log_read.run (done (node_with with_note found outcome))))
         (λ next. stream_from rules true (length input) next [])
     unfolding stream_of lines_in next_line
     session-is outcome is =
@@ -165,14 +167,15 @@ module _ (dig : List ℕ → List ℕ) where
         ∙ log-runs.streams true (migrate_line ∷ [])
         ∙ line-comes rules true (length log_text) log_read migrate_line [] refl refl
         ∙ ap (λ (c : Option WalletLine). goes_on log_read
-        (stream_or log_read (leaves log_read.run (command_line wallet_does [] found c)))
+        (stream_or log_read (leaves log_read.run (command_line (node_does wallet_commands) [] found c)))
         (λ next. stream_from rules true (length input) next [])) migrate-spelled
-        ∙ ap (λ (o : Outcome). goes_on log_read (stream_or log_read (leaves log_read.run (done (wallet_do found o))))
+        ∙ ap (λ (o : Outcome). goes_on log_read
+        (stream_or log_read (leaves log_read.run (done (node_with with_note found o))))
         (λ next. stream_from rules true (length input) next [])) is
 
   -- a session that is answered, and one whose command is refused
-  abbrev pub with_marker : NodeAt WalletAt → NodeAt WalletAt
-  with_marker at = keeping at (with_either at.kept (Some marker) None)
+  abbrev pub with_marker : NodeAt NotesAt → NodeAt NotesAt
+  with_marker at = keeping at (with_effect with_note at.kept adds_marker)
 
   pub answered-session : (notes leaves_disk : Drive)
       → stream_of (rules notes leaves_disk []) (begun (found notes leaves_disk [])) input true

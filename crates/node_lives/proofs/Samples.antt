@@ -1,5 +1,5 @@
 -- A small life of a wallet is one: each of its calls did what its clause says.
-use Rattle.std.proofs.Common.{◌≡◌, ◌≤◌, ◌<◌, ◌++◌, ℕ, true, false, List, [], ◌∷◌, codes, Some, Result, Ok, Err, refl, sym, ap, ◌∙◌, subst, inl, inr, lit<, lit≤}
+use Rattle.std.proofs.Common.{◌≡◌, ◌++◌, ℕ, true, false, List, [], ◌∷◌, codes, Some, Result, Ok, Err, refl, sym, ap, ◌∙◌, subst, inl, inr, lit<, lit≤}
 use Rattle.crash_disk.specs.Disk.{Step, content, synced_content, LeavesOnly}
 use Rattle.crash_disk.specs.Calls.{WhereTold, passed, failed_after}
 use Rattle.crash_disk.specs.declared.outcome.Outcome.TheVariants.{Old}
@@ -21,8 +21,10 @@ use Rattle.node_replies.specs.Roles.{Wallet}
 use Rattle.node_lines.specs.declared.wallet_line.WalletLine.{WalletLine}
 use Rattle.node_lines.specs.Grammar.{wallet_line_in}
 use Rattle.node_answers.specs.Answers.{Outcome}
-use Rattle.node_roles.specs.Notes.{NodeAt}
-use Rattle.node_roles.specs.Wallets.{WalletAt}
+use Rattle.node_roles.specs.Notes.{NotesAt}
+use Rattle.node_roles.specs.Parts.{both}
+use Rattle.node_roles.specs.Nodes.{NodeAt}
+use Rattle.node_roles.specs.Roles.{wallet_parts, wallet_commands}
 use Rattle.node_sessions.specs.Sessions.{SessionState, begun}
 use Rattle.streamed_lines.specs.Bounds.{TakesFew}
 use Rattle.streamed_lines.specs.Lines.{lines_in}
@@ -31,15 +33,15 @@ use Rattle.run_endings.specs.Outputs.{EndsAs}
 use Rattle.run_endings.specs.Texts.{device_fault_text, refused_text}
 use Rattle.run_endings.specs.declared.status.Status.{Status}
 use Rattle.run_endings.specs.declared.status.Status.TheVariants.{Done, Refused, DeviceFault}
-use Rattle.node_runs.specs.Disks.{Keeps, MayKeep, opened_at, KeepsBoth, EitherFailed}
+use Rattle.node_runs.specs.Disks.{Keeps, MayKeep, opened_at, KeepsNode, NodeFailed}
 use Rattle.run_endings.specs.Endings.{session_output, last_text}
 use Rattle.node_runs.specs.Inits.{InitsPair}
 use Rattle.node_runs.specs.Sessions.{Outside}
-use Rattle.node_runs.specs.Runs.{WalletSession, RunsWallet}
+use Rattle.node_runs.specs.Runs.{NodeSession, RunsWallet}
 use Rattle.node_lives.specs.Disks.{Pair, Stays, Crashed}
 use Rattle.node_lives.specs.Calls.{Asked, BothDisks, ToBegin, ToRun, DoesAsked}
 use Rattle.node_lives.specs.Lives.{IsLife}
-use Rattle.node_lives.specs.Answered.{wallet_ran, ran_as, ran_by}
+use Rattle.node_lives.specs.Answered.{kept_at, wallet_ran, ran_as, ran_by}
 use Rattle.node_lives.specs.Samples.{Drive, told, foretold, met, identity, input, DriveCall, SmallLife}
 use Rattle.node_lives.proofs.Roles.{ok-of, role-found}
 use Rattle.node_lives.proofs.SampleLines.{migrate-spelled, log_text, migrate_line, migrates, wallet_with, found, rules, log_read, log-runs, may-next, next-is, answered-session, refused-session}
@@ -144,8 +146,8 @@ module _ (dig : List ℕ → List ℕ) where
   notes_second = opened_settled crashed_notes (identity ∷ []) crashed_notes_settled
 
   -- the marker met a fault
-  marker_fails : MayKeep told met marker (opened_at told met (leaves_part (wallet_with dig begun_notes begun_leaves [])))
-      faulted_leaves
+  marker_fails : MayKeep told met marker
+      (opened_at told met (leaves_part (wallet_with dig begun_notes begun_leaves []))) faulted_leaves
   marker_fails = record {
     passed = 2;
     few = lit< tt;
@@ -162,8 +164,8 @@ module _ (dig : List ℕ → List ℕ) where
 
   abbrev Session : Drive → Drive → List (List ℕ) → Drive → Drive → List ℕ → Status → Type 0
   Session notes leaves records new_notes new_leaves text status =
-      WalletSession told foretold met dig (wallet_with dig notes leaves records) new_notes new_leaves (outside text)
-      (Unit {0}) status
+      NodeSession told foretold met dig wallet_commands (wallet_parts (wallet_with dig notes leaves records))
+      (both new_notes new_leaves) (outside text) (Unit {0}) status
 
   faults : Session begun_notes begun_leaves [] (opened begun_notes) faulted_leaves device_fault_text DeviceFault
   faults = inr (inl (record {
@@ -183,9 +185,9 @@ module _ (dig : List ℕ → List ℕ) where
       (
         WalletLine.Migrate,
         ap wallet_line_in (next-is dig begun_notes begun_leaves []) ∙ migrate-spelled,
-        subst (λ (o : Outcome). EitherFailed told met o.leaf o.note (found dig begun_notes begun_leaves []).kept
-            (opened begun_notes) faulted_leaves) (sym (migrates dig))
-            (marker_fails, found-keeps (opened begun_notes) (identity ∷ []) notes_first),
+        subst (λ (o : Outcome). NodeFailed told met o (found dig begun_notes begun_leaves []).kept
+            (both (opened begun_notes) faulted_leaves)) (sym (migrates dig))
+            (inr (found-keeps (opened begun_notes) (identity ∷ []) notes_first, marker_fails)),
       ),
     );
   }))
@@ -193,24 +195,24 @@ module _ (dig : List ℕ → List ℕ) where
   -- a session that comes to this
   module _ (notes leaves : Drive) (records : List (List ℕ)) (new_notes new_leaves : Drive) (text : List ℕ)
       (status : Status) where
-    comes : (streamed : Streamed (SessionState (NodeAt WalletAt)) (List ℕ))
+    comes : (streamed : Streamed (SessionState (NodeAt NotesAt)) (List ℕ))
         → stream_of (rules dig notes leaves records) (begun (found dig notes leaves records)) input true ≡ streamed
         → EndsAs (session_output streamed) status (Some []) (Some text) (Unit {0})
         → TakesFew input streamed.ending
-        → KeepsBoth told met streamed.stream.run.node.kept new_notes new_leaves
+        → KeepsNode told met streamed.stream.run.node.kept (both new_notes new_leaves)
         → Session notes leaves records new_notes new_leaves text status
     comes streamed is ends few left = inl (record {
       bytes = input;
       ended = true;
       gave = record { given = refl; end = λ is. refl };
       ends =
-          subst (λ (s : Streamed (SessionState (NodeAt WalletAt)) (List ℕ)).
+          subst (λ (s : Streamed (SessionState (NodeAt NotesAt)) (List ℕ)).
           EndsAs (session_output s) status (Some []) (Some text) (Unit {0})) (sym is) ends;
       few =
-          subst (λ (s : Streamed (SessionState (NodeAt WalletAt)) (List ℕ)). TakesFew input s.ending) (sym is) few;
+          subst (λ (s : Streamed (SessionState (NodeAt NotesAt)) (List ℕ)). TakesFew input s.ending) (sym is) few;
       left =
-          subst (λ (s : Streamed (SessionState (NodeAt WalletAt)) (List ℕ)).
-          KeepsBoth told met s.stream.run.node.kept new_notes new_leaves) (sym is) left;
+          subst (λ (s : Streamed (SessionState (NodeAt NotesAt)) (List ℕ)).
+          KeepsNode told met s.stream.run.node.kept (both new_notes new_leaves)) (sym is) left;
     })
 
   answers : Session crashed_notes crashed_leaves [] (opened crashed_notes) marked_leaves
@@ -218,11 +220,10 @@ module _ (dig : List ℕ → List ℕ) where
   unfolding last_text
   answers =
       comes crashed_notes crashed_leaves [] (opened crashed_notes) marked_leaves (codes "migrated" ++ 10 ∷ []) Done _
-      (answered-session dig crashed_notes crashed_leaves) (refl, refl) tt
-      (record {
-        of_notes = found-keeps (opened crashed_notes) (identity ∷ []) notes_second;
-        of_leaves = found-keeps marked_leaves (marker ∷ []) marked_leaves_settled;
-      })
+      (answered-session dig crashed_notes crashed_leaves) (refl, refl) tt (
+        found-keeps (opened crashed_notes) (identity ∷ []) notes_second,
+        found-keeps marked_leaves (marker ∷ []) marked_leaves_settled,
+      )
 
   refuses : Session (opened crashed_notes) marked_leaves (marker ∷ []) (opened (opened crashed_notes))
       (opened marked_leaves) (refused_text (codes "already-new")) Refused
@@ -230,15 +231,12 @@ module _ (dig : List ℕ → List ℕ) where
   refuses =
       comes (opened crashed_notes) marked_leaves (marker ∷ []) (opened (opened crashed_notes)) (opened marked_leaves)
       (refused_text (codes "already-new")) Refused _
-      (refused-session dig (opened crashed_notes) marked_leaves) (refl, refl) (lit< tt)
-      (record {
-        of_notes =
-            found-keeps (opened (opened crashed_notes)) (identity ∷ [])
-            (opened_settled (opened crashed_notes) (identity ∷ []) notes_second);
-        of_leaves =
-            found-keeps (opened marked_leaves) (marker ∷ [])
-            (opened_settled marked_leaves (marker ∷ []) marked_leaves_settled);
-      })
+      (refused-session dig (opened crashed_notes) marked_leaves) (refl, refl) (lit< tt) (
+        found-keeps (opened (opened crashed_notes)) (identity ∷ [])
+            (opened_settled (opened crashed_notes) (identity ∷ []) notes_second),
+        found-keeps (opened marked_leaves) (marker ∷ [])
+            (opened_settled marked_leaves (marker ∷ []) marked_leaves_settled),
+      )
 
   -- ---- the life
 
@@ -332,7 +330,7 @@ module _ (dig : List ℕ → List ℕ) where
     crash = refl;
     less = λ same. cc same;
     left =
-        ap (λ (s : Streamed (SessionState (NodeAt WalletAt)) (List ℕ)). Some s.stream.run.node.kept.leaves.records)
+        ap (λ (s : Streamed (SessionState (NodeAt NotesAt)) (List ℕ)). Some (kept_at s.stream.run.node).leaves)
         (answered-session dig crashed_notes crashed_leaves);
     found = refl;
   }

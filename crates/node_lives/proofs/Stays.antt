@@ -1,15 +1,14 @@
 -- What stays of a journal's records where a disk tells: each image of a crash now keeps records of a kind that continue
 -- some.
-use Rattle.std.proofs.Common.{◌≡◌, ℕ, Bool, true, List, [], ◌∷◌, ◌++◌, length, Option, Some, refl, sym, ◌∙◌, ap, subst, inl, inr, append_assoc}
-use Rattle.crash_disk.specs.Disk.{History, fresh_history, content, MayLeave, LeavesOnly}
+use Rattle.std.proofs.Common.{◌≡◌, ℕ, Bool, true, List, [], ◌∷◌, ◌++◌, length, Option, Some, ◌∙◌, ap, subst, inl, inr, append_assoc}
+use Rattle.crash_disk.specs.Disk.{History, MayLeave, LeavesOnly}
 use Rattle.crash_disk.specs.Calls.{WhereTold, failed_after, after_course}
-use Rattle.crash_disk.proofs.Left.{content_may_be_left, fresh_disk_leaves_itself}
 use Rattle.node_journal.specs.Image.{spelled}
 use Rattle.node_journal.specs.Journal.{Keeps, KeepsWithOrWithout, IsSettled}
-use Rattle.node_journal.specs.Life.{records_in, Continue, Stay}
+use Rattle.node_journal.specs.Life.{Continue, Stay}
 use Rattle.node_journal.specs.Notes.{KeepsAtAnyMoment}
 use Rattle.node_journal.specs.Steps.{append_steps}
-use Rattle.node_journal.proofs.Lives.{itself, one_more, in_from, in_keeps}
+use Rattle.node_journal.proofs.Lives.{one_more, in_from}
 use Rattle.node_journal.proofs.Rest.{leaves_now}
 use Rattle.node_lives.proofs.Quiet.{Quietly, MadeOver, made-now, told-before}
 
@@ -55,15 +54,6 @@ module _ (are : List (List ℕ) → Bool) where
   settled-stays first records history settled is on image may =
       (records, in_from are image records (settled.images image may) is, on)
 
-  -- what a settled disk keeps that stays
-  pub settled-are : (first records : List (List ℕ)) (history : History) → Stay are first history
-      → IsSettled history records → (are records ≡ true) × Continue first records
-  settled-are first records history stay settled =
-      let kept = stay (content history) (content_may_be_left history) in
-      let keeps = in_keeps are (content history) kept.0 kept.1 in
-      let same = keeps-same (content history) kept.0 records keeps.0 settled.read in
-      (subst (λ (l : List (List ℕ)). are l ≡ true) same keeps.1, subst (Continue first) same kept.2)
-
   -- behind an append that met a device fault
   pub fault-stays : (first records : List (List ℕ)) (body : List ℕ) (count : ℕ) (old new : Option History)
       → MadeOver (after_course (failed_after count) (append_steps (length (spelled records)) body)) old new
@@ -78,35 +68,6 @@ module _ (are : List (List ℕ) → Bool) where
           one_more first records body on,
         )
       ]
-
-  -- records that each image continues which stays anyhow
-  pub fault-continues : (first records : List (List ℕ)) (body : List ℕ) (history : History)
-      → ((image : List ℕ) → MayLeave history image → KeepsWithOrWithout records body image)
-      → Stay are first history → Stay are records history
-  fault-continues first records body history either stay image may =
-      let kept = stay image may in
-      let keeps = in_keeps are image kept.0 kept.1 in
-      elim (either image may) [
-        | inl without ↦ (
-          kept.0,
-          kept.1,
-          subst (Continue records) (keeps-same image records kept.0 without keeps.0)
-              (itself records),
-        )
-        | inr with' ↦ (
-          kept.0,
-          kept.1,
-          subst (Continue records) (keeps-same image (records ++ body ∷ []) kept.0 with' keeps.0)
-              (body ∷ [], refl),
-        )
-      ]
-
-  -- a crash
-  pub crash-stays : (records : List (List ℕ)) (before : History) (image : List ℕ) → MayLeave before image
-      → Stay are records before → Stay are records (fresh_history image)
-  crash-stays records before image may stay again left =
-      subst (λ (b : List ℕ). (kept : List (List ℕ)) × (records_in are b ≡ Some kept) × Continue records kept)
-      (sym (fresh_disk_leaves_itself image again left)) (stay image may)
 
   -- what continues them stays no less
   pub earlier-stays : (first records : List (List ℕ)) (history : History) → Continue first records

@@ -6,13 +6,12 @@ use Rattle.std.proofs.lemmas.List.Elements.{All-push}
 use Rattle.plasma_tx.specs.declared.call.RootCall.{RootCall}
 use Rattle.plasma_tx.specs.Views.{blocks}
 use Rattle.plasma_tx.specs.Spelling.{AreBytes}
-use Rattle.node_journal.proofs.Lives.{one_more}
 use Rattle.node_rules.specs.Kept.{kept_of}
 use Rattle.node_rules.specs.WalletRecords.{note_text}
 use Rattle.node_rules.specs.Wallet.{WalletRecords, WalletEffect, who, coin_state, accept_effect, send_effect, leave_from, leave_effect, reclaim_effect, migrate_effect}
 use Rattle.node_rules.specs.WalletOpening.{is_wallet}
 use Rattle.node_rules.proofs.WalletAdded.{leave-note, migrate-note}
-use Rattle.node_replies.specs.Orders.{with_record as with_deed, wallet_does}
+use Rattle.node_replies.specs.Orders.{with_record, wallet_does}
 use Rattle.node_replies.proofs.ByteTexts.{small-cons, small-append, small-number, small-short}
 use Rattle.node_replies.proofs.BundleTexts.{small-bundle, handed-small}
 use Rattle.node_replies.proofs.WalletEnds.{AcceptEnds, ReclaimEnds, Refused, Known, New, Takes, accept_ends, reclaim_ends}
@@ -24,9 +23,8 @@ use Rattle.node_lines.specs.declared.wallet_line.WalletLine.{WalletLine}
 use Rattle.node_lines.specs.Grammar.{IsWalletLine, wallet_line_in}
 use Rattle.node_lines.proofs.GrammarLaws.{wallet_line_text-in}
 use Rattle.node_answers.specs.declared.wallet.WalletAsk.{WalletAsk}
-use Rattle.node_answers.specs.Answers.{wallet_ask, asked, wallet_outcome}
-use Rattle.node_roles.specs.Records.{with_record, with_either_record}
-use Rattle.node_lives.specs.Standing.{GoOn}
+use Rattle.node_answers.specs.Answers.{Outcome, outcome_of, wallet_ask, asked, wallet_outcome}
+use Rattle.node_lives.proofs.Own.{with_added, Grows}
 
 -- ---- an order's note is bytes
 
@@ -116,55 +114,45 @@ push-bytes : (records : List (List ℕ)) (added : Option (List ℕ)) → All Are
 push-bytes records None are one = are
 push-bytes records (Some body) are one = All-push AreBytes records body are one
 
-same-after : (wallet : WalletRecords) (leaf note : Option (List ℕ)) → (note ≡ None) ⊎ (leaf ≡ None)
-    → record { notes = with_deed wallet.notes note; leaves = with_deed wallet.leaves leaf }
-    ≡ with_either_record wallet leaf note
-same-after wallet None None one = refl
-same-after wallet None (Some note) one = refl
-same-after wallet (Some leaf) None one = refl
-same-after wallet (Some leaf) (Some note) (inl wrong) = absurd (cc wrong)
-same-after wallet (Some leaf) (Some note) (inr wrong) = absurd (cc wrong)
-
-either-bytes : (wallet : WalletRecords) (leaf note : Option (List ℕ)) → All AreBytes wallet.notes
-    → IfSome note AreBytes → All AreBytes (with_either_record wallet leaf note).notes
-either-bytes wallet None note are one = push-bytes wallet.notes note are one
-either-bytes wallet (Some leaf) note are one = are
-
--- what a wallet's records come to goes on
-pub either-goes : (first wallet : WalletRecords) (leaf note : Option (List ℕ)) → GoOn first wallet
-    → GoOn first (with_either_record wallet leaf note)
-either-goes first wallet None None on = on
-either-goes first wallet None (Some note) on =
-    record { notes = one_more first.notes wallet.notes note on.notes; leaves = on.leaves }
-either-goes first wallet (Some leaf) note on =
-    record { notes = on.notes; leaves = one_more first.leaves wallet.leaves leaf on.leaves }
+-- where one of the two alone is added
+grows-by : (dig : List ℕ → List ℕ) (wallet : WalletRecords) (outcome : Outcome) → IsGood dig wallet
+    → (outcome.note ≡ None) ⊎ (outcome.leaf ≡ None)
+    → IsGood dig (with_added wallet outcome.note outcome.leaf) → Grows (IsGood dig) wallet outcome
+grows-by dig wallet outcome good one both = record {
+  noted = elim one [
+    | inl none ↦
+        subst (λ (note : Option (List ℕ)). IsGood dig (with_added wallet note None)) (sym none) good
+    | inr none ↦
+        subst (λ (leaf : Option (List ℕ)). IsGood dig (with_added wallet outcome.note leaf)) none both
+  ];
+  both = both;
+}
 
 module _ (dig : List ℕ → List ℕ) (log : List RootCall) (wallet : WalletRecords) (good : IsGood dig wallet)
     (few : blocks log < 2 ^ 64) where
-  order-good : (order : WalletOrder) → IsFitOrder order
-      → IsGood dig (with_either_record wallet (wallet_does dig log wallet order).leaf
-      (wallet_does dig log wallet order).note)
-  order-good order fit =
-      let doing = wallet_does dig log wallet order in
+  order-grows : (order : WalletOrder) → IsFitOrder order
+      → Grows (IsGood dig) wallet (outcome_of (wallet_does dig log wallet order))
+  order-grows order fit =
       let kept = orders_keep_the_role dig log wallet order good.is fit
       (record { notes = good.bytes; blocks = few }) in
-      record {
-        is =
-            subst (λ (w : WalletRecords). is_wallet dig w ≡ true)
-            (same-after wallet doing.leaf doing.note (orders_add_one_record dig log wallet order)) kept;
-        bytes = either-bytes wallet doing.leaf doing.note good.bytes (order-bytes dig log wallet order fit);
-      }
+      grows-by dig wallet (outcome_of (wallet_does dig log wallet order)) good
+      (orders_add_one_record dig log wallet order)
+      (record {
+        is = kept;
+        bytes =
+            push-bytes wallet.notes (wallet_does dig log wallet order).note good.bytes
+            (order-bytes dig log wallet order fit);
+      })
 
-  ask-good : (ask : WalletAsk) → ((order : WalletOrder) → ask ≡ WalletAsk.Order order → IsFitOrder order)
-      → IsGood dig (with_either_record wallet (asked dig log wallet ask).leaf (asked dig log wallet ask).note)
-  ask-good (WalletAsk.Order order) fit = order-good order (fit order refl)
-  ask-good (WalletAsk.State coin) fit = good
-  ask-good WalletAsk.Who fit = good
+  ask-grows : (ask : WalletAsk) → ((order : WalletOrder) → ask ≡ WalletAsk.Order order → IsFitOrder order)
+      → Grows (IsGood dig) wallet (asked dig log wallet ask)
+  ask-grows (WalletAsk.Order order) fit = order-grows order (fit order refl)
+  ask-grows (WalletAsk.State coin) fit = record { noted = good; both = good }
+  ask-grows WalletAsk.Who fit = record { noted = good; both = good }
 
   -- the records with what a command adds that a line spells
-  pub outcome-good : (line : List ℕ) (command : WalletLine) → wallet_line_in line ≡ Some command
-      → IsGood dig (with_either_record wallet (wallet_outcome dig log wallet command).leaf
-      (wallet_outcome dig log wallet command).note)
+  pub outcome-grows : (line : List ℕ) (command : WalletLine) → wallet_line_in line ≡ Some command
+      → Grows (IsGood dig) wallet (wallet_outcome dig log wallet command)
   unfolding wallet_outcome
-  outcome-good line command spells =
-      ask-good (wallet_ask command) (fit-order command (wallet_line_text-in line command spells).1)
+  outcome-grows line command spells =
+      ask-grows (wallet_ask command) (fit-order command (wallet_line_text-in line command spells).1)

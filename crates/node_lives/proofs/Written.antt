@@ -19,7 +19,7 @@ use Rattle.node_runs.specs.Runs.{RunsWatcher, RunsWallet}
 use Rattle.node_runs.specs.Operators.{RunsBehind, RunsOperator}
 use Rattle.node_lives.specs.Disks.{Pair}
 use Rattle.node_lives.specs.Calls.{Asked, ToBegin, ToRun, ToUseNoDisk, RunsAs, DoesAsked, Starves}
-use Rattle.node_lives.specs.Answered.{lines_answered, Ran, behind_ran, operator_ran, wallet_ran, ran_as, ran_by}
+use Rattle.node_lives.specs.Answered.{lines_answered, Ran, behind_ran, watcher_ran, operator_ran, wallet_ran, ran_as, ran_by}
 use Rattle.node_lives.specs.Laws.{IsLastLine, RunsWriteTheirAnswers}
 
 all-front : (before after : Option (List ℕ)) (text : List ℕ) → Wrote before after text → WroteFront before after text
@@ -50,9 +50,9 @@ no-last : IsLastLine []
 unfolding last_text
 no-last = inl (Complete, refl)
 
-module _ {A L : Type 0} (rules : Rules (SessionState A) (List ℕ)) (command_in : List ℕ → Option L) (found : A)
-    (Left : A → Type 0) (Faulted Unanswered : List RootCall → A → L → Type 0) (outside : Outside) (failed : Type 0)
-    (status : Status) where
+module _ {A L : Type 0} {rules : Rules (SessionState A) (List ℕ)} {command_in : List ℕ → Option L} {found : A}
+    {Left : A → Type 0} {Faulted Unanswered : List RootCall → A → L → Type 0} {outside : Outside} {failed : Type 0}
+    {status : Status} where
   session-writes : (session : RunsSession rules command_in found Left Faulted Unanswered outside failed status)
       → Writes outside (lines_answered session).stream.text
   session-writes (inl answered) =
@@ -93,20 +93,20 @@ module _ {D : Type 0} (told : D → Option History) (plan : D → Option FaultPl
       (behind_ran told plan faults dig seed opened leaves new_notes new_leaves outside status runs)
   unfolding behind_ran
   behind-writes None opened leaves new_notes new_leaves outside status (session, same) =
-      one-writes outside _ (session-writes _ _ _ _ _ _ outside (Unit {0}) status session)
+      one-writes outside _ (session-writes session)
   behind-writes (Some seed) opened leaves new_notes new_leaves outside status (inl (desk, opens, session)) =
-      one-writes outside _ (session-writes _ _ _ _ _ _ outside (Unit {0}) status session)
+      one-writes outside _ (session-writes session)
   behind-writes (Some seed) opened leaves new_notes new_leaves outside status (inr refused) = none-writes outside
 
   run-writes : (role : Role) (old new : Pair D) (outside : Outside) (status : Status)
       → (runs : RunsAs told plan faults dig role old new outside status)
       → WritesOf outside (ran_as told plan faults dig role old new outside status runs)
-  unfolding RunsWatcher RunsOperator RunsWallet ran_as wallet_ran operator_ran
+  unfolding RunsWatcher RunsOperator RunsWallet ran_as wallet_ran watcher_ran operator_ran
   run-writes Wallet old new outside status (inl (opened, opens, session)) =
-      one-writes outside _ (session-writes _ _ _ _ _ _ outside (Unit {0}) status session)
+      one-writes outside _ (session-writes session)
   run-writes Wallet old new outside status (inr refused) = none-writes outside
   run-writes Watcher old new outside status (inl (opened, opens, session), same) =
-      one-writes outside _ (session-writes _ _ _ _ _ _ outside (Unit {0}) status session)
+      one-writes outside _ (session-writes session)
   run-writes Watcher old new outside status (inr refused, same) = none-writes outside
   run-writes Operator old new outside status (inl (opened, opens, behind)) =
       behind-writes (who_is opened.records).key_seed opened old.leaves new.notes new.leaves outside status behind

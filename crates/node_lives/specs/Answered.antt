@@ -1,5 +1,5 @@
 -- What a run found on its disks, and the lines that it answered.
-use Rattle.std.specs.Prelude.{◌≡◌, ◌⊎◌, ◌<◌, ℕ, List, [], Option, Some, None, option_map, Result}
+use Rattle.std.specs.Prelude.{◌≡◌, ◌⊎◌, ◌<◌, ℕ, List, Option, Some, None, option_map}
 use mathlib.Core.Logic.{inl, inr}
 use Rattle.crash_disk.specs.Disk.{History, FaultPlan}
 use Rattle.node_journal.specs.Notes.{NotesState}
@@ -11,21 +11,20 @@ use Rattle.node_rules.specs.Wallet.{WalletRecords}
 use Rattle.node_replies.specs.declared.order.WalletOrder.{WalletOrder}
 use Rattle.node_replies.specs.Orders.{Response, wallet_does}
 use Rattle.node_lines.specs.declared.wallet_line.WalletLine.{WalletLine}
-use Rattle.node_journal.specs.Role.{role_in}
-use Rattle.node_rules.specs.Watcher.{watcher_kinds, who_is as watcher_is}
 use Rattle.operator_rules.specs.Records.{who_is}
-use Rattle.node_lines.specs.Grammar.{watcher_line_in, wallet_line_in}
+use Rattle.node_lines.specs.Grammar.{wallet_line_in}
 use Rattle.node_answers.specs.declared.wallet.WalletAsk.{WalletAsk}
-use Rattle.node_answers.specs.Answers.{Outcome, watcher_outcome, wallet_ask}
-use Rattle.node_roles.specs.Notes.{NodeAt}
-use Rattle.node_roles.specs.Wallets.{WalletAt, records_of}
-use Rattle.node_roles.specs.Desks.{DeskAt}
+use Rattle.node_answers.specs.Answers.{wallet_ask}
+use Rattle.node_roles.specs.Notes.{NotesAt}
+use Rattle.node_roles.specs.Parts.{Parts, alone, both, of_each}
+use Rattle.node_roles.specs.Nodes.{NodeAt, records_at}
+use Rattle.node_roles.specs.Roles.{wallet_parts, wallet_records, wallet_commands}
 use Rattle.node_sessions.specs.Sessions.{SessionState, begun, calls_of, commanded}
 use Rattle.streamed_lines.specs.Streams.{Rules, Stream, stream_of}
 use Rattle.streamed_lines.specs.Reading.{next_text}
 use Rattle.run_endings.specs.declared.status.Status.{Status}
 use Rattle.node_runs.specs.Sessions.{Outside, Begins, RunsSession}
-use Rattle.node_runs.specs.Runs.{RunsNotes, RunsWatcher, RunsWallet, wallet_rules, wallet_found}
+use Rattle.node_runs.specs.Runs.{RunsWatcher, RunsWallet, node_rules, node_found}
 use Rattle.node_runs.specs.Operators.{RunsBehind, RunsOperator}
 use Rattle.node_lives.specs.Disks.{Pair}
 use Rattle.node_lives.specs.Calls.{Asked, ToRun, RunsAs, DoesAsked, Starves, Call}
@@ -47,66 +46,52 @@ lines_answered {rules = rules} {found = found} (inl answered) = record {
 lines_answered (inr (inl faulted)) = record { bytes = faulted.bytes; stream = faulted.stream }
 lines_answered (inr (inr broken)) = record { bytes = broken.bytes; stream = broken.stream }
 
--- the records of notes alone
-abbrev pub notes_alone : List (List ℕ) → WalletRecords
-notes_alone notes = record { notes = notes; leaves = [] }
-
 -- the records that a run found, those that the lines which it answered left, and the text of their answers
 pub record Ran : Type 0 where
   pub found : WalletRecords
   pub left : WalletRecords
   pub text : List ℕ
 
--- the records of an operator with a key, where commands left it
-abbrev pub records_at : DeskAt → WalletRecords
-records_at at = record { notes = at.notes.records; leaves = at.leaves.records }
+-- the records of a node to which commands came; one without leaves has none there
+abbrev pub kept_at : NodeAt NotesAt → WalletRecords
+kept_at at = wallet_records (records_at at.kept)
+
+-- of a run that opened such a node and answered these lines
+abbrev pub ran_with : {D : Type 0} → Parts (NotesState D) → Lines (NodeAt NotesAt) → Ran
+ran_with opened lines = record {
+  found = wallet_records (of_each (λ notes. notes.records) opened);
+  left = kept_at lines.stream.run.node;
+  text = lines.stream.text;
+}
 
 -- a wallet that a run opened, and the lines that it answered
 pub record WalletRan (D : Type 0) : Type 0 where
   pub opened : WalletState D (Unit {0})
-  pub lines : Lines (NodeAt WalletAt)
+  pub lines : Lines (NodeAt NotesAt)
 
 -- its records
 abbrev pub ran_of : {D : Type 0} → WalletRan D → Ran
-ran_of ran = record {
-  found = ran.opened.records;
-  left = records_of ran.lines.stream.run.node.kept;
-  text = ran.lines.stream.text;
-}
+ran_of ran = ran_with (wallet_parts ran.opened) ran.lines
 
 -- over disks that tell their history, foretell their faults and count them, and under a digest
 module _ {D : Type 0} (told : D → Option History) (plan : D → Option FaultPlan) (faults : D → ℕ)
     (dig : List ℕ → List ℕ) where
-  -- of a run of a node over notes alone that did this; none where its disk wasn't opened
-  abbrev pub notes_ran : {L : Type 0} (read : List ℕ → Result (List (List ℕ)) ℕ) (tag : List (List ℕ) → List ℕ)
-      (command_in : List ℕ → Option L)
-      (outcome : (List ℕ → List ℕ) → List RootCall → List (List ℕ) → L → Outcome) (old new : D) (outside : Outside)
-      (status : Status)
-      → RunsNotes told plan faults dig read tag command_in outcome old new outside (Unit {0}) status → Option Ran
-  notes_ran read tag command_in outcome old new outside status (inl (opened, opens, session)) =
-      Some (record {
-        found = notes_alone opened.records;
-        left = notes_alone (lines_answered session).stream.run.node.kept.records;
-        text = (lines_answered session).stream.text;
-      })
-  notes_ran read tag command_in outcome old new outside status (inr refused) = None
+  -- of a watcher's run that did this; none where its disk wasn't opened
+  unfoldable pub watcher_ran : (old new : D) (outside : Outside) (status : Status)
+      → RunsWatcher told plan faults dig old new outside (Unit {0}) status → Option Ran
+  unfolding RunsWatcher
+  watcher_ran old new outside status (inl (opened, opens, session)) =
+      Some (ran_with (alone opened) (lines_answered session))
+  watcher_ran old new outside status (inr refused) = None
 
   -- of an operator's, whose notes were opened, by the seed of its key: with a key none where its leaves weren't opened
   unfoldable pub behind_ran : (seed : Option (List ℕ)) (opened : NotesState D) (leaves new_notes new_leaves : D)
       (outside : Outside) (status : Status)
       → RunsBehind told plan faults dig seed opened leaves new_notes new_leaves outside (Unit {0}) status → Option Ran
   behind_ran None opened leaves new_notes new_leaves outside status (session, same) =
-      Some (record {
-        found = notes_alone opened.records;
-        left = notes_alone (lines_answered session).stream.run.node.kept.records;
-        text = (lines_answered session).stream.text;
-      })
+      Some (ran_with (alone opened) (lines_answered session))
   behind_ran (Some seed) opened leaves new_notes new_leaves outside status (inl (desk, opens, session)) =
-      Some (record {
-        found = record { notes = opened.records; leaves = desk.records };
-        left = records_at (lines_answered session).stream.run.node.kept;
-        text = (lines_answered session).stream.text;
-      })
+      Some (ran_with (both opened desk) (lines_answered session))
   behind_ran (Some seed) opened leaves new_notes new_leaves outside status (inr refused) = None
 
   unfoldable pub operator_ran : (notes leaves new_notes new_leaves : D) (outside : Outside) (status : Status)
@@ -128,12 +113,10 @@ module _ {D : Type 0} (told : D → Option History) (plan : D → Option FaultPl
   -- of a run of any role
   unfoldable pub ran_as : (role : Role) (old new : Pair D) (outside : Outside) (status : Status)
       → RunsAs told plan faults dig role old new outside status → Option Ran
-  unfolding RunsWatcher
   ran_as Wallet old new outside status did =
       option_map ran_of (wallet_ran old.notes old.leaves new.notes new.leaves outside status did)
   ran_as Watcher old new outside status (did, same) =
-      notes_ran (role_in (watcher_kinds dig)) (λ records. (watcher_is records).tag) watcher_line_in watcher_outcome
-      old.notes new.notes outside status did
+      watcher_ran old.notes new.notes outside status did
   ran_as Operator old new outside status did =
       operator_ran old.notes old.leaves new.notes new.leaves outside status did
 
@@ -157,18 +140,18 @@ module _ {D : Type 0} (told : D → Option History) (plan : D → Option FaultPl
   wallet_ran_in call = wallet_ran_by call.asked call.old call.new call.outside call.status call.did
 
   -- what an order gives out at a wallet to which its commands came
-  abbrev pub gives_at : SessionState (NodeAt WalletAt) → WalletOrder → Response
+  abbrev pub gives_at : SessionState (NodeAt NotesAt) → WalletOrder → Response
   gives_at session order =
-      (wallet_does session.node.dig (calls_of session.log) (records_of session.node.kept) order).response
+      (wallet_does session.node.dig (calls_of session.log) (kept_at session.node) order).response
 
   -- A wallet's run answered `sent q` to one of its lines, with these bytes: a command spelled there, behind the lines
   -- before it.
   pub record GivesOut (call : Call told plan faults dig) (q : ℕ) (made : List ℕ) : Type 0 where
     pub ran : WalletRan D
     pub is : wallet_ran_in call ≡ Some ran
-    pub before : Stream (SessionState (NodeAt WalletAt))
-    pub lines : Begins (wallet_rules told plan faults dig ran.opened)
-        (begun (wallet_found told plan faults dig ran.opened)) ran.lines.bytes before
+    pub before : Stream (SessionState (NodeAt NotesAt))
+    pub lines : Begins (node_rules told plan faults dig wallet_commands (wallet_parts ran.opened))
+        (begun (node_found told plan faults dig (wallet_parts ran.opened))) ran.lines.bytes before
     pub answered : before.count < ran.lines.stream.count
     pub line : WalletLine
     pub spelled : commanded wallet_line_in before.run (next_text ran.lines.bytes before) ≡ Some line

@@ -16,14 +16,14 @@ use Rattle.node_replies.specs.Orders.{operator_does}
 use Rattle.node_lines.specs.declared.operator_line.OperatorLine.{OperatorLine}
 use Rattle.node_answers.specs.Answers.{operator_outcome}
 use Rattle.node_answers.specs.Desks.{DeskRecords, desk_outcome, issue_outcome, migration_outcome, secret_of}
-use Rattle.node_roles.proofs.Refusals.{AddsNeitherRefused}
+use Rattle.node_roles.proofs.Refusals.{AddsNothingRefused}
 use Rattle.node_roles.proofs.OperatorRefusals.{offer-quiet, operator-quiet}
 
 -- an issue that goes on to the offer
 offered-quiet : (issued due : ℕ) (secret : Secret) (records : List (List ℕ)) (text : List ℕ)
     (offered : Effect (Result ℕ OfferRefusal))
     → ((why : OfferRefusal) → offered.answer ≡ Err why → offered.note ≡ None)
-    → AddsNeitherRefused
+    → AddsNothingRefused
     (issue_outcome issued due
     (record {
       answer = receipt_or secret records text offered.answer;
@@ -48,13 +48,13 @@ offered-quiet issued due secret records text offered quiet cause is = by offered
 
 -- one that is refused before it
 or-quiet : (issued due : ℕ) (cause : Option IssueRefusal) (effect : IssueEffect)
-    → AddsNeitherRefused (issue_outcome issued due effect)
-    → AddsNeitherRefused (issue_outcome issued due (issue_or cause effect))
+    → AddsNothingRefused (issue_outcome issued due effect)
+    → AddsNothingRefused (issue_outcome issued due (issue_or cause effect))
 or-quiet issued due None effect quiet = quiet
 or-quiet issued due (Some why) effect quiet = λ cause is. (refl, refl)
 
 issue-quiet : (dig : List ℕ → List ℕ) (log : List RootCall) (desk : DeskRecords) (bytes : List ℕ) (due : ℕ)
-    → AddsNeitherRefused
+    → AddsNothingRefused
     (issue_outcome (blocks log) due (issue_effect dig dig (secret_of desk.notes) desk.notes desk.leaves log bytes due))
 unfolding issue_effect offer_effect
 issue-quiet dig log desk bytes due =
@@ -63,21 +63,18 @@ issue-quiet dig log desk bytes due =
     (offer-quiet dig (who_is desk.notes).tag log (forest_in desk.notes) bytes
     (signed_in (who_is desk.notes).tag bytes)))
 
-migration-quiet : (marked : Bool) → AddsNeitherRefused (migration_outcome marked)
+migration-quiet : (marked : Bool) → AddsNothingRefused (migration_outcome marked)
 migration-quiet true cause is = (refl, refl)
 migration-quiet false cause is = cc
 
 pub desk-quiet : (dig : List ℕ → List ℕ) (log : List RootCall) (desk : DeskRecords) (line : OperatorLine)
-    → AddsNeitherRefused (desk_outcome dig log desk line)
+    → AddsNothingRefused (desk_outcome dig log desk line)
 unfolding desk_outcome operator_outcome operator_does
 desk-quiet dig log desk (OperatorLine.Receipt bytes due) = issue-quiet dig log desk bytes due
 desk-quiet dig log desk OperatorLine.Migrate = migration-quiet (is_marked desk.leaves)
-desk-quiet dig log desk (OperatorLine.Offer bytes) =
-    λ cause is. (refl, operator-quiet dig log desk.notes (OperatorLine.Offer bytes) cause is)
-desk-quiet dig log desk (OperatorLine.Lay coin bytes) =
-    λ cause is. (refl, operator-quiet dig log desk.notes (OperatorLine.Lay coin bytes) cause is)
-desk-quiet dig log desk OperatorLine.Seal =
-    λ cause is. (refl, operator-quiet dig log desk.notes OperatorLine.Seal cause is)
+desk-quiet dig log desk (OperatorLine.Offer bytes) = operator-quiet dig log desk.notes (OperatorLine.Offer bytes)
+desk-quiet dig log desk (OperatorLine.Lay coin bytes) = operator-quiet dig log desk.notes (OperatorLine.Lay coin bytes)
+desk-quiet dig log desk OperatorLine.Seal = operator-quiet dig log desk.notes OperatorLine.Seal
 desk-quiet dig log desk (OperatorLine.Bundle coin tip) = λ cause is. (refl, refl)
 desk-quiet dig log desk (OperatorLine.Prove coin block) = λ cause is. (refl, refl)
 desk-quiet dig log desk (OperatorLine.Absences coin after last) = λ cause is. (refl, refl)

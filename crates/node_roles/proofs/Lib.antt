@@ -1,5 +1,6 @@
-mod NotesLaws
 mod Refusals
+mod NodeLaws
+mod NotesLaws
 mod WatcherRefusals
 mod OperatorRefusals
 mod WalletLaws

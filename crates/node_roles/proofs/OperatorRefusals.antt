@@ -42,22 +42,28 @@ offer-quiet dig tag log forest bytes (Ok tx) why is =
 pub operator-quiet : (dig : List ℕ → List ℕ) (log : List RootCall) (notes : List (List ℕ)) (line : OperatorLine)
     → AddsNothingRefused (operator_outcome dig log notes line)
 unfolding operator_outcome operator_does offer_effect lay_effect seal_effect
-operator-quiet dig log notes (OperatorLine.Offer bytes) cause is =
-    refused-by offer_cause on_pooled (offer_effect dig notes log bytes).answer
-    ((offer_effect dig notes log bytes).note ≡ None) cause (λ a why wrong. cc)
-    (offer-quiet dig (who_is notes).tag log (forest_in notes) bytes (signed_in (who_is notes).tag bytes)) is
-operator-quiet dig log notes (OperatorLine.Lay coin bytes) cause is =
-    refused-by lay_cause (on_laid coin) (lay_effect coin bytes).answer ((lay_effect coin bytes).note ≡ None) cause
-    (λ a why wrong. cc)
-    (λ why. second-quiet (nat_lt MOST_LAID (length bytes)) tt (Some (note_text (Laid coin bytes))) _ why) is
-operator-quiet dig log notes OperatorLine.Seal cause is =
-    refused-by seal_cause on_sealed (seal_effect dig notes).answer ((seal_effect dig notes).note ≡ None) cause
-    (λ a why wrong. cc) (λ why wrong. cc) is
-operator-quiet dig log notes (OperatorLine.Bundle coin tip) cause is = refl
-operator-quiet dig log notes (OperatorLine.Prove coin block) cause is = refl
-operator-quiet dig log notes (OperatorLine.Absences coin after last) cause is = refl
-operator-quiet dig log notes (OperatorLine.Receipt bytes due) cause is = refl
-operator-quiet dig log notes OperatorLine.Migrate cause is = refl
+operator-quiet dig log notes (OperatorLine.Offer bytes) cause is = (
+  refl,
+  refused-by offer_cause on_pooled (offer_effect dig notes log bytes).answer
+      ((offer_effect dig notes log bytes).note ≡ None) cause (λ a why wrong. cc)
+      (offer-quiet dig (who_is notes).tag log (forest_in notes) bytes (signed_in (who_is notes).tag bytes)) is,
+)
+operator-quiet dig log notes (OperatorLine.Lay coin bytes) cause is = (
+  refl,
+  refused-by lay_cause (on_laid coin) (lay_effect coin bytes).answer ((lay_effect coin bytes).note ≡ None) cause
+      (λ a why wrong. cc)
+      (λ why. second-quiet (nat_lt MOST_LAID (length bytes)) tt (Some (note_text (Laid coin bytes))) _ why) is,
+)
+operator-quiet dig log notes OperatorLine.Seal cause is = (
+  refl,
+  refused-by seal_cause on_sealed (seal_effect dig notes).answer ((seal_effect dig notes).note ≡ None) cause
+      (λ a why wrong. cc) (λ why wrong. cc) is,
+)
+operator-quiet dig log notes (OperatorLine.Bundle coin tip) cause is = (refl, refl)
+operator-quiet dig log notes (OperatorLine.Prove coin block) cause is = (refl, refl)
+operator-quiet dig log notes (OperatorLine.Absences coin after last) cause is = (refl, refl)
+operator-quiet dig log notes (OperatorLine.Receipt bytes due) cause is = (refl, refl)
+operator-quiet dig log notes OperatorLine.Migrate cause is = (refl, refl)
 
 -- the tag is that of the first record
 pub operator-tag : (records : List (List ℕ)) → are_of operator_kinds records ≡ true → (body : List ℕ)

@@ -5,12 +5,8 @@ use Rattle.node_replies.specs.declared.reply.Reply.{Reply}
 use Rattle.node_replies.specs.Orders.{Response, answered}
 use Rattle.node_answers.specs.Answers.{said_by, given_text, Outcome}
 
--- of a command that adds notes alone; and of a wallet's, or of an operator's with a desk, which may add a leaf's record
 abbrev pub AddsNothingRefused : Outcome → Type 0
-AddsNothingRefused outcome = (cause : List ℕ) → outcome.says ≡ Err cause → outcome.note ≡ None
-
-abbrev pub AddsNeitherRefused : Outcome → Type 0
-AddsNeitherRefused outcome = (cause : List ℕ) → outcome.says ≡ Err cause → (outcome.leaf ≡ None) × (outcome.note ≡ None)
+AddsNothingRefused outcome = (cause : List ℕ) → outcome.says ≡ Err cause → (outcome.leaf ≡ None) × (outcome.note ≡ None)
 
 -- an answer that is none of the refusals gives a text
 no-refusal : (reply : Reply) (text cause : List ℕ) → ((why : List ℕ) → reply ≡ Reply.Refused why → ⊥)

@@ -1,5 +1,5 @@
--- A wallet's refused command adds nothing.
-use Rattle.std.proofs.Common.{◌≡◌, ℕ, Bool, true, false, List, [], ◌∷◌, ◌++◌, Option, None, Result, Ok, Err, refl, sym, subst, inl}
+-- A wallet's refused command adds nothing, and no command both a note and a leaf's record.
+use Rattle.std.proofs.Common.{◌≡◌, ◌⊎◌, ℕ, Bool, true, false, List, [], ◌∷◌, ◌++◌, Option, None, Result, Ok, Err, refl, sym, subst, inl}
 use Rattle.node_journal.specs.Role.{are_of}
 use Rattle.plasma_tx.specs.declared.owner.Owner.{Owner}
 use Rattle.plasma_tx.specs.declared.call.RootCall.{RootCall}
@@ -14,8 +14,10 @@ use Rattle.node_replies.specs.Causes.{wallet_cause}
 use Rattle.node_replies.specs.Orders.{on_accepted, on_sent, on_leaving, on_reclaimed, on_migrated, wallet_does}
 use Rattle.node_replies.proofs.WalletEnds.{AcceptEnds, accept_ends, SendEnds, send_ends, ReclaimEnds, reclaim_ends}
 use Rattle.node_lines.specs.declared.wallet_line.WalletLine.{WalletLine}
-use Rattle.node_answers.specs.Answers.{wallet_outcome}
-use Rattle.node_roles.proofs.Refusals.{AddsNeitherRefused, refused-by}
+use Rattle.node_deeds.proofs.WalletOrderLaws.{orders_add_one_record}
+use Rattle.node_answers.specs.declared.wallet.WalletAsk.{WalletAsk}
+use Rattle.node_answers.specs.Answers.{wallet_ask, asked, wallet_outcome}
+use Rattle.node_roles.proofs.Refusals.{AddsNothingRefused, refused-by}
 
 -- an effect that is refused adds nothing
 abbrev Quiet : {A : Type 0} → WalletEffect (Result A WalletRefusal) → Type 0
@@ -76,7 +78,7 @@ migrate-quiet wallet why is = by (is_marked wallet.leaves) refl
     by false marked = (let wrong = rw marked at is in cc)
 
 pub wallet-quiet : (dig : List ℕ → List ℕ) (log : List RootCall) (wallet : WalletRecords) (line : WalletLine)
-    → AddsNeitherRefused (wallet_outcome dig log wallet line)
+    → AddsNothingRefused (wallet_outcome dig log wallet line)
 unfolding wallet_outcome wallet_does
 wallet-quiet dig log wallet (WalletLine.Accept bundle) cause is =
     refused-by wallet_cause on_accepted (accept_effect dig wallet log bundle).answer _ cause
@@ -101,6 +103,18 @@ wallet-quiet dig log wallet WalletLine.Migrate cause is =
 wallet-quiet dig log wallet WalletLine.Watch cause is = (refl, refl)
 wallet-quiet dig log wallet (WalletLine.State coin) cause is = (refl, refl)
 wallet-quiet dig log wallet WalletLine.Who cause is = (refl, refl)
+
+-- a command adds a note or a leaf's record at most
+asks-add-one : (dig : List ℕ → List ℕ) (log : List RootCall) (wallet : WalletRecords) (ask : WalletAsk)
+    → ((asked dig log wallet ask).note ≡ None) ⊎ ((asked dig log wallet ask).leaf ≡ None)
+asks-add-one dig log wallet (WalletAsk.Order order) = orders_add_one_record dig log wallet order
+asks-add-one dig log wallet (WalletAsk.State coin) = inl refl
+asks-add-one dig log wallet WalletAsk.Who = inl refl
+
+pub wallet-adds-one : (dig : List ℕ → List ℕ) (log : List RootCall) (wallet : WalletRecords) (line : WalletLine)
+    → ((wallet_outcome dig log wallet line).note ≡ None) ⊎ ((wallet_outcome dig log wallet line).leaf ≡ None)
+unfolding wallet_outcome
+wallet-adds-one dig log wallet line = asks-add-one dig log wallet (wallet_ask line)
 
 -- the tag is that of the first note
 pub wallet-tag : (dig : List ℕ → List ℕ) (notes : List (List ℕ)) → are_of (wallet_kinds dig) notes ≡ true

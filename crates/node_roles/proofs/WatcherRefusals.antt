@@ -25,17 +25,21 @@ guard-quiet log guards (Ok links) why is =
 pub watcher-quiet : (dig : List ℕ → List ℕ) (log : List RootCall) (notes : List (List ℕ)) (line : WatcherLine)
     → AddsNothingRefused (watcher_outcome dig log notes line)
 unfolding watcher_outcome watcher_does guard_effect release_effect
-watcher-quiet dig log notes (WatcherLine.Guard bundle) cause is =
-    refused-by watcher_cause on_guarded (guard_effect dig notes log bundle).answer
-    ((guard_effect dig notes log bundle).note ≡ None) cause (λ a why wrong. cc)
-    (guard-quiet log (guards_in dig notes) (links_handed dig (who_is notes).tag log bundle)) is
-watcher-quiet dig log notes (WatcherLine.Release coin tip) cause is =
-    refused-by watcher_cause on_released (release_effect dig notes coin tip).answer
-    ((release_effect dig notes coin tip).note ≡ None) cause (λ a why wrong. cc)
-    (λ why.
-    first-quiet (list_any (is_of coin tip) (guards_in dig notes)) tt (Some (note_text (Released coin tip))) _ why)
-    is
-watcher-quiet dig log notes WatcherLine.Watch cause is = refl
+watcher-quiet dig log notes (WatcherLine.Guard bundle) cause is = (
+  refl,
+  refused-by watcher_cause on_guarded (guard_effect dig notes log bundle).answer
+      ((guard_effect dig notes log bundle).note ≡ None) cause (λ a why wrong. cc)
+      (guard-quiet log (guards_in dig notes) (links_handed dig (who_is notes).tag log bundle)) is,
+)
+watcher-quiet dig log notes (WatcherLine.Release coin tip) cause is = (
+  refl,
+  refused-by watcher_cause on_released (release_effect dig notes coin tip).answer
+      ((release_effect dig notes coin tip).note ≡ None) cause (λ a why wrong. cc)
+      (λ why.
+      first-quiet (list_any (is_of coin tip) (guards_in dig notes)) tt (Some (note_text (Released coin tip))) _ why)
+      is,
+)
+watcher-quiet dig log notes WatcherLine.Watch cause is = (refl, refl)
 
 -- the tag is that of the first record
 pub watcher-tag : (dig : List ℕ → List ℕ) (records : List (List ℕ)) → are_of (watcher_kinds dig) records ≡ true

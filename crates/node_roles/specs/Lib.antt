@@ -1,5 +1,4 @@
 pub mod Notes
-pub mod Deeds
-pub mod Wallets
-pub mod Desks
-pub mod Records
+pub mod Parts
+pub mod Nodes
+pub mod Roles

@@ -1,5 +1,5 @@
--- Where the commands of a node leave its notes, or where one was stopped: the records, and what their disk tells.
-use Rattle.std.specs.Prelude.{◌≡◌, ◌⊎◌, ℕ, ◌<◌, true, false, List, [], ◌∷◌, ◌++◌, length, Option, Some, None, option_map}
+-- Where commands leave notes, or the leaves of a key, or where one was stopped: the records, and what their disk tells.
+use Rattle.std.specs.Prelude.{◌≡◌, ℕ, ◌<◌, true, false, List, [], ◌∷◌, ◌++◌, length, Option, Some, None, option_map}
 use Rattle.plasma_base.specs.Causes.{faults_after}
 use Rattle.crash_disk.specs.Disk.{History}
 use Rattle.crash_disk.specs.Calls.{Course, passed, failed_after, after_course, WhereTold}
@@ -7,17 +7,6 @@ use Rattle.node_journal.specs.Image.{spelled}
 use Rattle.node_journal.specs.Journal.{IsSettled}
 use Rattle.node_journal.specs.Steps.{append_steps}
 use Rattle.node_journal.specs.Notes.{NotesState, KeepsAtAnyMoment}
-use Rattle.node_journal.specs.declared.stop.Stop.{Stop}
-use Rattle.node_journal.specs.declared.stop.Stop.TheVariants.{Closed, NoMemory, DeviceFault}
-
--- Where a node is that commands came to: what it keeps, and the digest by which it judges openings, which stays.
-pub record NodeAt (K : Type 0) : Type 0 where
-  pub kept : K
-  pub dig : List ℕ → List ℕ
-
--- it keeps this instead
-abbrev pub keeping : {K : Type 0} → NodeAt K → K → NodeAt K
-keeping at kept = record { kept = kept; dig = at.dig }
 
 -- the records of notes, what their disk tells, and its count of faults
 pub record NotesAt : Type 0 where
@@ -38,16 +27,16 @@ with_note at (Some body) =
 -- over a disk that tells its history and counts its faults
 module _ {D : Type 0} (told : D → Option History) (faults : D → ℕ) where
   -- notes that were there and weren't asked, whether they are open or not: each image of a crash now keeps the records
-  pub record StaysAt (notes : NotesState D) (at : NotesAt) : Type 0 where
+  pub record StaysAt (at : NotesAt) (notes : NotesState D) : Type 0 where
     pub records_are : notes.records ≡ at.records
     pub told_is : told notes.disk ≡ at.told
     pub faults_are : faults notes.disk ≡ at.faults
     pub settled : WhereTold (told notes.disk) (λ now. IsSettled now notes.records)
 
   -- open notes are there
-  pub record IsNotesAt (notes : NotesState D) (at : NotesAt) : Type 0 where
+  pub record IsNotesAt (at : NotesAt) (notes : NotesState D) : Type 0 where
     pub is_open : notes.closed ≡ false
-    pub there : StaysAt notes at
+    pub there : StaysAt at notes
 
   -- Notes that were there met a device fault in one of the four calls of the append of this record, which closed them.
   -- The records in memory stay, and each image of a crash at a moment of it keeps them, or them and the new one.
@@ -59,15 +48,3 @@ module _ {D : Type 0} (told : D → Option History) (faults : D → ℕ) where
     pub told_is : told notes.disk ≡ told_after (failed_after passed) at body
     pub any_moment : KeepsAtAnyMoment at.records body at.told (told notes.disk)
     pub faults_are : faults notes.disk ≡ faults_after at.faults true
-
-  -- the same of a command that adds this record, or none: only one that is to add a record meets a fault
-  abbrev pub FailsAt : Option (List ℕ) → NotesAt → NotesState D → Type 0
-  FailsAt None at notes = ⊥
-  FailsAt (Some body) at notes = FailedAt body at notes
-
-  -- Notes that were there were stopped so in a command that adds this record, or none. Where memory ran out it may have
-  -- been done before. Open notes aren't found closed.
-  abbrev pub StoppedAt : Option (List ℕ) → NotesAt → Stop → NotesState D → Type 0
-  StoppedAt added at NoMemory notes = IsNotesAt notes at ⊎ IsNotesAt notes (with_note at added)
-  StoppedAt added at DeviceFault notes = FailsAt added at notes
-  StoppedAt added at Closed notes = ⊥

@@ -16,32 +16,33 @@ pub struct DeskRun<D: Disk, H: Hash32 + Copy> {
 }
 
 impl<D: Disk, H: Hash32 + Copy> Commanded for DeskRun<D, H> {
-    ghost use Rattle.std.specs.Prelude.{◌≡◌, false};
+    ghost use Rattle.std.specs.Prelude.{◌≡◌, false, ◌&&◌};
     ghost use Rattle.lms_sign.specs.Tree.{public_key_of};
     ghost use Rattle.leaf_journal.specs.NodeWords.{notes_of};
     ghost use Rattle.operator_rules.specs.Records.{who_is};
     ghost use Rattle.node_lines.specs.Grammar.{operator_line_in};
-    ghost use Rattle.node_answers.specs.Desks.{desk_outcome, secret_of};
-    ghost use Rattle.node_roles.specs.Notes.{NodeAt};
-    ghost use Rattle.node_roles.specs.Desks.{DeskAt, records_of_desk, desk_does, IsDeskAt, DeskStoppedAt};
+    ghost use Rattle.node_answers.specs.Desks.{secret_of};
+    ghost use Rattle.node_roles.specs.Notes.{NotesAt};
+    ghost use Rattle.node_roles.specs.Parts.{both};
+    ghost use Rattle.node_roles.specs.Nodes.{NodeAt, outcome_at, node_does, IsNodeAt, StoppedAt};
+    ghost use Rattle.node_roles.specs.Roles.{desk_commands};
 
     type Command = OperatorLine;
 
-    ghost At = { NodeAt DeskAt };
+    ghost At = { NodeAt NotesAt };
 
     ghost tag = { λ run. (who_is run.keyed.node.notes.records).tag };
 
     ghost command_in = { λ _. operator_line_in };
 
-    ghost does = { λ _. desk_does };
+    ghost does = { λ _. node_does desk_commands };
 
     ghost is_at = { λ run at. (H.digest_of run.keyed.node.hash ≡ at.dig)
-        × IsDeskAt D.told D.faults run.keyed.node.notes (notes_of run.keyed.desk) at.kept };
+        × IsNodeAt D.told D.faults at.kept (both run.keyed.node.notes (notes_of run.keyed.desk)) };
 
-    ghost is_stopped = { λ run log at line stop. DeskStoppedAt D.told D.faults
-        (desk_outcome at.dig log (records_of_desk at.kept) line).note
-        (desk_outcome at.dig log (records_of_desk at.kept) line).leaf at.kept stop run.keyed.node.notes
-        (notes_of run.keyed.desk) };
+    ghost is_stopped = { λ run log at line stop. StoppedAt D.told D.faults
+        (outcome_at desk_commands log at line) at.kept stop (both run.keyed.node.notes (notes_of run.keyed.desk))
+        × ((run.keyed.node.notes.closed && run.keyed.desk.closed) ≡ false) };
 
     ghost is_open = { λ run. (run.keyed.node.notes.closed ≡ false) × (run.keyed.desk.closed ≡ false)
         × (run.keyed.key ≡ secret_of run.keyed.node.notes.records)

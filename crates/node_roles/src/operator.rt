@@ -20,9 +20,10 @@ impl<D: Disk, H: Hash32 + Copy> Commanded for OperatorRun<D, H> {
     ghost use Rattle.std.specs.Prelude.{◌≡◌, false};
     ghost use Rattle.operator_rules.specs.Records.{who_is};
     ghost use Rattle.node_lines.specs.Grammar.{operator_line_in};
-    ghost use Rattle.node_answers.specs.Answers.{operator_outcome};
-    ghost use Rattle.node_roles.specs.Notes.{NodeAt, NotesAt, IsNotesAt, StoppedAt};
-    ghost use Rattle.node_roles.specs.Deeds.{operator_does};
+    ghost use Rattle.node_roles.specs.Notes.{NotesAt};
+    ghost use Rattle.node_roles.specs.Parts.{alone};
+    ghost use Rattle.node_roles.specs.Nodes.{NodeAt, outcome_at, node_does, IsNodeAt, StoppedAt};
+    ghost use Rattle.node_roles.specs.Roles.{operator_commands};
 
     type Command = OperatorLine;
 
@@ -32,13 +33,13 @@ impl<D: Disk, H: Hash32 + Copy> Commanded for OperatorRun<D, H> {
 
     ghost command_in = { λ _. operator_line_in };
 
-    ghost does = { λ _. operator_does };
+    ghost does = { λ _. node_does operator_commands };
 
     ghost is_at = { λ run at. (H.digest_of run.node.hash ≡ at.dig)
-        × IsNotesAt D.told D.faults run.node.notes at.kept };
+        × IsNodeAt D.told D.faults at.kept (alone run.node.notes) };
 
     ghost is_stopped = { λ run log at line stop. StoppedAt D.told D.faults
-        (operator_outcome at.dig log at.kept.records line).note at.kept stop run.node.notes };
+        (outcome_at operator_commands log at line) at.kept stop (alone run.node.notes) };
 
     ghost is_open = { λ run. run.node.notes.closed ≡ false };
 

@@ -20,26 +20,25 @@ impl<D: Disk, H: Hash32 + Copy> Commanded for WalletRun<D, H> {
     ghost use Rattle.std.specs.Prelude.{◌≡◌, false};
     ghost use Rattle.node_rules.specs.Wallet.{who};
     ghost use Rattle.node_lines.specs.Grammar.{wallet_line_in};
-    ghost use Rattle.node_answers.specs.Answers.{wallet_outcome};
-    ghost use Rattle.node_roles.specs.Notes.{NodeAt};
-    ghost use Rattle.node_roles.specs.Wallets.{WalletAt, records_of, wallet_does, IsWalletAt, WalletStoppedAt};
+    ghost use Rattle.node_roles.specs.Notes.{NotesAt};
+    ghost use Rattle.node_roles.specs.Nodes.{NodeAt, outcome_at, node_does, IsNodeAt, StoppedAt};
+    ghost use Rattle.node_roles.specs.Roles.{wallet_parts, wallet_commands};
 
     type Command = WalletLine;
 
-    ghost At = { NodeAt WalletAt };
+    ghost At = { NodeAt NotesAt };
 
     ghost tag = { λ run. (who run.node.records).tag };
 
     ghost command_in = { λ _. wallet_line_in };
 
-    ghost does = { λ _. wallet_does };
+    ghost does = { λ _. node_does wallet_commands };
 
     ghost is_at = { λ run at. (H.digest_of run.node.hash ≡ at.dig)
-        × IsWalletAt D.told D.faults run.node at.kept };
+        × IsNodeAt D.told D.faults at.kept (wallet_parts run.node) };
 
-    ghost is_stopped = { λ run log at line stop. WalletStoppedAt D.told D.faults
-        (wallet_outcome at.dig log (records_of at.kept) line).leaf
-        (wallet_outcome at.dig log (records_of at.kept) line).note at.kept stop run.node };
+    ghost is_stopped = { λ run log at line stop. StoppedAt D.told D.faults
+        (outcome_at wallet_commands log at line) at.kept stop (wallet_parts run.node) };
 
     ghost is_open = { λ run. run.node.closed ≡ false };
 

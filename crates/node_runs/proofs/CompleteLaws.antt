@@ -12,26 +12,21 @@ use Rattle.node_journal.specs.Begin.{is_taken, journal_steps, init_steps, Inits,
 use Rattle.node_journal.specs.Notes.{NotesState, Opened, RefusesRole}
 use Rattle.node_journal.specs.Role.{role_in}
 use Rattle.leaf_journal.specs.Records.{leaf_records_in_of}
-use Rattle.node_lines.specs.declared.operator_line.OperatorLine.{OperatorLine}
-use Rattle.node_lines.specs.declared.wallet_line.WalletLine.{WalletLine}
-use Rattle.node_lines.specs.Grammar.{watcher_line_in, operator_line_in, wallet_line_in}
-use Rattle.node_rules.specs.Watcher.{watcher_kinds, who_is as watcher_is}
-use Rattle.node_rules.specs.Wallet.{WalletRecords, who as wallet_is}
+use Rattle.node_rules.specs.Watcher.{watcher_kinds}
+use Rattle.node_rules.specs.Wallet.{WalletRecords}
 use Rattle.node_rules.specs.WalletRecords.{wallet_kinds, is_body, leaves_in, notes_of, are_bound_notes}
 use Rattle.node_rules.specs.WalletOpening.{leaves_of, are_bound}
 use Rattle.operator_rules.specs.Records.{operator_kinds, who_is as operator_is}
 use Rattle.wallet_core.specs.declared.notes.LeafRecord.{LeafRecord}
 use Rattle.wallet_node.specs.State.{WalletState, notes_part}
 use Rattle.wallet_node.specs.Opening.{OpensWallet, RefusesWallet, IsUnbound}
-use Rattle.node_answers.specs.Answers.{Outcome, watcher_outcome, operator_outcome, wallet_outcome}
-use Rattle.node_answers.specs.Desks.{DeskRecords, desk_records, desk_outcome}
-use Rattle.node_roles.specs.Notes.{NodeAt, keeping, NotesAt, with_note}
-use Rattle.node_roles.specs.Deeds.{left_with, notes_do}
-use Rattle.node_roles.specs.Wallets.{WalletAt, records_of, with_either, wallet_does}
-use Rattle.node_roles.specs.Desks.{DeskAt, records_of_desk, with_each, desk_does}
-use Rattle.node_roles.specs.Records.{with_record, with_either_record, with_each_record, records_do, wallet_records_do, desk_records_do}
+use Rattle.node_replies.specs.Orders.{with_record}
+use Rattle.node_answers.specs.Answers.{Outcome}
+use Rattle.node_roles.specs.Notes.{NotesAt, with_note}
+use Rattle.node_roles.specs.Parts.{Parts, alone, both, of_each, with_effect}
+use Rattle.node_roles.specs.Nodes.{NodeAt, keeping, records_at, Commands, left_with, outcome_at, node_does, records_do}
+use Rattle.node_roles.specs.Roles.{watcher_commands, operator_commands, desk_commands, wallet_commands, wallet_parts}
 use Rattle.node_sessions.specs.Sessions.{SessionState, begun}
-use Rattle.node_sessions.specs.Laws.{KeepTheRules}
 use Rattle.node_sessions.proofs.CompleteLaws.{done-are_answered, keep-by_part}
 use Rattle.node_sessions.proofs.StayLaws.{ok-same}
 use Rattle.streamed_lines.specs.declared.ending.Ending.{Ending}
@@ -46,12 +41,12 @@ use Rattle.run_endings.specs.Outputs.{EndsAs}
 use Rattle.run_endings.proofs.EndingLaws.{ends-done}
 use Rattle.run_endings.specs.Endings.{status_of, session_output, fault_output}
 use Rattle.node_runs.specs.Endings.{refused_output, init_output}
-use Rattle.node_runs.specs.Disks.{opened_at, both_opened}
+use Rattle.node_runs.specs.Disks.{opened_at}
 use Rattle.node_runs.specs.Sessions.{Outside, BrokenAt, RunsSession}
-use Rattle.node_runs.specs.Runs.{NotesSession, RunsNotes, RunsWatcher, RunsWallet}
-use Rattle.node_runs.specs.Operators.{desk_records_in, operator_tag, desk_found, RefusesDesk, RunsBehind, RunsOperator}
+use Rattle.node_runs.specs.Runs.{node_found, NodeSession, RunsWatcher, RunsWallet}
+use Rattle.node_runs.specs.Operators.{desk_records_in, RefusesDesk, RunsBehind, RunsOperator}
 use Rattle.node_runs.specs.Inits.{InitsNotes, InitsPair}
-use Rattle.node_runs.specs.Complete.{NotesComplete, WatcherComplete, KeepOperatorRules, OperatorComplete, WalletComplete, InitComplete, InitBothComplete}
+use Rattle.node_runs.specs.Complete.{KeepNodeRules, WatcherComplete, KeepOperatorRules, OperatorComplete, WalletComplete, InitComplete, InitBothComplete}
 
 -- ---- a command does to a node what it does to its records
 
@@ -63,35 +58,31 @@ left-as part next of left (Ok answer) text same is =
     (next, ap (λ (p : _ × List ℕ). Ok (next, p.1)) e, same ∙ ap (λ (p : _ × List ℕ). p.0) e)
 left-as part next of left (Err cause) text same is = absurd (cc (is))
 
--- the records of a node over notes, of a wallet, and of an operator with a key
-abbrev notes-part : NodeAt NotesAt → NodeAt (List (List ℕ))
-notes-part at = record { kept = at.kept.records; dig = at.dig }
+-- the records of a node
+abbrev records-part : NodeAt NotesAt → NodeAt (List (List ℕ))
+records-part at = record { kept = records_at at.kept; dig = at.dig }
 
-abbrev wallet-part : NodeAt WalletAt → NodeAt WalletRecords
-wallet-part at = record { kept = records_of at.kept; dig = at.dig }
+note-kept : (at : NotesAt) (added : Option (List ℕ)) → (with_note at added).records ≡ with_record at.records added
+note-kept at None = refl
+note-kept at (Some body) = refl
 
-abbrev desk-part : NodeAt DeskAt → NodeAt DeskRecords
-desk-part at = record { kept = records_of_desk at.kept; dig = at.dig }
+leaf-kept : (at : Option NotesAt) (added : Option (List ℕ))
+    → option_map (λ leaves. leaves.records) (option_map (λ leaves. with_note leaves added) at)
+    ≡ option_map (λ records. with_record records added) (option_map (λ leaves. leaves.records) at)
+leaf-kept None added = refl
+leaf-kept (Some at) added = ap Some (note-kept at added)
 
-notes-kept : (at : NodeAt NotesAt) (added : Option (List ℕ))
-    → notes-part (keeping at (with_note at.kept added)) ≡ keeping (notes-part at) (with_record at.kept.records added)
-notes-kept at None = refl
-notes-kept at (Some body) = refl
-
-wallet-kept : (at : NodeAt WalletAt) (leaf added : Option (List ℕ))
-    → wallet-part (keeping at (with_either at.kept leaf added))
-    ≡ keeping (wallet-part at) (with_either_record (records_of at.kept) leaf added)
-wallet-kept at None None = refl
-wallet-kept at None (Some body) = refl
-wallet-kept at (Some leaf) added = refl
-
-desk-kept : (at : NodeAt DeskAt) (note leaf : Option (List ℕ))
-    → desk-part (keeping at (with_each at.kept note leaf))
-    ≡ keeping (desk-part at) (with_each_record (records_of_desk at.kept) note leaf)
-desk-kept at None None = refl
-desk-kept at None (Some record_of) = refl
-desk-kept at (Some body) None = refl
-desk-kept at (Some body) (Some record_of) = refl
+node-kept : (at : NodeAt NotesAt) (outcome : Outcome)
+    → records-part (keeping at (with_effect with_note at.kept outcome))
+    ≡ keeping (records-part at) (with_effect with_record (records_at at.kept) outcome)
+node-kept at outcome =
+    λ i. record {
+      kept = record {
+        notes = note-kept at.kept.notes outcome.note i;
+        leaves = leaf-kept at.kept.leaves outcome.leaf i;
+      };
+      dig = at.dig;
+    }
 
 -- ---- by the status
 
@@ -166,49 +157,43 @@ module _ {D : Type 0} (told : D → Option History) (plan : D → Option FaultPl
       let refused = subst (λ w. RefusesRole told plan faults read old w new) foreign refuses in
       ok-not (read (content history)) records place reads (refused.refused.1 history is)
 
-  opened-complete : {L : Type 0} (read : List ℕ → Result (List (List ℕ)) ℕ) (tag : List (List ℕ) → List ℕ)
-      (command_in : List ℕ → Option L) (outcome : (List ℕ → List ℕ) → List RootCall → List (List ℕ) → L → Outcome)
-      (old new : D) (opened : NotesState D) → Opened told plan faults read old opened
-      → (outside : Outside) (failed : Type 0) (status : Status)
-      → NotesSession told plan faults dig read tag command_in outcome opened new outside failed status
-      → NotesComplete told dig outside.left status read tag command_in outcome old
-  opened-complete {L = L} read tag command_in outcome old new opened opens outside failed status runs
-      history records input is reads left keep =
-      let same : records ≡ opened.records = ok-same _ records opened.records reads (opens.kept history is) in
-      let does = λ (log : List RootCall) (at : NodeAt NotesAt) (line : L).
-      notes_do at (outcome at.dig log at.kept.records line) in
-      let part_does = λ (log : List RootCall) (at : NodeAt (List (List ℕ))) (line : L).
-      records_do at (outcome at.dig log at.kept line) in
-      let found : NodeAt NotesAt = record { kept = opened_at told faults opened; dig = dig } in
-      session-done _ command_in found _ _ _ outside failed status input left
-      (done-are_answered (tag opened.records) command_in does found input
-      (keep-by_part (tag opened.records) command_in does part_does notes-part
-      (λ log at line next text done.
-      left-as notes-part _ _ next (outcome at.dig log at.kept.records line).says text
-      (notes-kept at (outcome at.dig log at.kept.records line).note) done)
-      found (lines_in input)
-      (subst (λ (rs : List (List ℕ)). KeepTheRules (tag rs) command_in part_does (record { kept = rs; dig = dig })
-      (lines_in input)) same keep)))
-      runs
+  leaves-opened : (leaves : Option (NotesState D))
+      → option_map (λ notes. notes.records) leaves
+      ≡ option_map (λ at. at.records) (option_map (opened_at told faults) leaves)
+  leaves-opened None = refl
+  leaves-opened (Some leaves) = refl
 
-  notes-complete : {L : Type 0} (read : List ℕ → Result (List (List ℕ)) ℕ) (tag : List (List ℕ) → List ℕ)
-      (command_in : List ℕ → Option L) (outcome : (List ℕ → List ℕ) → List RootCall → List (List ℕ) → L → Outcome)
-      (old new : D) (outside : Outside) (failed : Type 0) (status : Status)
-      → RunsNotes told plan faults dig read tag command_in outcome old new outside failed status
-      → NotesComplete told dig outside.left status read tag command_in outcome old
-  notes-complete read tag command_in outcome old new outside failed status (inl (opened, opens, runs)) =
-      opened-complete read tag command_in outcome old new opened opens outside failed status runs
-  notes-complete read tag command_in outcome old new outside failed status (inr (why, refuses, refused)) =
-      λ history records input is reads left keep.
-      refused-done why status _ _ (own-image read old new history records is reads why refuses) refused.ends
+  -- of a node that was opened with these records
+  session-complete : {L : Type 0} (commands : Commands L) (opened : Parts (NotesState D)) (disks : Parts D)
+      (outside : Outside) (failed : Type 0) (status : Status) (records : Parts (List (List ℕ))) (input : List ℕ)
+      → records ≡ of_each (λ notes. notes.records) opened → outside.left ≡ Some input
+      → KeepNodeRules told dig outside.left status commands records (lines_in input)
+      → NodeSession told plan faults dig commands opened disks outside failed status → IsDoneUnlessFailed status
+  session-complete commands opened disks outside failed status records input same left keep runs =
+      let found : NodeAt NotesAt = node_found told plan faults dig opened in
+      session-done _ commands.command_in found _ _ _ outside failed status input left
+      (done-are_answered (commands.tag opened.notes.records) commands.command_in (node_does commands) found input
+      (keep-by_part (commands.tag opened.notes.records) commands.command_in (node_does commands) (records_do commands)
+      records-part
+      (λ log at line next text done.
+      left-as records-part _ _ next (outcome_at commands log at line).says text
+      (node-kept at (outcome_at commands log at line)) done)
+      found (lines_in input)
+      (subst (λ (rs : Parts (List (List ℕ))). KeepNodeRules told dig outside.left status commands rs (lines_in input))
+      (same ∙ (λ i. record { notes = opened.notes.records; leaves = leaves-opened opened.leaves i })) keep)))
+      runs
 
   pub watcher-complete : (old new : D) (outside : Outside) (failed : Type 0) (status : Status)
       → RunsWatcher told plan faults dig old new outside failed status
       → WatcherComplete told dig outside.left status old
   unfolding RunsWatcher
-  watcher-complete old new outside failed status runs =
-      notes-complete (role_in (watcher_kinds dig)) (λ records. (watcher_is records).tag) watcher_line_in
-      watcher_outcome old new outside failed status runs
+  watcher-complete old new outside failed status (inl (opened, opens, runs)) history records input is reads left keep =
+      session-complete watcher_commands (alone opened) (alone new) outside failed status (alone records) input
+      (ap alone (ok-same _ records opened.records reads (opens.kept history is))) left keep runs
+  watcher-complete old new outside failed status (inr (why, refuses, refused)) history records input is reads left
+      keep =
+      refused-done why status _ _
+      (own-image (role_in (watcher_kinds dig)) old new history records is reads why refuses) refused.ends
 
   -- ---- an operator
 
@@ -229,30 +214,18 @@ module _ {D : Type 0} (told : D → Option History) (plan : D → Option FaultPl
         → KeepOperatorRules told dig outside.left status seed opened.records leaves (lines_in input)
         → IsDoneUnlessFailed status
     behind-complete None opened opens (runs, stays) history input is left keep =
-        opened-complete (role_in operator_kinds) operator_tag operator_line_in operator_outcome notes new_notes opened
-        opens outside failed status runs history opened.records input is (opens.kept history is) left keep
+        session-complete operator_commands (alone opened) (alone new_notes) outside failed status
+        (alone opened.records) input refl left keep runs
     behind-complete (Some seed) opened opens (inl (desk, opens_desk, runs)) history input is left
         (of_leaves, bound, leaves_told, leaves_are, keep) =
-        let same : bound ≡ desk.records =
-        ok-same _ bound desk.records leaves_are (opens_desk.kept of_leaves leaves_told) in
-        let part_does = λ (log : List RootCall) (at : NodeAt DeskRecords) (line : OperatorLine).
-        desk_records_do at (desk_outcome at.dig log at.kept line) in
-        let found : NodeAt DeskAt = desk_found told plan faults dig opened desk in
-        session-done _ operator_line_in found _ _ _ outside failed status input left
-        (done-are_answered (operator_tag opened.records) operator_line_in desk_does found input
-        (keep-by_part (operator_tag opened.records) operator_line_in desk_does part_does desk-part
-        (λ log at line next text done.
-        left-as desk-part _ _ next (desk_outcome at.dig log (records_of_desk at.kept) line).says text
-        (desk-kept at (desk_outcome at.dig log (records_of_desk at.kept) line).note
-        (desk_outcome at.dig log (records_of_desk at.kept) line).leaf) done)
-        found (lines_in input)
-        (subst (λ (rs : List (List ℕ)). KeepTheRules (operator_tag opened.records) operator_line_in part_does
-        (record { kept = desk_records opened.records rs; dig = dig }) (lines_in input)) same keep)))
-        runs
-    behind-complete (Some seed) opened opens (inr (why, refuses, stays, refused)) history input is left
+        session-complete desk_commands (both opened desk) (both new_notes new_leaves) outside failed status
+        (both opened.records bound) input
+        (ap (both opened.records)
+        (ok-same _ bound desk.records leaves_are (opens_desk.kept of_leaves leaves_told))) left keep runs
+    behind-complete (Some seed) opened opens (inr (why, refuses, refused)) history input is left
         (of_leaves, bound, leaves_told, leaves_are, keep) =
         refused-done why status _ _
-        (desk-own seed leaves new_leaves of_leaves bound leaves_told leaves_are why refuses) refused.ends
+        (desk-own seed leaves new_leaves of_leaves bound leaves_told leaves_are why refuses.0) refused.ends
 
     pub operator-complete : RunsOperator told plan faults dig notes leaves new_notes new_leaves outside failed status
         → OperatorComplete told dig outside.left status notes leaves
@@ -262,9 +235,9 @@ module _ {D : Type 0} (told : D → Option History) (plan : D → Option FaultPl
         behind-complete (operator_is opened.records).key_seed opened opens behind history input is left
         (subst (λ (rs : List (List ℕ)). KeepOperatorRules told dig outside.left status (operator_is rs).key_seed rs leaves
         (lines_in input)) same keep)
-    operator-complete (inr (why, refuses, stays, refused)) history records input is reads left keep =
+    operator-complete (inr (why, refuses, refused)) history records input is reads left keep =
         refused-done why status _ _
-        (own-image (role_in operator_kinds) notes new_notes history records is reads why refuses) refused.ends
+        (own-image (role_in operator_kinds) notes new_notes history records is reads why refuses.0) refused.ends
 
   -- ---- a wallet
 
@@ -325,22 +298,11 @@ module _ {D : Type 0} (told : D → Option History) (plan : D → Option FaultPl
   unfolding RunsWallet
   wallet-complete notes leaves new_notes new_leaves outside failed status (inl (opened, opens, runs))
       of_notes of_leaves wallet input notes_told leaves_told notes_are leaves_are bound left keep =
-      let same = opened-wallet notes leaves of_notes of_leaves wallet notes_told leaves_told notes_are leaves_are bound
-      opened opens in
-      let part_does = λ (log : List RootCall) (at : NodeAt WalletRecords) (line : WalletLine).
-      wallet_records_do at (wallet_outcome at.dig log at.kept line) in
-      let found : NodeAt WalletAt = record { kept = both_opened told faults opened; dig = dig } in
-      session-done _ wallet_line_in found _ _ _ outside failed status input left
-      (done-are_answered (wallet_is opened.records).tag wallet_line_in wallet_does found input
-      (keep-by_part (wallet_is opened.records).tag wallet_line_in wallet_does part_does wallet-part
-      (λ log at line next text done.
-      left-as wallet-part _ _ next (wallet_outcome at.dig log (records_of at.kept) line).says text
-      (wallet-kept at (wallet_outcome at.dig log (records_of at.kept) line).leaf
-      (wallet_outcome at.dig log (records_of at.kept) line).note) done)
-      found (lines_in input)
-      (subst (λ (rs : WalletRecords). KeepTheRules (wallet_is rs).tag wallet_line_in part_does
-      (record { kept = rs; dig = dig }) (lines_in input)) same keep)))
-      runs
+      session-complete wallet_commands (wallet_parts opened) (both new_notes new_leaves) outside failed status
+      (both wallet.notes wallet.leaves) input
+      (ap (λ (w : WalletRecords). both w.notes w.leaves)
+      (opened-wallet notes leaves of_notes of_leaves wallet notes_told leaves_told notes_are leaves_are bound opened
+      opens)) left keep runs
   wallet-complete notes leaves new_notes new_leaves outside failed status (inr (why, refuses, refused))
       of_notes of_leaves wallet input notes_told leaves_told notes_are leaves_are bound left keep =
       refused-done why status _ _

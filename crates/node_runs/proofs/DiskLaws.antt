@@ -1,21 +1,39 @@
 -- The disks of a node that is somewhere, as they are handed back.
-use Rattle.std.proofs.Common.{◌≡◌, ◌⊎◌, ℕ, false, List, Option, Some, None, Result, refl, subst, inl, inr}
+use Rattle.std.proofs.Common.{◌≡◌, ◌⊎◌, ℕ, false, List, Option, Some, None, option_map, refl, subst, inl, inr}
 use Rattle.crash_disk.specs.Disk.{History, FaultPlan}
 use Rattle.crash_disk.specs.Calls.{WhereTold}
+use Rattle.plasma_tx.specs.declared.call.RootCall.{RootCall}
 use Rattle.node_journal.specs.Journal.{IsSettled}
-use Rattle.node_journal.specs.Notes.{NotesState, Opened}
-use Rattle.wallet_node.specs.Opening.{OpensWallet}
-use Rattle.wallet_node.specs.State.{WalletState, notes_part, leaves_part}
-use Rattle.node_journal.specs.declared.stop.Stop.TheVariants.{NoMemory}
-use Rattle.node_roles.specs.Notes.{NotesAt, with_note, StaysAt, IsNotesAt, FailedAt, FailsAt, StoppedAt}
-use Rattle.node_roles.specs.Wallets.{WalletAt, with_either, IsWalletAt, EitherFailsAt, WalletStoppedAt}
-use Rattle.node_roles.specs.Desks.{DeskAt, with_each, IsDeskAt, EachFailsAt, DeskStoppedAt}
-use Rattle.node_runs.specs.Disks.{Keeps, MayKeep, Failed, opened_at, both_opened, KeepsBoth, EitherFailed, desk_opened, KeepsDesk, EachFailed}
+use Rattle.node_journal.specs.Notes.{NotesState}
+use Rattle.node_journal.specs.declared.stop.Stop.{Stop}
+use Rattle.node_journal.specs.declared.stop.Stop.TheVariants.{NoMemory, DeviceFault}
+use Rattle.node_answers.specs.Answers.{Outcome}
+use Rattle.node_roles.specs.Notes.{NotesAt, with_note, StaysAt, IsNotesAt, FailedAt}
+use Rattle.node_roles.specs.Parts.{Parts, of_each, OfLeaves, with_effect, PartFails}
+use Rattle.node_roles.specs.Nodes.{NodeAt, Commands, outcome_at, IsNodeAt, StoppedAt}
+use Rattle.run_endings.specs.declared.status.Status.{Status}
+use Rattle.node_runs.specs.Disks.{Keeps, MayKeep, opened_at, KeepsNode, NodeFailed}
+use Rattle.node_runs.specs.Sessions.{Outside, RunsSession}
+use Rattle.node_runs.specs.Runs.{node_rules, node_found, NodeSession}
+use Rattle.node_runs.proofs.SessionLaws.{in-words}
 
--- over a disk that tells its history and counts its faults
+-- the disks of a node
+abbrev pub disks_of : {D : Type 0} → Parts (NotesState D) → Parts D
+disks_of node = of_each (λ notes. notes.disk) node
+
+-- what holds of leaves holds of their disk in other words
+leaves-hold : {D : Type 0} (Holds : NotesAt → NotesState D → Type 0) (More : NotesAt → D → Type 0)
+    → ((at : NotesAt) (leaves : NotesState D) → Holds at leaves → More at leaves.disk)
+    → (at : Option NotesAt) (leaves : Option (NotesState D)) → OfLeaves Holds at leaves
+    → OfLeaves More at (option_map (λ notes. notes.disk) leaves)
+leaves-hold Holds More more None None is = tt
+leaves-hold Holds More more (Some at) (Some leaves) is = more at leaves is
+leaves-hold Holds More more None (Some leaves) is = absurd is
+leaves-hold Holds More more (Some at) None is = absurd is
+
+-- over disks that tell their history and count their faults
 module _ {D : Type 0} (told : D → Option History) (faults : D → ℕ) where
-  pub stays-keeps : (at : NotesAt) (notes : NotesState D) → StaysAt told faults notes at
-      → Keeps told faults at notes.disk
+  stays-keeps : (at : NotesAt) (notes : NotesState D) → StaysAt told faults at notes → Keeps told faults at notes.disk
   stays-keeps at notes is = record {
     told_is = is.told_is;
     faults_are = is.faults_are;
@@ -23,9 +41,13 @@ module _ {D : Type 0} (told : D → Option History) (faults : D → ℕ) where
         subst (λ records. WhereTold (told notes.disk) (λ now. IsSettled now records)) is.records_are is.settled;
   }
 
-  failed-may : (body : List ℕ) (at : NotesAt) (notes : NotesState D) → FailedAt told faults body at notes
-      → MayKeep told faults body at notes.disk
-  failed-may body at notes is = record {
+  part-failed : (added : Option (List ℕ)) (at : Option NotesAt) (part : Option (NotesState D))
+      → PartFails (FailedAt told faults) added at part
+      → PartFails (MayKeep told faults) added at (option_map (λ notes. notes.disk) part)
+  part-failed None at part never = absurd never
+  part-failed (Some body) None part never = absurd never
+  part-failed (Some body) (Some at) None never = absurd never
+  part-failed (Some body) (Some at) (Some part) is = record {
     passed = is.passed;
     few = is.few;
     told_is = is.told_is;
@@ -33,101 +55,62 @@ module _ {D : Type 0} (told : D → Option History) (faults : D → ℕ) where
     faults_are = is.faults_are;
   }
 
-  pub fails-failed : (added : Option (List ℕ)) (at : NotesAt) (notes : NotesState D)
-      → FailsAt told faults added at notes → Failed told faults added at notes.disk
-  fails-failed None at notes is = absurd is
-  fails-failed (Some body) at notes is = failed-may body at notes is
-
--- behind a command that was stopped for want of memory
-module _ {D : Type 0} (told : D → Option History) (faults : D → ℕ) where
-  pub starved-keeps : (added : Option (List ℕ)) (at : NotesAt) (notes : NotesState D)
-      → StoppedAt told faults added at NoMemory notes
-      → Keeps told faults at notes.disk ⊎ Keeps told faults (with_note at added) notes.disk
-  starved-keeps added at notes (inl is) = inl (stays-keeps told faults at notes is.there)
-  starved-keeps added at notes (inr is) = inr (stays-keeps told faults (with_note at added) notes is.there)
-
--- notes that were just opened
-module _ {D : Type 0} (told : D → Option History) (plan : D → Option FaultPlan) (faults : D → ℕ) where
-  pub opened-there : (read : List ℕ → Result (List (List ℕ)) ℕ) (old : D) (notes : NotesState D)
-      → Opened told plan faults read old notes → IsNotesAt told faults notes (opened_at told faults notes)
-  opened-there read old notes is = record {
-    is_open = is.is_open;
-    there = record { records_are = refl; told_is = refl; faults_are = refl; settled = is.settled };
-  }
-
-  pub opened-both : {H : Type 0} (dig : List ℕ → List ℕ) (notes leaves : D) (wallet : WalletState D H)
-      → OpensWallet told plan faults dig notes leaves wallet
-      → IsWalletAt told faults wallet (both_opened told faults wallet)
-  opened-both dig notes leaves wallet is = record {
-    notes_are = opened-there _ notes (notes_part wallet) is.opens_notes;
-    leaves_are = opened-there _ leaves (leaves_part wallet) is.opens_leaves;
-  }
-
-  -- open notes, as an opening left them, and the leaves of a key that was just opened
-  pub opened-desk : (read : List ℕ → Result (List (List ℕ)) ℕ) (old : D) (notes leaves : NotesState D)
-      → notes.closed ≡ false → WhereTold (told notes.disk) (λ now. IsSettled now notes.records)
-      → Opened told plan faults read old leaves
-      → IsDeskAt told faults notes leaves (desk_opened told faults notes leaves)
-  opened-desk read old notes leaves is_open settled is = record {
-    notes_are = record {
-      is_open = is_open;
-      there = record { records_are = refl; told_is = refl; faults_are = refl; settled = settled };
-    };
-    leaves_are = opened-there read old leaves is;
-  }
-
--- the two disks of a wallet
-module _ {D H : Type 0} (told : D → Option History) (faults : D → ℕ) where
-  pub wallet-keeps : (at : WalletAt) (wallet : WalletState D H) → IsWalletAt told faults wallet at
-      → KeepsBoth told faults at wallet.notes_disk wallet.leaves_disk
-  wallet-keeps at wallet is = record {
-    of_notes = stays-keeps told faults at.notes (notes_part wallet) is.notes_are.there;
-    of_leaves = stays-keeps told faults at.leaves (leaves_part wallet) is.leaves_are.there;
-  }
-
-  pub either-failed : (leaf added : Option (List ℕ)) (at : WalletAt) (wallet : WalletState D H)
-      → EitherFailsAt told faults leaf added at wallet
-      → EitherFailed told faults leaf added at wallet.notes_disk wallet.leaves_disk
-  either-failed None added at wallet is = (
-    fails-failed told faults added at.notes (notes_part wallet) is.0,
-    stays-keeps told faults at.leaves (leaves_part wallet) is.1,
-  )
-  either-failed (Some leaf) added at wallet is = (
-    failed-may told faults leaf at.leaves (leaves_part wallet) is.0,
-    stays-keeps told faults at.notes (notes_part wallet) is.1,
+  node-keeps : (at : Parts NotesAt) (node : Parts (NotesState D)) → IsNodeAt told faults at node
+      → KeepsNode told faults at (disks_of node)
+  node-keeps at node is = (
+    stays-keeps at.notes node.notes is.0.there,
+    leaves-hold (IsNotesAt told faults) (Keeps told faults) (λ at leaves there. stays-keeps at leaves there.there)
+        at.leaves node.leaves is.1,
   )
 
-  pub starved-both : (leaf added : Option (List ℕ)) (at : WalletAt) (wallet : WalletState D H)
-      → WalletStoppedAt told faults leaf added at NoMemory wallet
-      → KeepsBoth told faults at wallet.notes_disk wallet.leaves_disk
-      ⊎ KeepsBoth told faults (with_either at leaf added) wallet.notes_disk wallet.leaves_disk
-  starved-both leaf added at wallet (inl is) = inl (wallet-keeps at wallet is)
-  starved-both leaf added at wallet (inr is) = inr (wallet-keeps (with_either at leaf added) wallet is)
+  node-failed : (outcome : Outcome) (at : Parts NotesAt) (node : Parts (NotesState D))
+      → StoppedAt told faults outcome at DeviceFault node → NodeFailed told faults outcome at (disks_of node)
+  node-failed outcome at node (inl (failed, there)) = inl (
+    part-failed outcome.note (Some at.notes) (Some node.notes) failed,
+    leaves-hold (StaysAt told faults) (Keeps told faults) stays-keeps at.leaves node.leaves there,
+  )
+  node-failed outcome at node (inr (there, failed)) = inr (
+    stays-keeps (with_note at.notes outcome.note) node.notes there,
+    part-failed outcome.leaf at.leaves node.leaves failed,
+  )
 
--- the two disks of an operator with a key
-module _ {D : Type 0} (told : D → Option History) (faults : D → ℕ) where
-  pub desk-keeps : (at : DeskAt) (notes leaves : NotesState D) → IsDeskAt told faults notes leaves at
-      → KeepsDesk told faults at notes.disk leaves.disk
-  desk-keeps at notes leaves is = record {
-    of_notes = stays-keeps told faults at.notes notes is.notes_are.there;
-    of_leaves = stays-keeps told faults at.leaves leaves is.leaves_are.there;
+  node-starved : (outcome : Outcome) (at : Parts NotesAt) (node : Parts (NotesState D))
+      → StoppedAt told faults outcome at NoMemory node
+      → KeepsNode told faults at (disks_of node)
+      ⊎ KeepsNode told faults (with_effect with_note at outcome) (disks_of node)
+  node-starved outcome at node (inl is) = inl (node-keeps at node is)
+  node-starved outcome at node (inr is) = inr (node-keeps (with_effect with_note at outcome) node is)
+
+  -- notes that were just opened
+  pub opened-there : (notes : NotesState D) → notes.closed ≡ false
+      → WhereTold (told notes.disk) (λ now. IsSettled now notes.records)
+      → IsNotesAt told faults (opened_at told faults notes) notes
+  opened-there notes is_open settled = record {
+    is_open = is_open;
+    there = record { records_are = refl; told_is = refl; faults_are = refl; settled = settled };
   }
 
-  pub each-failed : (note leaf : Option (List ℕ)) (at : DeskAt) (notes leaves : NotesState D)
-      → EachFailsAt told faults note leaf at notes leaves
-      → EachFailed told faults note leaf at notes.disk leaves.disk
-  each-failed note leaf at notes leaves (inl (failed, there)) = inl (
-    fails-failed told faults note at.notes notes failed,
-    stays-keeps told faults at.leaves leaves there.there,
-  )
-  each-failed note leaf at notes leaves (inr (there, failed)) = inr (
-    stays-keeps told faults (with_note at.notes note) notes there.there,
-    fails-failed told faults leaf at.leaves leaves failed,
-  )
-
-  pub starved-desk : (note leaf : Option (List ℕ)) (at : DeskAt) (notes leaves : NotesState D)
-      → DeskStoppedAt told faults note leaf at NoMemory notes leaves
-      → KeepsDesk told faults at notes.disk leaves.disk
-      ⊎ KeepsDesk told faults (with_each at note leaf) notes.disk leaves.disk
-  starved-desk note leaf at notes leaves (inl is) = inl (desk-keeps at notes leaves is)
-  starved-desk note leaf at notes leaves (inr is) = inr (desk-keeps (with_each at note leaf) notes leaves is)
+-- the session of a node in memory, of which this is known where commands left it, or where one was stopped, as that of
+-- a node whose disks are handed back
+module _ {D : Type 0} (told : D → Option History) (plan : D → Option FaultPlan) (faults : D → ℕ)
+    (dig : List ℕ → List ℕ) {L : Type 0} (commands : Commands L) (opened node : Parts (NotesState D))
+    (Left : NodeAt NotesAt → Type 0) (Stopped : List RootCall → NodeAt NotesAt → L → Stop → Type 0)
+    (left : (at : NodeAt NotesAt) → Left at → IsNodeAt told faults at.kept node)
+    (stopped : (log : List RootCall) (at : NodeAt NotesAt) (line : L) (stop : Stop) → Stopped log at line stop
+    → StoppedAt told faults (outcome_at commands log at line) at.kept stop node) where
+  pub handed-back : (outside : Outside) (failed : Type 0) (status : Status)
+      → RunsSession (node_rules told plan faults dig commands opened) commands.command_in
+      (node_found told plan faults dig opened) Left (λ log at line. Stopped log at line DeviceFault)
+      (λ log at line. Stopped log at line NoMemory) outside failed status
+      → NodeSession told plan faults dig commands opened (disks_of node) outside failed status
+  handed-back outside failed status runs =
+      in-words _ _ _ _ (λ at. KeepsNode told faults at.kept (disks_of node))
+      _ (λ log at line. NodeFailed told faults (outcome_at commands log at line) at.kept (disks_of node))
+      _ (λ log at line. KeepsNode told faults (with_effect with_note at.kept (outcome_at commands log at line))
+      (disks_of node))
+      (λ at is. node-keeps told faults at.kept node (left at is))
+      (λ log at line is.
+      node-failed told faults (outcome_at commands log at line) at.kept node (stopped log at line DeviceFault is))
+      (λ log at line is.
+      node-starved told faults (outcome_at commands log at line) at.kept node (stopped log at line NoMemory is))
+      outside failed status runs

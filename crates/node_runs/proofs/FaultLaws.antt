@@ -1,5 +1,6 @@
 -- The faults that a run's disks met, by its status.
-use Rattle.std.proofs.Common.{◌≡◌, ℕ, Bool, true, false, List, [], Option, Some, None, Result, Ok, Err, inl, inr, refl, sym, ap, ◌∙◌, subst}
+use Rattle.std.proofs.Common.{◌≡◌, ℕ, Bool, option_map, true, false, List, [], Option, Some, None, Result, Ok, Err, inl, inr, refl, sym, ap, ◌∙◌, subst}
+use Rattle.std.specs.Prelude.{unwrap_or}
 use Rattle.plasma_base.specs.Causes.{faults_after}
 use Rattle.crash_disk.specs.Disk.{History, FaultPlan}
 use Rattle.node_journal.specs.Journal.{is_device_fault}
@@ -9,23 +10,19 @@ use Rattle.node_journal.specs.declared.refusal.JournalRefusal.{JournalRefusal}
 use Rattle.node_journal.specs.declared.refusal.JournalRefusal.TheVariants.{AlreadyMade as JournalMade, NotJournal as JournalPlace, DeviceFault as JournalFault, Closed as JournalClosed, RecordTooLong as JournalLong, NoMemory as JournalNoMemory}
 use Rattle.plasma_tx.specs.declared.call.RootCall.{RootCall}
 use Rattle.node_journal.specs.Begin.{BeginsPair, is_init_fault}
-use Rattle.node_journal.specs.Notes.{NotesState, Opened}
+use Rattle.node_journal.specs.Notes.{NotesState}
 use Rattle.streamed_lines.specs.declared.ending.Ending.{Ending}
 use Rattle.streamed_lines.specs.declared.ending.Ending.TheVariants.{Complete, BadLine, ReadFault, TooLong, Ended}
 use Rattle.streamed_lines.specs.Streams.{stream_of}
 use Rattle.node_sessions.specs.Sessions.{begun, calls_of, session_rules}
 use Rattle.node_sessions.proofs.StayLaws.{ok-same, session-keeps, run-keeps}
-use Rattle.node_answers.specs.Answers.{Outcome, watcher_outcome, operator_outcome, wallet_outcome}
-use Rattle.node_answers.specs.Desks.{desk_outcome}
-use Rattle.node_roles.specs.Notes.{NodeAt, NotesAt, with_note}
-use Rattle.node_roles.specs.Deeds.{left_with, notes_do}
-use Rattle.node_roles.specs.Wallets.{WalletAt, records_of, with_either, wallet_does}
-use Rattle.node_roles.specs.Desks.{DeskAt, records_of_desk, with_each, desk_does}
-use Rattle.node_lines.specs.Grammar.{watcher_line_in, operator_line_in, wallet_line_in}
-use Rattle.node_journal.specs.Role.{role_in}
-use Rattle.node_rules.specs.Watcher.{watcher_kinds, who_is as watcher_is}
-use Rattle.node_rules.specs.Wallet.{who as wallet_is}
-use Rattle.operator_rules.specs.Records.{operator_kinds, who_is as operator_is}
+use Rattle.node_answers.specs.Answers.{Outcome}
+use Rattle.node_roles.specs.Notes.{NotesAt, with_note}
+use Rattle.node_roles.specs.Parts.{Parts, alone, both, OfLeaves, with_effect, PartFails}
+use Rattle.node_roles.specs.Nodes.{NodeAt, Commands, left_with, outcome_at, node_does}
+use Rattle.node_roles.specs.Roles.{watcher_commands, operator_commands, desk_commands, wallet_commands}
+use Rattle.operator_rules.specs.Records.{who_is as operator_is}
+use Rattle.wallet_node.specs.State.{notes_part, leaves_part}
 use Rattle.run_endings.specs.declared.status.Status.{Status}
 use Rattle.run_endings.specs.declared.status.Status.TheVariants.{Done, Refused, Usage, BadLine as BadLineStatus, ReadFault as ReadFaultStatus, WriteFault, DeviceFault, NoMemory, TooLong as TooLongStatus, NotJournal, AlreadyMade}
 use Rattle.run_endings.specs.Statuses.{FaultsBy}
@@ -33,11 +30,11 @@ use Rattle.run_endings.specs.Outputs.{Output, EndsAs}
 use Rattle.wallet_node.specs.Opening.{IsUnbound, RefusesWallet}
 use Rattle.run_endings.specs.Endings.{status_of, session_output, fault_output}
 use Rattle.node_runs.specs.Endings.{refused_output, init_output}
-use Rattle.node_runs.specs.Disks.{Failed, EitherFailed, EachFailed}
+use Rattle.node_runs.specs.Disks.{Keeps, MayKeep, node_opened, KeepsNode, NodeFailed}
 use Rattle.node_runs.specs.Faults.{Counts, CountsEither}
 use Rattle.node_runs.specs.Inits.{InitsNotes, InitsPair}
-use Rattle.node_runs.specs.Runs.{NotesSession, RunsNotes, RunsWatcher, RunsWallet}
-use Rattle.node_runs.specs.Operators.{operator_tag, RefusesDesk, RunsBehind, RunsOperator}
+use Rattle.node_runs.specs.Runs.{NodeSession, RunsWatcher, RunsWallet}
+use Rattle.node_runs.specs.Operators.{RefusesDesk, RunsBehind, RunsOperator}
 use Rattle.node_runs.specs.Sessions.{Outside, RunsSession}
 
 -- ---- by the output
@@ -188,20 +185,23 @@ notes-keep : (at : NotesAt) (added : Option (List ℕ)) → (with_note at added)
 notes-keep at None = refl
 notes-keep at (Some body) = refl
 
-both : WalletAt → ℕ × ℕ
-both at = (at.notes.faults, at.leaves.faults)
+-- the faults of the leaves that a node has
+of_leaves : Option NotesAt → ℕ
+of_leaves leaves = unwrap_or (option_map (λ at. at.faults) leaves) 0
 
-either-keep : (at : WalletAt) (leaf added : Option (List ℕ)) → both (with_either at leaf added) ≡ both at
-unfolding both
-either-keep at None added = ap (λ (n : ℕ). (n, at.leaves.faults)) (notes-keep at.notes added)
-either-keep at (Some leaf) added = refl
+leaves-keep : (leaves : Option NotesAt) (added : Option (List ℕ))
+    → of_leaves (option_map (λ at. with_note at added) leaves) ≡ of_leaves leaves
+unfolding of_leaves
+leaves-keep None added = refl
+leaves-keep (Some at) added = notes-keep at added
 
-each : DeskAt → ℕ × ℕ
-each at = (at.notes.faults, at.leaves.faults)
+-- the faults of both parts
+met : Parts NotesAt → ℕ × ℕ
+met at = (at.notes.faults, of_leaves at.leaves)
 
-each-keep : (at : DeskAt) (note leaf : Option (List ℕ)) → each (with_each at note leaf) ≡ each at
-unfolding each
-each-keep at note leaf = λ i. (notes-keep at.notes note i, notes-keep at.leaves leaf i)
+node-keeps : (at : Parts NotesAt) (outcome : Outcome) → met (with_effect with_note at outcome) ≡ met at
+unfolding met
+node-keeps at outcome = λ i. (notes-keep at.notes outcome.note i, leaves-keep at.leaves outcome.leaf i)
 
 left-keep : {A M : Type 0} (part : A → M) (next left : A) (says : Result (List ℕ) (List ℕ)) (text : List ℕ)
     → left_with next says ≡ Ok (left, text) → part left ≡ part next
@@ -212,10 +212,31 @@ left-keep part next left (Err cause) text is = absurd (cc (is))
 -- ---- over disks that count their faults
 
 module _ {D : Type 0} (told : D → Option History) (faults : D → ℕ) where
-  failed-counts : (added : Option (List ℕ)) (at : NotesAt) (disk : D) → Failed told faults added at disk
-      → faults disk ≡ faults_after at.faults true
+  failed-counts : (added : Option (List ℕ)) (at : NotesAt) (disk : D)
+      → PartFails (MayKeep told faults) added (Some at) (Some disk) → faults disk ≡ faults_after at.faults true
   failed-counts None at disk never = absurd never
   failed-counts (Some body) at disk is = is.faults_are
+
+  -- the faults of the leaves' disk of a node that has one
+  leaves-stay : (at : Option NotesAt) (disk : D) → OfLeaves (Keeps told faults) at (Some disk)
+      → faults disk ≡ of_leaves at
+  unfolding of_leaves
+  leaves-stay None disk never = absurd never
+  leaves-stay (Some at) disk is = is.faults_are
+
+  leaves-fail : (added : Option (List ℕ)) (at : Option NotesAt) (disk : D)
+      → PartFails (MayKeep told faults) added at (Some disk) → faults disk ≡ faults_after (of_leaves at) true
+  unfolding of_leaves
+  leaves-fail None at disk never = absurd never
+  leaves-fail (Some body) None disk never = absurd never
+  leaves-fail (Some body) (Some at) disk is = is.faults_are
+
+  -- one that has none meets no fault there
+  none-fails : (added : Option (List ℕ)) (at : Option NotesAt)
+      → PartFails {P = D} (MayKeep told faults) added at None → ⊥
+  none-fails None at never = never
+  none-fails (Some body) None never = never
+  none-fails (Some body) (Some at) never = never
 
   module _ (notes leaves new_notes new_leaves : D) where
     pub notes-met : (fault : Bool) → Counts faults notes new_notes fault → Counts faults leaves new_leaves false
@@ -228,66 +249,97 @@ module _ {D : Type 0} (told : D → Option History) (faults : D → ℕ) where
     leaves-met true none met = inr (none, met)
     leaves-met false none met = (none, met)
 
--- ---- a node over one disk
+-- ---- a node
 
 module _ {D : Type 0} (told : D → Option History) (plan : D → Option FaultPlan) (faults : D → ℕ)
     (dig : List ℕ → List ℕ) where
-  opened-count : {L : Type 0} (read : List ℕ → Result (List (List ℕ)) ℕ) (tag : List (List ℕ) → List ℕ)
-      (command_in : List ℕ → Option L)
-      (outcome : (List ℕ → List ℕ) → List RootCall → List (List ℕ) → L → Outcome)
-      (old new : D) (opened : NotesState D) → Opened told plan faults read old opened
+  -- a session of a node that was opened, by what its disks met where it keeps them, and where it failed
+  node-counts : {L : Type 0} (commands : Commands L) (opened : Parts (NotesState D)) (disks : Parts D)
+      (Met : Bool → Type 0)
+      → ((at : Parts NotesAt) → met at ≡ met (node_opened told faults opened) → KeepsNode told faults at disks
+      → Met false)
+      → ((at : Parts NotesAt) (outcome : Outcome) → met at ≡ met (node_opened told faults opened)
+      → NodeFailed told faults outcome at disks → Met true)
       → (outside : Outside) (failed : Type 0) (status : Status)
-      → NotesSession told plan faults dig read tag command_in outcome opened new outside failed status
-      → FaultsBy status (Counts faults old new)
-  opened-count read tag command_in outcome old new opened opens outside failed status runs =
-      session-counts (tag opened.records) command_in
-      (λ log at line. notes_do at (outcome at.dig log at.kept.records line))
-      (λ (at : NodeAt NotesAt). at.kept.faults)
+      → NodeSession told plan faults dig commands opened disks outside failed status → FaultsBy status Met
+  node-counts commands opened disks Met kept failed_so outside failed status runs =
+      session-counts (commands.tag opened.notes.records) commands.command_in (node_does commands)
+      (λ (at : NodeAt NotesAt). met at.kept)
       (λ log at line left text is.
-      left-keep (λ (a : NodeAt NotesAt). a.kept.faults) _ left (outcome at.dig log at.kept.records line).says text is
-      ∙ notes-keep at.kept (outcome at.dig log at.kept.records line).note)
-      _ _ _ _ (Counts faults old new)
-      (λ at same keeps. keeps.faults_are ∙ same ∙ opens.count)
-      (λ log at line same is.
-      failed-counts told faults (outcome at.dig log at.kept.records line).note at.kept new is
-      ∙ ap (λ n. faults_after n true) (same ∙ opens.count))
+      left-keep (λ (a : NodeAt NotesAt). met a.kept) _ left (outcome_at commands log at line).says text is
+      ∙ node-keeps at.kept (outcome_at commands log at line))
+      _ _ _ _ Met
+      (λ at same keeps. kept at.kept same keeps)
+      (λ log at line same is. failed_so at.kept (outcome_at commands log at line) same is)
       (λ log at line same keeps.
-      keeps.faults_are ∙ notes-keep at.kept (outcome at.dig log at.kept.records line).note ∙ same ∙ opens.count)
+      kept (with_effect with_note at.kept (outcome_at commands log at line))
+      (node-keeps at.kept (outcome_at commands log at line) ∙ same) keeps)
       outside failed status runs
 
-  notes-count : {L : Type 0} (read : List ℕ → Result (List (List ℕ)) ℕ) (tag : List (List ℕ) → List ℕ)
-      (command_in : List ℕ → Option L)
-      (outcome : (List ℕ → List ℕ) → List RootCall → List (List ℕ) → L → Outcome)
-      (old new : D) (outside : Outside) (failed : Type 0) (status : Status)
-      → RunsNotes told plan faults dig read tag command_in outcome old new outside failed status
+  -- one that has notes alone
+  alone-counts : {L : Type 0} (commands : Commands L) (opened : NotesState D) (old new : D)
+      → faults opened.disk ≡ faults old → (outside : Outside) (failed : Type 0) (status : Status)
+      → NodeSession told plan faults dig commands (alone opened) (alone new) outside failed status
       → FaultsBy status (Counts faults old new)
-  notes-count read tag command_in outcome old new outside failed status (inl (opened, opens, runs)) =
-      opened-count read tag command_in outcome old new opened opens outside failed status runs
-  notes-count read tag command_in outcome old new outside failed status (inr (why, refuses, refused)) =
-      refused-counts (Counts faults old new) why status _ _ refused.ends refuses.count
+  unfolding met
+  alone-counts commands opened old new count outside failed status runs =
+      node-counts commands (alone opened) (alone new) (Counts faults old new)
+      (λ at same keeps. keeps.0.faults_are ∙ ap (λ (n : ℕ × ℕ). n.0) same ∙ count) by outside failed status runs
+    where
+      by : (at : Parts NotesAt) (outcome : Outcome) → met at ≡ met (node_opened told faults (alone opened))
+          → NodeFailed told faults outcome at (alone new) → Counts faults old new true
+      by at outcome same (inl (fails, keeps)) =
+          failed-counts told faults outcome.note at.notes new fails
+          ∙ ap (λ n. faults_after n true) (ap (λ (n : ℕ × ℕ). n.0) same ∙ count)
+      by at outcome same (inr (keeps, fails)) = absurd (none-fails told faults outcome.leaf at.leaves fails)
+
+  -- one that has leaves too
+  both-count : {L : Type 0} (commands : Commands L) (opened desk : NotesState D)
+      (notes leaves new_notes new_leaves : D) → faults opened.disk ≡ faults notes → faults desk.disk ≡ faults leaves
+      → (outside : Outside) (failed : Type 0) (status : Status)
+      → NodeSession told plan faults dig commands (both opened desk) (both new_notes new_leaves) outside failed status
+      → FaultsBy status (CountsEither faults notes leaves new_notes new_leaves)
+  unfolding met of_leaves
+  both-count commands opened desk notes leaves new_notes new_leaves of_notes of_desk outside failed status runs =
+      node-counts commands (both opened desk) (both new_notes new_leaves)
+      (CountsEither faults notes leaves new_notes new_leaves)
+      (λ at same keeps. (
+        keeps.0.faults_are ∙ first at same,
+        leaves-stay told faults at.leaves new_leaves keeps.1 ∙ second at same,
+      ))
+      by outside failed status runs
+    where
+      first : (at : Parts NotesAt) → met at ≡ met (node_opened told faults (both opened desk))
+          → at.notes.faults ≡ faults notes
+      first at same = ap (λ (n : ℕ × ℕ). n.0) same ∙ of_notes
+
+      second : (at : Parts NotesAt) → met at ≡ met (node_opened told faults (both opened desk))
+          → of_leaves at.leaves ≡ faults leaves
+      second at same = ap (λ (n : ℕ × ℕ). n.1) same ∙ of_desk
+
+      by : (at : Parts NotesAt) (outcome : Outcome) → met at ≡ met (node_opened told faults (both opened desk))
+          → NodeFailed told faults outcome at (both new_notes new_leaves)
+          → CountsEither faults notes leaves new_notes new_leaves true
+      by at outcome same (inl (fails, keeps)) = inl (
+        failed-counts told faults outcome.note at.notes new_notes fails ∙ ap (λ n. faults_after n true) (first at same),
+        leaves-stay told faults at.leaves new_leaves keeps ∙ second at same,
+      )
+      by at outcome same (inr (keeps, fails)) = inr (
+        keeps.faults_are ∙ notes-keep at.notes outcome.note ∙ first at same,
+        leaves-fail told faults outcome.leaf at.leaves new_leaves fails ∙ ap (λ n. faults_after n true) (second at same),
+      )
 
   pub watcher-counts : (old new : D) (outside : Outside) (failed : Type 0) (status : Status)
       → RunsWatcher told plan faults dig old new outside failed status → FaultsBy status (Counts faults old new)
   unfolding RunsWatcher
-  watcher-counts old new outside failed status runs =
-      notes-count (role_in (watcher_kinds dig)) (λ records. (watcher_is records).tag) watcher_line_in watcher_outcome
-      old new outside failed status runs
+  watcher-counts old new outside failed status (inl (opened, opens, runs)) =
+      alone-counts watcher_commands opened old new opens.count outside failed status runs
+  watcher-counts old new outside failed status (inr (why, refuses, refused)) =
+      refused-counts (Counts faults old new) why status _ _ refused.ends refuses.count
 
   -- ---- an operator
 
   module _ (notes leaves new_notes new_leaves : D) where
-    each-counts : (note leaf : Option (List ℕ)) (at : DeskAt) → at.notes.faults ≡ faults notes
-        → at.leaves.faults ≡ faults leaves → EachFailed told faults note leaf at new_notes new_leaves
-        → CountsEither faults notes leaves new_notes new_leaves true
-    each-counts note leaf at of_notes of_leaves (inl (failed, keeps)) = inl (
-      failed-counts told faults note at.notes new_notes failed ∙ ap (λ n. faults_after n true) of_notes,
-      keeps.faults_are ∙ of_leaves,
-    )
-    each-counts note leaf at of_notes of_leaves (inr (keeps, failed)) = inr (
-      keeps.faults_are ∙ notes-keep at.notes note ∙ of_notes,
-      failed-counts told faults leaf at.leaves new_leaves failed ∙ ap (λ n. faults_after n true) of_leaves,
-    )
-
     desk-met : (seed : List ℕ) (why : JournalRefusal) → RefusesDesk told plan faults dig seed leaves why new_leaves
         → faults new_notes ≡ faults notes
         → CountsEither faults notes leaves new_notes new_leaves (is_device_fault why)
@@ -297,70 +349,35 @@ module _ {D : Type 0} (told : D → Option History) (plan : D → Option FaultPl
         subst (λ w. CountsEither faults notes leaves new_notes new_leaves (is_device_fault w)) (sym starved)
         (same, ap faults stays)
 
-    behind-counts : (seed : Option (List ℕ)) (opened : NotesState D)
-        → Opened told plan faults (role_in operator_kinds) notes opened
+    behind-counts : (seed : Option (List ℕ)) (opened : NotesState D) → faults opened.disk ≡ faults notes
         → (outside : Outside) (failed : Type 0) (status : Status)
         → RunsBehind told plan faults dig seed opened leaves new_notes new_leaves outside failed status
         → FaultsBy status (CountsEither faults notes leaves new_notes new_leaves)
-    unfolding each
-    behind-counts None opened opens outside failed status (runs, stays) =
+    behind-counts None opened count outside failed status (runs, stays) =
         by-more (Counts faults notes new_notes) (CountsEither faults notes leaves new_notes new_leaves)
         (λ fault met. notes-met told faults notes leaves new_notes new_leaves fault met (ap faults stays)) status
-        (opened-count (role_in operator_kinds) operator_tag operator_line_in operator_outcome notes new_notes opened
-        opens outside failed status runs)
-    behind-counts (Some seed) opened opens outside failed status (inl (desk, opens_desk, runs)) =
-        session-counts (operator_tag opened.records) operator_line_in desk_does
-        (λ (at : NodeAt DeskAt). each at.kept)
-        (λ log at line left text is.
-        left-keep (λ (a : NodeAt DeskAt). each a.kept) _ left
-        (desk_outcome at.dig log (records_of_desk at.kept) line).says text is
-        ∙ each-keep at.kept (desk_outcome at.dig log (records_of_desk at.kept) line).note
-        (desk_outcome at.dig log (records_of_desk at.kept) line).leaf)
-        _ _ _ _ (CountsEither faults notes leaves new_notes new_leaves)
-        (λ at same keeps. (
-          keeps.of_notes.faults_are ∙ ap (λ (b : ℕ × ℕ). b.0) same ∙ opens.count,
-          keeps.of_leaves.faults_are ∙ ap (λ (b : ℕ × ℕ). b.1) same ∙ opens_desk.count,
-        ))
-        (λ log at line same is.
-        each-counts (desk_outcome at.dig log (records_of_desk at.kept) line).note
-        (desk_outcome at.dig log (records_of_desk at.kept) line).leaf at.kept
-        (ap (λ (b : ℕ × ℕ). b.0) same ∙ opens.count) (ap (λ (b : ℕ × ℕ). b.1) same ∙ opens_desk.count) is)
-        (λ log at line same keeps.
-        let more = each-keep at.kept (desk_outcome at.dig log (records_of_desk at.kept) line).note
-        (desk_outcome at.dig log (records_of_desk at.kept) line).leaf in (
-          keeps.of_notes.faults_are ∙ ap (λ (b : ℕ × ℕ). b.0) (more ∙ same) ∙ opens.count,
-          keeps.of_leaves.faults_are ∙ ap (λ (b : ℕ × ℕ). b.1) (more ∙ same) ∙ opens_desk.count,
-        ))
-        outside failed status runs
-    behind-counts (Some seed) opened opens outside failed status (inr (why, refuses, stays, refused)) =
+        (alone-counts operator_commands opened notes new_notes count outside failed status runs)
+    behind-counts (Some seed) opened count outside failed status (inl (desk, opens, runs)) =
+        both-count desk_commands opened desk notes leaves new_notes new_leaves count opens.count outside failed status
+        runs
+    behind-counts (Some seed) opened count outside failed status (inr (why, refuses, refused)) =
         refused-counts (CountsEither faults notes leaves new_notes new_leaves) why status _ _ refused.ends
-        (desk-met seed why refuses (ap faults stays ∙ opens.count))
+        (desk-met seed why refuses.0 (ap faults refuses.1 ∙ count))
 
     pub operator-counts : (outside : Outside) (failed : Type 0) (status : Status)
         → RunsOperator told plan faults dig notes leaves new_notes new_leaves outside failed status
         → FaultsBy status (CountsEither faults notes leaves new_notes new_leaves)
     unfolding RunsOperator
     operator-counts outside failed status (inl (opened, opens, behind)) =
-        behind-counts (operator_is opened.records).key_seed opened opens outside failed status behind
-    operator-counts outside failed status (inr (why, refuses, stays, refused)) =
+        behind-counts (operator_is opened.records).key_seed opened opens.count outside failed status behind
+    operator-counts outside failed status (inr (why, refuses, refused)) =
         refused-counts (CountsEither faults notes leaves new_notes new_leaves) why status _ _ refused.ends
-        (notes-met told faults notes leaves new_notes new_leaves (is_device_fault why) refuses.count (ap faults stays))
+        (notes-met told faults notes leaves new_notes new_leaves (is_device_fault why) refuses.0.count
+        (ap faults refuses.1))
 
   -- ---- a wallet
 
   module _ (notes leaves new_notes new_leaves : D) where
-    either-counts : (leaf added : Option (List ℕ)) (at : WalletAt) → at.notes.faults ≡ faults notes
-        → at.leaves.faults ≡ faults leaves → EitherFailed told faults leaf added at new_notes new_leaves
-        → CountsEither faults notes leaves new_notes new_leaves true
-    either-counts None added at of_notes of_leaves is = inl (
-      failed-counts told faults added at.notes new_notes is.0 ∙ ap (λ n. faults_after n true) of_notes,
-      is.1.faults_are ∙ of_leaves,
-    )
-    either-counts (Some leaf) added at of_notes of_leaves is = inr (
-      is.1.faults_are ∙ of_notes,
-      is.0.faults_are ∙ ap (λ n. faults_after n true) of_leaves,
-    )
-
     unbound-none : (bodies : _) (records : List (List ℕ)) (why : JournalRefusal)
         → IsUnbound dig bodies records why → is_device_fault why ≡ false
     unbound-none bodies records (JournalPlace place) is = refl
@@ -385,32 +402,10 @@ module _ {D : Type 0} (told : D → Option History) (plan : D → Option FaultPl
     pub wallet-counts : (outside : Outside) (failed : Type 0) (status : Status)
         → RunsWallet told plan faults dig notes leaves new_notes new_leaves outside failed status
         → FaultsBy status (CountsEither faults notes leaves new_notes new_leaves)
-    unfolding RunsWallet both
+    unfolding RunsWallet
     wallet-counts outside failed status (inl (opened, opens, runs)) =
-        session-counts (wallet_is opened.records).tag wallet_line_in wallet_does
-        (λ (at : NodeAt WalletAt). both at.kept)
-        (λ log at line left text is.
-        left-keep (λ (a : NodeAt WalletAt). both a.kept) _ left
-        (wallet_outcome at.dig log (records_of at.kept) line).says text is
-        ∙ either-keep at.kept (wallet_outcome at.dig log (records_of at.kept) line).leaf
-        (wallet_outcome at.dig log (records_of at.kept) line).note)
-        _ _ _ _ (CountsEither faults notes leaves new_notes new_leaves)
-        (λ at same keeps. (
-          keeps.of_notes.faults_are ∙ ap (λ (b : ℕ × ℕ). b.0) same ∙ opens.opens_notes.count,
-          keeps.of_leaves.faults_are ∙ ap (λ (b : ℕ × ℕ). b.1) same ∙ opens.opens_leaves.count,
-        ))
-        (λ log at line same is.
-        either-counts (wallet_outcome at.dig log (records_of at.kept) line).leaf
-        (wallet_outcome at.dig log (records_of at.kept) line).note at.kept
-        (ap (λ (b : ℕ × ℕ). b.0) same ∙ opens.opens_notes.count)
-        (ap (λ (b : ℕ × ℕ). b.1) same ∙ opens.opens_leaves.count) is)
-        (λ log at line same keeps.
-        let more = either-keep at.kept (wallet_outcome at.dig log (records_of at.kept) line).leaf
-        (wallet_outcome at.dig log (records_of at.kept) line).note in (
-          keeps.of_notes.faults_are ∙ ap (λ (b : ℕ × ℕ). b.0) (more ∙ same) ∙ opens.opens_notes.count,
-          keeps.of_leaves.faults_are ∙ ap (λ (b : ℕ × ℕ). b.1) (more ∙ same) ∙ opens.opens_leaves.count,
-        ))
-        outside failed status runs
+        both-count wallet_commands (notes_part opened) (leaves_part opened) notes leaves new_notes new_leaves
+        opens.opens_notes.count opens.opens_leaves.count outside failed status runs
     wallet-counts outside failed status (inr (why, refuses, refused)) =
         refused-counts (CountsEither faults notes leaves new_notes new_leaves) why status _ _ refused.ends
         (refused-met why refuses)

@@ -1,21 +1,21 @@
 -- That a run of a node answers its lines before it reads more of them.
-use Rattle.std.specs.Prelude.{◌⊎◌, ℕ, Bool, false, List, [], Option, Some, None, Result}
+use Rattle.std.specs.Prelude.{◌⊎◌, ℕ, Bool, false, List, [], Option, Some, None}
 use Rattle.crash_disk.specs.Disk.{History, FaultPlan}
-use Rattle.plasma_tx.specs.declared.call.RootCall.{RootCall}
 use Rattle.node_journal.specs.Notes.{NotesState, Opened}
 use Rattle.node_journal.specs.Role.{role_in}
-use Rattle.node_lines.specs.Grammar.{watcher_line_in}
-use Rattle.node_rules.specs.Watcher.{watcher_kinds, who_is as watcher_is}
+use Rattle.node_rules.specs.Watcher.{watcher_kinds}
 use Rattle.operator_rules.specs.Records.{operator_kinds, who_is}
 use Rattle.wallet_node.specs.State.{WalletState}
 use Rattle.wallet_node.specs.Opening.{OpensWallet}
-use Rattle.node_answers.specs.Answers.{Outcome, watcher_outcome}
+use Rattle.node_roles.specs.Parts.{Parts, alone, both}
+use Rattle.node_roles.specs.Nodes.{Commands}
+use Rattle.node_roles.specs.Roles.{watcher_commands, operator_commands, desk_commands, wallet_commands, wallet_parts}
 use Rattle.node_sessions.specs.Sessions.{begun}
 use Rattle.streamed_lines.specs.Outside.{Gave}
 use Rattle.streamed_lines.specs.Prompt.{answers_so_far, AnswersPromptly}
 use Rattle.node_runs.specs.Sessions.{Outside}
-use Rattle.node_runs.specs.Runs.{notes_rules, notes_found, wallet_rules, wallet_found}
-use Rattle.node_runs.specs.Operators.{desk_records_in, operator_rules, operator_found, desk_rules, desk_found}
+use Rattle.node_runs.specs.Runs.{node_rules, node_found}
+use Rattle.node_runs.specs.Operators.{desk_records_in}
 
 -- a run that did this outside, and whose last take failed or didn't
 module _ (outside : Outside) (failed_last : Bool) where
@@ -28,48 +28,42 @@ module _ (outside : Outside) (failed_last : Bool) where
   abbrev pub ReadsNothing : Type 0
   ReadsNothing = Gave outside.left outside.later [] false
 
-  -- over disks that tell their history, foretell their faults and count them, and under a digest
+  -- Something was opened, and the run went on so; or nothing is read.
+  abbrev pub OpensPromptly : {T : Type 0} → (T → Type 0) → (T → Type 0) → Type 0
+  OpensPromptly {T = T} Opens Runs = ((opened : T) × Opens opened × Runs opened) ⊎ ReadsNothing
+
+  -- over disks that tell their history, foretell their faults and count them
   module _ {D : Type 0} (told : D → Option History) (plan : D → Option FaultPlan) (faults : D → ℕ)
       (dig : List ℕ → List ℕ) where
-    -- The disk was opened, and its session is answered promptly; or nothing is read.
-    abbrev pub NotesPromptly : {L : Type 0} → (List ℕ → Result (List (List ℕ)) ℕ) → (List (List ℕ) → List ℕ)
-        → (List ℕ → Option L) → ((List ℕ → List ℕ) → List RootCall → List (List ℕ) → L → Outcome) → D → Type 0
-    NotesPromptly read tag command_in outcome notes =
-        ((opened : NotesState D) × Opened told plan faults read notes opened
-        × RunsPromptly
-        (answers_so_far (notes_rules told plan faults dig read tag command_in outcome opened)
-        (begun (notes_found told plan faults dig read tag command_in outcome opened))))
-        ⊎ ReadsNothing
+    -- the session of a node that was opened is answered promptly
+    abbrev pub NodePromptly : {L : Type 0} → Commands L → Parts (NotesState D) → Type 0
+    NodePromptly commands opened =
+        RunsPromptly
+        (answers_so_far (node_rules told plan faults dig commands opened)
+        (begun (node_found told plan faults dig opened)))
 
     unfoldable pub WatcherPromptly : D → Type 0
     WatcherPromptly notes =
-        NotesPromptly (role_in (watcher_kinds dig)) (λ records. (watcher_is records).tag) watcher_line_in
-        watcher_outcome notes
+        OpensPromptly
+        (λ opened. Opened told plan faults (role_in (watcher_kinds dig)) notes opened)
+        (λ opened. NodePromptly watcher_commands (alone opened))
 
-    -- So it is of an operator's disk, whose identity has no key, or one whose leaves were opened too, or weren't.
+    -- that of an operator, whose identity has no key, or one whose leaves were opened too, or weren't
     abbrev pub PromptlyBehind : Option (List ℕ) → NotesState D → D → Type 0
-    PromptlyBehind None opened leaves =
-        RunsPromptly
-        (answers_so_far (operator_rules told plan faults dig opened)
-        (begun (operator_found told plan faults dig opened)))
+    PromptlyBehind None opened leaves = NodePromptly operator_commands (alone opened)
     PromptlyBehind (Some seed) opened leaves =
-        ((desk : NotesState D) × Opened told plan faults (desk_records_in seed) leaves desk
-        × RunsPromptly
-        (answers_so_far (desk_rules told plan faults dig opened)
-        (begun (desk_found told plan faults dig opened desk))))
-        ⊎ ReadsNothing
+        OpensPromptly
+        (λ desk. Opened told plan faults (desk_records_in seed) leaves desk)
+        (λ desk. NodePromptly desk_commands (both opened desk))
 
     unfoldable pub OperatorPromptly : D → D → Type 0
     OperatorPromptly notes leaves =
-        ((opened : NotesState D) × Opened told plan faults (role_in operator_kinds) notes opened
-        × PromptlyBehind (who_is opened.records).key_seed opened leaves)
-        ⊎ ReadsNothing
+        OpensPromptly
+        (λ opened. Opened told plan faults (role_in operator_kinds) notes opened)
+        (λ opened. PromptlyBehind (who_is opened.records).key_seed opened leaves)
 
-    -- so it is of a wallet's two disks
     unfoldable pub WalletPromptly : D → D → Type 0
     WalletPromptly notes leaves =
-        ((opened : WalletState D (Unit {0})) × OpensWallet told plan faults dig notes leaves opened
-        × RunsPromptly
-        (answers_so_far (wallet_rules told plan faults dig opened)
-        (begun (wallet_found told plan faults dig opened))))
-        ⊎ ReadsNothing
+        OpensPromptly
+        (λ (opened : WalletState D (Unit {0})). OpensWallet told plan faults dig notes leaves opened)
+        (λ opened. NodePromptly wallet_commands (wallet_parts opened))

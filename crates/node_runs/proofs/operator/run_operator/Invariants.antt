@@ -1,8 +1,9 @@
-use Rattle.node_runs.specs.Disks.{opened_at}
+use Rattle.node_roles.specs.Parts.{alone}
+use Rattle.node_runs.specs.Disks.{node_opened}
 use Rattle.node_runs.proofs.operator.run_operator.Given as goal
 
 abbrev pub ghost-run_session : goal.ghost-run_session
 ghost-run_session g a = record {
-  kept = opened_at g.D.Disk.told g.D.Disk.faults a.node.node.notes;
+  kept = node_opened g.D.Disk.told g.D.Disk.faults (alone a.node.node.notes);
   dig = g.H.Hash32.digest_of a.node.node.hash;
 }

@@ -1,5 +1,5 @@
 use Rattle.std.proofs.Common.{inl, inr, refl, sym, ap, subst, ◌∙◌, List, [], ℕ, Option}
-use Rattle.std.specs.Prelude.{unwrap_or}
+use Rattle.std.specs.Prelude.{◌≡◌, ◌&&◌, false, unwrap_or}
 use contract.BorrowLft.{⊑_meet, ⊑_static}
 use Rattle.lms_sign.specs.declared.secret.Secret.{Secret}
 use Rattle.lms_sign.specs.Tree.{public_key_of}
@@ -10,12 +10,11 @@ use Rattle.leaf_journal.specs.Records.{leaf_records_in_of}
 use Rattle.leaf_journal.specs.NodeWords.{notes_of}
 use Rattle.receipt_audit.specs.Promises.{is_promise}
 use Rattle.receipt_audit.specs.Desk.{desk_secret}
-use Rattle.node_answers.specs.Desks.{desk_outcome}
-use Rattle.node_roles.specs.Desks.{records_of_desk, with_each}
+use Rattle.node_roles.specs.Parts.{both}
+use Rattle.node_roles.specs.Nodes.{outcome_at, StoppedAt}
+use Rattle.node_roles.specs.Roles.{desk_commands}
 use Rattle.streamed_lines.proofs.OutsideLaws.{gave-none}
-use Rattle.node_runs.specs.Disks.{KeepsDesk, EachFailed}
-use Rattle.node_runs.proofs.DiskLaws.{opened-desk, desk-keeps, each-failed, starved-desk}
-use Rattle.node_runs.proofs.SessionLaws.{in-words}
+use Rattle.node_runs.proofs.DiskLaws.{opened-there, handed-back}
 use Rattle.node_runs.proofs.operator.run_with_key.Goals as goal
 
 -- memory ran out as the key was made
@@ -23,8 +22,7 @@ pub returns-in_default-clause-runs : goal.returns-in_default-clause-runs
 returns-in_default-clause-runs g c =
     inr (
       NoMemory,
-      inr (refl, refl),
-      c.take_disk.ensures,
+      (inr (refl, refl), c.take_disk.ensures),
       record { gave = gave-none _; ends = c.put_opening_refusal-status.ensures.ends },
     )
 
@@ -49,8 +47,11 @@ run_session-run-requires g c κs within =
               ),
               (
                 refl,
-                opened-desk g.D.Disk.told g.D.Disk.plan g.D.Disk.faults _ _ c.args.node.notes
-                    (notes_of c.in-Ok-open.desk) c.requires.is_open c.requires.settled c.in-Ok-open.ensures.opened,
+                (
+                  opened-there g.D.Disk.told g.D.Disk.faults c.args.node.notes c.requires.is_open c.requires.settled,
+                  opened-there g.D.Disk.told g.D.Disk.faults (notes_of c.in-Ok-open.desk)
+                      c.in-Ok-open.ensures.opened.is_open c.in-Ok-open.ensures.opened.settled,
+                ),
               ),
             ),
           ),
@@ -70,16 +71,11 @@ returns-in-Ok-open-clause-runs g c =
       subst (λ (key : Secret). Opened told g.D.Disk.plan faults (leaf_records_in_of is_promise (leaves_of
           (public_key_of key))) c.args.leaves (notes_of c.in-Ok-open.desk)) c.in-Ok.ensures c.in-Ok-open.ensures.opened,
       rw (c.take_disk-in-Ok-open.ensures, c.take_disk-in-Ok-open-2.ensures)
-          (in-words _ _ _ _ (λ at. KeepsDesk told faults at.kept notes.disk leaves.disk)
-          _ (λ log at line. EachFailed told faults (desk_outcome at.dig log (records_of_desk at.kept) line).note
-          (desk_outcome at.dig log (records_of_desk at.kept) line).leaf at.kept notes.disk leaves.disk)
-          _ (λ log at line. KeepsDesk told faults (with_each at.kept
-          (desk_outcome at.dig log (records_of_desk at.kept) line).note
-          (desk_outcome at.dig log (records_of_desk at.kept) line).leaf) notes.disk leaves.disk)
-          (λ at is. desk-keeps told faults at.kept notes leaves is.1)
-          (λ log at line is. each-failed told faults _ _ at.kept notes leaves is)
-          (λ log at line is. starved-desk told faults _ _ at.kept notes leaves is)
-          _ _ _ runs),
+          (handed-back told g.D.Disk.plan faults (g.H.Hash32.digest_of c.args.h) desk_commands
+          (both c.args.node.notes (notes_of c.in-Ok-open.desk)) (both notes leaves) _
+          (λ log at line stop. StoppedAt told faults (outcome_at desk_commands log at line) at.kept stop (both notes leaves)
+          × ((notes.closed && leaves.closed) ≡ false))
+          (λ at is. is.1) (λ log at line stop is. is.0) _ _ _ runs),
     )
 
 pub returns-in-Ok-open-clause-prompt : goal.returns-in-Ok-open-clause-prompt
@@ -96,10 +92,12 @@ pub returns-in-Err-clause-runs : goal.returns-in-Err-clause-runs
 returns-in-Err-clause-runs g c =
     inr (
       c.in-Err.returned.why,
-      inl
-          (subst (λ (key : Secret). RefusesRole g.D.Disk.told g.D.Disk.plan g.D.Disk.faults (leaf_records_in_of is_promise
-          (leaves_of (public_key_of key))) c.args.leaves c.in-Err.returned.why c.in-Err.returned.disk) c.in-Ok.ensures
-          c.in-Err.ensures.refused),
-      c.take_disk-in-Err.ensures,
+      (
+        inl
+            (subst (λ (key : Secret). RefusesRole g.D.Disk.told g.D.Disk.plan g.D.Disk.faults (leaf_records_in_of is_promise
+            (leaves_of (public_key_of key))) c.args.leaves c.in-Err.returned.why c.in-Err.returned.disk) c.in-Ok.ensures
+            c.in-Err.ensures.refused),
+        c.take_disk-in-Err.ensures,
+      ),
       record { gave = gave-none _; ends = c.put_opening_refusal-status-in-Err.ensures.ends },
     )

@@ -1,13 +1,11 @@
 use Rattle.std.proofs.Common.{inl, inr, refl}
 use contract.BorrowLft.{⊑_meet, ⊑_static}
-use Rattle.node_answers.specs.Answers.{wallet_outcome}
-use Rattle.node_roles.specs.Wallets.{records_of, with_either}
+use Rattle.wallet_node.specs.State.{notes_part, leaves_part}
+use Rattle.node_roles.specs.Roles.{wallet_parts, wallet_commands}
 use Rattle.streamed_lines.proofs.OutsideLaws.{gave-none}
 use Rattle.node_runs.specs.Runs.{RunsWallet}
 use Rattle.node_runs.specs.Prompt.{WalletPromptly}
-use Rattle.node_runs.specs.Disks.{KeepsBoth, EitherFailed}
-use Rattle.node_runs.proofs.DiskLaws.{opened-both, wallet-keeps, either-failed, starved-both}
-use Rattle.node_runs.proofs.SessionLaws.{in-words}
+use Rattle.node_runs.proofs.DiskLaws.{opened-there, handed-back}
 use Rattle.node_runs.proofs.wallet.run_wallet.Goals as goal
 
 pub run_session-run-requires : goal.run_session-run-requires
@@ -23,7 +21,15 @@ run_session-run-requires g c κs within =
             ⊑_static _,
             (
               c.in-Ok.ensures.opened.opens_notes.is_open,
-              (refl, opened-both g.D.Disk.told g.D.Disk.plan g.D.Disk.faults _ _ _ c.in-Ok.node c.in-Ok.ensures.opened),
+              (
+                refl,
+                (
+                  opened-there g.D.Disk.told g.D.Disk.faults (notes_part c.in-Ok.node)
+                      c.in-Ok.ensures.opened.opens_notes.is_open c.in-Ok.ensures.opened.opens_notes.settled,
+                  opened-there g.D.Disk.told g.D.Disk.faults (leaves_part c.in-Ok.node)
+                      c.in-Ok.ensures.opened.opens_leaves.is_open c.in-Ok.ensures.opened.opens_leaves.settled,
+                ),
+              ),
             ),
           ),
         ),
@@ -33,9 +39,6 @@ run_session-run-requires g c κs within =
 pub returns-in-Ok-clause-runs : goal.returns-in-Ok-clause-runs
 unfolding RunsWallet
 returns-in-Ok-clause-runs g c =
-    let told = g.D.Disk.told in
-    let faults = g.D.Disk.faults in
-    let wallet = c.run_session-run.result.0.node in
     let opened = c.in-Ok.ensures.opened in
     let runs = rw c.in-Ok.ensures.hash at c.run_session-run.ensures.runs in
     inl (
@@ -48,16 +51,9 @@ returns-in-Ok-clause-runs g c =
       },
       record { opens_notes = opened.opens_notes; opens_leaves = opened.opens_leaves; bound = opened.bound },
       rw (c.take_disks-notes.ensures.notes, c.take_disks-notes.ensures.leaves)
-          (in-words _ _ _ _ (λ at. KeepsBoth told faults at.kept wallet.notes_disk wallet.leaves_disk)
-          _ (λ log at line. EitherFailed told faults (wallet_outcome at.dig log (records_of at.kept) line).leaf
-          (wallet_outcome at.dig log (records_of at.kept) line).note at.kept wallet.notes_disk wallet.leaves_disk)
-          _ (λ log at line. KeepsBoth told faults (with_either at.kept
-          (wallet_outcome at.dig log (records_of at.kept) line).leaf
-          (wallet_outcome at.dig log (records_of at.kept) line).note) wallet.notes_disk wallet.leaves_disk)
-          (λ at is. wallet-keeps told faults at.kept wallet is.1)
-          (λ log at line is. either-failed told faults _ _ at.kept wallet is)
-          (λ log at line is. starved-both told faults _ _ at.kept wallet is)
-          _ _ _ runs),
+          (handed-back g.D.Disk.told g.D.Disk.plan g.D.Disk.faults (g.H.Hash32.digest_of c.args.h) wallet_commands
+          (wallet_parts c.in-Ok.node) (wallet_parts c.run_session-run.result.0.node) _ _ (λ at is. is.1)
+          (λ log at line stop is. is) _ _ _ runs),
     )
 
 pub returns-in-Ok-clause-prompt : goal.returns-in-Ok-clause-prompt

@@ -1,8 +1,9 @@
-use Rattle.node_runs.specs.Disks.{both_opened}
+use Rattle.node_roles.specs.Roles.{wallet_parts}
+use Rattle.node_runs.specs.Disks.{node_opened}
 use Rattle.node_runs.proofs.wallet.run_wallet.Given as goal
 
 abbrev pub ghost-run_session : goal.ghost-run_session
 ghost-run_session g a = record {
-  kept = both_opened g.D.Disk.told g.D.Disk.faults a.node.node;
+  kept = node_opened g.D.Disk.told g.D.Disk.faults (wallet_parts a.node.node);
   dig = g.H.Hash32.digest_of a.node.node.hash;
 }

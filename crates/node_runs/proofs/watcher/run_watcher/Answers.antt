@@ -1,13 +1,11 @@
 use Rattle.std.proofs.Common.{inl, inr, refl}
 use contract.BorrowLft.{⊑_meet, ⊑_static}
-use Rattle.node_answers.specs.Answers.{watcher_outcome}
-use Rattle.node_roles.specs.Notes.{with_note}
+use Rattle.node_roles.specs.Parts.{alone}
+use Rattle.node_roles.specs.Roles.{watcher_commands}
 use Rattle.streamed_lines.proofs.OutsideLaws.{gave-none}
 use Rattle.node_runs.specs.Runs.{RunsWatcher}
 use Rattle.node_runs.specs.Prompt.{WatcherPromptly}
-use Rattle.node_runs.specs.Disks.{Keeps, Failed}
-use Rattle.node_runs.proofs.DiskLaws.{opened-there, stays-keeps, fails-failed, starved-keeps}
-use Rattle.node_runs.proofs.SessionLaws.{in-words}
+use Rattle.node_runs.proofs.DiskLaws.{opened-there, handed-back}
 use Rattle.node_runs.proofs.watcher.run_watcher.Goals as goal
 
 pub run_session-run-requires : goal.run_session-run-requires
@@ -23,7 +21,14 @@ run_session-run-requires g c κs within =
             ⊑_static _,
             (
               c.in-Ok.ensures.opened.is_open,
-              (refl, opened-there g.D.Disk.told g.D.Disk.plan g.D.Disk.faults _ _ c.in-Ok.node.notes c.in-Ok.ensures.opened),
+              (
+                refl,
+                (
+                  opened-there g.D.Disk.told g.D.Disk.faults c.in-Ok.node.notes c.in-Ok.ensures.opened.is_open
+                      c.in-Ok.ensures.opened.settled,
+                  tt,
+                ),
+              ),
             ),
           ),
         ),
@@ -33,23 +38,14 @@ run_session-run-requires g c κs within =
 pub returns-in-Ok-clause-runs : goal.returns-in-Ok-clause-runs
 unfolding RunsWatcher
 returns-in-Ok-clause-runs g c =
-    let told = g.D.Disk.told in
-    let faults = g.D.Disk.faults in
-    let notes = c.run_session-run.result.0.node.notes in
     let runs = rw c.in-Ok.ensures.hash at c.run_session-run.ensures.runs in
     inl (
       c.in-Ok.node.notes,
       c.in-Ok.ensures.opened,
       rw c.take_disk.ensures
-          (in-words _ _ _ _ (λ at. Keeps told faults at.kept notes.disk)
-          _ (λ log at line.
-          Failed told faults (watcher_outcome at.dig log at.kept.records line).note at.kept notes.disk)
-          _ (λ log at line.
-          Keeps told faults (with_note at.kept (watcher_outcome at.dig log at.kept.records line).note) notes.disk)
-          (λ at is. stays-keeps told faults at.kept notes is.1.there)
-          (λ log at line is. fails-failed told faults _ at.kept notes is)
-          (λ log at line is. starved-keeps told faults _ at.kept notes is)
-          _ _ _ runs),
+          (handed-back g.D.Disk.told g.D.Disk.plan g.D.Disk.faults (g.H.Hash32.digest_of c.args.h) watcher_commands
+          (alone c.in-Ok.node.notes) (alone c.run_session-run.result.0.node.notes) _ _ (λ at is. is.1)
+          (λ log at line stop is. is) _ _ _ runs),
     )
 
 pub returns-in-Ok-clause-prompt : goal.returns-in-Ok-clause-prompt

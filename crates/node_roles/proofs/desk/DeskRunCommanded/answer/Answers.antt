@@ -2,8 +2,11 @@ use Rattle.std.proofs.Common.{ap, sym, ◌∙◌}
 use Rattle.lms_sign.specs.Tree.{public_key_of}
 use Rattle.operator_rules.specs.Records.{who_is}
 use Rattle.leaf_journal.specs.NodeWords.{notes_of}
-use Rattle.node_answers.specs.Desks.{desk_outcome, secret_of}
-use Rattle.node_roles.proofs.DeskLaws.{desk-done-at, desk-open, desk-stopped-at, each-keeps}
+use Rattle.node_answers.specs.Desks.{desk_records, secret_of}
+use Rattle.node_roles.specs.Parts.{both}
+use Rattle.node_roles.specs.Roles.{desk_commands}
+use Rattle.node_roles.proofs.NodeLaws.{done-at, stopped-at}
+use Rattle.node_roles.proofs.DeskLaws.{desk-goes, desk-open, each-keeps, stops-one}
 use Rattle.node_roles.proofs.DeskRefusals.{desk-quiet, secret-stays}
 use Rattle.node_roles.proofs.OperatorRefusals.{operator-tag}
 use Rattle.node_roles.proofs.desk.DeskRunCommanded.answer.Goals as goal
@@ -13,23 +16,30 @@ returns-clause-said g c =
     let old = c.args.self.now.keyed in
     let new = c.answer_keyed.new.keyed in
     λ at is.
-    desk-done-at g.D.Disk.told g.D.Disk.plan g.D.Disk.faults _
-    (λ dig records. desk_outcome dig c.args.log.now.log records c.args.command)
-    (g.H.Hash32.digest_of old.node.hash) at old.node.notes (notes_of old.desk) new.node.notes (notes_of new.desk) _ _ _
-    c.answer_keyed.result is.0
+    done-at g.D.Disk.told g.D.Disk.faults desk_commands c.args.log.now.log c.args.command
+    (g.H.Hash32.digest_of old.node.hash) at (both old.node.notes (notes_of old.desk))
+    (both new.node.notes (notes_of new.desk)) is.0 is.1 _
+    (desk-goes g.D.Disk.told g.D.Disk.plan g.D.Disk.faults _ at.kept old.node.notes (notes_of old.desk)
+    new.node.notes (notes_of new.desk) is.1)
+    c.answer_keyed.result c.answer_keyed.ensures.did _ _
     (λ left there. (ap g.H.Hash32.digest_of c.answer_keyed.ensures.digest_stays ∙ is.0, there))
-    (λ dig records. desk-quiet dig c.args.log.now.log records c.args.command)
-    is.1 c.answer_keyed.ensures.did c.answer_keyed.ensures.said
+    (desk-quiet (g.H.Hash32.digest_of old.node.hash) c.args.log.now.log
+    (desk_records old.node.notes.records (notes_of old.desk).records) c.args.command)
+    _ _ c.answer_keyed.ensures.said
 
 pub returns-clause-stopped : goal.returns-clause-stopped
 returns-clause-stopped g c =
     let old = c.args.self.now.keyed in
     let new = c.answer_keyed.new.keyed in
     λ at is.
-    desk-stopped-at g.D.Disk.told g.D.Disk.plan g.D.Disk.faults
-    (λ dig records. desk_outcome dig c.args.log.now.log records c.args.command)
-    (g.H.Hash32.digest_of old.node.hash) at old.node.notes (notes_of old.desk) new.node.notes (notes_of new.desk)
-    c.answer_keyed.result is.0 is.1 c.answer_keyed.ensures.did
+    stops-one g.D.Disk.told g.D.Disk.plan g.D.Disk.faults _ _ _ old.node.notes (notes_of old.desk) new.node.notes
+    (notes_of new.desk) c.answer_keyed.result c.requires.0 c.requires.1 c.answer_keyed.ensures.did
+    (stopped-at g.D.Disk.told g.D.Disk.faults desk_commands c.args.log.now.log c.args.command
+    (g.H.Hash32.digest_of old.node.hash) at (both old.node.notes (notes_of old.desk))
+    (both new.node.notes (notes_of new.desk)) is.0 is.1 _
+    (desk-goes g.D.Disk.told g.D.Disk.plan g.D.Disk.faults _ at.kept old.node.notes (notes_of old.desk)
+    new.node.notes (notes_of new.desk) is.1)
+    c.answer_keyed.result c.answer_keyed.ensures.did)
 
 pub returns-clause-open : goal.returns-clause-open
 returns-clause-open g c =

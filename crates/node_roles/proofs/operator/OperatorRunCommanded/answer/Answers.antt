@@ -1,28 +1,35 @@
 use Rattle.std.proofs.Common.{ap, ◌∙◌}
 use Rattle.operator_rules.specs.Records.{who_is}
-use Rattle.node_answers.specs.Answers.{operator_outcome}
-use Rattle.node_roles.proofs.NotesLaws.{done-at, stopped-at, stays}
+use Rattle.node_roles.specs.Parts.{alone}
+use Rattle.node_roles.specs.Roles.{operator_commands}
+use Rattle.node_roles.proofs.NodeLaws.{done-at, stopped-at}
+use Rattle.node_roles.proofs.NotesLaws.{notes-go, stays}
 use Rattle.node_roles.proofs.OperatorRefusals.{operator-quiet, operator-tag}
 use Rattle.node_roles.proofs.operator.OperatorRunCommanded.answer.Goals as goal
 
 pub returns-clause-said : goal.returns-clause-said
 returns-clause-said g c =
     λ at is.
-    done-at g.D.Disk.told g.D.Disk.plan g.D.Disk.faults _
-    (λ dig records. operator_outcome dig c.args.log.now.log records c.args.command)
-    (g.H.Hash32.digest_of c.args.self.now.node.hash) at c.args.self.now.node.notes c.answer_operator.new.node.notes _ _ _
-    c.answer_operator.result is.0
+    done-at g.D.Disk.told g.D.Disk.faults operator_commands c.args.log.now.log c.args.command
+    (g.H.Hash32.digest_of c.args.self.now.node.hash) at (alone c.args.self.now.node.notes)
+    (alone c.answer_operator.new.node.notes) is.0 is.1 _
+    (notes-go g.D.Disk.told g.D.Disk.plan g.D.Disk.faults _ at.kept c.args.self.now.node.notes
+    c.answer_operator.new.node.notes is.1)
+    c.answer_operator.result c.answer_operator.ensures.did _ _
     (λ left there. (ap g.H.Hash32.digest_of c.answer_operator.ensures.hash ∙ is.0, there))
-    (λ dig records. operator-quiet dig c.args.log.now.log records c.args.command)
-    is.1 c.answer_operator.ensures.did c.answer_operator.ensures.said
+    (operator-quiet (g.H.Hash32.digest_of c.args.self.now.node.hash) c.args.log.now.log c.args.self.now.node.notes.records
+    c.args.command)
+    _ _ c.answer_operator.ensures.said
 
 pub returns-clause-stopped : goal.returns-clause-stopped
 returns-clause-stopped g c =
     λ at is.
-    stopped-at g.D.Disk.told g.D.Disk.plan g.D.Disk.faults
-    (λ dig records. operator_outcome dig c.args.log.now.log records c.args.command)
-    (g.H.Hash32.digest_of c.args.self.now.node.hash) at c.args.self.now.node.notes c.answer_operator.new.node.notes
-    c.answer_operator.result is.0 is.1 c.answer_operator.ensures.did
+    stopped-at g.D.Disk.told g.D.Disk.faults operator_commands c.args.log.now.log c.args.command
+    (g.H.Hash32.digest_of c.args.self.now.node.hash) at (alone c.args.self.now.node.notes)
+    (alone c.answer_operator.new.node.notes) is.0 is.1 _
+    (notes-go g.D.Disk.told g.D.Disk.plan g.D.Disk.faults _ at.kept c.args.self.now.node.notes
+    c.answer_operator.new.node.notes is.1)
+    c.answer_operator.result c.answer_operator.ensures.did
 
 pub returns-clause-same_tag : goal.returns-clause-same_tag
 returns-clause-same_tag g c =
