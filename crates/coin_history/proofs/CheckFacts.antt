@@ -38,15 +38,6 @@ pub asked-high : (log : List RootCall) (low high n : ℕ) → high < n → is_as
 asked-high log low high n more = false_from_ne_true (is_asked log low high n)
     (λ asked. let parts = asked-parts log low high n asked in omega (arith, parts.2))
 
--- the leaf of an opening that was read and opens the root of its block
-pub open-leaf : (dig : List ℕ → List ℕ) (log : List RootCall) (coin : ℕ) (raw : RawOpening) (root : List ℕ)
-    (opening : Opening) → root_at log raw.block ≡ Some root → opening_in dig raw ≡ Ok opening
-    → is_opening dig root coin opening.leaf (proof_path dig opening.proof) ≡ true
-    → Some opening.leaf ≡ (if opens_block (tests_by dig) log coin raw then Some (leaf_of_opening raw) else None)
-open-leaf dig log coin raw root opening is reads opens =
-    let shown : leaf_in raw.bytes ≡ opening.leaf = leaf-shown dig raw opening reads in
-    rw (is, reads, opens) (ap Some (sym shown))
-
 pub empty-is : (leaf : List ℕ) → is_empty leaf ≡ true → leaf ≡ []
 empty-is [] is = refl
 empty-is (byte ∷ bytes) is = absurd (cc is)

@@ -8,8 +8,7 @@ ghost use Rattle.coin_history.specs.Inside.{NoneIsAsked, IsFirstAsked};
 
 use super::refusal::HistoryRefusal;
 use plasma_base::{Bytes, Hash32, NoMemory};
-use plasma_tx::{BlockView, Opening, OpeningRefusal, RawOpening, RootLog};
-use sparse_merkle::opens_with_defaults;
+use plasma_tx::{BlockView, RawOpening, RootLog, leaf_in};
 use std::alloc::Global;
 
 /// The blocks after one and up to another, of which the committed ones have to be opened.
@@ -110,16 +109,8 @@ fn opened_leaf<H: Hash32>(
     let Some(root) = root_at(log, opening.block) else {
         return Ok(None);
     };
-    let read = match opening.open_up_with_defaults(alloc, h, defaults) {
-        Ok(read) => read,
-        Err(OpeningRefusal::Unreadable) => return Ok(None),
-        Err(OpeningRefusal::NoMemory) => return Err(NoMemory),
-    };
-    let is_open = opens_with_defaults(h, defaults, &root, coin, read.leaf.as_slice(), &read.proof);
-    let Opening {
-        block: _,
-        leaf,
-        proof: _,
-    } = read;
-    if is_open { Ok(Some(leaf)) } else { Ok(None) }
+    if !log.opens(h, defaults, &root, coin, opening)? {
+        return Ok(None);
+    }
+    Ok(Some(Bytes::from_vec(Vec::from_slice(alloc, leaf_in(opening.bytes.as_slice()))?)))
 }

@@ -147,4 +147,8 @@ impl Hash32 for KeptSha {
     fn digest_two(&self, first: &[u8], second: &[u8]) -> [u8; 32] {
         Sha.digest_two(first, second)
     }
+
+    fn is_sha256(&self) -> bool {
+        true
+    }
 }

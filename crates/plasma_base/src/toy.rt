@@ -25,6 +25,10 @@ impl Hash32 for Toy {
     fn digest_two(&self, first: &[u8], second: &[u8]) -> [u8; 32] {
         text_of(added(added(0, first, second.len()), second, 0))
     }
+
+    fn is_sha256(&self) -> bool {
+        false
+    }
 }
 
 // The sum with the groups of these bytes, which so many others follow.

@@ -16,6 +16,7 @@ mod leaf;
 mod links;
 mod movement;
 mod opening;
+mod opening_tests;
 mod owner;
 mod root_log;
 mod rule_laws;
@@ -36,7 +37,7 @@ pub use laws::{
 pub use leaf::leaf_tx;
 pub use links::{Link, Links, Spends};
 pub use movement::Movement;
-pub use opening::{Opening, OpeningRefusal, RawOpening};
+pub use opening::{Opening, OpeningRefusal, RawOpening, leaf_in};
 pub use owner::Owner;
 pub use root_log::RootLog;
 pub use rule_laws::{

@@ -127,6 +127,21 @@ fn parts(bytes: &[u8]) -> Option<(&[u8], &[u8])>
     Some(behind.split_at(length))
 }
 
+/// The leaf that so many bytes of an opening show behind its length, whether or not they spell an opening: where they end
+/// before, what there is of it.
+#[tactic(auto, unfolding(crate::specs::Openings::leaf_in))]
+pub fn leaf_in(bytes: &[u8]) -> &[u8]
+    ensures { result.now ≡ leaf_in bytes.now }
+{
+    match get_u32(bytes, 0) {
+        None => &[],
+        Some(length) => {
+            let behind = &bytes[4..];
+            &behind[..behind.len().min(length as usize)]
+        }
+    }
+}
+
 /// The bytes as a byte string of their own.
 fn copy_of(alloc: Global, bytes: &[u8]) -> Result<Bytes, NoMemory>
     ensures { IfOk result (λ copied. copied ≡ bytes.now) }

@@ -2,7 +2,10 @@ ghost use Rattle.std.specs.Prelude.{◌≡◌, ◌<◌, ◌^◌, ◌∷◌, [], 
 ghost use Rattle.std.specs.Ordering.{nat_cmp};
 ghost use Rattle.std.specs.BTreeSet.{contains, IsOrdered};
 ghost use Rattle.plasma_tx.specs.Chain.{with_log};
+ghost use Rattle.sparse_merkle.specs.TreeDigest.{AreDefaults};
 ghost use Rattle.plasma_tx.specs.Keeps.{item_at};
+ghost use Rattle.plasma_tx.specs.Openings.{opening_in};
+ghost use Rattle.plasma_tx.specs.Shown.{opens_root};
 ghost use Rattle.plasma_tx.specs.Transfer.{is_signed_by};
 ghost use Rattle.plasma_tx.specs.Views.{now, blocks, coins, block_at, coin_at, is_withdrawn, exits_of, is_exiting, is_root_committed, deposits_of};
 
@@ -10,18 +13,20 @@ use super::call::RootCall;
 use super::deposits::deposits_in;
 use super::exits::push_reserved;
 use super::kept::Kept;
+use super::opening::RawOpening;
+use super::opening_tests::OpeningTests;
 use super::owner::Owner;
 use super::signatures::Signatures;
 use super::signed_tx::SignedTx;
 use super::views::{BlockView, CoinView, ExitView};
-use plasma_base::NoMemory;
+use plasma_base::{Hash32, NoMemory};
 use std::alloc::Global;
 use std::collections::BTreeSet;
 use std::marker::Model;
 
 /// The log of a root contract: what it was made with, and the accepted calls in order. Beside them it
 /// keeps what they say, for every list of calls, also one that no contract accepted, and the signatures
-/// that were tested for those who read it, of which callers see nothing.
+/// and openings that were tested for those who read it, of which callers see nothing.
 #[derive(Drop)]
 pub struct RootLog {
     tag: [u8; 32],
@@ -30,6 +35,7 @@ pub struct RootLog {
     events: Vec<RootCall>,
     kept: Kept,
     signatures: Signatures,
+    opening_tests: OpeningTests,
 }
 
 impl Model for RootLog {
@@ -63,6 +69,7 @@ impl RootLog {
             events: Vec::new(alloc),
             kept: Kept::new(alloc),
             signatures: Signatures::new(alloc),
+            opening_tests: OpeningTests::new(alloc),
         }
     }
 
@@ -193,6 +200,27 @@ impl RootLog {
         ensures { result ≡ is_signed_by tx.now owner.now }
     {
         self.signatures.signed_by(tx, owner)
+    }
+
+    /// Whether the opening is read and opens the root at the coin, where the caller has the defaults of levels 0 to 63
+    /// already. What a test under SHA-256 found is remembered beside the log, for at most 2,048 openings in 11 MB at
+    /// most, so that an opening isn't tested anew in each history that has it. Where there is no memory for that it
+    /// tests again; `NoMemory` is of the test.
+    pub fn opens<H: Hash32>(
+        &self,
+        h: &H,
+        defaults: &[[u8; 32]; 64],
+        root: &[u8; 32],
+        coin: u64,
+        opening: &RawOpening,
+    ) -> Result<bool, NoMemory>
+        requires { AreDefaults (H.digest_of h.now) defaults.now }
+        ensures { IfOk result (λ opens. opens
+            ≡ opens_root (H.digest_of h.now) root.now coin (opening_in (H.digest_of h.now) opening.now)) }
+    {
+        let alloc = *self.events.allocator();
+        self.opening_tests
+            .opens(alloc, h, defaults, root, coin, opening)
     }
 
     /// As `exits`, as values of their own.

@@ -5,13 +5,13 @@ ghost use Rattle.trace_exhibits.specs.Lines.{event_of, AreLines};
 ghost use Rattle.trace_exhibits.specs.Wallets.{KeepsWallets, is_forged_in};
 ghost use Rattle.trace_exhibits.specs.Tested.{KeepsTested};
 
-use super::forging::leaf_in;
 use super::lines::{ExhibitLine, push_shown};
 use super::shown::ShownOpening;
 use super::tested::Tested;
 use super::told::ExhibitLines;
 use super::wallets::Known;
 use plasma_base::NoMemory;
+use plasma_tx::leaf_in;
 use std::alloc::Global;
 
 /// The number of the first of these lines, the oldest first, that shows a forgery: a leaf with this tag whose

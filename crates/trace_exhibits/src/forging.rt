@@ -1,10 +1,9 @@
 ghost use Rattle.std.specs.Prelude.{◌≡◌, IfOk};
 ghost use Rattle.std.specs.List.{list_any};
-ghost use Rattle.plasma_tx.specs.Openings.{leaf_in};
 ghost use Rattle.world_rules.specs.Exhibits.{forges, is_same_body};
 
-use plasma_base::{NoMemory, get_u32};
-use plasma_tx::{Body, Owner, RawOpening, leaf_tx, signed_by};
+use plasma_base::NoMemory;
+use plasma_tx::{Body, Owner, RawOpening, leaf_in, leaf_tx, signed_by};
 use std::alloc::Global;
 
 /// Whether the opening's leaf is a transfer of its block, with this tag and coin, that the owner signed, over a
@@ -48,18 +47,4 @@ pub(crate) fn is_same(one: &Body, other: &Body) -> bool
         && one.to.account == other.to.account
         && one.to.key == other.to.key
         && one.last == other.last
-}
-
-/// The leaf that so many bytes are, behind its length; the bytes may end before it.
-#[tactic(auto, unfolding(plasma_tx::specs::Openings::leaf_in))]
-pub(crate) fn leaf_in(bytes: &[u8]) -> &[u8]
-    ensures { result.now ≡ leaf_in bytes.now }
-{
-    match get_u32(bytes, 0) {
-        None => &[],
-        Some(length) => {
-            let behind = &bytes[4..];
-            &behind[..behind.len().min(length as usize)]
-        }
-    }
 }

@@ -6,11 +6,11 @@ ghost use Rattle.trace_exhibits.specs.Lines.{event_of};
 ghost use Rattle.trace_exhibits.specs.Opened.{Opened};
 ghost use Rattle.trace_exhibits.specs.Wallets.{bodies_of, owner_in, is_bound_in, signs_unbound, KeepsWallets, is_forged_in};
 
-use super::forging::{is_same, leaf_in};
+use super::forging::is_same;
 use super::lines::ExhibitLine;
 use super::shown::ShownOpening;
 use plasma_base::NoMemory;
-use plasma_tx::{Body, Owner, SignedTx, leaf_tx, signed_by};
+use plasma_tx::{Body, Owner, SignedTx, leaf_in, leaf_tx, signed_by};
 use std::alloc::Global;
 use std::collections::HashMap;
 

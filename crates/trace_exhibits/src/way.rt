@@ -6,11 +6,10 @@ ghost use Rattle.sparse_merkle.specs.TreeDigest.{AreDefaults};
 ghost use Rattle.trace_exhibits.specs.Ways.{strings_in_shown, AreDigestsUp};
 ghost use Rattle.trace_exhibits.specs.Strings.{bytes_of};
 
-use super::forging::leaf_in;
 use super::hashed_string::HashedString;
 use super::shown::ShownOpening;
 use plasma_base::{Hash32, NoMemory, get_u32};
-use plasma_tx::OpeningRefusal;
+use plasma_tx::{OpeningRefusal, leaf_in};
 use sparse_merkle::{bit, leaf_digest, parent_bytes};
 use std::alloc::Global;
 
