@@ -214,7 +214,8 @@ module _ (holder : Holder) (e line : ℕ) (notes : List Note) (dep acc : Bool) (
   after-returns v c q t taken bodies found is at was =
       returns-at v c _ t found
       (λ own. rw own (sym was ∙ taken-count (is_body c e) taken q bodies
-      ∙ ap (λ (b : Bool). count_of (is_body c e) (not_taken (q ∷ taken) bodies) + gone (is_body c e) b (leaf_at q bodies))
+      ∙ ap (λ (b : Bool). count_of (is_body c e) (not_taken (q ∷ taken) bodies) + gone (is_body c e) b
+      (leaf_at q bodies))
       (is own)
       ∙ ap (λ (o : Option Body). count_of (is_body c e) (not_taken (q ∷ taken) bodies) + gone (is_body c e) t o)
       (at own)))

@@ -118,7 +118,8 @@ module _ (tests : Tests) (rules : Rules) (holder : Holder) (c e : ℕ) where
           takes-none (coin == c) (block == e) paid (holds events holder.wallet c e) holder.owner,
         ) plain
     finish-step (Some exit) coin block paid =
-        rw (after-where holder e (length facts + 1) (coin == c) (Change.Ends block exit.account paid) (notes_in facts c))
+        rw (after-where holder e (length facts + 1) (coin == c) (Change.Ends block exit.account paid)
+        (notes_in facts c))
         (judges-ends holder e (length facts + 1) (standing facts) (coin == c) block exit.account paid _ _
         (pays-some (coin == c) (block == e) (exit.account == holder.owner.account) paid)
         (takes-some (coin == c) (block == e) (exit.account == holder.owner.account) paid
@@ -133,7 +134,8 @@ module _ (tests : Tests) (rules : Rules) (holder : Holder) (c e : ℕ) where
         ++ notes_in facts c))
     cancel-step None coin block = rw (ends-none (coin == c) (block == e) holder.owner) plain
     cancel-step (Some exit) coin block =
-        rw (after-where holder e (length facts + 1) (coin == c) (Change.Ends block exit.account false) (notes_in facts c))
+        rw (after-where holder e (length facts + 1) (coin == c) (Change.Ends block exit.account false)
+        (notes_in facts c))
         (judges-ends holder e (length facts + 1) (standing facts) (coin == c) block exit.account false _ _
         (unpaid (coin == c) (block == e) (exit.account == holder.owner.account))
         (ends-some (coin == c) (block == e) (exit.account == holder.owner.account)))

@@ -24,8 +24,8 @@ use world_rules::Verdict;
 
 /// The verdicts on the wallets' coins, by the facts of a run's lines, one for each line, the oldest first: for each
 /// wallet in turn, by rising coin, one on each coin that it ever held. It goes once over the facts, once more for
-/// each wallet, and over a coin's own facts for each wallet. It is so of every run in which the calls that were accepted
-/// are those of a contract and a declared wallet keeps its owner. `NoMemory` is its one refusal.
+/// each wallet, and over a coin's own facts for each wallet. It is so of every run in which the calls that were
+/// accepted are those of a contract and a declared wallet keeps its owner. `NoMemory` is its one refusal.
 pub fn verdicts(
     alloc: Global,
     facts: &[Fact],

@@ -92,9 +92,9 @@ fn words_of_owner<D: Disk, H: Hash32 + Copy>(
     Ok(words)
 }
 
-/// Answers a command of a wallet that no fault closed, behind this log, into the text. A refusal is no answer: its cause
-/// is given out. Where the command is stopped, by want of memory or a device fault, the text stays; where memory ran out
-/// the command may have been done before.
+/// Answers a command of a wallet that no fault closed, behind this log, into the text. A refusal is no answer: its
+/// cause is given out. Where the command is stopped, by want of memory or a device fault, the text stays; where memory
+/// ran out the command may have been done before.
 #[tactic(auto, unfolding(crate::specs::Answers::wallet_outcome))]
 pub fn answer_wallet<D: Disk, H: Hash32 + Copy>(
     alloc: Global,

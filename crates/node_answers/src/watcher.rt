@@ -25,9 +25,9 @@ fn order_of(line: WatcherLine) -> WatcherOrder
     }
 }
 
-/// Answers a command of a watcher that no fault closed, behind this log, into the text. A refusal is no answer: its cause
-/// is given out. Where the command is stopped, by want of memory or a device fault, the text stays; where memory ran out
-/// the command may have been done before.
+/// Answers a command of a watcher that no fault closed, behind this log, into the text. A refusal is no answer: its
+/// cause is given out. Where the command is stopped, by want of memory or a device fault, the text stays; where memory
+/// ran out the command may have been done before.
 #[tactic(auto, unfolding(crate::specs::Answers::watcher_outcome))]
 pub fn answer_watcher<D: Disk, H: Hash32 + Copy>(
     alloc: Global,

@@ -49,8 +49,8 @@ module _ (dig : List ℕ → List ℕ) where
     pub wrote : call.outside.after ≡ Some text
 
   -- The first init meets a fault, the second one says `made`. The command of the first run meets a fault of the leaves'
-  -- disk, and a crash leaves less than that disk held. The second run is answered, and leaves the record of its command.
-  -- The third one finds it, and refuses the same command.
+  -- disk, and a crash leaves less than that disk held. The second run is answered, and leaves the record of its
+  -- command. The third one finds it, and refuses the same command.
   pub record SmallLife : Type 0 where
     pub stopped : DriveCall
     pub begun : DriveCall

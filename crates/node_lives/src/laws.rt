@@ -31,15 +31,15 @@ pub fn runs_write_their_answers<D: Disk>()
     ensures { (dig : List ℕ → List ℕ) → RunsWriteTheirAnswers D.told D.plan D.faults dig }
 {}
 
-/// The bytes of an identity are one of its role, where its fields are of their types, and where an operator's has a key,
-/// the digests have 32 bytes.
+/// The bytes of an identity are one of its role, where its fields are of their types, and where an operator's has a
+/// key, the digests have 32 bytes.
 pub fn identities_are_of_their_roles()
     ensures { (dig : List ℕ → List ℕ) → IdentitiesAreOfTheirRoles dig }
 {}
 
-/// A small life of a wallet is a life, so the laws above speak of some: a device fault stops an init, the next one makes
-/// the wallet, a fault breaks off a run as its record is added, and a crash follows; the next run adds the record and is
-/// answered, and a last one finds it.
+/// A small life of a wallet is a life, so the laws above speak of some: a device fault stops an init, the next one
+/// makes the wallet, a fault breaks off a run as its record is added, and a crash follows; the next run adds the record
+/// and is answered, and a last one finds it.
 pub fn a_small_life_is_one()
     ensures { (dig : List ℕ → List ℕ) → SmallLife dig }
 {}

@@ -137,5 +137,6 @@ module _ {D : Type 0} (told : D → Option History) (faults : D → ℕ) where
           → IfOk result (λ said. IsSaid of_old.says said before after)
           → IfOk result (λ said. IsDone IsAt (node_does commands log at line) at said before after node)
       done-at IsAt node there quiet before after says =
-          subst (λ outcome. IfOk result (λ said. IsDone IsAt (node_with with_note at outcome) at said before after node))
+          subst (λ outcome. IfOk result
+          (λ said. IsDone IsAt (node_with with_note at outcome) at said before after node))
           same-outcome (done of_old at Did new goes IsAt node there quiet before after result did says)

@@ -46,12 +46,14 @@ module _ {D H : Type 0} (told : D → Option History) (plan : D → Option Fault
     adds = λ did.
         let notes = adds-at told plan faults note of_notes (notes_part old) (notes_part new) is did.did in (
           notes,
-          beside-open told plan faults of_leaves (leaves_part old) (leaves_part new) notes.is_open did.disk did.leaves beside_is,
+          beside-open told plan faults of_leaves (leaves_part old) (leaves_part new) notes.is_open did.disk did.leaves
+              beside_is,
         );
     stays = λ did.
         let notes = same-at told plan faults of_notes (notes_part old) (notes_part new) did.did.1 is in (
           notes,
-          beside-open told plan faults of_leaves (leaves_part old) (leaves_part new) notes.is_open did.disk did.leaves beside_is,
+          beside-open told plan faults of_leaves (leaves_part old) (leaves_part new) notes.is_open did.disk did.leaves
+              beside_is,
         );
     fails = λ did. inl (
       fails-at told plan faults note of_notes (notes_part old) (notes_part new) is did.did,
@@ -67,12 +69,14 @@ module _ {D H : Type 0} (told : D → Option History) (plan : D → Option Fault
   leaf-goes leaf says of_notes of_leaves old new beside_is is = record {
     adds = λ did.
         let leaves = adds-at told plan faults (Some leaf) of_leaves (leaves_part old) (leaves_part new) is did.did in (
-          beside-open told plan faults of_notes (notes_part old) (notes_part new) leaves.is_open did.disk did.notes beside_is,
+          beside-open told plan faults of_notes (notes_part old) (notes_part new) leaves.is_open did.disk did.notes
+              beside_is,
           leaves,
         );
     stays = λ did.
         let leaves = same-at told plan faults of_leaves (leaves_part old) (leaves_part new) did.did.1 is in (
-          beside-open told plan faults of_notes (notes_part old) (notes_part new) leaves.is_open did.disk did.notes beside_is,
+          beside-open told plan faults of_notes (notes_part old) (notes_part new) leaves.is_open did.disk did.notes
+              beside_is,
           leaves,
         );
     fails = λ did. inr (
@@ -82,7 +86,8 @@ module _ {D H : Type 0} (told : D → Option History) (plan : D → Option Fault
     never = λ did. never-closed told plan faults of_leaves (leaves_part old) is did.did.0;
   }
 
-  either-goes : (note leaf : Option (List ℕ)) (says : _) → (note ≡ None) ⊎ (leaf ≡ None) → (of_notes of_leaves : NotesAt)
+  either-goes : (note leaf : Option (List ℕ)) (says : _) → (note ≡ None) ⊎ (leaf ≡ None)
+      → (of_notes of_leaves : NotesAt)
       (old new : WalletState D H)
       → IsNotesAt told faults of_notes (notes_part old) → IsNotesAt told faults of_leaves (leaves_part old)
       → Goes told faults (record { says = says; note = note; leaf = leaf }) (both of_notes of_leaves)

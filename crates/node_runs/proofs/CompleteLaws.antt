@@ -233,7 +233,8 @@ module _ {D : Type 0} (told : D → Option History) (plan : D → Option FaultPl
     operator-complete (inl (opened, opens, behind)) history records input is reads left keep =
         let same : records ≡ opened.records = ok-same _ records opened.records reads (opens.kept history is) in
         behind-complete (operator_is opened.records).key_seed opened opens behind history input is left
-        (subst (λ (rs : List (List ℕ)). KeepOperatorRules told dig outside.left status (operator_is rs).key_seed rs leaves
+        (subst (λ (rs : List (List ℕ)). KeepOperatorRules told dig outside.left status (operator_is rs).key_seed rs
+        leaves
         (lines_in input)) same keep)
     operator-complete (inr (why, refuses, refused)) history records input is reads left keep =
         refused-done why status _ _

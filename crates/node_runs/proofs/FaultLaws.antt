@@ -326,7 +326,8 @@ module _ {D : Type 0} (told : D → Option History) (plan : D → Option FaultPl
       )
       by at outcome same (inr (keeps, fails)) = inr (
         keeps.faults_are ∙ notes-keep at.notes outcome.note ∙ first at same,
-        leaves-fail told faults outcome.leaf at.leaves new_leaves fails ∙ ap (λ n. faults_after n true) (second at same),
+        leaves-fail told faults outcome.leaf at.leaves new_leaves fails
+            ∙ ap (λ n. faults_after n true) (second at same),
       )
 
   pub watcher-counts : (old new : D) (outside : Outside) (failed : Type 0) (status : Status)

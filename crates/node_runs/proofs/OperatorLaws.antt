@@ -18,7 +18,8 @@ module _ {D : Type 0} (told : D → Option History) (plan : D → Option FaultPl
       subst (λ (s : Option (List ℕ)).
       RunsBehind told plan faults dig s opened leaves new_notes new_leaves outside failed status) same runs
 
-  pub promptly-behind : (failed_last : Bool) → PromptlyBehind outside failed_last told plan faults dig seed opened leaves
+  pub promptly-behind : (failed_last : Bool)
+      → PromptlyBehind outside failed_last told plan faults dig seed opened leaves
       → PromptlyBehind outside failed_last told plan faults dig of_identity opened leaves
   promptly-behind failed_last prompt =
       subst (λ (s : Option (List ℕ)). PromptlyBehind outside failed_last told plan faults dig s opened leaves) same

@@ -60,8 +60,8 @@ pub fn put_init_answer<K: Sink>(
     }
 }
 
-/// Begins a watcher with this account, of the chain with this tag, on a disk, says so, and hands the disk back beside the
-/// run's status. Each image that a crash may leave then spells its identity alone.
+/// Begins a watcher with this account, of the chain with this tag, on a disk, says so, and hands the disk back beside
+/// the run's status. Each image that a crash may leave then spells its identity alone.
 pub fn init_watcher<D: Disk, K: Sink>(
     alloc: Global,
     sink: &mut K,

@@ -39,10 +39,22 @@ pub fn run_operator<D: Disk, H: Hash32 + Copy, S: Source, K: Sink>(
     leaves: D,
 ) -> (D, D, Status)
     ensures runs { RunsOperator D.told D.plan D.faults (H.digest_of h) notes leaves result.0 result.1
-        (record { left = S.left source.old; later = S.left source.new; taken = K.taken sink.old; after = K.taken sink.new })
+        (record {
+          left = S.left source.old;
+          later = S.left source.new;
+          taken = K.taken sink.old;
+          after = K.taken
+              sink.new;
+        })
         (ReadsToFault (S.faults source.old) (S.faults source.new) (S.failed_last source.new) true) result.2 }
     ensures prompt { OperatorPromptly
-        (record { left = S.left source.old; later = S.left source.new; taken = K.taken sink.old; after = K.taken sink.new })
+        (record {
+          left = S.left source.old;
+          later = S.left source.new;
+          taken = K.taken sink.old;
+          after = K.taken
+              sink.new;
+        })
         (S.failed_last source.new) D.told D.plan D.faults (H.digest_of h) notes leaves }
     ensures source_faults { ReadsBy result.2
         (ReadsToFault (S.faults source.old) (S.faults source.new) (S.failed_last source.new)) }
@@ -79,10 +91,22 @@ fn run_with_key<D: Disk, H: Hash32 + Copy, S: Source, K: Sink>(
     requires seed { (who_is node.notes.records).key_seed ≡ Some seed }
     requires hash { node.hash ≡ h }
     ensures runs { RunsBehind D.told D.plan D.faults (H.digest_of h) (Some seed) node.notes leaves result.0 result.1
-        (record { left = S.left source.old; later = S.left source.new; taken = K.taken sink.old; after = K.taken sink.new })
+        (record {
+          left = S.left source.old;
+          later = S.left source.new;
+          taken = K.taken sink.old;
+          after = K.taken
+              sink.new;
+        })
         (ReadsToFault (S.faults source.old) (S.faults source.new) (S.failed_last source.new) true) result.2 }
     ensures prompt { PromptlyBehind
-        (record { left = S.left source.old; later = S.left source.new; taken = K.taken sink.old; after = K.taken sink.new })
+        (record {
+          left = S.left source.old;
+          later = S.left source.new;
+          taken = K.taken sink.old;
+          after = K.taken
+              sink.new;
+        })
         (S.failed_last source.new) D.told D.plan D.faults (H.digest_of h) (Some seed) node.notes leaves }
     ensures source_faults { ReadsBy result.2
         (ReadsToFault (S.faults source.old) (S.faults source.new) (S.failed_last source.new)) }

@@ -14,8 +14,8 @@ use run_endings::Status;
 use std::alloc::Global;
 use streamed_lines::{Break, answer_lines};
 
-/// Runs the session of a node that was opened: answers the lines of the source into the sink, each before more is taken,
-/// and hands the node back.
+/// Runs the session of a node that was opened: answers the lines of the source into the sink, each before more is
+/// taken, and hands the node back.
 pub fn run_session<N: Commanded, S: Source, K: Sink>(
     alloc: Global,
     node: N,
@@ -25,11 +25,18 @@ pub fn run_session<N: Commanded, S: Source, K: Sink>(
     ghost found: { N.At }
     requires open { N.is_open node }
     requires found { N.is_at node found }
-    ensures runs { RunsSession (session_rules (N.tag node) (N.command_in node) (N.does node)) (N.command_in result.0) found
+    ensures runs { RunsSession (session_rules (N.tag node) (N.command_in node) (N.does node)) (N.command_in result.0)
+        found
         (λ at. N.is_at result.0 at)
         (λ log at command. N.is_stopped result.0 log at command Stop.DeviceFault)
         (λ log at command. N.is_stopped result.0 log at command Stop.NoMemory)
-        (record { left = S.left source.old; later = S.left source.new; taken = K.taken sink.old; after = K.taken sink.new })
+        (record {
+          left = S.left source.old;
+          later = S.left source.new;
+          taken = K.taken sink.old;
+          after = K.taken
+              sink.new;
+        })
         (ReadsToFault (S.faults source.old) (S.faults source.new) (S.failed_last source.new) true) result.1 }
     ensures prompt { AnswersPromptly
         (answers_so_far (session_rules (N.tag node) (N.command_in node) (N.does node)) (begun found))

@@ -15,12 +15,13 @@ use run_endings::Status;
 use std::alloc::Global;
 use wallet_node::{ReturnedBoth, WalletNode};
 
-/// Runs the wallet of two disks: opens them, the notes before the leaves, answers the lines of the source into the sink,
-/// and hands the notes and the leaves back beside the run's status.
+/// Runs the wallet of two disks: opens them, the notes before the leaves, answers the lines of the source into the
+/// sink, and hands the notes and the leaves back beside the run's status.
 ///
 /// The lines are a log of the root contract, a line `--`, and behind it commands. Each command is answered by its rules
-/// over that log and the wallet's records, before more is taken. A refused command ends the run, as does a log of another
-/// chain than the wallet's; so do a line that may not stand there, one past a limit, a missing `--`, and each fault.
+/// over that log and the wallet's records, before more is taken. A refused command ends the run, as does a log of
+/// another chain than the wallet's; so do a line that may not stand there, one past a limit, a missing `--`, and each
+/// fault.
 #[tactic(auto, unfolding(crate::specs::Runs::RunsWallet))]
 pub fn run_wallet<D: Disk, H: Hash32 + Copy, S: Source, K: Sink>(
     alloc: Global,
@@ -31,10 +32,22 @@ pub fn run_wallet<D: Disk, H: Hash32 + Copy, S: Source, K: Sink>(
     leaves: D,
 ) -> (D, D, Status)
     ensures runs { RunsWallet D.told D.plan D.faults (H.digest_of h) notes leaves result.0 result.1
-        (record { left = S.left source.old; later = S.left source.new; taken = K.taken sink.old; after = K.taken sink.new })
+        (record {
+          left = S.left source.old;
+          later = S.left source.new;
+          taken = K.taken sink.old;
+          after = K.taken
+              sink.new;
+        })
         (ReadsToFault (S.faults source.old) (S.faults source.new) (S.failed_last source.new) true) result.2 }
     ensures prompt { WalletPromptly
-        (record { left = S.left source.old; later = S.left source.new; taken = K.taken sink.old; after = K.taken sink.new })
+        (record {
+          left = S.left source.old;
+          later = S.left source.new;
+          taken = K.taken sink.old;
+          after = K.taken
+              sink.new;
+        })
         (S.failed_last source.new) D.told D.plan D.faults (H.digest_of h) notes leaves }
     ensures source_faults { ReadsBy result.2
         (ReadsToFault (S.faults source.old) (S.faults source.new) (S.failed_last source.new)) }

@@ -32,10 +32,22 @@ pub fn run_watcher<D: Disk, H: Hash32 + Copy, S: Source, K: Sink>(
     notes: D,
 ) -> (D, Status)
     ensures runs { RunsWatcher D.told D.plan D.faults (H.digest_of h) notes result.0
-        (record { left = S.left source.old; later = S.left source.new; taken = K.taken sink.old; after = K.taken sink.new })
+        (record {
+          left = S.left source.old;
+          later = S.left source.new;
+          taken = K.taken sink.old;
+          after = K.taken
+              sink.new;
+        })
         (ReadsToFault (S.faults source.old) (S.faults source.new) (S.failed_last source.new) true) result.1 }
     ensures prompt { WatcherPromptly
-        (record { left = S.left source.old; later = S.left source.new; taken = K.taken sink.old; after = K.taken sink.new })
+        (record {
+          left = S.left source.old;
+          later = S.left source.new;
+          taken = K.taken sink.old;
+          after = K.taken
+              sink.new;
+        })
         (S.failed_last source.new) D.told D.plan D.faults (H.digest_of h) notes }
     ensures source_faults { ReadsBy result.1
         (ReadsToFault (S.faults source.old) (S.faults source.new) (S.failed_last source.new)) }

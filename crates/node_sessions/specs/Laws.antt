@@ -12,8 +12,8 @@ use Rattle.node_sessions.specs.Sessions.{begun, session_rules}
 -- of a node of the chain with this tag, whose commands are read and done so
 module _ {A L : Type 0} (tag : List ℕ) (command_in : List ℕ → Option L)
     (does : List RootCall → A → L → Result (A × List ℕ) (List ℕ)) where
-  -- Line n, which begins after so many bytes, and those behind it pass no limit, and spell commands that are done behind
-  -- this log, each where the one before left the node.
+  -- Line n, which begins after so many bytes, and those behind it pass no limit, and spell commands that are done
+  -- behind this log, each where the one before left the node.
   unfoldable pub AreDone : List RootCall → A → ℕ → ℕ → List (List ℕ) → Type 0
   AreDone log at n start [] = Unit {0}
   AreDone log at n start (line ∷ lines) =

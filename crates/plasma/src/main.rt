@@ -1,5 +1,5 @@
-//! The program: it runs `replay_run::run` on the words of the command line, standard input, standard output and the files
-//! `notes.journal` and `leaves.journal` of the current folder, and ends with the run's status.
+//! The program: it runs `replay_run::run` on the words of the command line, standard input, standard output and the
+//! files `notes.journal` and `leaves.journal` of the current folder, and ends with the run's status.
 #![tactic(auto)]
 
 use crash_disk::FileDisk;

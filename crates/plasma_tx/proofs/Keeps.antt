@@ -134,7 +134,8 @@ pub keeps-Deposit : (log : List RootCall) (account amount : ℕ) (key : List ℕ
     else deposits_in old.deposits a))
     → Keeps log old → Keeps (Deposit account amount key ∷ log) new
 unfolding now blocks coins block_at coin_at deposits_of exits responses exits_of is_withdrawn
-keeps-Deposit log account amount key old new coin number clock states exiting roots made counted coins_are blocks_are deposited k =
+keeps-Deposit log account amount key old new coin number clock states exiting roots made counted coins_are blocks_are
+    deposited k =
     let coin_is : coin ≡ new_coin log account amount key = made
     ∙ (λ i. record {
       deposit = k.block_count i + 1;
@@ -201,19 +202,75 @@ record IsQuiet (log : List RootCall) (call : RootCall) : Type 0 where
 quiet : (log : List RootCall) (call : RootCall) (p : ℕ × Change) → change_of (now log) call ≡ Some p → IsQuiet log call
 unfolding now blocks coins block_at coin_at deposits_of
 quiet log (StartDeposit account k m) p is =
-    record { clock = refl; blocks_same = refl; block_same = λ n. refl; coins_same = refl; coin_same = λ c. refl; roots_same = λ r. refl; deposits_same = λ a. refl }
+    record {
+      clock = refl;
+      blocks_same = refl;
+      block_same = λ n. refl;
+      coins_same = refl;
+      coin_same = λ c. refl;
+      roots_same = λ r. refl;
+      deposits_same = λ a. refl;
+    }
 quiet log (StartSpend account k parent exit) p is =
-    record { clock = refl; blocks_same = refl; block_same = λ n. refl; coins_same = refl; coin_same = λ c. refl; roots_same = λ r. refl; deposits_same = λ a. refl }
+    record {
+      clock = refl;
+      blocks_same = refl;
+      block_same = λ n. refl;
+      coins_same = refl;
+      coin_same = λ c. refl;
+      roots_same = λ r. refl;
+      deposits_same = λ a. refl;
+    }
 quiet log (After account k m spend) p is =
-    record { clock = refl; blocks_same = refl; block_same = λ n. refl; coins_same = refl; coin_same = λ c. refl; roots_same = λ r. refl; deposits_same = λ a. refl }
+    record {
+      clock = refl;
+      blocks_same = refl;
+      block_same = λ n. refl;
+      coins_same = refl;
+      coin_same = λ c. refl;
+      roots_same = λ r. refl;
+      deposits_same = λ a. refl;
+    }
 quiet log (Between account k m spend) p is =
-    record { clock = refl; blocks_same = refl; block_same = λ n. refl; coins_same = refl; coin_same = λ c. refl; roots_same = λ r. refl; deposits_same = λ a. refl }
+    record {
+      clock = refl;
+      blocks_same = refl;
+      block_same = λ n. refl;
+      coins_same = refl;
+      coin_same = λ c. refl;
+      roots_same = λ r. refl;
+      deposits_same = λ a. refl;
+    }
 quiet log (Before account k m shown) p is =
-    record { clock = refl; blocks_same = refl; block_same = λ n. refl; coins_same = refl; coin_same = λ c. refl; roots_same = λ r. refl; deposits_same = λ a. refl }
+    record {
+      clock = refl;
+      blocks_same = refl;
+      block_same = λ n. refl;
+      coins_same = refl;
+      coin_same = λ c. refl;
+      roots_same = λ r. refl;
+      deposits_same = λ a. refl;
+    }
 quiet log (Respond account k m n spend) p is =
-    record { clock = refl; blocks_same = refl; block_same = λ n. refl; coins_same = refl; coin_same = λ c. refl; roots_same = λ r. refl; deposits_same = λ a. refl }
+    record {
+      clock = refl;
+      blocks_same = refl;
+      block_same = λ n. refl;
+      coins_same = refl;
+      coin_same = λ c. refl;
+      roots_same = λ r. refl;
+      deposits_same = λ a. refl;
+    }
 quiet log (Finish account k m) p is =
-    record { clock = refl; blocks_same = refl; block_same = λ n. refl; coins_same = refl; coin_same = λ c. refl; roots_same = λ r. refl; deposits_same = λ a. refl }
+    record {
+      clock = refl;
+      blocks_same = refl;
+      block_same = λ n. refl;
+      coins_same = refl;
+      coin_same = λ c. refl;
+      roots_same = λ r. refl;
+      deposits_same = λ a. refl;
+    }
 quiet log (Fund account amount) p is = absurd (cc is)
 quiet log (Tick time) p is = absurd (cc is)
 quiet log (Deposit account amount key) p is = absurd (cc is)

@@ -127,8 +127,8 @@ fn parts(bytes: &[u8]) -> Option<(&[u8], &[u8])>
     Some(behind.split_at(length))
 }
 
-/// The leaf that so many bytes of an opening show behind its length, whether or not they spell an opening: where they end
-/// before, what there is of it.
+/// The leaf that so many bytes of an opening show behind its length, whether or not they spell an opening: where they
+/// end before, what there is of it.
 #[tactic(auto, unfolding(crate::specs::Openings::leaf_in))]
 pub fn leaf_in(bytes: &[u8]) -> &[u8]
     ensures { result.now ≡ leaf_in bytes.now }

@@ -45,8 +45,8 @@ impl OpeningTests {
         }
     }
 
-    /// Whether the opening opens the root at the coin. Under SHA-256 it tests an opening that isn't known, and remembers
-    /// what it found; under another digest it tests each.
+    /// Whether the opening opens the root at the coin. Under SHA-256 it tests an opening that isn't known, and
+    /// remembers what it found; under another digest it tests each.
     pub fn opens<H: Hash32>(
         &self,
         alloc: Global,

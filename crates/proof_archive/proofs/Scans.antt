@@ -447,7 +447,8 @@ module _ (tests : Tests) (rules : Rules) (coin : ℕ) (made : CoinView) where
         else moved (record { spends = links; broken = Some n }) o
         (next_tx tests (linked_up links) (transfer_of rules coin o)))) [
           | true ↦ broken-stays o older kept past kept_older (record { spends = links; broken = Some n }) is n is.broken
-          | false ↦ broken-stays o older kept past kept_older (record { spends = links; broken = Some n }) is n is.broken
+          | false ↦ broken-stays o older kept past kept_older (record { spends = links; broken = Some n }) is n
+              is.broken
         ]
     stepped o older links None kept past kept_older is =
         (elim (is_absent o) as (λ a. is_absent o ≡ a → IsScanned (o ∷ older) (if a || false

@@ -38,7 +38,8 @@ pub fn judged<H: Hash32>(
         × IsCellOf (tests_by (H.digest_of h.now)) (rules_of log.now) log.now.log coin
         (with_opening cell.now opening.now change) (coin_at log.now.log coin)) }
     ensures err { IfErr result (λ why. why ≢ ArchiveRefusal.NoMemory
-        → put_at (tests_by (H.digest_of h.now)) log.now.log coin cell.now.openings opening.now (coin_at log.now.log coin)
+        → put_at (tests_by (H.digest_of h.now)) log.now.log coin cell.now.openings opening.now
+        (coin_at log.now.log coin)
         ≡ Err why) }
 {
     let Some(made) = log.coin(coin) else {

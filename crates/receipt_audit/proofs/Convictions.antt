@@ -71,7 +71,8 @@ shown-ok dig log promise (Ok shown) conviction is =
     (elim (shown.coin == promise.coin) as
     (λ b. (if b then convicted promise (breach_of (tests_by dig) dig log promise shown)
     else Err (OtherCoin shown.coin)) ≡ Ok conviction
-    → (other : Bundle) × ◌≡◌ {A = Result Bundle HistoryRefusal} (Ok shown) (Ok other) × (breach_of (tests_by dig) dig log promise other ≡ Ok tt)) [
+    → (other : Bundle) × ◌≡◌ {A = Result Bundle HistoryRefusal} (Ok shown) (Ok other)
+    × (breach_of (tests_by dig) dig log promise other ≡ Ok tt)) [
       | true ↦ λ same. (
         shown,
         refl,
@@ -157,7 +158,8 @@ module _ (dig : List ℕ → List ℕ) (log : List RootCall) (promise : Promise)
       → (Honours dig entries promise → ⊥) ⊎ ClashesAt dig promise.coin n entries openings
   against n root entries raw at good has below same =
       let opens : opens_root dig root promise.coin (opening_in dig raw) ≡ true =
-      ap (λ (r : Option (List ℕ)). option_map_or (λ root. opens_root dig root promise.coin (opening_in dig raw)) r false)
+      ap (λ (r : Option (List ℕ)). option_map_or (λ root. opens_root dig root promise.coin (opening_in dig raw)) r
+      false)
       (sym (ap (root_at log) at ∙ has)) ∙ good.1 in
       let read = read-opened dig root promise.coin raw (opening_in dig raw) refl opens in
       let shows : leaf_of_opening raw ≡ read.0.leaf = leaf-shown dig raw read.0 read.1 in
@@ -197,7 +199,8 @@ convictions_show_broken_promises dig chain key receipt bundle conviction long by
       is_bundle = known.is_bundle;
       signed = known.signed;
       broken = λ n root entries less le has below same.
-          let asked = asked-from chain.log promise.issued promise.due n (ap (λ (o : Option (List ℕ)). is_some o) has) less le in
+          let asked = asked-from chain.log promise.issued promise.due n (ap (λ (o : Option (List ℕ)). is_some o) has)
+          less le in
           let at = opened-at dig chain.log promise known.shown.openings long spelled.2.coin found.1 n asked in
           against dig chain.log promise known.shown.openings long spelled.2.coin found.1 n root entries at.0 at.1 at.2
           has below same;

@@ -120,7 +120,8 @@ module _ (dig judge : List ℕ → List ℕ) (secret : Secret) (notes records : 
         (subst (λ (s : List ℕ). IsValid (public_key_of secret) text s) (sym parts.1)
         (signatures_are_valid secret (length (messages_of records)) text may.supported may.id fine.2))
 
-    is-given : IsGiven dig secret notes records log bytes due receipt.bytes (records ++ binding_record records text ∷ [])
+    is-given : IsGiven dig secret notes records log bytes due receipt.bytes (records ++ binding_record records text
+        ∷ [])
     is-given =
         let long = promise-long promise fits in
         record {

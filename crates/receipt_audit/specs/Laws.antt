@@ -44,8 +44,8 @@ ConvictionsShowBrokenPromises = (dig : List ℕ → List ℕ) (chain : Chain) (k
     → conviction_answer dig chain key receipt bundle ≡ Ok conviction → IsBroken dig chain key receipt bundle
 
 -- A promise is kept by the block of a map that has, at the promise's coin, bytes of the promised digest, if the block
--- comes after the promise was issued and is at most the due one. Where it convicts all the same, the bundle's opening of
--- that block and the map show two different strings of one digest.
+-- comes after the promise was issued and is at most the due one. Where it convicts all the same, the bundle's opening
+-- of that block and the map show two different strings of one digest.
 abbrev pub KeptPromisesAreNotConvicted : Type 0
 KeptPromisesAreNotConvicted = (dig : List ℕ → List ℕ) (chain : Chain) (promise : Promise)
     (key signature bytes bundle : List ℕ) (n : ℕ) (entries : List Entry) (conviction : Conviction)
@@ -93,8 +93,8 @@ IssuesGiveReceipts = (dig judge : List ℕ → List ℕ) (secret : Secret) (note
     → (body : List ℕ) × ((issue_effect dig judge secret notes records log bytes due).leaf ≡ Some body)
     × IsGiven dig secret notes records log bytes due receipt.bytes (records ++ body ∷ [])
 
--- An auditor takes it at any later log of the chain: the one cause left, beside those of the bundle, is a due block that
--- isn't there.
+-- An auditor takes it at any later log of the chain: the one cause left, beside those of the bundle, is a due block
+-- that isn't there.
 abbrev pub GivenReceiptsAreTaken : Type 0
 GivenReceiptsAreTaken = (dig judge : List ℕ → List ℕ) (secret : Secret) (notes records : List (List ℕ))
     (log : List RootCall) (bytes : List ℕ) (due : ℕ) (receipt : Receipt) (chain : Chain) (bundle : List ℕ)
@@ -105,8 +105,8 @@ GivenReceiptsAreTaken = (dig judge : List ℕ → List ℕ) (secret : Secret) (n
     ≡ (if nat_lt (blocks chain.log) due then Err (NotYet due)
     else shown_by dig chain.log (promise_for dig (who_is notes).tag (blocks log) bytes due) (bundle_in bundle))
 
--- An operator that gave a receipt and committed the transfer behind it and in time isn't convicted, but by two different
--- strings of one digest: the bundle's opening of that block and the operator's map show them.
+-- An operator that gave a receipt and committed the transfer behind it and in time isn't convicted, but by two
+-- different strings of one digest: the bundle's opening of that block and the operator's map show them.
 abbrev pub KeptReceiptsDoNotConvict : Type 0
 KeptReceiptsDoNotConvict = (dig judge : List ℕ → List ℕ) (secret : Secret) (notes records : List (List ℕ))
     (log : List RootCall) (bytes : List ℕ) (due : ℕ) (receipt : Receipt) (chain : Chain) (key bundle : List ℕ)

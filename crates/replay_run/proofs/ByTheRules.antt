@@ -68,7 +68,8 @@ module _ (dig : List ℕ → List ℕ) (is_digest : IsDigest dig) (outside : Out
           at_end = offers-taken dig bytes ended is_digest;
         }
 
-    nothing-written : outside.after ≡ outside.taken → (written : List ℕ) → WroteFront outside.taken outside.after written
+    nothing-written : outside.after ≡ outside.taken → (written : List ℕ)
+        → WroteFront outside.taken outside.after written
     nothing-written unwritten written =
         record { front = []; back = written; whole = refl; wrote = unwritten ∙ none-taken outside.taken }
 

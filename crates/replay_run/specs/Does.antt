@@ -35,8 +35,8 @@ module _ {D : Type 0} (told : D → Option History) (plan : D → Option FaultPl
   abbrev pub Writes : Output → Type 0
   Writes output = EndsAs output status outside.taken outside.after ⊥
 
-  -- it reads a schedule, and writes the text of this output of it; a bad line, or one past a limit, ended it before more
-  -- than a room was taken behind it
+  -- it reads a schedule, and writes the text of this output of it; a bad line, or one past a limit, ended it before
+  -- more than a room was taken behind it
   abbrev pub Reads : (List ℕ → Bool → Output) → Type 0
   Reads output =
       RanOver output (FewBy dig) outside.left outside.later outside.taken outside.after failed status

@@ -1,5 +1,5 @@
--- What holds at the end of a run: a coin has one holder, and what is on offer would be accepted, calls by the contract and
--- an honest operator's bundles by wallets.
+-- What holds at the end of a run: a coin has one holder, and what is on offer would be accepted, calls by the contract
+-- and an honest operator's bundles by wallets.
 use Rattle.std.specs.Prelude.{◌≡◌, ◌≢◌, ◌⊎◌, ℕ, true, false, List, slice_get, Some}
 use Rattle.std.specs.List.{Contains}
 use Rattle.line_forms.specs.declared.tokens.HexOrItem.{HexOrItem}
@@ -22,8 +22,8 @@ use Rattle.world_rules.specs.Safety.{holds}
 use Rattle.world_laws.specs.Headline.{AreDeclaredBefore, lacks_bond, IsFreshWatch, starter, IsTaken}
 use Rattle.world_laws.specs.Bundles.{IsHonestSoFar, WasBundled, IsTakenBundle}
 
--- So it is at the end of a run of these lines, the newest first, with this world. A beginning of a schedule is a schedule,
--- so it is at each line of it.
+-- So it is at the end of a run of these lines, the newest first, with this world. A beginning of a schedule is a
+-- schedule, so it is at each line of it.
 pub record HoldsAtTheEnd (dig : List ℕ → List ℕ) (lines : List Line) (run : Run) (world : World) : Type 0 where
   -- two wallets that were declared before its deposit don't both hold a coin, unless the trace exhibits
   pub one_holder : (v w c d e : ℕ) → v ≢ w → AreDeclaredBefore (events_of run.entries) v w c
@@ -31,14 +31,14 @@ pub record HoldsAtTheEnd (dig : List ℕ → List ℕ) (lines : List Line) (run 
       → (collides dig (events_of run.entries) c ≡ true)
       ⊎ (is_forged world.chain.tag (events_of run.entries) v c ≡ true)
       ⊎ (is_forged world.chain.tag (events_of run.entries) w c ≡ true)
-  -- a start that a wallet offers is taken while the wallet holds the coin at the exit's block, but where the exit stands
-  -- or the money is missing
+  -- a start that a wallet offers is taken while the wallet holds the coin at the exit's block, but where the exit
+  -- stands or the money is missing
   pub starts : (w account : ℕ) (call : RootCall) → Contains (offers_of (events_of run.entries) w) call
       → starter call ≡ Some account
       → holds (events_of run.entries) w (coin_of_call call) (exit_block call) ≡ true
       → IsTaken world.chain.log account call (answer_to (tests_by dig) (rules_of world.chain) world.chain.log call)
-  -- a call that a watch offers is accepted where no call was accepted since, unless it is a Before for which its account
-  -- doesn't have the money, or the trace shows a clash at its coin
+  -- a call that a watch offers is accepted where no call was accepted since, unless it is a Before for which its
+  -- account doesn't have the money, or the trace shows a clash at its coin
   pub dues : (n : ℕ) (calls : List RootCall) (call : RootCall) → IsFreshWatch (events_of run.entries) n calls
       → Contains calls call → lacks_bond world.chain.log call ≡ false
       → (collides dig (events_of run.entries) (coin_of_call call) ≡ true)

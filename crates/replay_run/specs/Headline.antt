@@ -54,8 +54,8 @@ KeepsLookedAfter dig all world = (later events : List Event) (event : Event) (w 
     ⊎ (is_forged world.chain.tag (event ∷ events) w c ≡ true)
     ⊎ (is_safe (tests_by dig) (rules_of world.chain) (event ∷ events) w c e ≡ true)
 
--- No leaf of a wallet's key signs two messages; coins are kept that are attended, and those that are looked after; and a
--- verdict `lost` stands only above an exhibit.
+-- No leaf of a wallet's key signs two messages; coins are kept that are attended, and those that are looked after; and
+-- a verdict `lost` stands only above an exhibit.
 pub record KeepsThePromise (dig : List ℕ → List ℕ) (run : Run) : Type 0 where
   pub one_message : SignsOneMessage run
   pub coins : ForSome run.world (KeepsCoins dig (events_of run.entries))
@@ -68,7 +68,8 @@ abbrev pub ReplaysKeepThePromise : Type 0
 ReplaysKeepThePromise = (dig : List ℕ → List ℕ) (bytes : List ℕ) (ended : Bool)
     → IsDigest dig → KeepsThePromise dig (replay_of dig bytes ended).run
 
--- what a replay of a run writes that ended so: its answers, and behind them the verdicts and the exhibit, or why it ended
+-- what a replay of a run writes that ended so: its answers, and behind them the verdicts and the exhibit, or why it
+-- ended
 abbrev pub run_text : (List ℕ → List ℕ) → Run → Ending NoCause → Output
 run_text dig run ending = record {
   status = status_of ending;
@@ -82,11 +83,12 @@ run_brief dig run ending =
     record { status = status_of ending; answers = []; last = last_text (brief_text dig run) ending }
 
 -- A schedule was read, and its run keeps the promise. The source gave these bytes. The run is that of the schedule's
--- lines that the first lines of the bytes spell, by the rules of the world; the next line, or the end of the input, says
--- why it has no more. The sink took the text of that run, or with the statuses WriteFault and NoMemory a beginning of it.
--- No leaf of it signs two messages, and its coins are kept; where a verdict is `lost` its text doesn't say `no exhibit`.
--- Where source and sink tell, `gave` and `wrote` say what they did; over others a run is the same, since its body can't
--- see which they are. That a run keeps the promise, and what holds at its end, follows for each run by the rules.
+-- lines that the first lines of the bytes spell, by the rules of the world; the next line, or the end of the input,
+-- says why it has no more. The sink took the text of that run, or with the statuses WriteFault and NoMemory a beginning
+-- of it. No leaf of it signs two messages, and its coins are kept; where a verdict is `lost` its text doesn't say `no
+-- exhibit`. Where source and sink tell, `gave` and `wrote` say what they did; over others a run is the same, since its
+-- body can't see which they are. That a run keeps the promise, and what holds at its end, follows for each run by the
+-- rules.
 pub record AnswersByTheRules
     (dig : List ℕ → List ℕ)
     (text : (List ℕ → List ℕ) → Run → Ending NoCause → Output)

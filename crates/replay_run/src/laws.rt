@@ -43,11 +43,11 @@ pub fn good_schedules_are_answered()
     ensures part { PartsOfGoodSchedulesWait }
 {}
 
-/// The headline, a law of whatever input: in the run that a replay answers no leaf of a wallet's key signs two messages;
-/// at each line, unless the trace up to it shows two byte strings with one digest at the coin, or a valid signature
-/// that the wallet's key never made, no other account's exit of an attended coin that the wallet holds is paid, and the
-/// wallet's own exit is never cancelled or dropped, and pays when it is finished at its end; and a verdict `lost`
-/// stands only above an exhibit. So it is under every digest of 32 bytes.
+/// The headline, a law of whatever input: in the run that a replay answers no leaf of a wallet's key signs two
+/// messages; at each line, unless the trace up to it shows two byte strings with one digest at the coin, or a valid
+/// signature that the wallet's key never made, no other account's exit of an attended coin that the wallet holds is
+/// paid, and the wallet's own exit is never cancelled or dropped, and pays when it is finished at its end; and a
+/// verdict `lost` stands only above an exhibit. So it is under every digest of 32 bytes.
 pub fn replays_keep_the_promise()
     ensures { ReplaysKeepThePromise }
 {}

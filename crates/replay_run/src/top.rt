@@ -76,19 +76,19 @@ impl<D> Ended<D> {
     }
 }
 
-/// Runs the program: reads the words that stand after its name and the source, uses a node's two disks, and writes to the
-/// sink. Openings are judged by SHA-256 (FIPS 180-4).
+/// Runs the program: reads the words that stand after its name and the source, uses a node's two disks, and writes to
+/// the sink. Openings are judged by SHA-256 (FIPS 180-4).
 ///
 /// `replay` reads a schedule and writes the text of its trace; `brief` reads one and writes what is counted of it.
 /// `wallet`, `operator` and `watcher` open a node from the disks, read a log of the root contract, a line `--` and
-/// commands, and write their answers. `init` with a role, a tag, an account, for a wallet a seed, and maybe the types of
-/// its key, and for an operator with a key its seed, begins the disks of a node and writes `made`. `make <seed> <count>`
-/// writes a schedule of so many rounds. `verify <key> <message> <signature>` writes `valid` or `invalid`. `hss init <seed>`
-/// begins the disks of a two-level signer (RFC 8554, section 6) and writes `made`; `hss sign <message>` opens it from the
-/// disks and writes `signed`, its top leaf and its leaf, and a signature; `hss verify` is `verify` under a key of two
-/// levels. `audit <key> <receipt>` and `archive` read a log and a line `--`; behind it an audit reads a bundle, which
-/// convicts the operator who promised the receipt or doesn't, and an archive commands, which it answers. Other words are
-/// no form: the run ends as `Usage`, and writes the line that names the forms.
+/// commands, and write their answers. `init` with a role, a tag, an account, for a wallet a seed, and maybe the types
+/// of its key, and for an operator with a key its seed, begins the disks of a node and writes `made`.
+/// `make <seed> <count>` writes a schedule of so many rounds. `verify <key> <message> <signature>` writes `valid` or
+/// `invalid`. `hss init <seed>` begins the disks of a two-level signer (RFC 8554, section 6) and writes `made`;
+/// `hss sign <message>` opens it from the disks and writes `signed`, its top leaf and its leaf, and a signature;
+/// `hss verify` is `verify` under a key of two levels. `audit <key> <receipt>` and `archive` read a log and a line `--`; behind it an audit
+/// reads a bundle, which convicts the operator who promised the receipt or doesn't, and an archive commands, which it
+/// answers. Other words are no form: the run ends as `Usage`, and writes the line that names the forms.
 pub fn run<S: Source, K: Sink, D: Disk>(
     alloc: Global,
     words: &[String],
@@ -97,29 +97,47 @@ pub fn run<S: Source, K: Sink, D: Disk>(
     notes: D,
     leaves: D,
 ) -> Ended<D>
-    // What each form does: its status, what was written, and where the disks are left, over the words, the bytes that the
-    // source gave and what the disks held.
+    // What each form does: its status, what was written, and where the disks are left, over the words, the bytes that
+    // the source gave and what the disks held.
     ensures output { Does D.told D.plan D.faults sha256 notes leaves result.notes result.leaves
-        (record { left = S.left source.old; later = S.left source.new; taken = K.taken sink.old; after = K.taken sink.new })
+        (record {
+          left = S.left source.old;
+          later = S.left source.new;
+          taken = K.taken sink.old;
+          after = K.taken
+              sink.new;
+        })
         (ReadsToFault (S.faults source.old) (S.faults source.new) (S.failed_last source.new) true) result.status
         (form_of (map string_bytes words.now)) }
 
     // The headline: where a schedule is read, what the sink took is the text of the run of the bytes that the source
     // gave, and that run keeps the promise.
     ensures headline { KeepsByForm sha256
-        (record { left = S.left source.old; later = S.left source.new; taken = K.taken sink.old; after = K.taken sink.new })
+        (record {
+          left = S.left source.old;
+          later = S.left source.new;
+          taken = K.taken sink.old;
+          after = K.taken
+              sink.new;
+        })
         (ReadsToFault (S.faults source.old) (S.faults source.new) (S.failed_last source.new) true) result.status
         (form_of (map string_bytes words.now)) }
 
     // Each line is answered before more is read: at the last take, whatever it gave, the answers to all lines before it
     // were written. A source may fail at any take, so it is so at each.
     ensures prompt { AnswersByForm D.told D.plan D.faults sha256 notes leaves
-        (record { left = S.left source.old; later = S.left source.new; taken = K.taken sink.old; after = K.taken sink.new })
+        (record {
+          left = S.left source.old;
+          later = S.left source.new;
+          taken = K.taken sink.old;
+          after = K.taken
+              sink.new;
+        })
         (S.failed_last source.new) (form_of (map string_bytes words.now)) }
 
     // What is good is done, unless the source, the sink, a disk or memory fails: a schedule whose lines keep the rules;
-    // over the disks of a node a log of its chain, the line `--` and commands that it does; an init of disks that aren't
-    // taken; and `make`, `verify` and `hss verify`.
+    // over the disks of a node a log of its chain, the line `--` and commands that it does; an init of disks that
+    // aren't taken; and `make`, `verify` and `hss verify`.
     ensures complete { CompletesByForm D.told sha256 notes leaves (S.left source.old) result.status
         (form_of (map string_bytes words.now)) }
 
@@ -155,15 +173,33 @@ pub fn run_with<H: Hash32, S: Source, K: Sink, D: Disk>(
     leaves: D,
 ) -> Ended<D>
     ensures output { Does D.told D.plan D.faults (H.digest_of h.now) notes leaves result.notes result.leaves
-        (record { left = S.left source.old; later = S.left source.new; taken = K.taken sink.old; after = K.taken sink.new })
+        (record {
+          left = S.left source.old;
+          later = S.left source.new;
+          taken = K.taken sink.old;
+          after = K.taken
+              sink.new;
+        })
         (ReadsToFault (S.faults source.old) (S.faults source.new) (S.failed_last source.new) true) result.status
         (form_of (map string_bytes words.now)) }
     ensures headline { KeepsByForm (H.digest_of h.now)
-        (record { left = S.left source.old; later = S.left source.new; taken = K.taken sink.old; after = K.taken sink.new })
+        (record {
+          left = S.left source.old;
+          later = S.left source.new;
+          taken = K.taken sink.old;
+          after = K.taken
+              sink.new;
+        })
         (ReadsToFault (S.faults source.old) (S.faults source.new) (S.failed_last source.new) true) result.status
         (form_of (map string_bytes words.now)) }
     ensures prompt { AnswersByForm D.told D.plan D.faults (H.digest_of h.now) notes leaves
-        (record { left = S.left source.old; later = S.left source.new; taken = K.taken sink.old; after = K.taken sink.new })
+        (record {
+          left = S.left source.old;
+          later = S.left source.new;
+          taken = K.taken sink.old;
+          after = K.taken
+              sink.new;
+        })
         (S.failed_last source.new) (form_of (map string_bytes words.now)) }
     ensures complete { CompletesByForm D.told (H.digest_of h.now) notes leaves (S.left source.old) result.status
         (form_of (map string_bytes words.now)) }
@@ -197,10 +233,22 @@ fn run_form<H: Hash32, S: Source, K: Sink, D: Disk>(
 ) -> Ended<D>
     requires { IsSound form }
     ensures output { DoesForm D.told D.plan D.faults (H.digest_of h.now) notes leaves result.notes result.leaves
-        (record { left = S.left source.old; later = S.left source.new; taken = K.taken sink.old; after = K.taken sink.new })
+        (record {
+          left = S.left source.old;
+          later = S.left source.new;
+          taken = K.taken sink.old;
+          after = K.taken
+              sink.new;
+        })
         (ReadsToFault (S.faults source.old) (S.faults source.new) (S.failed_last source.new) true) result.status form }
     ensures prompt { AnswersByForm D.told D.plan D.faults (H.digest_of h.now) notes leaves
-        (record { left = S.left source.old; later = S.left source.new; taken = K.taken sink.old; after = K.taken sink.new })
+        (record {
+          left = S.left source.old;
+          later = S.left source.new;
+          taken = K.taken sink.old;
+          after = K.taken
+              sink.new;
+        })
         (S.failed_last source.new) form }
     ensures unread { reads_input form ≡ false → source.new ≡ source.old }
     ensures notes_stay { uses_notes form ≡ false → result.notes ≡ notes }

@@ -4,9 +4,9 @@ ghost use Rattle.run_lives.specs.Calls.{RunsAreCalls, InitsAreOfTheirRoles};
 use crash_disk::Disk;
 
 /// What `run` says of its disks, of what it did outside and of its status (`output`, `notes_stay`, `leaves_stay`) is
-/// what a call of a node's life does that is asked for by its form, or memory ran out before it used a disk. So the laws
-/// of `node_lives` are of runs of the program, one after another on one pair of disks. A two-level signer's run is no
-/// such call.
+/// what a call of a node's life does that is asked for by its form, or memory ran out before it used a disk. So the
+/// laws of `node_lives` are of runs of the program, one after another on one pair of disks. A two-level signer's run is
+/// no such call.
 pub fn runs_are_calls<D: Disk>()
     ensures { (dig : List ℕ → List ℕ) → RunsAreCalls D.told D.plan D.faults dig }
 {}

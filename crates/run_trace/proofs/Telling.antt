@@ -238,7 +238,8 @@ module _ (tests : Tests) (rules : Rules) where
         marks =
             subst (λ all. AreMarks (kept_with (log_of (told ∷ events)) mid) (all ++ mark ∷ []) (told ∷ events))
             (sym by.marks)
-            (marks-more (kept_with (log_of events) old) (kept_with (log_of (told ∷ events)) mid) by.grows old.marks events
+            (marks-more (kept_with (log_of events) old) (kept_with (log_of (told ∷ events)) mid) by.grows old.marks
+            events
             mark told tells.marks by.within by.tells);
         calls = by.count;
       })

@@ -58,8 +58,8 @@ fn meets_deadline(log: &RootLog, coin: u64, time: u64) -> bool
     meets_exits(log.now(), time, log.exits(coin))
 }
 
-/// The coins with a deadline that a tick to this time meets, each once and rising. A tick that doesn't move the clock on
-/// meets none.
+/// The coins with a deadline that a tick to this time meets, each once and rising. A tick that doesn't move the clock
+/// on meets none.
 pub fn coins_met(alloc: Global, log: &RootLog, time: u64) -> Result<Vec<u64>, NoMemory>
     ensures { IfOk result (λ met.
         AreThose (λ c. meets_deadline log.now.log c (Joins (RootCall.Tick time))) met.items) }

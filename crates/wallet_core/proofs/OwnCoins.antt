@@ -70,7 +70,8 @@ not_own me (Deposit account amount key ∷ log) coin none =
     here : coin ≡ coins log + 1 → me.account ≡ account → ⊥
     here last mine =
         let without : among coin (deposits_of log me.account ++ (coins log + 1) ∷ []) ≡ false =
-        ap (λ b. among coin (if b then deposits_of log me.account ++ (coins log + 1) ∷ [] else deposits_of log me.account))
+        ap (λ b. among coin (if b then deposits_of log me.account ++ (coins log + 1)
+        ∷ [] else deposits_of log me.account))
         (sym (eq-eqb me.account account mine)) ∙ none in
         let last_is = (or_parts (among coin (deposits_of log me.account)) _
         (sym (list_any-append (λ x. x == coin) (deposits_of log me.account) ((coins log + 1) ∷ [])) ∙ without)).1 in

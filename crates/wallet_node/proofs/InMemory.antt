@@ -21,17 +21,20 @@ pub memory-more : (me : Owner) (tag : List ℕ) (note : Note) (notes : List Note
 memory-more me tag (Accepts kept) notes =
     ap (λ (noted : Notes). record { noted = noted; kept = map (kept_coin_of tag) (accepted_of (Accepts kept ∷ notes)) })
     (state-accepts me kept notes)
-    ∙ ap (λ (kepts : List KeptCoin). record (changed (change_of tag (Accepts kept)) (memory_of me tag notes)) { kept = kepts })
+    ∙ ap (λ (kepts : List KeptCoin). record (changed (change_of tag (Accepts kept)) (memory_of me tag notes))
+    { kept = kepts })
     (ap (map (kept_coin_of tag)) (accepted-accepts kept notes)
     ∙ map-append (kept_coin_of tag) (accepted_of notes) (kept ∷ []))
 memory-more me tag (LeavesWith coin tip) notes =
-    ap (λ (noted : Notes). record { noted = noted; kept = map (kept_coin_of tag) (accepted_of (LeavesWith coin tip ∷ notes)) })
+    ap (λ (noted : Notes). record
+    { noted = noted; kept = map (kept_coin_of tag) (accepted_of (LeavesWith coin tip ∷ notes)) })
     (state-leaves me coin tip notes)
     ∙ ap (λ (kepts : List Bundle). record (changed (change_of tag (LeavesWith coin tip)) (memory_of me tag notes)) {
       kept = map (kept_coin_of tag) kepts;
     }) (accepted-leaves coin tip notes)
 memory-more me tag (Reclaims coin tip q) notes =
-    ap (λ (noted : Notes). record { noted = noted; kept = map (kept_coin_of tag) (accepted_of (Reclaims coin tip q ∷ notes)) })
+    ap (λ (noted : Notes). record
+    { noted = noted; kept = map (kept_coin_of tag) (accepted_of (Reclaims coin tip q ∷ notes)) })
     (state-reclaims me coin tip q notes)
     ∙ ap (λ (kepts : List Bundle). record (changed (change_of tag (Reclaims coin tip q)) (memory_of me tag notes)) {
       kept = map (kept_coin_of tag) kepts;

@@ -68,7 +68,8 @@ body-binds leaves body tag_long key_long form = at body.last refl form
     at : (last : Option ℕ) → body.last ≡ last → IfSome last (λ n. is_marked leaves ≡ true)
         → MayBind leaves (body_text (record body { last = last }))
     at None is marked = inl (text-long body.tag body.coin body.parent body.to tag_long key_long None)
-    at (Some last) is marked = (let long = text-long body.tag body.coin body.parent body.to tag_long key_long (Some last) in
+    at (Some last) is marked =
+        (let long = text-long body.tag body.coin body.parent body.to tag_long key_long (Some last) in
         inr (marked, omega (arith, long), omega (arith, long)))
 
 -- what is kept with one more leaf bound
@@ -96,7 +97,8 @@ kept-bound dig notes leaves message more who secret public memory bodies after m
           (All-push (λ one. is_body one ≡ true) (messages_of leaves) message kept.pass is);
       bound =
           ap (λ (l : List LeafRecord). are_bound_notes l (notes_of dig notes)) grown
-          ∙ bound-grow (leaves_in leaves) (record { body = body_at_start message } ∷ []) (notes_of dig notes) kept.bound;
+          ∙ bound-grow (leaves_in leaves) (record { body = body_at_start message } ∷ []) (notes_of dig notes)
+          kept.bound;
     }
 
 -- a body's bytes are a message
@@ -135,6 +137,7 @@ pub kept-same : (dig : List ℕ → List ℕ) (notes leaves more : List (List �
 kept-same dig notes leaves more who secret public key memory bodies after more_is key_is after_is kept =
     subst (λ (l : List (List ℕ)). IsKept dig (record { notes = notes; leaves = l }) who secret key memory after)
     (sym more_is)
-    (subst (λ (k : List ℕ). IsKept dig (record { notes = notes; leaves = leaves }) who secret k memory after) (sym key_is)
+    (subst (λ (k : List ℕ). IsKept dig (record { notes = notes; leaves = leaves }) who secret k memory after)
+    (sym key_is)
     (subst (λ (b : List LeafRecord). IsKept dig (record { notes = notes; leaves = leaves }) who secret public memory b)
     (sym after_is) kept))

@@ -30,7 +30,10 @@ module _ {D : Type 0} (told : D → Option History) (plan : D → Option FaultPl
   inits_fail identity notes leaves new_notes new_leaves (inl (untold, same)) =
       inl (record { of_notes = untold.1; of_leaves = ap faults same })
   inits_fail identity notes leaves new_notes new_leaves (inr (was, asks, inl (long, inl (refuses, same)))) =
-      inl (record { of_notes = asked notes was (faults new_notes) asks.count refuses.count; of_leaves = ap faults same })
+      inl (record {
+        of_notes = asked notes was (faults new_notes) asks.count refuses.count;
+        of_leaves = ap faults same;
+      })
   inits_fail identity notes leaves new_notes new_leaves (inr (was, asks, inl (long, inr (inl (passes, refuses))))) =
       inr (record { of_notes = passes.count ∙ asks.count; of_leaves = refuses.count })
   inits_fail identity notes leaves new_notes new_leaves (inr (was, asks, inl (long, inr (inr (stops, passes))))) =

@@ -148,13 +148,15 @@ pub put-keyed : (watched : KeptCoin) (all : List KeptCoin) (old new : List ((ℕ
     → new ≡ map keyed (with_watched watched all)
 put-keyed watched all old new sorted absent are put =
     put ∙ ap (λ (es : List ((ℕ × ℕ) × KeptCoin)). insert_entry by_place es (place watched) watched) are
-    ∙ put-is watched all (subst (λ (es : List ((ℕ × ℕ) × KeptCoin)). IsStrictlySortedBy by_place (keys_of es)) are sorted)
+    ∙ put-is watched all (subst (λ (es : List ((ℕ × ℕ) × KeptCoin)). IsStrictlySortedBy by_place (keys_of es)) are
+    sorted)
     absent
     ∙ rw absent refl
 
 -- one that is there stays
 pub kept-keyed : (watched : KeptCoin) (all : List KeptCoin)
-    → list_any (is_watched_at watched.coin watched.tip) all ≡ true → map keyed all ≡ map keyed (with_watched watched all)
+    → list_any (is_watched_at watched.coin watched.tip) all ≡ true → map keyed all
+    ≡ map keyed (with_watched watched all)
 kept-keyed watched all there = rw there refl
 
 -- ---- one that is taken away

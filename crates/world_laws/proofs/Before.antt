@@ -242,7 +242,8 @@ held_before tests rules (TakesBack v q bundle) events w c e legal h =
             me = h.me;
             me_is = h.me_is;
             source = h.source;
-            not_away = away-untake q c e (taken_back events w) (bound_by events w) (named other (eqb-true v w same)) off;
+            not_away = away-untake q c e (taken_back events w) (bound_by events w) (named other (eqb-true v w same))
+                off;
             not_withdrawn = h.not_withdrawn;
           },
           refl,

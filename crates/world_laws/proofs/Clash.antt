@@ -109,7 +109,8 @@ module _ (dig : List ℕ → List ℕ) where
             (proof_path dig a.opening.proof) (proof_path dig b.opening.proof) (λ bytes. (digest bytes).0)
             (subst (λ r. is_opening dig r c a.opening.leaf (proof_path dig a.opening.proof) ≡ true) root a.opens)
             b.opens
-            (λ e. true≢false (sym ((bytes_eq-Decides (leaf_of_opening o) (leaf_of_opening p)).1 (a.leaf ∙ e ∙ sym b.leaf))
+            (λ e. true≢false (sym
+            ((bytes_eq-Decides (leaf_of_opening o) (leaf_of_opening p)).1 (a.leaf ∙ e ∙ sym b.leaf))
             ∙ isnt)) in
             let one = contains-has _ k.one k.is_one in
             let other = contains-has _ k.other k.is_other in

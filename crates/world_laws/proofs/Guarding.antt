@@ -145,7 +145,8 @@ module _ (dig : List ℕ → List ℕ) (events : List Event) (world : World) (ke
       (λ watcher. subst (λ (s : Said). AreShown world.chain.tag s.guarded (guards_in dig after.notes)) (sym own.is)
       (subst (λ (records : List (List ℕ)).
       AreShown world.chain.tag (told deed.gives.event (said events n)).guarded (guards_in dig records)) (sym notes)
-      (deed-shown dig world n node (said events n) (world-feeds dig events world kept) watcher ((kept.nodes n node done.node_is).watcher watcher)
+      (deed-shown dig world n node (said events n) (world-feeds dig events world kept) watcher
+      ((kept.nodes n node done.node_is).watcher watcher)
       (watcher-tag events world.chain.tag n node (is-watcher events world keeps n node done.node_is watcher))
       (guards n node done.node_is watcher) command deed fit done)))
 

@@ -235,7 +235,11 @@ guardian-guards tests rules signs events w c e n legal one unforged h guardian =
       | inl own ↦
           let at_top : IsGuarding events w (wallet_owner events w) c e =
           subst (λ o. IsGuarding events w o c e) (sym h.me_is)
-          (record { held = holds-from events w c e h; top = held_top tests rules signs events w c e legal one h unforged }) in
+          (record {
+            held = holds-from events w c e h;
+            top = held_top tests rules signs events w c e legal one h
+                unforged;
+          }) in
           subst (λ k. IsGuarding events k (wallet_owner events k) c e) (sym (eqb-true n w own)) at_top
       | inr kept ↦
           let b = any-some (is_bundle c e) (guarded_by events n) kept in

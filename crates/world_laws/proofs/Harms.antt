@@ -122,7 +122,8 @@ module _ (tests : Tests) (rules : Rules) (signs : SignsBy tests) (events : List 
             block_is = s.block_is;
             to_is = s.to_is;
           } in
-          let p = link_in tests rules log more c at.held.made at.one e at.hold.me at.held.openings known_more spend.block
+          let p = link_in tests rules log more c at.held.made at.one e at.hold.me at.held.openings known_more
+          spend.block
           spent.tx.body.to mid spent.opened (omega (arith, d, is.later)) (omega (arith, is.earlier, at_tip)) in
           let q = link_in tests rules log more c at.held.made at.one e at.hold.me at.held.openings known_more
           is.exit.block is.exit.owner top opened above (omega (arith, at_tip)) in

@@ -105,7 +105,8 @@ module _ (tests : Tests) (rules : Rules) (log : List RootCall) (c tip : ℕ) whe
       (omega (arith, end), λ i. record { block = end i; owner = last.owner })
   walk-from n last (o ∷ os) are opened leaves linked end low high =
       by_tx (transfer_of rules c o) refl linked end
-      (λ next chain at le up. walk-from o.block next os (asked-rest log n tip o os are) opened.1 leaves.1 chain at le up)
+      (λ next chain at le up. walk-from o.block next os (asked-rest log n tip o os are) opened.1 leaves.1 chain at le
+      up)
     where
       absent_then : transfer_of rules c o ≡ None → is_absent o ≡ true
       absent_then none = elim (or_cases (is_absent o) (is_some (transfer_of rules c o)) leaves.0) [

@@ -245,7 +245,8 @@ module _ (dig : List ℕ → List ℕ) (digest : IsDigest dig) (rules : Rules) (
             let g = guardian-offers m offers events legal whole honest before.0 at.held parts.0 in
             let due = mine-due (tests_by dig) rules (λ tx owner is. is) events w c e legal.1
             (seen (Watches m offers ∷ events) c) at offers g x there c_is at_tip ch has still inside in
-            true≢false (sym (challenge-fulfilled (tests_by dig) rules events c at.held.made e offers g x there c_is since
+            true≢false (sym (challenge-fulfilled (tests_by dig) rules events c at.held.made e offers g x there c_is
+            since
             (ap (λ k. list_any (is_end c k) since) at_tip ∙ unended) n parts.1 at_tip ch n_is due.0.opening due.1)
             ∙ unanswered)
       ]

@@ -218,7 +218,15 @@ module _ (tests : Tests) (rules : Rules) where
       let k = left-start events m made legal.1 legal.0 in
       let here : IsOfferedStart events w call = subst (λ x. IsOfferedStart events w x) same
       (subst (λ x. IsOfferedStart events x made) (eqb-true m w own) k) in
-      record { me = here.me; me_is = here.me_is; made = here.made; made_is = here.made_is; tip = here.tip; top = here.top }
+      record {
+        me = here.me;
+        me_is = here.me_is;
+        made = here.made;
+        made_is = here.made_is;
+        tip = here.tip;
+        top =
+            here.top;
+      }
   command-start (Leaves m made) events w call legal own (inr none) start = absurd none
   command-start (Seals made) events w call legal own (inl same) start =
       absurd (true≢false (sym start ∙ ap is_start (sym same) ∙ legal.0))

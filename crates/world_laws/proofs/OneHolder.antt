@@ -59,7 +59,8 @@ module _ (tests : Tests) (rules : Rules) where
       let n = is_noted tests rules events w b before h in
       let low : c ≤ coins (log_of events) = coin_at-le (log_of events) c n.history.made
       (ap (coin_at (log_of events)) (sym c_is) ∙ n.history.coin) in
-      let apart : c == coins (log_of events) + 1 ≡ false = ne_eqb c (coins (log_of events) + 1) (λ e. omega (arith, low, e)) in
+      let apart : c == coins (log_of events) + 1
+      ≡ false = ne_eqb c (coins (log_of events) + 1) (λ e. omega (arith, low, e)) in
       inr (accepted_since events v w c b o before
       (subst (λ (k : Bool). (if k then is_some (wallet_owner events v) else was_declared_before events v c) ≡ true)
       apart first) h c_is has)
@@ -118,7 +119,8 @@ module _ (tests : Tests) (rules : Rules) where
 
 pub one_wallet_holds : OneWalletHoldsLegally
 unfolding collides
-one_wallet_holds dig rules events v w c d e digest legal apart first_v first_w none unforged_v unforged_w holds_v holds_w =
+one_wallet_holds dig rules events v w c d e digest legal apart first_v first_w none unforged_v unforged_w holds_v
+    holds_w =
     let hv = holding events v c d holds_v in
     let hw = holding events w c e holds_w in
     let one = one_leaf dig digest (log_of events) c (seen events c) none in

@@ -234,7 +234,8 @@ module _ (dig : List ℕ → List ℕ) (entry : TraceEntry) (earlier : List Trac
 
       by : (o : Option World) → before.world ≡ o → step dig o line ≡ Some effect
           → IsSplit dig effect.world entry earlier
-      by None none is = absurd (no-first dig entry.line command effect is_command (ap (step dig None) (sym line_is) ∙ is))
+      by None none is = absurd
+          (no-first dig entry.line command effect is_command (ap (step dig None) (sym line_is) ∙ is))
       by (Some old) some is = record {
         lines = lines;
         before = before;

@@ -203,7 +203,8 @@ module _ (dig : List ℕ → List ℕ) (events : List Event) (world : World)
       ] in
       keeps-note dig events world.chain world.nodes keeping event (Offered bytes) after role
       (ap (are_of operator_kinds) notes_are ∙ notes_follow operator_kinds op.notes body keeping.kinds may)
-      (ap who_is notes_are ∙ added.0) (ap notes_of notes_are ∙ added.1 noted) (are, (coin, pool-honest bytes coin taken))
+      (ap who_is notes_are ∙ added.0) (ap notes_of notes_are ∙ added.1 noted)
+      (are, (coin, pool-honest bytes coin taken))
       (λ account root has.
       absurd (subst (λ (calls : List RootCall). Has calls (RootCall.Commit account root)) empty has))
     where
@@ -348,7 +349,8 @@ module _ (dig : List ℕ → List ℕ) (events : List Event) (world : World)
   cut-own : (command : Command) (deed : Deed) (effect : LineEffect) → lays command ≡ false → IsFit command
       → IsDone dig world command 0 op deed → IsCut world 0 op deed effect → After effect
   cut-own command deed effect free fit done (Kept event_is world_is) =
-      own-keeps effect deed (after_crash (with_records op deed)) (done-own command deed free fit done) world_is refl refl
+      own-keeps effect deed (after_crash (with_records op deed)) (done-own command deed free fit done) world_is refl
+      refl
       (inr refl)
   cut-own command deed effect free fit done (Lost event_is world_is) = own-lost effect world_is
 

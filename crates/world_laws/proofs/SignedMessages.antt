@@ -99,7 +99,8 @@ module _ (dig : List ℕ → List ℕ) (s : Said) (log : List RootCall) (wallet 
   message-is : (message : List ℕ) → Has (messages_of wallet.leaves) message → is_body message ≡ true
   message-is message has =
       All-contains (λ m. is_body m ≡ true) (messages_of wallet.leaves) message
-      (messages_pass is_body (leaves_of wallet.notes) wallet.leaves wallet.leaves (wallet-parts dig wallet kept.is).leaves)
+      (messages_pass is_body (leaves_of wallet.notes) wallet.leaves wallet.leaves
+      (wallet-parts dig wallet kept.is).leaves)
       (has-contains (messages_of wallet.leaves) message has)
 
   -- the message of a leaf is the bytes of a body, which the leaf binds

@@ -141,7 +141,8 @@ module _ (dig : List ℕ → List ℕ) (events : List Event) (entries : List Tra
   more-apart apart =
       let made = stepped dig world line effect is in
       subst (λ (e : LineEffect). KeysApart e.world.nodes) (sym made.effect_is)
-      (keys-does dig events world kept apart made.bare (does dig world line made.bare in_grammar made.keeps made.bare_is))
+      (keys-does dig events world kept apart made.bare
+      (does dig world line made.bare in_grammar made.keeps made.bare_is))
 
 next-signed : (dig : List ℕ → List ℕ) (lines : List Line) (run : Run) (world : World) (line : Line)
     (effect : LineEffect) → IsRun dig lines run world → IsLine line → IsSignedRun run.entries world
@@ -216,7 +217,8 @@ owner-of world name n node number node_is =
     let named = is_named is_wallet_role name in
     let found : find named world.nodes ≡ Some node =
     find_at named world.nodes ∙ ap (slice_get world.nodes) (position-parts named world.nodes n number).0 ∙ node_is in
-    ap (λ (o : Option Node). option_or (option_map owner_of_node o) (option_map owner_of_rogue (rogue_named world name)))
+    ap (λ (o : Option Node). option_or (option_map owner_of_node o)
+    (option_map owner_of_rogue (rogue_named world name)))
     found
 
 abbrev given-of : ℕ → List ℕ → Owner → GivenOut

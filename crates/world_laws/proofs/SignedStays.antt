@@ -252,7 +252,8 @@ module _ (dig : List ℕ → List ℕ) (events : List Event) (world : World) (ke
   keys-declared : (name : List ℕ) (account seed : ℕ) (types : Option LmsTypes)
       → IsLine (Line.Wallet name account seed types)
       → may_be_wallet world name (declared_wallet world account seed types) ≡ true
-      → KeysApart (world.nodes ++ new_node Wallet name account (identity_text (declared_wallet world account seed types))
+      → KeysApart (world.nodes
+      ++ new_node Wallet name account (identity_text (declared_wallet world account seed types))
       ∷ [])
   keys-declared name account seed types line may =
       keys-push world.nodes (new_node Wallet name account (identity_text me)) apart
@@ -273,7 +274,8 @@ module _ (dig : List ℕ → List ℕ) (events : List Event) (world : World) (ke
 
       free : is_wallet_key world (owner_of me).key ≡ false
       free =
-          let last = (and_parts _ (not (is_wallet_key world (owner_of me).key || is_wallet_seed world me.seed)) may).1 in
+          let last = (and_parts _ (not (is_wallet_key world (owner_of me).key || is_wallet_seed world me.seed))
+          may).1 in
           (or_parts (is_wallet_key world (owner_of me).key) (is_wallet_seed world me.seed) (not-true _ last)).0
 
   keys-cut : (n : ℕ) (node : Node) (deed : Deed) (effect : LineEffect) → slice_get world.nodes n ≡ Some node

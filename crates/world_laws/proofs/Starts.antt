@@ -154,7 +154,8 @@ module _ (tests : Tests) (rules : Rules) (log : List RootCall) (b : Bundle) (mad
       → shown_owner tests rules log b.coin parent ≡ Some owner → ShowsTx tests rules log b.coin exit tx
       → is_committed_after log made.deposit exit.block ≡ true → is_parent_of log made exit.block parent ≡ true
       → tx.body.parent ≡ block_of parent → tests.is_signed tx owner ≡ true → tx.body.to.account ≡ me.account
-      → IsTakenAt log me.account b.coin exit.block (answer_to tests rules log (StartSpend me.account b.coin parent exit))
+      → IsTakenAt log me.account b.coin exit.block
+      (answer_to tests rules log (StartSpend me.account b.coin parent exit))
   unfolding answer_to
   spend-taken parent owner exit tx owner_is shown committed fits child signed to =
       let spend = transfers_are_shown tests rules log b.coin exit tx shown in
@@ -214,7 +215,8 @@ module _ (tests : Tests) (rules : Rules) (log : List RootCall) (b : Bundle) (mad
       by_case None none =
           let s = link-shown link last-has in
           let at : tip_from made.deposit front ≡ made.deposit =
-          sym (tip-is (With front)) ∙ ap (λ (q : Option Link). option_map_or (λ (l : Link). l.block) q made.deposit) none in
+          sym (tip-is (With front))
+          ∙ ap (λ (q : Option Link). option_map_or (λ (l : Link). l.block) q made.deposit) none in
           let owner : owner_from made.owner front ≡ made.owner =
           sym (last_owner-is (With front))
           ∙ ap (λ (q : Option Link). option_map_or (λ (l : Link). l.tx.body.to) q made.owner) none in
@@ -229,7 +231,8 @@ module _ (tests : Tests) (rules : Rules) (log : List RootCall) (b : Bundle) (mad
           let r = link-shown q q_has in
           let less = split-rises made.deposit front link q (subst (Rises made.deposit) whole rise) q_front in
           let at : tip_from made.deposit front ≡ q.block =
-          sym (tip-is (With front)) ∙ ap (λ (o : Option Link). option_map_or (λ (l : Link). l.block) o made.deposit) some in
+          sym (tip-is (With front))
+          ∙ ap (λ (o : Option Link). option_map_or (λ (l : Link). l.block) o made.deposit) some in
           let owner : owner_from made.owner front ≡ q.tx.body.to =
           sym (last_owner-is (With front))
           ∙ ap (λ (o : Option Link). option_map_or (λ (l : Link). l.tx.body.to) o made.owner) some in
@@ -288,7 +291,8 @@ module _ (tests : Tests) (rules : Rules) where
   left-shown events w me b links legal me_is (Bare own none) kept =
       let d = deposited-coin me b.tip (coin_at (log_of events) b.coin) own in
       let h = bare-history tests rules (log_of events) b d.0 d.1 d.2 none in
-      let empty : links_in rules b.coin b.openings ≡ [] = ap (links_in rules b.coin) none ∙ none-linked rules b.coin in (
+      let empty : links_in rules b.coin b.openings ≡ [] = ap (links_in rules b.coin) none
+      ∙ none-linked rules b.coin in (
         record {
           links = links_of rules d.0 b;
           history = h;

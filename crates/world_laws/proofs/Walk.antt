@@ -36,12 +36,14 @@ empty-no_tx rules c o tx empty is =
 links-none : (rules : Rules) (c : ℕ) (o : RawOpening) (os : List RawOpening) → transfer_of rules c o ≡ None
     → links_in rules c (o ∷ os) ≡ links_in rules c os
 unfolding links_in
-links-none rules c o os none = ap (λ (t : Option SignedTx). cons_option (option_map (with_tx o) t) (links_in rules c os)) none
+links-none rules c o os none = ap
+    (λ (t : Option SignedTx). cons_option (option_map (with_tx o) t) (links_in rules c os)) none
 
 links-some : (rules : Rules) (c : ℕ) (o : RawOpening) (os : List RawOpening) (tx : SignedTx)
     → transfer_of rules c o ≡ Some tx → links_in rules c (o ∷ os) ≡ with_tx o tx ∷ links_in rules c os
 unfolding links_in
-links-some rules c o os tx is = ap (λ (t : Option SignedTx). cons_option (option_map (with_tx o) t) (links_in rules c os)) is
+links-some rules c o os tx is = ap
+    (λ (t : Option SignedTx). cons_option (option_map (with_tx o) t) (links_in rules c os)) is
 
 links-absent : (rules : Rules) (c : ℕ) (o : RawOpening) (os : List RawOpening) → leaf_of_opening o ≡ []
     → links_in rules c (o ∷ os) ≡ links_in rules c os

@@ -50,9 +50,9 @@ HoldersBeginWithNoExit = (dig : List ℕ → List ℕ) (lines : List Line) (run 
     → holds events w c e ≡ false → holds (event ∷ events) w c e ≡ true
     → (x : Exit) → Contains (exits (log_of (event ∷ events))) x → x.coin ≢ c
 
--- While it holds the coin each line keeps the invariant, unless it is a tick past a deadline behind which nobody looked,
--- or the trace up to it shows, at this coin, two byte strings with one digest, or a signature that is valid under the
--- wallet's key and that the wallet never made.
+-- While it holds the coin each line keeps the invariant, unless it is a tick past a deadline behind which nobody
+-- looked, or the trace up to it shows, at this coin, two byte strings with one digest, or a signature that is valid
+-- under the wallet's key and that the wallet never made.
 abbrev pub LinesKeepExitsWatched : Type 0
 LinesKeepExitsWatched = (dig : List ℕ → List ℕ) (lines : List Line) (run : Run) (world : World)
     (later events : List Event) (event : Event) (me : Owner) (w c e : ℕ)

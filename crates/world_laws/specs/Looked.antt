@@ -1,7 +1,7 @@
 -- Who looked after a coin. A tick is attended only where a guardian's last command was a watch that offered nothing for
 -- the coin, and no call was accepted since. To look is less: a guardian watched at some time since the exit began, and
--- what it then offered for this exit was fulfilled since, by whomever. Calls for other coins, money, ticks and the guardian's later commands don't matter. What is looked
--- after is safe, and what is attended is looked after.
+-- what it then offered for this exit was fulfilled since, by whomever. Calls for other coins, money, ticks and the
+-- guardian's later commands don't matter. What is looked after is safe, and what is attended is looked after.
 use Rattle.std.specs.Prelude.{◌≡◌, ◌≢◌, ◌⊎◌, ℕ, ◌+◌, ◌==◌, ◌&&◌, ◌||◌, not, Bool, true, false, if◌then◌else◌, nat_lt, List, [], ◌∷◌, ◌++◌, slice_get, Some}
 use Rattle.std.specs.List.{Contains, list_any, list_all}
 use Rattle.std.specs.Option.{option_map_or}
@@ -57,9 +57,9 @@ are_fulfilled is_asked since offers = list_all (λ offer. not (is_asked offer) |
 abbrev pub is_guardian : List Event → ℕ → ℕ → ℕ → ℕ → Bool
 is_guardian events w c e n = (n == w) || list_any (is_bundle c e) (guarded_by events n)
 
--- Since the last call that `opens` what is looked after, a guardian watched, and each call that is asked for and that this
--- watch offered was fulfilled since. Where no call opens it any such watch counts. `since` are the calls that joined the
--- log behind these events.
+-- Since the last call that `opens` what is looked after, a guardian watched, and each call that is asked for and that
+-- this watch offered was fulfilled since. Where no call opens it any such watch counts. `since` are the calls that
+-- joined the log behind these events.
 unfoldable pub has_look : (RootCall → Bool) → (RootCall → Bool) → List RootCall → List Event → ℕ → ℕ → ℕ → Bool
 has_look opens is_asked since [] w c e = false
 has_look opens is_asked since (Joins call ∷ events) w c e =

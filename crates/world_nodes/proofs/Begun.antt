@@ -76,7 +76,8 @@ not-told notes new (InitMade count) is told = absurd told
 
 pair-refused : (identity : List ℕ) (asked leaves new_notes new_leaves : MemState) (why : InitRefusal)
     → IsFresh asked → IsFresh leaves
-    → RefusesPair mem_told mem_plan mem_faults mem_told mem_plan mem_faults identity asked leaves why new_notes new_leaves
+    → RefusesPair mem_told mem_plan mem_faults mem_told mem_plan mem_faults identity asked leaves why new_notes
+    new_leaves
     → why ≡ InitNoMemory
 pair-refused identity asked leaves new_notes new_leaves why is is' (inl (long, refused)) =
     let more = long asked.history refl in
@@ -98,7 +99,8 @@ begins-refused identity notes leaves new_notes new_leaves why is is' (inr (asked
 
 module _ (identity : List ℕ) (notes leaves new_notes new_leaves : MemState) (result : Result Unit InitRefusal)
     (empty : notes ≡ empty_disk) (bare : leaves ≡ empty_disk)
-    (begins : BeginsPair mem_told mem_plan mem_faults mem_told mem_plan mem_faults identity notes leaves result new_notes
+    (begins : BeginsPair mem_told mem_plan mem_faults mem_told mem_plan mem_faults identity notes leaves result
+    new_notes
     new_leaves) where
   pub pair-why : (why : InitRefusal) → result ≡ Err why → why ≡ InitNoMemory
   pair-why why is =
@@ -110,7 +112,8 @@ module _ (identity : List ℕ) (notes leaves new_notes new_leaves : MemState) (r
   pair-unfused done is =
       let both = subst (λ (r : Result Unit InitRefusal). BeginsPair mem_told mem_plan mem_faults mem_told mem_plan
       mem_faults identity notes leaves r new_notes new_leaves) is begins in (
-        init-passed (init_steps identity) both.0 new_notes tt (asked-fresh notes both.0 (fresh notes empty) both.1).unfused
+        init-passed (init_steps identity) both.0 new_notes tt
+            (asked-fresh notes both.0 (fresh notes empty) both.1).unfused
             both.2.0.inits,
         init-passed journal_steps leaves new_leaves tt (fresh leaves bare).unfused both.2.1.inits,
       )

@@ -293,7 +293,8 @@ module _ (calls fuse : ℕ) (fused : min 4 (fuse - 3) ≡ min 4 calls) (outcome 
         → HalfOpened (kept_of leaves.history) (with_fuse fuse leaves) (leaves_part state)
         → (note ≡ None) ⊎ (leaf ≡ None) → (given : Option Given)
         → DidEither mem_told mem_plan mem_faults leaf note state (stop_in given) new
-        → CutLeaves calls outcome (record { response = response; note = note; leaf = leaf }) given (kept_of notes.history)
+        → CutLeaves calls outcome (record { response = response; note = note; leaf = leaf }) given
+        (kept_of notes.history)
         (kept_of leaves.history)
         (record {
           notes = kept_half (crashed outcome new.notes_disk);

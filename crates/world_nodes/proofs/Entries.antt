@@ -73,7 +73,8 @@ command_done {H} digest hash name account member offers more old site node new l
     let gives' : IsGiven deed.response given = subst (λ (d : Doing). IsGiven d.response given) same gives in
     let keeps : KeepsAll (up_halves node) =
     view_keeps hash name account role true (up_halves node) offers (subst Spells (sym is') spells) in
-    let done' : IsDone order deed view given (view_in hash name account role true (up_halves new) deed.response.offers) =
+    let done' : IsDone order deed view given
+    (view_in hash name account role true (up_halves new) deed.response.offers) =
     done hash name account role (up_halves node) (up_halves new) offers order deed given ran.halves gives' in
     let done'' : IsDone order deed view given (view_of hash name account member (Up new) more) =
     subst (λ (os : List RootCall). IsDone order deed view given

@@ -365,7 +365,8 @@ closed-never {H} dig down opened new deed stop opens is did =
 
 -- ---- no fuse comes
 
-ran-one : (added : Option (List ℕ)) (old new : NotesState MemState) → Did mem_told mem_plan mem_faults added old None new
+ran-one : (added : Option (List ℕ)) (old new : NotesState MemState)
+    → Did mem_told mem_plan mem_faults added old None new
     → HasNoFuse old.disk → HasNoFuse new.disk
 ran-one None old new did unfused =
     subst (λ (s : NotesState MemState). HasNoFuse s.disk) (sym did.1) unfused

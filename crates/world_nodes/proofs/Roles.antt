@@ -60,8 +60,11 @@ spelled-bytes : (records : List (List ℕ)) → AllByRecursion IsByte (spelled_r
     → AllByRecursion AreBytes records
 spelled-bytes [] all = tt
 spelled-bytes (body ∷ records) all =
-    let both = parts IsByte (spelled_record body) (spelled_records records) all in
-    (All-from_recursion IsByte body (parts IsByte (165 ∷ to_be_bytes w32 (length body)) body both.0).1, spelled-bytes records both.1)
+    let both = parts IsByte (spelled_record body) (spelled_records records) all in (
+      All-from_recursion IsByte body (parts IsByte (165 ∷ to_be_bytes w32 (length body)) body both.0).1,
+      spelled-bytes
+          records both.1,
+    )
 
 -- the records on a disk are bytes
 pub kept-bytes : (records : List (List ℕ)) (image : List ℕ) → AreBytes image → kept_records image ≡ Some records

@@ -50,8 +50,9 @@ abbrev pub with_cut_append : ℕ → List (List ℕ) → Option (List ℕ) → H
 with_cut_append calls records None disk = disk
 with_cut_append calls records (Some body) disk = with_made calls (append_steps (length (spelled records)) body) disk
 
--- What the notes' disk tells when it crashes: it was opened for a command, which then made its append as far as its calls
--- passed; an order that opens a node that is down opened it as far as the calls passed, and one that is up made none.
+-- What the notes' disk tells when it crashes: it was opened for a command, which then made its append as far as its
+-- calls passed; an order that opens a node that is down opened it as far as the calls passed, and one that is up made
+-- none.
 abbrev pub cut_notes : ℕ → NodeOrder → Doing → Node → History → History
 cut_notes calls order doing node disk =
     if is_opening_order order
@@ -97,7 +98,8 @@ pub record IsFinished {H : Type 0} (calls : ℕ) (outcome : Outcome) (order : No
 abbrev pub Ends : {H : Type 0} → ℕ → Outcome → NodeOrder → Doing → NodeView H → CutEnd → NodeView H → Type 0
 Ends calls outcome order doing old Down new = (answers_down order old.node ≡ true) × (new ≡ old)
 Ends calls outcome order doing old (Stopped kept) new = IsStopped calls outcome order doing old kept new
-Ends calls outcome order doing old (Done given) new = IsGiven doing.response given × IsFinished calls outcome order doing old new
+Ends calls outcome order doing old (Done given) new = IsGiven doing.response given
+    × IsFinished calls outcome order doing old new
 
 -- what a cut of an order of a node did
 abbrev pub Cuts : {H : Type 0} → (List ℕ → List ℕ) → List RootCall → ℕ → Outcome → NodeOrder → NodeView H → CutEnd

@@ -29,8 +29,8 @@ use Rattle.world_nodes.specs.declared.order.NodeKind.TheVariants.{Wallet as Wall
 use Rattle.node_replies.specs.declared.order.NodeOrder.{NodeOrder}
 use Rattle.world_nodes.specs.Orders.{is_opening_order}
 
--- a node, what the disk of its notes and that of its leaves tell, and the digest that it is opened with; where the disks
--- spell the node's records (Spells), wallets alone have one of leaves
+-- a node, what the disk of its notes and that of its leaves tell, and the digest that it is opened with; where the
+-- disks spell the node's records (Spells), wallets alone have one of leaves
 pub record NodeView (H : Type 0) : Type 0 where
   pub node : Node
   pub notes_disk : History
@@ -47,8 +47,8 @@ role_of OperatorKind = Operator
 abbrev pub EachKeeps : List (List ℕ) → History → Type 0
 EachKeeps records disk = (image : List ℕ) → MayLeave disk image → Keeps records image
 
--- Each image that a crash now may leave of the notes' disk keeps the node's notes, and of the leaves' disk its leaves. A
--- wallet has both disks, and another node has its notes' disk alone.
+-- Each image that a crash now may leave of the notes' disk keeps the node's notes, and of the leaves' disk its leaves.
+-- A wallet has both disks, and another node has its notes' disk alone.
 pub record Spells {H : Type 0} (view : NodeView H) : Type 0 where
   pub notes : EachKeeps view.node.notes view.notes_disk
   pub has_leaves : is_some view.leaves_disk ≡ is_wallet_role view.node.role

@@ -62,7 +62,8 @@ module _ (dig : List ℕ → List ℕ) (is_digest : IsDigest dig) (events : List
   unfolding log_of
   idle = record { log = refl; nodes = λ n. refl }
 
-  idle-kept : (world : World) → KeptWorld dig events world → (reply : Reply) → IsKeptLine dig events (says reply Idle world)
+  idle-kept : (world : World) → KeptWorld dig events world → (reply : Reply)
+      → IsKeptLine dig events (says reply Idle world)
   idle-kept world kept reply =
       record { world = kept-silent dig events world kept Idle idle; made = small-nil }
 

@@ -85,7 +85,8 @@ module _ (dig : List ℕ → List ℕ) (is_digest : IsDigest dig) (s : Said) (wo
             small-append (item-small (messages_of wallet.leaves) q (kept.wallet role).messages)
             (small-signature (secret_of (who wallet)) q (unwrap_or (slice_get (messages_of wallet.leaves) q) []))
 
-    wallet-kept : (order : WalletOrder) → IsFitOrder (NodeOrder.Wallet order) → IsKept (deed_by (NodeOrder.Wallet order))
+    wallet-kept : (order : WalletOrder) → IsFitOrder (NodeOrder.Wallet order)
+        → IsKept (deed_by (NodeOrder.Wallet order))
     unfolding wallet_does event_of
     wallet-kept (WalletOrder.Accept bytes) fit =
         let effect = accept_effect dig wallet log bytes in
@@ -93,12 +94,14 @@ module _ (dig : List ℕ → List ℕ) (is_digest : IsDigest dig) (s : Said) (wo
         (accepts-kept dig s log wallet (kept.wallet role) bytes fit n)
         (made-small wallet_cause on_accepted effect.answer (λ taken is. small-nil))
     wallet-kept (WalletOrder.Send coin to last) fit =
-        by-effect dig s log node role n (WalletOrder.Send coin to last) on_sent (send_effect dig wallet log coin to last)
+        by-effect dig s log node role n (WalletOrder.Send coin to last) on_sent
+        (send_effect dig wallet log coin to last)
         (sends-kept dig s log wallet (kept.wallet role) feeds.few coin to last fit.0 fit.1.is fit.1.key fit.2 n)
         (sent-made coin to last fit.1.key)
     wallet-kept (WalletOrder.Again coin) fit =
         of-wallet dig s log node role (deed_by (NodeOrder.Wallet (WalletOrder.Again coin)))
-        (each-answer (λ r. KeptWallet dig (told (event_of n (NodeOrder.Wallet (WalletOrder.Again coin)) r) s) log wallet)
+        (each-answer (λ r. KeptWallet dig (told (event_of n (NodeOrder.Wallet (WalletOrder.Again coin)) r) s) log
+        wallet)
         wallet_cause on_sent (again_answer wallet coin) (λ sent is. kept.wallet role) (λ why. kept.wallet role))
         (again-made coin)
     wallet-kept (WalletOrder.Leave coin) fit =

@@ -147,7 +147,8 @@ module _ (dig : List ℕ → List ℕ) (log : List RootCall) (n : ℕ) (node : N
       (migrate_effect (wallet_of node)).answer (λ done is. Others _) (λ why. Others _)
   wallet-ends WalletOrder.Watch = Watching
 
-  watcher-ends : (order : WatcherOrder) → Ends (NodeOrder.Watcher order) (watcher_does dig log node.notes order).response
+  watcher-ends : (order : WatcherOrder)
+      → Ends (NodeOrder.Watcher order) (watcher_does dig log node.notes order).response
   unfolding event_of watcher_does
   watcher-ends (WatcherOrder.Guard bytes) =
       each-answer (Ends (NodeOrder.Watcher (WatcherOrder.Guard bytes))) watcher_cause on_guarded

@@ -246,7 +246,8 @@ pub cut_tells_of_its_node : (dig : List ℕ → List ℕ) (world : World) (comma
     → TellsInRuns dig world (Line.Cut (node_of command) calls token command) event
     → TellsInRuns dig world (Line.Cut name calls token command) event
 cut_tells_of_its_node dig world command name calls token event same is =
-    subst (λ n. TellsInRuns dig world (Line.Cut n calls token command) event) (same_bytes (node_of command) name same) is
+    subst (λ n. TellsInRuns dig world (Line.Cut n calls token command) event) (same_bytes (node_of command) name same)
+    is
 
 -- the node that a cut names is the one whose command it is
 pub cut_of_its_node : (dig : List ℕ → List ℕ) (world : World) (command : Command) (name : List ℕ) (calls : ℕ)

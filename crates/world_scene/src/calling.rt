@@ -38,7 +38,8 @@ pub fn idles(alloc: Global, reply: Reply) -> LineAnswer
 impl<H: Hash32 + Copy> Scene<H> {
     // Enters a call, which joins the log where the contract accepts it.
     pub(crate) fn enter_call(&mut self, call: &RootCall) -> Result<LineAnswer, NoMemory>
-        ensures shows { IfOk result (λ answer. shown_of (called (H.digest_of self.old.hash) (world_of self.old) call.now)
+        ensures shows { IfOk result
+            (λ answer. shown_of (called (H.digest_of self.old.hash) (world_of self.old) call.now)
             ≡ answered answer (world_of self.new)) }
         ensures tells { IfOk result (λ answer. TellsEffect (H.digest_of self.old.hash) (world_of self.old) answer.event
             (called (H.digest_of self.old.hash) (world_of self.old) call.now)) }

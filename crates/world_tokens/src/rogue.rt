@@ -59,9 +59,9 @@ impl MadeKey {
     }
 }
 
-/// A stranger's account and key, which a schedule gives a name. Contracts see it as the rogue of a world. The key is the
-/// one that a wallet with this identity would have. It is made when a call first needs it, all nodes of its tree, and is
-/// kept.
+/// A stranger's account and key, which a schedule gives a name. Contracts see it as the rogue of a world. The key is
+/// the one that a wallet with this identity would have. It is made when a call first needs it, all nodes of its tree,
+/// and is kept.
 #[derive(Drop)]
 pub struct Rogue {
     alloc: Global,

@@ -6,4 +6,5 @@ use Rattle.node_replies.proofs.replies.push_offers.Given as goal
 
 abbrev pub invariant-loop-kind : goal.invariant-loop-kind
 invariant-loop-kind l =
-    l.out.items ≡ l.fn.out.items ++ (phrase (codes "offers") (length l.kinds ∷ []) ++ kinds_text (take l.kind-index l.kinds))
+    l.out.items ≡ l.fn.out.items
+    ++ (phrase (codes "offers") (length l.kinds ∷ []) ++ kinds_text (take l.kind-index l.kinds))

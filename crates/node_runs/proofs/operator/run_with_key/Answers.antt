@@ -41,7 +41,8 @@ run_session-run-requires g c κs within =
               (
                 c.requires.is_open,
                 c.in-Ok-open.ensures.opened.is_open,
-                c.in-Ok.ensures ∙ ap (λ (seed : Option (List ℕ)). desk_secret (unwrap_or seed [])) (sym c.requires.seed),
+                c.in-Ok.ensures ∙ ap (λ (seed : Option (List ℕ)). desk_secret (unwrap_or seed []))
+                    (sym c.requires.seed),
                 sym c.in-Ok-open.ensures.key,
                 sym c.requires.hash,
               ),
@@ -73,7 +74,8 @@ returns-in-Ok-open-clause-runs g c =
       rw (c.take_disk-in-Ok-open.ensures, c.take_disk-in-Ok-open-2.ensures)
           (handed-back told g.D.Disk.plan faults (g.H.Hash32.digest_of c.args.h) desk_commands
           (both c.args.node.notes (notes_of c.in-Ok-open.desk)) (both notes leaves) _
-          (λ log at line stop. StoppedAt told faults (outcome_at desk_commands log at line) at.kept stop (both notes leaves)
+          (λ log at line stop. StoppedAt told faults (outcome_at desk_commands log at line) at.kept stop
+          (both notes leaves)
           × ((notes.closed && leaves.closed) ≡ false))
           (λ at is. is.1) (λ log at line stop is. is.0) _ _ _ runs),
     )
@@ -94,7 +96,8 @@ returns-in-Err-clause-runs g c =
       c.in-Err.returned.why,
       (
         inl
-            (subst (λ (key : Secret). RefusesRole g.D.Disk.told g.D.Disk.plan g.D.Disk.faults (leaf_records_in_of is_promise
+            (subst (λ (key : Secret). RefusesRole g.D.Disk.told g.D.Disk.plan g.D.Disk.faults
+            (leaf_records_in_of is_promise
             (leaves_of (public_key_of key))) c.args.leaves c.in-Err.returned.why c.in-Err.returned.disk) c.in-Ok.ensures
             c.in-Err.ensures.refused),
         c.take_disk-in-Err.ensures,

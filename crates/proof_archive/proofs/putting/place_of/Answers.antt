@@ -11,7 +11,8 @@ returns-then-not-is_asked-clause-err c =
 
 pub returns-then-n-newest-clause-err : goal.returns-then-n-newest-clause-err
 returns-then-n-newest-clause-err c =
-    place-have c.requires.0 c.args.log.now.log c.args.coin c.args.made.now c.args.cell.now.openings c.requires.1 c.args.n
+    place-have c.requires.0 c.args.log.now.log c.args.coin c.args.made.now c.args.cell.now.openings c.requires.1
+    c.args.n
     (sym c.is_asked.ensures ∙ c.if-not-is_asked.false)
     (let at = c.newest-newest.ensures in let le = c.if-n-newest.true in omega arith)
 

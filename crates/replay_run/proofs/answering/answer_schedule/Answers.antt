@@ -22,7 +22,13 @@ pub answer_lines-requires : goal.answer_lines-requires
 answer_lines-requires g c κs within =
     let h = within.0 in (
       search (⊑_meet, ⊑_static, h) depth 120 fits 200000,
-      (within.1.0, (within.1.1, (⊑_static _, (c.requires.none, (c.new-replayer.ensures.nodes, c.new-replayer.ensures.ran))))),
+      (
+        within.1.0,
+        (
+          within.1.1,
+          (⊑_static _, (c.requires.none, (c.new-replayer.ensures.nodes, c.new-replayer.ensures.ran))),
+        ),
+      ),
     )
 
 pub returns-in-Ok-clause-prompt : goal.returns-in-Ok-clause-prompt

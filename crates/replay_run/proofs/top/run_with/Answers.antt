@@ -15,13 +15,15 @@ returns-in-Ok-clause-disk_faults g c =
 
 pub returns-in-Ok-clause-headline : goal.returns-in-Ok-clause-headline
 returns-in-Ok-clause-headline g c =
-    subst (KeepsByForm _ _ _ _) c.in-Ok.ensures.form (keeps-by_form _ (λ bytes. (g.met.H.Hash32.length_is c.args.h.now bytes, g.met.H.Hash32.bytes_are c.args.h.now bytes))
+    subst (KeepsByForm _ _ _ _) c.in-Ok.ensures.form (keeps-by_form _
+    (λ bytes. (g.met.H.Hash32.length_is c.args.h.now bytes, g.met.H.Hash32.bytes_are c.args.h.now bytes))
     _ _ g.D.Disk.told g.D.Disk.plan g.D.Disk.faults c.args.notes c.args.leaves c.run_form.result.notes
     c.run_form.result.leaves c.run_form.result.status c.in-Ok.form (inl c.run_form.ensures.output))
 
 pub returns-in-Err-clause-headline : goal.returns-in-Err-clause-headline
 returns-in-Err-clause-headline g c =
-    keeps-by_form _ (λ bytes. (g.met.H.Hash32.length_is c.args.h.now bytes, g.met.H.Hash32.bytes_are c.args.h.now bytes))
+    keeps-by_form _ (λ bytes.
+    (g.met.H.Hash32.length_is c.args.h.now bytes, g.met.H.Hash32.bytes_are c.args.h.now bytes))
     _ _ g.D.Disk.told g.D.Disk.plan g.D.Disk.faults c.args.notes c.args.leaves c.args.notes c.args.leaves _ _
     (inr (record { is = refl; unread = refl; unwritten = refl; notes_stay = refl; leaves_stay = refl }))
 

@@ -7,7 +7,8 @@ use Rattle.trace_exhibits.proofs.clashing.add_strings.Goals as goal
 pub returns-in-None : goal.returns-in-None
 returns-in-None g c = λ earlier keeps.
     let none = rw c.in-None.is at c.in_ok-way_of.ensures in
-    subst (λ (all : List (List ℕ)). KeepsStrings (g.H.Hash32.digest_of c.args.h.now) c.args.strings.now (earlier ++ all))
+    subst (λ (all : List (List ℕ)). KeepsStrings (g.H.Hash32.digest_of c.args.h.now) c.args.strings.now (earlier
+    ++ all))
     (sym none) (rw (append-nil earlier) keeps)
 
 pub returns-in-Some : goal.returns-in-Some

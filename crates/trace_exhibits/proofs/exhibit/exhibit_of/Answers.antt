@@ -8,13 +8,15 @@ first_clash-requires g c = rw (c.as_slice.ensures.value ∙ c.in_ok-shown.ensure
 
 pub returns-in-Some : goal.returns-in-Some
 returns-in-Some g c = λ events are.
-    exhibit-told (g.H.Hash32.digest_of c.args.h.now) c.args.tag.now (g.L.ExhibitLines.told c.args.lines.now) events (Some c.in-Some.clash)
+    exhibit-told (g.H.Hash32.digest_of c.args.h.now) c.args.tag.now (g.L.ExhibitLines.told c.args.lines.now) events
+    (Some c.in-Some.clash)
     (first_forgery c.args.tag.now events) are
     (rw (c.in-Some.is, c.as_slice.ensures.value ∙ c.in_ok-shown.ensures) at c.in_ok-clash.ensures) refl
 
 pub returns-in-None : goal.returns-in-None
 returns-in-None g c = λ events are.
-    exhibit-told (g.H.Hash32.digest_of c.args.h.now) c.args.tag.now (g.L.ExhibitLines.told c.args.lines.now) events None None are
+    exhibit-told (g.H.Hash32.digest_of c.args.h.now) c.args.tag.now (g.L.ExhibitLines.told c.args.lines.now) events
+    None None are
     (rw (c.in_default.is, c.as_slice.ensures.value ∙ c.in_ok-shown.ensures) at c.in_ok-clash.ensures)
     (rw c.in-None.is at (c.in_ok-first_forgery.ensures events are))
 

@@ -7,7 +7,8 @@ whole : (bytes : List ℕ) → length bytes ≡ 65 → bytes ≡ slice_index_or 
 whole bytes long =
     let some : 0 < length bytes = omega arith in
     let short : length (drop 1 bytes) ≤ 64 = omega (arith, length-drop 1 bytes) in
-    drop-cons bytes 0 0 some ∙ ap (λ (rest : List ℕ). slice_index_or bytes 0 0 ∷ rest) (sym (take_all 64 (drop 1 bytes) short))
+    drop-cons bytes 0 0 some
+    ∙ ap (λ (rest : List ℕ). slice_index_or bytes 0 0 ∷ rest) (sym (take_all 64 (drop 1 bytes) short))
 
 pub returns : goal.returns
 returns c =

@@ -5,7 +5,8 @@ use Rattle.wallet_core.proofs.having.own_coins.Goals as goal
 pub loop-coin-preserved : goal.loop-coin-preserved
 loop-coin-preserved c =
     grown-coins c.deposits-coin-items.result.now _ c.loop-coin.coin-index _ c.loop-coin.own c.insert.new.self
-    c.deposits-coin-items.ensures (take_more c.deposits-coin-items.result.now c.loop-coin.coin-index _ c.loop-coin-test.true)
+    c.deposits-coin-items.ensures
+    (take_more c.deposits-coin-items.result.now c.loop-coin.coin-index _ c.loop-coin-test.true)
     c.in_ok-insert.ensures.updates.0 c.loop-coin.invariant
 
 pub loop-note-preserved : goal.loop-note-preserved

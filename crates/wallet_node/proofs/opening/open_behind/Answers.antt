@@ -20,7 +20,8 @@ returns-in-Ok-open_of-clause-opened g c =
     (c.identity_of-who.ensures.value ∙ ap who_is c.records.ensures) c.identity_of-who.ensures.types
     (c.secret_key.ensures ∙ c.in-Ok.ensures) leaves c.in-Ok-open_of.ensures.records c.in-Ok-open_of.ensures.leaves
     c.in-Ok-open_of.ensures.settled c.in-Ok-open_of.ensures.made c.in-Ok-open_of.ensures.cause in
-    behind-over g.D.Disk.told g.D.Disk.plan g.D.Disk.faults dig notes c.args.leaves leaves _ c.args.h c.over.result opens
+    behind-over g.D.Disk.told g.D.Disk.plan g.D.Disk.faults dig notes c.args.leaves leaves _ c.args.h c.over.result
+    opens
     c.in-Ok-open_of.ensures.leaves c.over.ensures.opened
 
 pub returns-in-Ok-open_of-clause-refused : goal.returns-in-Ok-open_of-clause-refused

@@ -6,7 +6,8 @@ use Rattle.coin_verdicts.proofs.reading.Reading.read.Goals as goal
 
 pub returns-in-Declares : goal.returns-in-Declares
 returns-in-Declares c count facts is keeps =
-    rw c.in-Declares.is (keeps-next count c.args.line facts c.args.self.now _ is keeps (Fact.Declares _ _) refl refl refl
+    rw c.in-Declares.is (keeps-next count c.args.line facts c.args.self.now _ is keeps (Fact.Declares _ _) refl refl
+    refl
     (λ coin. same-book (book_at c.args.self.now.books coin)))
 
 pub returns-in-Idle : goal.returns-in-Idle

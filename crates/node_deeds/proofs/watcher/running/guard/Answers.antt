@@ -8,7 +8,8 @@ use Rattle.node_deeds.proofs.watcher.running.guard.Goals as goal
 pub returns-in-Err-clause-gives : goal.returns-in-Err-clause-gives
 returns-in-Err-clause-gives g c =
     let node = c.args.node.now in
-    let effect = guard_effect (g.H.Hash32.digest_of node.hash) node.notes.records c.args.log.now.log c.args.bundle.now in
+    let effect = guard_effect (g.H.Hash32.digest_of node.hash) node.notes.records c.args.log.now.log
+    c.args.bundle.now in
     given-refused watcher_cause on_guarded effect.answer c.in-Err.why (stop_in c.in-Err.why)
     c.refusal.result c.in-Err.ensures.answer c.refusal.ensures.gives c.refusal.ensures.stop
 

@@ -17,7 +17,8 @@ returns-clause-said g c =
     c.answer_operator.new.node.notes is.1)
     c.answer_operator.result c.answer_operator.ensures.did _ _
     (λ left there. (ap g.H.Hash32.digest_of c.answer_operator.ensures.hash ∙ is.0, there))
-    (operator-quiet (g.H.Hash32.digest_of c.args.self.now.node.hash) c.args.log.now.log c.args.self.now.node.notes.records
+    (operator-quiet (g.H.Hash32.digest_of c.args.self.now.node.hash) c.args.log.now.log
+    c.args.self.now.node.notes.records
     c.args.command)
     _ _ c.answer_operator.ensures.said
 

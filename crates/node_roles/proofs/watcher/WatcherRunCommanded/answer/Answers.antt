@@ -17,7 +17,8 @@ returns-clause-said g c =
     c.answer_watcher.new.node.notes is.1)
     c.answer_watcher.result c.answer_watcher.ensures.did _ _
     (λ left there. (ap g.H.Hash32.digest_of c.answer_watcher.ensures.hash ∙ is.0, there))
-    (watcher-quiet (g.H.Hash32.digest_of c.args.self.now.node.hash) c.args.log.now.log c.args.self.now.node.notes.records
+    (watcher-quiet (g.H.Hash32.digest_of c.args.self.now.node.hash) c.args.log.now.log
+    c.args.self.now.node.notes.records
     c.args.command)
     _ _ c.answer_watcher.ensures.said
 

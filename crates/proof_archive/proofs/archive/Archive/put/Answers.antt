@@ -30,7 +30,8 @@ pub returns-in_err-keep_in-clause-kept : goal.returns-in_err-keep_in-clause-kept
 returns-in_err-keep_in-clause-kept g c =
     let p = err_from_is_err_and c.from_residual-in_err-keep_in.result c.from_residual-in_err-keep_in.ensures.1 in
     let is : c.from_residual-in_err-keep_in.result ≡ Err NoMemory = p.1 ∙ ap Err p.2 in
-    rw (is, ← c.self.view_is) (seen-same c.self.inside.coins c.keep_in.new.cells c.args.coin c.in_err-keep_in.ensures.err)
+    rw (is, ← c.self.view_is)
+    (seen-same c.self.inside.coins c.keep_in.new.cells c.args.coin c.in_err-keep_in.ensures.err)
 
 pub invariant_of-self-2 : goal.invariant_of-self-2
 invariant_of-self-2 g c =

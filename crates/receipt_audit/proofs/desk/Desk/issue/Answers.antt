@@ -71,7 +71,8 @@ returns-in-Ok-sign_promise-clause-did g c =
 
 pub returns-in-Ok-sign_promise-clause-pooled : goal.returns-in-Ok-sign_promise-clause-pooled
 returns-in-Ok-sign_promise-clause-pooled g c =
-    offered-pooled (g.H.Hash32.digest_of c.args.op.now.hash) c.args.op.now.notes.records c.args.log.now.log c.args.tx.now
+    offered-pooled (g.H.Hash32.digest_of c.args.op.now.hash) c.args.op.now.notes.records c.args.log.now.log
+    c.args.tx.now
     c.in-Ok-offer.field-0 (c.in-Ok-offer.ensures.answer refl)
     g.E.Disk.told g.E.Disk.plan g.E.Disk.faults c.args.op.now.notes c.offer.new.self.notes refl
     c.is_whole.ensures.role c.in-Ok-offer.ensures.did

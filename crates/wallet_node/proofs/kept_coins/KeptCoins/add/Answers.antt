@@ -19,7 +19,8 @@ returns-in_err-insert-clause-err c =
 pub returns-in_err-push-clause-err : goal.returns-in_err-push-clause-err
 returns-in_err-push-clause-err c =
     let p = err_from_is_err_and c.from_residual-in_err-push.result c.from_residual-in_err-push.ensures.1 in
-    rw (p.1, c.in_err-push.ensures.items) (coins-after c.self.inside.histories.items c.hold.new.histories.items c.hold.ensures.before
+    rw (p.1, c.in_err-push.ensures.items)
+    (coins-after c.self.inside.histories.items c.hold.new.histories.items c.hold.ensures.before
     c.self.inside.places.items c.self.invariant ∙ c.self.view_is)
 
 pub invariant_of-self-2 : goal.invariant_of-self-2
@@ -33,4 +34,5 @@ pub returns-clause-ok : goal.returns-clause-ok
 returns-clause-ok c =
     rw (c.in_ok-push.ensures.items, ← c.self.view_is) (coins-more c.self.inside.histories.items
     c.hold.new.histories.items c.hold.ensures.before c.self.inside.places.items c.self.invariant _ c.args.kept
-    (rw c.as_slice-count.ensures (ap (λ (l : List Link). record c.args.kept { spends = l }) c.in_ok-history.ensures.held)))
+    (rw c.as_slice-count.ensures
+    (ap (λ (l : List Link). record c.args.kept { spends = l }) c.in_ok-history.ensures.held)))

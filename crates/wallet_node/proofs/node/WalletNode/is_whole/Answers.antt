@@ -22,6 +22,7 @@ returns-clause-role g c =
     ap (λ (s : WalletState _ _). is_wallet (g.H.Hash32.digest_of s.hash) s.records) (sym c.self.view_is)
     ∙ wallet-from dig (record { notes = records; leaves = leaves }) (record {
       role = role;
-      leaves = passing-leaves _ leaves (ap (λ n. leaf_records n leaves) (sym kept.count) ∙ c.is_whole-2.ensures.are) kept.pass;
+      leaves = passing-leaves _ leaves (ap (λ n. leaf_records n leaves) (sym kept.count) ∙ c.is_whole-2.ensures.are)
+          kept.pass;
       bound = kept.bound;
     })

@@ -20,9 +20,11 @@ returns-clause-did g c =
     let did = migrations_in_node_words g.D.Disk.told g.D.Disk.plan g.D.Disk.faults inside.leaves c.migrate.new.self
     c.migrate.result c.migrate.ensures.migrates c.migrate.ensures.cause in
     let stop : migrate_stop c.migrate.result ≡ wallet_stop c.match-migrate.result = elim c.match-migrate.branch [
-      | in-Ok w ↦ ap migrate_stop w.in-Ok.is ∙ ap (λ (r : Result (Unit {0}) WalletRefusal). wallet_stop r) (sym w.result-is)
+      | in-Ok w ↦ ap migrate_stop w.in-Ok.is
+          ∙ ap (λ (r : Result (Unit {0}) WalletRefusal). wallet_stop r) (sym w.result-is)
       | in-Err w ↦ ap migrate_stop w.in-Err.is ∙ migrate-stops w.in-Err.why
-          ∙ ap (λ (why : WalletRefusal). stop_in why) (sym w.migrate_refusal.ensures) ∙ ap (λ (r : Result (Unit {0}) WalletRefusal). wallet_stop r) (sym w.result-is)
+          ∙ ap (λ (why : WalletRefusal). stop_in why) (sym w.migrate_refusal.ensures)
+          ∙ ap (λ (r : Result (Unit {0}) WalletRefusal). wallet_stop r) (sym w.result-is)
     ] in
     let note : migrate_note inside.leaves ≡ (migrate_effect c.args.self.now.records).leaf =
     migrate-same (record { notes = inside.notes.notes.records; leaves = inside.leaves.records }) inside.leaves refl

@@ -41,9 +41,11 @@ returns-clause-ok g c lines after =
     (λ tests rules events event tells is.
     c.in_ok-push.ensures.told tests rules events event (subst (Tells tests rules events) (sym same) tells) is)
     (subst (λ (n : ℕ). n < 2 ^ 64) c.len.ensures c.len.type_inv) c.with_answer-self-inside.result
-    (c.with_answer-self-inside.ensures ∙ ap (λ (s : WorldState _). with_answer s.refused answer.done answer.reply) c.self.view_is) in
+    (c.with_answer-self-inside.ensures
+    ∙ ap (λ (s : WorldState _). with_answer s.refused answer.done answer.reply) c.self.view_is) in
     subst (IsStep dig lines line (told_as c.len.result answer))
-    (sym (ap (λ (s : WorldState _). record s { trace = trace; refused = c.with_answer-self-inside.result }) c.self.view_is))
+    (sym (ap (λ (s : WorldState _). record s { trace = trace; refused = c.with_answer-self-inside.result })
+    c.self.view_is))
     (subst (λ (n : ℕ). IsStep dig lines line (told_as n answer)
     (record put { trace = trace; refused = c.with_answer-self-inside.result })) (sym c.len.ensures) stepped)
 

@@ -9,16 +9,19 @@ use Rattle.world_nodes.proofs.entry.Entry.bring_up.Goals as goal
 
 pub invariant_of-self : goal.invariant_of-self
 invariant_of-self g c = let e = c.self.inside in
-    lost-entry g.H.Hash32.digest_of e.hash e.member e.site c.take-site.new.site c.self.invariant c.take-site.ensures.gone
+    lost-entry g.H.Hash32.digest_of e.hash e.member e.site c.take-site.new.site c.self.invariant
+    c.take-site.ensures.gone
 
 pub invariant_of-self-in_err-kept : goal.invariant_of-self-in_err-kept
 invariant_of-self-in_err-kept g c = let e = c.self.inside in
-    lost-entry g.H.Hash32.digest_of e.hash e.member e.site c.take-site.new.site c.self.invariant c.take-site.ensures.gone
+    lost-entry g.H.Hash32.digest_of e.hash e.member e.site c.take-site.new.site c.self.invariant
+    c.take-site.ensures.gone
 
 pub invariant_of-self-2 : goal.invariant_of-self-2
 invariant_of-self-2 g c = let e = c.self.inside in (
   (opening_at g.H.Hash32.digest_of e.hash e.name e.account e.member e.offers.items c.offer_nothing.new.offers.items
-      c.args.self.now e.site c.take-site.result c.put.new.site c.closed_of-down.result c.in_ok-node.node [] c.says.result
+      c.args.self.now e.site c.take-site.result c.put.new.site c.closed_of-down.result c.in_ok-node.node []
+      c.says.result
       c.self.view_is c.self.invariant.0 c.requires.spells c.take-site.ensures.taken c.closed_of-down.ensures
       c.in_ok-node.ensures.opens
       c.in_ok-node.ensures.hash (record {

@@ -8,24 +8,28 @@ use Rattle.world_nodes.proofs.entry.Entry.command.Goals as goal
 
 pub invariant_of-self : goal.invariant_of-self
 invariant_of-self g c = let e = c.self.inside in
-    lost-entry g.H.Hash32.digest_of e.hash e.member e.site c.take-site.new.site c.self.invariant c.take-site.ensures.gone
+    lost-entry g.H.Hash32.digest_of e.hash e.member e.site c.take-site.new.site c.self.invariant
+    c.take-site.ensures.gone
 
 pub invariant_of-self-in_err-kept : goal.invariant_of-self-in_err-kept
 invariant_of-self-in_err-kept g c = let e = c.self.inside in
-    lost-entry g.H.Hash32.digest_of e.hash e.member e.site c.take-site.new.site c.self.invariant c.take-site.ensures.gone
+    lost-entry g.H.Hash32.digest_of e.hash e.member e.site c.take-site.new.site c.self.invariant
+    c.take-site.ensures.gone
 
 pub invariant_of-self-2 : goal.invariant_of-self-2
 invariant_of-self-2 g c = let e = c.self.inside in (
   (command_at g.H.Hash32.digest_of e.hash e.name e.account e.member e.offers.items c.put_offers.new.offers.items
       c.args.self.now e.site c.take-site.result c.put.new.site c.up_of-node.result c.in_ok-ran.ran.node
       c.args.log.now.log
-      c.args.order.now c.in_ok-ran.ran.given c.self.view_is c.self.invariant.0 c.requires.spells c.take-site.ensures.taken
+      c.args.order.now c.in_ok-ran.ran.given c.self.view_is c.self.invariant.0 c.requires.spells
+      c.take-site.ensures.taken
       c.up_of-node.ensures c.requires.fits c.requires.is_command c.in_ok-ran.ensures.did c.in_ok-ran.ensures.gives
       (c.put_offers.ensures ∙ c.in_ok-ran.ensures.offers) (c.put.ensures ∙ c.in_ok-kept.ensures)).2,
   ran-ready g.H.Hash32.digest_of e.hash e.member e.site c.take-site.result c.self.invariant c.take-site.ensures.taken
       c.up_of-node.result c.in_ok-ran.ran.node c.put.new.site
       (node_does (g.H.Hash32.digest_of (up_hash c.up_of-node.result)) c.args.log.now.log
-      (bare_node (up_halves c.up_of-node.result)) c.args.order.now) c.up_of-node.ensures c.in_ok-ran.ensures.did (c.put.ensures ∙ c.in_ok-kept.ensures),
+      (bare_node (up_halves c.up_of-node.result)) c.args.order.now) c.up_of-node.ensures c.in_ok-ran.ensures.did
+      (c.put.ensures ∙ c.in_ok-kept.ensures),
 )
 
 pub returns-clause-done : goal.returns-clause-done

@@ -11,11 +11,13 @@ down_of-down-requires g c = let e = c.self.inside in
 
 pub invariant_of-self : goal.invariant_of-self
 invariant_of-self g c = let e = c.self.inside in
-    lost-entry g.H.Hash32.digest_of e.hash e.member e.site c.take-site.new.site c.self.invariant c.take-site.ensures.gone
+    lost-entry g.H.Hash32.digest_of e.hash e.member e.site c.take-site.new.site c.self.invariant
+    c.take-site.ensures.gone
 
 pub invariant_of-self-in_err-kept : goal.invariant_of-self-in_err-kept
 invariant_of-self-in_err-kept g c = let e = c.self.inside in
-    lost-entry g.H.Hash32.digest_of e.hash e.member e.site c.take-site.new.site c.self.invariant c.take-site.ensures.gone
+    lost-entry g.H.Hash32.digest_of e.hash e.member e.site c.take-site.new.site c.self.invariant
+    c.take-site.ensures.gone
 
 pub invariant_of-self-2 : goal.invariant_of-self-2
 invariant_of-self-2 g c =

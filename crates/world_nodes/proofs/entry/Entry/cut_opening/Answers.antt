@@ -31,15 +31,18 @@ open_cut-requires-clause-opens g c =
 
 pub invariant_of-self : goal.invariant_of-self
 invariant_of-self g c = let e = c.self.inside in
-    lost-entry g.H.Hash32.digest_of e.hash e.member e.site c.take-site.new.site c.self.invariant c.take-site.ensures.gone
+    lost-entry g.H.Hash32.digest_of e.hash e.member e.site c.take-site.new.site c.self.invariant
+    c.take-site.ensures.gone
 
 pub invariant_of-self-in_err-down : goal.invariant_of-self-in_err-down
 invariant_of-self-in_err-down g c = let e = c.self.inside in
-    lost-entry g.H.Hash32.digest_of e.hash e.member e.site c.take-site.new.site c.self.invariant c.take-site.ensures.gone
+    lost-entry g.H.Hash32.digest_of e.hash e.member e.site c.take-site.new.site c.self.invariant
+    c.take-site.ensures.gone
 
 pub invariant_of-self-in_err-kept : goal.invariant_of-self-in_err-kept
 invariant_of-self-in_err-kept g c = let e = c.self.inside in
-    lost-entry g.H.Hash32.digest_of e.hash e.member e.site c.take-site.new.site c.self.invariant c.take-site.ensures.gone
+    lost-entry g.H.Hash32.digest_of e.hash e.member e.site c.take-site.new.site c.self.invariant
+    c.take-site.ensures.gone
 
 pub invariant_of-self-2 : goal.invariant_of-self-2
 invariant_of-self-2 g c =
@@ -54,7 +57,8 @@ invariant_of-self-2 g c =
       cut-ready g.H.Hash32.digest_of e.hash e.name e.account e.member e.offers.items c.args.self.now e.site
           c.take-site.result c.self.view_is c.self.invariant.0 c.requires.spells c.take-site.ensures.taken
           c.put.new.site c.offer_nothing.new.offers.items c.in_ok-opened.opened.down c.in_ok-down.down
-          c.args.outcome.now (c.put.ensures ∙ c.in_ok-kept.ensures) c.in_ok-down.ensures c.is_of_role.ensures [] c.args.calls
+          c.args.outcome.now (c.put.ensures ∙ c.in_ok-kept.ensures) c.in_ok-down.ensures c.is_of_role.ensures []
+          c.args.calls
           NodeOrder.Open c.in_ok-opened.opened.end all.0 c.is_of_role.ensures,
     )
 

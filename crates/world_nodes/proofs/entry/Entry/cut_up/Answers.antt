@@ -17,25 +17,30 @@ down_of-down-requires g c = let e = c.self.inside in
 
 pub count_records-requires : goal.count_records-requires
 count_records-requires g c = let e = c.self.inside in
-    keeps-journals (down_halves c.down_of-down.result) (down-keeps g.H.Hash32.digest_of e.hash e.name e.account e.member e.offers.items c.args.self.now e.site
+    keeps-journals (down_halves c.down_of-down.result)
+    (down-keeps g.H.Hash32.digest_of e.hash e.name e.account e.member e.offers.items c.args.self.now e.site
     c.take-site.result c.self.view_is c.self.invariant.0 c.requires.spells c.take-site.ensures.taken
     c.down_of-down.result c.down_of-down.ensures)
 
 pub invariant_of-self : goal.invariant_of-self
 invariant_of-self g c = let e = c.self.inside in
-    lost-entry g.H.Hash32.digest_of e.hash e.member e.site c.take-site.new.site c.self.invariant c.take-site.ensures.gone
+    lost-entry g.H.Hash32.digest_of e.hash e.member e.site c.take-site.new.site c.self.invariant
+    c.take-site.ensures.gone
 
 pub invariant_of-self-in_err-cut : goal.invariant_of-self-in_err-cut
 invariant_of-self-in_err-cut g c = let e = c.self.inside in
-    lost-entry g.H.Hash32.digest_of e.hash e.member e.site c.take-site.new.site c.self.invariant c.take-site.ensures.gone
+    lost-entry g.H.Hash32.digest_of e.hash e.member e.site c.take-site.new.site c.self.invariant
+    c.take-site.ensures.gone
 
 pub invariant_of-self-in_err-down : goal.invariant_of-self-in_err-down
 invariant_of-self-in_err-down g c = let e = c.self.inside in
-    lost-entry g.H.Hash32.digest_of e.hash e.member e.site c.take-site.new.site c.self.invariant c.take-site.ensures.gone
+    lost-entry g.H.Hash32.digest_of e.hash e.member e.site c.take-site.new.site c.self.invariant
+    c.take-site.ensures.gone
 
 pub invariant_of-self-in_err-end : goal.invariant_of-self-in_err-end
 invariant_of-self-in_err-end g c = let e = c.self.inside in
-    lost-entry g.H.Hash32.digest_of e.hash e.member e.site c.take-site.new.site c.self.invariant c.take-site.ensures.gone
+    lost-entry g.H.Hash32.digest_of e.hash e.member e.site c.take-site.new.site c.self.invariant
+    c.take-site.ensures.gone
 
 pub end_of-requires : goal.end_of-requires
 end_of-requires g c = let e = c.self.inside in
@@ -44,7 +49,8 @@ end_of-requires g c = let e = c.self.inside in
     (cut_comes g.H.Hash32.digest_of e.hash e.name e.account e.member e.offers.items [] c.args.self.now e.site
     c.down_of-down.result c.fuse.result c.in_ok-cut.cut.down c.in_ok-down.down c.args.log.now.log c.args.calls
     c.fuse_of.result c.args.outcome.now c.args.order.now c.in_ok-cut.cut.given c.in_ok-before.before
-    (end_in c.in_ok-before.before (down_halves c.in_ok-down.down) c.in_ok-cut.cut.given) c.self.view_is c.self.invariant.0
+    (end_in c.in_ok-before.before (down_halves c.in_ok-down.down) c.in_ok-cut.cut.given) c.self.view_is
+    c.self.invariant.0
     c.requires.spells
     c.requires.is_up c.requires.fits c.requires.is_command c.requires.pattern
     (subst (λ (s : Site _). IsDownOf s c.down_of-down.result) c.take-site.ensures.taken c.down_of-down.ensures)
@@ -52,12 +58,14 @@ end_of-requires g c = let e = c.self.inside in
 
 pub invariant_of-self-in_err-kept : goal.invariant_of-self-in_err-kept
 invariant_of-self-in_err-kept g c = let e = c.self.inside in
-    lost-entry g.H.Hash32.digest_of e.hash e.member e.site c.take-site.new.site c.self.invariant c.take-site.ensures.gone
+    lost-entry g.H.Hash32.digest_of e.hash e.member e.site c.take-site.new.site c.self.invariant
+    c.take-site.ensures.gone
 
 pub invariant_of-self-2 : goal.invariant_of-self-2
 invariant_of-self-2 g c =
     let e = c.self.inside in
-    let all = cut_at g.H.Hash32.digest_of e.hash e.name e.account e.member e.offers.items c.offer_nothing.new.offers.items
+    let all = cut_at g.H.Hash32.digest_of e.hash e.name e.account e.member e.offers.items
+    c.offer_nothing.new.offers.items
     c.args.self.now e.site c.take-site.result c.put.new.site c.down_of-down.result c.fuse.result c.in_ok-cut.cut.down
     c.in_ok-down.down c.args.log.now.log c.args.calls c.fuse_of.result c.args.outcome.now c.args.order.now
     c.in_ok-cut.cut.given c.in_ok-before.before c.in_ok-end.end c.self.view_is c.self.invariant.0 c.requires.spells
@@ -74,7 +82,8 @@ invariant_of-self-2 g c =
       cut-ready g.H.Hash32.digest_of e.hash e.name e.account e.member e.offers.items c.args.self.now e.site
           c.take-site.result c.self.view_is c.self.invariant.0 c.requires.spells c.take-site.ensures.taken
           c.put.new.site c.offer_nothing.new.offers.items c.in_ok-cut.cut.down c.in_ok-down.down
-          c.args.outcome.now (c.put.ensures ∙ c.in_ok-kept.ensures) c.in_ok-down.ensures c.is_of_role.ensures c.args.log.now.log c.args.calls
+          c.args.outcome.now (c.put.ensures ∙ c.in_ok-kept.ensures) c.in_ok-down.ensures c.is_of_role.ensures
+          c.args.log.now.log c.args.calls
           c.args.order.now c.in_ok-end.end all.0 added,
     )
 

@@ -9,7 +9,8 @@ use Rattle.world_scene.proofs.scene.Scene.crash.Goals as goal
 pub returns-clause-shows : goal.returns-clause-shows
 returns-clause-shows g c =
     crash_shows (g.H.Hash32.digest_of c.args.self.now.hash) c.args.self.now c.args.node.now c.args.outcome.now
-    c.in-Some.n c.in_ok-image.image c.crash_node.new.self.nodes (sym c.number_of.ensures ∙ c.in-Some.is) c.in_ok-crash_node.ensures.crashes
+    c.in-Some.n c.in_ok-image.image c.crash_node.new.self.nodes (sym c.number_of.ensures ∙ c.in-Some.is)
+    c.in_ok-crash_node.ensures.crashes
     ∙ search rules
 
 pub returns-clause-tells : goal.returns-clause-tells

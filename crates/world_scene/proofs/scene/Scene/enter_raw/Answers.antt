@@ -19,7 +19,8 @@ returns-clause-shows g c =
       mail = c.self.inside.mail.items;
     } in
     subst (λ scene. IfOk c.enter_call.result (λ answer.
-    shown_of (called (dig scene.hash) (world_of scene) c.args.call.now) ≡ answered answer (world_of c.enter_call.new.self)))
+    shown_of (called (dig scene.hash) (world_of scene) c.args.call.now)
+    ≡ answered answer (world_of c.enter_call.new.self)))
     (ap (λ callers. record pushed { raw_callers = callers })
     (newest_first c.push.new.self.items c.self.inside.raw_callers.items c.args.account c.in_ok-push.ensures.items)
     ∙ ap (with_caller c.args.account) c.self.view_is) c.enter_call.ensures.shows

@@ -37,7 +37,8 @@ returns-in-Rogue-clause-tells g c =
 pub returns-in-Cut-clause-tells : goal.returns-in-Cut-clause-tells
 returns-in-Cut-clause-tells g c =
     IfOk-weaker c.cut.result _ _
-    (λ answer told. subst (λ line. TellsInRuns (g.H.Hash32.digest_of c.args.self.now.hash) (world_of c.args.self.now) line
+    (λ answer told. subst
+    (λ line. TellsInRuns (g.H.Hash32.digest_of c.args.self.now.hash) (world_of c.args.self.now) line
     answer.event)
     (ap (λ node. Line.Cut node c.in-Cut.calls c.in-Cut.outcome c.in-Cut.command) c.as_slice-in-Cut.ensures
     ∙ sym c.in-Cut.is) told)
