@@ -43,8 +43,7 @@ pub fn run_operator<D: Disk, H: Hash32 + Copy, S: Source, K: Sink>(
           left = S.left source.old;
           later = S.left source.new;
           taken = K.taken sink.old;
-          after = K.taken
-              sink.new;
+          after = K.taken sink.new;
         })
         (ReadsToFault (S.faults source.old) (S.faults source.new) (S.failed_last source.new) true) result.2 }
     ensures prompt { OperatorPromptly
@@ -52,8 +51,7 @@ pub fn run_operator<D: Disk, H: Hash32 + Copy, S: Source, K: Sink>(
           left = S.left source.old;
           later = S.left source.new;
           taken = K.taken sink.old;
-          after = K.taken
-              sink.new;
+          after = K.taken sink.new;
         })
         (S.failed_last source.new) D.told D.plan D.faults (H.digest_of h) notes leaves }
     ensures source_faults { ReadsBy result.2
@@ -95,8 +93,7 @@ fn run_with_key<D: Disk, H: Hash32 + Copy, S: Source, K: Sink>(
           left = S.left source.old;
           later = S.left source.new;
           taken = K.taken sink.old;
-          after = K.taken
-              sink.new;
+          after = K.taken sink.new;
         })
         (ReadsToFault (S.faults source.old) (S.faults source.new) (S.failed_last source.new) true) result.2 }
     ensures prompt { PromptlyBehind
@@ -104,8 +101,7 @@ fn run_with_key<D: Disk, H: Hash32 + Copy, S: Source, K: Sink>(
           left = S.left source.old;
           later = S.left source.new;
           taken = K.taken sink.old;
-          after = K.taken
-              sink.new;
+          after = K.taken sink.new;
         })
         (S.failed_last source.new) D.told D.plan D.faults (H.digest_of h) (Some seed) node.notes leaves }
     ensures source_faults { ReadsBy result.2

@@ -34,8 +34,7 @@ pub fn run_session<N: Commanded, S: Source, K: Sink>(
           left = S.left source.old;
           later = S.left source.new;
           taken = K.taken sink.old;
-          after = K.taken
-              sink.new;
+          after = K.taken sink.new;
         })
         (ReadsToFault (S.faults source.old) (S.faults source.new) (S.failed_last source.new) true) result.1 }
     ensures prompt { AnswersPromptly

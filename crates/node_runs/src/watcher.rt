@@ -36,8 +36,7 @@ pub fn run_watcher<D: Disk, H: Hash32 + Copy, S: Source, K: Sink>(
           left = S.left source.old;
           later = S.left source.new;
           taken = K.taken sink.old;
-          after = K.taken
-              sink.new;
+          after = K.taken sink.new;
         })
         (ReadsToFault (S.faults source.old) (S.faults source.new) (S.failed_last source.new) true) result.1 }
     ensures prompt { WatcherPromptly
@@ -45,8 +44,7 @@ pub fn run_watcher<D: Disk, H: Hash32 + Copy, S: Source, K: Sink>(
           left = S.left source.old;
           later = S.left source.new;
           taken = K.taken sink.old;
-          after = K.taken
-              sink.new;
+          after = K.taken sink.new;
         })
         (S.failed_last source.new) D.told D.plan D.faults (H.digest_of h) notes }
     ensures source_faults { ReadsBy result.1

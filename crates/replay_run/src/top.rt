@@ -104,8 +104,7 @@ pub fn run<S: Source, K: Sink, D: Disk>(
           left = S.left source.old;
           later = S.left source.new;
           taken = K.taken sink.old;
-          after = K.taken
-              sink.new;
+          after = K.taken sink.new;
         })
         (ReadsToFault (S.faults source.old) (S.faults source.new) (S.failed_last source.new) true) result.status
         (form_of (map string_bytes words.now)) }
@@ -117,8 +116,7 @@ pub fn run<S: Source, K: Sink, D: Disk>(
           left = S.left source.old;
           later = S.left source.new;
           taken = K.taken sink.old;
-          after = K.taken
-              sink.new;
+          after = K.taken sink.new;
         })
         (ReadsToFault (S.faults source.old) (S.faults source.new) (S.failed_last source.new) true) result.status
         (form_of (map string_bytes words.now)) }
@@ -130,8 +128,7 @@ pub fn run<S: Source, K: Sink, D: Disk>(
           left = S.left source.old;
           later = S.left source.new;
           taken = K.taken sink.old;
-          after = K.taken
-              sink.new;
+          after = K.taken sink.new;
         })
         (S.failed_last source.new) (form_of (map string_bytes words.now)) }
 
@@ -177,8 +174,7 @@ pub fn run_with<H: Hash32, S: Source, K: Sink, D: Disk>(
           left = S.left source.old;
           later = S.left source.new;
           taken = K.taken sink.old;
-          after = K.taken
-              sink.new;
+          after = K.taken sink.new;
         })
         (ReadsToFault (S.faults source.old) (S.faults source.new) (S.failed_last source.new) true) result.status
         (form_of (map string_bytes words.now)) }
@@ -187,8 +183,7 @@ pub fn run_with<H: Hash32, S: Source, K: Sink, D: Disk>(
           left = S.left source.old;
           later = S.left source.new;
           taken = K.taken sink.old;
-          after = K.taken
-              sink.new;
+          after = K.taken sink.new;
         })
         (ReadsToFault (S.faults source.old) (S.faults source.new) (S.failed_last source.new) true) result.status
         (form_of (map string_bytes words.now)) }
@@ -197,8 +192,7 @@ pub fn run_with<H: Hash32, S: Source, K: Sink, D: Disk>(
           left = S.left source.old;
           later = S.left source.new;
           taken = K.taken sink.old;
-          after = K.taken
-              sink.new;
+          after = K.taken sink.new;
         })
         (S.failed_last source.new) (form_of (map string_bytes words.now)) }
     ensures complete { CompletesByForm D.told (H.digest_of h.now) notes leaves (S.left source.old) result.status
@@ -237,8 +231,7 @@ fn run_form<H: Hash32, S: Source, K: Sink, D: Disk>(
           left = S.left source.old;
           later = S.left source.new;
           taken = K.taken sink.old;
-          after = K.taken
-              sink.new;
+          after = K.taken sink.new;
         })
         (ReadsToFault (S.faults source.old) (S.faults source.new) (S.failed_last source.new) true) result.status form }
     ensures prompt { AnswersByForm D.told D.plan D.faults (H.digest_of h.now) notes leaves
@@ -246,8 +239,7 @@ fn run_form<H: Hash32, S: Source, K: Sink, D: Disk>(
           left = S.left source.old;
           later = S.left source.new;
           taken = K.taken sink.old;
-          after = K.taken
-              sink.new;
+          after = K.taken sink.new;
         })
         (S.failed_last source.new) form }
     ensures unread { reads_input form ≡ false → source.new ≡ source.old }
