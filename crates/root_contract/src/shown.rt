@@ -1,16 +1,15 @@
-ghost use Rattle.std.specs.Prelude.{◌≡◌, IfOk, IfSome, is_some};
-ghost use Rattle.plasma_tx.specs.Openings.{leaf_in, opening_in};
-ghost use Rattle.plasma_tx.specs.Shown.{tests_by, rules_of, opens_root, shown_tx, shown_owner};
+ghost use Rattle.std.specs.Prelude.{◌≡◌, IfOk};
+ghost use Rattle.plasma_tx.specs.Shown.{tests_by, rules_of, shown_tx, shown_owner};
 
 use super::contract::Contract;
 use plasma_base::{Hash32, NoMemory};
-use plasma_tx::{Opening, OpeningRefusal, Owner, RawOpening, Shown, SignedTx, leaf_tx};
-use sparse_merkle::{defaults, opens_with_defaults};
-use std::alloc::Global;
+use plasma_tx::{Owner, RawOpening, Shown, SignedTx, leaf_in, leaf_tx};
+use sparse_merkle::defaults;
 
 impl Contract {
     // The transfer of the coin that an opening shows; `None` where the opening doesn't read, doesn't open
-    // its block's root, or has no transfer of the coin in its leaf. The opening is read once.
+    // its block's root, or has no transfer of the coin in its leaf. An opening that the log remembers isn't tested
+    // again.
     pub(crate) fn shown<H: Hash32>(
         &self,
         h: &H,
@@ -24,16 +23,11 @@ impl Contract {
             Some(root) => root,
             None => return Ok(None),
         };
-        match opened(self.alloc, h, &root, coin, opening)? {
-            Some(read) => leaf_tx(
-                self.alloc,
-                &self.log.tag(),
-                coin,
-                opening.block,
-                read.leaf.as_slice(),
-            ),
-            None => Ok(None),
+        if !self.log.opens(h, &defaults(h), &root, coin, opening)? {
+            return Ok(None);
         }
+        let leaf = leaf_in(opening.bytes.as_slice());
+        leaf_tx(self.alloc, &self.log.tag(), coin, opening.block, leaf)
     }
 
     // Who owns the coin after what is shown; `None` where an opening shows no transfer.
@@ -51,28 +45,4 @@ impl Contract {
             Shown::Spend { opening } => Ok(self.shown(h, coin, opening)?.map(|tx| tx.body.to)),
         }
     }
-}
-
-// The opening, read, where it opens the root at the coin. The defaults are made once.
-fn opened<H: Hash32>(
-    alloc: Global,
-    h: &H,
-    root: &[u8; 32],
-    coin: u64,
-    opening: &RawOpening,
-) -> Result<Option<Opening>, NoMemory>
-    ensures opens { IfOk result (λ read.
-        is_some read ≡ opens_root (H.digest_of h.now) root.now coin (opening_in (H.digest_of h.now) opening.now)) }
-    ensures leaf { IfOk result (λ read. IfSome read (λ opened. opened.leaf ≡ leaf_in opening.now.bytes)) }
-{
-    let defaults = defaults(h);
-    let read = match opening.open_up_with_defaults(alloc, h, &defaults) {
-        Ok(read) => read,
-        Err(OpeningRefusal::Unreadable) => return Ok(None),
-        Err(OpeningRefusal::NoMemory) => return Err(NoMemory),
-    };
-    if !opens_with_defaults(h, &defaults, root, coin, read.leaf.as_slice(), &read.proof) {
-        return Ok(None);
-    }
-    Ok(Some(read))
 }
