@@ -23,7 +23,8 @@ impl Contract {
             Some(root) => root,
             None => return Ok(None),
         };
-        if !self.log.opens(h, &defaults(h), &root, coin, opening)? {
+        let is_open = self.log.opens(h, &defaults(h), &root, coin, opening)?;
+        if !is_open {
             return Ok(None);
         }
         let leaf = leaf_in(opening.bytes.as_slice());
