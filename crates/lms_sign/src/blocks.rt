@@ -59,8 +59,8 @@ fn block_words(blocks: &[[u8; 64]; 4]) -> [u32x4; 16]
     words
 }
 
-// The digest that a hash value in a lane is.
-#[inline(always)]
+// The digest that a hash value in a lane is. In line, LLVM would put the bytes of all lanes together one by one.
+#[inline(never)]
 fn lane_digest(hash: &[u32x4; 8], j: usize) -> [u8; 32]
     requires { j < 4 }
     ensures { result ≡ digest_bytes (lane j hash.now) 8 }

@@ -86,9 +86,10 @@ impl<D> Ended<D> {
 /// `make <seed> <count>` writes a schedule of so many rounds. `verify <key> <message> <signature>` writes `valid` or
 /// `invalid`. `hss init <seed>` begins the disks of a two-level signer (RFC 8554, section 6) and writes `made`;
 /// `hss sign <message>` opens it from the disks and writes `signed`, its top leaf and its leaf, and a signature;
-/// `hss verify` is `verify` under a key of two levels. `audit <key> <receipt>` and `archive` read a log and a line `--`; behind it an audit
-/// reads a bundle, which convicts the operator who promised the receipt or doesn't, and an archive commands, which it
-/// answers. Other words are no form: the run ends as `Usage`, and writes the line that names the forms.
+/// `hss verify` is `verify` under a key of two levels. `audit <key> <receipt>` and `archive` read a log and a line
+/// `--`; behind it an audit reads a bundle, which convicts the operator who promised the receipt or doesn't, and an
+/// archive commands, which it answers. Other words are no form: the run ends as `Usage`, and writes the line that names
+/// the forms.
 pub fn run<S: Source, K: Sink, D: Disk>(
     alloc: Global,
     words: &[String],

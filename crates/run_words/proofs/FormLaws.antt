@@ -107,8 +107,19 @@ no_audit word (receipt ∷ more ∷ words) = refl
 no_hyphen : (name word : List ℕ) (words : List (List ℕ)) → form_named name ((45 ∷ word) ∷ words) ≡ None
 unfolding form_named alone init_form hss_form
 no_hyphen name word words =
-    none_chosen (choices name ((45 ∷ word) ∷ words))
-    (refl, (refl, (refl, (refl, (refl, (refl, (no_make word words, (no_verify word words, (refl, (no_audit word words, (refl, tt)))))))))))
+    none_chosen (choices name ((45 ∷ word) ∷ words)) (
+      refl,
+      (
+        refl,
+        (
+          refl,
+          (
+            refl,
+            (refl, (refl, (no_make word words, (no_verify word words, (refl, (no_audit word words, (refl, tt))))))),
+          ),
+        ),
+      ),
+    )
 
 -- nor do they have an empty one
 empty_make : (words : List (List ℕ)) → make_form ([] ∷ words) ≡ None
@@ -134,8 +145,19 @@ empty_audit (receipt ∷ more ∷ words) = refl
 no_empty : (name : List ℕ) (words : List (List ℕ)) → form_named name ([] ∷ words) ≡ None
 unfolding form_named alone init_form hss_form
 no_empty name words =
-    none_chosen (choices name ([] ∷ words))
-    (refl, (refl, (refl, (refl, (refl, (refl, (empty_make words, (empty_verify words, (refl, (empty_audit words, (refl, tt)))))))))))
+    none_chosen (choices name ([] ∷ words)) (
+      refl,
+      (
+        refl,
+        (
+          refl,
+          (
+            refl,
+            (refl, (refl, (empty_make words, (empty_verify words, (refl, (empty_audit words, (refl, tt))))))),
+          ),
+        ),
+      ),
+    )
 
 -- the first word, if there is one, is not empty and begins with no hyphen
 abbrev pub IsPlain : List (List ℕ) → Type 0
@@ -207,7 +229,13 @@ no_seven name role a b c d e f words =
           refl,
           (
             refl,
-            (refl, (no_init role a b c d e f words, (refl, (refl, (no_hss role a b c d e f words, (refl, (refl, tt))))))),
+            (
+              refl,
+              (
+                no_init role a b c d e f words,
+                (refl, (refl, (no_hss role a b c d e f words, (refl, (refl, tt))))),
+              ),
+            ),
           ),
         ),
       ),

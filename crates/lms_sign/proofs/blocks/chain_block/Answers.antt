@@ -26,7 +26,8 @@ returns c =
     record {
       digest = ap first_digest whole
           ∙ rw (c.u32str.ensures, c.u16str.ensures, c.u8str.ensures) (sym (sha256-block message long));
-      begins = ap (take 20) whole ∙ take-front (id ++ c.u32str.result) c.u16str.result c.u8str.result string block_padding
+      begins = ap (take 20) whole
+          ∙ take-front (id ++ c.u32str.result) c.u16str.result c.u8str.result string block_padding
           (omega (arith, length-append id c.u32str.result, four, c.told-id))
           ∙ ap (λ (s : List ℕ). id ++ s) c.u32str.ensures;
     }
