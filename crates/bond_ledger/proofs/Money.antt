@@ -1,14 +1,14 @@
 -- Sums over the accounts of a ledger.
-use Rattle.std.proofs.Common.{◌≡◌, ◌≤◌, ◌∙◌, sym, Bool, false, ℕ, ◌+◌, Option, Some, None, Result, Ok, Err, IsTrue, is_some, OnOk, OnErr, unwrap_or, refl, subst, arith, ap}
+use Rattle.std.proofs.Common.{◌≡◌, ◌≤◌, ℕ, ◌+◌, Option, Some, None, Result, Ok, Err, IsTrue, is_some, OnOk, OnErr, unwrap_or, refl, subst, arith, ap}
 use Rattle.std.specs.Option.{option_map}
 use Rattle.std.specs.Ordering.{nat_cmp}
 use Rattle.std.specs.Map.{values_of, lookup}
 use Rattle.std.specs.List.{sum_by}
-use Rattle.std.specs.BTreeMap.{BTreeMap, IsOrdered, get, is_at, insert_entry}
+use Rattle.std.specs.BTreeMap.{BTreeMap, IsOrdered, is_at, insert_entry}
 use Rattle.std.proofs.lemmas.Cmp.{nat_cmp_total}
 use Rattle.std.proofs.lemmas.Map.Entries.{sum_by-insert_entry, sum_by-remove_entry}
 use Rattle.bond_ledger.specs.declared.entries.Sums.{Sums}
-use Rattle.bond_ledger.specs.Entries.{no_sums, sums_in, is_known_in, money_of, money_in}
+use Rattle.bond_ledger.specs.Entries.{no_sums, sums_in, money_of, money_in}
 
 -- the money of what may be there
 money-option : (o : Option Sums) → unwrap_or (option_map money_of o) 0 ≡ money_of (unwrap_or o no_sums)

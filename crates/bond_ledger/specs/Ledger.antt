@@ -1,7 +1,7 @@
 -- A ledger by account, and what its calls change.
 use Rattle.std.specs.Prelude.{◌≡◌, ℕ, ◌==◌, Bool, if◌then◌else◌}
 use Rattle.bond_ledger.specs.declared.ledger.Ledger.{Ledger}
-use Rattle.bond_ledger.specs.Entries.{sums_in, is_known_in, money_in}
+use Rattle.bond_ledger.specs.Entries.{sums_in, is_known_in}
 
 -- what an account may spend, and what is held of it: 0 of an account that isn't known
 abbrev pub balance_in : Ledger → ℕ → ℕ
@@ -17,10 +17,6 @@ is_known ledger account = is_known_in ledger.entries account
 -- all money ever funded
 abbrev pub funded_in : Ledger → ℕ
 funded_in ledger = ledger.funded
-
--- all balances and all that is held
-abbrev pub all_money_in : Ledger → ℕ
-all_money_in ledger = money_in ledger.entries
 
 -- the amount at this one account, and 0 at each other
 abbrev pub amount_at : ℕ → ℕ → ℕ → ℕ

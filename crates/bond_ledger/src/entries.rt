@@ -6,7 +6,7 @@ use plasma_base::NoMemory;
 use std::collections::BTreeMap;
 
 /// What is an account's: what it may spend, and what is held of it.
-#[derive(Debug, Clone, Copy, PartialEq, Eq)]
+#[derive(Clone, Copy, PartialEq, Eq)]
 pub struct Sums {
     pub balance: u64,
     pub held: u64,

@@ -51,9 +51,4 @@ impl Hash32 for CaseDigest {
             Sha.digest_two(first, second)
         }
     }
-
-    // It counts each digest that is made, so nothing is taken from memory.
-    fn is_sha256(&self) -> bool {
-        false
-    }
 }

@@ -51,7 +51,7 @@ fn ran<D: Disk>(
         status,
         notes,
         leaves,
-    } = run_with(digest, alloc, words, source, sink, notes, leaves);
+    } = run_with(alloc, digest, words, source, sink, notes, leaves);
     (status.code(), notes, leaves)
 }
 

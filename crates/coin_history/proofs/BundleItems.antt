@@ -113,14 +113,6 @@ first-whole bytes place end low next opening (inl none) item =
     ap (λ (r : Result Items HistoryRefusal). is_ok r) (here ∙ item 0)
 
 module _ (bytes : List ℕ) (place count : ℕ) where
-  pub HaveRead-none : (openings : List RawOpening) → openings ≡ [] → place ≤ length bytes
-      → HaveRead bytes place count openings place 0 count
-  HaveRead-none openings none within = record {
-    within = within;
-    rest = rw none (with_items-nil (items_in bytes place 0 count));
-    first = inl (refl, refl);
-  }
-
   module _ (openings : List RawOpening) (end low i : ℕ)
       (known : HaveRead bytes place count openings end low (count - i)) where
     pub HaveRead-more : (now : List RawOpening) (opening : RawOpening) (next : ℕ) → i < count → next ≤ length bytes

@@ -7,19 +7,14 @@ use Rattle.std.proofs.lemmas.Option.{slice_get_read}
 use Rattle.std.proofs.lemmas.Bool.{cases_eq, cases_lt, eq-eqb, ne_eqb, and_parts, false_from_ne_true}
 use Rattle.plasma_tx.specs.declared.call.RootCall.{RootCall}
 use Rattle.plasma_tx.specs.declared.opening.RawOpening.{RawOpening}
-use Rattle.plasma_tx.specs.declared.opening.Opening.{Opening}
-use Rattle.plasma_tx.specs.Openings.{leaf_in, opening_in}
-use Rattle.plasma_tx.proofs.OpeningTexts.{leaf-shown}
-use Rattle.sparse_merkle.specs.MaskedPath.{proof_path}
-use Rattle.sparse_merkle.specs.Opening.{is_opening}
 use Rattle.plasma_tx.specs.declared.views.BlockView.{BlockView}
 use Rattle.plasma_tx.specs.declared.views.CoinView.{CoinView}
 use Rattle.plasma_tx.specs.declared.call.RootCall.TheVariants.{Deposit, Commit}
 use Rattle.plasma_tx.specs.Views.{blocks, coins, block_at, coin_at, new_coin}
 use Rattle.plasma_tx.proofs.Names.{some_same}
-use Rattle.plasma_tx.specs.Shown.{Tests, Rules, tests_by, root_at, root_in}
+use Rattle.plasma_tx.specs.Shown.{Tests, Rules, root_in}
 use Rattle.coin_history.specs.declared.bundle.Bundle.{Bundle}
-use Rattle.coin_history.specs.History.{is_committed, opens_block, leaf_of_opening, is_empty, is_absent, links_in, tagged}
+use Rattle.coin_history.specs.History.{is_committed, leaf_of_opening, is_empty, is_absent, links_in, tagged}
 use Rattle.coin_history.specs.declared.refusal.HistoryRefusal.{HistoryRefusal}
 use Rattle.coin_history.specs.declared.refusal.HistoryRefusal.TheVariants.{MissingBlock}
 use Rattle.coin_history.specs.Bundles.{AreRising}

@@ -1,5 +1,5 @@
 -- The check passes a bundle exactly where it shows that its coin is absent.
-use Rattle.std.proofs.Common.{◌≡◌, ℕ, suc, ◌<◌, ◌==◌, not, Bool, true, false, if◌then◌else◌, List, [], ◌∷◌, ◌++◌, Option, Some, None, Err, refl, sym, ap, ◌∙◌, subst, arith}
+use Rattle.std.proofs.Common.{◌≡◌, ℕ, ◌<◌, ◌==◌, not, Bool, true, false, if◌then◌else◌, List, [], ◌∷◌, ◌++◌, Option, Some, None, Err, refl, sym, ap, ◌∙◌, subst, arith}
 use Rattle.std.specs.List.{AllByRecursion}
 use Rattle.std.proofs.lemmas.Bool.{eqb-true, eq-eqb, true≢false, false_from_ne_true, not-false}
 use Rattle.std.proofs.lemmas.List.Elements.{recursion_from_All, All-from_recursion}
@@ -12,7 +12,7 @@ use Rattle.coin_history.specs.Bundles.{AreRising}
 use Rattle.coin_history.specs.History.{opens_block, is_absent}
 use Rattle.coin_history.specs.Checking.{is_asked, opening_at, missing, opening_causes, lowest_failure, above, unless_failed, failure_of_absence, absence_of}
 use Rattle.coin_history.specs.Laws.{OnlyAbsencesPass, AbsencesPass}
-use Rattle.coin_history.proofs.HistoryOpenings.{Up, opening-own, opening-between, lowest-none, lowest-none_from, up-rising, each-found, found-each, above-block, found-below, asked-parts, AreAsked, are-asked, blocks-from_asked, asked-from_blocks, found-block}
+use Rattle.coin_history.proofs.HistoryOpenings.{lowest-none, lowest-none_from, up-rising, each-found, found-each, above-block, found-below, asked-parts, AreAsked, are-asked, blocks-from_asked, asked-from_blocks, found-block}
 use Rattle.coin_history.proofs.HistoryLinks.{every-weaker}
 use Rattle.coin_history.proofs.HistoryFound.{causes-none, none-causes, missing-none, answered}
 
@@ -84,21 +84,6 @@ module _ (tests : Tests) (log : List RootCall) (coin after last : ℕ) (openings
             subst (λ (k : ℕ). failure_of_absence tests log coin after last k (Some x) ≡ None) r.0
             (none-from_absent tests log coin after last x r.1)
       ]) refl
-
--- what is wrong at the block of an opening of rising ones, and at a block between two that follow each other
-pub presence-at : (tests : Tests) (log : List RootCall) (coin after last : ℕ)
-    (front : List RawOpening) (o : RawOpening) (rest : List RawOpening) → AreRising (front ++ o ∷ rest)
-    → failure_of_absence tests log coin after last o.block (opening_at (front ++ o ∷ rest) o.block)
-    ≡ failure_of_absence tests log coin after last o.block (Some o)
-presence-at tests log coin after last front o rest rising =
-    ap (failure_of_absence tests log coin after last o.block) (opening-own front o rest rising)
-
-pub presence-between : (tests : Tests) (log : List RootCall) (coin after last : ℕ)
-    (front rest : List RawOpening) (n : ℕ) → AllByRecursion (λ o. o.block < n) front → Up (suc n) rest
-    → failure_of_absence tests log coin after last n (opening_at (front ++ rest) n)
-    ≡ missing (is_asked log after last n) n
-presence-between tests log coin after last front rest n less up =
-    ap (failure_of_absence tests log coin after last n) (opening-between front rest n less up)
 
 every-absent : (tests : Tests) (log : List RootCall) (coin after last : ℕ) (os : List RawOpening)
     → AllByRecursion (λ o. is_asked log after last o.block ≡ true) os

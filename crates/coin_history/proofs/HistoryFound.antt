@@ -21,7 +21,7 @@ use Rattle.coin_history.specs.Bundles.{AreRising}
 use Rattle.coin_history.specs.History.{is_committed, opens_block, is_absent, transfer_of, links_in, links_of, AreLinked, IsHistory}
 use Rattle.coin_history.specs.Checking.{Cause, first_cause, is_asked, opening_at, missing, opening_causes, links_before, is_next, is_next_signed, link_causes, failure_in, lowest_failure, above, unless_failed, may_be_tip, checked, where_made, history_of}
 use Rattle.coin_history.specs.Laws.{OnlyHistoriesPass, HistoriesPass}
-use Rattle.coin_history.proofs.HistoryOpenings.{Up, opening-own, opening-between, lowest-none, lowest-none_from, Up, up-rising, up-each, each-found, found-each, above-block, found-below, asked-parts, AreAsked, are-asked, nothing-asked, blocks-from_asked, asked-from_blocks, found-block, rising-up}
+use Rattle.coin_history.proofs.HistoryOpenings.{Up, opening-own, lowest-none, lowest-none_from, Up, up-rising, up-each, each-found, found-each, above-block, found-below, asked-parts, AreAsked, are-asked, nothing-asked, blocks-from_asked, asked-from_blocks, found-block, rising-up}
 use Rattle.coin_history.proofs.HistoryLinks.{links_before-front, every-weaker, tip_from, tip-is, absent-none, none-linked, IsLeaf, IsNext, IsSome, linked, are-next, tip-reached, tip-found}
 
 -- ---- causes
@@ -86,13 +86,6 @@ failure-at tests rules log tip links front o rest rising is =
     ++ link_causes tests rules tip (record links { spends = l }) o))
     (ap (filter (λ (link : Link). nat_lt link.block o.block)) is
     ∙ links_before-front rules links.coin front o rest rising)
-
-pub failure-between : (tests : Tests) (rules : Rules) (log : List RootCall) (tip : ℕ) (links : Links)
-    (front rest : List RawOpening) (n : ℕ) → AllByRecursion (λ o. o.block < n) front → Up (suc n) rest
-    → failure_in tests rules log tip links n (opening_at (front ++ rest) n)
-    ≡ missing (is_asked log links.deposit tip n) n
-failure-between tests rules log tip links front rest n less up =
-    ap (failure_in tests rules log tip links n) (opening-between front rest n less up)
 
 -- ---- a history that is found
 

@@ -9,7 +9,7 @@ use std::alloc::{AllocError, AllocFailed, Global};
 use std::marker::Model;
 
 /// Openings in order, which contracts see as a list.
-#[derive(Debug, Drop)]
+#[derive(Drop)]
 pub struct Openings {
     items: Vec<RawOpening>,
 }
@@ -51,7 +51,7 @@ impl Openings {
 }
 
 /// What the blocks up to a tip have at a coin, in rising order of blocks.
-#[derive(Debug, Drop)]
+#[derive(Drop)]
 pub struct Bundle {
     pub coin: u64,
     /// The last block that the openings are to reach. A history's tip is its last link's block, or the

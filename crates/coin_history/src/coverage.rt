@@ -12,7 +12,7 @@ use plasma_tx::{BlockView, RawOpening, RootLog, leaf_in};
 use std::alloc::Global;
 
 /// The blocks after one and up to another, of which the committed ones have to be opened.
-#[derive(Debug, Clone, Copy, PartialEq, Eq)]
+#[derive(Clone, Copy, PartialEq, Eq)]
 pub struct Span {
     /// The block behind which they begin, as a coin's deposit block.
     pub low: u64,

@@ -217,35 +217,6 @@ module _ {S : Type 0} (watches : List (Option Quiet)) (places : HashMap ℕ ℕ 
           let e : found.0 ≡ quiet = cc both in
           sym found.2 ∙ ap (λ (q : Quiet). q.node) e
 
-  -- a node's watch that is added, of which none stood
-  pub places-added : (new : HashMap ℕ ℕ S) (quiet : Quiet) → quiet.node ≡ n → get nat_eq places n ≡ None
-      → Updates nat_eq places new n (Some (length watches)) → ArePlaces (watches ++ Some quiet ∷ []) new
-  places-added new quiet named none adds = record {
-    known = λ k other there. elim (get-parts watches (Some quiet) (Some other) k there) [
-      | inl front ↦ elim (cases_Bool (n == other.node)) [
-        | inl same ↦
-            let wrong : None ≡ Some k =
-            sym none ∙ ap (get nat_eq places) (eqb-true n other.node same) ∙ are.known k other front in
-            absurd (cc wrong)
-        | inr apart ↦ adds.2 other.node apart ∙ are.known k other front
-      ]
-      | inr last ↦
-          let both : Some quiet ≡ Some other = last.1 in
-          let e : quiet ≡ other = cc both in
-          ap (get nat_eq new) (ap (λ (q : Quiet). q.node) (sym e) ∙ named) ∙ adds.1 ∙ ap Some (sym last.0)
-    ];
-    only = λ node k there. elim (cases_Bool (n == node)) [
-      | inl same ↦
-          let e : n ≡ node = eqb-true n node same in
-          let both : Some (length watches) ≡ Some k = sym adds.1 ∙ ap (get nat_eq new) e ∙ there in
-          let at : length watches ≡ k = cc both in
-          (quiet, ap (slice_get (watches ++ Some quiet ∷ [])) (sym at) ∙ get-last watches (Some quiet), named ∙ e)
-      | inr apart ↦
-          let was = are.only node k (sym (adds.2 node apart) ∙ there) in
-          (was.0, get-front watches (Some quiet) (Some was.0) k was.1, was.2)
-    ];
-  }
-
 pub standing-more : (watches : List (Option Quiet)) (watch : Option Quiet)
     → standing (watches ++ watch ∷ []) ≡ standing watches ++ option_to_list watch
 standing-more watches watch = flat_map-append option_to_list watches (watch ∷ []) ∙ ends watch

@@ -11,7 +11,7 @@ use std::alloc::Global;
 use std::marker::Model;
 
 /// The notes of a coin, and its guards. Contracts see the newest note first.
-#[derive(Debug, Drop)]
+#[derive(Drop)]
 pub struct Book {
     notes: Vec<Note>,
     guards: Vec<Guard>,
@@ -94,7 +94,7 @@ impl Book {
 }
 
 /// The books of coins, which are counted from 1.
-#[derive(Debug, Drop)]
+#[derive(Drop)]
 pub struct Books {
     items: Vec<Book>,
 }

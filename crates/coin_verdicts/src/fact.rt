@@ -8,7 +8,7 @@ use std::marker::Model;
 
 /// What verdicts need to know of a line of a run. Nodes have the numbers of the world: the operator is 0, and
 /// those that are declared follow in order.
-#[derive(Debug, Drop)]
+#[derive(Drop)]
 pub enum Fact {
     /// This wallet was declared, which is this owner.
     Declares {
@@ -78,7 +78,7 @@ pub enum Fact {
 }
 
 /// An owner in memory of its own, since a fact is kept of each line, and few have an owner. Contracts see the owner.
-#[derive(Debug, Drop)]
+#[derive(Drop)]
 pub struct KeptOwner {
     owner: Box<Owner>,
 }
@@ -110,7 +110,7 @@ impl KeptOwner {
 }
 
 /// Numbers, which contracts see as a list.
-#[derive(Debug, Drop)]
+#[derive(Drop)]
 pub struct Numbers {
     items: Vec<u64>,
 }

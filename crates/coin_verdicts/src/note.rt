@@ -2,7 +2,7 @@ use super::fact::Numbers;
 use plasma_tx::Owner;
 
 /// What a line did to one coin.
-#[derive(Debug, Drop)]
+#[derive(Drop)]
 pub struct Note {
     /// The line's number, counted from 1.
     pub line: u64,
@@ -10,7 +10,7 @@ pub struct Note {
 }
 
 /// What may befall a coin.
-#[derive(Debug, Drop)]
+#[derive(Drop)]
 pub enum Change {
     /// It was deposited in this block, to this owner.
     Deposits {
@@ -47,7 +47,7 @@ pub enum Change {
 }
 
 /// A wallet whose coins are asked for: its number, the line that declared it, and the owner that it is.
-#[derive(Debug, Clone, Copy, Drop)]
+#[derive(Clone, Copy, Drop)]
 pub struct Holder {
     pub wallet: u64,
     pub since: u64,
@@ -55,7 +55,7 @@ pub struct Holder {
 }
 
 /// What a coin's changes came to for one wallet and one block.
-#[derive(Debug, Clone, Copy, Drop)]
+#[derive(Clone, Copy, Drop)]
 pub struct Standing {
     /// It was deposited in the block, to the wallet's owner.
     pub deposited: bool,
@@ -77,7 +77,7 @@ pub struct Standing {
 }
 
 /// A leaf of a wallet: the coin that it signs away, and from which parent.
-#[derive(Debug, Clone, Copy, Drop)]
+#[derive(Clone, Copy, Drop)]
 pub struct Leaf {
     pub coin: u64,
     pub parent: u64,
@@ -85,14 +85,14 @@ pub struct Leaf {
 
 /// A node that watched, with the coins of the calls that it offers. No call was accepted since, and the node had no
 /// other command.
-#[derive(Debug, Drop)]
+#[derive(Drop)]
 pub struct Quiet {
     pub node: u64,
     pub coins: Numbers,
 }
 
 /// A watcher guards a coin at this tip.
-#[derive(Debug, Clone, Copy, Drop)]
+#[derive(Clone, Copy, Drop)]
 pub struct Guard {
     pub watcher: u64,
     pub tip: u64,

@@ -1,7 +1,7 @@
 use plasma_base::Bytes;
 
 /// A wallet whose verdicts are asked for: its number among the nodes, and its name.
-#[derive(Debug, Drop)]
+#[derive(Drop)]
 pub struct NamedWallet {
     pub number: u64,
     pub name: Bytes,

@@ -20,6 +20,9 @@ const FOR_ITS_OWNER: u32 = 0o600;
 // The bit of a mode that lets the owner write.
 const OWNER_WRITES: u32 = 0o200;
 
+// The bits of a mode that let anybody else write a file.
+const OTHERS_WRITE: u32 = 0o022;
+
 // The mode of a file of which a sync failed: not even its owner may write.
 const MARKED: u32 = 0o400;
 
@@ -73,17 +76,24 @@ impl<'a, R: Files<File = File>> LazyFile<'a, R> {
         }
         file.try_lock()?;
         // Behind the lock, since in front of it somebody could still put another file in its place.
+        if !makes {
+            self.check(&file)?;
+        }
+        // From now on the file is its owner's alone, and a new one is so whatever the mask is. Only the owner, or root,
+        // may set a mode: of a file that is somebody else's this fails, and so would the mark of a sync that failed.
+        file.set_permissions(Permissions::from_mode(FOR_ITS_OWNER))?;
         self.check(&file)?;
         Ok(file)
     }
 
-    // Fails unless this is the regular file at the path, has no other name, and its owner may write.
+    // Fails unless this is the regular file at the path, has no other name, and its owner may write and nobody else.
     fn check(&self, file: &File) -> io::Result<()> {
         let held = file.metadata()?;
         let named = fs::symlink_metadata(self.files, self.path)?;
         let is_at_path = held.dev() == named.dev() && held.ino() == named.ino();
         let is_alone = held.is_file() && held.nlink() == 1;
-        if is_at_path && is_alone && held.mode() & OWNER_WRITES != 0 {
+        let is_its_owners = held.mode() & OWNER_WRITES != 0 && held.mode() & OTHERS_WRITE == 0;
+        if is_at_path && is_alone && is_its_owners {
             Ok(())
         } else {
             Err(ErrorKind::Unsupported.into())
@@ -136,8 +146,8 @@ impl<'a, R: Files<File = File>> LazyFile<'a, R> {
         if let Err(error) = sync_named(file, folder.as_ref()) {
             // From now on the system may take for written what the disk doesn't have, bytes or the file's name, and no
             // later sync tells of it. So the file is marked, and no later opening takes it. The mark lasts no shorter
-            // than these bytes, since both are in the system's memory. Where it can't be set, as by another than the
-            // owner, the call fails all the same.
+            // than these bytes, since both are in the system's memory. That this user may set it was seen at the
+            // opening. Where it can't be set even so, as on a device that fails, the call fails all the same.
             let _ = file.set_permissions(Permissions::from_mode(MARKED));
             return Err(error);
         }
@@ -169,17 +179,19 @@ fn sync_named(file: &File, folder: Option<&File>) -> io::Result<()> {
 /// its content.
 ///
 /// The file is opened at the first device call, and locked from then on until the disk is dropped. Where it is missing
-/// then, it has length 0 until a write makes it, with mode 0600. The first sync of a file that is there syncs its
-/// folder too, which keeps its name.
+/// then, it has length 0 until a write makes it. Its mode is 0600 from then on, whatever the mask is. The first sync of a
+/// file that is there syncs its folder too, which keeps its name.
 ///
 /// A device call fails where std gives an error, and where it opens the file and
 /// - what stands at the path is no regular file: a link, even one to nothing, a folder or a device. It isn't opened;
 /// - another disk holds the file, in this program or in another, or the file system has no locks;
+/// - the file's mode can't be set, as that of somebody else's file by anybody but root;
 /// - the file was missing when it was first asked for, and somebody else has made it since.
 ///
 /// It fails where it opens or syncs the file and
 /// - the file has a second name, a hard link;
 /// - the file isn't the one at the path any more: it was removed or renamed, or another one was put there;
+/// - anybody but the file's owner may write it;
 /// - the file's owner may not write it. A sync that fails, of the file or of its folder, takes this right away (mode
 ///   0400), since the system may then take bytes for written that the disk doesn't have. Give it back once the machine
 ///   was started anew.

@@ -1,7 +1,7 @@
 use plasma_base::Bytes;
 
 /// What a crash leaves of the bytes written since the last sync that succeeded.
-#[derive(Debug, Drop)]
+#[derive(Drop)]
 pub enum Outcome {
     /// The bytes as of that sync.
     Old,

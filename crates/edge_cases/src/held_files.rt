@@ -43,6 +43,11 @@ fn begin<R: Files + Alloc>(rt: &R) -> Result<(), Fail> {
     let _ = fs::remove_dir_all(rt, FOLDER);
     fs::create_dir(rt, FOLDER)?;
     fs::write(rt, PATH, b"abcd")?;
+    give_mode(rt, 0o600)
+}
+
+fn give_mode<R: Files>(rt: &R, mode: u32) -> Result<(), Fail> {
+    fs::set_permissions(rt, PATH, Permissions::from_mode(mode))?;
     Ok(())
 }
 
@@ -143,12 +148,27 @@ fn made_between<R: Files<File = File> + Alloc + Abort>(rt: &R) -> Result<(), Fai
 fn marked<R: Files<File = File> + Abort>(rt: &R) -> Result<(), Fail> {
     let mut disk = disk(rt, PATH);
     assert!(rt; syncs(&mut disk), "a file without the mark is taken");
-    fs::set_permissions(rt, PATH, Permissions::from_mode(0o400))?;
+    give_mode(rt, 0o400)?;
     assert!(rt; !syncs(&mut disk), "a sync sees the mark");
     drop(disk);
     assert!(rt; !opens(rt, PATH), "a marked file is refused");
-    fs::set_permissions(rt, PATH, Permissions::from_mode(0o600))?;
+    give_mode(rt, 0o600)?;
     assert!(rt; opens(rt, PATH), "without the mark it is taken again");
+    Ok(())
+}
+
+fn open_to_others<R: Files<File = File> + Abort>(rt: &R) -> Result<(), Fail> {
+    give_mode(rt, 0o660)?;
+    assert!(rt; !opens(rt, PATH), "a file that a group writes is refused");
+    give_mode(rt, 0o602)?;
+    assert!(rt; !opens(rt, PATH), "a file that others write is refused");
+    give_mode(rt, 0o744)?;
+    let mut disk = disk(rt, PATH);
+    assert!(rt; syncs(&mut disk), "a file that only its owner writes is taken");
+    let mode = fs::metadata(rt, PATH)?.mode() & 0o777;
+    assert!(rt; mode == 0o600, "others can't read it any more");
+    give_mode(rt, 0o622)?;
+    assert!(rt; !syncs(&mut disk), "a sync sees that others may write it");
     Ok(())
 }
 
@@ -179,6 +199,8 @@ fn over_a_file_that_others_touch(rt: HostRuntime) -> Result<(), Fail> {
     made_between(&rt)?;
     begin(&rt)?;
     marked(&rt)?;
+    begin(&rt)?;
+    open_to_others(&rt)?;
     begin(&rt)?;
     missing_then_there(&rt)?;
     fs::remove_dir_all(&rt, FOLDER)?;

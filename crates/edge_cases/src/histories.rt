@@ -145,7 +145,7 @@ fn is_standing(alloc: Global, paid: &Paid) -> Result<bool, NoMemory> {
 
 // Whether the opening reads, with that leaf.
 fn is_opened(alloc: Global, paid: &Paid) -> Result<bool, Fail> {
-    let opened = opening(alloc, paid)?.open_up(alloc, &Toy)?;
+    let opened = opening(alloc, paid)?.open_up(&Toy)?;
     Ok(opened.leaf.as_slice() == paid.leaf.as_slice())
 }
 

@@ -4,7 +4,7 @@ ghost use Rattle.lms_sign.specs.Types.{is_supported};
 use crash_disk::MemDisk;
 use leaf_journal::Leaves;
 use lms_sign::{LmsTypes, SecretKey};
-use operator_core::{Operator, init_with_key};
+use operator_core::Operator;
 use plasma_base::{NoMemory, Sha};
 use plasma_tx::Owner;
 use std::alloc::Global;
@@ -23,7 +23,14 @@ fn bare(alloc: Global) -> MemDisk {
 
 // An operator with a key is begun.
 fn operator_disks(alloc: Global) -> Result<Disks, Fail> {
-    let (notes, leaves, answer) = init_with_key(alloc, bare(alloc), bare(alloc), TAG, 9, [4; 32]);
+    let (notes, leaves, answer) = Operator::init_with_key(
+        alloc,
+        bare(alloc),
+        bare(alloc),
+        TAG,
+        9,
+        [4; 32],
+    );
     match answer {
         Ok(()) => Ok((notes, leaves)),
         Err(why) => Err(why.into()),
@@ -79,7 +86,7 @@ fn who(seed: u8) -> Identity
 }
 
 fn wallet_disks(alloc: Global) -> Result<Disks, Fail> {
-    let (notes, leaves, answer) = wallet_node::init(alloc, bare(alloc), bare(alloc), &who(7));
+    let (notes, leaves, answer) = WalletNode::init(alloc, bare(alloc), bare(alloc), &who(7));
     match answer {
         Ok(()) => Ok((notes, leaves)),
         Err(why) => Err(why.into()),
@@ -118,7 +125,7 @@ fn without(alloc: Global) -> Result<Owner, Fail> {
 }
 
 fn watcher_disk(alloc: Global) -> Result<MemDisk, Fail> {
-    let (disk, answer) = watcher_node::init(alloc, bare(alloc), TAG, 14);
+    let (disk, answer) = WatcherNode::init(alloc, bare(alloc), TAG, 14);
     match answer {
         Ok(()) => Ok(disk),
         Err(why) => Err(why.into()),

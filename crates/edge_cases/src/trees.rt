@@ -1,7 +1,12 @@
+ghost use Rattle.plasma_base.specs.DigestBytes.{small-toy_digest};
+ghost use Rattle.plasma_base.specs.Toy.{toy_digest, length-toy_digest};
+
 use super::texts::is_hex;
+use merkle_pages::PagedTree;
 use plasma_base::{Hash32, NoMemory, Sha, Toy};
 use sparse_merkle::{Proof, ProofRefusal, Tree, clash, opens};
 use std::alloc::Global;
+use std::cell::Cell;
 use std::test::Fail;
 
 // The string of a node over two digests 2 ^ 61 - 2.
@@ -70,5 +75,94 @@ fn clashes(rt: HostRuntime) -> Result<(), Fail> {
     let found = clashing(alloc, b"\x1f\xff\xff\xff\xff\xff\xff\xfe", &[0; 8])?;
     assert!(rt; found == Some((1, 9)));
     assert!(rt; clashing(alloc, b"x", BESIDE)? == Some((65, 65)));
+    Ok(())
+}
+
+// The toy digest, which counts its calls.
+#[derive(Drop)]
+struct Counted {
+    calls: Cell<u64>,
+}
+
+impl Counted {
+    fn count(&self) {
+        self.calls.set(self.calls.get().wrapping_add(1));
+    }
+
+    // The calls since it was asked last.
+    fn taken(&self) -> u64 {
+        self.calls.replace(0)
+    }
+}
+
+impl Hash32 for Counted {
+    ghost digest_of = { λ _ bytes. toy_digest bytes };
+
+    ghost length_is = { λ _ bytes. length-toy_digest bytes };
+
+    ghost bytes_are = { λ _ bytes. (small-toy_digest bytes).are };
+
+    fn digest(&self, bytes: &[u8]) -> [u8; 32] {
+        self.count();
+        Toy.digest(bytes)
+    }
+
+    fn digest_two(&self, first: &[u8], second: &[u8]) -> [u8; 32] {
+        self.count();
+        Toy.digest_two(first, second)
+    }
+
+    fn is_sha256(&self) -> bool {
+        false
+    }
+}
+
+// The digests of making a tree, of putting three leaves, of removing one and of removing none.
+fn digests_of_puts(alloc: Global) -> Result<[u64; 6], NoMemory> {
+    let counted = Counted {
+        calls: Cell::new(0),
+    };
+    let mut tree = PagedTree::new(alloc, &counted);
+    let made = counted.taken();
+    tree.put(7, b"a")?;
+    let first = counted.taken();
+    tree.put(6, b"b")?;
+    let second = counted.taken();
+    tree.put(u64::MAX, b"c")?;
+    let third = counted.taken();
+    tree.put(7, &[])?;
+    let removed = counted.taken();
+    tree.put(1, &[])?;
+    Ok([made, first, second, third, removed, counted.taken()])
+}
+
+// The digests of reading a tree of two leaves, and whether what is read is what the plain tree has.
+fn digests_of_reading(alloc: Global) -> Result<(u64, bool), NoMemory> {
+    let counted = Counted {
+        calls: Cell::new(0),
+    };
+    let mut tree = PagedTree::new(alloc, &counted);
+    let mut plain = Tree::new(alloc);
+    for coin in [6, u64::MAX] {
+        tree.put(coin, b"b")?;
+        plain.put(coin, b"b")?;
+    }
+    counted.taken();
+    let root = *tree.root();
+    let top = *tree.node(64, 7);
+    let leaf = *tree.node(0, 6);
+    let proof = tree.prove(6)?;
+    let found = tree.leaf(6) == plain.leaf(6) && tree.leaf(7).is_none();
+    let taken = counted.taken();
+    let same = root == plain.root(&Toy) && top == root && leaf == Toy.digest(b"\x01b");
+    Ok((taken, found && same && opens(&Toy, &root, 6, b"b", &proof)))
+}
+
+// A new tree digests the 65 defaults, and a put the 65 nodes of its coin's way. Who reads digests nothing.
+#[test]
+fn digests_of_a_paged_tree(rt: HostRuntime) -> Result<(), Fail> {
+    let alloc = rt.alloc();
+    assert!(rt; digests_of_puts(alloc)? == [65; 6]);
+    assert!(rt; digests_of_reading(alloc)? == (0, true));
     Ok(())
 }

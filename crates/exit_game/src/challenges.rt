@@ -9,7 +9,7 @@ use std::marker::Model;
 
 /// A challenge of an exit at a block: who owned the coin after that block, the account that made it, when
 /// it was made, in seconds, and whether it is answered.
-#[derive(Debug, Clone, Copy, PartialEq, Eq)]
+#[derive(Clone, Copy, PartialEq, Eq)]
 pub struct Challenge {
     pub block: u64,
     pub owner: Owner,
@@ -19,7 +19,7 @@ pub struct Challenge {
 }
 
 /// Challenges in the order in which they were made, which contracts see as a list.
-#[derive(Debug, Drop)]
+#[derive(Drop)]
 pub struct Challenges {
     items: Vec<Challenge>,
 }
@@ -41,6 +41,13 @@ impl Challenges {
         Challenges {
             items: Vec::new(alloc),
         }
+    }
+
+    /// The challenges of a vector, in its order. It takes no memory.
+    pub fn from_vec(items: Vec<Challenge>) -> Challenges
+        ensures { result ≡ items.items }
+    {
+        Challenges { items }
     }
 
     /// The challenges, lent.

@@ -9,7 +9,7 @@ use std::alloc::Global;
 use std::marker::Model;
 
 // The slots of one coin, in the order of their starts, at most one at a block.
-#[derive(Debug, Drop)]
+#[derive(Drop)]
 pub struct Slots {
     items: Vec<Slot>,
 }

@@ -7,17 +7,17 @@ use Rattle.plasma_base.specs.Causes.{faults_after}
 use Rattle.crash_disk.specs.Disk.{Step, History, content, MayLeave, FaultPlan, LeavesOnly}
 use Rattle.crash_disk.specs.Calls.{WhereTold, IsStill, Course, passed, failed_after, after_course, Made}
 use Rattle.crash_disk.proofs.Calls.{made_from}
-use Rattle.node_journal.specs.Image.{spelled}
-use Rattle.node_journal.specs.Steps.{append_steps}
-use Rattle.node_journal.specs.Journal.{JournalState, Keeps, KeepsWithOrWithout, IsSettled, fresh_journal, with_spare, has_spare, is_fault, Appended, AppendFailed, Appends}
+use Rattle.gate_journal.specs.Image.{spelled}
+use Rattle.gate_journal.specs.Steps.{append_steps}
+use Rattle.gate_journal.specs.Journal.{JournalState, Keeps, KeepsWithOrWithout, IsSettled, fresh_journal, with_spare, has_spare, is_fault, Appended, AppendFailed, Appends}
 use Rattle.node_journal.specs.Notes.{NotesState, KeepsAtAnyMoment, stopped_by, Added, AddFailed, Did}
-use Rattle.node_journal.specs.Life.{Stay}
-use Rattle.node_journal.specs.declared.refusal.JournalRefusal.{JournalRefusal}
-use Rattle.node_journal.specs.declared.refusal.JournalRefusal.TheVariants.{AlreadyMade, NotJournal, RecordTooLong, DeviceFault, Closed, NoMemory}
+use Rattle.gate_journal.specs.Life.{Stay}
+use Rattle.gate_journal.specs.declared.refusal.JournalRefusal.{JournalRefusal}
+use Rattle.gate_journal.specs.declared.refusal.JournalRefusal.TheVariants.{AlreadyMade, NotJournal, RecordTooLong, DeviceFault, Closed, NoMemory}
 use Rattle.node_journal.specs.declared.stop.Stop.{Stop}
 use Rattle.node_journal.specs.declared.stop.Stop.TheVariants.{Closed as StopClosed, NoMemory as StopNoMemory, DeviceFault as StopFault}
-use Rattle.node_journal.proofs.Lives.{in_from}
-use Rattle.node_journal.proofs.Rest.{leaves_now}
+use Rattle.gate_journal.proofs.Lives.{in_from}
+use Rattle.gate_journal.proofs.Rest.{leaves_now}
 use Rattle.lms_sign.specs.Types.{leaf_count}
 use Rattle.hss_keys.specs.declared.seed.HssSeed.{HssSeed}
 use Rattle.hss_keys.specs.declared.entry.Entry.{Entry}

@@ -62,28 +62,12 @@ next_key seed before j key may =
       key_is = (bytes_eq-Decides key (bottom_key seed j)).0 parts.1;
     }
 
-pub key_follows : (seed : HssSeed) (before : List Entry) (j : ℕ) (key : List ℕ) → IsNextKey seed before j key
-    → entry_may_follow seed before (Opens j key) ≡ true
-key_follows seed before j key is = rw (
-  eq-eqb _ _ is.next,
-  lt-ltb _ _ is.leaf,
-  (bytes_eq-Decides key (bottom_key seed j)).1 is.key_is,
-) refl
-
 pub next_leaf : (seed : HssSeed) (before : List Entry) (j q : ℕ) (message : List ℕ)
     → entry_may_follow seed before (Binds j q message) ≡ true → IsNextLeaf seed before j q
 next_leaf seed before j q message may =
     let parts = and_parts _ _ may in
     let front = and_parts _ _ parts.0 in
     record { last = eqb-true _ _ front.0; next = eqb-true _ _ front.1; leaf = ltb-true _ _ parts.1 }
-
-pub leaf_follows : (seed : HssSeed) (before : List Entry) (j q : ℕ) (message : List ℕ)
-    → IsNextLeaf seed before j q → entry_may_follow seed before (Binds j q message) ≡ true
-leaf_follows seed before j q message is = rw (
-  eq-eqb _ _ is.last,
-  eq-eqb _ _ is.next,
-  lt-ltb _ _ is.leaf,
-) refl
 
 -- ---- one more entry
 

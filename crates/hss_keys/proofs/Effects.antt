@@ -1,7 +1,7 @@
 -- What an advance and a bind do by their definitions, in each case.
-use Rattle.std.proofs.Common.{◌≡◌, ◌<◌, ◌≤◌, ◌-◌, ℕ, true, false, List, Some, None, Result, Ok, Err, refl}
+use Rattle.std.proofs.Common.{◌≡◌, ◌<◌, ◌≤◌, ◌-◌, ℕ, true, false, List, Some, Result, Ok, Err, refl}
 use Rattle.std.proofs.lemmas.Bool.{lt-ltb, le-ltb}
-use Rattle.node_journal.specs.Effect.{Effect, only, first_cause}
+use Rattle.node_journal.specs.Effect.{Effect, only}
 use Rattle.lms_sign.specs.Types.{leaf_count}
 use Rattle.hss_keys.specs.declared.seed.HssSeed.{HssSeed}
 use Rattle.hss_keys.specs.declared.entry.Entry.TheVariants.{Opens, Binds}
@@ -9,7 +9,7 @@ use Rattle.hss_keys.specs.declared.refusal.LevelRefusal.{LevelRefusal}
 use Rattle.hss_keys.specs.declared.refusal.LevelRefusal.TheVariants.{LevelOpen, LevelSpent, KeySpent}
 use Rattle.hss_keys.specs.Keys.{bottom_key}
 use Rattle.hss_keys.specs.Entries.{entry_text, entries_of, opened_count, used_in}
-use Rattle.hss_keys.specs.Levels.{advance_causes, advance_effect, bind_effect, bound_of, has_leaf, HssBoundState}
+use Rattle.hss_keys.specs.Levels.{advance_effect, bind_effect, bound_of, has_leaf, HssBoundState}
 
 module _ (seed : HssSeed) (records : List (List ℕ)) where
   pub advance-open : has_leaf seed (entries_of records) ≡ true
@@ -32,11 +32,6 @@ module _ (seed : HssSeed) (records : List (List ℕ)) where
       advance_effect seed records ≡ effect)
   unfolding advance_effect
   advance-goes has less = rw (has, lt-ltb (opened_count (entries_of records)) (leaf_count seed.top) less) refl
-
-  pub no_cause : has_leaf seed (entries_of records) ≡ false
-      → opened_count (entries_of records) < leaf_count seed.top
-      → first_cause (advance_causes seed (entries_of records)) ≡ None
-  no_cause has less = rw (has, lt-ltb (opened_count (entries_of records)) (leaf_count seed.top) less) refl
 
   pub bind-spent : (message : List ℕ) → has_leaf seed (entries_of records) ≡ false
       → bind_effect seed records message

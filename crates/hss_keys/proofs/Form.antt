@@ -4,7 +4,7 @@ use Rattle.std.specs.Int.{w32, to_be_bytes}
 use Rattle.std.proofs.lemmas.Bool.{cases_Bool}
 use Rattle.std.proofs.lemmas.List.{take-append-drop}
 use Rattle.std.proofs.Math.Seq.{drop-cons}
-use Rattle.node_journal.specs.Image.{spelled, spelled_record, spelled_records}
+use Rattle.gate_journal.specs.Image.{spelled, spelled_record, spelled_records}
 use Rattle.hss_keys.specs.declared.seed.HssSeed.{HssSeed}
 use Rattle.hss_keys.specs.Entries.{entries_of}
 use Rattle.hss_keys.specs.Form.{level_records, may_follow, records_behind}

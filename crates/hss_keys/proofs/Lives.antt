@@ -10,13 +10,13 @@ use Rattle.crash_disk.specs.Disk.{content}
 use Rattle.crash_disk.specs.Calls.{with_made}
 use Rattle.crash_disk.specs.Outcomes.{image_after}
 use Rattle.crash_disk.proofs.Left.{content_may_be_left}
-use Rattle.node_journal.specs.Image.{most, journal_in, spelled}
-use Rattle.node_journal.specs.Steps.{append_steps}
-use Rattle.node_journal.specs.Journal.{Keeps}
-use Rattle.node_journal.specs.JournalLaws.{is_added}
-use Rattle.node_journal.specs.Life.{records_in, Continue}
-use Rattle.node_journal.proofs.Lives.{in_keeps, records_stay, made_journals_stay}
-use Rattle.node_journal.proofs.Crash.{stopped_appends}
+use Rattle.gate_journal.specs.Image.{most, journal_in, spelled}
+use Rattle.gate_journal.specs.Steps.{append_steps}
+use Rattle.gate_journal.specs.Journal.{Keeps}
+use Rattle.gate_journal.specs.Laws.{is_added}
+use Rattle.gate_journal.specs.Life.{records_in, Continue}
+use Rattle.gate_journal.proofs.Lives.{in_keeps, records_stay, made_journals_stay}
+use Rattle.gate_journal.proofs.Crash.{stopped_appends}
 use Rattle.hss_keys.specs.declared.seed.HssSeed.{HssSeed}
 use Rattle.hss_keys.specs.Entries.{entry_in, entry_text, entries_of, key_in, keys_of, message_at, message_under, messages_under, key_at}
 use Rattle.hss_keys.specs.Form.{are_level_records, level_records, level_records_in, level_records_read, may_follow}

@@ -4,12 +4,12 @@ use Rattle.std.specs.Result.{result_ok}
 use Rattle.plasma_base.specs.Causes.{faults_after}
 use Rattle.crash_disk.specs.Disk.{History, content, FaultPlan}
 use Rattle.crash_disk.specs.Calls.{WhereTold, IsStill, passed, stopped_after, Made}
-use Rattle.node_journal.specs.Image.{journal_in}
-use Rattle.node_journal.specs.Steps.{open_steps}
-use Rattle.node_journal.specs.Journal.{JournalState, Keeps, IsSettled, RefusesOpen, is_device_fault, fresh_journal, with_spare}
+use Rattle.gate_journal.specs.Image.{journal_in}
+use Rattle.gate_journal.specs.Steps.{open_steps}
+use Rattle.gate_journal.specs.Journal.{JournalState, Keeps, IsSettled, RefusesOpen, is_device_fault, fresh_journal, with_spare}
 use Rattle.node_journal.specs.Notes.{Opened, RefusesRole}
-use Rattle.node_journal.specs.declared.refusal.JournalRefusal.{JournalRefusal}
-use Rattle.node_journal.specs.declared.refusal.JournalRefusal.TheVariants.{AlreadyMade, NotJournal, RecordTooLong, DeviceFault, Closed, NoMemory}
+use Rattle.gate_journal.specs.declared.refusal.JournalRefusal.{JournalRefusal}
+use Rattle.gate_journal.specs.declared.refusal.JournalRefusal.TheVariants.{AlreadyMade, NotJournal, RecordTooLong, DeviceFault, Closed, NoMemory}
 use Rattle.lms_sign.specs.Types.{leaf_count}
 use Rattle.hss_keys.specs.declared.seed.HssSeed.{HssSeed}
 use Rattle.hss_keys.specs.Keys.{hss_key_of}

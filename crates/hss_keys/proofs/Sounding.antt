@@ -2,7 +2,7 @@
 use Rattle.std.proofs.Common.{◌≡◌, ◌≤◌, ◌+◌, ℕ, true, false, List, [], ◌∷◌, ◌++◌, Option, Result, Ok, Err, refl, sym, ◌∙◌, ap, arith}
 use Rattle.std.specs.Result.{OnErr, OnOk}
 use Rattle.crash_disk.specs.Disk.{History}
-use Rattle.node_journal.specs.Journal.{JournalState, with_spare}
+use Rattle.gate_journal.specs.Journal.{JournalState, with_spare}
 use Rattle.node_journal.specs.declared.stop.Stop.{Stop}
 use Rattle.lms_sign.specs.Types.{leaf_count}
 use Rattle.hss_keys.specs.declared.seed.HssSeed.{HssSeed}

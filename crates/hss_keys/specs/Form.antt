@@ -5,7 +5,7 @@ use Rattle.std.specs.Option.{option_map_or}
 use Rattle.std.specs.Result.{is_ok}
 use Rattle.std.specs.Str.{bytes_eq}
 use Rattle.lms_sign.specs.Types.{leaf_count}
-use Rattle.node_journal.specs.Image.{journal_in, spelled}
+use Rattle.gate_journal.specs.Image.{journal_in, spelled}
 use Rattle.hss_keys.specs.declared.seed.HssSeed.{HssSeed}
 use Rattle.hss_keys.specs.declared.entry.Entry.{Entry}
 use Rattle.hss_keys.specs.declared.entry.Entry.TheVariants.{Opens, Binds}

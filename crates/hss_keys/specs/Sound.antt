@@ -5,11 +5,11 @@ use Rattle.crash_disk.specs.Calls.{WhereTold}
 use Rattle.lms_sign.specs.declared.secret.Secret.{Secret}
 use Rattle.lms_sign.specs.Types.{is_supported, leaf_count}
 use Rattle.lms_sign.specs.Valid.{types_of}
-use Rattle.node_journal.specs.Image.{spelled}
-use Rattle.node_journal.specs.Journal.{JournalState, IsSettled}
-use Rattle.node_journal.specs.Life.{Stay}
-use Rattle.node_journal.specs.declared.refusal.JournalRefusal.{JournalRefusal}
-use Rattle.node_journal.specs.declared.refusal.JournalRefusal.TheVariants.{NotJournal, NoMemory}
+use Rattle.gate_journal.specs.Image.{spelled}
+use Rattle.gate_journal.specs.Journal.{JournalState, IsSettled}
+use Rattle.gate_journal.specs.Life.{Stay}
+use Rattle.gate_journal.specs.declared.refusal.JournalRefusal.{JournalRefusal}
+use Rattle.gate_journal.specs.declared.refusal.JournalRefusal.TheVariants.{NotJournal, NoMemory}
 use Rattle.hss_keys.specs.declared.seed.HssSeed.{HssSeed}
 use Rattle.hss_keys.specs.Keys.{top_secret, hss_key_of}
 use Rattle.hss_keys.specs.Entries.{entries_of, keys_of, used_in}

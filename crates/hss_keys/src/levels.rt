@@ -2,8 +2,8 @@ ghost use Rattle.std.specs.Prelude.{◌≡◌, ◌≢◌, ◌<◌, ◌≤◌, �
 ghost use Rattle.std.specs.Option.{IfSome};
 ghost use Rattle.crash_disk.specs.Calls.{WhereTold, IsStill};
 ghost use Rattle.node_journal.specs.Effect.{first_cause};
-ghost use Rattle.node_journal.specs.Journal.{IsSettled, with_spare};
-ghost use Rattle.node_journal.specs.Life.{Stay};
+ghost use Rattle.gate_journal.specs.Journal.{IsSettled, with_spare};
+ghost use Rattle.gate_journal.specs.Life.{Stay};
 ghost use Rattle.node_journal.specs.Notes.{Did, Opened, RefusesRole, stopped_by};
 ghost use Rattle.lms_sign.specs.Types.{leaf_count};
 ghost use Rattle.hss_keys.specs.Entries.{entries_of, entry_text, key_at, opened_count, used_in, IsEntry};
@@ -19,7 +19,8 @@ use super::records::LevelRecords;
 use super::refusal::LevelRefusal;
 use super::secret::HssSecret;
 use crash_disk::Disk;
-use node_journal::{Journal, JournalRefusal, Returned, Stop};
+use gate_journal::{Journal, JournalRefusal, Returned};
+use node_journal::Stop;
 use plasma_base::Bytes;
 use std::alloc::Global;
 use std::marker::Model;
@@ -215,7 +216,7 @@ impl<D: Disk> Levels<D> {
         if top_leaf == secret.top_leaves() {
             return Err(LevelRefusal::KeySpent { used: top_leaf });
         }
-        let key = secret.bottom(self.alloc, top_leaf)?.public();
+        let key = secret.bottom(top_leaf)?.public();
         let entry = Entry::Opens { top_leaf, key };
         match self.open_level(&entry) {
             Ok(()) => Ok(top_leaf),

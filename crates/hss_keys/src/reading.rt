@@ -7,7 +7,7 @@ ghost use Rattle.hss_keys.specs.Sound.{IsFormRefusal};
 use super::entry::{Body, Entry, entry_in};
 use super::records::LevelRecords;
 use super::secret::HssSecret;
-use node_journal::JournalRefusal;
+use gate_journal::JournalRefusal;
 use plasma_base::{Bytes, NoMemory};
 use std::alloc::Global;
 

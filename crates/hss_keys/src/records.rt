@@ -187,7 +187,7 @@ impl LevelRecords {
                 if *top_leaf != self.opened() || *top_leaf >= self.top_leaves() {
                     return Ok(false);
                 }
-                let derived = secret.bottom(alloc, *top_leaf)?.public();
+                let derived = secret.bottom(*top_leaf)?.public();
                 Ok(key.as_slice() == derived.as_slice())
             }
             Entry::Binds { top_leaf, leaf, .. } => Ok(

@@ -21,6 +21,7 @@ const SEED_ELEMENT: u16 = 0xfffb;
 /// made from.
 #[derive(Drop)]
 pub struct HssSecret {
+    alloc: Global,
     seed: HssSeed,
     key: SecretKey,
 }
@@ -73,7 +74,7 @@ impl HssSecret {
             id,
             seed,
         };
-        Ok(HssSecret { seed, key })
+        Ok(HssSecret { alloc, seed, key })
     }
 
     /// The public key: the number of levels, 2, and the top key, 60 bytes (RFC 8554, section 6.1).
@@ -111,14 +112,14 @@ impl HssSecret {
     }
 
     /// The bottom key that a leaf of the top key signs. Want of memory is its one refusal.
-    pub fn bottom(&self, alloc: Global, j: u32) -> Result<SecretKey, NoMemory>
+    pub fn bottom(&self, j: u32) -> Result<SecretKey, NoMemory>
         requires { j < leaf_count self.now.top }
         ensures { IfOk result (λ key. key ≡ bottom_secret self.now j) }
     {
         let mut id = [0; 16];
         id.copy_from_slice(&derived(&self.seed, j, ID_ELEMENT)[..16]);
         SecretKey::make(
-            alloc,
+            self.alloc,
             self.seed.bottom,
             id,
             derived(&self.seed, j, SEED_ELEMENT),

@@ -5,11 +5,11 @@ use Rattle.std.specs.Result.{IfErr}
 use Rattle.plasma_base.specs.Causes.{faults_after}
 use Rattle.crash_disk.specs.Disk.{History, content, MayLeave, FaultPlan, LeavesOnly}
 use Rattle.crash_disk.specs.Calls.{WhereTold, failed_after, after_course}
-use Rattle.node_journal.specs.Journal.{Keeps, KeepsWithOrWithout, IsSettled}
+use Rattle.gate_journal.specs.Journal.{Keeps, KeepsWithOrWithout, IsSettled}
 use Rattle.node_journal.specs.Notes.{NotesState, note_steps, Added, AddFailed, Did, stopped_by}
 use Rattle.node_journal.specs.declared.stop.Stop.{Stop}
 use Rattle.node_journal.specs.declared.stop.Stop.TheVariants.{Closed, NoMemory, DeviceFault}
-use Rattle.node_journal.proofs.Rest.{leaves_now}
+use Rattle.gate_journal.proofs.Rest.{leaves_now}
 use Rattle.hss_keys.specs.declared.entry.Entry.{Entry}
 use Rattle.hss_keys.specs.Entries.{entry_text}
 use Rattle.run_endings.specs.declared.status.Status.{Status}

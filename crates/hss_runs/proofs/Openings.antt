@@ -4,9 +4,9 @@ use Rattle.std.specs.Option.{option_map}
 use Rattle.crash_disk.specs.Disk.{History, content, FaultPlan}
 use Rattle.crash_disk.specs.Calls.{stopped_after, after_course, Made}
 use Rattle.crash_disk.proofs.Calls.{made_stop}
-use Rattle.node_journal.specs.Steps.{open_steps}
+use Rattle.gate_journal.specs.Steps.{open_steps}
 use Rattle.node_journal.specs.Notes.{RefusesRole}
-use Rattle.node_journal.specs.declared.refusal.JournalRefusal.TheVariants.{NoMemory}
+use Rattle.gate_journal.specs.declared.refusal.JournalRefusal.TheVariants.{NoMemory}
 
 module _ {D : Type 0} (told : D → Option History) (plan : D → Option FaultPlan) (faults : D → ℕ) (disk : D) where
   -- an opening that made no device call

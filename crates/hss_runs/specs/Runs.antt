@@ -2,11 +2,11 @@
 use Rattle.std.specs.Prelude.{◌≡◌, ◌⊎◌, ℕ, List, [], ◌∷◌, ◌++◌, map, take, Option, Some, None}
 use Rattle.crash_disk.specs.Disk.{History, FaultPlan, MayLeave}
 use Rattle.crash_disk.specs.Calls.{WhereTold}
-use Rattle.node_journal.specs.declared.refusal.JournalRefusal.{JournalRefusal}
+use Rattle.gate_journal.specs.declared.refusal.JournalRefusal.{JournalRefusal}
 use Rattle.node_journal.specs.declared.stop.Stop.{Stop}
 use Rattle.node_journal.specs.declared.stop.Stop.TheVariants.{Closed, NoMemory as StopNoMemory, DeviceFault}
 use Rattle.node_journal.specs.Role.{role_in}
-use Rattle.node_journal.specs.Journal.{Keeps, IsSettled}
+use Rattle.gate_journal.specs.Journal.{Keeps, IsSettled}
 use Rattle.node_journal.specs.Notes.{NotesState, Added, AddFailed, Opened, RefusesRole}
 use Rattle.run_endings.specs.declared.status.Status.{Status}
 use Rattle.run_endings.specs.declared.status.Status.TheVariants.{NoMemory}

@@ -64,7 +64,7 @@ impl Answer {
         ensures signature { IfOk result (λ answer.
             vec_len answer.signature ≡ hss_signature_length secret.now) }
     {
-        let bottom = secret.bottom(alloc, next.top_leaf)?;
+        let bottom = secret.bottom(next.top_leaf)?;
         let length = secret.signature_len();
         let signature = vec![in alloc; 0u8; length]?;
         let digits = vec![in alloc; 0u8; 2 * length]?;

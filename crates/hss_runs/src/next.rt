@@ -6,7 +6,7 @@ use crash_disk::Disk;
 use hss_keys::{HssSecret, Levels};
 
 /// The leaf that signs next.
-#[derive(Debug, Clone, Copy)]
+#[derive(Clone, Copy)]
 pub struct NextLeaf {
     /// The number of the top leaf that signs its bottom key, from 0.
     pub top_leaf: u32,

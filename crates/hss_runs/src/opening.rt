@@ -9,8 +9,9 @@ ghost use Rattle.hss_runs.specs.Runs.{OpensSigner, RefusesLeaves, RefusesSigner}
 use super::identity::{secret_of, seed_in};
 use super::role::SignerRole;
 use crash_disk::Disk;
+use gate_journal::{JournalRefusal, Returned};
 use hss_keys::{HssSecret, Levels};
-use node_journal::{JournalRefusal, Notes, Returned};
+use node_journal::Notes;
 use plasma_base::{Bytes, NoMemory};
 use std::alloc::Global;
 

@@ -7,14 +7,14 @@ use Rattle.std.proofs.lemmas.List.{append-nil}
 use Rattle.crash_disk.specs.Disk.{Step, History, content, MayLeave, FaultPlan, LeavesOnly, after_calls}
 use Rattle.crash_disk.specs.Calls.{WhereTold, Course, passed, failed_after, stopped_after, after_course, Made}
 use Rattle.crash_disk.proofs.Plans.{passing-zero, after_calls-zero}
-use Rattle.node_journal.specs.Image.{spelled}
-use Rattle.node_journal.specs.Steps.{append_steps, open_steps}
-use Rattle.node_journal.specs.Journal.{JournalState, Keeps, KeepsWithOrWithout, IsSettled, fresh_journal, with_spare, has_spare, is_fault, Appended, AppendFailed, Appends}
-use Rattle.node_journal.specs.Life.{Stay}
-use Rattle.node_journal.specs.declared.refusal.JournalRefusal.{JournalRefusal}
-use Rattle.node_journal.specs.declared.refusal.JournalRefusal.TheVariants.{AlreadyMade, NotJournal, RecordTooLong, DeviceFault, Closed, NoMemory}
-use Rattle.node_journal.proofs.Lives.{in_from}
-use Rattle.node_journal.proofs.Rest.{leaves_now}
+use Rattle.gate_journal.specs.Image.{spelled}
+use Rattle.gate_journal.specs.Steps.{append_steps, open_steps}
+use Rattle.gate_journal.specs.Journal.{JournalState, Keeps, KeepsWithOrWithout, IsSettled, fresh_journal, with_spare, has_spare, is_fault, Appended, AppendFailed, Appends}
+use Rattle.gate_journal.specs.Life.{Stay}
+use Rattle.gate_journal.specs.declared.refusal.JournalRefusal.{JournalRefusal}
+use Rattle.gate_journal.specs.declared.refusal.JournalRefusal.TheVariants.{AlreadyMade, NotJournal, RecordTooLong, DeviceFault, Closed, NoMemory}
+use Rattle.gate_journal.proofs.Lives.{in_from}
+use Rattle.gate_journal.proofs.Rest.{leaves_now}
 use Rattle.leaf_journal.specs.Records.{are_leaf_records, every_message, leaf_records, may_follow}
 use Rattle.leaf_journal.specs.Leaves.{LeavesState, leaves_of, KeepsAtAnyMoment, Adds, FailsToAdd}
 use Rattle.leaf_journal.specs.Sound.{LeafRecordsState, IsSound}

@@ -6,7 +6,7 @@ use Rattle.std.proofs.lemmas.Bool.{cases_Bool, eqb-true, ltb-true, leb-true, and
 use Rattle.std.proofs.lemmas.List.{take-append-drop}
 use Rattle.std.proofs.Math.Seq.{drop-cons}
 use Rattle.std.proofs.lemmas.Slice.Eq.{bytes_eq-Decides}
-use Rattle.node_journal.specs.Image.{spelled, spelled_record, spelled_records}
+use Rattle.gate_journal.specs.Image.{spelled, spelled_record, spelled_records}
 use Rattle.leaf_journal.specs.Records.{every_message, first_length, has_number, is_marked, is_marker, leaf_records, leaf_records_of, may_follow, may_follow_of, messages_of, records_behind_of}
 use Rattle.leaf_journal.proofs.Messages.{messages-append, messages-count, marker_length}
 

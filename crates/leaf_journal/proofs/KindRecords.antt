@@ -5,7 +5,7 @@ use Rattle.std.specs.List.{All}
 use Rattle.std.proofs.lemmas.Bool.{cases_Bool}
 use Rattle.std.proofs.lemmas.List.{take_at, drop_at}
 use Rattle.std.proofs.lemmas.List.Elements.{All-drop, All-head, All-nil, All-push, All-take}
-use Rattle.node_journal.specs.Image.{journal_in}
+use Rattle.gate_journal.specs.Image.{journal_in}
 use Rattle.leaf_journal.specs.Records.{every_message, has_number, is_marked, is_marker, leaf_records, leaf_records_of, leaf_records_read, leaf_records_read_of, may_follow, may_follow_of, messages_of, records_behind_of, MessagesPass}
 use Rattle.leaf_journal.specs.Laws.{KindRecords}
 use Rattle.leaf_journal.proofs.Messages.{messages-append}

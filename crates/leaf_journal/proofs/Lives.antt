@@ -8,13 +8,13 @@ use Rattle.crash_disk.specs.Disk.{content}
 use Rattle.crash_disk.specs.Calls.{with_made}
 use Rattle.crash_disk.specs.Outcomes.{image_after}
 use Rattle.crash_disk.proofs.Left.{content_may_be_left}
-use Rattle.node_journal.specs.Image.{most, journal_in, spelled}
-use Rattle.node_journal.specs.Steps.{append_steps}
-use Rattle.node_journal.specs.Journal.{Keeps}
-use Rattle.node_journal.specs.JournalLaws.{is_added}
-use Rattle.node_journal.specs.Life.{records_in, Continue}
-use Rattle.node_journal.proofs.Lives.{in_keeps, records_stay, made_journals_stay}
-use Rattle.node_journal.proofs.Crash.{stopped_appends}
+use Rattle.gate_journal.specs.Image.{most, journal_in, spelled}
+use Rattle.gate_journal.specs.Steps.{append_steps}
+use Rattle.gate_journal.specs.Journal.{Keeps}
+use Rattle.gate_journal.specs.Laws.{is_added}
+use Rattle.gate_journal.specs.Life.{records_in, Continue}
+use Rattle.gate_journal.proofs.Lives.{in_keeps, records_stay, made_journals_stay}
+use Rattle.gate_journal.proofs.Crash.{stopped_appends}
 use Rattle.leaf_journal.specs.Records.{are_leaf_records, binding_record, every_message, is_marked, leaf_records, leaf_records_in, leaf_records_read, marker, messages_of}
 use Rattle.leaf_journal.specs.Laws.{ALeafHasOneMessage, BoundMessagesStay, MadeJournalsStay as LeavesStay, StoppedBinds, StoppedMigrations, life_after}
 use Rattle.leaf_journal.proofs.Messages.{messages-append}

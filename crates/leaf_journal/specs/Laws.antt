@@ -7,11 +7,11 @@ use Rattle.crash_disk.specs.Disk.{History, content, MayLeave}
 use Rattle.crash_disk.specs.Calls.{with_made}
 use Rattle.crash_disk.specs.Outcomes.{image_after, HasPattern}
 use Rattle.crash_disk.specs.declared.outcome.Outcome.{Outcome}
-use Rattle.node_journal.specs.Image.{spelled}
-use Rattle.node_journal.specs.Steps.{append_steps}
-use Rattle.node_journal.specs.Journal.{IsSettled}
-use Rattle.node_journal.specs.JournalLaws.{is_added}
-use Rattle.node_journal.specs.Life.{Event, Life, shut, after_events, MayAllCome, Continue, Stay}
+use Rattle.gate_journal.specs.Image.{spelled}
+use Rattle.gate_journal.specs.Steps.{append_steps}
+use Rattle.gate_journal.specs.Journal.{IsSettled}
+use Rattle.gate_journal.specs.Laws.{is_added}
+use Rattle.gate_journal.specs.Life.{Event, Life, shut, after_events, MayAllCome, Continue, Stay}
 use Rattle.leaf_journal.specs.Records.{are_leaf_records, binding_record, is_marked, leaf_records, leaf_records_in, leaf_records_in_of, marker, MayBind, MessagesPass, messages_of}
 
 -- the life of a journal of so many leaves after events, the newest first, from a disk on which it isn't open

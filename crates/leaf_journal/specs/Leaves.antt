@@ -4,9 +4,9 @@ use Rattle.crash_disk.specs.Disk.{History, FaultPlan, LeavesOnly}
 use Rattle.crash_disk.specs.Calls.{WhereTold, passed, failed_after, Made}
 use Rattle.lms_sign.specs.Types.{leaf_count}
 use Rattle.lms_sign.specs.Valid.{types_of}
-use Rattle.node_journal.specs.Image.{spelled}
-use Rattle.node_journal.specs.Steps.{append_steps}
-use Rattle.node_journal.specs.Journal.{KeepsWithOrWithout, IsSettled}
+use Rattle.gate_journal.specs.Image.{spelled}
+use Rattle.gate_journal.specs.Steps.{append_steps}
+use Rattle.gate_journal.specs.Journal.{KeepsWithOrWithout, IsSettled}
 use Rattle.leaf_journal.specs.declared.refusal.BindRefusal.{BindRefusal}
 use Rattle.leaf_journal.specs.declared.refusal.BindRefusal.TheVariants.{KeySpent, DeviceFault, Closed}
 use Rattle.leaf_journal.specs.declared.refusal.MigrateRefusal.{MigrateRefusal}

@@ -3,9 +3,9 @@ use Rattle.std.specs.Prelude.{◌≡◌, ℕ, Bool, false, nat_lt, if◌then◌e
 use Rattle.plasma_base.specs.Causes.{faults_after}
 use Rattle.crash_disk.specs.Disk.{History, content, FaultPlan}
 use Rattle.crash_disk.specs.Calls.{WhereTold, passed, Made}
-use Rattle.node_journal.specs.Steps.{open_steps}
-use Rattle.node_journal.specs.Journal.{IsSettled, RefusesOpen, is_device_fault}
-use Rattle.node_journal.specs.declared.refusal.JournalRefusal.{JournalRefusal}
+use Rattle.gate_journal.specs.Steps.{open_steps}
+use Rattle.gate_journal.specs.Journal.{IsSettled, RefusesOpen, is_device_fault}
+use Rattle.gate_journal.specs.declared.refusal.JournalRefusal.{JournalRefusal}
 use Rattle.node_journal.specs.Notes.{NotesState, Did, Opened, RefusesRole}
 use Rattle.node_journal.specs.declared.stop.Stop.{Stop}
 use Rattle.node_journal.specs.declared.stop.Stop.TheVariants.{Closed as StopClosed, DeviceFault as StopFault}

@@ -5,7 +5,7 @@ use Rattle.std.specs.Result.{is_ok}
 use Rattle.std.specs.List.{All, list_any}
 use Rattle.std.specs.Str.{bytes_eq}
 use Rattle.std.specs.Int.{w32, to_be_bytes}
-use Rattle.node_journal.specs.Image.{journal_in, spelled}
+use Rattle.gate_journal.specs.Image.{journal_in, spelled}
 
 -- the bytes of a message before the marker, and the most bytes of one behind it
 abbrev pub first_length : ℕ

@@ -2,11 +2,11 @@
 use Rattle.std.specs.Prelude.{◌≡◌, ◌<◌, ◌≤◌, ℕ, zero, suc, ◌+◌, Bool, false, if◌then◌else◌, List, [], ◌∷◌, length, Option, Ok, Err}
 use Rattle.crash_disk.specs.Disk.{History}
 use Rattle.crash_disk.specs.Calls.{WhereTold}
-use Rattle.node_journal.specs.Image.{spelled}
-use Rattle.node_journal.specs.Journal.{JournalState, IsSettled}
-use Rattle.node_journal.specs.Life.{Stay}
-use Rattle.node_journal.specs.declared.refusal.JournalRefusal.{JournalRefusal}
-use Rattle.node_journal.specs.declared.refusal.JournalRefusal.TheVariants.{NotJournal, NoMemory}
+use Rattle.gate_journal.specs.Image.{spelled}
+use Rattle.gate_journal.specs.Journal.{JournalState, IsSettled}
+use Rattle.gate_journal.specs.Life.{Stay}
+use Rattle.gate_journal.specs.declared.refusal.JournalRefusal.{JournalRefusal}
+use Rattle.gate_journal.specs.declared.refusal.JournalRefusal.TheVariants.{NotJournal, NoMemory}
 use Rattle.leaf_journal.specs.Records.{are_leaf_records, is_marker, leaf_records, leaf_records_of}
 use Rattle.leaf_journal.specs.Leaves.{leaves_of}
 

@@ -17,13 +17,6 @@ use Rattle.line_forms.specs.Tokens.{is_decimal, number_in, number_text}
 
 -- ---- reading
 
--- a word of two bytes or more
-pub is_decimal-long : (word : List ℕ) → 2 ≤ length word
-    → is_decimal word ≡ (not (get_or word 0 0 == 48) && list_all is_ascii_digit word)
-is_decimal-long [] h = absurd (omega arith)
-is_decimal-long (digit ∷ []) h = absurd (omega arith)
-is_decimal-long (first ∷ second ∷ rest) h = refl
-
 and_true : (b : Bool) → b ≡ true → (b && true) ≡ true
 and_true b h = rw h refl
 

@@ -10,28 +10,28 @@ pub const KEY_BYTES: usize = 56;
 pub const OWNER_BYTES: usize = 64;
 
 /// A key token or a to token: the bytes of a key or of an owner, or the name of who has it.
-#[derive(Debug, Drop)]
+#[derive(Drop)]
 pub enum HexOrName {
     Hex(Bytes),
     Name(Bytes),
 }
 
 /// A bytes token: a hex, or the mail item of a line, spelled `#` and the line's number.
-#[derive(Debug, Drop)]
+#[derive(Drop)]
 pub enum HexOrItem {
     Hex(Bytes),
     Item(u64),
 }
 
 /// A shown token: the deposit, spelled `-`, or bytes.
-#[derive(Debug, Drop)]
+#[derive(Drop)]
 pub enum ShownToken {
     Deposit,
     Bytes(HexOrItem),
 }
 
 /// An outcome: what a crash leaves of a disk. The bytes of a mix aren't empty.
-#[derive(Debug, Drop)]
+#[derive(Drop)]
 pub enum OutcomeToken {
     /// `old`
     Old,
@@ -42,7 +42,7 @@ pub enum OutcomeToken {
 }
 
 /// The first word of an outcome.
-#[derive(Debug, Clone, Copy, PartialEq, Eq)]
+#[derive(Clone, Copy, PartialEq, Eq)]
 pub enum OutcomeName {
     Old,
     New,

@@ -13,7 +13,7 @@ use thiserror::Error;
 pub struct BadType;
 
 /// A public key with supported types, which contracts see as its 56 bytes (RFC 8554, section 5.3).
-#[derive(Debug, Clone, Copy)]
+#[derive(Clone, Copy)]
 pub struct PublicKey {
     bytes: [u8; 56],
 }

@@ -5,7 +5,7 @@ ghost use Rattle.lms_sign.specs.Types.{chains, height, is_supported, leaf_count,
 /// Keys have a pair that is supported: an LMS type 5 or 6, which are LMS_SHA256_M32_H5 and
 /// LMS_SHA256_M32_H10, with a one-time type 3 or 4, which are LMOTS_SHA256_N32_W4 and
 /// LMOTS_SHA256_N32_W8.
-#[derive(Debug, Clone, Copy, PartialEq, Eq)]
+#[derive(Clone, Copy, PartialEq, Eq)]
 pub struct LmsTypes {
     /// The LMS type.
     pub lms: u32,

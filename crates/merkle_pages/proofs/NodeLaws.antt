@@ -1,6 +1,5 @@
 -- The nodes that a tree keeps are the digests of the parts of its map.
 use Rattle.std.proofs.Common.{◌≡◌, ◌≢◌, ℕ, suc, ◌/◌, ◌^◌, ◌<◌, List, [], Option, slice_index_or, refl, sym, ap, ◌∙◌, inl, inr, arith}
-use Rattle.std.specs.HashMap.{HashMap}
 use Rattle.std.specs.Int.Bits.{bit_xor}
 use Rattle.std.specs.Option.{unwrap_or}
 use Rattle.std.specs.Str.{bytes_eq}
@@ -11,11 +10,8 @@ use Rattle.sparse_merkle.specs.TreeDigest.{node_string, subtree_digest, default_
 use Rattle.sparse_merkle.specs.declared.tree.Entry.{Entry}
 use Rattle.sparse_merkle.proofs.TreeLaws.{default_digest-suc}
 use Rattle.merkle_pages.specs.Nodes.{part_at, KeepsDefaults, KeepsNodes, IsClear, KeepsNode, AddsPart}
-use Rattle.merkle_pages.specs.Kept.{node_in, KeepsTree}
-use Rattle.merkle_pages.specs.declared.kept.KeptPages.{KeptPages}
-use Rattle.merkle_pages.specs.Pages.{name_at, place_at, kept_digest, node_at, PutsNode}
-use Rattle.merkle_pages.specs.declared.pages.PageName.{PageName}
-use Rattle.merkle_pages.proofs.PageLaws.{place-level, prefix-from, name_at-prefix, place_at-prefix, page_node-none}
+use Rattle.merkle_pages.specs.Pages.{Paged, name_at, place_at, kept_digest, node_at, PutsAt}
+use Rattle.merkle_pages.proofs.PageLaws.{name_at-prefix, place_at-prefix, page_node-none, puts-elsewhere}
 use Rattle.merkle_pages.proofs.PartLaws.{part_at-same, part_at-whole, part_at-none, prefix-up, halves, sibling-apart, IsSibling-xor}
 
 pub KeepsDefaults-made : (dig : List ℕ → List ℕ) (below : List (List ℕ)) (root : List ℕ) → AreDefaults dig below
@@ -32,49 +28,40 @@ kept-read digest default = elim (cases_Bool (bytes_eq digest default)) [
 ]
 
 -- what stands for the siblings of a coin's way up are the digests of their parts
-pub siblings-kept : (dig : List ℕ → List ℕ) (entries : List Entry) (root : List ℕ) (kept : KeptPages)
-    (defaults siblings : List (List ℕ)) (coin : ℕ) → coin < 2 ^ 64 → KeepsTree dig entries root kept
+pub siblings-kept : (dig : List ℕ → List ℕ) (entries : List Entry) (root : List ℕ) (pages : Paged)
+    (defaults siblings : List (List ℕ)) (coin : ℕ) → coin < 2 ^ 64 → KeepsNodes dig entries root pages
     → AreDefaults dig defaults
     → ((k : ℕ) → k < 64 → slice_index_or siblings k []
-    ≡ unwrap_or (node_in k (bit_xor coin (2 ^ k)) kept) (slice_index_or defaults k []))
+    ≡ unwrap_or (node_at k (bit_xor coin (2 ^ k)) pages) (slice_index_or defaults k []))
     → (k : ℕ) → k < 64
     → slice_index_or siblings k [] ≡ subtree_digest dig k (part_at k (bit_xor coin (2 ^ k)) entries)
-siblings-kept dig entries root kept defaults siblings coin lt h are is k in_tree =
+siblings-kept dig entries root pages defaults siblings coin lt h are is k in_tree =
     is k in_tree
-    ∙ ap (λ (d : List ℕ). unwrap_or (node_in k (bit_xor coin (2 ^ k)) kept) d) (are k in_tree)
+    ∙ ap (λ (d : List ℕ). unwrap_or (node_at k (bit_xor coin (2 ^ k)) pages) d) (are k in_tree)
     ∙ h.nodes k (bit_xor coin (2 ^ k)) in_tree (xor_lt 64 coin (2 ^ k) lt (pow_below k 64 in_tree))
 
-module _ {S T : Type 0} (dig : List ℕ → List ℕ) (entries : List Entry) where
-  -- pages that keep the nodes of a tree keep them in memory of their own
-  pub tree-kept : (root : List ℕ) (pages : HashMap PageName (HashMap ℕ (List ℕ) S) T) (kept : KeptPages)
-      → KeepsNodes dig entries root pages
-      → ((level coin : ℕ) → node_in level coin kept ≡ node_at level coin pages) → KeepsTree dig entries root kept
-  tree-kept root pages kept h same = record {
-    map = h.map;
-    root_is = h.root_is;
-    nodes = λ level coin in_tree lt.
-        ap (λ (o : Option (List ℕ)). unwrap_or o (default_digest dig level)) (same level coin)
-        ∙ h.nodes level coin in_tree lt;
-  }
+pub node-root : (dig : List ℕ → List ℕ) (entries : List Entry) (root : List ℕ) (pages : Paged) (level coin : ℕ)
+    → coin < 2 ^ 64 → level ≡ 64 → KeepsNodes dig entries root pages
+    → root ≡ subtree_digest dig level (part_at level coin entries)
+unfolding root_of
+node-root dig entries root pages level coin lt top h = rw (top, part_at-whole coin entries lt h.map.small) h.root_is
 
+module _ (dig : List ℕ → List ℕ) (entries : List Entry) where
   -- ---- one node
 
   pub KeepsNode-put : (level coin : ℕ) (digest default : List ℕ)
-      (old new : HashMap PageName (HashMap ℕ (List ℕ) S) T)
-      → PutsNode (name_at level coin) (place_at level coin) (kept_digest digest default) old new
+      (old new : Paged)
+      → PutsAt level coin (kept_digest digest default) old new
       → default ≡ default_digest dig level → KeepsNode dig level coin digest old new
   KeepsNode-put level coin digest default old new puts is = record {
     here = λ lt. ap (λ (o : Option (List ℕ)). unwrap_or o (default_digest dig level)) puts.here
         ∙ ap (λ (d : List ℕ). unwrap_or (kept_digest digest default) d) (sym is)
         ∙ kept-read digest default;
-    elsewhere = λ k other in_tree apart. puts.elsewhere (name_at k other) (place_at k other)
-        (λ name place.
-        let page : k / 16 ≡ level / 16 = ap (λ (n : PageName). n.number) name in
-        let e : k ≡ level = place-level k level other coin page place in
-        apart e (prefix-from level other coin (rw e at name) (rw e at place)));
+    elsewhere = λ k other in_tree apart.
+        puts-elsewhere level coin k other (kept_digest digest default) old new puts apart;
   }
 
-  pub KeepsNode-root : (level coin : ℕ) (digest : List ℕ) (pages : HashMap PageName (HashMap ℕ (List ℕ) S) T)
+  pub KeepsNode-root : (level coin : ℕ) (digest : List ℕ) (pages : Paged)
       → level ≡ 64 → KeepsNode dig level coin digest pages pages
   KeepsNode-root level coin digest pages top = record {
     here = λ lt. absurd (omega arith);
@@ -83,12 +70,12 @@ module _ {S T : Type 0} (dig : List ℕ → List ℕ) (entries : List Entry) whe
 
   -- ---- the nodes of a part
 
-  pub IsClear-bare : (level coin : ℕ) (pages : HashMap PageName (HashMap ℕ (List ℕ) S) T) → pages.entries ≡ []
+  pub IsClear-bare : (level coin : ℕ) (pages : Paged) → pages.entries ≡ []
       → IsClear level coin pages
   IsClear-bare level coin pages bare k other in_tree le e =
       page_node-none pages (name_at k other) (place_at k other) bare
 
-  pub AddsPart-none : (level coin : ℕ) (pages : HashMap PageName (HashMap ℕ (List ℕ) S) T)
+  pub AddsPart-none : (level coin : ℕ) (pages : Paged)
       → part_at level coin entries ≡ [] → IsClear level coin pages → AddsPart dig entries level coin pages pages
   AddsPart-none level coin pages none clear = record {
     added = λ k other in_tree le e.
@@ -98,7 +85,7 @@ module _ {S T : Type 0} (dig : List ℕ → List ℕ) (entries : List Entry) whe
     stays = λ k other in_tree outside. refl;
   }
 
-  pub AddsPart-leaf : (level coin : ℕ) (digest : List ℕ) (old new : HashMap PageName (HashMap ℕ (List ℕ) S) T)
+  pub AddsPart-leaf : (level coin : ℕ) (digest : List ℕ) (old new : Paged)
       → level ≡ 0 → digest ≡ subtree_digest dig level (part_at level coin entries)
       → KeepsNode dig level coin digest old new → AddsPart dig entries level coin old new
   AddsPart-leaf level coin digest old new bottom is keeps = record {
@@ -113,14 +100,14 @@ module _ {S T : Type 0} (dig : List ℕ → List ℕ) (entries : List Entry) whe
     stays = λ k other in_tree outside. keeps.elsewhere k other in_tree (λ same e. outside (omega arith) e);
   }
 
-  pub clear-near : (level below coin : ℕ) (pages : HashMap PageName (HashMap ℕ (List ℕ) S) T) → level ≡ suc below
+  pub clear-near : (level below coin : ℕ) (pages : Paged) → level ≡ suc below
       → IsClear level coin pages → IsClear below coin pages
   clear-near level below coin pages up clear k other tree le e =
       clear k other tree (omega arith) (prefix-up other coin below level (omega arith) e)
 
   -- the two halves of a part, and its own node
   module _ (level below coin : ℕ) (up : level ≡ suc below) (lt : coin < 2 ^ 64) (in_tree : below < 64)
-      (old mid : HashMap PageName (HashMap ℕ (List ℕ) S) T) where
+      (old mid : Paged) where
     above-is : bit_xor coin (2 ^ below) / 2 ^ level ≡ coin / 2 ^ level
     above-is = rw up (IsSibling-xor coin below lt in_tree).above
 
@@ -134,7 +121,7 @@ module _ {S T : Type 0} (dig : List ℕ → List ℕ) (entries : List Entry) whe
         ∙ clear k other tree (omega arith)
         (prefix-up other (bit_xor coin (2 ^ below)) below level (omega arith) e ∙ above-is)
 
-    pub AddsPart-more : (digest : List ℕ) (far new : HashMap PageName (HashMap ℕ (List ℕ) S) T)
+    pub AddsPart-more : (digest : List ℕ) (far new : Paged)
         → AddsPart dig entries below coin old mid
         → AddsPart dig entries below (bit_xor coin (2 ^ below)) mid far
         → digest ≡ subtree_digest dig level (part_at level coin entries) → KeepsNode dig level coin digest far new
@@ -174,7 +161,7 @@ module _ {S T : Type 0} (dig : List ℕ → List ℕ) (entries : List Entry) whe
 
   -- ---- the whole
 
-  pub KeepsNodes-made : (root : List ℕ) (bare new : HashMap PageName (HashMap ℕ (List ℕ) S) T) → IsMap entries
+  pub KeepsNodes-made : (root : List ℕ) (bare new : Paged) → IsMap entries
       → root ≡ subtree_digest dig 64 (part_at 64 0 entries) → AddsPart dig entries 64 0 bare new
       → KeepsNodes dig entries root new
   unfolding root_of

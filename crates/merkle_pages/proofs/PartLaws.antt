@@ -33,7 +33,7 @@ filter-twice p q r both (x ∷ xs) =
       | inr isnt ↦ rw (isnt, both x, isnt, rest) refl
     ]
 
-filter-every : {X : Type 0} (p : X → Bool) (xs : List X) → All (λ x. p x ≡ true) xs → filter p xs ≡ xs
+pub filter-every : {X : Type 0} (p : X → Bool) (xs : List X) → All (λ x. p x ≡ true) xs → filter p xs ≡ xs
 filter-every p [] h = refl
 filter-every p (x ∷ xs) h =
     rw (All-head (λ y. p y ≡ true) x xs h, filter-every p xs (All-tail (λ y. p y ≡ true) x xs h)) refl
@@ -148,7 +148,7 @@ only_leaf-part coin (entry ∷ entries) = elim (cases_Bool (entry.coin == coin))
       rw (ne_eqb (entry.coin / 1) (coin / 1) apart, isnt) (only_leaf-part coin entries)
 ]
 
-digest-leaf : (dig : List ℕ → List ℕ) (coin : ℕ) (entries : List Entry)
+pub digest-leaf : (dig : List ℕ → List ℕ) (coin : ℕ) (entries : List Entry)
     → subtree_digest dig 0 (part_at 0 coin entries) ≡ dig (leaf_string (leaf_of entries coin))
 unfolding subtree_digest
 digest-leaf dig coin entries = rw (only_leaf-part coin entries) refl

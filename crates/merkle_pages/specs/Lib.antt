@@ -1,4 +1,3 @@
 pub mod Leaves
 pub mod Nodes
 pub mod Pages
-pub mod Kept

@@ -7,19 +7,12 @@ use std::alloc::Global;
 use std::marker::Model;
 use std::rc::Rc;
 
-// The defaults of the levels below the root, and the root.
-#[derive(Drop)]
-struct Levels {
-    below: [[u8; 32]; 64],
-    root: [u8; 32],
-}
-
-/// A digest, and the nodes of the map without a leaf under it, which the trees with that digest share.
-/// Contracts see the digest.
+/// A digest, and the nodes of the map without a leaf under it. Contracts see the digest.
 #[derive(Drop)]
 pub struct Defaults<H: Hash32 + Copy> {
     hash: H,
-    levels: Rc<Levels>,
+    below: [[u8; 32]; 64],
+    root: [u8; 32],
 }
 
 impl<H: Hash32 + Copy> Model for Defaults<H> {
@@ -29,30 +22,17 @@ impl<H: Hash32 + Copy> Model for Defaults<H> {
 
     ghost view = { λ d. d.hash };
 
-    ghost invariant = { λ d. KeepsDefaults (H.digest_of d.hash) d.levels.value.below d.levels.value.root };
+    ghost invariant = { λ d. KeepsDefaults (H.digest_of d.hash) d.below d.root };
 }
 
 impl<H: Hash32 + Copy> Defaults<H> {
-    /// The defaults of a digest, by 65 digests.
-    pub fn new(alloc: Global, hash: H) -> Result<Defaults<H>, NoMemory>
-        ensures { IfOk result (λ made. made ≡ hash) }
+    /// The defaults of a digest, by 65 digests. It takes no memory.
+    pub fn new(hash: H) -> Defaults<H>
+        ensures { result ≡ hash }
     {
         let below = defaults(&hash);
         let root = node_digest(&hash, &below[63], &below[63]);
-        let levels = Rc::new(alloc, Levels { below, root })?;
-        Ok(Defaults { hash, levels })
-    }
-
-    /// The same defaults, shared. It makes no digest and takes no memory: `NoMemory` comes only where
-    /// 2^64 - 1 share them already.
-    pub fn share(&self) -> Result<Defaults<H>, NoMemory>
-        ensures { IfOk result (λ shared. shared ≡ self.now) }
-    {
-        let levels = self.levels.clone()?;
-        Ok(Defaults {
-            hash: self.hash,
-            levels,
-        })
+        Defaults { hash, below, root }
     }
 
     /// The digest.
@@ -66,8 +46,7 @@ impl<H: Hash32 + Copy> Defaults<H> {
     pub fn below(&self) -> &[[u8; 32]; 64]
         ensures { AreDefaults (H.digest_of self.now) result.now }
     {
-        let levels: &Levels = &self.levels;
-        &levels.below
+        &self.below
     }
 
     /// The default of a level, lent. That of level 64 is the root.
@@ -75,10 +54,66 @@ impl<H: Hash32 + Copy> Defaults<H> {
         requires { level ≤ 64 }
         ensures { result.now ≡ default_digest (H.digest_of self.now) level }
     {
-        let levels: &Levels = &self.levels;
         if level == 64 {
-            return &levels.root;
+            return &self.root;
         }
-        &levels.below[level]
+        &self.below[level]
+    }
+}
+
+/// Whatever lends the defaults of a digest.
+pub trait LendsDefaults<H: Hash32 + Copy>: Drop {
+    /// The digest.
+    ghost hash_of: { Self → H };
+
+    /// The defaults, lent. It makes no digest and takes no memory.
+    fn defaults(&self) -> &Defaults<H>
+        ensures { result.now ≡ hash_of self.now };
+}
+
+impl<H: Hash32 + Copy> LendsDefaults<H> for Defaults<H> {
+    ghost hash_of = { λ defaults. defaults };
+
+    fn defaults(&self) -> &Defaults<H> {
+        self
+    }
+}
+
+/// The defaults of a digest, which many trees share. Contracts see the digest.
+#[derive(Drop)]
+pub struct SharedDefaults<H: Hash32 + Copy> {
+    defaults: Rc<Defaults<H>>,
+}
+
+impl<H: Hash32 + Copy> Model for SharedDefaults<H> {
+    ghost Value = { H };
+
+    ghost view = { λ d. d.defaults.value };
+}
+
+impl<H: Hash32 + Copy> SharedDefaults<H> {
+    /// The defaults of a digest, by 65 digests.
+    pub fn new(alloc: Global, hash: H) -> Result<SharedDefaults<H>, NoMemory>
+        ensures { IfOk result (λ made. made ≡ hash) }
+    {
+        let defaults = Rc::new(alloc, Defaults::new(hash))?;
+        Ok(SharedDefaults { defaults })
+    }
+
+    /// The same defaults, shared. It makes no digest and takes no memory: `NoMemory` comes only where
+    /// 2^64 - 1 share them already.
+    pub fn share(&self) -> Result<SharedDefaults<H>, NoMemory>
+        ensures { IfOk result (λ shared. shared ≡ self.now) }
+    {
+        let defaults = self.defaults.clone()?;
+        Ok(SharedDefaults { defaults })
+    }
+}
+
+impl<H: Hash32 + Copy> LendsDefaults<H> for SharedDefaults<H> {
+    ghost hash_of = { λ defaults. defaults };
+
+    fn defaults(&self) -> &Defaults<H> {
+        &self.defaults
     }
 }

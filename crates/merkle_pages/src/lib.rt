@@ -1,6 +1,6 @@
 //! A finite map from coins to byte strings as a sparse Merkle tree that keeps its nodes, under the
-//! digest that it was made with. Each node is digested once, when the tree is made; its root and each
-//! proof are then at hand.
+//! digest that it was made with. A tree that is made of a whole map digests each node once, and a put the
+//! 65 nodes on the way up from its coin; the root, each node and each proof are then at hand.
 //!
 //! The nodes stand in pages of 16 levels, four from the leaf up. A page is named by its number among the
 //! four and by the bits of the coins above it, and keeps the nodes that differ from the default of their
@@ -8,12 +8,12 @@
 #![tactic(auto)]
 
 mod defaults;
-mod kept;
 mod leaves;
 mod nodes;
 mod pages;
 mod tree;
+mod way;
 
-pub use defaults::Defaults;
+pub use defaults::{Defaults, LendsDefaults, SharedDefaults};
 pub use leaves::Leaves;
-pub use tree::PagedTree;
+pub use tree::{PagedTree, SharedTree};

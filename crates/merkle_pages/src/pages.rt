@@ -1,25 +1,26 @@
-ghost use Rattle.std.specs.Prelude.{◌≡◌, ◌≢◌, ◌+◌, ◌<◌, ◌*◌, ◌^◌, ℕ, [], length, slice_index_or, nat_eq, unwrap_or, IfOk, OnOk, Some, None};
-ghost use Rattle.std.specs.HashMap.{get};
+ghost use Rattle.std.specs.Prelude.{◌≡◌, ◌≢◌, ◌+◌, ◌<◌, ◌*◌, ◌^◌, ℕ, [], length, slice_index_or, unwrap_or, IfOk, OnOk, OnErr, IsTrue, Some, None};
+ghost use Rattle.std.specs.BTreeMap.{get};
 ghost use Rattle.std.specs.Int.Bits.{bit_xor};
-ghost use Rattle.merkle_pages.specs.declared.pages.PageName.{PageName};
-ghost use Rattle.merkle_pages.specs.Pages.{name_in, name_at, place_at, node_at, kept_digest, PutsNode, TakesSiblings};
+ghost use Rattle.std.specs.Option.{option_copied};
+ghost use Rattle.std.specs.Ordering.{nat_cmp};
+ghost use Rattle.merkle_pages.specs.Pages.{name_in, name_at, place_at, node_at, page_node, kept_digest, SameNodes, PutsNode, PutsAt, TakesSiblings};
 
 use plasma_base::NoMemory;
 use std::alloc::Global;
-use std::collections::HashMap;
+use std::collections::BTreeMap;
 
 /// A page's name: its number among four, from the leaf up, and the bits of the coins above it.
-#[derive(Debug, Clone, Copy, PartialEq, Eq, Hash)]
+#[derive(Clone, Copy, PartialEq, Eq, PartialOrd, Ord)]
 pub struct PageName {
     pub number: u32,
     pub bits: u64,
 }
 
 /// The nodes of a page that differ from the default of their level, each at its place as in a heap.
-pub type Page = HashMap<u32, [u8; 32]>;
+pub type Page = BTreeMap<u32, [u8; 32]>;
 
-/// The pages that keep a node.
-pub type Pages = HashMap<PageName, Page>;
+/// The pages that keep a node, in an order that no choice of coins makes slow.
+pub type Pages = BTreeMap<PageName, Page>;
 
 // The page of that number on the way up from a coin.
 fn page_name(number: usize, coin: u64) -> PageName
@@ -51,6 +52,15 @@ pub fn sibling_coin(coin: u64, level: usize) -> u64
     ensures { result ≡ bit_xor coin (2 ^ level) }
 {
     coin ^ (1 << level)
+}
+
+/// The node that is kept at a level on the way up from a coin, lent.
+pub fn kept_node(pages: &Pages, level: usize, coin: u64) -> Option<&[u8; 32]>
+    requires { level < 64 }
+    ensures { option_copied result ≡ node_at level coin pages.now }
+{
+    let page = pages.get(&page_name(level / 16, coin))?;
+    page.get(&place(level, coin))
 }
 
 /// The siblings on the way up from a coin, from its leaf's up: the nodes that are kept, and the defaults of
@@ -95,20 +105,45 @@ pub fn keep_node(
 ) -> Result<(), NoMemory>
     requires in_tree { level < 64 }
     requires clear { node_at level coin pages.old ≡ None }
-    ensures { OnOk result (PutsNode (name_at level coin) (place_at level coin) (kept_digest digest.now default.now)
-        pages.old pages.new) }
+    ensures { OnOk result (PutsAt level coin (kept_digest digest.now default.now) pages.old pages.new) }
 {
     if digest == default {
         return Ok(());
     }
+    put_node(alloc, pages, level, coin, *digest)
+}
+
+/// Puts a node at a level on the way up from a coin in place of what is kept there. Where memory runs out
+/// no node changes, and none was kept there.
+pub fn put_node(
+    alloc: Global,
+    pages: &mut Pages,
+    level: usize,
+    coin: u64,
+    digest: [u8; 32],
+) -> Result<(), NoMemory>
+    requires { level < 64 }
+    ensures ok { OnOk result (PutsAt level coin (Some digest) pages.old pages.new) }
+    ensures err { OnErr result (SameNodes pages.old pages.new) }
+    ensures absent { OnErr result (node_at level coin pages.old ≡ None) }
+{
     insert_node(
         alloc,
         pages,
         page_name(level / 16, coin),
         place(level, coin),
-        *digest,
-    )?;
-    Ok(())
+        digest,
+    )
+}
+
+/// Takes the node at a level on the way up from a coin away.
+pub fn remove_node(pages: &mut Pages, level: usize, coin: u64)
+    requires { level < 64 }
+    ensures { PutsAt level coin None pages.old pages.new }
+{
+    let name = page_name(level / 16, coin);
+    take_node(pages, name, place(level, coin));
+    drop_empty(pages, name);
 }
 
 // Puts a node at a place of a page, which is made where there is none.
@@ -119,33 +154,63 @@ fn insert_node(
     place: u32,
     digest: [u8; 32],
 ) -> Result<(), NoMemory>
-    ensures { OnOk result (PutsNode name place (Some digest) pages.old pages.new) }
+    ensures ok { OnOk result (PutsNode name place (Some digest) pages.old pages.new) }
+    ensures err { OnErr result (SameNodes pages.old pages.new) }
+    ensures absent { OnErr result (page_node pages.old name place ≡ None) }
 {
     if let Some(page) = pages.get_mut(&name) {
-        put_node(page, place, digest)?;
-        return Ok(());
+        return insert_in_page(page, place, digest);
     }
-    let page = page_with(alloc, place, digest)?;
+    let mut page = BTreeMap::new(alloc);
+    insert_in_page(&mut page, place, digest)?;
     pages.insert(name, page)?;
     Ok(())
 }
 
-// A page with one node.
-fn page_with(alloc: Global, place: u32, digest: [u8; 32]) -> Result<Page, NoMemory>
-    ensures here { IfOk result (λ page. get nat_eq page place ≡ Some digest) }
-    ensures elsewhere { IfOk result (λ page. (other : ℕ) → other ≢ place → get nat_eq page other ≡ None) }
-{
-    let mut page = HashMap::with_capacity(alloc, 16)?;
-    put_node(&mut page, place, digest)?;
-    Ok(page)
-}
-
 // Puts a node at a place of a page.
-fn put_node(page: &mut Page, place: u32, digest: [u8; 32]) -> Result<(), NoMemory>
-    ensures here { OnOk result (get nat_eq page.new place ≡ Some digest) }
+fn insert_in_page(page: &mut Page, place: u32, digest: [u8; 32]) -> Result<(), NoMemory>
+    ensures here { OnOk result (get nat_cmp page.new place ≡ Some digest) }
     ensures elsewhere { OnOk result ((other : ℕ) → other ≢ place
-        → get nat_eq page.new other ≡ get nat_eq page.old other) }
+        → get nat_cmp page.new other ≡ get nat_cmp page.old other) }
+    ensures err { OnErr result (page.new.entries ≡ page.old.entries) }
+    ensures absent { OnErr result (get nat_cmp page.old place ≡ None) }
 {
     page.insert(place, digest)?;
     Ok(())
+}
+
+// Takes the node at a place of a page away.
+fn take_node(pages: &mut Pages, name: PageName, place: u32)
+    ensures { PutsNode name place None pages.old pages.new }
+{
+    if let Some(page) = pages.get_mut(&name) {
+        take_from_page(page, place);
+    }
+}
+
+// The same in the page.
+fn take_from_page(page: &mut Page, place: u32)
+    ensures here { get nat_cmp page.new place ≡ None }
+    ensures elsewhere { (other : ℕ) → other ≢ place → get nat_cmp page.new other ≡ get nat_cmp page.old other }
+{
+    page.remove(&place);
+}
+
+// Takes a page without a node away.
+fn drop_empty(pages: &mut Pages, name: PageName)
+    ensures { SameNodes pages.old pages.new }
+{
+    if has_empty(pages, name) {
+        pages.remove(&name);
+    }
+}
+
+// Whether there is a page of that name, without a node.
+fn has_empty(pages: &Pages, name: PageName) -> bool
+    ensures { IsTrue result → (place : ℕ) → page_node pages.now name place ≡ None }
+{
+    match pages.get(&name) {
+        Some(page) => page.is_empty(),
+        None => false,
+    }
 }

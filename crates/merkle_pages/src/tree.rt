@@ -1,50 +1,56 @@
-ghost use Rattle.std.specs.Prelude.{◌≡◌, length, IfOk, IfErr, IsTrue};
+ghost use Rattle.std.specs.Prelude.{◌≡◌, ◌≢◌, ◌≤◌, ℕ, [], length, slice_index_or, IfOk, IfErr, OnOk, OnErr, MatchOption, IsTrue};
 ghost use Rattle.sparse_merkle.specs.MaskedPath.{proof_path, is_canonical};
 ghost use Rattle.sparse_merkle.specs.Opening.{is_opening};
 ghost use Rattle.sparse_merkle.specs.PathProof.{proof_of_path};
-ghost use Rattle.merkle_pages.specs.Kept.{KeepsTree};
-ghost use Rattle.sparse_merkle.specs.TreeDigest.{leaf_of, root_of, path_to};
+ghost use Rattle.sparse_merkle.specs.TreeDigest.{leaf_of, with_leaf, root_of, path_to, subtree_digest};
+ghost use Rattle.merkle_pages.specs.Nodes.{part_at, KeepsNodes};
 
-use super::defaults::Defaults;
-use super::kept::KeptPages;
+use super::defaults::{Defaults, LendsDefaults, SharedDefaults};
 use super::leaves::Leaves;
 use super::nodes::add_nodes;
+use super::pages::{Pages, kept_node, sibling_coin, siblings};
+use super::way::put_on_way;
 use plasma_base::{Hash32, NoMemory};
-use sparse_merkle::Proof;
+use sparse_merkle::{Proof, bit, leaf_digest, parent_bytes};
 use std::alloc::Global;
-use std::collections::HashMap;
-use std::marker::Model;
+use std::collections::BTreeMap;
+use std::marker::{Model, PhantomData};
 
 /// A finite map from coins to leaves that aren't empty, with the nodes of its tree under one digest.
 /// Contracts see that digest and the entries in rising order of coins.
 ///
+/// It holds the defaults of the digest itself, or shares them with other trees.
+///
 /// A page keeps no node that is the default of its level. It may be the node of a part of the map with
 /// leaves, where the digest collides: a node that isn't kept is read as the default, which it then is.
 #[derive(Drop)]
-pub struct PagedTree<H: Hash32 + Copy> {
+pub struct PagedTree<H: Hash32 + Copy, D: LendsDefaults<H> = Defaults<H>> {
     alloc: Global,
-    defaults: Defaults<H>,
+    digest: PhantomData<H>,
+    defaults: D,
     root: [u8; 32],
     leaves: Leaves,
-    pages: KeptPages,
+    pages: Pages,
 }
 
-impl<H: Hash32 + Copy> Model for PagedTree<H> {
-    ghost use Rattle.merkle_pages.specs.Nodes.{HashedMap};
-    ghost use Rattle.merkle_pages.specs.Kept.{KeepsTree};
+/// A tree that shares its defaults, so that many take little memory.
+pub type SharedTree<H> = PagedTree<H, SharedDefaults<H>>;
+
+impl<H: Hash32 + Copy, D: LendsDefaults<H>> Model for PagedTree<H, D> {
+    ghost use Rattle.merkle_pages.specs.Nodes.{HashedMap, KeepsNodes};
 
     ghost Value = { HashedMap H };
 
-    ghost view = { λ t. record { hash = t.defaults; entries = t.leaves } };
+    ghost view = { λ t. record { hash = D.hash_of t.defaults; entries = t.leaves } };
 
-    ghost invariant = { λ t. KeepsTree (H.digest_of t.defaults) t.leaves t.root t.pages };
+    ghost invariant = { λ t. KeepsNodes (H.digest_of (D.hash_of t.defaults)) t.leaves t.root t.pages };
 }
 
 // The root of a tree, and the pages of its other nodes.
 #[derive(Drop)]
 struct TreeNodes {
     root: [u8; 32],
-    pages: KeptPages,
+    pages: Pages,
 }
 
 // The nodes of the tree of a map.
@@ -53,26 +59,44 @@ fn nodes_of<H: Hash32 + Copy>(
     defaults: &Defaults<H>,
     leaves: &Leaves,
 ) -> Result<TreeNodes, NoMemory>
-    ensures { IfOk result (λ nodes. KeepsTree (H.digest_of defaults.now) leaves.now nodes.root nodes.pages) }
+    ensures { IfOk result (λ nodes. KeepsNodes (H.digest_of defaults.now) leaves.now nodes.root nodes.pages) }
 {
-    let mut pages = HashMap::new(alloc);
+    let mut pages = BTreeMap::new(alloc);
     let root = add_nodes(alloc, defaults, leaves, &mut pages)?;
-    let kept = KeptPages::new(alloc, pages)?;
-    Ok(TreeNodes { root, pages: kept })
+    Ok(TreeNodes { root, pages })
 }
 
 impl<H: Hash32 + Copy> PagedTree<H> {
+    /// The map without a leaf. It takes no memory and makes 65 digests.
+    pub fn new(alloc: Global, h: H) -> PagedTree<H>
+        ensures { result ≡ record { hash = h; entries = [] } }
+    {
+        let defaults = Defaults::new(h);
+        let root = *defaults.of_level(64);
+        PagedTree {
+            alloc,
+            digest: PhantomData,
+            defaults,
+            root,
+            leaves: Leaves::new(alloc),
+            pages: BTreeMap::new(alloc),
+        }
+    }
+}
+
+impl<H: Hash32 + Copy, D: LendsDefaults<H>> PagedTree<H, D> {
     /// The tree of a map. It makes a digest for each node of a part with a leaf: at most 65 for a leaf,
     /// and for coins that stand in a row about two. Where memory runs out the map is handed back.
-    pub fn new(alloc: Global, defaults: Defaults<H>, leaves: Leaves) -> Result<PagedTree<H>, Leaves>
-        ensures made { IfOk result (λ tree. tree ≡ record { hash = defaults; entries = leaves }) }
+    pub fn of_leaves(alloc: Global, defaults: D, leaves: Leaves) -> Result<PagedTree<H, D>, Leaves>
+        ensures made { IfOk result (λ tree. tree ≡ record { hash = D.hash_of defaults; entries = leaves }) }
         ensures returned { IfErr result (λ returned. returned ≡ leaves) }
     {
-        match nodes_of(alloc, &defaults, &leaves) {
+        match nodes_of(alloc, defaults.defaults(), &leaves) {
             Ok(nodes) => {
                 let TreeNodes { root, pages } = nodes;
                 Ok(PagedTree {
                     alloc,
+                    digest: PhantomData,
                     defaults,
                     root,
                     leaves,
@@ -98,11 +122,37 @@ impl<H: Hash32 + Copy> PagedTree<H> {
         self.leaves.len()
     }
 
-    /// The leaf of the coin, lent, which is empty where the coin has none.
-    pub fn leaf(&self, coin: u64) -> &[u8]
-        ensures { result.now ≡ leaf_of self.now.entries coin }
+    /// Puts the leaf at the coin in place of the one before, and changes no other coin. An empty leaf
+    /// removes. Where memory runs out nothing changes. It makes 65 digests.
+    pub fn put(&mut self, coin: u64, leaf: &[u8]) -> Result<(), NoMemory>
+        ensures ok { OnOk result (self.new.entries ≡ with_leaf self.old.entries coin leaf.now) }
+        ensures err { OnErr result (self.new.entries ≡ self.old.entries) }
+        ensures hash { self.new.hash ≡ self.old.hash }
     {
-        self.leaves.leaf(coin)
+        let digests = self.digests_with(coin, leaf);
+        put_on_way(
+            self.alloc,
+            &mut self.leaves,
+            &mut self.pages,
+            coin,
+            leaf,
+            &digests,
+            self.defaults.defaults().below(),
+        )?;
+        self.root = digests[64];
+        Ok(())
+    }
+
+    /// The leaf of the coin, lent; `None` exactly where the coin has none.
+    pub fn leaf(&self, coin: u64) -> Option<&[u8]>
+        ensures { MatchOption result (leaf_of self.now.entries coin ≡ [])
+            (λ leaf. (leaf.now ≡ leaf_of self.now.entries coin) × (leaf.now ≢ [])) }
+    {
+        let leaf = self.leaves.leaf(coin);
+        if leaf.is_empty() {
+            return None;
+        }
+        Some(leaf)
     }
 
     /// The root, lent. It makes no digest.
@@ -110,6 +160,23 @@ impl<H: Hash32 + Copy> PagedTree<H> {
         ensures { result.now ≡ root_of (H.digest_of self.now.hash) self.now.entries }
     {
         &self.root
+    }
+
+    /// The node at that level on the way up from the coin, lent: the digest of the part of the map whose
+    /// coins agree with this one in the bit of the level and in every higher bit. It takes no memory and
+    /// makes no digest.
+    pub fn node(&self, level: u32, coin: u64) -> &[u8; 32]
+        requires { level ≤ 64 }
+        ensures { result.now ≡ subtree_digest (H.digest_of self.now.hash) level (part_at level coin self.now.entries) }
+    {
+        let level = level as usize;
+        if level == 64 {
+            return &self.root;
+        }
+        match kept_node(&self.pages, level, coin) {
+            Some(digest) => digest,
+            None => self.defaults.defaults().of_level(level),
+        }
     }
 
     /// The proof of what the map has at the coin, a leaf or none. It makes no digest.
@@ -125,8 +192,25 @@ impl<H: Hash32 + Copy> PagedTree<H> {
             (λ proof. proof ≡ proof_of_path (H.digest_of self.now.hash)
             (path_to (H.digest_of self.now.hash) coin self.now.entries)) }
     {
-        let defaults = self.defaults.below();
-        let siblings = self.pages.siblings(coin, defaults);
+        let defaults = self.defaults.defaults().below();
+        let siblings = siblings(&self.pages, coin, defaults);
         Proof::of_path(self.alloc, defaults, &siblings)
+    }
+
+    // The digests on the way up from a coin, from its leaf to the root, once it has that leaf.
+    fn digests_with(&self, coin: u64, leaf: &[u8]) -> [[u8; 32]; 65]
+        ensures { (level : ℕ) → level ≤ 64 → slice_index_or result level []
+            ≡ subtree_digest (H.digest_of self.now.hash) level
+            (part_at level coin (with_leaf self.now.entries coin leaf.now)) }
+    {
+        let hash = self.defaults.defaults().hash();
+        let mut digests = [[0; 32]; 65];
+        digests[0] = leaf_digest(&hash, leaf);
+        for level in 0..64 {
+            let sibling = self.node(level as u32, sibling_coin(coin, level));
+            let string = parent_bytes(bit(coin, level), &digests[level], sibling);
+            digests[level + 1] = hash.digest(&string);
+        }
+        digests
     }
 }

@@ -113,15 +113,3 @@ module _ {D : Type 0} (told : D → Option History) (plan : D → Option FaultPl
       by (Some DeviceFault) did = inl (did, refl)
       by (Some NoMemory) did = (did.1, refl, inl did)
       by (Some Closed) did = (did.1, refl, inl did)
-
-  pub leaves-did : (leaf : Option (List ℕ)) (old desk after : NotesState D) (result : Result Said Stop)
-      → old.closed ≡ false → DidNotes told plan faults leaf desk result after
-      → DidDesk told plan faults None leaf old desk result old after
-  leaves-did leaf old desk after result is_open (stop, did, known) = (stop, by stop did, known)
-    where
-      by : (stop : Option Stop) → Did told plan faults leaf desk stop after
-          → DidEach told plan faults None leaf old desk stop old after
-      by None did = ((is_open, refl), did)
-      by (Some DeviceFault) did = inr ((is_open, refl), did)
-      by (Some NoMemory) did = (refl, did.1, inr did)
-      by (Some Closed) did = (refl, did.1, inr did)

@@ -59,15 +59,7 @@ fn answer_receipt<D: Disk, H: Hash32 + Copy>(
     ensures digest_stays { keyed.new.node.hash ≡ keyed.old.node.hash }
 {
     let blocks = log.blocks();
-    let issued = keyed.desk.issue(
-        alloc,
-        keyed.hash,
-        &keyed.key,
-        &mut keyed.node,
-        log,
-        transfer,
-        due,
-    );
+    let issued = keyed.desk.issue(keyed.hash, &keyed.key, &mut keyed.node, log, transfer, due);
     match issued {
         Ok(receipt) => Ok(put_words(words_of(alloc, blocks, due, &receipt)?, text)?),
         Err(why) => match stop_of(&why) {

@@ -16,7 +16,7 @@ use plasma_tx::RootLog;
 use std::alloc::Global;
 
 /// What a command of the operator asks for: an order, a receipt of its desk, or the marker in the desk's journal.
-#[derive(Debug, Drop)]
+#[derive(Drop)]
 pub enum OperatorAsk {
     Order { order: OperatorOrder },
     Receipt { transfer: Bytes, due: u64 },

@@ -21,7 +21,7 @@ use wallet_core::CoinState;
 use wallet_node::WalletNode;
 
 /// What a command of a wallet asks for: an order, what a coin is to it, or who it is.
-#[derive(Debug, Drop)]
+#[derive(Drop)]
 pub enum WalletAsk {
     Order { order: WalletOrder },
     State { coin: u64 },

@@ -4,11 +4,11 @@ use Rattle.std.specs.Option.{option_map}
 use Rattle.plasma_base.specs.Causes.{faults_after}
 use Rattle.crash_disk.specs.Disk.{History, content, FaultPlan, LeavesOnly}
 use Rattle.crash_disk.specs.Calls.{WhereTold, Course, passed, failed_after, Made}
-use Rattle.node_journal.specs.Image.{most, spelled}
-use Rattle.node_journal.specs.Steps.{append_steps}
-use Rattle.node_journal.specs.Journal.{JournalState, Keeps, KeepsWithOrWithout, IsSettled, Appended, Appends, is_device_fault}
-use Rattle.node_journal.specs.declared.refusal.JournalRefusal.{JournalRefusal}
-use Rattle.node_journal.specs.declared.refusal.JournalRefusal.TheVariants.{AlreadyMade, NotJournal, RecordTooLong, DeviceFault, Closed, NoMemory}
+use Rattle.gate_journal.specs.Image.{most, spelled}
+use Rattle.gate_journal.specs.Steps.{append_steps}
+use Rattle.gate_journal.specs.Journal.{JournalState, Keeps, KeepsWithOrWithout, IsSettled, Appended, Appends, is_device_fault}
+use Rattle.gate_journal.specs.declared.refusal.JournalRefusal.{JournalRefusal}
+use Rattle.gate_journal.specs.declared.refusal.JournalRefusal.TheVariants.{AlreadyMade, NotJournal, RecordTooLong, DeviceFault, Closed, NoMemory}
 use Rattle.node_journal.proofs.Spelling.{length-spelled-push}
 use Rattle.node_journal.specs.Role.{Kinds, are_of, may_follow}
 use Rattle.node_journal.specs.Notes.{NotesState, note_steps, KeepsAtAnyMoment, Added, Did}
@@ -94,20 +94,3 @@ module _ {D : Type 0} (kinds : Kinds) (told : D → Option History) (plan : D �
   stopped (RecordTooLong n) was_open fits same count = absurd (omega (arith, fits, same.1))
   stopped (AlreadyMade n) was_open fits none count = absurd none
   stopped (NotJournal place) was_open fits none count = absurd none
-
-  -- the notes stay sound where the journal's disk and gate do
-  pub sound_after : (why : JournalRefusal) → old.closed ≡ false → length body ≤ most
-      → Appends told plan body old (Err why) new → IsSound kinds (told new.disk) new.closed new.gate records
-  sound_after DeviceFault was_open fits failed =
-      record {
-        role = sound.role;
-        place = failed.gate
-            ∙ sound.place;
-        settled = λ open'. absurd (cc (failed.is_closed, open'));
-      }
-  sound_after NoMemory was_open fits same = subst
-      (λ (j : JournalState D). IsSound kinds (told j.disk) j.closed j.gate records) (sym same.3) sound
-  sound_after Closed was_open fits same = absurd (cc (was_open, same.0))
-  sound_after (RecordTooLong n) was_open fits same = absurd (omega (arith, fits, same.1))
-  sound_after (AlreadyMade n) was_open fits none = absurd none
-  sound_after (NotJournal place) was_open fits none = absurd none

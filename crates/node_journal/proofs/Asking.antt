@@ -1,46 +1,18 @@
 -- A question for a disk's length, and what a refused init leaves.
-use Rattle.std.proofs.Common.{◌≡◌, ◌⊎◌, ◌<◌, ◌≤◌, ℕ, Bool, true, false, ltb, ◌||◌, List, [], ◌∷◌, ◌++◌, length, Option, Some, None, Result, Ok, Err, inl, inr, refl, sym, ◌∙◌, ap, subst, arith, length-append}
+use Rattle.std.proofs.Common.{◌≡◌, ◌<◌, ◌≤◌, ℕ, Bool, true, false, ltb, List, [], ◌∷◌, length, Option, Some, None, inl, inr, refl, sym, ◌∙◌, ap, arith, length-append}
 use Rattle.std.specs.Option.{option_map}
 use Rattle.std.proofs.lemmas.Bool.Decides.{nat_tests}
-use Rattle.crash_disk.specs.Disk.{Step, asks_length, with_call, after_one, History, content, FaultPlan}
-use Rattle.crash_disk.specs.Calls.{WhereTold, Called, IsStill, passed, after_course, Made}
-use Rattle.node_journal.specs.Image.{spelled, spelled_record, spelled_records, kept_records}
-use Rattle.node_journal.specs.Steps.{open_steps}
-use Rattle.node_journal.specs.Make.{is_made, make_steps}
-use Rattle.node_journal.specs.declared.refusal.InitRefusal.TheVariants.{AlreadyMade}
-use Rattle.node_journal.proofs.Front.{fronts}
-use Rattle.node_journal.specs.Begin.{has_content, is_taken, image_made, journal_steps, init_steps, InitsOver, RefusesEmpty, PassesInit, StopsInit, IsAsked, HoldsAsBefore, BeginsPair}
+use Rattle.crash_disk.specs.Disk.{Step, asks_length, with_call, History, content, FaultPlan}
+use Rattle.crash_disk.specs.Calls.{WhereTold, passed, after_course, Made}
+use Rattle.gate_journal.specs.Image.{spelled_record, spelled_records, kept_records}
+use Rattle.gate_journal.specs.Steps.{open_steps}
+use Rattle.gate_journal.specs.Make.{is_made, make_steps}
+use Rattle.gate_journal.specs.declared.refusal.InitRefusal.TheVariants.{AlreadyMade}
+use Rattle.gate_journal.proofs.Front.{fronts}
+use Rattle.node_journal.specs.Begin.{has_content, is_taken, image_made, journal_steps, init_steps, RefusesEmpty, PassesInit, StopsInit, IsAsked, HoldsAsBefore}
 use Rattle.node_journal.specs.Laws.{RefusedPairsStay}
 use Rattle.node_journal.proofs.Courses.{after_both}
 use Rattle.node_journal.proofs.Untaken.{not_less, unmade_untaken, making_holds}
-
--- ---- the question
-
-module _ {D : Type 0} (told : D → Option History) (plan : D → Option FaultPlan) (faults : D → ℕ) where
-  -- a call on a disk that is still the same
-  pub called_from : {step : Step} {failed : Bool} {first old new : D} → IsStill told plan faults first old
-      → Called told plan step failed old new → Called told plan step failed first new
-  called_from {step = step} {failed = failed} still called = record {
-    history = called.history ∙ ap (option_map (with_call step failed)) still.same_calls;
-    fails = λ foretold is. called.fails foretold (still.same_plan ∙ is);
-    goes_on = called.goes_on ∙ ap (option_map after_one) still.same_plan;
-  }
-
-  -- the length that was told is that of what the disk then holds
-  pub told_length : (count : ℕ) {old new : D} → Called told plan asks_length false old new
-      → WhereTold (told old) (λ before. count ≡ length (content before))
-      → WhereTold (told new) (λ now. count ≡ length (content now))
-  told_length count {old = old} {new = new} called is = at (told old) refl is
-    where
-      at : (t : Option History) → told old ≡ t → WhereTold t (λ before. count ≡ length (content before))
-          → WhereTold (told new) (λ now. count ≡ length (content now))
-      at None none is = λ now some. absurd (cc (called.history, ap (option_map (with_call asks_length false)) none, some))
-      at (Some before) there is = λ now some.
-          let same : with_call asks_length false before ≡ now =
-          cc (called.history, ap (option_map (with_call asks_length false)) there, some) in
-          is before refl ∙ ap (λ h. length (content h)) same
-
--- ---- images by their length
 
 long_made : (image : List ℕ) → 5 < length image → is_made image ≡ true
 long_made image long = (let more : ltb 5 (length image) ≡ true = grind (arith, nat_tests) in rw more refl)

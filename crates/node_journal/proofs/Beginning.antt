@@ -7,12 +7,12 @@ use Rattle.plasma_base.specs.Causes.{faults_after}
 use Rattle.crash_disk.specs.Disk.{Step, History, content, FaultPlan}
 use Rattle.crash_disk.specs.Calls.{WhereTold, Course, passed, failed_after, stopped_after, after_course, with_made, Made}
 use Rattle.crash_disk.proofs.Calls.{later, made_over, made_there, made_after, made_within, made_stop}
-use Rattle.node_journal.specs.Image.{kept_records}
-use Rattle.node_journal.specs.Steps.{append_steps, open_steps}
-use Rattle.node_journal.specs.Journal.{JournalState, Keeps, IsSettled, Appended}
-use Rattle.node_journal.specs.Make.{make_steps}
-use Rattle.node_journal.specs.declared.refusal.InitRefusal.{InitRefusal}
-use Rattle.node_journal.specs.declared.refusal.InitRefusal.TheVariants.{AlreadyMade as InitMade, DeviceFault as InitFault, NoMemory as InitNoMemory}
+use Rattle.gate_journal.specs.Image.{kept_records}
+use Rattle.gate_journal.specs.Steps.{append_steps, open_steps}
+use Rattle.gate_journal.specs.Journal.{JournalState, Keeps, IsSettled, Appended}
+use Rattle.gate_journal.specs.Make.{make_steps}
+use Rattle.gate_journal.specs.declared.refusal.InitRefusal.{InitRefusal}
+use Rattle.gate_journal.specs.declared.refusal.InitRefusal.TheVariants.{AlreadyMade as InitMade, DeviceFault as InitFault, NoMemory as InitNoMemory}
 use Rattle.node_journal.specs.Begin.{is_taken, image_made, journal_steps, init_steps, InitsOver, StopsBehindOver, is_fault_refusal, is_init_fault, Inits, BeginsEmpty, RefusesEmpty, PassesInit, PassesPair, RefusesBehindNotes, RefusesBehindLeaves}
 use Rattle.node_journal.specs.Inside.{FindsOver, AppendsIdentity, OpensEmpty, RefusesEmptyOver}
 use Rattle.node_journal.specs.declared.init.NotBegun.{NotBegun}

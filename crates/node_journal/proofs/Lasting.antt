@@ -4,12 +4,12 @@ use Rattle.std.proofs.lemmas.List.{append-nil}
 use Rattle.crash_disk.specs.Disk.{Step, asks_length, reads, writes, syncs, with_call, is_touched, synced_content, unsynced_ranges, History, content, MayLeave}
 use Rattle.crash_disk.specs.Calls.{Course, passed, failed_after, stopped_after, after_course}
 use Rattle.crash_disk.proofs.Left.{content_may_be_left, fresh_disk_leaves_itself}
-use Rattle.node_journal.specs.Image.{most}
-use Rattle.node_journal.specs.Steps.{append_steps, open_steps}
-use Rattle.node_journal.specs.Journal.{Keeps}
-use Rattle.node_journal.specs.Make.{empty, is_made, make_steps, IsBlank}
-use Rattle.node_journal.proofs.Rest.{AtRest, rest_images, leaves_now, append_rests, course_leaves}
-use Rattle.node_journal.proofs.Stopped.{stopped_openings, stopped_makings}
+use Rattle.gate_journal.specs.Image.{most}
+use Rattle.gate_journal.specs.Steps.{append_steps, open_steps}
+use Rattle.gate_journal.specs.Journal.{Keeps}
+use Rattle.gate_journal.specs.Make.{empty, is_made, make_steps, IsBlank}
+use Rattle.gate_journal.proofs.Rest.{AtRest, rest_images, leaves_now, append_rests, course_leaves}
+use Rattle.gate_journal.proofs.Stopped.{stopped_openings, stopped_makings}
 use Rattle.node_journal.specs.Begin.{is_taken, image_made, journal_steps, init_steps}
 use Rattle.node_journal.specs.Laws.{InitsMakeFewCalls, EachImage, InitEvent, asks, prepares, begins, crashes, after_event, MayCome, after_events, MayAllCome, IsUntakenOrBegun, InitsMayBeRepeated, InitsEndBegun, StoppedPreparations, PreparedJournalsAreEmpty}
 use Rattle.node_journal.proofs.Courses.{after_both, course_split}

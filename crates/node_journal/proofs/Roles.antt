@@ -4,8 +4,8 @@ use Rattle.std.proofs.lemmas.Bool.{cases_Bool}
 use Rattle.std.specs.List.{list_all, take_while, prefix_len}
 use Rattle.std.proofs.lemmas.List.Sums.{prefix_len-le-length}
 use Rattle.std.proofs.lemmas.List.Folds.{list_all-append, length-prefix_len}
-use Rattle.node_journal.specs.Image.{spelled}
-use Rattle.node_journal.specs.Role.{Kinds, are_of, may_follow, front_of, of_kinds}
+use Rattle.gate_journal.specs.Image.{spelled}
+use Rattle.node_journal.specs.Role.{Kinds, are_of, front_of, of_kinds}
 use Rattle.node_journal.specs.Laws.{NotesFollow}
 
 both_more : (a b c : Bool) → (a && b) ≡ true → c ≡ true → (a && (b && (c && true))) ≡ true
@@ -84,9 +84,3 @@ of kinds records is = rw is refl
 -- the notes in front are no more than all
 pub front_within : (test : List ℕ → Bool) (notes : List (List ℕ)) → prefix_len test notes ≤ length notes
 front_within test notes = prefix_len-le-length test notes
-
--- behind records of a role a record may stand that is a note behind every identity
-pub note_follows : (kinds : Kinds) (records : List (List ℕ)) (body : List ℕ) → are_of kinds records ≡ true
-    → ((identity : List ℕ) → kinds.is_note identity body ≡ true) → may_follow kinds records body ≡ true
-note_follows kinds [] body is notes = absurd (cc is)
-note_follows kinds (identity ∷ rest) body is notes = notes identity

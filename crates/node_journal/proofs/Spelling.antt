@@ -1,7 +1,7 @@
 -- The spelling of one more record.
 use Rattle.std.proofs.Common.{◌≡◌, ◌+◌, ℕ, List, [], ◌∷◌, ◌++◌, length, arith, length-append}
 use Rattle.std.specs.Int.{w32, to_be_bytes}
-use Rattle.node_journal.specs.Image.{mark, spelled_record, spelled_records, spelled}
+use Rattle.gate_journal.specs.Image.{mark, spelled_record, spelled_records, spelled}
 
 length-spelled_record : (body : List ℕ) → length (spelled_record body) ≡ 5 + length body
 length-spelled_record body = omega (arith, length-append (to_be_bytes w32 (length body)) body)

@@ -7,12 +7,12 @@ use Rattle.crash_disk.specs.Disk.{Step, History, fresh_history, content, MayLeav
 use Rattle.crash_disk.proofs.Left.{content_may_be_left}
 use Rattle.crash_disk.specs.Calls.{passed, stopped_after, with_made, after_course}
 use Rattle.node_journal.proofs.Courses.{after_both}
-use Rattle.node_journal.specs.Image.{kept_records}
-use Rattle.node_journal.specs.Journal.{Keeps}
-use Rattle.node_journal.specs.Make.{empty, is_made, look_steps, make_steps, IsBlank}
-use Rattle.node_journal.proofs.Read.{records_from-end}
-use Rattle.node_journal.proofs.Rest.{leaves_now}
-use Rattle.node_journal.proofs.Stopped.{stopped_makings}
+use Rattle.gate_journal.specs.Image.{kept_records}
+use Rattle.gate_journal.specs.Journal.{Keeps}
+use Rattle.gate_journal.specs.Make.{empty, is_made, look_steps, make_steps, IsBlank}
+use Rattle.gate_journal.proofs.Read.{records_from-end}
+use Rattle.gate_journal.proofs.Rest.{leaves_now}
+use Rattle.gate_journal.proofs.Stopped.{stopped_makings}
 use Rattle.node_journal.specs.Begin.{has_content, is_taken, image_made}
 
 -- the empty journal spells no record

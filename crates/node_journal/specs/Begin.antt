@@ -3,12 +3,12 @@ use Rattle.std.specs.Prelude.{◌≡◌, ◌<◌, ◌≤◌, ◌⊎◌, ℕ, Boo
 use Rattle.plasma_base.specs.Causes.{faults_after}
 use Rattle.crash_disk.specs.Disk.{Step, asks_length, History, content, FaultPlan}
 use Rattle.crash_disk.specs.Calls.{WhereTold, passed, failed_after, stopped_after, Called, Made}
-use Rattle.node_journal.specs.Image.{kept_records}
-use Rattle.node_journal.specs.Journal.{JournalState, IsSettled, fresh_journal}
-use Rattle.node_journal.specs.Steps.{append_steps, open_steps}
-use Rattle.node_journal.specs.Make.{empty, is_made, make_steps}
-use Rattle.node_journal.specs.declared.refusal.InitRefusal.{InitRefusal}
-use Rattle.node_journal.specs.declared.refusal.InitRefusal.TheVariants.{AlreadyMade, DeviceFault, NoMemory}
+use Rattle.gate_journal.specs.Image.{kept_records}
+use Rattle.gate_journal.specs.Journal.{JournalState, IsSettled, fresh_journal}
+use Rattle.gate_journal.specs.Steps.{append_steps, open_steps}
+use Rattle.gate_journal.specs.Make.{empty, is_made, make_steps}
+use Rattle.gate_journal.specs.declared.refusal.InitRefusal.{InitRefusal}
+use Rattle.gate_journal.specs.declared.refusal.InitRefusal.TheVariants.{AlreadyMade, DeviceFault, NoMemory}
 
 -- an image of so many bytes, of which these records are read, can't be begun: it spells one or more, or it spells no
 -- list and has more than five bytes

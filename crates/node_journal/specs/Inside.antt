@@ -2,14 +2,14 @@
 use Rattle.std.specs.Prelude.{◌≡◌, ◌≢◌, ℕ, Bool, true, false, List, [], length, Option, Some, None, Result, Ok, Err}
 use Rattle.crash_disk.specs.Disk.{asks_length, History, content, FaultPlan}
 use Rattle.crash_disk.specs.Calls.{WhereTold, passed, failed_after, stopped_after, Called, Made}
-use Rattle.node_journal.specs.Image.{spelled, kept_records}
-use Rattle.node_journal.specs.Steps.{append_steps, open_steps}
-use Rattle.node_journal.specs.Make.{is_made, make_steps}
-use Rattle.node_journal.specs.Journal.{JournalState, Keeps, IsSettled, fresh_journal}
-use Rattle.node_journal.specs.declared.refusal.JournalRefusal.{JournalRefusal}
-use Rattle.node_journal.specs.declared.refusal.JournalRefusal.TheVariants.{AlreadyMade, NotJournal, DeviceFault, Closed, NoMemory}
-use Rattle.node_journal.specs.declared.refusal.InitRefusal.{InitRefusal}
-use Rattle.node_journal.specs.declared.refusal.InitRefusal.TheVariants.{AlreadyMade as InitMade, DeviceFault as InitFault, NoMemory as InitNoMemory}
+use Rattle.gate_journal.specs.Image.{spelled, kept_records}
+use Rattle.gate_journal.specs.Steps.{append_steps, open_steps}
+use Rattle.gate_journal.specs.Make.{is_made, make_steps}
+use Rattle.gate_journal.specs.Journal.{JournalState, Keeps, IsSettled, fresh_journal}
+use Rattle.gate_journal.specs.declared.refusal.JournalRefusal.{JournalRefusal}
+use Rattle.gate_journal.specs.declared.refusal.JournalRefusal.TheVariants.{AlreadyMade, NotJournal, DeviceFault, Closed, NoMemory}
+use Rattle.gate_journal.specs.declared.refusal.InitRefusal.{InitRefusal}
+use Rattle.gate_journal.specs.declared.refusal.InitRefusal.TheVariants.{AlreadyMade as InitMade, DeviceFault as InitFault, NoMemory as InitNoMemory}
 use Rattle.node_journal.specs.declared.stop.Stop.{Stop}
 use Rattle.node_journal.specs.declared.stop.Stop.TheVariants.{Closed as StopClosed, NoMemory as StopNoMemory, DeviceFault as StopFault}
 use Rattle.node_journal.specs.Role.{Kinds, are_of, of_kinds}

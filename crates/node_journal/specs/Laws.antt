@@ -2,10 +2,10 @@
 use Rattle.std.specs.Prelude.{◌≡◌, ◌+◌, ◌≤◌, ◌⊎◌, ℕ, Bool, true, false, List, [], ◌∷◌, ◌++◌, length, Option, Some, Err}
 use Rattle.crash_disk.specs.Disk.{asks_length, with_call, History, fresh_history, content, MayLeave, FaultPlan}
 use Rattle.crash_disk.specs.Calls.{Course, passed, after_course}
-use Rattle.node_journal.specs.Image.{most}
-use Rattle.node_journal.specs.Journal.{Keeps}
+use Rattle.gate_journal.specs.Image.{most}
+use Rattle.gate_journal.specs.Journal.{Keeps}
 use Rattle.node_journal.specs.Role.{Kinds, are_of, may_follow}
-use Rattle.node_journal.specs.declared.refusal.InitRefusal.TheVariants.{AlreadyMade}
+use Rattle.gate_journal.specs.declared.refusal.InitRefusal.TheVariants.{AlreadyMade}
 use Rattle.node_journal.specs.Begin.{is_taken, journal_steps, init_steps, HoldsAsBefore, BeginsPair}
 
 -- records of a role and one that may follow them are of the role

@@ -1,11 +1,3 @@
-pub mod Image
-pub mod Steps
-pub mod Journal
-pub mod Make
-pub mod Life
-pub mod JournalLaws
-pub mod JournalInside
-pub mod Sound
 pub mod Role
 pub mod Notes
 pub mod Effect

@@ -1,7 +1,7 @@
 -- A role's records: first its identity, and then notes.
 use Rattle.std.specs.Prelude.{ℕ, Bool, false, ◌&&◌, if◌then◌else◌, List, [], ◌∷◌, length, Result, Ok, Err}
 use Rattle.std.specs.List.{list_all, take_while}
-use Rattle.node_journal.specs.Image.{spelled, journal_in}
+use Rattle.gate_journal.specs.Image.{spelled, journal_in}
 
 -- which record is an identity, and which is a note behind an identity
 pub record Kinds : Type 0 where

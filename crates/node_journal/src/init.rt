@@ -2,14 +2,13 @@ ghost use Rattle.std.specs.Prelude.{◌≡◌, ◌≤◌, [], ◌∷◌, length,
 ghost use Rattle.plasma_base.specs.Causes.{faults_after};
 ghost use Rattle.crash_disk.specs.Disk.{content};
 ghost use Rattle.crash_disk.specs.Calls.{WhereTold};
-ghost use Rattle.node_journal.specs.Image.{most};
-ghost use Rattle.node_journal.specs.Journal.{IsSettled, fresh_journal};
+ghost use Rattle.gate_journal.specs.Image.{most};
+ghost use Rattle.gate_journal.specs.Journal.{IsSettled, fresh_journal};
 ghost use Rattle.node_journal.specs.Begin.{init_steps, Inits, is_fault_refusal, is_init_fault, BeginsEmpty, RefusesEmpty, PassesPair, RefusesBehindNotes, RefusesBehindLeaves, BeginsPair};
 ghost use Rattle.node_journal.specs.Inside.{init_refusal_of, length_found, open_refusal_of, AsksLength, FindsOver, AppendsIdentity, OpensEmpty, RefusesEmptyOver};
 
-use super::journal::Journal;
-use super::refusal::{InitRefusal, JournalRefusal, Returned};
 use crash_disk::{Disk, DiskFailed};
+use gate_journal::{InitRefusal, Journal, JournalRefusal, Returned};
 use std::alloc::Global;
 
 // The length of the image of an empty journal.

@@ -1,16 +1,15 @@
 ghost use Rattle.std.specs.Prelude.{◌≡◌, ◌≤◌, true, false, length, Some, IfOk, IfErr};
 ghost use Rattle.crash_disk.specs.Calls.{WhereTold};
-ghost use Rattle.node_journal.specs.Image.{most};
-ghost use Rattle.node_journal.specs.Journal.{IsSettled};
+ghost use Rattle.gate_journal.specs.Image.{most};
+ghost use Rattle.gate_journal.specs.Journal.{IsSettled};
 ghost use Rattle.node_journal.specs.Role.{are_of, may_follow, role_in};
 ghost use Rattle.node_journal.specs.Notes.{Did, stopped_by, Opened, RefusesRole};
 ghost use Rattle.node_journal.specs.Inside.{stop_of};
 
-use super::journal::Journal;
-use super::refusal::{JournalRefusal, Returned};
 use super::role::{Role, role_refusal};
 use super::stop::Stop;
 use crash_disk::Disk;
+use gate_journal::{Journal, JournalRefusal, Returned};
 use plasma_base::Bytes;
 use std::alloc::Global;
 use std::marker::Model;

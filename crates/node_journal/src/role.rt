@@ -1,10 +1,10 @@
 ghost use Rattle.std.specs.Prelude.{◌≡◌, true, length, IfSome, IfOk};
 ghost use Rattle.std.specs.List.{prefix_len};
-ghost use Rattle.node_journal.specs.Image.{spelled};
+ghost use Rattle.gate_journal.specs.Image.{spelled};
 ghost use Rattle.node_journal.specs.Role.{Kinds, front_of};
 ghost use Rattle.node_journal.specs.Inside.{IsRoleRefusal};
 
-use super::refusal::JournalRefusal;
+use gate_journal::JournalRefusal;
 use plasma_base::{Bytes, NoMemory};
 use std::alloc::Global;
 

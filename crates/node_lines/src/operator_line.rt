@@ -7,7 +7,7 @@ use plasma_base::Bytes;
 use std::alloc::Global;
 
 /// A command of the operator's run.
-#[derive(Debug, Drop)]
+#[derive(Drop)]
 pub enum OperatorLine {
     /// `offer <hex>`: takes a signed transfer into the pool.
     Offer { transfer: Bytes },
@@ -30,7 +30,7 @@ pub enum OperatorLine {
 }
 
 /// The first word of an operator's command.
-#[derive(Debug, Clone, Copy, PartialEq, Eq)]
+#[derive(Clone, Copy, PartialEq, Eq)]
 pub enum OperatorLineName {
     Offer,
     Lay,

@@ -9,7 +9,7 @@ use plasma_tx::Owner;
 use std::alloc::Global;
 
 /// A command of a wallet's run.
-#[derive(Debug, Drop)]
+#[derive(Drop)]
 pub enum WalletLine {
     /// `accept <hex>`: takes a coin by its history.
     Accept {
@@ -47,7 +47,7 @@ pub enum WalletLine {
 }
 
 /// The first word of a wallet's command.
-#[derive(Debug, Clone, Copy, PartialEq, Eq)]
+#[derive(Clone, Copy, PartialEq, Eq)]
 pub enum WalletLineName {
     Accept,
     Send,

@@ -7,7 +7,7 @@ use plasma_base::Bytes;
 use std::alloc::Global;
 
 /// A command of a watcher's run.
-#[derive(Debug, Drop)]
+#[derive(Drop)]
 pub enum WatcherLine {
     /// `guard <hex>`: guards a coin, by its history.
     Guard { bundle: Bytes },
@@ -18,7 +18,7 @@ pub enum WatcherLine {
 }
 
 /// The first word of a watcher's command.
-#[derive(Debug, Clone, Copy, PartialEq, Eq)]
+#[derive(Clone, Copy, PartialEq, Eq)]
 pub enum WatcherLineName {
     Guard,
     Release,

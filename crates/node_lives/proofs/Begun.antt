@@ -5,10 +5,10 @@ use Rattle.std.proofs.lemmas.List.Elements.{All-nil, All-cons}
 use Rattle.crash_disk.specs.Disk.{History, FaultPlan}
 use Rattle.crash_disk.specs.Calls.{WhereTold}
 use Rattle.plasma_tx.specs.Spelling.{AreBytes}
-use Rattle.node_journal.specs.Life.{Stay}
+use Rattle.gate_journal.specs.Life.{Stay}
 use Rattle.node_journal.specs.Role.{Kinds, are_of}
-use Rattle.node_journal.specs.declared.refusal.InitRefusal.{InitRefusal}
-use Rattle.node_journal.proofs.Lives.{itself}
+use Rattle.gate_journal.specs.declared.refusal.InitRefusal.{InitRefusal}
+use Rattle.gate_journal.proofs.Lives.{itself}
 use Rattle.leaf_journal.specs.Records.{records_behind_of}
 use Rattle.node_rules.specs.WalletRecords.{wallet_kinds, notes_of}
 use Rattle.node_rules.specs.WalletOpening.{is_wallet}

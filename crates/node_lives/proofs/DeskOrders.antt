@@ -16,7 +16,7 @@ use Rattle.plasma_tx.specs.Views.{blocks}
 use Rattle.plasma_tx.proofs.Parts.{length-range}
 use Rattle.node_journal.specs.Effect.{first_cause}
 use Rattle.node_journal.specs.Role.{are_of}
-use Rattle.node_journal.proofs.Lives.{itself}
+use Rattle.gate_journal.proofs.Lives.{itself}
 use Rattle.leaf_journal.specs.Records.{leaf_records_of, may_follow_of, binding_record, is_marked, marker, messages_of}
 use Rattle.leaf_journal.proofs.Binding.{binding_follows}
 use Rattle.leaf_journal.proofs.Form.{all_same, one_more}

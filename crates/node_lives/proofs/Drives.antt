@@ -4,13 +4,13 @@ use Rattle.std.proofs.lemmas.List.Elements.{All-nil}
 use Rattle.plasma_base.specs.Causes.{faults_after}
 use Rattle.crash_disk.specs.Disk.{Step, asks_length, History, fresh_history, content, synced_content, with_call}
 use Rattle.crash_disk.specs.Calls.{Course, passed, failed_after, after_course, with_made, Made, GoesByPlan}
-use Rattle.node_journal.specs.Image.{most, spelled}
-use Rattle.node_journal.specs.Journal.{IsSettled}
+use Rattle.gate_journal.specs.Image.{most, spelled}
+use Rattle.gate_journal.specs.Journal.{IsSettled}
 use Rattle.node_journal.specs.Notes.{note_steps}
-use Rattle.node_journal.specs.Steps.{open_steps}
+use Rattle.gate_journal.specs.Steps.{open_steps}
 use Rattle.node_journal.specs.Begin.{journal_steps, init_steps}
-use Rattle.node_journal.proofs.Crash.{settled_now}
-use Rattle.node_journal.proofs.Rest.{appends_settle}
+use Rattle.gate_journal.proofs.Crash.{settled_now}
+use Rattle.gate_journal.proofs.Rest.{appends_settle}
 use Rattle.leaf_journal.specs.Records.{marker}
 use Rattle.node_lives.specs.Samples.{Drive, told, foretold, identity}
 

@@ -4,7 +4,7 @@ use Rattle.std.proofs.Common.{◌≡◌, ℕ, List, Option, Some, Result, Ok, Er
 use Rattle.std.specs.Prelude.{OnOk}
 use Rattle.crash_disk.specs.Disk.{History, content, FaultPlan}
 use Rattle.node_journal.specs.Role.{role_in}
-use Rattle.node_journal.specs.declared.refusal.InitRefusal.{InitRefusal}
+use Rattle.gate_journal.specs.declared.refusal.InitRefusal.{InitRefusal}
 use Rattle.node_replies.specs.Roles.{Role, Wallet, Watcher, Operator}
 use Rattle.run_endings.specs.declared.status.Status.{Status}
 use Rattle.run_endings.specs.declared.status.Status.TheVariants.{Done, NoMemory}

@@ -10,7 +10,7 @@ use Rattle.plasma_tx.specs.declared.call.RootCall.{RootCall}
 use Rattle.plasma_tx.specs.Views.{blocks}
 use Rattle.plasma_tx.specs.Spelling.{IsOwner, body_text, body_at_start}
 use Rattle.wallet_core.specs.declared.notes.LeafRecord.{LeafRecord}
-use Rattle.node_journal.specs.Life.{Continue}
+use Rattle.gate_journal.specs.Life.{Continue}
 use Rattle.leaf_journal.specs.Records.{is_marked, messages_of, binding_record}
 use Rattle.leaf_journal.proofs.Messages.{messages-append}
 use Rattle.node_rules.specs.declared.answers.Sent.{Sent}

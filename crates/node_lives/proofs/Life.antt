@@ -4,9 +4,9 @@ use Rattle.std.specs.List.{All, AllByRecursion}
 use Rattle.std.proofs.lemmas.List.Elements.{All-from_recursion, All-weaker}
 use Rattle.crash_disk.specs.Disk.{History, fresh_history, content, MayLeave, FaultPlan}
 use Rattle.crash_disk.proofs.Left.{content_may_be_left, fresh_disk_leaves_itself}
-use Rattle.node_journal.specs.Journal.{Keeps}
+use Rattle.gate_journal.specs.Journal.{Keeps}
 use Rattle.node_journal.specs.Role.{are_of}
-use Rattle.node_journal.proofs.Lives.{in_keeps}
+use Rattle.gate_journal.proofs.Lives.{in_keeps}
 use Rattle.node_rules.specs.Wallet.{WalletRecords}
 use Rattle.node_rules.proofs.WalletGrow.{wallet-parts}
 use Rattle.node_replies.specs.Roles.{Role, Wallet, Watcher, Operator}

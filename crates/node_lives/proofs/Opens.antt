@@ -4,12 +4,12 @@ use Rattle.std.proofs.Common.{◌≡◌, ℕ, Bool, true, List, Option, Some, No
 use Rattle.crash_disk.specs.Disk.{History, content, FaultPlan}
 use Rattle.crash_disk.specs.Calls.{passed, failed_after, stopped_after}
 use Rattle.crash_disk.proofs.Left.{content_may_be_left}
-use Rattle.node_journal.specs.Journal.{Keeps, RefusesOpen}
-use Rattle.node_journal.specs.Life.{Continue}
+use Rattle.gate_journal.specs.Journal.{Keeps, RefusesOpen}
+use Rattle.gate_journal.specs.Life.{Continue}
 use Rattle.node_journal.specs.Notes.{NotesState, Opened}
-use Rattle.node_journal.specs.declared.refusal.JournalRefusal.{JournalRefusal}
-use Rattle.node_journal.specs.declared.refusal.JournalRefusal.TheVariants.{AlreadyMade as MadeRefusal, NotJournal as PlaceRefusal, DeviceFault as FaultRefusal, Closed as ClosedRefusal, RecordTooLong as LongRefusal, NoMemory as MemoryRefusal}
-use Rattle.node_journal.proofs.Lives.{in_keeps}
+use Rattle.gate_journal.specs.declared.refusal.JournalRefusal.{JournalRefusal}
+use Rattle.gate_journal.specs.declared.refusal.JournalRefusal.TheVariants.{AlreadyMade as MadeRefusal, NotJournal as PlaceRefusal, DeviceFault as FaultRefusal, Closed as ClosedRefusal, RecordTooLong as LongRefusal, NoMemory as MemoryRefusal}
+use Rattle.gate_journal.proofs.Lives.{in_keeps}
 use Rattle.node_lives.proofs.Quiet.{Quietly, opening-quiet}
 use Rattle.node_lives.proofs.Stays.{StayTold, quiet-stays}
 

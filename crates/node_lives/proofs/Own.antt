@@ -4,9 +4,9 @@ use Rattle.std.proofs.Common.{◌≡◌, ◌≤◌, ◌⊎◌, ℕ, Bool, false,
 use Rattle.crash_disk.specs.Disk.{History, FaultPlan}
 use Rattle.plasma_tx.specs.declared.call.RootCall.{RootCall}
 use Rattle.plasma_tx.specs.Views.{blocks}
-use Rattle.node_journal.specs.Life.{Continue}
+use Rattle.gate_journal.specs.Life.{Continue}
 use Rattle.node_journal.specs.Notes.{NotesState}
-use Rattle.node_journal.proofs.Lives.{itself, one_more}
+use Rattle.gate_journal.proofs.Lives.{itself, one_more}
 use Rattle.node_rules.specs.Wallet.{WalletRecords}
 use Rattle.streamed_lines.specs.declared.TheConstants.{MOST_LINES}
 use Rattle.streamed_lines.specs.Streams.{Stream}

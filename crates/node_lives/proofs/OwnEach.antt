@@ -2,8 +2,8 @@
 use Rattle.std.proofs.Common.{◌≡◌, ℕ, Bool, true, List, [], Option, Some, None, option_map, sym, ap, ◌∙◌, subst, inl, inr}
 use Rattle.std.specs.Prelude.{unwrap_or}
 use Rattle.crash_disk.specs.Disk.{History}
-use Rattle.node_journal.specs.Life.{Continue}
-use Rattle.node_journal.proofs.Lives.{itself}
+use Rattle.gate_journal.specs.Life.{Continue}
+use Rattle.gate_journal.proofs.Lives.{itself}
 use Rattle.node_rules.specs.Wallet.{WalletRecords}
 use Rattle.node_replies.specs.Orders.{with_record}
 use Rattle.node_answers.specs.Answers.{Outcome}

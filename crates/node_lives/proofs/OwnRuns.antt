@@ -3,13 +3,13 @@
 use Rattle.std.proofs.Common.{◌≡◌, ℕ, Bool, true, List, [], Option, Some, None, is_some, Ok, refl, sym, ap, ◌∙◌, subst, inl, inr}
 use Rattle.std.proofs.lemmas.List.{append-nil}
 use Rattle.crash_disk.specs.Disk.{History, FaultPlan}
-use Rattle.node_journal.specs.Image.{journal_in}
-use Rattle.node_journal.specs.Journal.{Keeps as KeepsRecords}
-use Rattle.node_journal.specs.Life.{Continue}
+use Rattle.gate_journal.specs.Image.{journal_in}
+use Rattle.gate_journal.specs.Journal.{Keeps as KeepsRecords}
+use Rattle.gate_journal.specs.Life.{Continue}
 use Rattle.node_journal.specs.Notes.{NotesState, Opened}
 use Rattle.node_journal.specs.Role.{Kinds, are_of, role_in}
-use Rattle.node_journal.specs.declared.refusal.JournalRefusal.{JournalRefusal}
-use Rattle.node_journal.specs.declared.refusal.JournalRefusal.TheVariants.{NotJournal as PlaceRefusal}
+use Rattle.gate_journal.specs.declared.refusal.JournalRefusal.{JournalRefusal}
+use Rattle.gate_journal.specs.declared.refusal.JournalRefusal.TheVariants.{NotJournal as PlaceRefusal}
 use Rattle.leaf_journal.specs.Records.{leaf_records_read_of}
 use Rattle.receipt_audit.specs.Promises.{is_promise}
 use Rattle.operator_rules.specs.Records.{operator_kinds, who_is}

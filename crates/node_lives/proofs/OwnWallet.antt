@@ -4,12 +4,12 @@ use Rattle.std.proofs.Common.{◌≡◌, ◌≤◌, ◌<◌, ◌^◌, ℕ, true,
 use Rattle.crash_disk.specs.Disk.{History, content, FaultPlan}
 use Rattle.crash_disk.specs.Calls.{WhereTold}
 use Rattle.crash_disk.proofs.Left.{content_may_be_left}
-use Rattle.node_journal.specs.Image.{journal_in}
-use Rattle.node_journal.specs.Journal.{Keeps as KeepsRecords}
+use Rattle.gate_journal.specs.Image.{journal_in}
+use Rattle.gate_journal.specs.Journal.{Keeps as KeepsRecords}
 use Rattle.node_journal.specs.Notes.{NotesState, Opened}
 use Rattle.node_journal.specs.Role.{role_in}
-use Rattle.node_journal.specs.declared.refusal.JournalRefusal.{JournalRefusal}
-use Rattle.node_journal.specs.declared.refusal.JournalRefusal.TheVariants.{NotJournal as PlaceRefusal}
+use Rattle.gate_journal.specs.declared.refusal.JournalRefusal.{JournalRefusal}
+use Rattle.gate_journal.specs.declared.refusal.JournalRefusal.TheVariants.{NotJournal as PlaceRefusal}
 use Rattle.leaf_journal.specs.Records.{leaf_records_of, leaf_records_read_of, leaf_records_in_of}
 use Rattle.node_rules.specs.Wallet.{WalletRecords}
 use Rattle.node_rules.specs.WalletRecords.{wallet_kinds, is_body, leaves_in, notes_of, are_bound_notes}

@@ -4,14 +4,14 @@ use Rattle.std.specs.Option.{option_map}
 use Rattle.std.proofs.lemmas.List.{append-nil}
 use Rattle.crash_disk.specs.Disk.{Step, asks_length, reads, writes, syncs, History, content, MayLeave, with_call, LeavesOnly}
 use Rattle.crash_disk.specs.Calls.{Course, passed, failed_after, after_course}
-use Rattle.node_journal.specs.Image.{kept_records, spelled_record, spelled_records}
-use Rattle.node_journal.specs.Journal.{Keeps}
-use Rattle.node_journal.specs.Steps.{append_steps, open_steps}
-use Rattle.node_journal.specs.Make.{empty, is_made, look_steps}
+use Rattle.gate_journal.specs.Image.{kept_records, spelled_record, spelled_records}
+use Rattle.gate_journal.specs.Journal.{Keeps}
+use Rattle.gate_journal.specs.Steps.{append_steps, open_steps}
+use Rattle.gate_journal.specs.Make.{empty, is_made, look_steps}
 use Rattle.node_journal.specs.Begin.{has_content, is_taken, journal_steps, init_steps}
-use Rattle.node_journal.proofs.Front.{fronts}
-use Rattle.node_journal.proofs.Rest.{leaves_now}
-use Rattle.node_journal.proofs.Stopped.{quiet_leaves, stopped_openings}
+use Rattle.gate_journal.proofs.Front.{fronts}
+use Rattle.gate_journal.proofs.Rest.{leaves_now}
+use Rattle.gate_journal.proofs.Stopped.{quiet_leaves, stopped_openings}
 
 -- each image that a crash now may leave could have been left before
 abbrev pub LeavesNoMore : History → History → Type 0

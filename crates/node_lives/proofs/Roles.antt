@@ -4,8 +4,8 @@ use Rattle.std.proofs.lemmas.Bool.{and_parts, eqb-true}
 use Rattle.std.specs.Result.{result_ok}
 use Rattle.std.specs.List.{slice_range}
 use Rattle.plasma_tx.specs.Spelling.{number_at}
-use Rattle.node_journal.specs.Image.{spelled, journal_in}
-use Rattle.node_journal.specs.Journal.{Keeps}
+use Rattle.gate_journal.specs.Image.{spelled, journal_in}
+use Rattle.gate_journal.specs.Journal.{Keeps}
 use Rattle.node_journal.specs.Role.{Kinds, are_of, front_of, read_of_kinds, role_in}
 use Rattle.node_rules.specs.Watcher.{identity_in as watcher_in}
 use Rattle.node_rules.specs.WalletRecords.{identity_in as wallet_in, identity_of as wallet_identity_of, types_in, may_be_second}

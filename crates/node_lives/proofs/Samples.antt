@@ -4,14 +4,14 @@ use Rattle.crash_disk.specs.Disk.{Step, content, synced_content, LeavesOnly}
 use Rattle.crash_disk.specs.Calls.{WhereTold, passed, failed_after}
 use Rattle.crash_disk.specs.declared.outcome.Outcome.TheVariants.{Old}
 use Rattle.crash_disk.proofs.Images.{outcomes}
-use Rattle.node_journal.specs.Image.{journal_in}
-use Rattle.node_journal.specs.Journal.{IsSettled, KeepsWithOrWithout}
-use Rattle.node_journal.specs.Steps.{open_steps}
+use Rattle.gate_journal.specs.Image.{journal_in}
+use Rattle.gate_journal.specs.Journal.{IsSettled, KeepsWithOrWithout}
+use Rattle.gate_journal.specs.Steps.{open_steps}
 use Rattle.node_journal.specs.Notes.{Opened}
 use Rattle.node_journal.specs.Role.{are_of, role_in}
 use Rattle.node_journal.specs.Begin.{is_taken, journal_steps, init_steps, InitsOver, PassesInit}
-use Rattle.node_journal.specs.declared.refusal.InitRefusal.TheVariants.{DeviceFault as InitFault}
-use Rattle.node_journal.proofs.Rest.{settled_rests, course_leaves}
+use Rattle.gate_journal.specs.declared.refusal.InitRefusal.TheVariants.{DeviceFault as InitFault}
+use Rattle.gate_journal.proofs.Rest.{settled_rests, course_leaves}
 use Rattle.leaf_journal.specs.Records.{marker, leaf_records_of, leaf_records_read_of, leaf_records_in_of, records_behind_of}
 use Rattle.node_rules.specs.WalletRecords.{wallet_kinds, is_body, identity_in, notes_of}
 use Rattle.node_rules.specs.WalletOpening.{leaves_of}

@@ -1,6 +1,6 @@
 -- The seed of an operator's key, which its first record says, and later records too.
 use Rattle.std.proofs.Common.{◌≡◌, ℕ, List, [], ◌∷◌, ◌++◌, Option, None, refl, ap, ◌∙◌}
-use Rattle.node_journal.specs.Life.{Continue}
+use Rattle.gate_journal.specs.Life.{Continue}
 use Rattle.node_rules.specs.Wallet.{WalletRecords}
 use Rattle.operator_rules.specs.Records.{who_is}
 use Rattle.node_replies.specs.Roles.{Role, Wallet, Watcher, Operator}

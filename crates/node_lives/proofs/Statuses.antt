@@ -1,9 +1,9 @@
 -- The status of a run by the output that it ends as.
 use Rattle.std.proofs.Common.{◌≡◌, ◌⊎◌, ℕ, List, Option, Result, Ok, Err, refl, sym, ◌∙◌, subst, inl, inr}
-use Rattle.node_journal.specs.declared.refusal.JournalRefusal.{JournalRefusal}
-use Rattle.node_journal.specs.declared.refusal.JournalRefusal.TheVariants.{AlreadyMade as MadeRefusal, NotJournal as PlaceRefusal, DeviceFault as FaultRefusal, Closed as ClosedRefusal, RecordTooLong as LongRefusal, NoMemory as MemoryRefusal}
-use Rattle.node_journal.specs.declared.refusal.InitRefusal.{InitRefusal}
-use Rattle.node_journal.specs.declared.refusal.InitRefusal.TheVariants.{AlreadyMade as InitMade, DeviceFault as InitFault, NoMemory as InitNoMemory}
+use Rattle.gate_journal.specs.declared.refusal.JournalRefusal.{JournalRefusal}
+use Rattle.gate_journal.specs.declared.refusal.JournalRefusal.TheVariants.{AlreadyMade as MadeRefusal, NotJournal as PlaceRefusal, DeviceFault as FaultRefusal, Closed as ClosedRefusal, RecordTooLong as LongRefusal, NoMemory as MemoryRefusal}
+use Rattle.gate_journal.specs.declared.refusal.InitRefusal.{InitRefusal}
+use Rattle.gate_journal.specs.declared.refusal.InitRefusal.TheVariants.{AlreadyMade as InitMade, DeviceFault as InitFault, NoMemory as InitNoMemory}
 use Rattle.streamed_lines.specs.declared.ending.Ending.{Ending}
 use Rattle.streamed_lines.specs.declared.ending.Ending.TheVariants.{Complete, BadLine as BadLineEnding, ReadFault as ReadFaultEnding, TooLong as TooLongEnding, Ended}
 use Rattle.run_endings.specs.declared.status.Status.{Status}

@@ -3,13 +3,13 @@
 use Rattle.std.proofs.Common.{◌≡◌, ℕ, Bool, true, List, [], ◌∷◌, ◌++◌, length, Option, Some, ◌∙◌, ap, subst, inl, inr, append_assoc}
 use Rattle.crash_disk.specs.Disk.{History, MayLeave, LeavesOnly}
 use Rattle.crash_disk.specs.Calls.{WhereTold, failed_after, after_course}
-use Rattle.node_journal.specs.Image.{spelled}
-use Rattle.node_journal.specs.Journal.{Keeps, KeepsWithOrWithout, IsSettled}
-use Rattle.node_journal.specs.Life.{Continue, Stay}
+use Rattle.gate_journal.specs.Image.{spelled}
+use Rattle.gate_journal.specs.Journal.{Keeps, KeepsWithOrWithout, IsSettled}
+use Rattle.gate_journal.specs.Life.{Continue, Stay}
 use Rattle.node_journal.specs.Notes.{KeepsAtAnyMoment}
-use Rattle.node_journal.specs.Steps.{append_steps}
-use Rattle.node_journal.proofs.Lives.{one_more, in_from}
-use Rattle.node_journal.proofs.Rest.{leaves_now}
+use Rattle.gate_journal.specs.Steps.{append_steps}
+use Rattle.gate_journal.proofs.Lives.{one_more, in_from}
+use Rattle.gate_journal.proofs.Rest.{leaves_now}
 use Rattle.node_lives.proofs.Quiet.{Quietly, MadeOver, made-now, told-before}
 
 -- what continues records continues those that these continue

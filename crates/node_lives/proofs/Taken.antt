@@ -5,11 +5,11 @@ use Rattle.std.specs.Option.{option_map}
 use Rattle.crash_disk.specs.Disk.{Step, asks_length, History, content, MayLeave, FaultPlan, with_call}
 use Rattle.crash_disk.specs.Calls.{WhereTold, Course, Made}
 use Rattle.crash_disk.proofs.Left.{content_may_be_left}
-use Rattle.node_journal.specs.Steps.{open_steps}
-use Rattle.node_journal.specs.Make.{look_steps}
+use Rattle.gate_journal.specs.Steps.{open_steps}
+use Rattle.gate_journal.specs.Make.{look_steps}
 use Rattle.node_journal.specs.Begin.{is_taken, journal_steps, init_steps, InitsOver, Inits, StopsBehindOver, PassesInit, IsAsked, IsNotTold, RefusesPair, BeginsPair}
-use Rattle.node_journal.specs.declared.refusal.InitRefusal.{InitRefusal}
-use Rattle.node_journal.specs.declared.refusal.InitRefusal.TheVariants.{AlreadyMade, DeviceFault, NoMemory}
+use Rattle.gate_journal.specs.declared.refusal.InitRefusal.{InitRefusal}
+use Rattle.gate_journal.specs.declared.refusal.InitRefusal.TheVariants.{AlreadyMade, DeviceFault, NoMemory}
 use Rattle.node_lives.proofs.Quiet.{Quietly, quiet-same, quiet-behind, asked-quiet, HasRecord, recorded-taken, recorded-long, journal-calls, init-calls, init-quiet}
 
 -- each image that a crash now may leave keeps a record, where the disk tells

@@ -4,8 +4,8 @@ use Rattle.std.specs.List.{All}
 use Rattle.std.specs.Result.{is_ok}
 use Rattle.crash_disk.specs.Disk.{History, MayLeave}
 use Rattle.crash_disk.specs.Calls.{WhereTold}
-use Rattle.node_journal.specs.Journal.{Keeps}
-use Rattle.node_journal.specs.Life.{Continue, Stay}
+use Rattle.gate_journal.specs.Journal.{Keeps}
+use Rattle.gate_journal.specs.Life.{Continue, Stay}
 use Rattle.node_journal.specs.Role.{Kinds, are_of}
 use Rattle.lms_sign.specs.Tree.{public_key_of}
 use Rattle.leaf_journal.specs.Leaves.{leaves_of}

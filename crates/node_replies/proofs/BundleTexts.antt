@@ -1,6 +1,6 @@
 -- A bundle that is bytes, and what is kept of it, are bytes.
 use Rattle.std.proofs.Common.{◌≡◌, ℕ, List, [], ◌∷◌, ◌++◌, map, length, Some, None, Ok, sym, subst}
-use Rattle.std.specs.Prelude.{option_map, Result}
+use Rattle.std.specs.Prelude.{option_map}
 use Rattle.std.specs.List.{AllByRecursion, flat_map, cons_option}
 use Rattle.plasma_tx.specs.declared.opening.RawOpening.{RawOpening}
 use Rattle.plasma_tx.specs.declared.links.Link.{Link}

@@ -2,7 +2,7 @@ use plasma_base::Bytes;
 use plasma_tx::Owner;
 
 /// A command of a wallet whose tokens are resolved: the bytes of a bundle, and the owner that a coin is sent to.
-#[derive(Debug, Drop)]
+#[derive(Drop)]
 pub enum WalletOrder {
     /// Takes a coin up by its history.
     Accept {
@@ -33,7 +33,7 @@ pub enum WalletOrder {
 }
 
 /// A command of a watcher, with the bytes and numbers that it names.
-#[derive(Debug, Drop)]
+#[derive(Drop)]
 pub enum WatcherOrder {
     /// Guards a coin by the bundle of its history, which these bytes spell.
     Guard { bundle: Bytes },
@@ -44,7 +44,7 @@ pub enum WatcherOrder {
 }
 
 /// A command of the operator, with the bytes and numbers that it names.
-#[derive(Debug, Drop)]
+#[derive(Drop)]
 pub enum OperatorOrder {
     /// Puts a signed transfer, which these bytes spell, into the pool.
     Offer { transfer: Bytes },
@@ -61,7 +61,7 @@ pub enum OperatorOrder {
 }
 
 /// A command of a node whose tokens are resolved.
-#[derive(Debug, Drop)]
+#[derive(Drop)]
 pub enum NodeOrder {
     /// A command of a wallet.
     Wallet(WalletOrder),

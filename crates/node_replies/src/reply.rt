@@ -4,7 +4,7 @@ use plasma_base::Bytes;
 use std::marker::Model;
 
 /// What a line of a schedule is answered: one variant for each answer, with its numbers.
-#[derive(Debug, Drop)]
+#[derive(Drop)]
 pub enum Reply {
     /// The chain begins.
     Chain,
@@ -81,7 +81,7 @@ pub enum Reply {
 }
 
 /// The kinds of call that a watch may offer.
-#[derive(Debug, Clone, Copy, PartialEq, Eq)]
+#[derive(Clone, Copy, PartialEq, Eq)]
 pub enum OfferKind {
     After,
     Between,
@@ -90,7 +90,7 @@ pub enum OfferKind {
 }
 
 /// The kinds of offered calls in order, which contracts see as a list.
-#[derive(Debug, Drop)]
+#[derive(Drop)]
 pub struct OfferKinds {
     items: Vec<OfferKind>,
 }

@@ -5,8 +5,8 @@ use Rattle.std.proofs.lemmas.Bool.{true≢false}
 use Rattle.plasma_base.specs.Causes.{faults_after}
 use Rattle.crash_disk.specs.Disk.{History, FaultPlan}
 use Rattle.crash_disk.specs.Calls.{passed, failed_after, after_course}
-use Rattle.node_journal.specs.Image.{spelled}
-use Rattle.node_journal.specs.Steps.{append_steps}
+use Rattle.gate_journal.specs.Image.{spelled}
+use Rattle.gate_journal.specs.Steps.{append_steps}
 use Rattle.node_journal.specs.Notes.{NotesState, Adds, Fails, Did, KeepsAtAnyMoment}
 use Rattle.node_journal.specs.declared.stop.Stop.{Stop}
 use Rattle.node_journal.specs.declared.stop.Stop.TheVariants.{Closed, NoMemory, DeviceFault}

@@ -2,7 +2,7 @@
 use Rattle.std.proofs.Common.{◌≡◌, ◌⊎◌, ℕ, false, List, ◌++◌, ◌∷◌, [], Option, Some, None, sym, ap, ◌∙◌, subst, inl, inr}
 use Rattle.crash_disk.specs.Disk.{History, FaultPlan}
 use Rattle.crash_disk.specs.Calls.{WhereTold}
-use Rattle.node_journal.specs.Journal.{IsSettled}
+use Rattle.gate_journal.specs.Journal.{IsSettled}
 use Rattle.node_journal.specs.Notes.{NotesState}
 use Rattle.node_journal.specs.declared.stop.Stop.{Stop}
 use Rattle.node_rules.specs.WalletRecords.{who_is}

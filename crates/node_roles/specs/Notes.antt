@@ -3,9 +3,9 @@ use Rattle.std.specs.Prelude.{◌≡◌, ℕ, ◌<◌, true, false, List, [], �
 use Rattle.plasma_base.specs.Causes.{faults_after}
 use Rattle.crash_disk.specs.Disk.{History}
 use Rattle.crash_disk.specs.Calls.{Course, passed, failed_after, after_course, WhereTold}
-use Rattle.node_journal.specs.Image.{spelled}
-use Rattle.node_journal.specs.Journal.{IsSettled}
-use Rattle.node_journal.specs.Steps.{append_steps}
+use Rattle.gate_journal.specs.Image.{spelled}
+use Rattle.gate_journal.specs.Journal.{IsSettled}
+use Rattle.gate_journal.specs.Steps.{append_steps}
 use Rattle.node_journal.specs.Notes.{NotesState, KeepsAtAnyMoment}
 
 -- the records of notes, what their disk tells, and its count of faults

@@ -4,7 +4,7 @@ use Rattle.std.specs.Prelude.{ℕ, ◌&&◌, Bool, true, List, [], ◌∷◌, le
 use Rattle.std.specs.List.{take_while}
 use Rattle.std.specs.Option.{option_map_or}
 use Rattle.std.specs.Result.{is_ok}
-use Rattle.node_journal.specs.Image.{spelled}
+use Rattle.gate_journal.specs.Image.{spelled}
 use Rattle.node_journal.specs.Role.{are_of}
 use Rattle.lms_sign.specs.Types.{leaf_count}
 use Rattle.leaf_journal.specs.Records.{leaf_records_of}

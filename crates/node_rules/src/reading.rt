@@ -39,7 +39,7 @@ fn shown_link<H: Hash32>(
         (if is_ok (opening_in (H.digest_of h.now) opening.now) then link_of (chain_of tag.now) coin opening.now
         else None)) }
 {
-    let read = match opening.open_up_with_defaults(alloc, h, defaults) {
+    let read = match opening.open_up_with_defaults(h, defaults) {
         Ok(read) => read,
         Err(OpeningRefusal::Unreadable) => return Ok(None),
         Err(OpeningRefusal::NoMemory) => return Err(NoMemory),

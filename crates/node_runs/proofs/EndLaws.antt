@@ -8,16 +8,12 @@ use Rattle.streamed_lines.specs.Reading.{is_read_fault}
 use Rattle.streamed_lines.proofs.OutsideLaws.{wrote-none, wrote-more}
 use Rattle.run_endings.specs.declared.status.Status.{Status}
 use Rattle.run_endings.specs.declared.status.Status.TheVariants.{Done, Refused, Usage, BadLine as BadLineStatus, ReadFault as ReadFaultStatus, WriteFault, DeviceFault, NoMemory, TooLong as TooLongStatus, NotJournal, AlreadyMade}
-use Rattle.run_endings.specs.Statuses.{ReadsBy}
 use Rattle.run_endings.specs.Outputs.{Output, Stops, EndsAs}
 use Rattle.run_endings.specs.Endings.{status_of}
 
 -- nothing was written of a text
 pub front-none : (before : Option (List ℕ)) (text : List ℕ) → WroteFront before before text
 front-none before text = record { front = []; back = text; whole = refl; wrote = wrote-none before }
-
-pub stops-none : (output : Output) (before : Option (List ℕ)) → Stops output before before (Unit {0})
-stops-none output before = record { front = front-none before (output.answers ++ output.last); fault = λ is. inl tt }
 
 -- a beginning that was written behind a text
 front-more : (a b c : Option (List ℕ)) (put text : List ℕ) → Wrote a b put → WroteFront b c text
@@ -96,44 +92,3 @@ module _ (Reads : Bool → Type 0) where
   differs : (ending : Ending (List ℕ)) (status : Status) → status_of ending ≡ status → status ≢ ReadFaultStatus
       → status_of ending ≢ ReadFaultStatus
   differs ending status is no_fault same = no_fault (sym is ∙ same)
-
-  -- of a session that ended so, in a run with this status
-  pub reads-by : (ending : Ending (List ℕ)) (status : Status) (text last : List ℕ) (b c : Option (List ℕ))
-      → Reads (is_read_fault (Ok ending))
-      → EndsAs (record { status = status_of ending; answers = text; last = last }) status b c (Unit {0})
-      → ReadsBy status Reads
-  reads-by ending WriteFault text last b c reads ends = (is_read_fault (Ok ending), reads)
-  reads-by ending NoMemory text last b c reads ends = (is_read_fault (Ok ending), reads)
-  reads-by ending ReadFaultStatus text last b c reads ends = failed-of ending reads ends.0.0
-  reads-by ending Done text last b c reads ends =
-      unfailed-of ending reads (differs ending Done ends.0 (λ wrong. absurd (cc)))
-  reads-by ending Refused text last b c reads ends =
-      unfailed-of ending reads (differs ending Refused ends.0 (λ wrong. absurd (cc)))
-  reads-by ending Usage text last b c reads ends =
-      unfailed-of ending reads (differs ending Usage ends.0 (λ wrong. absurd (cc)))
-  reads-by ending BadLineStatus text last b c reads ends =
-      unfailed-of ending reads (differs ending BadLineStatus ends.0 (λ wrong. absurd (cc)))
-  reads-by ending DeviceFault text last b c reads ends =
-      unfailed-of ending reads (differs ending DeviceFault ends.0 (λ wrong. absurd (cc)))
-  reads-by ending TooLongStatus text last b c reads ends =
-      unfailed-of ending reads (differs ending TooLongStatus ends.0 (λ wrong. absurd (cc)))
-  reads-by ending NotJournal text last b c reads ends =
-      unfailed-of ending reads (differs ending NotJournal ends.0 (λ wrong. absurd (cc)))
-  reads-by ending AlreadyMade text last b c reads ends =
-      unfailed-of ending reads (differs ending AlreadyMade ends.0 (λ wrong. absurd (cc)))
-
-  -- of a run that met a device fault, whose reading had none
-  pub reads-unfaulted : (status : Status) (text last : List ℕ) (b c : Option (List ℕ)) → Reads false
-      → EndsAs (record { status = DeviceFault; answers = text; last = last }) status b c (Unit {0})
-      → ReadsBy status Reads
-  reads-unfaulted WriteFault text last b c reads ends = (false, reads)
-  reads-unfaulted NoMemory text last b c reads ends = (false, reads)
-  reads-unfaulted ReadFaultStatus text last b c reads ends = absurd (cc (ends.0.0))
-  reads-unfaulted Done text last b c reads ends = reads
-  reads-unfaulted Refused text last b c reads ends = reads
-  reads-unfaulted Usage text last b c reads ends = reads
-  reads-unfaulted BadLineStatus text last b c reads ends = reads
-  reads-unfaulted DeviceFault text last b c reads ends = reads
-  reads-unfaulted TooLongStatus text last b c reads ends = reads
-  reads-unfaulted NotJournal text last b c reads ends = reads
-  reads-unfaulted AlreadyMade text last b c reads ends = reads

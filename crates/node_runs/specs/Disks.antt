@@ -3,7 +3,7 @@ use Rattle.std.specs.Prelude.{◌≡◌, ℕ, ◌<◌, true, List, Option}
 use Rattle.plasma_base.specs.Causes.{faults_after}
 use Rattle.crash_disk.specs.Disk.{History}
 use Rattle.crash_disk.specs.Calls.{WhereTold, failed_after}
-use Rattle.node_journal.specs.Journal.{IsSettled}
+use Rattle.gate_journal.specs.Journal.{IsSettled}
 use Rattle.node_journal.specs.Notes.{NotesState, KeepsAtAnyMoment}
 use Rattle.node_answers.specs.Answers.{Outcome}
 use Rattle.node_roles.specs.Notes.{NotesAt, told_after}

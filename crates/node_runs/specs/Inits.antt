@@ -3,8 +3,8 @@ use Rattle.std.specs.Prelude.{◌≡◌, ℕ, List, [], ◌∷◌, Option, Resul
 use Rattle.plasma_base.specs.Causes.{faults_after}
 use Rattle.crash_disk.specs.Disk.{History, FaultPlan}
 use Rattle.crash_disk.specs.Calls.{WhereTold}
-use Rattle.node_journal.specs.Journal.{IsSettled}
-use Rattle.node_journal.specs.declared.refusal.InitRefusal.{InitRefusal}
+use Rattle.gate_journal.specs.Journal.{IsSettled}
+use Rattle.gate_journal.specs.declared.refusal.InitRefusal.{InitRefusal}
 use Rattle.node_journal.specs.Begin.{init_steps, Inits, is_init_fault, BeginsPair}
 use Rattle.run_endings.specs.declared.status.Status.{Status}
 use Rattle.run_endings.specs.Outputs.{EndsAs}

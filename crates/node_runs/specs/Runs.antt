@@ -1,7 +1,7 @@
 -- What a run of a node does: of a watcher, and of a wallet.
 use Rattle.std.specs.Prelude.{◌⊎◌, ℕ, false, List, [], Option}
 use Rattle.crash_disk.specs.Disk.{History, FaultPlan}
-use Rattle.node_journal.specs.declared.refusal.JournalRefusal.{JournalRefusal}
+use Rattle.gate_journal.specs.declared.refusal.JournalRefusal.{JournalRefusal}
 use Rattle.node_journal.specs.Notes.{NotesState, Opened, RefusesRole}
 use Rattle.node_journal.specs.Role.{role_in}
 use Rattle.node_rules.specs.Watcher.{watcher_kinds}

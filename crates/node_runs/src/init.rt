@@ -11,11 +11,14 @@ ghost use Rattle.node_runs.specs.Endings.{init_output, refused_init};
 ghost use Rattle.node_runs.specs.Inits.{InitsNotes, InitsPair};
 
 use crash_disk::Disk;
-use node_journal::InitRefusal;
+use gate_journal::InitRefusal;
 use node_rules::WalletIdentity;
+use operator_core::Operator;
 use plasma_outside::Sink;
 use run_endings::{Status, push_already_made, put_line};
 use std::alloc::Global;
+use wallet_node::WalletNode;
+use watcher_node::WatcherNode;
 
 // Puts that a disk which is to be begun has so many bytes.
 fn put_already_made<K: Sink>(alloc: Global, sink: &mut K, length: u64) -> Status
@@ -74,7 +77,7 @@ pub fn init_watcher<D: Disk, K: Sink>(
     ensures no_read_fault { result.1 ≢ Status.ReadFault }
     ensures sink_faults { K.faults sink.new ≡ faults_after (K.faults sink.old) (is_write_fault result.1) }
 {
-    let (notes, answer) = watcher_node::init(alloc, notes, tag, account);
+    let (notes, answer) = WatcherNode::init(alloc, notes, tag, account);
     let status = put_init_answer(alloc, sink, answer);
     (notes, status)
 }
@@ -92,7 +95,7 @@ pub fn init_operator<D: Disk, K: Sink>(
     ensures no_read_fault { result.1 ≢ Status.ReadFault }
     ensures sink_faults { K.faults sink.new ≡ faults_after (K.faults sink.old) (is_write_fault result.1) }
 {
-    let (notes, answer) = operator_core::init(alloc, notes, tag, account);
+    let (notes, answer) = Operator::init(alloc, notes, tag, account);
     let status = put_init_answer(alloc, sink, answer);
     (notes, status)
 }
@@ -112,7 +115,7 @@ pub fn init_wallet<D: Disk, K: Sink>(
     ensures no_read_fault { result.2 ≢ Status.ReadFault }
     ensures sink_faults { K.faults sink.new ≡ faults_after (K.faults sink.old) (is_write_fault result.2) }
 {
-    let (notes, leaves, answer) = wallet_node::init(alloc, notes, leaves, who);
+    let (notes, leaves, answer) = WalletNode::init(alloc, notes, leaves, who);
     let status = put_init_answer(alloc, sink, answer);
     (notes, leaves, status)
 }
@@ -134,9 +137,7 @@ pub fn init_operator_with_key<D: Disk, K: Sink>(
     ensures no_read_fault { result.2 ≢ Status.ReadFault }
     ensures sink_faults { K.faults sink.new ≡ faults_after (K.faults sink.old) (is_write_fault result.2) }
 {
-    let (notes, leaves, answer) = operator_core::init_with_key(
-        alloc, notes, leaves, tag, account, seed,
-    );
+    let (notes, leaves, answer) = Operator::init_with_key(alloc, notes, leaves, tag, account, seed);
     let status = put_init_answer(alloc, sink, answer);
     (notes, leaves, status)
 }

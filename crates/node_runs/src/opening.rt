@@ -1,11 +1,11 @@
 ghost use Rattle.std.specs.Prelude.{◌≡◌, ◌≢◌, OnOk};
 ghost use Rattle.plasma_base.specs.Causes.{faults_after};
-ghost use Rattle.node_journal.specs.declared.refusal.JournalRefusal.{JournalRefusal};
+ghost use Rattle.gate_journal.specs.declared.refusal.JournalRefusal.{JournalRefusal};
 ghost use Rattle.run_endings.specs.Statuses.{is_write_fault};
 ghost use Rattle.run_endings.specs.Outputs.{EndsAs};
 ghost use Rattle.node_runs.specs.Endings.{refused_output};
 
-use node_journal::JournalRefusal;
+use gate_journal::JournalRefusal;
 use plasma_outside::Sink;
 use run_endings::{Status, push_not_journal, put_line};
 use std::alloc::Global;

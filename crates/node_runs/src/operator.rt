@@ -1,7 +1,7 @@
 ghost use Rattle.std.specs.Prelude.{◌≡◌, true, false, Some, Option, List, ℕ};
 ghost use Rattle.plasma_base.specs.Causes.{faults_after};
 ghost use Rattle.crash_disk.specs.Calls.{WhereTold};
-ghost use Rattle.node_journal.specs.Journal.{IsSettled};
+ghost use Rattle.gate_journal.specs.Journal.{IsSettled};
 ghost use Rattle.operator_rules.specs.Records.{who_is};
 ghost use Rattle.streamed_lines.specs.Outside.{ReadsToFault};
 ghost use Rattle.run_endings.specs.Statuses.{is_write_fault, ReadsBy};
@@ -11,8 +11,8 @@ ghost use Rattle.node_runs.specs.Prompt.{OperatorPromptly, PromptlyBehind};
 use super::opening::put_opening_refusal;
 use super::session::run_session;
 use crash_disk::Disk;
+use gate_journal::{JournalRefusal, Returned};
 use node_answers::KeyedOperator;
-use node_journal::{JournalRefusal, Returned};
 use node_roles::{DeskRun, OperatorRun};
 use operator_core::Operator;
 use plasma_base::Hash32;

@@ -8,7 +8,7 @@ ghost use Rattle.node_runs.specs.Prompt.{WatcherPromptly};
 use super::opening::put_opening_refusal;
 use super::session::run_session;
 use crash_disk::Disk;
-use node_journal::Returned;
+use gate_journal::Returned;
 use node_roles::WatcherRun;
 use plasma_base::Hash32;
 use plasma_outside::{Sink, Source};

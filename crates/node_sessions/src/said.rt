@@ -1,7 +1,7 @@
 use plasma_base::Bytes;
 
 /// What a node's command came to.
-#[derive(Debug, Drop)]
+#[derive(Drop)]
 pub enum Said {
     /// It was answered, and its answer was put.
     Answered,

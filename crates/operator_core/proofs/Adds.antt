@@ -4,7 +4,7 @@ use Rattle.std.specs.Prelude.{nat_lt, ◌≤◌}
 use Rattle.std.proofs.lemmas.Bool.{le-ltb, lt-ltb}
 use Rattle.std.proofs.lemmas.List.Elements.{All-push}
 use Rattle.node_journal.specs.Effect.{only}
-use Rattle.node_journal.specs.Image.{most}
+use Rattle.gate_journal.specs.Image.{most}
 use Rattle.node_journal.specs.Role.{are_of}
 use Rattle.plasma_tx.specs.declared.call.RootCall.{RootCall}
 use Rattle.plasma_tx.specs.Spelling.{number_text}

@@ -3,11 +3,11 @@ use Rattle.std.proofs.Common.{◌≡◌, ℕ, List, [], length, Option, Some, No
 use Rattle.crash_disk.specs.Disk.{Step, History, content, FaultPlan}
 use Rattle.crash_disk.specs.Calls.{passed, stopped_after, after_course, Made}
 use Rattle.crash_disk.proofs.Calls.{made_stop}
-use Rattle.node_journal.specs.declared.refusal.JournalRefusal.TheVariants.{NotJournal, NoMemory as JournalNoMemory}
-use Rattle.node_journal.specs.declared.refusal.InitRefusal.TheVariants.{NoMemory}
+use Rattle.gate_journal.specs.declared.refusal.JournalRefusal.TheVariants.{NotJournal, NoMemory as JournalNoMemory}
+use Rattle.gate_journal.specs.declared.refusal.InitRefusal.TheVariants.{NoMemory}
 use Rattle.node_journal.specs.Begin.{Inits, BeginsPair}
 use Rattle.node_journal.specs.Notes.{NotesState, Opened, RefusesRole}
-use Rattle.node_journal.specs.Steps.{open_steps}
+use Rattle.gate_journal.specs.Steps.{open_steps}
 use Rattle.operator_core.specs.Inside.{FitJournal}
 
 pub given_up : {D : Type 0} (told : D → Option History) (plan : D → Option FaultPlan) (faults : D → ℕ)

@@ -6,7 +6,7 @@ use Rattle.std.specs.Option.{option_map, option_and_then}
 use Rattle.std.specs.Str.{bytes_eq}
 use Rattle.std.proofs.lemmas.Bool.{cases_eq}
 use Rattle.std.proofs.lemmas.List.Elements.{All-nil, All-head, All-tail}
-use Rattle.node_journal.specs.Image.{most}
+use Rattle.gate_journal.specs.Image.{most}
 use Rattle.sparse_merkle.specs.declared.tree.Entry.{Entry}
 use Rattle.sparse_merkle.specs.TreeDigest.{leaf_of, with_leaf, root_of}
 use Rattle.sparse_merkle.proofs.TreeLaws.{leaf_of-with_leaf, leaf_of-with_other}

@@ -6,7 +6,7 @@ use Rattle.std.specs.Str.{bytes_eq}
 use Rattle.merkle_pages.specs.Nodes.{HashedMap}
 use Rattle.sparse_merkle.specs.declared.tree.Entry.{Entry}
 use Rattle.sparse_merkle.specs.TreeDigest.{leaf_of, root_of}
-use Rattle.node_journal.specs.Image.{most}
+use Rattle.gate_journal.specs.Image.{most}
 use Rattle.node_journal.specs.Role.{may_follow}
 use Rattle.node_journal.specs.declared.stop.Stop.{Stop}
 use Rattle.node_journal.specs.declared.stop.Stop.TheVariants.{Closed, NoMemory, DeviceFault}

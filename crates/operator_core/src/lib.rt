@@ -13,5 +13,5 @@ mod showing;
 mod trees;
 mod walk;
 
-pub use beginning::{init, init_with_key};
 pub use operator::Operator;
+pub use operator_rules::{LayRefusal, OfferRefusal, ProveRefusal, SealRefusal, Sealed};

@@ -1,7 +1,7 @@
 ghost use Rattle.std.specs.Prelude.{◌≡◌, ◌≢◌, ◌-◌, ◌≤◌, ◌<◌, ◌^◌, None, Some, Ok, Err, true, false, length, IfOk, IfErr};
 ghost use Rattle.std.specs.List.{All};
 ghost use Rattle.crash_disk.specs.Calls.{WhereTold};
-ghost use Rattle.node_journal.specs.Journal.{IsSettled};
+ghost use Rattle.gate_journal.specs.Journal.{IsSettled};
 ghost use Rattle.node_journal.specs.Role.{are_of, role_in};
 ghost use Rattle.node_journal.specs.Notes.{Did, stopped_by, Opened, RefusesRole};
 ghost use Rattle.operator_core.specs.State.{offer_stop, lay_stop, seal_stop};
@@ -19,7 +19,8 @@ use super::showing::{bundle_between, bundle_of, is_narrow, opening_at};
 use super::trees::Trees;
 use coin_history::Bundle;
 use crash_disk::Disk;
-use node_journal::{JournalRefusal, Notes, Returned, Stop};
+use gate_journal::{JournalRefusal, Returned};
+use node_journal::{Notes, Stop};
 use operator_rules::{LayRefusal, MOST_LAID, OfferRefusal, ProveRefusal, SealRefusal, Sealed};
 use plasma_base::{Bytes, Hash32, Sha};
 use plasma_tx::{RawOpening, RootCall, RootLog};

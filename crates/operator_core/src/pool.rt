@@ -2,7 +2,7 @@ ghost use Rattle.std.specs.Prelude.{◌≡◌, [], IfOk, OnOk, OnErr};
 ghost use Rattle.sparse_merkle.specs.TreeDigest.{with_leaf};
 ghost use Rattle.operator_rules.specs.Trees.{has_leaf};
 
-use merkle_pages::{Defaults, Leaves, PagedTree};
+use merkle_pages::{Leaves, SharedDefaults, SharedTree};
 use plasma_base::{Bytes, Hash32, NoMemory};
 use std::alloc::Global;
 use std::marker::Model;
@@ -21,7 +21,7 @@ struct Before {
 #[derive(Drop)]
 pub struct Pool<H: Hash32 + Copy> {
     alloc: Global,
-    defaults: Defaults<H>,
+    defaults: SharedDefaults<H>,
     leaves: Leaves,
     before: Option<Before>,
 }
@@ -42,7 +42,7 @@ impl<H: Hash32 + Copy> Model for Pool<H> {
 
 impl<H: Hash32 + Copy> Pool<H> {
     /// No leaf. It takes no memory and makes no digest.
-    pub fn new(alloc: Global, defaults: Defaults<H>) -> Pool<H>
+    pub fn new(alloc: Global, defaults: SharedDefaults<H>) -> Pool<H>
         ensures { result ≡ record { hash = defaults; entries = []; ahead = [] } }
     {
         Pool {
@@ -99,14 +99,14 @@ impl<H: Hash32 + Copy> Pool<H> {
 
     /// Makes the map a tree, with the last put, and leaves none. Each of the tree's nodes is digested
     /// once. Where memory runs out nothing changes.
-    pub fn take(&mut self) -> Result<PagedTree<H>, NoMemory>
+    pub fn take(&mut self) -> Result<SharedTree<H>, NoMemory>
         ensures tree { IfOk result (λ tree. tree ≡ record { hash = self.old.hash; entries = self.old.ahead }) }
         ensures empty { OnOk result (self.new ≡ record { hash = self.old.hash; entries = []; ahead = [] }) }
         ensures same { OnErr result (self.new ≡ self.old) }
     {
         let defaults = self.defaults.share()?;
         let leaves = mem::replace(&mut self.leaves, Leaves::new(self.alloc));
-        match PagedTree::new(self.alloc, defaults, leaves) {
+        match SharedTree::of_leaves(self.alloc, defaults, leaves) {
             Ok(tree) => {
                 self.before = None;
                 Ok(tree)
@@ -119,7 +119,7 @@ impl<H: Hash32 + Copy> Pool<H> {
     }
 
     /// Takes a tree's leaves back in place of those that are here. It takes no memory.
-    pub fn give_back(&mut self, tree: PagedTree<H>)
+    pub fn give_back(&mut self, tree: SharedTree<H>)
         ensures { self.new ≡ record { hash = self.old.hash; entries = tree.entries; ahead = tree.entries } }
     {
         self.leaves = tree.into_leaves();

@@ -9,7 +9,7 @@ ghost use Rattle.operator_core.specs.Texts.{identity_of_who, put_of_change, chan
 use super::pool::Pool;
 use super::records::{Change, Who, change_in, identity_in};
 use super::trees::Trees;
-use merkle_pages::Defaults;
+use merkle_pages::SharedDefaults;
 use plasma_base::{Bytes, Hash32, NoMemory};
 use std::alloc::Global;
 
@@ -55,7 +55,7 @@ fn rebuild<H: Hash32 + Copy>(
     ensures pool_hash { IfOk result (λ both. both.0.hash ≡ h) }
     ensures trees_hash { IfOk result (λ both. both.1.hash ≡ h) }
 {
-    let defaults = Defaults::new(alloc, h)?;
+    let defaults = SharedDefaults::new(alloc, h)?;
     let mut pool = Pool::new(alloc, defaults);
     let mut trees = Trees::new(alloc, h);
     'records: for record in records {

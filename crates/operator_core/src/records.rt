@@ -1,5 +1,5 @@
 ghost use Rattle.std.specs.Prelude.{◌≡◌, ◌≤◌, ◌<◌, ◌+◌, [], length, slice_range, IfOk, option_map, Ok};
-ghost use Rattle.node_journal.specs.Image.{most};
+ghost use Rattle.gate_journal.specs.Image.{most};
 ghost use Rattle.plasma_tx.specs.Spelling.{number_at};
 ghost use Rattle.operator_rules.specs.Records.{Laid, Sealed, Offered, identity_text, identity_in, identity_of, note_text, note_in, tag_in};
 ghost use Rattle.std.specs.Option.{unwrap_or};
@@ -11,7 +11,7 @@ use std::alloc::Global;
 
 /// Whose records they are: the chain's tag, the operator's account, and the seed of its key, if it has
 /// one.
-#[derive(Debug, Clone, Copy)]
+#[derive(Clone, Copy)]
 pub struct Who {
     pub tag: [u8; 32],
     pub account: u64,

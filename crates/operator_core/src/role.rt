@@ -4,7 +4,7 @@ use plasma_base::NoMemory;
 use std::alloc::Global;
 
 /// The role of an operator.
-#[derive(Debug, Clone, Copy)]
+#[derive(Clone, Copy)]
 pub struct OperatorRole;
 
 impl Role for OperatorRole {

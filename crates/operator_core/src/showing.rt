@@ -1,6 +1,6 @@
 ghost use Rattle.std.specs.Prelude.{◌≡◌, ◌≢◌, ◌<◌, ◌≤◌, ◌^◌, ◌+◌, ◌++◌, ◌∷◌, [], true, false, length, IfOk, IfErr, OnOk, OnErr, Ok, Err};
 ghost use Rattle.std.specs.List.{All};
-ghost use Rattle.node_journal.specs.Image.{most};
+ghost use Rattle.gate_journal.specs.Image.{most};
 ghost use Rattle.sparse_merkle.specs.TreeDigest.{leaf_of};
 ghost use Rattle.plasma_tx.specs.Views.{blocks, coin_at};
 ghost use Rattle.coin_history.specs.History.{committed_blocks};
@@ -12,10 +12,10 @@ ghost use Rattle.operator_rules.specs.Commands.{prove_by, openings_of, bundle_be
 ghost use Rattle.operator_core.specs.Inside.{AreShortTrees};
 
 use super::pool::copy_of;
-use super::trees::Trees;
+use super::trees::{Trees, leaf_in};
 use super::walk::{is_committed, present, tree_at};
 use coin_history::{Bundle, Openings};
-use merkle_pages::PagedTree;
+use merkle_pages::SharedTree;
 use operator_rules::ProveRefusal;
 use plasma_base::{Hash32, NoMemory};
 use plasma_tx::{CoinView, Opening, RawOpening, RootLog};
@@ -24,7 +24,7 @@ use std::alloc::Global;
 // What a tree has at a coin, as the opening of block n.
 fn opening_in_tree<H: Hash32 + Copy>(
     alloc: Global,
-    tree: &PagedTree<H>,
+    tree: &SharedTree<H>,
     coin: u64,
     n: u64,
 ) -> Result<RawOpening, NoMemory>
@@ -34,10 +34,10 @@ fn opening_in_tree<H: Hash32 + Copy>(
 {
     let opening = Opening {
         block: n,
-        leaf: copy_of(alloc, tree.leaf(coin))?,
+        leaf: copy_of(alloc, leaf_in(tree, coin))?,
         proof: tree.prove(coin)?,
     };
-    Ok(opening.write(alloc)?)
+    Ok(opening.write()?)
 }
 
 /// Whether a log has so few blocks that the count of a bundle, which is 32 bits, tells as many openings. The most

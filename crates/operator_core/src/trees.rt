@@ -1,11 +1,12 @@
 ghost use Rattle.std.specs.Prelude.{◌≡◌, ◌<◌, ◌++◌, ◌∷◌, [], ℕ, List, true, length, IfSome, OnOk, option_map, slice_get};
 ghost use Rattle.std.specs.List.{list_any};
 ghost use Rattle.operator_rules.specs.Trees.{tree_of};
+ghost use Rattle.sparse_merkle.specs.TreeDigest.{leaf_of};
 ghost use Rattle.operator_core.specs.Inside.{with_place, is_outside};
 ghost use Rattle.std.specs.HashMap.{get, spare};
 ghost use Rattle.std.specs.Str.{bytes_eq};
 
-use merkle_pages::PagedTree;
+use merkle_pages::SharedTree;
 use plasma_base::{Hash32, NoMemory};
 use plasma_tx::RootLog;
 use std::alloc::Global;
@@ -16,7 +17,7 @@ use std::marker::Model;
 #[derive(Drop)]
 pub struct Trees<H: Hash32 + Copy> {
     hash: H,
-    trees: Vec<PagedTree<H>>,
+    trees: Vec<SharedTree<H>>,
     index: HashMap<[u8; 32], usize>,
 }
 
@@ -62,7 +63,7 @@ impl<H: Hash32 + Copy> Trees<H> {
     }
 
     /// Adds a tree at the end, where there is room.
-    pub fn push(&mut self, tree: PagedTree<H>)
+    pub fn push(&mut self, tree: SharedTree<H>)
         requires room { self.old.has_room ≡ true }
         requires hash { tree.hash ≡ self.old.hash }
         ensures added { self.new.sealed ≡ self.old.sealed ++ tree.entries ∷ [] }
@@ -83,7 +84,7 @@ impl<H: Hash32 + Copy> Trees<H> {
     }
 
     /// The first tree with the root.
-    pub fn find(&self, root: &[u8; 32]) -> Option<&PagedTree<H>>
+    pub fn find(&self, root: &[u8; 32]) -> Option<&SharedTree<H>>
         ensures found { option_map (λ tree. tree.now.entries) result
             ≡ tree_of (H.digest_of self.now.hash) self.now.sealed root.now }
         ensures hash { IfSome result (λ tree. tree.now.hash ≡ self.now.hash) }
@@ -109,21 +110,31 @@ fn index_root(index: &mut HashMap<[u8; 32], usize>, root: [u8; 32], place: usize
 }
 
 // The tree at a place.
-fn tree_at<H: Hash32 + Copy>(trees: &[PagedTree<H>], place: usize) -> Option<&PagedTree<H>>
+fn tree_at<H: Hash32 + Copy>(trees: &[SharedTree<H>], place: usize) -> Option<&SharedTree<H>>
     ensures { option_map (λ tree. tree.now) result ≡ slice_get trees.now place }
 {
     trees.get(place)
 }
 
+/// The leaf of a coin in a tree, lent, which is empty where the coin has none.
+pub fn leaf_in<H: Hash32 + Copy>(tree: &SharedTree<H>, coin: u64) -> &[u8]
+    ensures { result.now ≡ leaf_of tree.now.entries coin }
+{
+    match tree.leaf(coin) {
+        Some(leaf) => leaf,
+        None => &[],
+    }
+}
+
 // Whether a tree has a leaf of the coin, and a root that the log doesn't commit.
-fn is_outside<H: Hash32 + Copy>(tree: &PagedTree<H>, coin: u64, log: &RootLog) -> bool
+fn is_outside<H: Hash32 + Copy>(tree: &SharedTree<H>, coin: u64, log: &RootLog) -> bool
     ensures { result ≡ is_outside log.now.log coin (H.digest_of tree.now.hash) tree.now.entries }
 {
-    !tree.leaf(coin).is_empty() && !log.commits(tree.root())
+    !leaf_in(tree, coin).is_empty() && !log.commits(tree.root())
 }
 
 // Whether one of the trees is so.
-fn any_outside<H: Hash32 + Copy>(trees: &[PagedTree<H>], coin: u64, log: &RootLog) -> bool
+fn any_outside<H: Hash32 + Copy>(trees: &[SharedTree<H>], coin: u64, log: &RootLog) -> bool
     ensures { result
         ≡ list_any (λ tree. is_outside log.now.log coin (H.digest_of tree.hash) tree.entries) trees.now }
 {

@@ -8,14 +8,14 @@ ghost use Rattle.operator_rules.specs.Trees.{tree_at, tree_of};
 ghost use Rattle.operator_rules.specs.Walk.{moved_by, present};
 ghost use Rattle.operator_core.specs.Tips.{place_of_tip};
 
-use super::trees::Trees;
-use merkle_pages::PagedTree;
+use super::trees::{Trees, leaf_in};
+use merkle_pages::SharedTree;
 use plasma_base::{Hash32, NoMemory};
 use plasma_tx::{BlockView, CoinView, Owner, RootLog, SignedTx, leaf_tx};
 use std::alloc::Global;
 
 /// A block that a coin came to, and its owner there.
-#[derive(Debug, Clone, Copy)]
+#[derive(Clone, Copy)]
 pub struct Tip {
     pub block: u64,
     pub owner: Owner,
@@ -43,7 +43,7 @@ pub fn tree_at<'a, H: Hash32 + Copy>(
     trees: &'a Trees<H>,
     log: &RootLog,
     n: u64,
-) -> Option<&'a PagedTree<H>>
+) -> Option<&'a SharedTree<H>>
     ensures found { option_map (λ tree. tree.now.entries) result
         ≡ tree_at (H.digest_of trees.now.hash) log.now.log trees.now.sealed n }
     ensures hash { IfSome result (λ tree. tree.now.hash ≡ trees.now.hash) }
@@ -76,7 +76,7 @@ fn after_tree<H: Hash32 + Copy>(
     coin: u64,
     n: u64,
     last: Tip,
-    tree: Option<&PagedTree<H>>,
+    tree: Option<&SharedTree<H>>,
 ) -> Result<Tip, NoMemory>
     ensures { IfOk result (λ tip. place_of_tip tip ≡ moved_by n (place_of_tip last)
         (option_and_then (λ tree. transfer_in tag.now coin n (leaf_of tree coin))
@@ -85,7 +85,7 @@ fn after_tree<H: Hash32 + Copy>(
     let Some(tree) = tree else {
         return Ok(last);
     };
-    let leaf = tree.leaf(coin);
+    let leaf = leaf_in(tree, coin);
     if leaf.is_empty() {
         return Ok(last);
     }
@@ -96,7 +96,7 @@ fn after_tree<H: Hash32 + Copy>(
 #[derive(Drop)]
 struct Sought<'a, H: Hash32 + Copy> {
     root: [u8; 32],
-    tree: Option<&'a PagedTree<H>>,
+    tree: Option<&'a SharedTree<H>>,
 }
 
 // What is found by a root, which isn't looked for again where it was looked for last.

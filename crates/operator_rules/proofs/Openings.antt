@@ -9,7 +9,7 @@ use Rattle.std.proofs.lemmas.List.Elements.{All-head, All-tail}
 use Rattle.lms_sign.specs.declared.types.LmsTypes.{LmsTypes}
 use Rattle.lms_sign.specs.Types.{chains, height, is_supported, leaf_count, signature_length, u32_at}
 use Rattle.lms_sign.specs.Valid.{types_of, type_place, is_formed, is_valid}
-use Rattle.node_journal.specs.Image.{most}
+use Rattle.gate_journal.specs.Image.{most}
 use Rattle.sparse_merkle.specs.declared.tree.Entry.{Entry}
 use Rattle.sparse_merkle.specs.TreeDigest.{leaf_of, root_of, path_to, IsMap}
 use Rattle.sparse_merkle.specs.MaskedPath.{MaskedPath, IsMaskedPath, proof_text, proof_path}

@@ -1,7 +1,7 @@
 use plasma_tx::RootCall;
 
 /// What a seal made: the number of the tree's leaves, and the call that commits its root.
-#[derive(Debug, Drop)]
+#[derive(Drop)]
 pub struct Sealed {
     pub leaves: u64,
     pub call: RootCall,

@@ -8,7 +8,7 @@ use super::hash::Hash32;
 /// A digest for tests, whose collisions are easily found. The bytes are cut from their end into groups of
 /// eight, each is read as a number with the highest byte first, and the digest is 24 zero bytes and the
 /// sum of the numbers modulo 2^61 - 1, as 8 bytes.
-#[derive(Debug, Clone, Copy, PartialEq, Eq)]
+#[derive(Clone, Copy, PartialEq, Eq)]
 pub struct Toy;
 
 impl Hash32 for Toy {
@@ -24,10 +24,6 @@ impl Hash32 for Toy {
 
     fn digest_two(&self, first: &[u8], second: &[u8]) -> [u8; 32] {
         text_of(added(added(0, first, second.len()), second, 0))
-    }
-
-    fn is_sha256(&self) -> bool {
-        false
     }
 }
 

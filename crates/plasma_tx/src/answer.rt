@@ -72,7 +72,7 @@ pub enum Refusal {
 }
 
 /// The answer to a call. Times are in seconds.
-#[derive(Debug, Clone, Copy, PartialEq, Eq)]
+#[derive(Clone, Copy, PartialEq, Eq)]
 pub enum Answer {
     Funded,
     Ticked,

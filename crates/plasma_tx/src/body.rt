@@ -8,7 +8,7 @@ use std::marker::Model;
 
 /// What an owner signs: that a coin goes to a new owner. The parent is the block of the coin's
 /// transaction before; `last`, where there is one, is the last block that may hold the transfer.
-#[derive(Debug, Clone, Copy, PartialEq, Eq)]
+#[derive(Clone, Copy, PartialEq, Eq)]
 pub struct Body {
     /// The chain's tag.
     pub tag: [u8; 32],
@@ -111,7 +111,7 @@ fn body_at_start(bytes: &[u8]) -> Body
 }
 
 /// The bytes of a body: 116, or 124 with a last block. Contracts see them as a list.
-#[derive(Debug, Drop)]
+#[derive(Drop)]
 pub struct BodyBytes {
     bytes: [u8; 124],
     length: usize,

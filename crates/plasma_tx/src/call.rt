@@ -5,7 +5,7 @@ use super::opening::RawOpening;
 use plasma_base::NoMemory;
 
 /// What is shown of a coin at a block: that it was deposited there, or a transfer in that block.
-#[derive(Debug, Drop)]
+#[derive(Drop)]
 pub enum Shown {
     Deposit { block: u64 },
     Spend { opening: RawOpening },
@@ -35,9 +35,12 @@ impl Shown {
     }
 }
 
+/// A call as an event of a log, which is the call itself.
+pub type RootEvent = RootCall;
+
 /// A call on the root contract. The log holds the accepted ones. An exit is named by its coin and
 /// its block.
-#[derive(Debug, Drop)]
+#[derive(Drop)]
 pub enum RootCall {
     /// Money comes to an account from outside.
     Fund {

@@ -28,7 +28,7 @@ mod views;
 
 pub use answer::{Answer, Refusal};
 pub use body::{Body, BodyBytes};
-pub use call::{RootCall, Shown};
+pub use call::{RootCall, RootEvent, Shown};
 pub use laws::{
     blocks_are_calls, challenges_stand, clocks_are_ticks, coins_are_deposits, exits_are_in_order,
     exits_stand, new_challenges_are_open, openings_have_one_spelling, owners_have_one_spelling,

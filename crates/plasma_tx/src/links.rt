@@ -8,7 +8,7 @@ use plasma_base::NoMemory;
 use std::marker::Model;
 
 /// A transfer of a coin, the block that holds it, and the opening that shows it there.
-#[derive(Debug, Drop)]
+#[derive(Drop)]
 pub struct Link {
     pub block: u64,
     pub tx: SignedTx,
@@ -29,7 +29,7 @@ impl Link {
 }
 
 /// Links in order, which contracts see as a list.
-#[derive(Debug, Drop)]
+#[derive(Drop)]
 pub struct Spends {
     items: Vec<Link>,
 }
@@ -71,7 +71,7 @@ impl Spends {
 }
 
 /// The history of a coin: its deposit and the transfers since, in order.
-#[derive(Debug, Drop)]
+#[derive(Drop)]
 pub struct Links {
     pub coin: u64,
     /// The deposit block.

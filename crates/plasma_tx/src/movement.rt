@@ -1,5 +1,5 @@
 /// A sum of money that comes to an account, or goes from it.
-#[derive(Debug, Clone, Copy, PartialEq, Eq)]
+#[derive(Clone, Copy, PartialEq, Eq)]
 pub struct Movement {
     pub account: u64,
     pub amount: u64,

@@ -8,7 +8,7 @@ use std::alloc::{AllocError, AllocFailed, Global};
 use thiserror::Error;
 
 /// What a block's tree has at a coin, as bytes that aren't read yet.
-#[derive(Debug, Drop)]
+#[derive(Drop)]
 pub struct RawOpening {
     pub block: u64,
     pub bytes: Bytes,
@@ -16,7 +16,7 @@ pub struct RawOpening {
 
 /// What a block's tree has at a coin: the leaf, which is empty where the coin is absent, and the
 /// proof that opens the block's root to it.
-#[derive(Debug, Drop)]
+#[derive(Drop)]
 pub struct Opening {
     pub block: u64,
     pub leaf: Bytes,
@@ -49,10 +49,10 @@ impl RawOpening {
     /// after it, of which no sibling is the default of its level. `Unreadable` exactly where they spell
     /// none. No memory is taken before the leaf's length is found to fit. It makes 64 digests, which
     /// give the defaults.
-    pub fn open_up<H: Hash32>(&self, alloc: Global, h: &H) -> Result<Opening, OpeningRefusal>
+    pub fn open_up<H: Hash32>(&self, h: &H) -> Result<Opening, OpeningRefusal>
         ensures { result ≢ Err OpeningRefusal.NoMemory → result ≡ opening_in (H.digest_of h.now) self.now }
     {
-        self.open_up_with_defaults(alloc, h, &defaults(h))
+        self.open_up_with_defaults(h, &defaults(h))
     }
 
     /// As `open_up`, where the caller has the defaults of levels 0 to 63 already: `Unreadable` exactly
@@ -61,7 +61,6 @@ impl RawOpening {
     #[tactic(auto, unfolding(crate::specs::Openings::opening_in))]
     pub fn open_up_with_defaults<H: Hash32>(
         &self,
-        alloc: Global,
         h: &H,
         defaults: &[[u8; 32]; 64],
     ) -> Result<Opening, OpeningRefusal>
@@ -71,6 +70,7 @@ impl RawOpening {
         let Some((leaf, rest)) = parts(self.bytes.as_slice()) else {
             return Err(OpeningRefusal::Unreadable);
         };
+        let alloc = self.bytes.allocator();
         let proof = match Proof::read_with_defaults(alloc, h, defaults, rest) {
             Ok(proof) => proof,
             Err(ProofRefusal::NoMemory) => return Err(OpeningRefusal::NoMemory),
@@ -97,11 +97,11 @@ impl RawOpening {
 impl Opening {
     /// The opening as bytes, which `open_up` reads where the proof shows no default.
     #[tactic(auto, unfolding(crate::specs::Openings::opening_text))]
-    pub fn write(&self, alloc: Global) -> Result<RawOpening, NoMemory>
+    pub fn write(&self) -> Result<RawOpening, NoMemory>
         requires { length self.now.leaf < 2 ^ 32 }
         ensures { IfOk result (λ raw. raw ≡ raw_of self.now) }
     {
-        let mut bytes = Vec::new(alloc);
+        let mut bytes = Vec::new(self.leaf.allocator());
         put_u32(&mut bytes, self.leaf.len() as u32)?;
         bytes.extend_from_slice(self.leaf.as_slice())?;
         self.proof.write(&mut bytes)?;

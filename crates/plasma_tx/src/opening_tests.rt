@@ -113,7 +113,7 @@ fn test<H: Hash32>(
     ensures { IfOk result (λ opens. opens
         ≡ opens_root (H.digest_of h.now) root.now coin (opening_in (H.digest_of h.now) opening.now)) }
 {
-    match opening.open_up_with_defaults(alloc, h, defaults) {
+    match opening.open_up_with_defaults(h, defaults) {
         Ok(
             Opening {
                 block: _,

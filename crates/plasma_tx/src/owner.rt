@@ -4,7 +4,7 @@ ghost use Rattle.plasma_tx.specs.Spelling.{owner_text, owner_in};
 use super::fields::{number_at, put};
 
 /// Who owns a coin: an account, and the public key that signs for it.
-#[derive(Debug, Clone, Copy, PartialEq, Eq)]
+#[derive(Clone, Copy, PartialEq, Eq)]
 pub struct Owner {
     pub account: u64,
     pub key: [u8; 56],

@@ -37,7 +37,7 @@ impl From<NoMemory> for TxRefusal {
 }
 
 /// A transfer with the signature of the coin's owner before it.
-#[derive(Debug, Drop)]
+#[derive(Drop)]
 pub struct SignedTx {
     pub body: Body,
     pub signature: Bytes,

@@ -11,7 +11,7 @@ use std::alloc::Global;
 use std::marker::Model;
 
 /// What a call does to the exits of its coin.
-#[derive(Debug, Drop)]
+#[derive(Drop)]
 pub enum Change {
     /// The exit begins.
     Start {
@@ -41,7 +41,7 @@ pub enum Change {
 
 /// What is kept of a coin: its standing exits, in the order of their starts, the responses to each of
 /// its exits, and whether it is withdrawn.
-#[derive(Debug, Drop)]
+#[derive(Drop)]
 pub struct CoinState {
     withdrawn: bool,
     exits: Vec<ExitView>,

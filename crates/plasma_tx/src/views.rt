@@ -8,14 +8,14 @@ use std::alloc::Global;
 use std::marker::Model;
 
 /// A block: the coin of its deposit, or a committed root.
-#[derive(Debug, Clone, Copy, PartialEq, Eq)]
+#[derive(Clone, Copy, PartialEq, Eq)]
 pub enum BlockView {
     DepositOf { coin: u64 },
     Root { root: [u8; 32] },
 }
 
 /// A coin: its deposit block, its amount and the depositor.
-#[derive(Debug, Clone, Copy, PartialEq, Eq)]
+#[derive(Clone, Copy, PartialEq, Eq)]
 pub struct CoinView {
     pub deposit: u64,
     pub amount: u64,
@@ -23,7 +23,7 @@ pub struct CoinView {
 }
 
 /// A challenge of an exit at a block: when and by whom it was made, and whether it is answered.
-#[derive(Debug, Clone, Copy, PartialEq, Eq)]
+#[derive(Clone, Copy, PartialEq, Eq)]
 pub struct ChallengeView {
     pub block: u64,
     /// The time, in seconds.
@@ -34,7 +34,7 @@ pub struct ChallengeView {
 }
 
 /// Challenges in the order in which they were made, which contracts see as a list.
-#[derive(Debug, Drop)]
+#[derive(Drop)]
 pub struct Challenges {
     items: Vec<ChallengeView>,
 }
@@ -56,6 +56,13 @@ impl Challenges {
         Challenges {
             items: Vec::new(alloc),
         }
+    }
+
+    /// The challenges of a vector, in its order. It takes no memory.
+    pub fn from_vec(items: Vec<ChallengeView>) -> Challenges
+        ensures { result ≡ items.items }
+    {
+        Challenges { items }
     }
 
     /// The challenges, lent.
@@ -117,7 +124,7 @@ fn answer_all(challenges: &mut Vec<ChallengeView>, block: u64)
 }
 
 /// A standing exit of a coin.
-#[derive(Debug, Drop)]
+#[derive(Drop)]
 pub struct ExitView {
     pub block: u64,
     /// The parent's block, 0 for an exit of the deposit.
@@ -145,7 +152,7 @@ impl ExitView {
 }
 
 /// A response to an exit of a coin, with the block of the challenge that it names.
-#[derive(Debug, Clone, Copy, PartialEq, Eq)]
+#[derive(Clone, Copy, PartialEq, Eq)]
 pub struct Response {
     pub coin: u64,
     pub exit: u64,

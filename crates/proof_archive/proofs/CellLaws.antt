@@ -168,10 +168,6 @@ pub cell-made : (tests : Tests) (rules : Rules) (log : List RootCall) (coin : �
     → IsCell tests rules log coin made cell
 cell-made tests rules log coin cell made some is = subst (IsCellOf tests rules log coin cell) some is
 
-pub cell-unmade : (tests : Tests) (rules : Rules) (log : List RootCall) (coin : ℕ) (cell : CoinCell)
-    → coin_at log coin ≡ None → IsCellOf tests rules log coin cell (coin_at log coin) → cell ≡ no_cell
-cell-unmade tests rules log coin cell none is = subst (IsCellOf tests rules log coin cell) none is
-
 -- ---- all cells
 
 pub whole-none : (dig : List ℕ → List ℕ) (chain : Chain) (defaults : List (List ℕ)) (cells : BTreeMap ℕ CoinCell)

@@ -1,24 +1,10 @@
 -- Bundles of kept openings have bytes.
-use Rattle.std.proofs.Common.{◌≡◌, ℕ, ◌+◌, ◌^◌, ◌<◌, ◌≤◌, true, false, if◌then◌else◌, List, [], ◌∷◌, ◌++◌, length, Result, Ok, Err, IfOk, sym, ap, ◌∙◌, subst, arith, length-append}
+use Rattle.std.proofs.Common.{◌≡◌, ℕ, ◌^◌, ◌<◌, ◌≤◌, true, false, if◌then◌else◌, List, [], ◌∷◌, length, Result, Ok, Err, IfOk, sym, ap, ◌∙◌, subst, arith}
 use Rattle.std.specs.Prelude.{nat_le}
-use Rattle.std.proofs.lemmas.List.Elements.{All-push, All-filter, All-nil}
+use Rattle.std.proofs.lemmas.List.Elements.{All-filter}
 use Rattle.plasma_tx.specs.declared.opening.RawOpening.{RawOpening}
 use Rattle.proof_archive.specs.Archives.{openings_up_to}
 use Rattle.proof_archive.specs.Carried.{AreSpellable}
-
-pub spell-none : (openings : List RawOpening) → openings ≡ [] → AreSpellable openings
-spell-none openings none =
-    subst AreSpellable (sym none) (record {
-      count = omega arith;
-      lengths = All-nil (λ opening. length opening.bytes < 2 ^ 32);
-    })
-
-pub spell-more : (openings : List RawOpening) (o : RawOpening) → AreSpellable openings
-    → length openings + 1 < 2 ^ 32 → length o.bytes < 2 ^ 32 → AreSpellable (openings ++ o ∷ [])
-spell-more openings o are few short = record {
-  count = omega (arith, length-append openings (o ∷ []));
-  lengths = All-push (λ opening. length opening.bytes < 2 ^ 32) openings o are.lengths short;
-}
 
 up-shorter : (tip : ℕ) (openings : List RawOpening) → length (openings_up_to tip openings) ≤ length openings
 up-shorter tip [] = omega arith

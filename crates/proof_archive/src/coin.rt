@@ -11,14 +11,14 @@ use std::alloc::{AllocError, AllocFailed, Global};
 use std::marker::Model;
 
 /// Where a link leads: its block, and to whom the coin goes there.
-#[derive(Debug, Clone, Copy, PartialEq, Eq)]
+#[derive(Clone, Copy, PartialEq, Eq)]
 pub struct LinkEnd {
     pub block: u64,
     pub owner: Owner,
 }
 
 /// What an opening that is kept does to the links of its coin.
-#[derive(Debug, Clone, Copy, PartialEq, Eq)]
+#[derive(Clone, Copy, PartialEq, Eq)]
 pub enum Move {
     /// Its leaf is empty, or a block is broken already.
     Stays,

@@ -11,7 +11,7 @@ use Rattle.receipt_audit.specs.declared.promise.Promise.{Promise}
 use Rattle.receipt_audit.specs.declared.audit.Conviction.{Conviction}
 use Rattle.receipt_audit.specs.declared.refusal.AuditRefusal.{AuditRefusal}
 use Rattle.receipt_audit.specs.declared.refusal.AuditRefusal.TheVariants.{NoMemory as NoRoom}
-use Rattle.receipt_audit.specs.Audit.{audit_refusal, convicted, shown_by, conviction_answer, IsBroken}
+use Rattle.receipt_audit.specs.Audit.{audit_refusal, shown_by, conviction_answer, IsBroken}
 use Rattle.receipt_audit.proofs.Convictions.{convictions_show_broken_promises}
 
 -- an answer that is the definition's shows a broken promise
@@ -38,12 +38,3 @@ pub unread-answer : (dig : List ℕ → List ℕ) (log : List RootCall) (promise
 unread-answer dig log promise read why said is value given =
     let own : Err why ≡ read = value (λ e. named why said is given (cc e)) in
     ap Err is ∙ ap (shown_by dig log promise) own
-
-pub unshown-answer : (promise : Promise) (breach : Result Unit HistoryRefusal) (why : HistoryRefusal)
-    (said : AuditRefusal) → said ≡ audit_refusal why
-    → (◌≢◌ {A = Result Unit HistoryRefusal} (Err why) (Err NoMemory) → Err why ≡ breach)
-    → ◌≢◌ {A = Result Conviction AuditRefusal} (Err said) (Err NoRoom)
-    → Err said ≡ convicted promise breach
-unshown-answer promise breach why said is value given =
-    let own : Err why ≡ breach = value (λ e. named why said is given (cc e)) in
-    ap Err is ∙ ap (convicted promise) own

@@ -17,7 +17,7 @@ use std::alloc::Global;
 
 /// What an operator is convicted of: a promise for a transfer of the coin that no block after it was issued
 /// and up to the due one has.
-#[derive(Debug, Clone, Copy, PartialEq, Eq)]
+#[derive(Clone, Copy, PartialEq, Eq)]
 pub struct Conviction {
     pub coin: u64,
     /// How many blocks there were when the promise was issued.

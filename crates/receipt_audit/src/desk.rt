@@ -1,7 +1,7 @@
 ghost use Rattle.std.specs.Prelude.{◌≡◌, false, length, Ok, IfOk, IfErr, None};
 ghost use Rattle.crash_disk.specs.Calls.{WhereTold};
 ghost use Rattle.lms_sign.specs.Tree.{public_key_of};
-ghost use Rattle.node_journal.specs.Journal.{IsSettled};
+ghost use Rattle.gate_journal.specs.Journal.{IsSettled};
 ghost use Rattle.node_journal.specs.Notes.{Did, Opened, RefusesRole};
 ghost use Rattle.leaf_journal.specs.Records.{is_marked, leaf_records_in_of, messages_of, MessagesPass};
 ghost use Rattle.leaf_journal.specs.Leaves.{leaves_of};
@@ -10,9 +10,9 @@ ghost use Rattle.receipt_audit.specs.Promises.{is_promise};
 
 use super::promise::PromiseKind;
 use crash_disk::Disk;
+use gate_journal::Returned;
 use leaf_journal::{Leaves, MigrateRefusal};
 use lms_sign::SecretKey;
-use node_journal::Returned;
 use std::alloc::Global;
 use std::marker::Model;
 
@@ -20,6 +20,7 @@ use std::marker::Model;
 /// closes it until its disk is taken back and opened again.
 #[derive(Drop)]
 pub struct Desk<D: Disk> {
+    pub(crate) alloc: Global,
     pub(crate) leaves: Leaves<D>,
 }
 
@@ -49,7 +50,7 @@ impl<D: Disk> Desk<D> {
             (leaf_records_in_of is_promise (leaves_of (public_key_of key.now))) disk returned.why returned.disk) }
     {
         match Leaves::open_of::<PromiseKind>(alloc, disk, key) {
-            Ok(leaves) => Ok(Desk { leaves }),
+            Ok(leaves) => Ok(Desk { alloc, leaves }),
             Err(returned) => Err(returned),
         }
     }
@@ -104,7 +105,7 @@ impl<D: Disk> Desk<D> {
     pub fn take_disk(self) -> D
         ensures { result ≡ self.disk }
     {
-        let Desk { leaves } = self;
+        let Desk { leaves, .. } = self;
         leaves.take_disk()
     }
 }

@@ -26,7 +26,7 @@ use plasma_tx::RootLog;
 use std::alloc::Global;
 
 /// A promise of 100 bytes, and its signature.
-#[derive(Debug, Drop)]
+#[derive(Drop)]
 pub struct Receipt {
     pub bytes: Bytes,
 }
@@ -186,7 +186,6 @@ impl<D: Disk> Desk<D> {
     /// `KeySpent`; then nothing changed.
     pub fn issue<E: Disk, H: Hash32 + Copy>(
         &mut self,
-        alloc: Global,
         h: H,
         key: &SecretKey,
         op: &mut Operator<E, H>,
@@ -218,7 +217,7 @@ impl<D: Disk> Desk<D> {
         if let Some(why) = self.cause_of(key, blocks, due) {
             return Err(why);
         }
-        let Ok(room) = room_for(alloc, key) else {
+        let Ok(room) = room_for(self.alloc, key) else {
             return Err(IssueRefusal::NoMemory);
         };
         op.is_whole();

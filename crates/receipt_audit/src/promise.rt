@@ -8,7 +8,7 @@ use leaf_journal::MessageKind;
 pub const PROMISE_LENGTH: usize = 100;
 
 /// An operator's promise that a signed transfer will be what a block has at its coin.
-#[derive(Debug, Clone, Copy)]
+#[derive(Clone, Copy)]
 pub struct Promise {
     /// The chain's tag.
     pub tag: [u8; 32],

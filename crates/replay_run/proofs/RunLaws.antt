@@ -144,6 +144,15 @@ pub by-error : (output : List ℕ → Bool → Output) (Few : Status → List �
 by-error output Few left later taken after failed (Ok ending) wrong each = absurd (false≢true wrong)
 by-error output Few left later taken after failed (Err refusal) is each = each refusal
 
+-- a reading that came to its end, in the words of a run's status
+pub read-by : (Reads : Bool → Type 0) (ending : Ending NoCause) → Reads (is_read_fault (Ok ending))
+    → ReadsBy (status_of_replay (Ok ending)) Reads
+read-by Reads Complete reads = reads
+read-by Reads (BadLine n) reads = reads
+read-by Reads ReadFault reads = reads
+read-by Reads (TooLong n) reads = reads
+read-by Reads (Ended n cause) reads = elim cause [ ]
+
 -- and its reading failed or not
 pub read-before : (Reads : Bool → Type 0) (result : Result (Ending NoCause) SinkRefusal) → IsErr result
     → (failed : Bool) → Reads failed → ReadsBy (status_of_replay result) Reads

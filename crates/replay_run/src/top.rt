@@ -157,13 +157,13 @@ pub fn run<S: Source, K: Sink, D: Disk>(
     ensures sink_faults { K.faults sink.new ≡ faults_after (K.faults sink.old) (is_write_fault result.status) }
 {
     let digest = KeptSha::new(alloc);
-    run_with(&digest, alloc, words, source, sink, notes, leaves)
+    run_with(alloc, &digest, words, source, sink, notes, leaves)
 }
 
 /// Runs the program as `run` does, with openings judged by this digest.
 pub fn run_with<H: Hash32, S: Source, K: Sink, D: Disk>(
-    h: &H,
     alloc: Global,
+    h: &H,
     words: &[String],
     source: &mut S,
     sink: &mut K,

@@ -21,16 +21,6 @@ use Rattle.root_contract.specs.Agreement.{Agrees}
 use Rattle.root_contract.specs.Changes.{Changes, IsAccepted, SameMoney}
 use Rattle.root_contract.proofs.SlotLemmas.{SlotsAre}
 
-pub same-money : (chain : Chain) (game : Game) (old new : Ledger) → Agrees chain game old → SameMoney old new
-    → Agrees chain game new
-same-money chain game old new agrees same = record {
-  legal = agrees.legal;
-  slots_are = agrees.slots_are;
-  balances_are = λ a. same.balances a ∙ agrees.balances_are a;
-  helds_are = λ a. same.helds a ∙ agrees.helds_are a;
-  funds_are = same.funds ∙ agrees.funds_are;
-}
-
 pub same-slots : (chain : Chain) (old new : Game) (ledger : Ledger) → Agrees chain old ledger
     → ((coin : ℕ) → slots_in new coin ≡ slots_in old coin) → Agrees chain new ledger
 same-slots chain old new ledger agrees same = record {

@@ -71,11 +71,6 @@ pub answered-all : (xs : List Kept)
     → list_all (λ challenge. challenge.answered) (map as_challenge xs) ≡ list_all (λ challenge. challenge.answered) xs
 answered-all xs = list_all-map (λ (x : Challenge). x.answered) as_challenge xs
 
--- the open challenges of an exit are those of its slot
-pub open-map : (xs : List Kept) → filter (λ challenge. not challenge.answered) (map as_challenge xs)
-    ≡ map as_challenge (filter (λ challenge. not challenge.answered) xs)
-open-map xs = filter-map (λ (x : Challenge). not x.answered) as_challenge xs
-
 -- ---- one exit by its name
 
 -- where no exit of the name stands, none is taken out

@@ -13,7 +13,7 @@ use plasma_base::Hash32;
 use plasma_tx::{EXIT_BOND, EXIT_PERIOD, LAST_TIME, MOST_MONEY, Owner, RawOpening, Refusal, Shown};
 
 /// Who owned a coin after the parent of an exit, and who after the exit's block.
-#[derive(Debug, Clone, Copy, PartialEq, Eq)]
+#[derive(Clone, Copy, PartialEq, Eq)]
 pub struct Owners {
     pub parent: Owner,
     pub exit: Owner,

@@ -16,7 +16,7 @@ pub const MOST_BLOCKS: u64 = 4_294_967_295;
 
 /// The first line of a log, `chain <tag> <operator> <most>`: the chain's tag, a hex of `TAG_BYTES`
 /// bytes; the operator's account; and the most blocks, from 1 to `MOST_BLOCKS`.
-#[derive(Debug, Clone, Copy, Drop)]
+#[derive(Clone, Copy, Drop)]
 pub struct FirstLine {
     pub tag: [u8; 32],
     pub operator: u64,
@@ -24,7 +24,7 @@ pub struct FirstLine {
 }
 
 /// The first word of a log.
-#[derive(Debug, Clone, Copy, PartialEq, Eq)]
+#[derive(Clone, Copy, PartialEq, Eq)]
 pub enum FirstName {
     Chain,
 }

@@ -1,14 +1,13 @@
 -- How a run ends whose text was written whole, or was stopped.
-use Rattle.std.proofs.Common.{◌≡◌, ℕ, inl, inr, Bool, true, false, List, [], ◌++◌, Option, refl, sym, subst}
+use Rattle.std.proofs.Common.{◌≡◌, ℕ, List, [], ◌++◌, Option, refl, subst}
 use Rattle.std.specs.Prelude.{◌≢◌}
-use Rattle.std.proofs.lemmas.Bool.{false≢true}
 use Rattle.std.proofs.lemmas.List.{append-nil}
 use Rattle.plasma_outside.specs.declared.sink.SinkRefusal.{SinkRefusal}
 use Rattle.plasma_outside.specs.declared.sink.SinkRefusal.TheVariants.{Failed, NoMemory as WantsMemory}
-use Rattle.streamed_lines.specs.Outside.{Wrote, WroteFront, ReadsToFault}
+use Rattle.streamed_lines.specs.Outside.{Wrote, WroteFront}
 use Rattle.run_endings.specs.declared.status.Status.{Status}
 use Rattle.run_endings.specs.declared.status.Status.TheVariants.{Done, Refused, Usage, BadLine, ReadFault, WriteFault, DeviceFault, NoMemory, TooLong, NotJournal, AlreadyMade}
-use Rattle.run_endings.specs.Statuses.{status_of_refusal, ReadsBy, IsDoneUnlessFailed}
+use Rattle.run_endings.specs.Statuses.{status_of_refusal, IsDoneUnlessFailed}
 use Rattle.run_endings.specs.Outputs.{Output, Stops, EndsAs}
 
 -- a text that was written whole ends a run with any status but one that stopped it
@@ -54,25 +53,6 @@ pub stops-line :
     → status ≢ ReadFault → WroteFront before after line
     → Stops (record { status = status; answers = []; last = line }) before after ⊥
 stops-line status line before after no_fault front = record { front = front; fault = λ is. absurd (no_fault is) }
-
--- a run that met no read fault, whose source had no fault
-pub reads-unfailed : (status : Status) (Reads : Bool → Type 0) → status ≢ ReadFault → Reads false
-    → ReadsBy status Reads
-reads-unfailed Done Reads no_fault reads = reads
-reads-unfailed Refused Reads no_fault reads = reads
-reads-unfailed Usage Reads no_fault reads = reads
-reads-unfailed BadLine Reads no_fault reads = reads
-reads-unfailed ReadFault Reads no_fault reads = absurd (no_fault refl)
-reads-unfailed WriteFault Reads no_fault reads = (false, reads)
-reads-unfailed DeviceFault Reads no_fault reads = reads
-reads-unfailed NoMemory Reads no_fault reads = (false, reads)
-reads-unfailed TooLong Reads no_fault reads = reads
-reads-unfailed NotJournal Reads no_fault reads = reads
-reads-unfailed AlreadyMade Reads no_fault reads = reads
-
--- a source that wasn't touched
-pub reads-none : (faults : ℕ) (failed_last : Bool) → ReadsToFault faults faults failed_last false
-reads-none faults failed_last = record { count = refl; last = λ wrong. absurd (false≢true wrong) }
 
 -- a run whose output says that it was done, or what failed
 pub ends-done : (output : Output) (status : Status) (before after : Option (List ℕ)) (failed : Type 0)

@@ -5,7 +5,7 @@ ghost use Rattle.run_endings.specs.Statuses.{code_of, status_of_refusal, is_writ
 use plasma_outside::SinkRefusal;
 
 /// How a run ended. Its number is the program's exit status.
-#[derive(Debug, Clone, Copy, PartialEq, Eq)]
+#[derive(Clone, Copy, PartialEq, Eq)]
 pub enum Status {
     /// Everything was done.
     Done,

@@ -12,7 +12,7 @@ use plasma_base::{Bytes, NoMemory};
 use std::alloc::Global;
 
 /// What the words of a run ask for.
-#[derive(Debug, Drop)]
+#[derive(Drop)]
 pub enum Form {
     /// `replay`: a schedule is read, and its trace is written.
     Replay,

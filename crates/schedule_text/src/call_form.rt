@@ -5,7 +5,7 @@ use plasma_base::Bytes;
 pub const ROOT_BYTES: usize = 32;
 
 /// The form of a `call` line, after the account. Openings are bytes tokens.
-#[derive(Debug, Drop)]
+#[derive(Drop)]
 pub enum CallForm {
     /// `deposit <amount> <key>`: money for a new coin of the key's owner.
     Deposit {

@@ -1,5 +1,5 @@
 /// The first word of a form of a call.
-#[derive(Debug, Clone, Copy, PartialEq, Eq)]
+#[derive(Clone, Copy, PartialEq, Eq)]
 pub enum CallName {
     Deposit,
     Commit,
@@ -10,7 +10,7 @@ pub enum CallName {
 }
 
 /// The first word of a form that challenges an exit or answers a challenge.
-#[derive(Debug, Clone, Copy, PartialEq, Eq)]
+#[derive(Clone, Copy, PartialEq, Eq)]
 pub enum ChallengeName {
     After,
     Between,

@@ -5,7 +5,7 @@ use line_forms::{HexOrItem, HexOrName};
 use plasma_base::Bytes;
 
 /// What a node is told to do.
-#[derive(Debug, Drop)]
+#[derive(Drop)]
 pub enum Command {
     /// A command of this wallet. Its name stands after the first word.
     Wallet {
@@ -32,7 +32,7 @@ pub enum Command {
 }
 
 /// A command of a wallet, without the wallet's name.
-#[derive(Debug, Drop)]
+#[derive(Drop)]
 pub enum WalletCommand {
     /// `accept <wallet> <bundle>`: takes a coin by its history.
     Accept {
@@ -62,7 +62,7 @@ pub enum WalletCommand {
 }
 
 /// A command of a watcher, without the watcher's name.
-#[derive(Debug, Drop)]
+#[derive(Drop)]
 pub enum WatcherCommand {
     /// `guard <watcher> <bundle>`: guards a coin, by its history.
     Guard { bundle: HexOrItem },
@@ -71,7 +71,7 @@ pub enum WatcherCommand {
 }
 
 /// A command of the operator.
-#[derive(Debug, Drop)]
+#[derive(Drop)]
 pub enum OperatorCommand {
     /// `offer <transfer>`: takes a signed transfer into the pool.
     Offer { transfer: HexOrItem },

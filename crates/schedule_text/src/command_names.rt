@@ -1,5 +1,5 @@
 /// The first word of a command.
-#[derive(Debug, Clone, Copy, PartialEq, Eq)]
+#[derive(Clone, Copy, PartialEq, Eq)]
 pub enum CommandName {
     Wallet(WalletCommandName),
     Watcher(WatcherCommandName),
@@ -9,7 +9,7 @@ pub enum CommandName {
 }
 
 /// The first word of a wallet's command.
-#[derive(Debug, Clone, Copy, PartialEq, Eq)]
+#[derive(Clone, Copy, PartialEq, Eq)]
 pub enum WalletCommandName {
     Accept,
     Send,
@@ -20,14 +20,14 @@ pub enum WalletCommandName {
 }
 
 /// The first word of a watcher's command.
-#[derive(Debug, Clone, Copy, PartialEq, Eq)]
+#[derive(Clone, Copy, PartialEq, Eq)]
 pub enum WatcherCommandName {
     Guard,
     Release,
 }
 
 /// The first word of an operator's command.
-#[derive(Debug, Clone, Copy, PartialEq, Eq)]
+#[derive(Clone, Copy, PartialEq, Eq)]
 pub enum OperatorCommandName {
     Offer,
     Lay,

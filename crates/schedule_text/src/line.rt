@@ -11,7 +11,7 @@ pub const MOST_BLOCKS: u64 = 3000;
 pub const LAST_LEAF: u64 = 1023;
 
 /// One line of a schedule, with its tokens in order.
-#[derive(Debug, Drop)]
+#[derive(Drop)]
 pub enum Line {
     /// `chain <tag> <operator> <most>`: the contract; `most` is from 1 to `MOST_BLOCKS`.
     Chain {

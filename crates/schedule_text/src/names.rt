@@ -1,7 +1,7 @@
 use super::command_names::CommandName;
 
 /// The first word of a line.
-#[derive(Debug, Clone, Copy, PartialEq, Eq)]
+#[derive(Clone, Copy, PartialEq, Eq)]
 pub enum LineName {
     Chain,
     Fund,
@@ -14,7 +14,7 @@ pub enum LineName {
 }
 
 /// The first word of a line that declares a name.
-#[derive(Debug, Clone, Copy, PartialEq, Eq)]
+#[derive(Clone, Copy, PartialEq, Eq)]
 pub enum DeclarationName {
     Wallet,
     Watcher,
@@ -22,7 +22,7 @@ pub enum DeclarationName {
 }
 
 /// The first word of a line of what is done with a declared name, but for commands.
-#[derive(Debug, Clone, Copy, PartialEq, Eq)]
+#[derive(Clone, Copy, PartialEq, Eq)]
 pub enum DeedName {
     Deposit,
     Enter,

@@ -14,7 +14,7 @@ use Rattle.sparse_merkle.specs.PathProof.{is_default_at, mask_of, kept_siblings,
 use Rattle.sparse_merkle.specs.TreeDigest.{default_digest, AreDefaults, far_part, near_part, path_below, path_to, subtree_digest}
 use Rattle.sparse_merkle.specs.declared.tree.Entry.{Entry}
 use Rattle.sparse_merkle.proofs.TreeLaws.{length-path_below}
-use Rattle.sparse_merkle.proofs.ProofLaws.{MasksPath-none, MasksPath-default, MasksPath-sibling, MasksPath-one, proof_path-keeps, is_canonical-keeps, proof-one}
+use Rattle.sparse_merkle.proofs.ProofLaws.{MasksPath-none, MasksPath-default, MasksPath-sibling, MasksPath-one, proof_path-keeps, is_canonical-keeps}
 
 -- ---- the siblings of a path below a level
 
@@ -138,14 +138,6 @@ proof_path-proof_of_path dig path long =
     (MasksPath-proof_of_path dig (defaults_of dig) path (AreDefaults-defaults_of dig)) long
 
 -- ---- what is the proof of a path
-
--- a canonical proof that stands for a path is the proof of the path
-pub proof_of_path-from : (dig : List ℕ → List ℕ) (proof : MaskedPath) (path : List (List ℕ)) → IsMaskedPath proof
-    → is_canonical dig proof ≡ true → proof_path dig proof ≡ path → length path ≡ 64
-    → All (λ sibling. length sibling ≡ 32) path → proof ≡ proof_of_path dig path
-proof_of_path-from dig proof path shape canonical is long h =
-    proof-one dig proof (proof_of_path dig path) shape (IsMaskedPath-proof_of_path dig path long h) canonical
-    (is_canonical-proof_of_path dig path) (is ∙ sym (proof_path-proof_of_path dig path long))
 
 -- a proof that was made of a path, where it stands for a path, is the proof of that path
 pub proof_of_path-made : {E : Type 0} (result : Result MaskedPath E) (dig : List ℕ → List ℕ)

@@ -7,7 +7,7 @@ use plasma_outside::SinkRefusal;
 use std::alloc::AllocError;
 
 /// What ends a stream of lines. `C` are the causes of an answerer's own.
-#[derive(Debug, Clone, Copy, PartialEq, Eq)]
+#[derive(Clone, Copy, PartialEq, Eq)]
 pub enum Ending<C> {
     /// All lines were answered.
     Complete,
@@ -33,7 +33,7 @@ pub enum Stop<C> {
 }
 
 /// Why a line isn't answered.
-#[derive(Debug, Clone, Copy, PartialEq, Eq)]
+#[derive(Clone, Copy, PartialEq, Eq)]
 pub enum Halt<C> {
     /// The line ends the stream.
     Stops { stop: Stop<C> },
@@ -44,7 +44,7 @@ pub enum Halt<C> {
 }
 
 /// What breaks a stream of lines off.
-#[derive(Debug, Clone, Copy, PartialEq, Eq)]
+#[derive(Clone, Copy, PartialEq, Eq)]
 pub enum Break {
     /// The sink failed.
     WriteFault,

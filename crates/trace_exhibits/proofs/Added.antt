@@ -1,17 +1,23 @@
 -- What stands once the strings of one more opening were added.
-use Rattle.std.proofs.Common.{◌≡◌, ℕ, ◌+◌, ◌<◌, false, List, [], ◌∷◌, ◌++◌, length, drop, slice_index_or, Some, None, option_map, refl, sym, ap, ◌∙◌, subst, append_assoc, arith}
-use Rattle.std.specs.List.{slice_get}
+use Rattle.std.proofs.Common.{◌≡◌, ℕ, ◌+◌, ◌<◌, List, [], ◌∷◌, ◌++◌, length, take, drop, get_or, Some, None, inl, inr, refl, sym, ap, ◌∙◌, subst, append_assoc, arith}
+use Rattle.std.specs.List.{Contains, slice_get}
 use Rattle.std.specs.HashMap.{HashMap}
-use Rattle.std.proofs.lemmas.Option.{slice_get-get_or}
+use Rattle.std.proofs.lemmas.Bool.{cases_eq}
+use Rattle.std.proofs.lemmas.Option.{slice_get_within}
+use Rattle.std.proofs.lemmas.List.{append-nil, length-append, take_more}
+use Rattle.std.proofs.lemmas.List.Concat.{flat_map-append}
 use Rattle.sparse_merkle.specs.Opening.{hashed_string, hashed_strings}
-use Rattle.watch_duty.proofs.Members.{Has}
-use Rattle.trace_exhibits.proofs.Clashes.{known-strings}
-use Rattle.trace_exhibits.proofs.Strings.{strings-behind, strings-earlier, strings-later, strings_at-one, strings_before-more}
+use Rattle.plasma_tx.proofs.Names.{some_same}
+use Rattle.watch_duty.proofs.Members.{has-left, has-right, has-contains, contains-has}
+use Rattle.trace_exhibits.proofs.Places.{get-before, get-last}
+use Rattle.trace_exhibits.proofs.Clashes.{known-strings, strings-stay}
+use Rattle.trace_exhibits.proofs.Strings.{strings-behind}
 use Rattle.world_rules.specs.Exhibits.{first_clash, strings_in}
-use Rattle.trace_exhibits.specs.Ways.{pair_of, strings_in_shown, strings_in_all, strings_before, strings_at, strings_below}
+use Rattle.trace_exhibits.specs.Opened.{Opened}
+use Rattle.trace_exhibits.specs.Ways.{pair_of, strings_in_shown, strings_in_all, strings_below}
+use Rattle.trace_exhibits.specs.Met.{AreStill, KeepsMet}
 use Rattle.trace_exhibits.specs.Strings.{KeepsStrings}
 use Rattle.trace_exhibits.specs.declared.shown.Clash.{Clash}
-use Rattle.trace_exhibits.specs.Opened.{Opened, AreMarked}
 use Rattle.trace_exhibits.specs.declared.digest_key.DigestKey.{DigestKey}
 use Rattle.trace_exhibits.specs.declared.hashed_string.HashedString.{HashedString}
 
@@ -21,10 +27,6 @@ regroup front below behind rest strings string is =
     ap (λ all. (front ++ all) ++ rest) is
     ∙ ap (λ all. all ++ rest) (sym (append_assoc front below (string ∷ behind)))
     ∙ append_assoc (front ++ below) (string ∷ behind) rest
-
-pub here-is : (shown : List Opened) (number : ℕ) (one : Opened) → number < length shown
-    → one ≡ slice_index_or shown number one → slice_get shown number ≡ Some one
-here-is shown number one less is = slice_get-get_or shown number one less ∙ ap Some (sym is)
 
 module _ (dig : List ℕ → List ℕ) where
   -- a clash at a level of a way is one of the whole way
@@ -43,45 +45,81 @@ module _ (dig : List ℕ → List ℕ) where
       ∙ sym (append_assoc (front ++ below) (string ∷ []) (behind ++ rest)))
       ∙ found (behind ++ rest)
 
-  pub one-before : (shown : List Opened) (number : ℕ) (one : Opened)
-      → slice_get shown number ≡ Some one
-      → strings_before dig shown number ++ strings_in_shown dig one ≡ strings_before dig shown (number + 1)
-  one-before shown number one is =
-      ap (λ all. strings_before dig shown number ++ all) (sym (strings_at-one dig shown number one is))
-      ∙ sym (strings_before-more dig shown number)
-
-  same-strings : (one other : Opened) → other.coin ≡ one.coin → other.opening ≡ one.opening
-      → strings_in_shown dig other ≡ strings_in_shown dig one
-  same-strings one other coin opening =
-      ap (λ c. strings_in dig c other.opening) coin ∙ ap (strings_in dig one.coin) opening
-
-  -- an opening that was shown before adds no string
-  pub known-added : {S : Type 0} (shown : List Opened) (table : HashMap DigestKey HashedString S) (number : ℕ)
-      (one : Opened)
-      → AreMarked shown → slice_get shown number ≡ Some one → one.is_new ≡ false
-      → KeepsStrings dig table (strings_before dig shown number)
-      → KeepsStrings dig table (strings_before dig shown (number + 1))
-  known-added shown table number one marked is old keeps =
-      let was = marked number one is old in
-      let same : strings_at dig shown was.0 ≡ strings_in_shown dig one =
-      strings_at-one dig shown was.0 was.1 was.3 ∙ same-strings one was.1 was.4 was.5 in
-      subst (KeepsStrings dig table) (one-before shown number one is)
-      (known-strings dig table (strings_before dig shown number) (strings_in_shown dig one) keeps
-      (λ string there. strings-earlier dig shown was.0 number string was.2
-      (subst (λ (all : List (List ℕ)). Has all string) (sym same) there)))
-
-  pub none-added : {S : Type 0} (table : HashMap DigestKey HashedString S) → table.entries ≡ []
-      → KeepsStrings dig table []
+  pub none-added : {S : Type 0} (met : List Opened) (table : HashMap DigestKey HashedString S)
+      → table.entries ≡ [] → KeepsStrings dig met table []
   unfolding first_clash
-  none-added table empty = record {
+  none-added met table empty = record {
     none = refl;
     known = λ string there. absurd (omega (arith, there.1));
     only = λ digest kept is. absurd (let wrong : None ≡ Some kept = rw empty at is in cc wrong);
   }
 
-  -- a clash among the strings up to a number is one of all
-  pub all-clash : (shown : List Opened) (number : ℕ) (clash : Clash)
-      → ((rest : List (List ℕ)) → first_clash dig [] (strings_before dig shown number ++ rest) ≡ Some (pair_of clash))
-      → option_map pair_of (Some clash) ≡ first_clash dig [] (strings_in_all dig shown)
-  all-clash shown number clash found =
-      sym (ap (first_clash dig []) (strings-later dig shown number) ∙ found (strings_in_all dig (drop number shown)))
+-- ---- openings that were met
+
+pub still-same : (met : List Opened) → AreStill met met
+still-same met place one is = is
+
+pub still-more : (met : List Opened) (one : Opened) → AreStill met (met ++ one ∷ [])
+still-more met one place other is = get-before met (one ∷ []) place (slice_get_within met place other is) ∙ is
+
+module _ (dig : List ℕ → List ℕ) where
+  pub met-nothing : (met : List Opened) → met ≡ [] → KeepsMet dig met []
+  met-nothing met empty =
+      subst (λ (m : List Opened). KeepsMet dig m []) (sym empty) (λ place one is string there. absurd (cc is))
+
+  -- the strings of one more opening
+  pub more-shown : (earlier : List (List ℕ)) (shown : List Opened) (number : ℕ) (one : Opened)
+      → number < length shown → one ≡ get_or shown number one
+      → (earlier ++ strings_in_all dig (take number shown)) ++ strings_in_shown dig one
+      ≡ earlier ++ strings_in_all dig (take (number + 1) shown)
+  more-shown earlier shown number one within is =
+      append_assoc earlier (strings_in_all dig (take number shown)) (strings_in_shown dig one)
+      ∙ ap (λ all. earlier ++ all)
+      (ap (λ these. strings_in_all dig (take number shown) ++ these) (sym (append-nil (strings_in_shown dig one)))
+      ∙ sym (flat_map-append (strings_in_shown dig) (take number shown) (one ∷ []))
+      ∙ ap (strings_in_all dig) (ap (λ last. take number shown ++ last ∷ []) is
+      ∙ sym (take_more shown number one within)))
+
+  -- what was met stays so behind more strings
+  pub met-stays : (met : List Opened) (earlier more : List (List ℕ)) → KeepsMet dig met earlier
+      → KeepsMet dig met (earlier ++ more)
+  met-stays met earlier more keeps place one is string there =
+      has-contains (earlier ++ more) string
+      (has-left earlier more string (contains-has earlier string (keeps place one is string there)))
+
+  -- an opening that was met adds no string
+  pub met-known : {S : Type 0} (met : List Opened) (table : HashMap DigestKey HashedString S)
+      (earlier : List (List ℕ)) (place : ℕ) (one : Opened) → slice_get met place ≡ Some one
+      → KeepsMet dig met earlier → KeepsStrings dig met table earlier
+      → KeepsStrings dig met table (earlier ++ strings_in_shown dig one)
+  met-known met table earlier place one at kept keeps =
+      known-strings dig met table earlier (strings_in_shown dig one) keeps (λ string there.
+      contains-has earlier string
+      (kept place one at string (has-contains (strings_in_shown dig one) string there)))
+
+  -- the opening that was added last is met once its strings were added
+  pub met-added : (met : List Opened) (earlier : List (List ℕ)) (one : Opened) → KeepsMet dig met earlier
+      → KeepsMet dig (met ++ one ∷ []) (earlier ++ strings_in_shown dig one)
+  met-added met earlier one keeps place other is string there = elim (cases_eq place (length met)) [
+    | inl last ↦
+        let same : one ≡ other =
+        some_same one other (sym (get-last met one) ∙ ap (slice_get (met ++ one ∷ [])) (sym last) ∙ is) in
+        has-contains (earlier ++ strings_in_shown dig one) string
+        (has-right earlier (strings_in_shown dig one) string
+        (contains-has (strings_in_shown dig one) string
+        (subst (λ (o : Opened). Contains (strings_in dig o.coin o.opening) string) (sym same) there)))
+    | inr apart ↦
+        let within : place < length (met ++ one ∷ []) = slice_get_within (met ++ one ∷ []) place other is in
+        let before : place < length met = omega (arith, within, length-append met (one ∷ []), apart) in
+        met-stays met earlier (strings_in_shown dig one) keeps place other
+        (sym (get-before met (one ∷ []) place before) ∙ is) string there
+  ]
+
+  -- ---- the first clash
+
+  -- a clash stays the first whatever follows
+  pub clash-stays : (earlier more : List (List ℕ)) (clash : Clash)
+      → ((rest : List (List ℕ)) → first_clash dig [] (earlier ++ rest) ≡ Some (pair_of clash))
+      → (rest : List (List ℕ)) → first_clash dig [] ((earlier ++ more) ++ rest) ≡ Some (pair_of clash)
+  clash-stays earlier more clash found rest =
+      ap (first_clash dig []) (append_assoc earlier more rest) ∙ found (more ++ rest)

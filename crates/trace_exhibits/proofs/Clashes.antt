@@ -1,16 +1,20 @@
 -- The first clash of strings that come one after another.
-use Rattle.std.proofs.Common.{◌≡◌, ◌≢◌, ℕ, not, Bool, true, false, if◌then◌else◌, List, [], ◌∷◌, ◌++◌, find, Option, Some, None, option_map, inl, inr, refl, sym, ap, ◌∙◌, subst, append_assoc}
+use Rattle.std.proofs.Common.{◌≡◌, ◌≢◌, ℕ, not, Bool, true, false, if◌then◌else◌, List, [], ◌∷◌, ◌++◌, find, Option, Some, None, option_map, inl, inr, refl, sym, ap, ◌∙◌, subst, append_assoc, ◌<◌, length, arith}
 use Rattle.std.specs.List.{Contains}
 use Rattle.std.specs.Prelude.{Result, Ok, Err, IfOk}
 use Rattle.std.specs.Option.{option_or}
 use Rattle.std.specs.HashMap.{HashMap, Updates}
 use Rattle.std.specs.Str.{bytes_eq}
 use Rattle.std.proofs.lemmas.Bool.{cases_Bool, true≢false, and_parts}
-use Rattle.std.proofs.lemmas.List.{append-nil}
+use Rattle.std.proofs.lemmas.List.{append-nil, length-append}
 use Rattle.std.proofs.lemmas.Slice.Eq.{bytes_eq-Decides}
 use Rattle.watch_duty.proofs.Members.{Has, has-left, has-right, has-cases, has-contains, contains-has}
 use Rattle.world_rules.specs.Exhibits.{do_clash, clash_with, first_clash}
-use Rattle.trace_exhibits.specs.Strings.{bytes_of, key_of, is_same_digest, string_of, KeepsStrings, IsAdded}
+use Rattle.sparse_merkle.specs.TreeDigest.{leaf_string}
+use Rattle.trace_exhibits.proofs.Places.{get-before}
+use Rattle.trace_exhibits.specs.Opened.{Opened}
+use Rattle.trace_exhibits.specs.Met.{leaf_of}
+use Rattle.trace_exhibits.specs.Strings.{bytes_of, IsWithin, key_of, is_same_digest, string_of, KeepsStrings, IsAdded}
 use Rattle.trace_exhibits.specs.declared.shown.Clash.{Clash}
 use Rattle.trace_exhibits.specs.declared.digest_key.DigestKey.{DigestKey}
 use Rattle.trace_exhibits.specs.declared.hashed_string.HashedString.{HashedString}
@@ -90,9 +94,10 @@ module _ (dig : List ℕ → List ℕ) where
         | inr apart ↦ rw apart ((bytes_eq-Decides (dig first) (dig string)).1 same)
       ]
 
-  module _ {S : Type 0} (table : HashMap DigestKey HashedString S) (earlier : List (List ℕ)) where
+  module _ {S : Type 0} (met : List Opened) (table : HashMap DigestKey HashedString S)
+      (earlier : List (List ℕ)) where
     -- strings of these with one digest are one string
-    one-string : KeepsStrings dig table earlier → (one other : List ℕ) → Has earlier one → Has earlier other
+    one-string : KeepsStrings dig met table earlier → (one other : List ℕ) → Has earlier one → Has earlier other
         → dig one ≡ dig other → one ≡ other
     one-string keeps one other is_one is_other same =
         let first = keeps.known one (has-contains earlier one is_one) in
@@ -100,9 +105,9 @@ module _ (dig : List ℕ → List ℕ) where
         let both : Some first.0 ≡ Some second.0 =
         sym first.1 ∙ ap (string_of table) same ∙ second.1 in
         let e : first.0 ≡ second.0 = cc both in
-        sym first.2 ∙ ap bytes_of e ∙ second.2
+        sym first.2 ∙ ap (bytes_of met) e ∙ second.2
 
-    more-none : (string : List ℕ) → KeepsStrings dig table earlier → clash_with dig earlier string ≡ None
+    more-none : (string : List ℕ) → KeepsStrings dig met table earlier → clash_with dig earlier string ≡ None
         → first_clash dig [] (earlier ++ string ∷ []) ≡ None
     unfolding first_clash
     more-none string keeps apart =
@@ -110,8 +115,8 @@ module _ (dig : List ℕ → List ℕ) where
         ∙ ap (λ found. option_or found (first_clash dig (earlier ++ string ∷ []) [])) apart
 
     -- a string that was met before
-    pub known-string : (string : List ℕ) → KeepsStrings dig table earlier → Has earlier string
-        → KeepsStrings dig table (earlier ++ string ∷ [])
+    pub known-string : (string : List ℕ) → KeepsStrings dig met table earlier → Has earlier string
+        → KeepsStrings dig met table (earlier ++ string ∷ [])
     known-string string keeps there = record {
       none = more-none string keeps (clash-none earlier string
           (λ other is_there same. one-string keeps other string is_there there same));
@@ -125,18 +130,20 @@ module _ (dig : List ℕ → List ℕ) where
           ];
       only = λ digest kept is.
           let was = keeps.only digest kept is in (
-            has-contains (earlier ++ string ∷ []) (bytes_of kept)
-                (has-left earlier (string ∷ []) (bytes_of kept) (contains-has earlier (bytes_of kept) was.0)),
+            has-contains (earlier ++ string ∷ []) (bytes_of met kept)
+                (has-left earlier (string ∷ []) (bytes_of met kept) (contains-has earlier (bytes_of met kept) was.0)),
             was.1,
+            was.2,
           );
     }
 
     -- a string whose digest wasn't met before, and which was put in
     pub new-string : (new : HashMap DigestKey HashedString S) (string : List ℕ) (kept : HashedString)
-        → KeepsStrings dig table earlier → string_of table (dig string) ≡ None
-        → Updates is_same_digest table new (key_of (dig string)) (Some kept) → bytes_of kept ≡ string
-        → KeepsStrings dig new (earlier ++ string ∷ [])
-    new-string new string kept keeps absent adds of = record {
+        → KeepsStrings dig met table earlier → string_of table (dig string) ≡ None
+        → Updates is_same_digest table new (key_of (dig string)) (Some kept) → bytes_of met kept ≡ string
+        → IsWithin met kept
+        → KeepsStrings dig met new (earlier ++ string ∷ [])
+    new-string new string kept keeps absent adds of within = record {
       none = more-none string keeps (clash-none earlier string (λ other is_there same.
           let was = keeps.known other (has-contains earlier other is_there) in
           let wrong : None ≡ Some was.0 = sym absent ∙ ap (string_of table) (sym same) ∙ was.1 in
@@ -153,15 +160,16 @@ module _ (dig : List ℕ → List ℕ) where
         | inl same ↦ only-here digest one is same
         | inr apart ↦
             let was = keeps.only digest one (sym (adds.2 (key_of digest) apart) ∙ is) in (
-              has-contains (earlier ++ string ∷ []) (bytes_of one)
-                  (has-left earlier (string ∷ []) (bytes_of one) (contains-has earlier (bytes_of one) was.0)),
+              has-contains (earlier ++ string ∷ []) (bytes_of met one)
+                  (has-left earlier (string ∷ []) (bytes_of met one) (contains-has earlier (bytes_of met one) was.0)),
               was.1,
+              was.2,
             )
       ];
     }
       where
         known-before : (one : List ℕ) → Has earlier one → (k : HashedString)
-            × (string_of new (dig one) ≡ Some k) × (bytes_of k ≡ one)
+            × (string_of new (dig one) ≡ Some k) × (bytes_of met k ≡ one)
         known-before one before =
             let was = keeps.known one (has-contains earlier one before) in
             elim (cases_Bool (bytes_eq (dig string) (dig one))) [
@@ -174,57 +182,93 @@ module _ (dig : List ℕ → List ℕ) where
 
         only-here : (digest : List ℕ) (one : HashedString) → string_of new digest ≡ Some one
             → bytes_eq (dig string) digest ≡ true
-            → Contains (earlier ++ string ∷ []) (bytes_of one) × (dig (bytes_of one) ≡ digest)
+            → Contains (earlier ++ string ∷ []) (bytes_of met one) × (dig (bytes_of met one) ≡ digest)
+            × IsWithin met one
         only-here digest one is same =
             let e : dig string ≡ digest = bytes-same (dig string) digest same in
             let both : Some kept ≡ Some one = sym adds.1 ∙ ap (string_of new) e ∙ is in
             let here : kept ≡ one = cc both in
-            let made : string ≡ bytes_of one = sym of ∙ ap bytes_of here in (
-              has-contains (earlier ++ string ∷ []) (bytes_of one)
-                  (has-right earlier (string ∷ []) (bytes_of one) (inl made)),
+            let made : string ≡ bytes_of met one = sym of ∙ ap (bytes_of met) here in (
+              has-contains (earlier ++ string ∷ []) (bytes_of met one)
+                  (has-right earlier (string ∷ []) (bytes_of met one) (inl made)),
               ap dig (sym made) ∙ e,
+              subst (IsWithin met) here within,
             )
 
     -- a string whose digest is that of another one
-    clashing-string : (string : List ℕ) (kept : HashedString) → KeepsStrings dig table earlier
-        → string_of table (dig string) ≡ Some kept → bytes_of kept ≢ string
+    clashing-string : (string : List ℕ) (kept : HashedString) → KeepsStrings dig met table earlier
+        → string_of table (dig string) ≡ Some kept → bytes_of met kept ≢ string
         → (rest : List (List ℕ)) → first_clash dig [] ((earlier ++ string ∷ []) ++ rest)
-        ≡ Some (record { first = bytes_of kept; second = string })
+        ≡ Some (record { first = bytes_of met kept; second = string })
     clashing-string string kept keeps is differ rest =
         let was = keeps.only (dig string) kept is in
-        let there = contains-has earlier (bytes_of kept) was.0 in
+        let there = contains-has earlier (bytes_of met kept) was.0 in
         ap (first_clash dig []) (append_assoc earlier (string ∷ []) rest)
         ∙ one-more earlier string rest keeps.none
         ∙ ap (λ found. option_or found (first_clash dig (earlier ++ string ∷ []) rest))
-        (clash-some earlier (bytes_of kept) string there was.1 differ
-        (λ other is_there same. one-string keeps other (bytes_of kept) is_there there (same ∙ sym was.1)))
+        (clash-some earlier (bytes_of met kept) string there was.1 differ
+        (λ other is_there same. one-string keeps other (bytes_of met kept) is_there there (same ∙ sym was.1)))
 
     -- what becomes of a string whose digest was met before
     pub met-string : {E : Type 0} (string : List ℕ) (kept : HashedString) (result : Result (Option Clash) E)
-        → KeepsStrings dig table earlier → string_of table (dig string) ≡ Some kept
-        → IfOk result (λ found. found ≡ (if bytes_eq (bytes_of kept) string then None
-        else Some (record { first = bytes_of kept; second = string })))
-        → IfOk result (IsAdded dig table (earlier ++ string ∷ []))
+        → KeepsStrings dig met table earlier → string_of table (dig string) ≡ Some kept
+        → IfOk result (λ found. found ≡ (if bytes_eq (bytes_of met kept) string then None
+        else Some (record { first = bytes_of met kept; second = string })))
+        → IfOk result (IsAdded dig met table (earlier ++ string ∷ []))
     met-string string kept (Err why) keeps is told = tt
-    met-string string kept (Ok found) keeps is told = elim (cases_Bool (bytes_eq (bytes_of kept) string)) [
+    met-string string kept (Ok found) keeps is told = elim (cases_Bool (bytes_eq (bytes_of met kept) string)) [
       | inl same ↦
           let e : found ≡ None = rw same at told in
-          rw e (known-string string keeps (subst (Has earlier) (bytes-same (bytes_of kept) string same)
-          (contains-has earlier (bytes_of kept) (keeps.only (dig string) kept is).0)))
+          rw e (known-string string keeps (subst (Has earlier) (bytes-same (bytes_of met kept) string same)
+          (contains-has earlier (bytes_of met kept) (keeps.only (dig string) kept is).0)))
       | inr apart ↦
-          let e : found ≡ Some (record { first = bytes_of kept; second = string }) = rw apart at told in
+          let e : found ≡ Some (record { first = bytes_of met kept; second = string }) = rw apart at told in
           rw e (clashing-string string kept keeps is
-          (λ same. true≢false (sym ((bytes_eq-Decides (bytes_of kept) string).1 same) ∙ apart)))
+          (λ same. true≢false (sym ((bytes_eq-Decides (bytes_of met kept) string).1 same) ∙ apart)))
     ]
 
   -- strings that were met before
-  pub known-strings : {S : Type 0} (table : HashMap DigestKey HashedString S)
-      (earlier strings : List (List ℕ)) → KeepsStrings dig table earlier
+  pub known-strings : {S : Type 0} (met : List Opened) (table : HashMap DigestKey HashedString S)
+      (earlier strings : List (List ℕ)) → KeepsStrings dig met table earlier
       → ((string : List ℕ) → Has strings string → Has earlier string)
-      → KeepsStrings dig table (earlier ++ strings)
-  known-strings table earlier [] keeps there = rw (append-nil earlier) keeps
-  known-strings table earlier (string ∷ strings) keeps there =
-      subst (KeepsStrings dig table) (append_assoc earlier (string ∷ []) strings)
-      (known-strings table (earlier ++ string ∷ []) strings
-      (known-string table earlier string keeps (there string (inl refl)))
+      → KeepsStrings dig met table (earlier ++ strings)
+  known-strings met table earlier [] keeps there = rw (append-nil earlier) keeps
+  known-strings met table earlier (string ∷ strings) keeps there =
+      subst (KeepsStrings dig met table) (append_assoc earlier (string ∷ []) strings)
+      (known-strings met table (earlier ++ string ∷ []) strings
+      (known-string met table earlier string keeps (there string (inl refl)))
       (λ one is. has-left earlier (string ∷ []) one (there one (inr is))))
+
+  -- ---- one more opening
+
+  bytes-stay : (met : List Opened) (one : Opened) (kept : HashedString) → IsWithin met kept
+      → bytes_of (met ++ one ∷ []) kept ≡ bytes_of met kept
+  bytes-stay met one (HashedString.Leaf place) within =
+      ap (λ found. leaf_string (leaf_of found)) (get-before met (one ∷ []) place within)
+  bytes-stay met one (HashedString.Node bytes) within = refl
+
+  within-more : (met : List Opened) (one : Opened) (kept : HashedString) → IsWithin met kept
+      → IsWithin (met ++ one ∷ []) kept
+  within-more met one (HashedString.Leaf place) within = omega (arith, within, length-append met (one ∷ []))
+  within-more met one (HashedString.Node bytes) within = tt
+
+  -- one more opening leaves the strings
+  pub strings-stay : {S : Type 0} (met : List Opened) (one : Opened) (table : HashMap DigestKey HashedString S)
+      (earlier : List (List ℕ)) → KeepsStrings dig met table earlier
+      → KeepsStrings dig (met ++ one ∷ []) table earlier
+  strings-stay met one table earlier keeps = record {
+    none = keeps.none;
+    known = λ string there.
+        let was = keeps.known string there in (
+          was.0,
+          was.1,
+          bytes-stay met one was.0 (keeps.only (dig string) was.0 was.1).2 ∙ was.2,
+        );
+    only = λ digest kept is.
+        let was = keeps.only digest kept is in
+        let same = bytes-stay met one kept was.2 in (
+          subst (Contains earlier) (sym same) was.0,
+          ap dig same ∙ was.1,
+          within-more met one kept was.2,
+        );
+  }

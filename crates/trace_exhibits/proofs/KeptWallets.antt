@@ -138,8 +138,8 @@ module _ (events : List Event) (old new : Known) (keeps : KeepsWallets events ol
   keeps-line (ExhibitLine.Binds w body) not_declared not_bound = absurd (not_bound w body refl)
   keeps-line (ExhibitLine.Joins call) not_declared not_bound =
       keeps-same (event_of (ExhibitLine.Joins call)) refl (λ w. refl)
-  keeps-line (ExhibitLine.Shows coin openings is_new) not_declared not_bound =
-      keeps-same (event_of (ExhibitLine.Shows coin openings is_new)) refl (λ w. refl)
+  keeps-line (ExhibitLine.Shows coin openings) not_declared not_bound =
+      keeps-same (event_of (ExhibitLine.Shows coin openings)) refl (λ w. refl)
   keeps-line ExhibitLine.Other not_declared not_bound = keeps-same Idle refl (λ w. refl)
 
 -- ---- forgeries

@@ -1,11 +1,12 @@
+pub mod Places
 pub mod Clashes
 pub mod Strings
 pub mod Added
+pub mod Found
 pub mod KeptWallets
-pub mod MetLaws
 pub mod Reading
 pub mod Accepted
 pub mod Lined
+pub mod Forged
 pub mod TestedLaws
-pub mod Marks
 pub mod Paths

@@ -1,87 +1,36 @@
--- The events that lines tell, one line after another.
-use Rattle.std.proofs.Common.{◌≡◌, ℕ, ◌+◌, ◌||◌, Bool, true, false, if◌then◌else◌, List, [], ◌∷◌, ◌++◌, length, map, take, drop, reverse, get_or, Option, Some, None, option_map, refl, sym, ap, ◌∙◌, append_assoc, arith}
-use Rattle.std.specs.List.{list_any, slice_get}
+-- What one more line shows.
+use Rattle.std.proofs.Common.{◌≡◌, ℕ, ◌+◌, ◌||◌, Bool, true, false, if◌then◌else◌, List, [], ◌∷◌, ◌++◌, length, map, Option, Some, None, refl, sym, ap, ◌∙◌}
+use Rattle.std.specs.List.{list_any}
 use Rattle.std.specs.Option.{option_or}
-use Rattle.std.proofs.lemmas.List.{append-nil, map-append, reverse-append, length-reverse, take-append-drop, take_more, length-map, length-take-le}
-use Rattle.std.proofs.lemmas.Option.{slice_get_within, get_or_from_slice_get}
-use Rattle.std.proofs.lemmas.List.Concat.{flat_map-append}
 use Rattle.std.proofs.lemmas.List.Folds.{flat_map-map}
 use Rattle.plasma_tx.specs.declared.opening.RawOpening.{RawOpening}
 use Rattle.plasma_tx.specs.declared.owner.Owner.{Owner}
 use Rattle.plasma_tx.specs.declared.body.Body.{Body}
 use Rattle.world_rules.specs.Events.{Event, wallet_owner, wallets, bound_by}
-use Rattle.world_rules.specs.Exhibits.{openings_of, coin_of, strings_of, strings_shown, all_strings, forges, forges_one, shows_forgery, forges_some, first_forgery, first_clash, collision_or, forgery_or, exhibit_of}
+use Rattle.world_rules.specs.Exhibits.{openings_of, coin_of, strings_of, strings_shown, all_strings, forges, forges_one, shows_forgery, forges_some, first_forgery, first_clash, Pair, collision_or, forgery_or, exhibit_of}
 use Rattle.trace_exhibits.proofs.KeptWallets.{any-same, any-false, or-false}
 use Rattle.trace_exhibits.proofs.Reading.{strings-read, forgery-read}
-use Rattle.trace_exhibits.specs.Ways.{pair_of, strings_in_shown, strings_in_all}
-use Rattle.trace_exhibits.specs.Told.{ToldLine, opened, shown_of, shown_in, events_of}
-use Rattle.trace_exhibits.specs.Lines.{AreLines}
+use Rattle.trace_exhibits.specs.Lines.{read_of}
+use Rattle.trace_exhibits.specs.Ways.{strings_in_shown, strings_in_all}
+use Rattle.trace_exhibits.specs.Told.{opened, shown_of}
 use Rattle.trace_exhibits.specs.Wallets.{is_forged_in}
-use Rattle.trace_exhibits.specs.declared.shown.Clash.{Clash}
-
--- ---- events
-
-abbrev event_in : ToldLine → Event
-event_in line = line.event
-
-pub events_of-append : (lines more : List ToldLine) → events_of (lines ++ more) ≡ events_of more ++ events_of lines
-unfolding events_of
-events_of-append lines more =
-    ap reverse (map-append event_in lines more) ∙ reverse-append (map event_in lines) (map event_in more)
-
-pub events_of-none : events_of [] ≡ []
-unfolding events_of
-events_of-none = refl
-
-pub events_of-one : (line : ToldLine) → events_of (line ∷ []) ≡ line.event ∷ []
-unfolding events_of
-events_of-one line = refl
-
--- the events of the lines up to a number
-pub events-more : (lines : List ToldLine) (number : ℕ) (line : ToldLine) → slice_get lines number ≡ Some line
-    → events_of (take (number + 1) lines) ≡ line.event ∷ events_of (take number lines)
-events-more lines number line is =
-    ap events_of (take_more lines number line (slice_get_within lines number line is))
-    ∙ events_of-append (take number lines) (get_or lines number line ∷ [])
-    ∙ ap (λ all. all ++ events_of (take number lines))
-    (ap (λ one. events_of (one ∷ [])) (get_or_from_slice_get lines number line line is) ∙ events_of-one line)
-
-length-events : (lines : List ToldLine) → length (events_of lines) ≡ length lines
-unfolding events_of
-length-events lines = length-reverse (map event_in lines) ∙ length-map lines event_in
 
 -- ---- strings
 
 module _ (dig : List ℕ → List ℕ) where
-  line-strings : (line : ToldLine) → strings_shown dig line.event ≡ strings_in_all dig (shown_of line)
+  event-strings : (event : Event) → strings_shown dig event ≡ strings_in_all dig (shown_of event)
   unfolding strings_of
-  line-strings line =
-      sym (flat_map-map (strings_in_shown dig) (opened (coin_of line.event) line.is_new)
-      (openings_of (coin_of line.event) line.event))
+  event-strings event =
+      sym (flat_map-map (strings_in_shown dig) (opened (coin_of event)) (openings_of (coin_of event) event))
 
-  all_strings-append : (events more : List Event)
-      → all_strings dig (more ++ events) ≡ all_strings dig events ++ all_strings dig more
+  pub no-strings : all_strings dig [] ≡ []
   unfolding all_strings
-  all_strings-append events [] = sym (append-nil (all_strings dig events))
-  all_strings-append events (event ∷ more) =
-      ap (λ all. all ++ strings_shown dig event) (all_strings-append events more)
-      ∙ append_assoc (all_strings dig events) (all_strings dig more) (strings_shown dig event)
+  no-strings = refl
 
-  lined-strings : (lines : List ToldLine) → all_strings dig (events_of lines) ≡ strings_in_all dig (shown_in lines)
-  unfolding all_strings shown_in
-  lined-strings [] = ap (all_strings dig) events_of-none
-  lined-strings (line ∷ lines) =
-      ap (all_strings dig) (events_of-append (line ∷ []) lines)
-      ∙ all_strings-append (events_of (line ∷ [])) (events_of lines)
-      ∙ ap (λ all. all_strings dig all ++ all_strings dig (events_of lines)) (events_of-one line)
-      ∙ ap (λ these. these ++ all_strings dig (events_of lines)) (line-strings line)
-      ∙ ap (λ rest. strings_in_all dig (shown_of line) ++ rest) (lined-strings lines)
-      ∙ sym (flat_map-append (strings_in_shown dig) (shown_of line) (shown_in lines))
-
-  pub strings-told : (lines : List ToldLine) (events : List Event) → AreLines lines events
-      → all_strings dig events ≡ strings_in_all dig (shown_in lines)
-  strings-told lines events are =
-      sym (strings-read dig events) ∙ ap (all_strings dig) are ∙ lined-strings lines
+  pub more-strings : (events : List Event) (event : Event)
+      → all_strings dig events ++ strings_in_all dig (shown_of event) ≡ all_strings dig (event ∷ events)
+  unfolding all_strings
+  more-strings events event = ap (λ these. all_strings dig events ++ these) (sym (event-strings event))
 
 -- ---- forgeries
 
@@ -109,94 +58,72 @@ module _ (tag : List ℕ) (events : List Event) where
   one-more (Some me) bodies coin opening openings =
       ap (λ b. b || list_any (forges tag coin me bodies) openings) (sym (or-false (forges tag coin me bodies opening)))
 
-  some-opening : (coin : ℕ) (is_new : Bool) (openings : List RawOpening)
+  some-opening : (coin : ℕ) (openings : List RawOpening)
       → list_any (λ w. shows_forgery tag events w coin openings) (wallets events)
-      ≡ list_any (is_forged_in tag events) (map (opened coin is_new) openings)
-  some-opening coin is_new [] =
+      ≡ list_any (is_forged_in tag events) (map (opened coin) openings)
+  some-opening coin [] =
       any-false (λ w. shows_forgery tag events w coin []) (wallets events)
       (λ w. one-none (wallet_owner events w) (bound_by events w) coin)
-  some-opening coin is_new (opening ∷ openings) =
+  some-opening coin (opening ∷ openings) =
       any-same (λ w. shows_forgery tag events w coin (opening ∷ openings))
       (λ w. shows_forgery tag events w coin (opening ∷ []) || shows_forgery tag events w coin openings)
       (wallets events) (λ w. one-more (wallet_owner events w) (bound_by events w) coin opening openings)
       ∙ any-or (λ w. shows_forgery tag events w coin (opening ∷ []))
       (λ w. shows_forgery tag events w coin openings) (wallets events)
-      ∙ ap (λ b. is_forged_in tag events (opened coin is_new opening) || b) (some-opening coin is_new openings)
+      ∙ ap (λ b. is_forged_in tag events (opened coin opening) || b) (some-opening coin openings)
 
-  -- a line shows a forgery where one of its openings does
-  pub line-forges : (line : ToldLine)
-      → forges_some tag events line.event ≡ list_any (is_forged_in tag events) (shown_of line)
-  line-forges line =
-      some-opening (coin_of line.event) line.is_new (openings_of (coin_of line.event) line.event)
+  -- an event shows a forgery where one of its openings does
+  pub event-forges : (event : Event)
+      → forges_some tag events event ≡ list_any (is_forged_in tag events) (shown_of event)
+  event-forges event = some-opening (coin_of event) (openings_of (coin_of event) event)
 
 module _ (tag : List ℕ) where
-  -- a forgery that was found is the first, whatever comes behind it
-  forgery-stays : (events more : List Event) (line : ℕ) → first_forgery tag events ≡ Some line
-      → first_forgery tag (more ++ events) ≡ Some line
+  -- a forgery that was found stays the first
+  pub forgery-stays : (events : List Event) (event : Event) (line : ℕ) → first_forgery tag events ≡ Some line
+      → first_forgery tag (event ∷ events) ≡ Some line
   unfolding first_forgery
-  forgery-stays events [] line is = is
-  forgery-stays events (event ∷ more) line is =
-      ap (λ found. option_or found (if forges_some tag (more ++ events) event
-      then Some (length (more ++ events) + 1) else None)) (forgery-stays events more line is)
+  forgery-stays events event line is =
+      ap (λ found. option_or found (if forges_some tag events event then Some (length events + 1) else None)) is
 
-  next-forgery : (events : List Event) (event : Event) → first_forgery tag events ≡ None
-      → first_forgery tag (event ∷ events) ≡ (if forges_some tag events event then Some (length events + 1) else None)
+  pub no-forgery : first_forgery tag [] ≡ None
   unfolding first_forgery
-  next-forgery events event none =
+  no-forgery = refl
+
+  next-forgery : (events : List Event) (event : Event) (b : Bool) → first_forgery tag events ≡ None
+      → b ≡ forges_some tag events event
+      → first_forgery tag (event ∷ events) ≡ (if b then Some (length events + 1) else None)
+  unfolding first_forgery
+  next-forgery events event b none is =
       ap (λ found. option_or found (if forges_some tag events event then Some (length events + 1) else None)) none
+      ∙ ap (λ (t : Bool). if t then Some (length events + 1) else None) (sym is)
 
-  pub forgery-none-yet : first_forgery tag (events_of []) ≡ None
-  unfolding first_forgery
-  forgery-none-yet = ap (first_forgery tag) events_of-none
+  -- one more line shows none, or is the first that does
+  pub forgery-passed : (events : List Event) (event : Event) → first_forgery tag events ≡ None
+      → false ≡ forges_some tag events event → first_forgery tag (event ∷ events) ≡ None
+  forgery-passed events event none is = next-forgery events event false none is
 
-  module _ (lines : List ToldLine) (number : ℕ) (line : ToldLine) (is : slice_get lines number ≡ Some line)
-      (none : first_forgery tag (events_of (take number lines)) ≡ None) where
-    -- no line up to here shows one
-    pub forgery-passed : false ≡ forges_some tag (events_of (take number lines)) line.event
-        → first_forgery tag (events_of (take (number + 1) lines)) ≡ None
-    forgery-passed passed =
-        ap (first_forgery tag) (events-more lines number line is)
-        ∙ next-forgery (events_of (take number lines)) line.event none
-        ∙ ap (λ (b : Bool). if b then Some (length (events_of (take number lines)) + 1) else None) (sym passed)
-
-    -- this line is the first
-    pub forgery-here : true ≡ forges_some tag (events_of (take number lines)) line.event
-        → (events : List Event) → AreLines lines events → Some (number + 1) ≡ first_forgery tag events
-    forgery-here forged events are =
-        sym (sym (forgery-read tag events) ∙ ap (first_forgery tag) (are ∙ parts)
-        ∙ forgery-stays (events_of (take (number + 1) lines)) (events_of (drop (number + 1) lines)) (number + 1) found)
-      where
-        long : length (events_of (take number lines)) ≡ number
-        long =
-            length-events (take number lines)
-            ∙ length-take-le number lines (omega (arith, slice_get_within lines number line is))
-
-        found : first_forgery tag (events_of (take (number + 1) lines)) ≡ Some (number + 1)
-        found =
-            ap (first_forgery tag) (events-more lines number line is)
-            ∙ next-forgery (events_of (take number lines)) line.event none
-            ∙ ap (λ (b : Bool). if b then Some (length (events_of (take number lines)) + 1) else None) (sym forged)
-            ∙ ap (λ n. Some (n + 1)) long
-
-        parts : events_of lines ≡ events_of (drop (number + 1) lines) ++ events_of (take (number + 1) lines)
-        parts =
-            ap events_of (sym (take-append-drop (number + 1) lines))
-            ∙ events_of-append (take (number + 1) lines) (drop (number + 1) lines)
-
-  -- no line shows one
-  pub forgery-nowhere : (lines : List ToldLine) (events : List Event) → AreLines lines events
-      → first_forgery tag (events_of lines) ≡ None → None ≡ first_forgery tag events
-  forgery-nowhere lines events are none = sym (sym (forgery-read tag events) ∙ ap (first_forgery tag) are ∙ none)
+  pub forgery-here : (events : List Event) (event : Event) (number : ℕ) → number ≡ length events + 1
+      → first_forgery tag events ≡ None → true ≡ forges_some tag events event
+      → first_forgery tag (event ∷ events) ≡ Some number
+  forgery-here events event number is_number none is = next-forgery events event true none is ∙ ap Some (sym is_number)
 
 -- ---- the exhibit
 
-pub exhibit-told : (dig : List ℕ → List ℕ) (tag : List ℕ) (lines : List ToldLine) (events : List Event)
-    (clash : Option Clash) (forgery : Option ℕ) → AreLines lines events
-    → option_map pair_of clash ≡ first_clash dig [] (strings_in_all dig (shown_in lines))
-    → forgery ≡ first_forgery tag events
-    → collision_or (option_map pair_of clash) (forgery_or forgery) ≡ exhibit_of dig tag events
+-- by what is read of the events
+pub exhibit-read : (dig : List ℕ → List ℕ) (tag : List ℕ) (events : List Event) (clash : Option Pair)
+    (forgery : Option ℕ) → first_clash dig [] (all_strings dig (map read_of events)) ≡ clash
+    → first_forgery tag (map read_of events) ≡ forgery
+    → collision_or clash (forgery_or forgery) ≡ exhibit_of dig tag events
 unfolding exhibit_of
-exhibit-told dig tag lines events clash forgery are clashes forges =
+exhibit-read dig tag events clash forgery clashes forges =
     ap (λ found. collision_or found (forgery_or forgery))
-    (clashes ∙ ap (first_clash dig []) (sym (strings-told dig lines events are)))
-    ∙ ap (λ found. collision_or (first_clash dig [] (all_strings dig events)) (forgery_or found)) forges
+    (sym clashes ∙ ap (first_clash dig []) (strings-read dig events))
+    ∙ ap (λ found. collision_or (first_clash dig [] (all_strings dig events)) (forgery_or found))
+    (sym forges ∙ forgery-read tag events)
+
+-- a clash is the exhibit, whatever forgery there is
+pub exhibit-clash : (dig : List ℕ → List ℕ) (tag : List ℕ) (events : List Event) (pair : Pair)
+    → first_clash dig [] (all_strings dig (map read_of events)) ≡ Some pair
+    → collision_or (Some pair) (forgery_or None) ≡ exhibit_of dig tag events
+exhibit-clash dig tag events pair clashes =
+    exhibit-read dig tag events (Some pair) (first_forgery tag (map read_of events)) clashes refl

@@ -63,5 +63,5 @@ module _ (tag : List ℕ) (events : List Event) (one : Opened) where
   still-none (ExhibitLine.Declares w me) not_declared none = absurd (not_declared w me refl)
   still-none (ExhibitLine.Binds w body) not_declared none = bound-behind w body.now none
   still-none (ExhibitLine.Joins call) not_declared none = none
-  still-none (ExhibitLine.Shows coin openings is_new) not_declared none = none
+  still-none (ExhibitLine.Shows coin openings) not_declared none = none
   still-none ExhibitLine.Other not_declared none = none

@@ -1,9 +1,9 @@
 pub mod Opened
-pub mod Met
-pub mod Ways
-pub mod Strings
 pub mod Told
 pub mod Lines
+pub mod Ways
+pub mod Met
+pub mod Strings
 pub mod Wallets
 pub mod Tested
-pub mod Laws
+pub mod Findings

@@ -1,10 +1,9 @@
 -- What the lines of a trace are to its exhibit.
-use Rattle.std.specs.Prelude.{◌≡◌, ℕ, Bool, true, List, map}
+use Rattle.std.specs.Prelude.{ℕ, List}
 use Rattle.plasma_tx.specs.declared.call.RootCall.{RootCall}
 use Rattle.plasma_tx.specs.declared.opening.RawOpening.{RawOpening}
 use Rattle.watch_duty.specs.Laws.{openings_of_call}
 use Rattle.world_rules.specs.Events.{Event, Declares, Binds, Joins, Accepts, Guards, TakesBack, Idle, coin_of_call}
-use Rattle.trace_exhibits.specs.Told.{ToldLine, events_of}
 use Rattle.trace_exhibits.specs.declared.lines.ExhibitLine.{ExhibitLine}
 
 -- some node accepts openings of a coin
@@ -30,18 +29,5 @@ abbrev pub event_of : ExhibitLine → Event
 event_of (ExhibitLine.Declares w me) = Declares w me.now
 event_of (ExhibitLine.Binds w body) = Binds w body.now
 event_of (ExhibitLine.Joins call) = joins call.now
-event_of (ExhibitLine.Shows coin openings is_new) = accepts coin openings.now
+event_of (ExhibitLine.Shows coin openings) = accepts coin openings.now
 event_of ExhibitLine.Other = Idle
-
--- whether what a line shows is marked as new; so is a line that shows nothing
-abbrev pub is_marked_new : ExhibitLine → Bool
-is_marked_new (ExhibitLine.Shows coin openings is_new) = is_new
-is_marked_new line = true
-
--- what an exhibit reads of a line
-abbrev pub told_of : ExhibitLine → ToldLine
-told_of line = record { event = event_of line; is_new = is_marked_new line }
-
--- the lines, the oldest first, tell what an exhibit reads of the events
-abbrev pub AreLines : List ToldLine → List Event → Type 0
-AreLines lines events = map read_of events ≡ events_of lines

@@ -1,7 +1,6 @@
 -- The strings of shown openings, and the way up from one opening.
-use Rattle.std.specs.Prelude.{◌≡◌, ℕ, ◌<◌, List, [], map, take, slice_index_or}
-use Rattle.std.specs.List.{flat_map, slice_get, range_with_len}
-use Rattle.std.specs.Option.{option_map_or}
+use Rattle.std.specs.Prelude.{◌≡◌, ℕ, ◌<◌, List, [], map, slice_index_or}
+use Rattle.std.specs.List.{flat_map, range_with_len}
 use Rattle.sparse_merkle.specs.Opening.{hashed_string, digest_at_level}
 use Rattle.world_rules.specs.Exhibits.{strings_in, Pair}
 use Rattle.trace_exhibits.specs.Opened.{Opened}
@@ -15,16 +14,9 @@ pair_of clash = record { first = clash.first; second = clash.second }
 abbrev pub strings_in_shown : (List ℕ → List ℕ) → Opened → List (List ℕ)
 strings_in_shown dig one = strings_in dig one.coin one.opening
 
--- the strings of all shown openings, and of those before a number
+-- the strings of shown openings, in their order
 abbrev pub strings_in_all : (List ℕ → List ℕ) → List Opened → List (List ℕ)
 strings_in_all dig shown = flat_map (strings_in_shown dig) shown
-
-unfoldable pub strings_before : (List ℕ → List ℕ) → List Opened → ℕ → List (List ℕ)
-strings_before dig shown number = strings_in_all dig (take number shown)
-
--- the strings of the opening with a number; none where there is none
-unfoldable pub strings_at : (List ℕ → List ℕ) → List Opened → ℕ → List (List ℕ)
-strings_at dig shown number = option_map_or (strings_in_shown dig) (slice_get shown number) []
 
 -- the strings below a level, on the way up from a leaf
 unfoldable pub strings_below : (List ℕ → List ℕ) → ℕ → List ℕ → List (List ℕ) → ℕ → List (List ℕ)

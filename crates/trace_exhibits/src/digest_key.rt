@@ -5,7 +5,7 @@ ghost use Rattle.std.proofs.lemmas.Slice.Eq.{bytes_eq-Decides};
 use std::hash::{Hash, Hasher};
 
 /// A digest as a key of a map. It is hashed in one write, where an array is byte by byte.
-#[derive(Debug, Clone, Copy, PartialEq, Eq)]
+#[derive(Clone, Copy, PartialEq, Eq)]
 pub(crate) struct DigestKey {
     pub(crate) bytes: [u8; 32],
 }

@@ -1,89 +1,116 @@
-ghost use Rattle.std.specs.Prelude.{◌≡◌, false, List, IfOk};
+ghost use Rattle.std.specs.Prelude.{◌≡◌, ◌+◌, ℕ, ◌∷◌, [], false, List, length, IfOk, OnOk};
 ghost use Rattle.world_rules.specs.Events.{Event};
-ghost use Rattle.world_rules.specs.Exhibits.{first_forgery, forges_some};
-ghost use Rattle.trace_exhibits.specs.Lines.{event_of, AreLines};
+ghost use Rattle.world_rules.specs.Exhibits.{forges_some};
+ghost use Rattle.trace_exhibits.specs.Opened.{Opened};
+ghost use Rattle.trace_exhibits.specs.Told.{shown_of};
+ghost use Rattle.trace_exhibits.specs.Lines.{event_of};
 ghost use Rattle.trace_exhibits.specs.Wallets.{KeepsWallets, is_forged_in};
 ghost use Rattle.trace_exhibits.specs.Tested.{KeepsTested};
+ghost use Rattle.trace_exhibits.specs.Met.{AreStill};
+ghost use Rattle.trace_exhibits.specs.Findings.{FindsForgery};
 
-use super::lines::{ExhibitLine, push_shown};
+use super::lines::ExhibitLine;
+use super::met::MetOpenings;
 use super::shown::ShownOpening;
 use super::tested::Tested;
-use super::told::ExhibitLines;
 use super::wallets::Known;
 use plasma_base::NoMemory;
-use plasma_tx::leaf_in;
 use std::alloc::Global;
 
-/// The number of the first of these lines, the oldest first, that shows a forgery: a leaf with this tag whose
-/// signature is valid under the key of a wallet that an earlier line declares, over a body that no earlier leaf of
-/// it bound. `None` where none does.
-pub fn first_forgery<L: ExhibitLines>(
+/// What lines said of wallets and which openings were tested; and the number of the first line that shows a forgery,
+/// once there is one: a leaf with the chain's tag whose signature is valid under the key of a wallet that an earlier
+/// line declares, over a body that no earlier leaf of it bound. Nothing is looked at behind it.
+#[derive(Drop)]
+pub(crate) struct Forgeries {
     alloc: Global,
-    tag: &[u8; 32],
-    lines: &L,
-) -> Result<Option<u64>, NoMemory>
-    ensures { IfOk result (λ found. (events : List Event) → AreLines (L.told lines.now) events
-        → found ≡ first_forgery tag.now events) }
-{
-    let mut known = Known::new(alloc);
-    let mut tested = Tested::new(alloc);
-    for number in 0..lines.len() {
-        let line = lines.line(number);
-        if shows_forgery(alloc, tag, &known, &mut tested, &line)? {
-            return Ok(Some(number as u64 + 1));
-        }
-        known.add(&line)?;
-        tested.pass(&line);
-    }
-    Ok(None)
+    pub(crate) known: Known,
+    pub(crate) tested: Tested,
+    pub(crate) found: Option<u64>,
 }
 
-// Whether the line shows a forgery, behind the lines that said what is known.
-fn shows_forgery<'a>(
+impl Forgeries {
+    /// No line. It takes no memory.
+    pub(crate) fn new(alloc: Global) -> Forgeries
+        ensures { (tag : List ℕ) (met : List Opened) → FindsForgery tag [] met result }
+    {
+        Forgeries {
+            alloc,
+            known: Known::new(alloc),
+            tested: Tested::new(alloc),
+            found: None,
+        }
+    }
+
+    /// Takes the line with this number, which shows these openings. More may have been met since the line before.
+    pub(crate) fn take(
+        &mut self,
+        tag: &[u8; 32],
+        number: u64,
+        met: &MetOpenings,
+        line: &ExhibitLine<'_>,
+        shown: &[ShownOpening<'_>],
+    ) -> Result<(), NoMemory>
+        requires { shown.now ≡ shown_of (event_of line.now) }
+        ensures { (events : List Event) (before : List Opened) → number ≡ length events + 1
+            → AreStill before met.now → FindsForgery tag.now events before self.old
+            → OnOk result (FindsForgery tag.now (event_of line.now ∷ events) met.now self.new) }
+    {
+        if self.found.is_some() {
+            return Ok(());
+        }
+        if show_forgery(self.alloc, tag, &self.known, &mut self.tested, met, shown)? {
+            self.found = Some(number);
+            return Ok(());
+        }
+        self.known.add(line)?;
+        self.tested.pass(line);
+        Ok(())
+    }
+}
+
+// Whether one of the openings of a line shows a forgery, behind the lines that said what is known.
+fn show_forgery(
     alloc: Global,
     tag: &[u8; 32],
     known: &Known,
-    tested: &mut Tested<'a>,
-    line: &ExhibitLine<'a>,
+    tested: &mut Tested,
+    met: &MetOpenings,
+    shown: &[ShownOpening<'_>],
 ) -> Result<bool, NoMemory>
-    ensures { IfOk result (λ forged. (events : List Event) → KeepsWallets events known.now
-        → KeepsTested tag.now events tested.old
-        → (forged ≡ forges_some tag.now events (event_of line.now))
-        × (forged ≡ false → KeepsTested tag.now events tested.new)) }
+    ensures { IfOk result (λ forged. (events : List Event) (event : Event) → shown.now ≡ shown_of event
+        → KeepsWallets events known.now → KeepsTested tag.now events met.now tested.old
+        → (forged ≡ forges_some tag.now events event)
+        × (forged ≡ false → KeepsTested tag.now events met.now tested.new)) }
 {
-    let mut shown = Vec::new(alloc);
-    push_shown(line, &mut shown)?;
-    for one in &shown {
-        if is_forged(alloc, tag, known, tested, one)? {
+    for one in shown {
+        if is_forged(alloc, tag, known, tested, met, one)? {
             return Ok(true);
         }
     }
     Ok(false)
 }
 
-// Whether the opening shows a forgery. One that was tested isn't tested again; an empty leaf, which shows none, isn't
-// remembered.
-fn is_forged<'a>(
+// Whether the opening shows a forgery. One that was met and tested isn't tested again.
+fn is_forged(
     alloc: Global,
     tag: &[u8; 32],
     known: &Known,
-    tested: &mut Tested<'a>,
-    one: &ShownOpening<'a>,
+    tested: &mut Tested,
+    met: &MetOpenings,
+    one: &ShownOpening<'_>,
 ) -> Result<bool, NoMemory>
     ensures { IfOk result (λ forged. (events : List Event) → KeepsWallets events known.now
-        → KeepsTested tag.now events tested.old
+        → KeepsTested tag.now events met.now tested.old
         → (forged ≡ is_forged_in tag.now events one.now)
-        × (forged ≡ false → KeepsTested tag.now events tested.new)) }
+        × (forged ≡ false → KeepsTested tag.now events met.now tested.new)) }
 {
-    let opening = one.opening();
-    if tested.has(one.coin(), opening) {
+    let place = met.find(one.coin(), one.opening());
+    if tested.has(place) {
         return Ok(false);
     }
     if known.is_forged(alloc, tag, one)? {
         return Ok(true);
     }
-    if !leaf_in(opening.bytes.as_slice()).is_empty() {
-        tested.add(alloc, one.coin(), opening)?;
-    }
+    tested.add(place)?;
     Ok(false)
 }

@@ -2,26 +2,19 @@
 //! key never made.
 #![tactic(auto)]
 
-mod clashing;
+mod collisions;
 mod digest_key;
-mod exhibit;
+mod findings;
 mod forgeries;
 mod forging;
 mod hashed_string;
-mod laws;
 mod lines;
 mod met;
 mod shown;
 mod tested;
-mod told;
 mod wallets;
 mod way;
 
-pub use clashing::first_clash;
-pub use exhibit::exhibit_of;
-pub use forgeries::first_forgery;
+pub use findings::Findings;
 pub use forging::forges;
-pub use laws::{lines_grow, marks_grow};
 pub use lines::ExhibitLine;
-pub use shown::{Clash, ShownOpening};
-pub use told::ExhibitLines;

@@ -1,12 +1,10 @@
-ghost use Rattle.std.specs.Prelude.{◌≡◌, ◌++◌, true, map, OnOk, IfOk};
-ghost use Rattle.plasma_tx.specs.Views.{block_of};
+ghost use Rattle.std.specs.Prelude.{◌≡◌, ◌++◌, map, OnOk, IfOk};
 ghost use Rattle.watch_duty.specs.Laws.{openings_of_call, shown_openings};
 ghost use Rattle.world_rules.specs.Events.{coin_of_call};
-ghost use Rattle.trace_exhibits.specs.Told.{opened, shown_of, shown_in};
-ghost use Rattle.trace_exhibits.specs.Lines.{told_of};
+ghost use Rattle.trace_exhibits.specs.Told.{opened, shown_of};
+ghost use Rattle.trace_exhibits.specs.Lines.{event_of};
 
 use super::shown::ShownOpening;
-use super::told::ExhibitLines;
 use plasma_base::NoMemory;
 use plasma_tx::{Body, Owner, RawOpening, RootCall, Shown};
 use std::alloc::Global;
@@ -28,46 +26,34 @@ pub enum ExhibitLine<'a> {
     Joins {
         call: &'a RootCall,
     },
-    /// A node accepted openings of a coin. They may be marked as not new only where earlier lines show each of
-    /// them of the same coin.
+    /// A node accepted openings of a coin.
     Shows {
         coin: u64,
         openings: &'a [RawOpening],
-        is_new: bool,
     },
     /// None of these.
     Other,
 }
 
-/// The openings that the lines show, in their order.
-pub(crate) fn shown_in<L: ExhibitLines>(
+/// The openings that a line shows, in their order.
+pub(crate) fn shown_of<'a>(
     alloc: Global,
-    lines: &L,
-) -> Result<Vec<ShownOpening<'_>>, NoMemory>
-    ensures { IfOk result (λ shown. shown.items ≡ shown_in (L.told lines.now)) }
+    line: &ExhibitLine<'a>,
+) -> Result<Vec<ShownOpening<'a>>, NoMemory>
+    ensures { IfOk result (λ shown. shown.items ≡ shown_of (event_of line.now)) }
 {
     let mut shown = Vec::new(alloc);
-    for number in 0..lines.len() {
-        let line = lines.line(number);
-        push_shown(&line, &mut shown)?;
-    }
+    push_shown(line, &mut shown)?;
     Ok(shown)
 }
 
-/// Adds the openings that a line shows. `NoMemory` may leave some of them added.
-pub(crate) fn push_shown<'a>(
-    line: &ExhibitLine<'a>,
-    shown: &mut Vec<ShownOpening<'a>>,
-) -> Result<(), NoMemory>
-    ensures { OnOk result (shown.new.items ≡ shown.old.items ++ shown_of (told_of line.now)) }
+// Adds the openings that a line shows. `NoMemory` may leave some of them added.
+fn push_shown<'a>(line: &ExhibitLine<'a>, shown: &mut Vec<ShownOpening<'a>>) -> Result<(), NoMemory>
+    ensures { OnOk result (shown.new.items ≡ shown.old.items ++ shown_of (event_of line.now)) }
 {
     match line {
         ExhibitLine::Joins { call } => push_call(call, shown),
-        ExhibitLine::Shows {
-            coin,
-            openings,
-            is_new,
-        } => push_openings(*coin, openings, *is_new, shown),
+        ExhibitLine::Shows { coin, openings } => push_openings(*coin, openings, shown),
         _ => Ok(()),
     }
 }
@@ -76,13 +62,12 @@ pub(crate) fn push_shown<'a>(
 fn push_openings<'a>(
     coin: u64,
     openings: &'a [RawOpening],
-    is_new: bool,
     shown: &mut Vec<ShownOpening<'a>>,
 ) -> Result<(), NoMemory>
-    ensures { OnOk result (shown.new.items ≡ shown.old.items ++ map (opened coin is_new) openings.now) }
+    ensures { OnOk result (shown.new.items ≡ shown.old.items ++ map (opened coin) openings.now) }
 {
     for opening in openings {
-        shown.push(ShownOpening::of(coin, opening, is_new))?;
+        shown.push(ShownOpening::of(coin, opening))?;
     }
     Ok(())
 }
@@ -90,7 +75,7 @@ fn push_openings<'a>(
 // Adds the openings that a call shows of its coin, the parent's first.
 fn push_call<'a>(call: &'a RootCall, shown: &mut Vec<ShownOpening<'a>>) -> Result<(), NoMemory>
     ensures { let coin = coin_of_call call.now in OnOk result (shown.new.items
-        ≡ shown.old.items ++ map (opened coin true) (openings_of_call coin call.now)) }
+        ≡ shown.old.items ++ map (opened coin) (openings_of_call coin call.now)) }
 {
     match call {
         RootCall::StartSpend {
@@ -100,12 +85,12 @@ fn push_call<'a>(call: &'a RootCall, shown: &mut Vec<ShownOpening<'a>>) -> Resul
             ..
         } => {
             push_view(*coin, parent, shown)?;
-            shown.push(ShownOpening::of(*coin, exit, true))?;
+            shown.push(ShownOpening::of(*coin, exit))?;
         }
         RootCall::After { coin, spend, .. }
         | RootCall::Between { coin, spend, .. }
         | RootCall::Respond { coin, spend, .. } => {
-            shown.push(ShownOpening::of(*coin, spend, true))?;
+            shown.push(ShownOpening::of(*coin, spend))?;
         }
         RootCall::Before {
             coin,
@@ -123,11 +108,11 @@ fn push_view<'a>(
     view: &'a Shown,
     shown: &mut Vec<ShownOpening<'a>>,
 ) -> Result<(), NoMemory>
-    ensures { OnOk result (shown.new.items ≡ shown.old.items ++ map (opened coin true) (shown_openings view.now)) }
+    ensures { OnOk result (shown.new.items ≡ shown.old.items ++ map (opened coin) (shown_openings view.now)) }
 {
     match view {
         Shown::Deposit { .. } => {}
-        Shown::Spend { opening } => shown.push(ShownOpening::of(coin, opening, true))?,
+        Shown::Spend { opening } => shown.push(ShownOpening::of(coin, opening))?,
     }
     Ok(())
 }

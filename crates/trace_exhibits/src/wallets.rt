@@ -15,14 +15,14 @@ use std::alloc::Global;
 use std::collections::HashMap;
 
 /// A wallet that was declared.
-#[derive(Debug, Clone, Copy)]
+#[derive(Clone, Copy)]
 pub(crate) struct Declared {
     pub(crate) wallet: u64,
     pub(crate) owner: Owner,
 }
 
 /// A body that a leaf of a wallet bound.
-#[derive(Debug, Clone, Copy)]
+#[derive(Clone, Copy)]
 pub(crate) struct Bound {
     pub(crate) wallet: u64,
     pub(crate) body: Body,

@@ -1,10 +1,12 @@
-ghost use Rattle.std.specs.Prelude.{◌≡◌, ◌<◌, ◌≤◌, ◌+◌, ◌*◌, true, [], length, take, drop, IfOk, IfSome, OnOk, MatchOption};
+ghost use Rattle.std.specs.Prelude.{◌≡◌, ◌<◌, ◌≤◌, ◌+◌, ◌*◌, true, List, [], length, take, drop, IfOk, IfSome, OnOk, MatchOption};
 ghost use Rattle.sparse_merkle.specs.MaskedPath.{proof_path, has_proof_length, masked_path_in, mask_in};
-ghost use Rattle.plasma_tx.specs.Openings.{leaf_length};
+ghost use Rattle.plasma_tx.specs.Openings.{leaf_length, leaf_in};
 ghost use Rattle.sparse_merkle.specs.Opening.{hashed_string, hashed_strings};
 ghost use Rattle.sparse_merkle.specs.TreeDigest.{AreDefaults};
 ghost use Rattle.trace_exhibits.specs.Ways.{strings_in_shown, AreDigestsUp};
-ghost use Rattle.trace_exhibits.specs.Strings.{bytes_of};
+ghost use Rattle.trace_exhibits.specs.Opened.{Opened};
+ghost use Rattle.trace_exhibits.specs.Met.{leaf_at};
+ghost use Rattle.trace_exhibits.specs.Strings.{bytes_of, IsWithin};
 
 use super::hashed_string::HashedString;
 use super::shown::ShownOpening;
@@ -33,9 +35,10 @@ pub(crate) fn way_of<'a, H: Hash32>(
     ensures { IfOk result (λ found. MatchOption found (strings_in_shown (H.digest_of h.now) one.now ≡ [])
         (λ way. (strings_in_shown (H.digest_of h.now) one.now
         ≡ hashed_strings (H.digest_of h.now) way.coin way.leaf.now way.path)
-        × AreDigestsUp (H.digest_of h.now) way.coin way.leaf.now way.path way.digests)) }
+        × AreDigestsUp (H.digest_of h.now) way.coin way.leaf.now way.path way.digests
+        × (way.leaf.now ≡ leaf_in one.now.opening.bytes))) }
 {
-    match one.opening().open_up_with_defaults(alloc, h, defaults) {
+    match one.opening().open_up_with_defaults(h, defaults) {
         Ok(opening) => {
             let bytes = one.opening().bytes.as_slice();
             let Some(text) = proof_text(bytes) else {
@@ -125,15 +128,16 @@ fn digests_up<H: Hash32>(h: &H, coin: u64, leaf: &[u8], path: &[[u8; 32]; 64]) -
     digests
 }
 
-/// The string at a level of a way up, whose digests are those of `h`.
-pub(crate) fn string_at<'a, H: Hash32>(h: &H, way: &Way<'a>, level: usize) -> HashedString<'a>
+/// The string at a level of a way up, whose digests are those of `h`, and whose leaf is that of the opening at a place.
+pub(crate) fn string_at<H: Hash32>(h: &H, way: &Way<'_>, place: usize, level: usize) -> HashedString
     requires digests { AreDigestsUp (H.digest_of h.now) way.now.coin way.now.leaf.now way.now.path way.now.digests }
     requires within { level < 65 }
-    ensures { bytes_of result
+    ensures bytes { (met : List Opened) → leaf_at met place ≡ way.now.leaf.now → bytes_of met result
         ≡ hashed_string (H.digest_of h.now) way.now.coin way.now.leaf.now way.now.path level }
+    ensures kept { (met : List Opened) → place < length met → IsWithin met result }
 {
     if level == 0 {
-        return HashedString::Leaf(way.leaf);
+        return HashedString::Leaf(place);
     }
     let below = level - 1;
     let digest = way.digests[below];

@@ -6,7 +6,7 @@ use super::notes::{LeafNumbers, LeafRecord, Notes};
 use plasma_tx::{CoinView, RootLog};
 
 /// What a coin is to a wallet.
-#[derive(Debug, Clone, Copy, PartialEq, Eq)]
+#[derive(Clone, Copy, PartialEq, Eq)]
 pub enum CoinState {
     /// The log has no such coin, or the coin is withdrawn, or the wallet never had it.
     Nothing,
@@ -24,11 +24,11 @@ pub enum CoinState {
 /// wallet's owner, and the accepted tips. Then it is `Sending` where a leaf that isn't taken back
 /// binds a body with this coin and this parent, with the lowest number of these; else `Leaving` where
 /// that is noted of coin and tip; else `Held`. It takes no memory, and goes once over each of the
-/// accepted tips, the leaves and the leaving notes at most.
+/// accepted tips, the leaves and the leaving notes at most. A leaf's number has 32 bits: of 2^32 leaves
+/// or more, which no key has, nothing is said.
 #[tactic(auto, unfolding(crate::specs::State::state_of))]
 pub fn state(notes: &Notes, leaves: &[LeafRecord], log: &RootLog, coin: u64) -> CoinState
-    requires { length leaves.now < 2 ^ 32 }
-    ensures { result ≡ state_of notes.now leaves.now log.now.log coin }
+    ensures { length leaves.now < 2 ^ 32 → result ≡ state_of notes.now leaves.now log.now.log coin }
 {
     let Some(made) = log.coin(coin) else {
         return CoinState::Nothing;
@@ -59,8 +59,8 @@ fn greatest_tip(notes: &Notes, made: &CoinView, coin: u64) -> Option<u64>
 
 /// What the coin is at its tip.
 fn state_at(notes: &Notes, leaves: &[LeafRecord], coin: u64, tip: u64) -> CoinState
-    requires { length leaves.now < 2 ^ 32 }
-    ensures { result ≡ state_at notes.now coin tip (sending_leaf notes.now.reclaimed leaves.now coin tip) }
+    ensures { length leaves.now < 2 ^ 32
+        → result ≡ state_at notes.now coin tip (sending_leaf notes.now.reclaimed leaves.now coin tip) }
 {
     match sending_leaf(&notes.reclaimed, leaves, coin, tip) {
         Some(q) => CoinState::Sending { tip, q },
@@ -71,10 +71,12 @@ fn state_at(notes: &Notes, leaves: &[LeafRecord], coin: u64, tip: u64) -> CoinSt
 
 /// The lowest leaf that signs the coin away from the tip and isn't taken back.
 fn sending_leaf(reclaimed: &LeafNumbers, leaves: &[LeafRecord], coin: u64, tip: u64) -> Option<u32>
-    requires { length leaves.now < 2 ^ 32 }
-    ensures { result ≡ sending_leaf reclaimed.now leaves.now coin tip }
+    ensures { length leaves.now < 2 ^ 32 → result ≡ sending_leaf reclaimed.now leaves.now coin tip }
 {
     for (q, leaf) in leaves.iter().enumerate() {
+        if q > u32::MAX as usize {
+            return None;
+        }
         let q = q as u32;
         if signs_away(reclaimed, leaf, q, coin, tip) {
             return Some(q);

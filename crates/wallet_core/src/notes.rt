@@ -11,14 +11,14 @@ use std::collections::BTreeSet;
 use std::marker::Model;
 
 /// A coin and a block at which its history ended when it was noted.
-#[derive(Debug, Clone, Copy, PartialEq, Eq)]
+#[derive(Clone, Copy, PartialEq, Eq)]
 pub struct CoinTip {
     pub coin: u64,
     pub tip: u64,
 }
 
 /// Coins with tips in the order in which they were noted, which contracts see as a list.
-#[derive(Debug, Drop)]
+#[derive(Drop)]
 pub struct Tips {
     items: Vec<CoinTip>,
 }
@@ -152,7 +152,7 @@ pub struct Notes {
 }
 
 /// What a leaf of the wallet's key binds. Its number is its place, from 0.
-#[derive(Debug, Clone, Copy, PartialEq, Eq)]
+#[derive(Clone, Copy, PartialEq, Eq)]
 pub struct LeafRecord {
     pub body: Body,
 }

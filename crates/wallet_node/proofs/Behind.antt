@@ -6,10 +6,10 @@ use Rattle.sha2.proofs.Facts256.{length-sha256}
 use Rattle.plasma_base.specs.Causes.{faults_after}
 use Rattle.crash_disk.specs.Disk.{History, content, FaultPlan}
 use Rattle.crash_disk.specs.Calls.{WhereTold, passed, Made}
-use Rattle.node_journal.specs.Steps.{open_steps}
-use Rattle.node_journal.specs.Journal.{IsSettled, RefusesOpen, is_device_fault}
-use Rattle.node_journal.specs.declared.refusal.JournalRefusal.{JournalRefusal}
-use Rattle.node_journal.specs.declared.refusal.JournalRefusal.TheVariants.{NoMemory}
+use Rattle.gate_journal.specs.Steps.{open_steps}
+use Rattle.gate_journal.specs.Journal.{IsSettled, RefusesOpen, is_device_fault}
+use Rattle.gate_journal.specs.declared.refusal.JournalRefusal.{JournalRefusal}
+use Rattle.gate_journal.specs.declared.refusal.JournalRefusal.TheVariants.{NoMemory}
 use Rattle.lms_sign.specs.declared.secret.Secret.{Secret}
 use Rattle.lms_sign.specs.Types.{is_supported, leaf_count}
 use Rattle.lms_sign.specs.Tree.{public_key_of}

@@ -3,9 +3,9 @@ use Rattle.std.proofs.Common.{◌≡◌, ◌≤◌, ℕ, List, [], ◌∷◌, �
 use Rattle.std.specs.List.{All}
 use Rattle.std.specs.Result.{result_ok}
 use Rattle.std.proofs.lemmas.List.Elements.{All-push, All-nil}
-use Rattle.node_journal.specs.Image.{most, spelled, Spells, journal_in}
-use Rattle.node_journal.proofs.Read.{spelled_is_read}
-use Rattle.node_journal.specs.Journal.{Keeps}
+use Rattle.gate_journal.specs.Image.{most, spelled, Spells, journal_in}
+use Rattle.gate_journal.proofs.Read.{spelled_is_read}
+use Rattle.gate_journal.specs.Journal.{Keeps}
 use Rattle.leaf_journal.specs.Records.{every_message, leaf_records, leaf_records_of, leaf_records_read, leaf_records_read_of, MessagesPass}
 use Rattle.leaf_journal.proofs.Form.{behind-keeps, follows_short}
 use Rattle.leaf_journal.proofs.KindRecords.{kind_records}

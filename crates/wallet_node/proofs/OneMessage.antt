@@ -1,7 +1,7 @@
 -- A wallet's leaf has one message.
 use Rattle.std.proofs.Common.{◌≡◌, List, Some, subst}
 use Rattle.std.proofs.lemmas.List.Concat.{flat_map-append}
-use Rattle.node_journal.specs.Life.{Event}
+use Rattle.gate_journal.specs.Life.{Event}
 use Rattle.leaf_journal.specs.Laws.{MayCome, life_after, message_at}
 use Rattle.leaf_journal.proofs.Lives.{a_leaf_has_one_message}
 use Rattle.wallet_node.specs.Lives.{leaf_events, events_of, AWalletsLeafHasOneMessage}

@@ -7,7 +7,7 @@ use Rattle.std.proofs.lemmas.Bool.{and_parts, and_from}
 use Rattle.std.proofs.lemmas.List.{take_all, take_more}
 use Rattle.std.proofs.lemmas.List.Sums.{take_while-cons}
 use Rattle.std.proofs.lemmas.List.Folds.{list_all-append, list_all_at}
-use Rattle.node_journal.specs.Image.{mark, spelled_record, spelled_records, spelled}
+use Rattle.gate_journal.specs.Image.{mark, spelled_record, spelled_records, spelled}
 use Rattle.plasma_tx.specs.declared.owner.Owner.{Owner}
 use Rattle.wallet_core.specs.declared.notes.LeafRecord.{LeafRecord}
 use Rattle.node_rules.specs.WalletRecords.{note_in, notes_of, who_is, owner_of, are_bound_notes}

@@ -2,8 +2,8 @@
 use Rattle.std.specs.Prelude.{◌≡◌, ◌⊎◌, ℕ, true, List, Option, Some, Err}
 use Rattle.plasma_base.specs.Causes.{faults_after}
 use Rattle.crash_disk.specs.Disk.{History, FaultPlan}
-use Rattle.node_journal.specs.declared.refusal.JournalRefusal.{JournalRefusal}
-use Rattle.node_journal.specs.declared.refusal.InitRefusal.{InitRefusal}
+use Rattle.gate_journal.specs.declared.refusal.JournalRefusal.{JournalRefusal}
+use Rattle.gate_journal.specs.declared.refusal.InitRefusal.{InitRefusal}
 use Rattle.node_journal.specs.declared.stop.Stop.{Stop}
 use Rattle.node_journal.specs.Begin.{BeginsPair}
 use Rattle.wallet_node.specs.State.{WalletState, DidNote, DidLeaf}

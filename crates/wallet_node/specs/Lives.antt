@@ -3,7 +3,7 @@ use Rattle.std.specs.Prelude.{◌≡◌, ℕ, List, [], ◌∷◌, ◌++◌, Som
 use Rattle.std.specs.List.{flat_map}
 use Rattle.crash_disk.specs.Disk.{History}
 use Rattle.crash_disk.specs.Calls.{Course}
-use Rattle.node_journal.specs.Life.{Event, makes, opens, appends, crashes}
+use Rattle.gate_journal.specs.Life.{Event, makes, opens, appends, crashes}
 use Rattle.leaf_journal.specs.Laws.{MayCome, life_after, message_at}
 
 -- What is done with a wallet's two disks, and how it went on each: an init, which on the leaves' disk makes a journal

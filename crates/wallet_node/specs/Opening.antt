@@ -1,8 +1,8 @@
 -- What an opening of a wallet does.
 use Rattle.std.specs.Prelude.{◌≡◌, ◌⊎◌, ℕ, true, false, List, Option}
 use Rattle.crash_disk.specs.Disk.{History, FaultPlan}
-use Rattle.node_journal.specs.declared.refusal.JournalRefusal.{JournalRefusal}
-use Rattle.node_journal.specs.declared.refusal.JournalRefusal.TheVariants.{NotJournal, NoMemory}
+use Rattle.gate_journal.specs.declared.refusal.JournalRefusal.{JournalRefusal}
+use Rattle.gate_journal.specs.declared.refusal.JournalRefusal.TheVariants.{NotJournal, NoMemory}
 use Rattle.node_journal.specs.Notes.{NotesState, Opened, RefusesRole}
 use Rattle.node_journal.specs.Role.{role_in}
 use Rattle.leaf_journal.specs.Records.{leaf_records_in_of}

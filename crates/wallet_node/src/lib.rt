@@ -23,7 +23,6 @@ mod watching;
 
 pub use key::WalletKey;
 pub use laws::{a_device_fault_is_of_one_disk, a_wallets_leaf_has_one_message};
-pub use making::init;
 pub use node::WalletNode;
 pub use node_rules::{
     Accepted, Reclaimed, Sent, WalletIdentity as Identity, WalletRefusal as NodeRefusal,

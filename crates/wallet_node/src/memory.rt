@@ -1,18 +1,19 @@
-ghost use Rattle.std.specs.Prelude.{◌≡◌, [], find, OnOk, OnErr, IfOk};
+ghost use Rattle.std.specs.Prelude.{◌≡◌, ◌<◌, ◌^◌, [], find, length, OnOk, OnErr, IfOk};
 ghost use Rattle.std.specs.Option.{option_map_or};
 ghost use Rattle.std.specs.Ordering.{nat_cmp};
 ghost use Rattle.std.specs.BTreeSet.{insert_key};
+ghost use Rattle.wallet_core.specs.State.{state_of};
 ghost use Rattle.wallet_node.specs.Inside.{changed, undone, is_kept_at};
 
 use super::change::Change;
 use super::kept_coins::KeptCoins;
 use node_rules::KeptCoin;
 use plasma_base::NoMemory;
-use plasma_tx::{Link, Owner};
+use plasma_tx::{Link, Owner, RootLog};
 use std::alloc::Global;
 use std::marker::Model;
 use std::mem;
-use wallet_core::{CoinTip, LeafNumbers, Notes, Tips};
+use wallet_core::{CoinState, CoinTip, LeafNumbers, LeafRecord, Notes, Tips, state};
 
 // What a wallet keeps of its notes in memory.
 #[derive(Drop)]
@@ -64,6 +65,14 @@ impl Memory {
         ensures { result.now ≡ self.now.noted }
     {
         &self.noted
+    }
+
+    // What a coin is to the wallet, whose leaves' numbers have 32 bits.
+    pub fn state(&self, leaves: &[LeafRecord], log: &RootLog, coin: u64) -> CoinState
+        requires { length leaves.now < 2 ^ 32 }
+        ensures { result ≡ state_of self.now.noted leaves.now log.now.log coin }
+    {
+        state(&self.noted, leaves, log, coin)
     }
 
     // The links of the first that was taken up of the coin with this tip; none where there is none.

@@ -1,6 +1,6 @@
 ghost use Rattle.std.specs.Prelude.{◌≡◌, ◌-◌, true, false, length};
 ghost use Rattle.crash_disk.specs.Calls.{WhereTold};
-ghost use Rattle.node_journal.specs.Journal.{IsSettled};
+ghost use Rattle.gate_journal.specs.Journal.{IsSettled};
 ghost use Rattle.leaf_journal.specs.Records.{messages_of};
 ghost use Rattle.node_rules.specs.WalletRecords.{owner_of, secret_of};
 ghost use Rattle.node_rules.specs.Wallet.{who, coin_state};
@@ -13,15 +13,15 @@ use crash_disk::Disk;
 use leaf_journal::Leaves;
 use node_journal::Notes;
 use node_rules::WalletIdentity;
-use plasma_base::Hash32;
+use plasma_base::{Hash32, Sha};
 use plasma_tx::{Owner, RootLog};
 use std::alloc::Global;
 use std::marker::Model;
-use wallet_core::{CoinState, LeafRecord, state};
+use wallet_core::{CoinState, LeafRecord};
 
 /// A wallet: its notes and the leaves of its key, each on a disk, and in memory what they say of coins. A
 /// device fault of either disk closes it until both disks are taken back and opened again.
-pub struct WalletNode<D: Disk, H: Hash32 + Copy> {
+pub struct WalletNode<D: Disk, H: Hash32 + Copy = Sha> {
     pub(crate) alloc: Global,
     pub(crate) hash: H,
     pub(crate) who: WalletIdentity,
@@ -113,7 +113,7 @@ impl<D: Disk, H: Hash32 + Copy> WalletNode<D, H> {
     {
         let used = self.leaves.used() as usize;
         prove!(self.bodies.len() <= used);
-        state(self.memory.noted(), &self.bodies, log, coin)
+        self.memory.state(&self.bodies, log, coin)
     }
 
     /// The disks of the notes and of the leaves, handed back.

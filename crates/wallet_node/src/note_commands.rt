@@ -1,6 +1,6 @@
 ghost use Rattle.std.specs.Prelude.{◌≡◌, ◌≤◌, false, true, is_some, length, None, Some, Ok, IfSome};
 ghost use Rattle.std.specs.Option.{option_map};
-ghost use Rattle.node_journal.specs.Image.{most};
+ghost use Rattle.gate_journal.specs.Image.{most};
 ghost use Rattle.node_journal.specs.Effect.{first_cause};
 ghost use Rattle.node_journal.specs.Notes.{stopped_by};
 ghost use Rattle.plasma_tx.specs.Views.{coin_at};

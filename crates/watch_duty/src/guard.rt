@@ -2,7 +2,7 @@ use plasma_tx::Links;
 
 /// A coin that is guarded, with its links up to the tip that the guardian knows. The blocks of its links
 /// rise strictly where they were checked under the log.
-#[derive(Debug, Drop)]
+#[derive(Drop)]
 pub struct Guard {
     pub links: Links,
 }

@@ -1,7 +1,7 @@
 ghost use Rattle.std.specs.Prelude.{◌≡◌, ◌≢◌, ◌≤◌, false, length, Some, None, Ok, Err, IfOk, IfSome};
 ghost use Rattle.std.specs.Option.{option_map};
 ghost use Rattle.std.specs.List.{list_any};
-ghost use Rattle.node_journal.specs.Image.{most};
+ghost use Rattle.gate_journal.specs.Image.{most};
 ghost use Rattle.node_journal.specs.Effect.{first_cause};
 ghost use Rattle.node_journal.specs.Notes.{Did, stopped_by};
 ghost use Rattle.node_rules.specs.Kept.{kept_of, links_handed};

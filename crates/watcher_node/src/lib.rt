@@ -10,6 +10,5 @@ mod records;
 mod role;
 mod watched;
 
-pub use making::init;
 pub use node::WatcherNode;
 pub use node_rules::{Accepted, WatcherRefusal as NodeRefusal};

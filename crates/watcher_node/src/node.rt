@@ -1,7 +1,7 @@
 ghost use Rattle.std.specs.Prelude.{◌≡◌, ◌-◌, ◌≤◌, true, false, length, Some, None, IfOk, IfErr};
 ghost use Rattle.crash_disk.specs.Calls.{WhereTold};
-ghost use Rattle.node_journal.specs.Image.{most};
-ghost use Rattle.node_journal.specs.Journal.{IsSettled};
+ghost use Rattle.gate_journal.specs.Image.{most};
+ghost use Rattle.gate_journal.specs.Journal.{IsSettled};
 ghost use Rattle.node_journal.specs.Role.{are_of, role_in};
 ghost use Rattle.node_journal.specs.Notes.{Did, stopped_by, Opened, RefusesRole};
 ghost use Rattle.sha2.specs.Sha256.{sha256};
@@ -10,7 +10,8 @@ ghost use Rattle.node_rules.specs.Watcher.{watcher_kinds, who_is};
 use super::records::{InMemory, in_memory};
 use super::role::WatcherRole;
 use crash_disk::Disk;
-use node_journal::{JournalRefusal, Notes, Returned};
+use gate_journal::{JournalRefusal, Returned};
+use node_journal::Notes;
 use node_rules::KeptCoin;
 use plasma_base::{Hash32, Sha};
 use std::alloc::Global;
@@ -19,7 +20,7 @@ use std::marker::Model;
 
 /// A watcher: its notes on a disk, and in memory the guards that they leave, with the links that their
 /// openings show. A device fault closes it until the disk is taken back and opened again.
-pub struct WatcherNode<D: Disk, H: Hash32 + Copy> {
+pub struct WatcherNode<D: Disk, H: Hash32 + Copy = Sha> {
     pub(crate) alloc: Global,
     pub(crate) hash: H,
     pub(crate) notes: Notes<D, WatcherRole<H>>,

@@ -8,7 +8,7 @@ use Rattle.world_rules.specs.declared.verdict.Verdict.{Verdict}
 use Rattle.world_rules.specs.Events.{log_of}
 use Rattle.world_rules.specs.Steps.{TraceEntry, Run, run_of, events_of}
 use Rattle.world_rules.specs.Verdicts.{is_refused, verdicts_of, counts_of}
-use Rattle.run_trace.specs.Traces.{TraceState}
+use Rattle.world_trace.specs.Traces.{TraceState}
 use Rattle.world_scene.specs.Scenes.{SceneState}
 use Rattle.world_core.specs.Worlds.{WorldState, IsAfter}
 use Rattle.world_core.specs.Counting.{verdict_counts, with_log}
@@ -54,6 +54,6 @@ module _ {H : Type 0} (dig : List ℕ → List ℕ) (lines : List Line) (state :
       let log = log_is dig lines state after run ran scene some in
       counted (length state.trace.facts) (length scene.chain.log) (blocks scene.chain.log) (coins scene.chain.log)
       verdicts
-      (facts_count (tests_by dig) (rules_of scene.chain) run.entries state.trace
+      (facts_count dig (tests_by dig) (rules_of scene.chain) run.entries state.trace
       (tells dig lines state after run ran scene some))
       (ap length log) (ap blocks log) (ap coins log) found

@@ -6,3 +6,5 @@ pub mod LongerRuns
 pub mod Takings
 pub mod Readings
 pub mod Countings
+pub mod NameLines
+pub mod GoingOn

@@ -1,8 +1,9 @@
 -- A world that took a line is what the lines with it leave.
-use Rattle.std.proofs.Common.{◌≡◌, ℕ, ◌+◌, ◌^◌, ◌<◌, ◌≤◌, Bool, true, false, nat_lt, if◌then◌else◌, List, [], ◌∷◌, length, Option, Some, None, refl, sym, ap, ◌∙◌, subst, arith}
+use Rattle.std.proofs.Common.{◌≡◌, ℕ, ◌+◌, ◌^◌, ◌<◌, ◌≤◌, Bool, true, false, nat_lt, if◌then◌else◌, List, [], ◌∷◌, ◌++◌, map, length, Option, Some, None, refl, sym, ap, ◌∙◌, subst, arith}
 use Rattle.std.specs.Prelude.{option_map, option_and_then}
 use Rattle.std.specs.List.{All, count_by}
 use Rattle.std.proofs.lemmas.Bool.{lt-ltb, le-ltb}
+use Rattle.std.proofs.lemmas.List.{map-append}
 use Rattle.std.proofs.lemmas.List.Elements.{All-nil, All-cons}
 use Rattle.line_forms.proofs.FormLaws.{option_map_some}
 use Rattle.plasma_tx.specs.Spelling.{AreBytes}
@@ -16,20 +17,23 @@ use Rattle.world_rules.specs.World.{World}
 use Rattle.world_rules.specs.Declarations.{keeps_rules}
 use Rattle.world_rules.specs.Events.{Event, log_of}
 use Rattle.world_rules.specs.Steps.{LineEffect, effect_in, effect_of, with_mail, step, mail_size, is_mail_full, TraceEntry, entry_of, Run, no_lines, with_line, step_run, run_of, events_of}
-use Rattle.world_rules.specs.Verdicts.{is_refused}
+use Rattle.world_rules.specs.Verdicts.{is_refused, wallets_from}
+use Rattle.coin_verdicts.specs.Wallets.{named_of}
 use Rattle.world_rules.proofs.RunLaws.{logs_are_of_events}
-use Rattle.run_trace.specs.declared.event.LineEvent.{LineEvent}
-use Rattle.run_trace.specs.Events.{IsEvent}
-use Rattle.run_trace.specs.Traces.{TraceState, no_trace, Tells}
+use Rattle.world_trace.specs.declared.event.LineEvent.{LineEvent}
+use Rattle.world_trace.specs.Events.{IsEvent}
+use Rattle.world_trace.specs.Read.{declared_by}
+use Rattle.world_trace.specs.Traces.{TraceState, no_trace, Tells}
 use Rattle.world_scene.specs.declared.answer.LineAnswer.{LineAnswer}
 use Rattle.world_scene.specs.Scenes.{SceneState, shown_of, world_of}
 use Rattle.world_scene.specs.Steps.{answered}
 use Rattle.world_scene.specs.Events.{TellsEffect}
-use Rattle.world_core.specs.Worlds.{WorldState, before_all, world_in, TellsIn, MadeBytes, IsAfter}
-use Rattle.world_core.specs.Lines.{IsStep, WouldFill}
+use Rattle.world_core.specs.Worlds.{WorldState, before_all, world_in, TellsIn, wallets_in, MadeBytes, IsAfter}
+use Rattle.world_core.specs.Lines.{name_in, IsStep, WouldFill}
 use Rattle.world_core.specs.Taking.{TellsLine, Takes, scene_with, with_item}
 use Rattle.world_core.specs.Counting.{with_answer}
 use Rattle.world_core.proofs.WalletLines.{has_wallets}
+use Rattle.world_core.proofs.NameLines.{line_named}
 use Rattle.world_core.proofs.Counts.{refused_more}
 use Rattle.world_core.proofs.RunFacts.{rules_stay, made_in, size_of_run, size_more, facts_count, tells_none}
 
@@ -48,6 +52,7 @@ after_none dig hash = record {
   mail = refl;
   fits = omega arith;
   trace = (refl, refl);
+  named = refl;
   refused = refl;
 }
 
@@ -67,7 +72,7 @@ no_run dig lines run line ran breaks =
 -- what is told of a line, in a world that lines left
 record IsTold (dig : List ℕ → List ℕ) (run : Run) (effect : LineEffect) (event : LineEvent) (trace : TraceState)
     : Type 0 where
-  tells : Tells (tests_by dig) (rules_of effect.world.chain) (events_of run.entries) trace
+  tells : Tells dig (tests_by dig) (rules_of effect.world.chain) (events_of run.entries) trace
   is : IsEvent (tests_by dig) (rules_of effect.world.chain) (log_of (events_of run.entries)) effect.event event
 
 first-told : (dig : List ℕ → List ℕ) (line : Line) (run : Run) (effect : LineEffect) (event : LineEvent)
@@ -76,10 +81,10 @@ first-told : (dig : List ℕ → List ℕ) (line : Line) (run : Run) (effect : L
 unfolding effect_of
 first-told dig (Line.Chain tag operator most) run effect event trace is idle none empty = record {
   tells =
-      subst (λ (t : TraceState). Tells (tests_by dig) (rules_of effect.world.chain) (events_of run.entries) t)
+      subst (λ (t : TraceState). Tells dig (tests_by dig) (rules_of effect.world.chain) (events_of run.entries) t)
       (sym empty)
-      (subst (λ (es : List Event). Tells (tests_by dig) (rules_of effect.world.chain) es no_trace) (sym none)
-      (tells_none (tests_by dig) (rules_of effect.world.chain)));
+      (subst (λ (es : List Event). Tells dig (tests_by dig) (rules_of effect.world.chain) es no_trace) (sym none)
+      (tells_none dig (tests_by dig) (rules_of effect.world.chain)));
   is =
       subst (λ (e : LineEffect). IsEvent (tests_by dig) (rules_of e.world.chain) (log_of (events_of run.entries))
       e.event event) (some_same _ effect is) idle;
@@ -91,7 +96,7 @@ next-told : (dig : List ℕ → List ℕ) (lines : List Line) (run : Run) (world
     → run_of dig lines ≡ Some run → run.world ≡ Some world → All IsLine lines → All MadeBytes run.entries
     → effect_of dig (Some world) line ≡ Some effect → keeps_rules (Some world) line ≡ true
     → TellsLine dig (Some world) line event
-    → Tells (tests_by dig) (rules_of world.chain) (events_of run.entries) trace → IsTold dig run effect event trace
+    → Tells dig (tests_by dig) (rules_of world.chain) (events_of run.entries) trace → IsTold dig run effect event trace
 unfolding effect_of step
 next-told dig lines run world line effect event trace ran world_is fits made is keeps told tells =
     let stepped : step dig (Some world) line ≡ Some (with_mail effect) =
@@ -103,7 +108,7 @@ next-told dig lines run world line effect event trace ran world_is fits made is 
     told (has_wallets dig lines run world fits made ran world_is) effect is in
     record {
       tells =
-          subst (λ (r : Rules). Tells (tests_by dig) r (events_of run.entries) trace) (sym rules) tells;
+          subst (λ (r : Rules). Tells dig (tests_by dig) r (events_of run.entries) trace) (sym rules) tells;
       is =
           subst (λ (r : Rules). IsEvent (tests_by dig) r (log_of (events_of run.entries)) effect.event event)
           (sym rules)
@@ -202,15 +207,32 @@ module _ {H : Type 0} (dig : List ℕ → List ℕ) (lines : List Line) (line : 
 
   -- how many lines are kept with it
   lines-kept : (trace : TraceState)
-      → Tells (tests_by dig) (rules_of left.chain) (effect-is.0 ∷ events_of after.run.entries) trace
+      → Tells dig (tests_by dig) (rules_of left.chain) (effect-is.0 ∷ events_of after.run.entries) trace
       → length trace.facts ≡ length after.run.entries + 1
   unfolding events_of
   lines-kept trace tells =
-      facts_count (tests_by dig) (rules_of left.chain) longer.entries trace tells ∙ omega arith
+      facts_count dig (tests_by dig) (rules_of left.chain) longer.entries trace tells ∙ omega arith
+
+  -- the calls that are kept with it
+  calls-kept : left.chain.log ≡ log_of (effect-is.0 ∷ events_of after.run.entries)
+  unfolding events_of
+  calls-kept = logs_are_of_events dig (line ∷ lines) longer (world_of (scene_with answer.made takes.scene)) ran refl
+
+  -- the wallets with it
+  wallets-kept : (trace : TraceState) → trace.wallets ≡ old.trace.wallets ++ declared_by (name_in line) answer.event
+      → map named_of trace.wallets ≡ wallets_from 0 left.nodes
+  wallets-kept trace named =
+      ap (map named_of) named
+      ∙ map-append named_of old.trace.wallets (declared_by (name_in line) answer.event)
+      ∙ ap (λ before. before ++ map named_of (declared_by (name_in line) answer.event))
+      (after.named ∙ ap wallets_in after.world)
+      ∙ sym (line_named dig (world_in old) line effect (tests_by dig) (rules_of left.chain)
+      (log_of (events_of after.run.entries)) answer.event effect-is.1 told.is)
 
   module _ (fits_line : IsLine line) (made : AreBytes answer.made)
       (fits : old.mail_size + length answer.made ≤ MOST_MAIL) (trace : TraceState)
-      (tells : Tells (tests_by dig) (rules_of left.chain) (effect-is.0 ∷ events_of after.run.entries) trace)
+      (named : trace.wallets ≡ old.trace.wallets ++ declared_by (name_in line) answer.event)
+      (tells : Tells dig (tests_by dig) (rules_of left.chain) (effect-is.0 ∷ events_of after.run.entries) trace)
       (refused : ℕ) (refused_is : refused ≡ count_by is_refused longer.entries) where
     -- the world with its mail item, and what is kept of it
     abbrev pub new : WorldState H
@@ -236,6 +258,7 @@ module _ {H : Type 0} (dig : List ℕ → List ℕ) (lines : List Line) (line : 
       mail = sym size;
       fits = fits;
       trace = tells;
+      named = wallets-kept trace named;
       refused = refused_is;
     }
 
@@ -255,8 +278,12 @@ module _ {H : Type 0} (dig : List ℕ → List ℕ) (lines : List Line) (line : 
   module _ (fits_line : IsLine line) (made : AreBytes answer.made) (item : List ℕ) (item_is : item ≡ answer.made)
       (put : WorldState H) (put_is : put ≡ with_item taken item) (fits : taken.mail_size + length item ≤ MOST_MAIL)
       (trace : TraceState)
-      (more : (tests : Tests) (rules : Rules) (events : List Event) (event : Event) → Tells tests rules events put.trace
-      → IsEvent tests rules (log_of events) event answer.event → Tells tests rules (event ∷ events) trace)
+      (more : (scene : SceneState H) → put.scene ≡ Some scene
+      → (tests : Tests) (rules : Rules) (events : List Event) (event : Event) → Tells dig tests rules events put.trace
+      → IsEvent tests rules (log_of events) event answer.event → scene.chain.log ≡ log_of (event ∷ events)
+      → scene.chain.tag ≡ rules.tag → Tells dig tests rules (event ∷ events) trace)
+      (names : (scene : SceneState H) → put.scene ≡ Some scene
+      → trace.wallets ≡ put.trace.wallets ++ declared_by (name_in line) answer.event)
       (few_lines : length trace.facts < 2 ^ 64) (refused : ℕ)
       (refused_as : refused ≡ with_answer put.refused answer.done answer.reply) where
     same-put : put ≡ with_item (record old { scene = Some takes.scene }) answer.made
@@ -271,10 +298,14 @@ module _ {H : Type 0} (dig : List ℕ → List ℕ) (lines : List Line) (line : 
         subst (λ (n : ℕ). n ≤ MOST_MAIL)
         (ap (λ (t : WorldState H). t.mail_size + length item) takes.is
         ∙ ap (λ (i : List ℕ). old.mail_size + length i) item_is) fits in
-        let tells : Tells (tests_by dig) (rules_of left.chain) (effect-is.0 ∷ events_of after.run.entries) trace =
-        more (tests_by dig) (rules_of left.chain) (events_of after.run.entries) effect-is.0
-        (subst (λ (t : TraceState). Tells (tests_by dig) (rules_of left.chain) (events_of after.run.entries) t)
-        (ap (λ (p : WorldState H). p.trace) (sym same-put)) told.tells) told.is in
+        let tells : Tells dig (tests_by dig) (rules_of left.chain) (effect-is.0 ∷ events_of after.run.entries) trace =
+        more (scene_with answer.made takes.scene) (ap (λ (p : WorldState H). p.scene) same-put)
+        (tests_by dig) (rules_of left.chain) (events_of after.run.entries) effect-is.0
+        (subst (λ (t : TraceState). Tells dig (tests_by dig) (rules_of left.chain) (events_of after.run.entries) t)
+        (ap (λ (p : WorldState H). p.trace) (sym same-put)) told.tells) told.is calls-kept refl in
+        let named : trace.wallets ≡ old.trace.wallets ++ declared_by (name_in line) answer.event =
+        names (scene_with answer.made takes.scene) (ap (λ (p : WorldState H). p.scene) same-put)
+        ∙ ap (λ (p : WorldState H). p.trace.wallets ++ declared_by (name_in line) answer.event) same-put in
         let count : refused ≡ count_by is_refused longer.entries =
         refused_as
         ∙ ap (λ (p : WorldState H). with_answer p.refused answer.done answer.reply) same-put
@@ -282,7 +313,7 @@ module _ {H : Type 0} (dig : List ℕ → List ℕ) (lines : List Line) (line : 
         (subst (λ (n : ℕ). n < 2 ^ 64) (lines-kept trace tells) few_lines) in
         subst (IsStep dig lines line (told_as (length trace.facts) answer))
         (ap (λ (p : WorldState H). record p { trace = trace; refused = refused }) (sym same-put))
-        (is-step fits_line made few trace tells refused count)
+        (is-step fits_line made few trace named tells refused count)
 
   -- there was no room for it
   pub put_fills : (item : List ℕ) → item ≡ answer.made → MOST_MAIL < taken.mail_size + length item

@@ -1,26 +1,39 @@
 -- What verdicts and the exhibit are read of is what a run left.
-use Rattle.std.proofs.Common.{◌≡◌, ℕ, List, [], ◌∷◌, Option, Some, None, refl, sym, ap, ◌∙◌, subst}
-use Rattle.std.specs.Prelude.{option_map}
+use Rattle.std.proofs.Common.{◌≡◌, ℕ, List, [], ◌∷◌, map, Option, Some, None, refl, sym, ap, ◌∙◌, subst}
+use Rattle.std.specs.Prelude.{option_map, Result, Vec, IfOk}
+use Rattle.std.specs.Global.{Global}
+use Rattle.std.proofs.lemmas.Result.{IfOk-weaker}
 use Rattle.std.specs.List.{flat_map}
 use Rattle.std.specs.Option.{option_map_or}
 use Rattle.plasma_tx.proofs.Names.{some_same}
-use Rattle.plasma_tx.specs.Shown.{tests_by, rules_of}
+use Rattle.plasma_tx.specs.Shown.{Tests, Rules, tests_by, rules_of}
 use Rattle.plasma_tx.specs.Table.{IsLegal}
 use Rattle.schedule_text.specs.declared.line.Line.{Line}
+use Rattle.world_rules.specs.declared.verdict.Verdict.{Verdict}
 use Rattle.world_rules.specs.declared.verdict.Exhibit.{Exhibit}
 use Rattle.world_rules.specs.World.{World}
 use Rattle.world_rules.specs.Events.{Event, log_of}
 use Rattle.world_rules.specs.Steps.{TraceEntry, Run, run_of, events_of}
 use Rattle.world_rules.specs.Exhibits.{exhibit_of}
-use Rattle.world_rules.specs.Verdicts.{Named, verdicts_on, wallets_from, verdicts_in, verdicts_of, exhibit_of_run}
+use Rattle.world_rules.specs.Verdicts.{verdicts_on, wallets_from, verdicts_in, verdicts_of, exhibit_of_run}
 use Rattle.world_rules.proofs.HeldTips.{OwnersStay as Stay}
 use Rattle.world_rules.proofs.NamedSteps.{run-kept}
 use Rattle.world_rules.proofs.RunLaws.{logs_are_of_events}
 use Rattle.coin_verdicts.specs.Facts.{OwnersStay}
-use Rattle.run_trace.specs.Traces.{no_trace, Tells}
+use Rattle.coin_verdicts.specs.Wallets.{named_of}
+use Rattle.world_trace.specs.Traces.{TraceState, no_trace, Tells}
+use Rattle.world_trace.proofs.Telling.{nothing_shown}
 use Rattle.world_scene.specs.Scenes.{SceneState, world_of}
-use Rattle.world_core.specs.Worlds.{WorldState, world_in, TellsIn, IsAfter}
-use Rattle.world_core.proofs.RunFacts.{legal_events}
+use Rattle.world_core.specs.Worlds.{WorldState, world_in, TellsIn, wallets_in, IsAfter}
+use Rattle.world_core.proofs.RunFacts.{legal_events, tells_none}
+
+-- rules of no contract
+abbrev no-rules : Rules
+no-rules = record { tag = []; operator = 0; most_blocks = 0 }
+
+no-legal : IsLegal no-rules (log_of [])
+unfolding IsLegal log_of
+no-legal = tt
 
 owners-stay : (events : List Event) → Stay events → OwnersStay events
 owners-stay [] are = are
@@ -58,6 +71,14 @@ module _ {H : Type 0} (dig : List ℕ → List ℕ) (lines : List Line) (state :
         sym (ap (λ (w : Option World). option_map_or (λ world. verdicts_in dig world (events_of run.entries)) w [])
         no-world)
 
+    -- no events are those of any contract
+    pub tells-none : (rules : Rules) → Tells dig (tests_by dig) rules [] state.trace
+    tells-none rules =
+        subst (Tells dig (tests_by dig) rules []) (sym no_entries.1) (tells_none dig (tests_by dig) rules)
+
+    pub no-names : map named_of state.trace.wallets ≡ []
+    no-names = ap (λ (t : TraceState). map named_of t.wallets) no_entries.1
+
     pub no_exhibit : Exhibit.Nothing ≡ exhibit_of_run dig run
     unfolding exhibit_of_run
     no_exhibit =
@@ -70,7 +91,7 @@ module _ {H : Type 0} (dig : List ℕ → List ℕ) (lines : List Line) (state :
     begun : run.world ≡ Some (world_of scene)
     begun = world-is ∙ ap (option_map world_of) some
 
-    pub tells : Tells (tests_by dig) (rules_of scene.chain) (events_of run.entries) state.trace
+    pub tells : Tells dig (tests_by dig) (rules_of scene.chain) (events_of run.entries) state.trace
     tells =
         subst (λ (w : Option World). TellsIn dig w (events_of run.entries) state.trace) begun
         (subst (λ (r : Run). TellsIn dig r.world (events_of r.entries) state.trace) same-run after.trace)
@@ -84,12 +105,17 @@ module _ {H : Type 0} (dig : List ℕ → List ℕ) (lines : List Line) (state :
     pub stay : OwnersStay (events_of run.entries)
     stay = owners-stay (events_of run.entries) ((run-kept dig lines run ran).kept (world_of scene) begun).stay
 
-    pub verdicts_are : (wallets : List Named) → wallets ≡ wallets_from 0 (world_of scene).nodes
-        → flat_map (verdicts_on (tests_by dig) (rules_of scene.chain) (events_of run.entries)) wallets
-        ≡ verdicts_of dig run
+    names-are : map named_of state.trace.wallets ≡ wallets_from 0 (world_of scene).nodes
+    names-are =
+        subst (λ (w : Option World). map named_of state.trace.wallets ≡ wallets_in w) begun
+        (subst (λ (r : Run). map named_of state.trace.wallets ≡ wallets_in r.world) same-run after.named)
+
+    pub verdicts_are
+        : flat_map (verdicts_on (tests_by dig) (rules_of scene.chain) (events_of run.entries))
+        (map named_of state.trace.wallets) ≡ verdicts_of dig run
     unfolding verdicts_of verdicts_in
-    verdicts_are wallets are =
-        ap (flat_map (verdicts_on (tests_by dig) (rules_of scene.chain) (events_of run.entries))) are
+    verdicts_are =
+        ap (flat_map (verdicts_on (tests_by dig) (rules_of scene.chain) (events_of run.entries))) names-are
         ∙ sym (ap (λ (w : Option World). option_map_or (λ world. verdicts_in dig world (events_of run.entries)) w [])
         begun)
 
@@ -98,3 +124,51 @@ module _ {H : Type 0} (dig : List ℕ → List ℕ) (lines : List Line) (state :
     exhibit_is =
         sym (ap (λ (w : Option World).
         option_map_or (λ world. exhibit_of dig world.chain.tag (events_of run.entries)) w Exhibit.Nothing) begun)
+
+  -- ---- what is read of the trace
+
+  module _ (trace : TraceState) {E : Type 0} where
+    -- whether the chain has begun or not
+    pub reads-verdicts : (found : Result (Vec Verdict Global) E) → state.trace ≡ trace
+        → ((d : List ℕ → List ℕ) (tests : Tests) (rules : Rules) (events : List Event)
+        → Tells d tests rules events trace → IsLegal rules (log_of events) → OwnersStay events
+        → IfOk found (λ verdicts. verdicts.items ≡ flat_map (verdicts_on tests rules events)
+        (map named_of trace.wallets)))
+        → IfOk found (λ verdicts. verdicts.items ≡ verdicts_of dig run)
+    reads-verdicts found same told = by state.scene refl
+      where
+        by : (scene : Option (SceneState H)) → state.scene ≡ scene
+            → IfOk found (λ verdicts. verdicts.items ≡ verdicts_of dig run)
+        by None none = IfOk-weaker found _ (λ verdicts. verdicts.items ≡ verdicts_of dig run)
+            (λ verdicts is. is
+            ∙ ap (flat_map (verdicts_on (tests_by dig) no-rules []))
+            (ap (λ (t : TraceState). map named_of t.wallets) (sym same) ∙ no-names none)
+            ∙ no_verdicts none)
+            (told dig (tests_by dig) no-rules []
+            (subst (Tells dig (tests_by dig) no-rules []) same (tells-none none no-rules)) no-legal tt)
+        by (Some scene) some = IfOk-weaker found _ (λ verdicts. verdicts.items ≡ verdicts_of dig run)
+            (λ verdicts is. is
+            ∙ ap (λ (t : TraceState). flat_map (verdicts_on (tests_by dig) (rules_of scene.chain)
+            (events_of run.entries)) (map named_of t.wallets)) (sym same)
+            ∙ verdicts_are scene some)
+            (told dig (tests_by dig) (rules_of scene.chain) (events_of run.entries)
+            (subst (Tells dig (tests_by dig) (rules_of scene.chain) (events_of run.entries)) same
+            (tells scene some)) (legal scene some) (stay scene some))
+
+    pub reads-exhibit : (found : Result Exhibit E) → state.trace ≡ trace
+        → ((d : List ℕ → List ℕ) (tests : Tests) (rules : Rules) (events : List Event)
+        → Tells d tests rules events trace → IfOk found (λ exhibit. exhibit ≡ exhibit_of d rules.tag events))
+        → IfOk found (λ exhibit. exhibit ≡ exhibit_of_run dig run)
+    reads-exhibit found same told = by state.scene refl
+      where
+        by : (scene : Option (SceneState H)) → state.scene ≡ scene
+            → IfOk found (λ exhibit. exhibit ≡ exhibit_of_run dig run)
+        by None none = IfOk-weaker found _ (λ exhibit. exhibit ≡ exhibit_of_run dig run)
+            (λ exhibit is. is ∙ sym (nothing_shown dig [] [] refl) ∙ no_exhibit none)
+            (told dig (tests_by dig) no-rules []
+            (subst (Tells dig (tests_by dig) no-rules []) same (tells-none none no-rules)))
+        by (Some scene) some = IfOk-weaker found _ (λ exhibit. exhibit ≡ exhibit_of_run dig run)
+            (λ exhibit is. is ∙ exhibit_is scene some)
+            (told dig (tests_by dig) (rules_of scene.chain) (events_of run.entries)
+            (subst (Tells dig (tests_by dig) (rules_of scene.chain) (events_of run.entries)) same
+            (tells scene some)))

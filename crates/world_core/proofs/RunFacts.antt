@@ -4,21 +4,19 @@ use Rattle.std.specs.Prelude.{sum_by}
 use Rattle.std.specs.Option.{option_map_or}
 use Rattle.std.proofs.lemmas.Grind.{reverse_onto}
 use Rattle.std.proofs.lemmas.List.{length-reverse}
-use Rattle.std.proofs.lemmas.List.Elements.{All-nil}
 use Rattle.std.proofs.lemmas.List.Sums.{sum_by-append}
 use Rattle.plasma_tx.specs.Chain.{Chain}
 use Rattle.plasma_tx.specs.Shown.{Tests, Rules, tests_by, rules_of}
 use Rattle.plasma_tx.specs.Table.{IsLegal}
 use Rattle.schedule_text.specs.declared.line.Line.{Line}
 use Rattle.world_rules.specs.World.{World}
-use Rattle.world_rules.specs.Events.{log_of}
+use Rattle.world_rules.specs.Events.{log_of, wallets}
 use Rattle.world_rules.specs.Steps.{LineEffect, mail_size, step, TraceEntry, entry_of, Run, run_of, events_of}
 use Rattle.world_rules.proofs.StepLaws.{steps_keep_the_log}
 use Rattle.world_rules.proofs.Runs.{over_run}
 use Rattle.world_rules.proofs.RunLaws.{logs_are_of_events, items_are_made}
 use Rattle.coin_verdicts.proofs.Forms.{as-many}
-use Rattle.run_trace.specs.Marks.{IsWithin}
-use Rattle.run_trace.specs.Traces.{TraceState, no_trace, kept_with, Tells}
+use Rattle.world_trace.specs.Traces.{TraceState, no_trace, Tells}
 
 -- ---- the log
 
@@ -89,18 +87,14 @@ events-length [] = refl
 events-length (entry ∷ entries) = ap suc (events-length entries)
 
 -- there is a fact of each line
-pub facts_count : (tests : Tests) (rules : Rules) (entries : List TraceEntry) (trace : TraceState)
-    → Tells tests rules (events_of entries) trace → length trace.facts ≡ length entries
-facts_count tests rules entries trace tells =
+pub facts_count : (dig : List ℕ → List ℕ) (tests : Tests) (rules : Rules) (entries : List TraceEntry)
+    (trace : TraceState) → Tells dig tests rules (events_of entries) trace → length trace.facts ≡ length entries
+facts_count dig tests rules entries trace tells =
     sym (length-reverse trace.facts)
     ∙ as-many tests rules (events_of entries) (reverse trace.facts) tells.facts
     ∙ events-length entries
 
 -- nothing is that of no lines
-pub tells_none : (tests : Tests) (rules : Rules) → Tells tests rules [] no_trace
-unfolding log_of
-tells_none tests rules = record {
-  facts = tt;
-  marks = record { within = All-nil (IsWithin (kept_with [] no_trace)); tell = refl };
-  calls = refl;
-}
+pub tells_none : (dig : List ℕ → List ℕ) (tests : Tests) (rules : Rules) → Tells dig tests rules [] no_trace
+unfolding wallets
+tells_none dig tests rules = record { facts = tt; named = refl; finds = refl }

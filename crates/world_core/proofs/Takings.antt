@@ -6,7 +6,7 @@ use Rattle.schedule_text.specs.declared.line.Line.{Line}
 use Rattle.node_replies.specs.declared.reply.Reply.{Reply}
 use Rattle.world_rules.specs.Declarations.{keeps_rules, keeps_rules_in}
 use Rattle.world_rules.specs.Steps.{new_chain, new_world, effect_of}
-use Rattle.run_trace.specs.declared.event.LineEvent.{LineEvent}
+use Rattle.world_trace.specs.declared.event.LineEvent.{LineEvent}
 use Rattle.world_scene.specs.declared.answer.LineAnswer.{LineAnswer}
 use Rattle.world_scene.specs.Scenes.{SceneState, shows, world_of}
 use Rattle.world_scene.specs.Steps.{answered}

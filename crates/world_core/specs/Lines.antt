@@ -1,12 +1,18 @@
 -- What a step of the world answers.
-use Rattle.std.specs.Prelude.{◌≡◌, ◌+◌, ◌∷◌, ℕ, Bool, true, false, List, length, Option, Some, None}
+use Rattle.std.specs.Prelude.{◌≡◌, ◌+◌, ◌∷◌, ℕ, Bool, true, false, List, [], length, Option, Some, None, Result, Ok, Err}
 use Rattle.std.specs.Option.{option_map_or}
 use Rattle.schedule_text.specs.declared.line.Line.{Line}
 use Rattle.world_rules.specs.declared.trace.TraceLine.{TraceLine}
 use Rattle.world_rules.specs.Steps.{is_mail_full, TraceEntry, Run, run_of}
+use Rattle.world_scene.specs.declared.refusal.StepRefusal.{StepRefusal}
 use Rattle.world_scene.specs.Scenes.{SceneState}
 use Rattle.world_scene.specs.Moves.{Moves}
 use Rattle.world_core.specs.Worlds.{WorldState, IsAfter}
+
+-- the name of the wallet that a line declares; empty for another line
+abbrev pub name_in : Line → List ℕ
+name_in (Line.Wallet name account seed types) = name
+name_in line = []
 
 -- an entry of a run, which has so many before it, as a line of the trace
 abbrev pub told_of : ℕ → TraceEntry → TraceLine
@@ -30,6 +36,11 @@ pub record IsStep {H : Type 0} (dig : List ℕ → List ℕ) (lines : List Line)
 -- one more line would leave a run whose mail is full
 abbrev pub WouldFill : (List ℕ → List ℕ) → List Line → Line → Type 0
 WouldFill dig lines line = (run : Run) × (run_of dig (line ∷ lines) ≡ Some run) × (is_full run ≡ true)
+
+-- after a step that gave this, the world steps on
+abbrev pub IsGoingOn : Result TraceLine StepRefusal → Type 0
+IsGoingOn (Ok told) = Unit {0}
+IsGoingOn (Err why) = why ≡ StepRefusal.BadLine
 
 -- what a line did to the nodes' disks, once the chain has begun; it stays begun
 abbrev pub MovesIn : {H : Type 0} → (H → List ℕ → List ℕ) → Option (SceneState H) → Line → Option (SceneState H)

@@ -4,7 +4,7 @@ use Rattle.schedule_text.specs.declared.line.Line.{Line}
 use Rattle.world_rules.specs.World.{World}
 use Rattle.world_rules.specs.Declarations.{keeps_rules}
 use Rattle.world_rules.specs.Steps.{effect_of}
-use Rattle.run_trace.specs.declared.event.LineEvent.{LineEvent}
+use Rattle.world_trace.specs.declared.event.LineEvent.{LineEvent}
 use Rattle.world_scene.specs.declared.answer.LineAnswer.{LineAnswer}
 use Rattle.world_scene.specs.Scenes.{SceneState, Shown, shown_of, world_of}
 use Rattle.world_scene.specs.Steps.{answered}

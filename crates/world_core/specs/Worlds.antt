@@ -1,5 +1,5 @@
 -- The world in memory, and when it is what lines leave.
-use Rattle.std.specs.Prelude.{◌≡◌, ◌≤◌, ℕ, List, [], Option, Some, None, option_map}
+use Rattle.std.specs.Prelude.{◌≡◌, ◌≤◌, ℕ, List, [], map, Option, Some, None, option_map}
 use Rattle.std.specs.List.{All, count_by}
 use Rattle.std.specs.Option.{ForSome, option_map_or}
 use Rattle.plasma_tx.specs.Spelling.{AreBytes}
@@ -10,8 +10,9 @@ use Rattle.world_rules.specs.declared.TheConstants.{MOST_MAIL}
 use Rattle.world_rules.specs.World.{World}
 use Rattle.world_rules.specs.Events.{Event}
 use Rattle.world_rules.specs.Steps.{mail_size, TraceEntry, Run, run_of, events_of}
-use Rattle.world_rules.specs.Verdicts.{is_refused}
-use Rattle.run_trace.specs.Traces.{TraceState, no_trace, Tells}
+use Rattle.world_rules.specs.Verdicts.{is_refused, Named, wallets_from}
+use Rattle.coin_verdicts.specs.Wallets.{named_of}
+use Rattle.world_trace.specs.Traces.{TraceState, no_trace, Tells}
 use Rattle.world_scene.specs.Scenes.{SceneState, world_of}
 use Rattle.world_scene.specs.Steps.{AllSpell}
 
@@ -43,7 +44,12 @@ HasHash {H} state = ForSome state.scene (λ (scene : SceneState H). scene.hash �
 -- what is kept of the lines is that of these events, in the world that they left
 abbrev pub TellsIn : (List ℕ → List ℕ) → Option World → List Event → TraceState → Type 0
 TellsIn dig None events trace = (events ≡ []) × (trace ≡ no_trace)
-TellsIn dig (Some world) events trace = Tells (tests_by dig) (rules_of world.chain) events trace
+TellsIn dig (Some world) events trace = Tells dig (tests_by dig) (rules_of world.chain) events trace
+
+-- the wallets of a world, in the order of their declarations; none before the first line
+abbrev pub wallets_in : Option World → List Named
+wallets_in None = []
+wallets_in (Some world) = wallets_from 0 world.nodes
 
 -- the line of a trace made bytes
 abbrev pub MadeBytes : TraceEntry → Type 0
@@ -60,4 +66,5 @@ pub record IsAfter {H : Type 0} (dig : List ℕ → List ℕ) (lines : List Line
   pub mail : state.mail_size ≡ option_map_or mail_size run.world 0
   pub fits : state.mail_size ≤ MOST_MAIL
   pub trace : TellsIn dig run.world (events_of run.entries) state.trace
+  pub named : map named_of state.trace.wallets ≡ wallets_in run.world
   pub refused : state.refused ≡ count_by is_refused run.entries

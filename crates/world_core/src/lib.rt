@@ -4,6 +4,7 @@
 
 mod counting;
 mod mail;
+mod running;
 mod stepping;
 mod world;
 

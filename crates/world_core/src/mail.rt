@@ -2,12 +2,12 @@ ghost use Rattle.std.specs.Prelude.{◌≡◌, ◌+◌, ◌<◌, ◌≤◌, leng
 ghost use Rattle.world_rules.specs.declared.TheConstants.{MOST_MAIL};
 ghost use Rattle.world_core.specs.Taking.{with_item};
 
-use super::world::World;
+use super::running::RunningWorld;
 use plasma_base::{Bytes, Hash32};
 use world_rules::MOST_MAIL;
 use world_scene::StepRefusal;
 
-impl<H: Hash32 + Copy> World<H> {
+impl<H: Hash32 + Copy> RunningWorld<H> {
     // The bytes that a line made are its mail item.
     pub(crate) fn put_mail(&mut self, made: Bytes) -> Result<(), StepRefusal>
         ensures put { OnOk result (self.new ≡ with_item self.old made) }

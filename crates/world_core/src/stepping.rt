@@ -1,21 +1,27 @@
-ghost use Rattle.std.specs.Prelude.{◌≡◌, ◌∷◌, List, false, None, IfOk, OnOk, IsErrOf};
+ghost use Rattle.std.specs.Prelude.{◌≡◌, ◌∷◌, ◌++◌, List, false, None, Some, IfOk, OnOk, IsErrOf};
 ghost use Rattle.plasma_tx.specs.Spelling.{AreBytes};
 ghost use Rattle.schedule_text.specs.declared.line.Line.{Line};
 ghost use Rattle.schedule_text.specs.Grammar.{IsLine};
 ghost use Rattle.world_rules.specs.Declarations.{keeps_rules};
+ghost use Rattle.plasma_tx.specs.Shown.{Tests, Rules};
+ghost use Rattle.world_rules.specs.Events.{Event, log_of};
 ghost use Rattle.world_rules.specs.Steps.{run_of};
+ghost use Rattle.world_trace.specs.Events.{IsEvent};
+ghost use Rattle.world_trace.specs.Read.{declared_by};
+ghost use Rattle.world_trace.specs.Traces.{Tells};
+ghost use Rattle.world_scene.specs.Scenes.{SceneState};
 ghost use Rattle.world_core.specs.Worlds.{world_in, HasHash, NodesSpell, IsAfter};
-ghost use Rattle.world_core.specs.Lines.{IsStep, WouldFill, MovesIn};
+ghost use Rattle.world_core.specs.Lines.{name_in, IsStep, WouldFill, MovesIn};
 ghost use Rattle.world_core.specs.Taking.{Takes};
 
 use super::counting::with_answer;
-use super::world::World;
+use super::running::RunningWorld;
 use node_replies::Reply;
-use plasma_base::{Bytes, Hash32};
-use run_trace::LineEvent;
+use plasma_base::{Bytes, Hash32, NoMemory};
 use schedule_text::Line;
 use world_rules::TraceLine;
 use world_scene::{LineAnswer, Scene, StepRefusal};
+use world_trace::LineEvent;
 
 // What the type of bytes says of them. It does nothing.
 fn are_bytes(bytes: &[u8])
@@ -24,7 +30,17 @@ fn are_bytes(bytes: &[u8])
     let _ = bytes;
 }
 
-impl<H: Hash32 + Copy> World<H> {
+// The name of the wallet that a line declares; empty for another line.
+fn name_in(line: &Line) -> &[u8]
+    ensures { result.now ≡ name_in line.now }
+{
+    match line {
+        Line::Wallet { name, .. } => name.as_slice(),
+        _ => &[],
+    }
+}
+
+impl<H: Hash32 + Copy> RunningWorld<H> {
     // The first line begins the chain.
     #[tactic(auto, unfolding(world_rules::specs::Declarations::keeps_rules, world_rules::specs::Steps::effect_of))]
     fn begin(&mut self, line: &Line) -> Result<LineAnswer, StepRefusal>
@@ -80,21 +96,34 @@ impl<H: Hash32 + Copy> World<H> {
         }
     }
 
-    /// Takes the step of a line: what it does to the contract, the nodes with their disks, names and mail. The answer
-    /// is its line of the trace. `BadLine` comes exactly where it breaks a rule of declarations, and changes nothing;
-    /// `MailFull` exactly where all mail items together would have more than 268,435,456 bytes. After that and after
-    /// `NoMemory` nothing is said of the world.
-    pub fn step(&mut self, line: &Line) -> Result<TraceLine, StepRefusal>
+    // Keeps what is kept of a line that was taken. The chain has begun then.
+    fn keep(&mut self, line: &Line, event: LineEvent) -> Result<(), NoMemory>
+        ensures rest { self.new ≡ record self.old { trace = self.new.trace } }
+        ensures told { (scene : SceneState H) → self.old.scene ≡ Some scene
+            → (tests : Tests) (rules : Rules) (events : List Event) (told : Event)
+            → Tells (H.digest_of self.old.hash) tests rules events self.old.trace
+            → IsEvent tests rules (log_of events) told event
+            → scene.chain.log ≡ log_of (told ∷ events) → scene.chain.tag ≡ rules.tag
+            → OnOk result (Tells (H.digest_of self.old.hash) tests rules (told ∷ events) self.new.trace) }
+        ensures named { (scene : SceneState H) → self.old.scene ≡ Some scene
+            → OnOk result (self.new.trace.wallets
+            ≡ self.old.trace.wallets ++ declared_by (name_in line.now) event) }
+    {
+        match &self.scene {
+            None => Ok(()),
+            Some(scene) => self
+                .trace
+                .push(&self.hash, scene.log(), name_in(line), event),
+        }
+    }
+
+    /// Takes the step of a line, as `World::step` says.
+    pub(crate) fn step(&mut self, line: &Line) -> Result<TraceLine, StepRefusal>
         requires grammar { IsLine line.now }
         requires nodes { NodesSpell self.old }
-
-        // The world is the run of all lines so far, and the answer is the line's in it.
         ensures ok { (lines : List Line) → IsAfter (H.digest_of self.old.hash) lines self.old
             → IfOk result (λ told. IsStep (H.digest_of self.old.hash) lines line.now told self.new) }
         ensures hash { OnOk result (self.new.hash ≡ self.old.hash) }
-
-        // Every image of a crash now of each node's disks keeps its identity and its records; the disks of a node that
-        // runs a command make the calls of that command, and all others stay.
         ensures nodes { OnOk result (NodesSpell self.new) }
         ensures moves { OnOk result (MovesIn H.digest_of self.old.scene line.now self.new.scene) }
         ensures bad { (lines : List Line) → IsAfter (H.digest_of self.old.hash) lines self.old
@@ -112,7 +141,7 @@ impl<H: Hash32 + Copy> World<H> {
         are_bytes(made.as_slice());
         let item = made.copy()?;
         self.put_mail(item)?;
-        self.trace.push(event)?;
+        self.keep(line, event)?;
         self.refused = with_answer(self.refused, done, &reply);
         Ok(TraceLine {
             line: self.trace.len() as u64,

@@ -1,49 +1,43 @@
-ghost use Rattle.std.specs.Prelude.{◌≡◌, [], List, Some, IfOk};
+ghost use Rattle.std.specs.Prelude.{◌≡◌, ◌∷◌, [], false, List, None, Some, IfOk, OnOk, IsErrOf};
 ghost use Rattle.sha2.specs.Sha256.{sha256};
 ghost use Rattle.schedule_text.specs.declared.line.Line.{Line};
+ghost use Rattle.schedule_text.specs.Grammar.{IsLine};
 ghost use Rattle.world_rules.specs.Steps.{Run, run_of};
 ghost use Rattle.world_rules.specs.Verdicts.{verdicts_of, exhibit_of_run, counts_of};
 ghost use Rattle.world_core.specs.Worlds.{before_all, NodesSpell, IsAfter};
+ghost use Rattle.world_core.specs.Lines.{IsGoingOn, IsStep, WouldFill, MovesIn};
 
-use super::counting::{verdict_counts, with_log};
+use super::running::RunningWorld;
 use plasma_base::{Hash32, NoMemory, Sha};
-use run_trace::Trace;
+use schedule_text::Line;
 use std::alloc::Global;
 use std::marker::Model;
-use world_rules::{Counts, Exhibit, Verdict};
-use world_scene::Scene;
+use world_rules::{Counts, Exhibit, TraceLine, Verdict};
+use world_scene::StepRefusal;
+use world_trace::Trace;
 
 /// The world that a schedule's lines step through, with what it keeps of them.
 #[derive(Drop)]
-pub struct World<H: Hash32 + Copy> {
-    pub(crate) alloc: Global,
-    pub(crate) hash: H,
-    // None until a first line begins the chain.
-    pub(crate) scene: Option<Scene<H>>,
-    // The bytes of all mail items.
-    pub(crate) mail_size: u64,
-    pub(crate) trace: Trace,
-    // How many answers begin with a refusal.
-    pub(crate) refused: u64,
+pub struct World<H: Hash32 + Copy = Sha> {
+    running: RunningWorld<H>,
+    // Whether memory ran out, or the mail was full: no line is stepped any more.
+    has_ended: bool,
 }
 
 impl<H: Hash32 + Copy> Model for World<H> {
-    ghost use Rattle.std.specs.Prelude.{◌≤◌};
-    ghost use Rattle.world_rules.specs.declared.TheConstants.{MOST_MAIL};
-    ghost use Rattle.world_core.specs.Worlds.{WorldState};
+    ghost use Rattle.std.specs.Prelude.{◌≡◌, false};
+    ghost use Rattle.std.specs.Coded.{codes};
+    ghost use Rattle.world_trace.specs.contracts.trace.Trace as kept;
+    ghost use Rattle.world_core.specs.Worlds.{WorldState, NodesSpell};
 
     ghost Value = { WorldState H };
 
-    ghost view = { λ w. record {
-      hash = w.hash;
-      scene = w.scene;
-      mail_size = w.mail_size;
-      trace = w.trace;
-      refused = w.refused;
-    } };
+    ghost coded = { Prim.hlevel (codes, H.code, kept.the_row.coded) };
 
-    // What is left for mail is a number.
-    ghost invariant = { λ w. w.mail_size ≤ MOST_MAIL };
+    ghost view = { λ w. w.running };
+
+    // Until it has ended, each image of a crash now of each node's disks keeps the node's records.
+    ghost invariant = { λ w. w.has_ended ≡ false → NodesSpell w.running };
 }
 
 impl World<Sha> {
@@ -56,6 +50,17 @@ impl World<Sha> {
     }
 }
 
+// Whether no line is stepped after a step that gave this.
+fn ends(stepped: &Result<TraceLine, StepRefusal>) -> bool
+    ensures { result ≡ false → IsGoingOn stepped.now }
+{
+    match stepped {
+        Ok(_) => false,
+        Err(StepRefusal::BadLine) => false,
+        Err(_) => true,
+    }
+}
+
 impl<H: Hash32 + Copy> World<H> {
     /// The world before its first line, with openings judged by this digest.
     pub fn new_with(alloc: Global, hash: H) -> World<H>
@@ -64,13 +69,46 @@ impl<H: Hash32 + Copy> World<H> {
         ensures nodes { NodesSpell result }
     {
         World {
-            alloc,
-            hash,
-            scene: None,
-            mail_size: 0,
-            trace: Trace::new(alloc),
-            refused: 0,
+            running: RunningWorld::new(alloc, hash),
+            has_ended: false,
         }
+    }
+
+    /// Takes the step of a line: what it does to the contract, the nodes with their disks, names and mail. The answer
+    /// is its line of the trace. `BadLine` comes exactly where it breaks a rule of declarations, and changes nothing;
+    /// `MailFull` exactly where all mail items together would have more than 268,435,456 bytes. After that and after
+    /// `NoMemory` the world has ended: it steps no line, and answers `NoMemory`.
+    pub fn step(&mut self, line: &Line) -> Result<TraceLine, StepRefusal>
+        requires { IsLine line.now }
+
+        // The world is the run of all lines so far, and the answer is the line's in it.
+        ensures ok { (lines : List Line) → IsAfter (H.digest_of self.old.hash) lines self.old
+            → IfOk result (λ told. IsStep (H.digest_of self.old.hash) lines line.now told self.new) }
+        ensures hash { OnOk result (self.new.hash ≡ self.old.hash) }
+
+        // Every image of a crash now of each node's disks keeps its identity and its records; the disks of a node that
+        // runs a command make the calls of that command, and all others stay.
+        ensures nodes { OnOk result (NodesSpell self.new) }
+        ensures moves { OnOk result (MovesIn H.digest_of self.old.scene line.now self.new.scene) }
+        ensures bad { (lines : List Line) → IsAfter (H.digest_of self.old.hash) lines self.old
+            → IsErrOf result StepRefusal.BadLine → run_of (H.digest_of self.old.hash) (line.now ∷ lines) ≡ None }
+        ensures same { IsErrOf result StepRefusal.BadLine → self.new ≡ self.old }
+        ensures full { (lines : List Line) → IsAfter (H.digest_of self.old.hash) lines self.old
+            → IsErrOf result StepRefusal.MailFull → WouldFill (H.digest_of self.old.hash) lines line.now }
+    {
+        if self.has_ended {
+            return Err(StepRefusal::NoMemory);
+        }
+        let stepped = self.running.step(line);
+        self.has_ended = ends(&stepped);
+        stepped
+    }
+
+    /// What is kept of the lines so far.
+    pub fn trace(&self) -> &Trace
+        ensures { result.now ≡ self.now.trace }
+    {
+        &self.running.trace
     }
 
     /// The verdicts on all wallets' coins, in the order of their declarations and by rising coin; none before the
@@ -80,10 +118,7 @@ impl<H: Hash32 + Copy> World<H> {
             → run_of (H.digest_of self.now.hash) lines ≡ Some run
             → IfOk result (λ verdicts. verdicts.items ≡ verdicts_of (H.digest_of self.now.hash) run) }
     {
-        match &self.scene {
-            None => Ok(Vec::new(self.alloc)),
-            Some(scene) => self.trace.verdicts(&scene.wallets()?),
-        }
+        self.running.verdicts()
     }
 
     /// What the lines show that excuses a loss: nothing before the first line. `NoMemory` is its one refusal.
@@ -92,10 +127,7 @@ impl<H: Hash32 + Copy> World<H> {
             → run_of (H.digest_of self.now.hash) lines ≡ Some run
             → IfOk result (λ exhibit. exhibit ≡ exhibit_of_run (H.digest_of self.now.hash) run) }
     {
-        match &self.scene {
-            None => Ok(Exhibit::Nothing),
-            Some(scene) => self.trace.exhibit(&self.hash, scene.log()),
-        }
+        self.running.exhibit()
     }
 
     /// How much there is of the lines: how many they are, were accepted by the contract or answered with a refusal, the
@@ -105,11 +137,6 @@ impl<H: Hash32 + Copy> World<H> {
             → run_of (H.digest_of self.now.hash) lines ≡ Some run
             → IfOk result (λ counts. counts ≡ counts_of (H.digest_of self.now.hash) run) }
     {
-        let verdicts = self.verdicts()?;
-        let counts = verdict_counts(self.trace.len() as u64, self.refused, &verdicts);
-        match &self.scene {
-            None => Ok(counts),
-            Some(scene) => Ok(with_log(counts, scene.log())),
-        }
+        self.running.counts()
     }
 }

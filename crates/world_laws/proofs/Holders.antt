@@ -28,9 +28,6 @@ IsHeld held account = (n : ℕ) × (slice_get held n ≡ Some (Some account))
 pub holder-wallet : (node : Node) → is_wallet_role node.role ≡ true → holder node ≡ Some node.account
 holder-wallet node is = ap (λ (b : Bool). if b then Some node.account else None) is
 
-pub holder-other : (node : Node) → is_wallet_role node.role ≡ false → holder node ≡ None
-holder-other node is = ap (λ (b : Bool). if b then Some node.account else None) is
-
 pub holder-at : (nodes : List Node) (n : ℕ) (node : Node) → slice_get nodes n ≡ Some node
     → slice_get (holders nodes) n ≡ Some (holder node)
 holder-at [] n node is = absurd (cc is)

@@ -17,7 +17,6 @@ use Rattle.plasma_tx.proofs.Bounds.{coin_at-le}
 use Rattle.watch_duty.specs.Duty.{due_of}
 use Rattle.wallet_core.specs.declared.coin_state.CoinState.{CoinState}
 use Rattle.wallet_core.specs.declared.coin_state.CoinState.TheVariants.{Nothing, Sending, Leaving, Held}
-use Rattle.schedule_text.specs.declared.line.Line.{Line}
 use Rattle.node_rules.specs.declared.refusal.WalletRefusal.{WalletRefusal}
 use Rattle.node_rules.specs.declared.refusal.WalletRefusal.TheVariants.{NotHeld}
 use Rattle.node_rules.specs.Kept.{kept_links}
@@ -28,16 +27,12 @@ use Rattle.node_rules.proofs.WalletRole.{links-some}
 use Rattle.watch_duty.proofs.Members.{Has, has-contains, contains-has, has-flat_map}
 use Rattle.world_rules.specs.Events.{Event, log_of, wallet_owner}
 use Rattle.world_rules.specs.World.{Node, World, wallet_of, is_wallet_role, owner_of_node}
-use Rattle.world_rules.specs.Steps.{Run, events_of}
 use Rattle.world_rules.proofs.KeptWorld.{KeptWorld}
-use Rattle.world_laws.specs.Headline.{IsRun}
 use Rattle.world_laws.specs.Legal.{IsAtTop, IsGuarding, ShowsGuard, ShowsTip, LegalWatch, LegalLeave}
 use Rattle.world_laws.proofs.Identities.{wallet-node}
 use Rattle.world_laws.proofs.Keeps.{Keeps, is-wallet}
-use Rattle.world_laws.proofs.Acts.{runs-keep}
-use Rattle.world_laws.proofs.Guarding.{kept-world}
 use Rattle.world_laws.proofs.LegalWatches.{has-in-flat_map}
-use Rattle.world_laws.proofs.Accepting.{AcceptsAreShown, runs-accept-shown}
+use Rattle.world_laws.proofs.Accepting.{AcceptsAreShown}
 use Rattle.world_laws.proofs.AtTops.{IsShownAt, IsHeldAt, held-at-tip, top-held, held-top, shown-at}
 
 -- ---- the coins of a log
@@ -225,19 +220,3 @@ module _ (dig : List ℕ → List ℕ) (events : List Event) (world : World) (ke
   }
 
 -- ---- every run
-
-module _ (dig : List ℕ → List ℕ) (lines : List Line) (run : Run) (world : World) (is : IsRun dig lines run world)
-    (n : ℕ) (node : Node) (at : slice_get world.nodes n ≡ Some node) (role : is_wallet_role node.role ≡ true) where
-  -- the start that a leave offers
-  pub left-in-run : (c : ℕ) (call : RootCall) → (leave_effect dig (wallet_of node) world.chain.log c).answer ≡ Ok call
-      → LegalLeave (rules_of world.chain) (events_of run.entries) n call
-  left-in-run =
-      legal-left dig (events_of run.entries) world (kept-world dig lines run world is)
-      (runs-keep dig lines run world is) (runs-accept-shown dig lines run world is) n node at role
-
-  -- what a wallet's watch offers
-  pub watched-in-run : LegalWatch (rules_of world.chain) (events_of run.entries) n
-      (watch_answer dig (wallet_of node) world.chain.log)
-  watched-in-run =
-      legal-wallet-watched dig (events_of run.entries) world (kept-world dig lines run world is)
-      (runs-keep dig lines run world is) (runs-accept-shown dig lines run world is) n node at role

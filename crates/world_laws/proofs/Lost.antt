@@ -36,10 +36,6 @@ use Rattle.world_laws.proofs.Exhibited.{or-none}
 
 -- ---- holding goes on
 
-abbrev IsSource : List Event → ℕ → Owner → ℕ → ℕ → Type 0
-IsSource events w me c e =
-    (was_deposited me e (coin_at (log_of events) c) ≡ true) ⊎ (list_any (is_bundle c e) (accepted events w) ≡ true)
-
 deposited-on : (event : Event) (events : List Event) (me : Owner) (c e : ℕ)
     → was_deposited me e (coin_at (log_of events) c) ≡ true
     → was_deposited me e (coin_at (log_of (event ∷ events)) c) ≡ true

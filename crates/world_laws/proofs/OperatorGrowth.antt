@@ -42,12 +42,6 @@ pub record IsLater (before world : World) : Type 0 where
   pub op : (old : Node) → slice_get before.nodes 0 ≡ Some old
       → (new : Node) × (slice_get world.nodes 0 ≡ Some new) × HasMore old.notes new.notes
 
-later-refl : (world : World) → IsLater world world
-later-refl world = record {
-  tag = refl;
-  op = λ old is. (old, is, record { more = []; is = append-nil old.notes });
-}
-
 later-then : (one two three : World) → IsLater one two → IsLater two three → IsLater one three
 later-then one two three first second = record {
   tag = second.tag ∙ first.tag;

@@ -44,9 +44,6 @@ module _ (dig : List ℕ → List ℕ) (digest : IsDigest dig) (rules : Rules) (
   abbrev By : Tests
   By = tests_by dig
 
-  abbrev NoClash : List Event → Type 0
-  NoClash events = has_clash dig (strings_of dig c (seen events c)) ≡ false
-
   abbrev Watched : List Event → Owner → Type 0
   Watched events me = AllWatched c me e (now (log_of events)) (exits (log_of events))
 

@@ -117,9 +117,6 @@ module _ (tests : Tests) (rules : Rules) (signs : SignsBy tests) (events : List 
   abbrev Log : List RootCall
   Log = log_of events
 
-  abbrev Me : Owner
-  Me = at.hold.me
-
   abbrev Watched : List Exit → Type 0
   Watched xs = AllWatched c at.hold.me e (now (log_of events)) xs
 

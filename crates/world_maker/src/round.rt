@@ -12,7 +12,7 @@ use schedule_text::{CallForm, Line};
 use std::alloc::Global;
 
 /// A round of a schedule: its number, counted from 1, its word, and how many lines stand before it.
-#[derive(Debug, Clone, Copy)]
+#[derive(Clone, Copy)]
 pub struct Round {
     pub number: u64,
     pub word: u64,

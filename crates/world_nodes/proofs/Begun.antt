@@ -5,8 +5,8 @@ use Rattle.crash_disk.specs.Disk.{Step, asks_length, content, with_call, is_spen
 use Rattle.crash_disk.specs.Memory.{MemState, plan_of}
 use Rattle.crash_disk.proofs.Plans.{passing-no_fuse}
 use Rattle.node_journal.specs.Begin.{is_taken, init_steps, journal_steps, InitsOver, Inits, IsNotTold, IsAsked, RefusesPair, BeginsPair}
-use Rattle.node_journal.specs.declared.refusal.InitRefusal.{InitRefusal}
-use Rattle.node_journal.specs.declared.refusal.InitRefusal.TheVariants.{AlreadyMade as InitMade, DeviceFault as InitFault, NoMemory as InitNoMemory}
+use Rattle.gate_journal.specs.declared.refusal.InitRefusal.{InitRefusal}
+use Rattle.gate_journal.specs.declared.refusal.InitRefusal.TheVariants.{AlreadyMade as InitMade, DeviceFault as InitFault, NoMemory as InitNoMemory}
 use Rattle.world_nodes.specs.Inside.{mem_told, mem_plan, mem_faults, NoneListed, HasNoFuse, empty_disk}
 use Rattle.world_nodes.proofs.Declared.{empty_listed, unfolded_asked, asked_listed}
 use Rattle.world_nodes.proofs.Ready.{planned-unfused}

@@ -9,11 +9,11 @@ use Rattle.crash_disk.specs.Memory.{MemState, plan_of, with_fuse}
 use Rattle.crash_disk.specs.Outcomes.{HasPattern}
 use Rattle.crash_disk.specs.declared.outcome.Outcome.{Outcome}
 use Rattle.crash_disk.proofs.Plans.{passing-fuse}
-use Rattle.node_journal.specs.Steps.{open_steps}
-use Rattle.node_journal.specs.Journal.{RefusesOpen}
+use Rattle.gate_journal.specs.Steps.{open_steps}
+use Rattle.gate_journal.specs.Journal.{RefusesOpen}
 use Rattle.node_journal.specs.Notes.{NotesState, Did}
 use Rattle.node_journal.specs.Role.{role_in}
-use Rattle.node_journal.specs.declared.refusal.JournalRefusal.TheVariants.{DeviceFault as JournalFault}
+use Rattle.gate_journal.specs.declared.refusal.JournalRefusal.TheVariants.{DeviceFault as JournalFault}
 use Rattle.leaf_journal.specs.Records.{leaf_records_in_of}
 use Rattle.plasma_tx.specs.declared.call.RootCall.{RootCall}
 use Rattle.node_rules.specs.WalletRecords.{wallet_kinds, is_body}
@@ -32,7 +32,7 @@ use Rattle.world_nodes.specs.declared.down.DownNode.TheVariants.{Wallet as Walle
 use Rattle.world_nodes.specs.declared.up.UpNode.{UpNode}
 use Rattle.world_nodes.specs.declared.up.UpNode.TheVariants.{Wallet as WalletUp, Watcher as WatcherUp, Operator as OperatorUp}
 use Rattle.world_nodes.specs.Orders.{is_opening_order}
-use Rattle.world_nodes.specs.Nodes.{NodeView, with_opening, Crashes, crashed_disk}
+use Rattle.world_nodes.specs.Nodes.{with_opening, crashed_disk}
 use Rattle.world_nodes.specs.Cuts.{with_cut_opening, with_cut_append, DisksCrash}
 use Rattle.world_nodes.specs.Inside.{mem_told, mem_plan, mem_faults, NoneListed, Half, Halves, kept_of, kept_half, crashed, NoneListedOf, leaves_of, down_halves, with_disks, taken_down, Opens, RefusesDown, UpDid, stop_in, up_halves, view_in}
 use Rattle.world_nodes.proofs.Halves.{HalfOpened, half_opened, role_reads, leaf_reads}
@@ -185,17 +185,6 @@ module _ {H : Type 0} (hash : H) (name : List ℕ) (account : ℕ) (role : Role)
   }
 
 -- ---- an opening
-
--- those of an opening of a node that is up, which crashed
-pub up_crashed : {H : Type 0} (calls : ℕ) (outcome : Outcome) (deed : Doing) (old new : NodeView H)
-    → old.node.is_up ≡ true → Crashes outcome old new → DisksCrash calls outcome Open deed old new
-up_crashed calls outcome deed old new up crashes = record {
-  notes_disk = crashes.notes_disk
-      ∙ (λ i. crashed_disk outcome (cond (sym up i) old.notes_disk (with_cut_opening calls old.notes_disk)));
-  leaves_disk = crashes.leaves_disk
-      ∙ (λ i. option_map (λ disk. crashed_disk outcome (cond (sym up i || nat_lt calls 3) disk (with_opening disk)))
-      old.leaves_disk);
-}
 
 -- as many of its calls as pass, which are three
 all_made : (calls : ℕ) (disk : History) → nat_lt calls 3 ≡ false → with_opening disk ≡ with_cut_opening calls disk

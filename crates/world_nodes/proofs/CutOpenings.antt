@@ -7,10 +7,10 @@ use Rattle.crash_disk.specs.Calls.{failed_after, after_course}
 use Rattle.crash_disk.specs.Memory.{MemState, plan_of, with_fuse}
 use Rattle.crash_disk.specs.declared.outcome.Outcome.{Outcome}
 use Rattle.crash_disk.proofs.Plans.{passing-fuse}
-use Rattle.node_journal.specs.Steps.{open_steps}
-use Rattle.node_journal.specs.Journal.{RefusesOpen}
-use Rattle.node_journal.specs.declared.refusal.JournalRefusal.TheVariants.{DeviceFault as JournalFault}
-use Rattle.node_journal.proofs.Stopped.{stopped_openings}
+use Rattle.gate_journal.specs.Steps.{open_steps}
+use Rattle.gate_journal.specs.Journal.{RefusesOpen}
+use Rattle.gate_journal.specs.declared.refusal.JournalRefusal.TheVariants.{DeviceFault as JournalFault}
+use Rattle.gate_journal.proofs.Stopped.{stopped_openings}
 use Rattle.node_journal.specs.Notes.{NotesState}
 use Rattle.node_journal.specs.Role.{role_in}
 use Rattle.node_rules.specs.WalletRecords.{wallet_kinds}

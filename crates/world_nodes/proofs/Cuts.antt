@@ -7,8 +7,8 @@ use Rattle.crash_disk.specs.Memory.{MemState, with_fuse}
 use Rattle.crash_disk.specs.Outcomes.{HasPattern}
 use Rattle.crash_disk.specs.declared.outcome.Outcome.{Outcome}
 use Rattle.crash_disk.proofs.Left.{content_may_be_left}
-use Rattle.node_journal.specs.JournalLaws.{is_added}
-use Rattle.node_journal.specs.Notes.{NotesState, RefusesRole}
+use Rattle.gate_journal.specs.Laws.{is_added}
+use Rattle.node_journal.specs.Notes.{NotesState}
 use Rattle.node_journal.specs.Role.{role_in}
 use Rattle.node_journal.specs.declared.stop.Stop.{Stop}
 use Rattle.leaf_journal.specs.Records.{leaf_records_in_of}

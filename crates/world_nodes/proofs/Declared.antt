@@ -8,8 +8,8 @@ use Rattle.crash_disk.specs.Disk.{Step, content, after_calls}
 use Rattle.crash_disk.specs.Calls.{WhereTold}
 use Rattle.crash_disk.specs.Memory.{MemState}
 use Rattle.crash_disk.proofs.Plans.{none_listed}
-use Rattle.node_journal.specs.Journal.{IsSettled}
-use Rattle.node_journal.specs.declared.refusal.InitRefusal.{InitRefusal}
+use Rattle.gate_journal.specs.Journal.{IsSettled}
+use Rattle.gate_journal.specs.declared.refusal.InitRefusal.{InitRefusal}
 use Rattle.node_journal.specs.Begin.{init_steps, journal_steps, InitsOver, Inits, IsAsked, BeginsPair}
 use Rattle.lms_sign.specs.declared.secret.Secret.{Secret}
 use Rattle.lms_sign.specs.Tree.{public_key_of}

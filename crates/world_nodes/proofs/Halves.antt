@@ -9,8 +9,8 @@ use Rattle.crash_disk.specs.declared.outcome.Outcome.{Outcome}
 use Rattle.crash_disk.proofs.Images.{outcomes}
 use Rattle.crash_disk.proofs.Left.{content_may_be_left, fresh_disk_leaves_itself}
 use Rattle.crash_disk.proofs.Plans.{listed-after_calls}
-use Rattle.node_journal.specs.Image.{journal_in}
-use Rattle.node_journal.specs.Journal.{Keeps, IsSettled}
+use Rattle.gate_journal.specs.Image.{journal_in}
+use Rattle.gate_journal.specs.Journal.{Keeps, IsSettled}
 use Rattle.node_journal.specs.Notes.{NotesState, Did, Opened}
 use Rattle.node_journal.specs.Role.{Kinds, are_of, read_of_kinds, role_in}
 use Rattle.leaf_journal.specs.Records.{leaf_records_read_of, leaf_records_in_of}

@@ -8,12 +8,12 @@ use Rattle.crash_disk.specs.Memory.{MemState, plan_of, with_fuse}
 use Rattle.crash_disk.specs.declared.outcome.Outcome.{Outcome}
 use Rattle.crash_disk.proofs.Left.{content_may_be_left}
 use Rattle.crash_disk.proofs.Plans.{fuse-after_calls, passing-fuse, passing-no_fuse}
-use Rattle.node_journal.specs.Image.{spelled, journal_in}
-use Rattle.node_journal.specs.Journal.{RefusesOpen}
+use Rattle.gate_journal.specs.Image.{spelled, journal_in}
+use Rattle.gate_journal.specs.Journal.{RefusesOpen}
 use Rattle.node_journal.specs.Notes.{NotesState, Did, Opened}
 use Rattle.node_journal.specs.Role.{Kinds, are_of, front_of, of_kinds, read_of_kinds, role_in}
-use Rattle.node_journal.specs.declared.refusal.JournalRefusal.{JournalRefusal}
-use Rattle.node_journal.specs.declared.refusal.JournalRefusal.TheVariants.{AlreadyMade as JournalMade, NotJournal as JournalPlace, RecordTooLong as JournalLong, DeviceFault as JournalFault, Closed as JournalClosed, NoMemory as JournalNoMemory}
+use Rattle.gate_journal.specs.declared.refusal.JournalRefusal.{JournalRefusal}
+use Rattle.gate_journal.specs.declared.refusal.JournalRefusal.TheVariants.{AlreadyMade as JournalMade, NotJournal as JournalPlace, RecordTooLong as JournalLong, DeviceFault as JournalFault, Closed as JournalClosed, NoMemory as JournalNoMemory}
 use Rattle.node_journal.specs.declared.stop.Stop.{Stop}
 use Rattle.node_journal.specs.declared.stop.Stop.TheVariants.{Closed, NoMemory, DeviceFault}
 use Rattle.leaf_journal.specs.Records.{leaf_records_of, leaf_records_read_of, leaf_records_in_of}

@@ -6,8 +6,8 @@ use Rattle.std.specs.List.{All, AllByRecursion}
 use Rattle.std.proofs.lemmas.List.Elements.{All-from_recursion, recursion_from_All}
 use Rattle.crash_disk.specs.declared.outcome.Outcome.{Outcome}
 use Rattle.crash_disk.proofs.Left.{content_may_be_left}
-use Rattle.node_journal.specs.Image.{mark, spelled, spelled_record, spelled_records, kept_records}
-use Rattle.node_journal.proofs.Front.{read_is_spelled}
+use Rattle.gate_journal.specs.Image.{mark, spelled, spelled_record, spelled_records, kept_records}
+use Rattle.gate_journal.proofs.Front.{read_is_spelled}
 use Rattle.plasma_tx.specs.declared.call.RootCall.{RootCall}
 use Rattle.plasma_tx.specs.Spelling.{AreBytes}
 use Rattle.node_rules.specs.declared.identity.WalletIdentity.{WalletIdentity}

@@ -9,11 +9,11 @@ use Rattle.crash_disk.specs.Memory.{MemState, plan_of, with_fuse}
 use Rattle.crash_disk.specs.Outcomes.{image_after, HasPattern}
 use Rattle.crash_disk.specs.declared.outcome.Outcome.{Outcome}
 use Rattle.crash_disk.proofs.Plans.{passing-by_fuse}
-use Rattle.node_journal.specs.Image.{most, spelled}
-use Rattle.node_journal.specs.Steps.{append_steps}
-use Rattle.node_journal.specs.Journal.{Keeps}
-use Rattle.node_journal.specs.JournalLaws.{is_added, opens_gate}
-use Rattle.node_journal.proofs.Crash.{stopped_appends}
+use Rattle.gate_journal.specs.Image.{most, spelled}
+use Rattle.gate_journal.specs.Steps.{append_steps}
+use Rattle.gate_journal.specs.Journal.{Keeps}
+use Rattle.gate_journal.specs.Laws.{is_added, opens_gate}
+use Rattle.gate_journal.proofs.Crash.{stopped_appends}
 use Rattle.node_journal.specs.Notes.{NotesState, Did}
 use Rattle.node_journal.specs.declared.stop.Stop.TheVariants.{DeviceFault}
 use Rattle.node_replies.specs.Orders.{with_record}

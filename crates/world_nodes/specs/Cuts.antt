@@ -4,9 +4,9 @@ use Rattle.std.specs.Option.{option_or}
 use Rattle.crash_disk.specs.Disk.{History, content}
 use Rattle.crash_disk.specs.Calls.{with_made}
 use Rattle.crash_disk.specs.declared.outcome.Outcome.{Outcome}
-use Rattle.node_journal.specs.Image.{spelled}
-use Rattle.node_journal.specs.Steps.{append_steps, open_steps}
-use Rattle.node_journal.specs.JournalLaws.{is_added}
+use Rattle.gate_journal.specs.Image.{spelled}
+use Rattle.gate_journal.specs.Steps.{append_steps, open_steps}
+use Rattle.gate_journal.specs.Laws.{is_added}
 use Rattle.plasma_tx.specs.declared.call.RootCall.{RootCall}
 use Rattle.world_rules.specs.World.{Node}
 use Rattle.world_rules.specs.Orders.{node_does}

@@ -5,8 +5,8 @@ use Rattle.crash_disk.specs.Disk.{History, fresh_history, content, FaultPlan}
 use Rattle.crash_disk.specs.Memory.{MemState, plan_of, after_crash}
 use Rattle.crash_disk.specs.Outcomes.{image_after}
 use Rattle.crash_disk.specs.declared.outcome.Outcome.{Outcome}
-use Rattle.node_journal.specs.Image.{kept_records}
-use Rattle.node_journal.specs.declared.refusal.JournalRefusal.{JournalRefusal}
+use Rattle.gate_journal.specs.Image.{kept_records}
+use Rattle.gate_journal.specs.declared.refusal.JournalRefusal.{JournalRefusal}
 use Rattle.node_journal.specs.Notes.{NotesState, Did, Opened, RefusesRole}
 use Rattle.node_journal.specs.Role.{role_in}
 use Rattle.node_journal.specs.declared.stop.Stop.{Stop}
@@ -22,7 +22,7 @@ use Rattle.wallet_node.specs.State.{notes_part, leaves_part}
 use Rattle.wallet_node.specs.Opening.{OpensWallet, RefusesWallet}
 use Rattle.world_rules.specs.World.{Role, Watcher, Node}
 use Rattle.leaf_journal.specs.Records.{messages_of}
-use Rattle.node_journal.specs.declared.refusal.JournalRefusal.TheVariants.{DeviceFault as JournalFault, NoMemory as JournalNoMemory}
+use Rattle.gate_journal.specs.declared.refusal.JournalRefusal.TheVariants.{DeviceFault as JournalFault, NoMemory as JournalNoMemory}
 use Rattle.node_replies.specs.declared.reply.Reply.{Reply}
 use Rattle.node_deeds.specs.WalletOrders.{Does}
 use Rattle.node_replies.specs.declared.given.Given.{Given}
@@ -134,12 +134,6 @@ bare_node halves = record {
 }
 
 -- ---- nodes that are down
-
--- the disk of its notes and that of its leaves
-abbrev pub down_disks : DownNode → MemState × Option MemState
-down_disks (WalletDown notes leaves key) = (notes, Some leaves)
-down_disks (WatcherDown notes) = (notes, None)
-down_disks (OperatorDown notes) = (notes, None)
 
 abbrev pub down_kind : DownNode → NodeKind
 down_kind (WalletDown notes leaves key) = WalletKind

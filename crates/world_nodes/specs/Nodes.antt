@@ -6,9 +6,9 @@ use Rattle.crash_disk.specs.Disk.{History, fresh_history, content, MayLeave}
 use Rattle.crash_disk.specs.Calls.{with_made}
 use Rattle.crash_disk.specs.Outcomes.{image_after}
 use Rattle.crash_disk.specs.declared.outcome.Outcome.{Outcome}
-use Rattle.node_journal.specs.Image.{spelled}
-use Rattle.node_journal.specs.Steps.{append_steps, open_steps}
-use Rattle.node_journal.specs.Journal.{Keeps}
+use Rattle.gate_journal.specs.Image.{spelled}
+use Rattle.gate_journal.specs.Steps.{append_steps, open_steps}
+use Rattle.gate_journal.specs.Journal.{Keeps}
 use Rattle.node_journal.specs.Role.{are_of}
 use Rattle.plasma_tx.specs.declared.call.RootCall.{RootCall}
 use Rattle.node_rules.specs.declared.identity.WalletIdentity.{WalletIdentity}

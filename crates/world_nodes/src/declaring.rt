@@ -13,12 +13,14 @@ use super::down::DownNode;
 use super::entry::{Entry, Member};
 use super::order::NodeKind;
 use crash_disk::MemDisk;
-use node_journal::InitRefusal;
+use gate_journal::InitRefusal;
 use node_rules::WalletIdentity;
+use operator_core::Operator;
 use plasma_base::{Bytes, Hash32, NoMemory};
 use plasma_tx::Owner;
 use std::alloc::Global;
-use wallet_node::WalletKey;
+use wallet_node::{WalletKey, WalletNode};
+use watcher_node::WatcherNode;
 
 // The one cause for which an empty disk isn't begun.
 fn no_memory(why: InitRefusal) -> NoMemory
@@ -73,7 +75,7 @@ fn begin_wallet(alloc: Global, who: &WalletIdentity, key: WalletKey) -> Result<D
     ensures unfused { IfOk result (λ down. NoFuses (down_halves down)) }
     ensures kind { IfOk result (λ down. down_kind down ≡ NodeKind.Wallet) }
 {
-    match wallet_node::init(alloc, empty_disk(alloc), empty_disk(alloc), who) {
+    match WalletNode::init(alloc, empty_disk(alloc), empty_disk(alloc), who) {
         (notes, leaves, Ok(())) => Ok(DownNode::Wallet { notes, leaves, key }),
         (_, _, Err(why)) => Err(no_memory(why)),
     }
@@ -113,7 +115,7 @@ fn begin_watcher(alloc: Global, tag: &[u8; 32], account: u64) -> Result<DownNode
     ensures role { IsIdentityOf NodeKind.Watcher (watcher_text (record { tag = tag.now; account = account })) }
 {
     are_sized(*tag, account, *tag);
-    match watcher_node::init(alloc, empty_disk(alloc), *tag, account) {
+    match WatcherNode::init(alloc, empty_disk(alloc), *tag, account) {
         (notes, Ok(())) => Ok(DownNode::Watcher { notes }),
         (_, Err(why)) => Err(no_memory(why)),
     }
@@ -129,7 +131,7 @@ fn begin_operator(alloc: Global, tag: &[u8; 32], account: u64) -> Result<DownNod
         (operator_text (record { tag = tag.now; account = account; key_seed = None })) }
 {
     are_sized(*tag, account, *tag);
-    match operator_core::init(alloc, empty_disk(alloc), *tag, account) {
+    match Operator::init(alloc, empty_disk(alloc), *tag, account) {
         (notes, Ok(())) => Ok(DownNode::Operator { notes }),
         (_, Err(why)) => Err(no_memory(why)),
     }

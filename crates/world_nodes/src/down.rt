@@ -2,7 +2,7 @@ ghost use Rattle.std.specs.Prelude.{◌≡◌, IfOk};
 ghost use Rattle.crash_disk.specs.Disk.{content};
 ghost use Rattle.crash_disk.specs.Memory.{with_fuse};
 ghost use Rattle.crash_disk.specs.Outcomes.{HasPattern};
-ghost use Rattle.node_journal.specs.declared.refusal.JournalRefusal.{JournalRefusal};
+ghost use Rattle.gate_journal.specs.declared.refusal.JournalRefusal.{JournalRefusal};
 ghost use Rattle.plasma_tx.specs.Spelling.{AreBytes};
 ghost use Rattle.world_nodes.specs.declared.entry.Site.{Site};
 ghost use Rattle.world_nodes.specs.Boxed.{site_in};
@@ -11,7 +11,7 @@ ghost use Rattle.world_nodes.specs.Inside.{crashed, down_halves, with_disks, Ope
 use super::boxed::Held;
 use super::up::UpNode;
 use crash_disk::{MemDisk, Outcome};
-use node_journal::{JournalRefusal, Returned};
+use gate_journal::{JournalRefusal, Returned};
 use operator_core::Operator;
 use plasma_base::{Hash32, NoMemory};
 use std::alloc::Global;

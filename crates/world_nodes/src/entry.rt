@@ -26,7 +26,7 @@ pub enum Site<H: Hash32 + Copy> {
 }
 
 /// Who a node is. A wallet is this owner.
-#[derive(Debug, Clone, Copy)]
+#[derive(Clone, Copy)]
 pub enum Member {
     Wallet { who: WalletIdentity, owner: Owner },
     Watcher,

@@ -3,12 +3,12 @@ ghost use Rattle.world_nodes.specs.Inside.{counts_of, down_halves, kept_behind, 
 
 use super::down::{DownNode, no_memory};
 use crash_disk::MemDisk;
-use node_journal::Journal;
+use gate_journal::Journal;
 use plasma_base::{Bytes, NoMemory};
 use std::alloc::Global;
 
 /// How many records the disks of a node hold: of its notes, and of its leaves.
-#[derive(Debug, Clone, Copy)]
+#[derive(Clone, Copy)]
 pub struct Counts {
     pub notes: usize,
     pub leaves: usize,

@@ -2,7 +2,7 @@ use node_replies::Given;
 use plasma_base::Bytes;
 
 /// What a node is.
-#[derive(Debug, Clone, Copy, PartialEq, Eq)]
+#[derive(Clone, Copy, PartialEq, Eq)]
 pub enum NodeKind {
     Wallet,
     Watcher,

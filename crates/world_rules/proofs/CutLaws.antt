@@ -3,7 +3,7 @@ use Rattle.std.proofs.Common.{◌≡◌, ℕ, ◌&&◌, ◌||◌, not, Bool, tru
 use Rattle.std.specs.Prelude.{set, slice_get, nat_lt, nat_le, option_map, option_and_then}
 use Rattle.std.proofs.lemmas.Bool.{and_cases, or_parts, ltb-false, le-leb}
 use Rattle.line_forms.specs.declared.tokens.OutcomeToken.{OutcomeToken}
-use Rattle.node_journal.specs.JournalLaws.{is_added, opens_gate}
+use Rattle.gate_journal.specs.Laws.{is_added, opens_gate}
 use Rattle.plasma_tx.proofs.Names.{some_same}
 use Rattle.schedule_text.specs.declared.line.Line.{Line}
 use Rattle.schedule_text.specs.declared.command.Command.{Command}

@@ -3,7 +3,7 @@
 use Rattle.std.proofs.Common.{◌≡◌, ℕ, Bool, true, false, ◌&&◌, not, if◌then◌else◌, List, [], ◌∷◌, Option, Some, None, refl, sym}
 use Rattle.std.specs.Prelude.{slice_get, option_map, option_and_then}
 use Rattle.line_forms.specs.declared.tokens.OutcomeToken.{OutcomeToken}
-use Rattle.node_journal.specs.JournalLaws.{is_added}
+use Rattle.gate_journal.specs.Laws.{is_added}
 use Rattle.line_forms.proofs.FormLaws.{and_then_some, option_map_some}
 use Rattle.plasma_tx.specs.declared.owner.Owner.{Owner}
 use Rattle.plasma_tx.specs.declared.call.RootCall.{RootCall}
@@ -18,7 +18,7 @@ use Rattle.world_rules.specs.Events.{Other, Idle}
 use Rattle.world_rules.specs.World.{Role, Node, Rogue, World, with_node, any_role, number_of, rogue_named, owner_named, new_owner_of, call_of}
 use Rattle.world_rules.specs.Declarations.{plays, declared_wallet}
 use Rattle.world_rules.specs.Deeds.{Deed, deed_of}
-use Rattle.world_rules.specs.Steps.{LineEffect, says, is_opening, is_stopped, outcome_of, without_offers, with_records, after_crash, stopped, finished, declares_wallet, declares_watcher, declares_rogue, called, raw_called, deposit_by, log_in, offer_numbered, entered, answers_down, commanded, down, crashed, cut, act_at, act_on, command_effect, cut_effect, signed_by, signed_body, effect_in, effect_of, with_mail, step}
+use Rattle.world_rules.specs.Steps.{LineEffect, says, is_opening, is_stopped, outcome_of, without_offers, with_records, after_crash, stopped, finished, declares_wallet, declares_watcher, declares_rogue, called, raw_called, deposit_by, log_in, offer_numbered, entered, answers_down, commanded, down, crashed, cut, act_at, act_on, command_effect, cut_effect, signed_by, signed_body, effect_in}
 
 -- node n has the command, isn't down for it, and does this deed
 pub record IsDone (dig : List ℕ → List ℕ) (world : World) (command : Command) (n : ℕ) (node : Node) (deed : Deed)

@@ -2,7 +2,7 @@
 use Rattle.std.specs.Prelude.{ℕ, ◌-◌, ◌==◌, ◌&&◌, not, Bool, true, false, nat_lt, if◌then◌else◌, List, [], ◌∷◌, ◌++◌, length, sum_by, codes, slice_get, Option, Some, None, option_map, option_and_then}
 use Rattle.line_forms.specs.declared.tokens.OutcomeToken.{OutcomeToken}
 use Rattle.crash_disk.specs.declared.outcome.Outcome.{Outcome}
-use Rattle.node_journal.specs.JournalLaws.{is_added}
+use Rattle.gate_journal.specs.Laws.{is_added}
 use Rattle.lms_sign.specs.Tree.{signature_of}
 use Rattle.plasma_tx.specs.declared.owner.Owner.{Owner}
 use Rattle.plasma_tx.specs.declared.body.Body.{Body}

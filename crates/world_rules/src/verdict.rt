@@ -1,7 +1,7 @@
 use plasma_base::Bytes;
 
 /// What became of a coin that a wallet ever held.
-#[derive(Debug, Drop)]
+#[derive(Drop)]
 pub struct Verdict {
     /// The wallet's name.
     pub wallet: Bytes,
@@ -10,7 +10,7 @@ pub struct Verdict {
 }
 
 /// The kinds of verdict.
-#[derive(Debug, Clone, Copy, PartialEq, Eq)]
+#[derive(Clone, Copy, PartialEq, Eq)]
 pub enum VerdictKind {
     /// None of the others.
     Held,
@@ -26,7 +26,7 @@ pub enum VerdictKind {
 }
 
 /// What a trace shows that excuses a loss.
-#[derive(Debug, Drop)]
+#[derive(Drop)]
 pub enum Exhibit {
     /// Neither of the two.
     Nothing,
@@ -37,7 +37,7 @@ pub enum Exhibit {
 }
 
 /// How much there is of a run, in the order in which it is printed.
-#[derive(Debug, Clone, Copy, PartialEq, Eq)]
+#[derive(Clone, Copy, PartialEq, Eq)]
 pub struct Counts {
     pub lines: u64,
     /// The contract lines that were accepted.

@@ -7,12 +7,12 @@ use Rattle.plasma_tx.specs.Chain.{Chain, with_log}
 use Rattle.plasma_tx.specs.Shown.{tests_by, rules_of}
 use Rattle.plasma_tx.specs.Table.{answer_to, log_after, is_accepted}
 use Rattle.coin_verdicts.specs.declared.fact.Fact.{Fact}
-use Rattle.run_trace.specs.Asked.{IsTold}
+use Rattle.world_trace.specs.Asked.{IsTold}
 use Rattle.world_rules.specs.World.{World}
 use Rattle.world_rules.specs.Events.{Joins, Bounces}
 use Rattle.node_replies.specs.declared.reply.Reply.{Reply}
 use Rattle.world_rules.specs.Steps.{called, reply_to}
-use Rattle.run_trace.specs.Events.{IsEvent, event_of_call}
+use Rattle.world_trace.specs.Events.{IsEvent, event_of_call}
 use Rattle.world_scene.specs.Scenes.{SceneState, Shown, world_of, shown_of}
 use Rattle.world_scene.specs.Events.{TellsEffect}
 

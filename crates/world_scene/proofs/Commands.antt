@@ -11,7 +11,7 @@ use Rattle.crash_disk.specs.declared.outcome.Outcome.{Outcome}
 use Rattle.schedule_text.specs.declared.line.Line.{Line}
 use Rattle.schedule_text.specs.declared.command.Command.{Command}
 use Rattle.schedule_text.specs.Grammar.{node_of}
-use Rattle.world_rules.specs.World.{Role, Wallet, Watcher, Operator, Node, World, is_wallet_role, is_watcher_role, is_operator_role, does_watch, new_owner_of, with_node, wallet_of, number_of, any_role, is_named}
+use Rattle.world_rules.specs.World.{Role, Wallet, Watcher, Operator, Node, World, is_wallet_role, is_watcher_role, is_operator_role, does_watch, new_owner_of, with_node, number_of, any_role, is_named}
 use Rattle.plasma_tx.proofs.Names.{some_same}
 use Rattle.plasma_tx.specs.declared.owner.Owner.{Owner}
 use Rattle.plasma_tx.specs.declared.call.RootCall.{RootCall}
@@ -32,8 +32,8 @@ use Rattle.world_scene.specs.Orders.{OrderAt}
 use Rattle.world_rules.specs.Orders.{order_of, watch_order}
 use Rattle.world_scene.specs.Steps.{shown_by, with_nodes, AllHash, RunsAt, CrashesAt, FitsAt, OfferAt}
 use Rattle.plasma_tx.specs.Shown.{tests_by, rules_of}
-use Rattle.run_trace.specs.declared.event.LineEvent.{LineEvent}
-use Rattle.run_trace.specs.Orders.{TellsGiven}
+use Rattle.world_trace.specs.declared.event.LineEvent.{LineEvent}
+use Rattle.world_trace.specs.Orders.{TellsGiven}
 use Rattle.world_scene.specs.Events.{TellsEffect, Tells}
 
 -- what is asked of an order that may not be there
@@ -356,11 +356,6 @@ stands_there scene may name n found =
     mapped_some node_in (slice_get scene.nodes n) it.0 (sym (slice_get-map node_in scene.nodes n) ∙ it.1)
 
 module _ {H : Type 0} (scene : SceneState H) (command : Command) where
-  -- no node has the name
-  pub not_found : number_of (plays command) (world_of scene) (node_of command) ≡ None
-      → may_command (world_of scene) command ≡ false
-  not_found is = ap (λ found. is_some found && has_declared_names (world_of scene) command) is
-
   module _ (n : ℕ) (found : number_of (plays command) (world_of scene) (node_of command) ≡ Some n) where
     pub order_keeps : (order : NodeOrder) → OrderAt (world_of scene) scene.nodes n command (Some order)
         → may_command (world_of scene) command ≡ true

@@ -4,7 +4,7 @@ use Rattle.std.specs.Prelude.{option_map}
 use Rattle.std.specs.Str.{bytes_eq}
 use Rattle.std.proofs.lemmas.Slice.Eq.{bytes_eq-Decides}
 use Rattle.std.proofs.lemmas.Option.{slice_get-map}
-use Rattle.node_journal.specs.JournalLaws.{is_added}
+use Rattle.gate_journal.specs.Laws.{is_added}
 use Rattle.line_forms.specs.declared.tokens.OutcomeToken.{OutcomeToken}
 use Rattle.schedule_text.specs.declared.line.Line.{Line}
 use Rattle.schedule_text.specs.declared.command.Command.{Command}
@@ -27,9 +27,9 @@ use Rattle.world_rules.specs.Orders.{node_does}
 use Rattle.world_nodes.specs.Nodes.{NodeView, answers_down}
 use Rattle.world_nodes.specs.Cuts.{is_stopped, Ends, IsStopped, IsFinished}
 use Rattle.plasma_tx.specs.Shown.{tests_by, rules_of}
-use Rattle.run_trace.specs.declared.event.LineEvent.{LineEvent}
-use Rattle.run_trace.specs.Events.{IsEvent}
-use Rattle.run_trace.specs.Orders.{HasRecords, event_stopped}
+use Rattle.world_trace.specs.declared.event.LineEvent.{LineEvent}
+use Rattle.world_trace.specs.Events.{IsEvent}
+use Rattle.world_trace.specs.Orders.{HasRecords, event_stopped}
 use Rattle.world_scene.specs.Events.{Tells, TellsInRuns, HasWallets, EndTells}
 use Rattle.world_scene.specs.Scenes.{SceneState, Shown, node_in, world_of, shown_of, shows}
 use Rattle.world_scene.specs.Orders.{OrderAt}

@@ -8,7 +8,7 @@ use Rattle.node_rules.specs.declared.identity.WalletIdentity.{WalletIdentity}
 use Rattle.node_rules.specs.WalletRecords.{owner_of}
 use Rattle.world_rules.specs.declared.TheConstants.{MOST_WALLETS}
 use Rattle.plasma_tx.specs.Chain.{Chain}
-use Rattle.run_trace.specs.declared.event.LineEvent.{LineEvent}
+use Rattle.world_trace.specs.declared.event.LineEvent.{LineEvent}
 use Rattle.node_replies.specs.declared.reply.Reply.{Reply}
 use Rattle.world_rules.specs.World.{World, Node, Rogue, any_role, rogue_named}
 use Rattle.world_rules.specs.Declarations.{may_be_wallet, may_be_other, is_used, is_declared, is_wallet_account, is_new_name, wallet_nodes, is_declared_account, is_caller, is_wallet_key, is_wallet_seed}

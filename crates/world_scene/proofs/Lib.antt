@@ -9,4 +9,3 @@ pub mod Scans
 pub mod Strangers
 pub mod Views
 pub mod Calls
-pub mod Wallets

@@ -10,21 +10,14 @@ use Rattle.node_replies.specs.declared.order.NodeOrder.{NodeOrder}
 use Rattle.world_nodes.specs.declared.order.CutEnd.{CutEnd}
 use Rattle.world_nodes.specs.Cuts.{Cuts}
 use Rattle.world_nodes.specs.Nodes.{NodeView, Spells, Runs, Crashes}
-use Rattle.world_scene.specs.Steps.{RunsAt, CrashesAt, CutsAt, AllHash}
+use Rattle.world_scene.specs.Steps.{RunsAt, CrashesAt, CutsAt}
 
 module _ {H : Type 0} (nodes : List (NodeView H)) (n : ℕ) (view : NodeView H) where
   pub spells_at : All Spells nodes → n < length nodes → view ≡ slice_index_or nodes n view → Spells view
   spells_at all inside is = subst Spells (sym is) (all n view inside)
 
-  pub hash_at : (hash : H) → AllHash hash nodes → n < length nodes → view ≡ slice_index_or nodes n view
-      → view.hash ≡ hash
-  hash_at hash all inside is = ap (λ (v : NodeView H). v.hash) is ∙ all n view inside
-
   pub spells_set : Spells view → All Spells nodes → All Spells (slice_set nodes n view)
   spells_set one all = All-set Spells nodes n view one all
-
-  pub hash_set : (hash : H) → view.hash ≡ hash → AllHash hash nodes → AllHash hash (slice_set nodes n view)
-  hash_set hash one all = All-set (λ (v : NodeView H). v.hash ≡ hash) nodes n view one all
 
 -- an order that was run on a node that stands there
 pub runs_at : {H : Type 0} (digest : H → List ℕ → List ℕ) (log : List RootCall) (nodes : List (NodeView H)) (n : ℕ)

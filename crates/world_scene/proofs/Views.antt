@@ -11,9 +11,7 @@ use Rattle.std.specs.Str.{bytes_eq}
 use Rattle.node_rules.specs.WalletRecords.{who_is}
 use Rattle.world_rules.specs.Declarations.{wallet_nodes, is_wallet_account, is_wallet_key, is_wallet_seed, is_declared_account, is_declared}
 use Rattle.world_rules.specs.World.{owner_of_node, owner_of_rogue, owner_named, is_named, is_wallet_role, number_of}
-use Rattle.world_nodes.specs.declared.order.NodeKind.{NodeKind}
-use Rattle.world_nodes.specs.declared.order.NodeKind.TheVariants.{Wallet as WalletKind, Watcher as WatcherKind, Operator as OperatorKind}
-use Rattle.world_nodes.specs.Nodes.{role_of, NodeView}
+use Rattle.world_nodes.specs.Nodes.{NodeView}
 use Rattle.plasma_tx.specs.declared.owner.Owner.{Owner}
 use Rattle.std.proofs.lemmas.Bool.{and_parts}
 use Rattle.std.proofs.lemmas.Option.{same_Some}
@@ -21,7 +19,7 @@ use Rattle.world_rules.proofs.Existence.{position-is}
 use Rattle.world_scene.proofs.Scans.{found_at_place, found_where_placed}
 use Rattle.world_scene.specs.declared.names.Roles.{Roles}
 use Rattle.world_scene.specs.Scenes.{SceneState, world_of, node_in}
-use Rattle.world_scene.specs.Names.{passes, has_kind, is_named_view, is_named_rogue, owner_in_view, is_wallet_view, is_wallet_with, has_wallet_key, has_wallet_seed, is_view_with, is_rogue_with, is_same_account}
+use Rattle.world_scene.specs.Names.{passes, is_named_view, is_named_rogue, owner_in_view, is_wallet_view, is_wallet_with, has_wallet_key, has_wallet_seed, is_view_with, is_rogue_with, is_same_account}
 
 -- ---- among what a function gives of each
 
@@ -77,24 +75,6 @@ mapped_some f (Some x) = refl
 pub mapped_found : {X Y Z : Type 0} (f : Y → Z) (p : Y → Bool) (h : X → Y) (xs : List X)
     → option_map f (find p (map h xs)) ≡ option_map (λ x. f (h x)) (find (λ x. p (h x)) xs)
 mapped_found f p h xs = ap (option_map f) (find_map p h xs) ∙ mapped_again f h (find (λ x. p (h x)) xs)
-
--- the roles that pass are those of the kinds that do
-pub kinds_pass : (may : Roles) (kind : NodeKind) → has_kind may kind ≡ passes may (role_of kind)
-kinds_pass Roles.Any WalletKind = refl
-kinds_pass Roles.Any WatcherKind = refl
-kinds_pass Roles.Any OperatorKind = refl
-kinds_pass Roles.Wallets WalletKind = refl
-kinds_pass Roles.Wallets WatcherKind = refl
-kinds_pass Roles.Wallets OperatorKind = refl
-kinds_pass Roles.Watchers WalletKind = refl
-kinds_pass Roles.Watchers WatcherKind = refl
-kinds_pass Roles.Watchers OperatorKind = refl
-kinds_pass Roles.Operators WalletKind = refl
-kinds_pass Roles.Operators WatcherKind = refl
-kinds_pass Roles.Operators OperatorKind = refl
-kinds_pass Roles.Watching WalletKind = refl
-kinds_pass Roles.Watching WatcherKind = refl
-kinds_pass Roles.Watching OperatorKind = refl
 
 -- ---- owners
 

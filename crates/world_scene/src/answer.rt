@@ -1,6 +1,6 @@
 use node_replies::Reply;
 use plasma_base::Bytes;
-use run_trace::LineEvent;
+use world_trace::LineEvent;
 
 /// What a line is answered, the bytes that it makes, which are its mail item, and the event that it is.
 #[derive(Drop)]

@@ -1,6 +1,6 @@
 ghost use Rattle.std.specs.Prelude.{◌≡◌, ◌∷◌, [], false, IfOk, OnOk, OnErr, Some, None, option_map};
 ghost use Rattle.plasma_tx.specs.Money.{balance_of};
-ghost use Rattle.run_trace.specs.declared.event.LineEvent.{LineEvent};
+ghost use Rattle.world_trace.specs.declared.event.LineEvent.{LineEvent};
 ghost use Rattle.plasma_tx.specs.declared.call.RootCall.{RootCall};
 ghost use Rattle.world_rules.specs.Steps.{called, raw_called, deposit_by, entered, offer_numbered, says};
 ghost use Rattle.world_scene.specs.Scenes.{world_of, shown_of};
@@ -12,9 +12,9 @@ use super::scene::Scene;
 use node_replies::Reply;
 use plasma_base::{Bytes, Hash32, NoMemory};
 use plasma_tx::{Owner, RootCall};
-use run_trace::{LineEvent, event_of_call, fact_asked, fact_told};
 use std::alloc::Global;
 use world_tokens::reply_to;
+use world_trace::{LineEvent, event_of_call, fact_asked, fact_told};
 
 // A line is answered so, makes nothing, and is this event. It takes no memory.
 pub fn says(alloc: Global, reply: Reply, event: LineEvent) -> LineAnswer

@@ -1,6 +1,6 @@
 ghost use Rattle.std.specs.Prelude.{◌≡◌, ◌<◌, true, false, length, IfOk, OnOk, IsErrOf, Some};
 ghost use Rattle.std.specs.List.{All};
-ghost use Rattle.run_trace.specs.declared.event.LineEvent.{LineEvent};
+ghost use Rattle.world_trace.specs.declared.event.LineEvent.{LineEvent};
 ghost use Rattle.world_nodes.specs.Nodes.{NodeView, Spells};
 ghost use Rattle.schedule_text.specs.declared.line.Line.{Line};
 ghost use Rattle.world_rules.specs.Declarations.{may_command};
@@ -18,9 +18,9 @@ use super::scene::Scene;
 use node_replies::{Given, NodeOrder};
 use plasma_base::{Hash32, NoMemory};
 use plasma_tx::RootLog;
-use run_trace::{LineEvent, event_of_given};
 use schedule_text::Command;
 use world_nodes::Entry;
+use world_trace::{LineEvent, event_of_given};
 
 // Runs an order of the node with this number.
 fn run_at<H: Hash32 + Copy>(

@@ -21,9 +21,9 @@ use crash_disk::Outcome;
 use line_forms::OutcomeToken;
 use node_replies::Reply;
 use plasma_base::{Hash32, NoMemory};
-use run_trace::LineEvent;
 use world_nodes::Entry;
 use world_tokens::outcome_of;
+use world_trace::LineEvent;
 
 // The node with this number goes down, and its disks crash.
 fn crash_at<H: Hash32 + Copy>(

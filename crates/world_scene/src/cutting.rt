@@ -8,7 +8,7 @@ ghost use Rattle.world_rules.specs.Declarations.{may_command};
 ghost use Rattle.world_rules.specs.Steps.{outcome_of};
 ghost use Rattle.world_rules.specs.World.{World};
 ghost use Rattle.world_nodes.specs.Nodes.{NodeView, Spells};
-ghost use Rattle.run_trace.specs.declared.event.LineEvent.{LineEvent};
+ghost use Rattle.world_trace.specs.declared.event.LineEvent.{LineEvent};
 ghost use Rattle.world_scene.specs.Events.{TellsInRuns, EndTells};
 ghost use Rattle.world_scene.specs.Moves.{Cuts};
 ghost use Rattle.world_scene.specs.Orders.{NamesOwner, IsChosen};
@@ -26,11 +26,11 @@ use line_forms::OutcomeToken;
 use node_replies::{Given, NodeOrder, Reply};
 use plasma_base::{Hash32, NoMemory};
 use plasma_tx::RootLog;
-use run_trace::{LineEvent, event_of_finished, event_of_stopped};
 use schedule_text::Command;
 use std::alloc::Global;
 use world_nodes::{CutEnd, Entry};
 use world_tokens::outcome_of;
+use world_trace::{LineEvent, event_of_finished, event_of_stopped};
 
 // Runs an order of the node with this number, of which so many device calls pass, and then its disks crash.
 fn cut_at<H: Hash32 + Copy>(

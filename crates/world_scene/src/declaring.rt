@@ -1,5 +1,5 @@
 ghost use Rattle.std.specs.Prelude.{◌≡◌, ◌&&◌, true, false, length, IfOk, OnOk, IsErrOf, OnErr, Some, None};
-ghost use Rattle.run_trace.specs.declared.event.LineEvent.{LineEvent};
+ghost use Rattle.world_trace.specs.declared.event.LineEvent.{LineEvent};
 ghost use Rattle.node_rules.specs.WalletRecords.{owner_of};
 ghost use Rattle.world_scene.specs.Events.{Tells};
 ghost use Rattle.world_tokens.specs.Tokens.{AreTypes};
@@ -20,10 +20,10 @@ use lms_sign::LmsTypes;
 use node_replies::Reply;
 use node_rules::WalletIdentity;
 use plasma_base::{Bytes, Hash32, NoMemory};
-use run_trace::LineEvent;
 use world_nodes::Entry;
 use world_rules::MOST_WALLETS;
 use world_tokens::{Rogue, declared_wallet};
+use world_trace::LineEvent;
 
 impl<H: Hash32 + Copy> Scene<H> {
     // Whether a wallet may be declared, but for its key.

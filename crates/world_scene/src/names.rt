@@ -15,7 +15,7 @@ use world_nodes::{Entry, NodeKind};
 use world_tokens::{Rogue, key_of_hex, owner_of_hex};
 
 /// Which nodes a line may name.
-#[derive(Debug, Clone, Copy, PartialEq, Eq)]
+#[derive(Clone, Copy, PartialEq, Eq)]
 pub enum Roles {
     /// Any node.
     Any,

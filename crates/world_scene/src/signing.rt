@@ -13,7 +13,7 @@ use line_forms::HexOrName;
 use node_replies::Reply;
 use plasma_base::Hash32;
 use plasma_tx::Body;
-use run_trace::LineEvent;
+use world_trace::LineEvent;
 
 impl<H: Hash32 + Copy> Scene<H> {
     // A transfer that a rogue signs by this leaf of its key.

@@ -1,5 +1,5 @@
 use Rattle.std.proofs.Common.{◌≡◌, ◌≤◌, Ok, take, length}
-use Rattle.node_journal.specs.Image.{spelled}
+use Rattle.gate_journal.specs.Image.{spelled}
 use Rattle.hss_keys.specs.Entries.{entries_of}
 use Rattle.hss_keys.specs.Form.{level_records}
 use Rattle.hss_keys.specs.Levels.{leaves_left}

@@ -1,7 +1,7 @@
 use Rattle.std.proofs.Common.{◌≡◌, true, false, ◌<◌, ◌+◌, ◌∙◌, ℕ, List, suc, [], ◌∷◌, ◌++◌, length, take, get_or, refl, sym, ap, arith}
 use Rattle.std.proofs.lemmas.List.{take_all, get_or_default}
 use Rattle.std.proofs.Math.Seq.{take-suc}
-use Rattle.node_journal.specs.Image.{spelled}
+use Rattle.gate_journal.specs.Image.{spelled}
 use Rattle.leaf_journal.specs.Records.{may_follow_of, records_behind_of}
 use Rattle.leaf_journal.specs.Sound.{LeafRecordsState}
 use Rattle.leaf_journal.proofs.Form.{are_few, count_within, one_more, refused_at, spelled-count}

@@ -1,5 +1,5 @@
 use Rattle.std.proofs.Common.{◌≡◌, ◌≤◌, Ok, take, length}
-use Rattle.node_journal.specs.Image.{spelled}
+use Rattle.gate_journal.specs.Image.{spelled}
 use Rattle.leaf_journal.specs.Records.{leaf_records, leaf_records_of}
 use Rattle.leaf_journal.proofs.reading.read_records.Given as goal
 

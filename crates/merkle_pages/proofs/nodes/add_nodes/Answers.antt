@@ -1,15 +1,14 @@
 use Rattle.std.proofs.Common.{◌≡◌, ℕ, List, Result, Ok, Err, IfOk, OnOk, arith}
-use Rattle.std.specs.HashMap.{HashMap}
 use Rattle.sparse_merkle.specs.TreeDigest.{subtree_digest, IsMap}
 use Rattle.sparse_merkle.specs.declared.tree.Entry.{Entry}
 use Rattle.merkle_pages.specs.Nodes.{part_at, KeepsNodes, AddsPart}
-use Rattle.merkle_pages.specs.declared.pages.PageName.{PageName}
+use Rattle.merkle_pages.specs.Pages.{Paged}
 use Rattle.merkle_pages.proofs.NodeLaws.{IsClear-bare, KeepsNodes-made}
 use Rattle.merkle_pages.proofs.PartLaws.{part_at-whole}
 use Rattle.merkle_pages.proofs.nodes.add_nodes.Goals as goal
 
-made : {E S T : Type 0} (dig : List ℕ → List ℕ) (entries : List Entry)
-    (bare new : HashMap PageName (HashMap ℕ (List ℕ) S) T) (result : Result (List ℕ) E) → IsMap entries
+made : {E : Type 0} (dig : List ℕ → List ℕ) (entries : List Entry)
+    (bare new : Paged) (result : Result (List ℕ) E) → IsMap entries
     → IfOk result (λ root. root ≡ subtree_digest dig 64 (part_at 64 0 entries))
     → OnOk result (AddsPart dig entries 64 0 bare new) → IfOk result (λ root. KeepsNodes dig entries root new)
 made dig entries bare new (Ok root) map is adds = KeepsNodes-made dig entries root bare new map is adds

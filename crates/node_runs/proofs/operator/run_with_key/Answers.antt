@@ -3,7 +3,7 @@ use Rattle.std.specs.Prelude.{◌≡◌, ◌&&◌, false, unwrap_or}
 use contract.BorrowLft.{⊑_meet, ⊑_static}
 use Rattle.lms_sign.specs.declared.secret.Secret.{Secret}
 use Rattle.lms_sign.specs.Tree.{public_key_of}
-use Rattle.node_journal.specs.declared.refusal.JournalRefusal.TheVariants.{NoMemory}
+use Rattle.gate_journal.specs.declared.refusal.JournalRefusal.TheVariants.{NoMemory}
 use Rattle.node_journal.specs.Notes.{Opened, RefusesRole}
 use Rattle.leaf_journal.specs.Leaves.{leaves_of}
 use Rattle.leaf_journal.specs.Records.{leaf_records_in_of}

@@ -1,7 +1,7 @@
 use Rattle.std.proofs.Common.{◌≡◌, ◌≤◌, ℕ, List, length, take, get_or, sym, subst, arith}
 use Rattle.std.proofs.lemmas.List.{take_all, take_more}
 use Rattle.std.proofs.lemmas.List.Elements.{All-nil, All-push}
-use Rattle.node_journal.specs.Image.{most}
+use Rattle.gate_journal.specs.Image.{most}
 use Rattle.operator_core.specs.Inside.{FitJournal}
 use Rattle.operator_core.proofs.rebuild.long_record.Goals as goal
 

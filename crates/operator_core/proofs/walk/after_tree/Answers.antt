@@ -9,9 +9,9 @@ use Rattle.operator_core.proofs.walk.after_tree.Goals as goal
 
 pub returns-then-is_empty : goal.returns-then-is_empty
 returns-then-is_empty g c =
-    let leaf = c.leaf-leaf.result.now in
+    let leaf = c.leaf_in-leaf.result.now in
     let none : leaf ≡ [] = empty-is leaf (sym (empty-from leaf) ∙ sym c.if-is_empty.ensures) in
     let after : List ℕ → _ = λ leaf. moved_by c.args.n (place_of_tip c.args.last)
     (transfer_in c.args.tag.now c.args.coin c.args.n leaf) in
-    rw c.in-Some.is (sym (ap after (sym c.leaf-leaf.ensures ∙ none)
+    rw c.in-Some.is (sym (ap after (sym c.leaf_in-leaf.ensures ∙ none)
     ∙ ap (moved_by c.args.n (place_of_tip c.args.last)) (empty-none c.args.tag.now c.args.coin c.args.n)))

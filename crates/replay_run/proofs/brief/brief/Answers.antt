@@ -1,7 +1,7 @@
 use Rattle.std.proofs.Common.{subst, true}
 use Rattle.streamed_lines.specs.Outside.{Wrote, WroteFront, ReadsToFault}
 use Rattle.replay_run.proofs.OutsideLaws.{front-none}
-use Rattle.replay_run.proofs.RunLaws.{by-error, read-before}
+use Rattle.replay_run.proofs.RunLaws.{by-error, read-before, read-by}
 use Rattle.replay_run.proofs.BriefLaws.{brief-early, brief-part, brief-whole, told-brief}
 use Rattle.replay_run.proofs.brief.brief.Goals as goal
 
@@ -46,3 +46,9 @@ returns-clause-output g c =
 pub returns-in_err-put_text-clause-reads : goal.returns-in_err-put_text-clause-reads
 returns-in_err-put_text-clause-reads g c =
     read-before _ _ c.from_residual-in_err-put_text.ensures.0 _ c.in_ok-world.ensures.reads
+
+pub returns-clause-reads : goal.returns-clause-reads
+returns-clause-reads g c =
+    let Faults = ReadsToFault (g.S.Source.faults c.args.source.now) (g.S.Source.faults c.answer_schedule.new.source)
+    (g.S.Source.failed_last c.answer_schedule.new.source) in
+    read-by Faults _ c.in_ok-world.ensures.reads

@@ -4,4 +4,4 @@ use Rattle.trace_exhibits.proofs.lines.push_openings.Given as goal
 
 abbrev pub invariant-loop-opening : goal.invariant-loop-opening
 invariant-loop-opening l =
-    l.shown.items ≡ l.fn.shown.items ++ map (opened l.coin l.is_new) (take l.opening-index l.openings)
+    l.shown.items ≡ l.fn.shown.items ++ map (opened l.coin) (take l.opening-index l.openings)

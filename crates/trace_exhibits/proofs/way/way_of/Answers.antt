@@ -41,4 +41,6 @@ returns-in-Some g c =
       rw (c.coin-coin.ensures, leaf, path) (ap (strings_up dig one.coin) (sym told)),
       subst (λ (l : List ℕ). AreDigestsUp dig c.coin-coin.result l c.path_in-path.result c.digests_up-digests.result)
           (c.as_slice.ensures ∙ sym leaf) c.digests_up-digests.ensures,
+      c.leaf_in-leaf.ensures
+          ∙ ap leaf_in (c.as_slice-bytes.ensures ∙ ap (λ (o : RawOpening). o.bytes) c.opening-in-Ok.ensures),
     )

@@ -8,11 +8,11 @@ loop-q-preserved c = below_more _ _ c.loop-q.invariant
     ∙ sym c.signs_away.ensures ∙ c.if-signs_away.false)
 
 pub returns : goal.returns
-returns c = sym (sending_none c.args.reclaimed.now c.args.leaves.now c.args.coin c.args.tip
+returns c few = sym (sending_none c.args.reclaimed.now c.args.leaves.now c.args.coin c.args.tip
     (λ k h. c.loop-q.invariant k (omega arith)))
 
 pub returns-then-signs_away : goal.returns-then-signs_away
-returns-then-signs_away c = sym
+returns-then-signs_away c few = sym
     (sending_lowest c.args.reclaimed.now c.args.leaves.now c.args.coin c.args.tip c.loop-q.q
     (sends_at c.args.reclaimed.now c.args.leaves.now c.args.coin c.args.tip c.loop-q.q _ c.loop-q-test.true
     ∙ sym c.signs_away.ensures ∙ c.if-signs_away.true) c.loop-q.invariant)

@@ -1,7 +1,7 @@
 use Rattle.std.proofs.Common.{◌≡◌, true, ◌++◌, length, take}
 use Rattle.std.specs.Prelude.{reverse, IfSome}
 use Rattle.std.specs.List.{filter_map, list_all}
-use Rattle.node_journal.specs.Image.{spelled}
+use Rattle.gate_journal.specs.Image.{spelled}
 use Rattle.node_rules.specs.WalletRecords.{note_in}
 use Rattle.node_rules.specs.WalletOpening.{is_bound_record}
 use Rattle.wallet_node.specs.Inside.{memory_of}

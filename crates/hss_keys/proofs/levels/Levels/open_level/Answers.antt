@@ -1,6 +1,6 @@
 use Rattle.std.proofs.Common.{◌≡◌, ◌+◌, true, Some, sym, ◌∙◌, ap, subst, arith}
 use Rattle.lms_sign.specs.Types.{leaf_count}
-use Rattle.node_journal.specs.Journal.{JournalState}
+use Rattle.gate_journal.specs.Journal.{JournalState}
 use Rattle.node_journal.specs.Notes.{Did, stopped_by}
 use Rattle.hss_keys.specs.Entries.{entries_of, entry_text}
 use Rattle.hss_keys.specs.Form.{entry_may_follow}

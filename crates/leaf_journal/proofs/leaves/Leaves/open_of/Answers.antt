@@ -1,6 +1,6 @@
 use Rattle.std.proofs.Common.{◌≡◌, Ok, sym, ◌∙◌, ap, arith}
 use Rattle.crash_disk.specs.Calls.{WhereTold}
-use Rattle.node_journal.specs.Journal.{IsSettled}
+use Rattle.gate_journal.specs.Journal.{IsSettled}
 use Rattle.lms_sign.proofs.Sizes.{leaf_count-le}
 use Rattle.leaf_journal.specs.Records.{leaf_records}
 use Rattle.leaf_journal.specs.Leaves.{leaves_of}

@@ -3,5 +3,5 @@ use Rattle.merkle_pages.proofs.defaults.Defaults.new.Goals as goal
 
 pub invariant_of-result : goal.invariant_of-result
 invariant_of-result g c =
-    rw c.in_ok-levels.ensures.ok (KeepsDefaults-made (g.H.Hash32.digest_of c.args.hash) c.defaults-below.result
-    c.node_digest-root.result c.defaults-below.ensures c.node_digest-root.ensures)
+    KeepsDefaults-made (g.H.Hash32.digest_of c.args.hash) c.defaults-below.result c.node_digest-root.result
+    c.defaults-below.ensures c.node_digest-root.ensures

@@ -9,16 +9,17 @@ use Rattle.merkle_pages.proofs.tree.PagedTree.prove.Goals as goal
 
 pub returns-clause-path : goal.returns-clause-path
 returns-clause-path g c =
-    let dig = g.H.Hash32.digest_of c.self.inside.defaults in
+    let dig = g.H.Hash32.digest_of (g.D.LendsDefaults.hash_of c.self.inside.defaults) in
     let entries = c.self.inside.leaves in
     let siblings = c.siblings-siblings.result in
+    let are : AreDefaults dig c.below-defaults.result.now = rw c.defaults.ensures at c.below-defaults.ensures in
     let path = path_to-from dig c.args.coin entries (λ k. bit_xor c.args.coin (2 ^ k)) siblings
     (omega arith) c.self.invariant.map.small (λ k lt. IsSibling-xor c.args.coin k (omega arith) lt)
     c.siblings-siblings.ensures.long
     (siblings-kept dig entries c.self.inside.root c.self.inside.pages c.below-defaults.result.now siblings c.args.coin
-    (omega arith) c.self.invariant c.below-defaults.ensures c.siblings-siblings.ensures.are) in
+    (omega arith) c.self.invariant are c.siblings-siblings.ensures.are) in
     rw (← c.self.view_is) (proof_path-made c.of_path.result dig c.below-defaults.result.now siblings
-    (path_to dig c.args.coin entries) c.below-defaults.ensures c.siblings-siblings.ensures.long path c.of_path.ensures)
+    (path_to dig c.args.coin entries) are c.siblings-siblings.ensures.long path c.of_path.ensures)
 
 pub returns-clause-opens : goal.returns-clause-opens
 returns-clause-opens g c =
@@ -28,13 +29,16 @@ returns-clause-opens g c =
 
 pub returns-clause-canonical : goal.returns-clause-canonical
 returns-clause-canonical g c =
-    rw (← c.self.view_is) (is_canonical-made c.of_path.result (g.H.Hash32.digest_of c.self.inside.defaults)
-    c.below-defaults.result.now c.siblings-siblings.result c.below-defaults.ensures c.of_path.ensures)
+    let dig = g.H.Hash32.digest_of c.args.self.now.hash in
+    let are : AreDefaults dig c.below-defaults.result.now =
+    rw (← c.self.view_is) (rw c.defaults.ensures at c.below-defaults.ensures) in
+    is_canonical-made c.of_path.result dig c.below-defaults.result.now c.siblings-siblings.result are c.of_path.ensures
 
 pub returns-clause-is : goal.returns-clause-is
 returns-clause-is g c =
     let dig = g.H.Hash32.digest_of c.args.self.now.hash in
-    let are : AreDefaults dig c.below-defaults.result.now = rw (← c.self.view_is) c.below-defaults.ensures in
+    let are : AreDefaults dig c.below-defaults.result.now =
+    rw (← c.self.view_is) (rw c.defaults.ensures at c.below-defaults.ensures) in
     proof_of_path-made c.of_path.result dig c.below-defaults.result.now c.siblings-siblings.result
     (path_to dig c.args.coin c.args.self.now.entries) are c.siblings-siblings.ensures.long c.of_path.ensures
     (returns-clause-path g c)

@@ -1,5 +1,5 @@
 use Rattle.std.proofs.Common.{rules, ◌≡◌, true, false, Some, List, ℕ, [], ◌∷◌, ◌++◌, ◌≤◌, length, sym, ◌∙◌, ap, subst}
-use Rattle.node_journal.specs.Image.{most}
+use Rattle.gate_journal.specs.Image.{most}
 use Rattle.node_journal.specs.Role.{may_follow}
 use Rattle.node_journal.specs.Notes.{NotesState, NotesAndRole, Added, Did}
 use Rattle.node_journal.specs.Inside.{stop_of}

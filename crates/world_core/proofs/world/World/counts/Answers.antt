@@ -1,30 +1,14 @@
-use Rattle.std.proofs.Common.{◌∙◌, length, sym, ap}
-use Rattle.plasma_tx.specs.Chain.{Chain}
-use Rattle.world_rules.specs.declared.verdict.Counts.{Counts}
-use Rattle.world_core.specs.Worlds.{WorldState}
-use Rattle.world_core.specs.Counting.{verdict_counts, with_log}
-use Rattle.world_core.proofs.Countings.{counts_none, counts_some}
+use Rattle.std.proofs.Common.{◌≡◌, List, Some, subst}
+use Rattle.std.specs.Prelude.{IfOk}
+use Rattle.schedule_text.specs.declared.line.Line.{Line}
+use Rattle.world_rules.specs.Steps.{Run, run_of}
+use Rattle.world_rules.specs.Verdicts.{counts_of}
+use Rattle.world_core.specs.Worlds.{WorldState, IsAfter}
 use Rattle.world_core.proofs.world.World.counts.Goals as goal
 
-pub returns-in-None : goal.returns-in-None
-returns-in-None g c lines run after ran =
-    let dig = g.H.Hash32.digest_of c.args.self.now.hash in
-    let found = c.deref.ensures.value ∙ c.in_ok-verdicts.ensures lines run after ran in
-    c.verdict_counts-counts.ensures
-    ∙ ap (λ n. verdict_counts n c.self.inside.refused c.deref.result.now) c.len.ensures
-    ∙ ap (λ (s : WorldState _). verdict_counts (length s.trace.facts) s.refused c.deref.result.now) c.self.view_is
-    ∙ counts_none dig lines c.args.self.now after run ran c.deref.result.now
-    (ap (λ (s : WorldState _). s.scene) (sym c.self.view_is) ∙ c.in-None.is) found
-
 pub returns : goal.returns
-returns g c lines run after ran =
-    let dig = g.H.Hash32.digest_of c.args.self.now.hash in
-    let found = c.deref.ensures.value ∙ c.in_ok-verdicts.ensures lines run after ran in
-    let counted = c.verdict_counts-counts.ensures
-    ∙ ap (λ n. verdict_counts n c.self.inside.refused c.deref.result.now) c.len.ensures
-    ∙ ap (λ (s : WorldState _). verdict_counts (length s.trace.facts) s.refused c.deref.result.now) c.self.view_is in
-    c.with_log.ensures
-    ∙ ap (λ (l : Chain). with_log l.log c.verdict_counts-counts.result) c.log.ensures
-    ∙ ap (λ (counts : Counts). with_log c.in-Some.scene.chain.log counts) counted
-    ∙ counts_some dig lines c.args.self.now after run ran c.in-Some.scene c.deref.result.now
-    (ap (λ (s : WorldState _). s.scene) (sym c.self.view_is) ∙ c.in-Some.is) found
+returns g c =
+    let digest = g.H.Hash32.digest_of in
+    subst (λ (s : WorldState _). (lines : List Line) (run : Run) → IsAfter (digest s.hash) lines s
+    → run_of (digest s.hash) lines ≡ Some run
+    → IfOk c.counts.result (λ counts. counts ≡ counts_of (digest s.hash) run)) c.self.view_is c.counts.ensures

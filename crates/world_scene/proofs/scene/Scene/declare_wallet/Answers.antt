@@ -1,7 +1,7 @@
 use Rattle.std.proofs.Common.{◌≡◌, sym, subst, ap, ◌∙◌, true, length}
 use Rattle.std.proofs.lemmas.List.{length-map}
 use Rattle.std.proofs.lemmas.Option.{same_Some}
-use Rattle.run_trace.specs.declared.event.LineEvent.{LineEvent}
+use Rattle.world_trace.specs.declared.event.LineEvent.{LineEvent}
 use Rattle.node_rules.specs.WalletRecords.{owner_of}
 use Rattle.world_rules.specs.Declarations.{may_be_wallet, declared_wallet}
 use Rattle.world_rules.specs.Steps.{effect_in}

@@ -1,5 +1,5 @@
 use Rattle.std.proofs.Common.{◌≡◌, sym, ap, ◌∙◌, subst, reverse}
-use Rattle.run_trace.specs.Asked.{IsAsked}
+use Rattle.world_trace.specs.Asked.{IsAsked}
 use Rattle.plasma_tx.specs.Shown.{tests_by, rules_of}
 use Rattle.plasma_tx.specs.Table.{IsLegal}
 use Rattle.world_rules.specs.Steps.{called}

@@ -1,0 +1,12 @@
+use Rattle.std.proofs.Common.{◌≡◌, ◌≤◌, ℕ, [], length, slice_index_or}
+use Rattle.sparse_merkle.specs.TreeDigest.{with_leaf, subtree_digest}
+use Rattle.merkle_pages.specs.Nodes.{part_at}
+use Rattle.merkle_pages.proofs.tree.PagedTree.digests_with.Given as goal
+
+abbrev pub invariant-loop-level : goal.invariant-loop-level
+invariant-loop-level g l = record {
+  long : length l.digests ≡ 65;
+  right : (level : ℕ) → level ≤ l.level → slice_index_or l.digests level []
+      ≡ subtree_digest (g.H.Hash32.digest_of l.self.hash) level
+      (part_at level l.coin (with_leaf l.self.entries l.coin l.leaf));
+}

@@ -1,5 +1,0 @@
-use Rattle.node_journal.proofs.Lives.{made_journals_stay}
-use Rattle.node_journal.proofs.journal_laws.made_journals_stay.Goals as goal
-
-pub returns : goal.returns
-returns c = made_journals_stay

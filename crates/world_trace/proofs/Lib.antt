@@ -1,0 +1,10 @@
+-- Lemmas of this crate.
+pub mod Ending
+pub mod FactTelling
+pub mod Ticks
+pub mod CoinLists
+pub mod BodyLaws
+pub mod AnswerLaws
+pub mod StopLaws
+pub mod ReadLaws
+pub mod Telling
