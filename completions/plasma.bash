@@ -3,7 +3,7 @@ _plasma() {
     local word=${COMP_WORDS[COMP_CWORD]} words=''
     COMPREPLY=()
     case $COMP_CWORD in
-        1) words='replay brief make verify init wallet operator watcher hss audit archive --help --where' ;;
+        1) words='replay brief make verify init wallet operator watcher hss audit archive --help --version --where' ;;
         2)
             case ${COMP_WORDS[1]} in
                 init) words='wallet operator watcher' ;;

@@ -12,6 +12,7 @@ complete -c plasma -n __fish_is_first_token -a hss -d 'make a two-level signer, 
 complete -c plasma -n __fish_is_first_token -a audit -d 'convict an operator of a broken promise'
 complete -c plasma -n __fish_is_first_token -a archive -d 'keep openings, and make bundles of them'
 complete -c plasma -n __fish_is_first_token -l help -d 'show all forms'
+complete -c plasma -n __fish_is_first_token -l version -d 'say which program it is'
 complete -c plasma -n __fish_is_first_token -l where -d 'say which program would run, and why'
 
 function __plasma_at -d 'whether so many words stand in front, and begin with these'

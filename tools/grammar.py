@@ -2,15 +2,17 @@
 it.
 
 Of `## Lines and words` the table of tokens, of `## The lines of a schedule` the three tables of lines, of `## Words of
-the program` the forms and the words of each, and the numbers of `## Limits`. A token without a row of its own is a
-number.
+the program` the forms and the words of each, of `## The runs of nodes` and `## Runs over a log` their commands, what is
+refused of `## Refusals`, and the numbers of `## Limits`. A token without a row of its own is a number.
 """
+import functools
 import os
 import re
 
 TOP = os.path.dirname(os.path.dirname(os.path.realpath(__file__)))
 PAGE = f"{TOP}/docs/FORMATS.md"
 CODE = re.compile(r"`([^`]+)`")
+LINKED = re.compile(r"\[([^\]]*)\]\([^)]*\)")
 # A word with more letters is near none, and with more digits it is no number.
 MOST_LETTERS = 40
 # The tokens that are names, each of them of one kind of node.
@@ -56,6 +58,22 @@ def rows_under(text, *head):
 
 def number_of(text):
     return int(text.replace(",", ""))
+
+
+@functools.cache
+def refusals():
+    """The table of refusals of the page."""
+    with open(PAGE, encoding="utf-8") as file:
+        return read_refusals(file.read())
+
+
+def read_refusals(text):
+    """What is refused: each cause with how it is spelled, what it means, and what a person does."""
+    found = {}
+    for row in rows_under(section(text, "Refusals"), "cause", "it means", "what to do"):
+        for spelled in CODE.findall(row[0]):
+            found[spelled.split()[0]] = (spelled, row[1].replace("`", ""), LINKED.sub(r"\1", row[2]).replace("`", ""))
+    return found
 
 
 # ---- how a token is spelled
@@ -152,6 +170,8 @@ class Grammar:
             words = CODE.findall(row[0])[0].split()
             self.commands[words[0]] = (words[1:], CODE.findall(row[0])[0], row[1])
         self.read_words(text)
+        self.read_runs(text)
+        self.refusals = read_refusals(text)
         self.read_limits(section(text, "Limits"))
 
     def put_line(self, words, form):
@@ -176,6 +196,17 @@ class Grammar:
             for word in CODE.findall(row[0]):
                 for of in CODE.findall(row[1]):
                     self.words[of, word.strip("<>")] = Spelling(row[2], self)
+
+    def read_runs(self, text):
+        """The commands of each form that reads a log, by their first word: the tokens, and how it is typed."""
+        self.runs, form = {}, ""
+        for row in rows_under(section(text, "The runs of nodes"), "form", "command"):
+            form = CODE.findall(row[0])[0] if row[0] else form
+            typed = CODE.findall(row[1])[0]
+            self.runs.setdefault(form, {})[typed.split()[0]] = (typed.split()[1:], typed)
+        for row in rows_under(section(text, "Runs over a log"), "command", "answer"):
+            typed = CODE.findall(row[0])[0]
+            self.runs.setdefault("archive", {})[typed.split()[0]] = (typed.split()[1:], typed)
 
     def read_limits(self, part):
         rows = {row[0]: row[1] for row in rows_under(part, "what", "limit")}

@@ -1,55 +1,8 @@
 """Answers and times in words that a person reads: for tools/story and the gallery's pictures."""
+from grammar import refusals
 
 DAY = 86_400
 CHALLENGE_TIME, ANSWER_TIME, EXIT_TIME = 7 * DAY, 7 * DAY // 2, 21 * DAY // 2
-
-# What a refusal's cause says.
-CAUSES = {
-    "sum-too-large": "the money is more than a number holds",
-    "clock-too-large": "the clock can't show such a time",
-    "clock-back": "the clock is past that time",
-    "bad-amount": "no coin has this amount",
-    "bad-key": "the key is of no known type",
-    "too-many-blocks": "the chain has no room for a block more",
-    "not-operator": "only the operator may commit",
-    "no-funds": "not enough money on the account",
-    "no-coin": "there is no such coin",
-    "withdrawn": "the coin was paid out",
-    "bad-block": "the block is none of these",
-    "not-owner": "whoever calls isn't the owner there",
-    "exit-stands": "an exit of the coin stands",
-    "bad-opening": "the opening doesn't lead to the root",
-    "not-child": "the transfer doesn't spend that block",
-    "bad-signature": "the signature isn't the owner's",
-    "no-exit": "no such exit stands",
-    "late": "the time is over",
-    "early": "it's too early",
-    "challenge-stands": "a challenge isn't answered",
-    "no-challenge": "there is no such challenge",
-    "answered": "it was answered before",
-    "bad-bundle": "these bytes are no history",
-    "unknown-block": "there is no such block",
-    "missing-block": "the history leaves a block out",
-    "not-link": "the transfer doesn't follow on the one before",
-    "not-absent": "the coin was moved in this block",
-    "not-mine": "the coin went to another owner",
-    "note-too-long": "the record would be too long",
-    "not-held": "the wallet doesn't hold the coin",
-    "leaving": "the wallet takes the coin out already",
-    "key-spent": "the key has no leaf left",
-    "bad-last": "the last block can't come any more",
-    "old-journal": "the journal has no marker yet",
-    "already-new": "the journal has its marker",
-    "not-sending": "the wallet doesn't send this coin",
-    "no-last": "the transfer names no last block",
-    "not-yet": "the last block isn't there yet",
-    "no-guard": "the watcher has no such guard",
-    "not-transfer": "these bytes are no transfer",
-    "wrong-parent": "the transfer doesn't spend the coin's tip",
-    "too-late": "its last block has passed",
-    "pool-has-coin": "the pool has a transfer of the coin",
-    "leaf-too-long": "more bytes than a leaf may have",
-}
 
 
 def day_of(seconds):
@@ -116,7 +69,7 @@ def refusal(cause):
 
 def why(answer):
     """What a refusal's cause means, or nothing."""
-    return CAUSES.get(answer[1], "") if answer[0] == "refused" else ""
+    return refusals().get(answer[1], ("", ""))[1] if answer[0] == "refused" else ""
 
 
 def offers(number, *kinds):

@@ -78,7 +78,8 @@ class Exit:
 class Story:
     """The rows of a run, made line by line."""
 
-    def __init__(self, run):
+    def __init__(self, run, names=None):
+        self.names = names or {}
         self.run, self.lines, self.lanes, self.rows, self.exits = run, run.lines, {}, [], []
         self.clock, self.offers, self.held, self.guarded, self.down = 0, {}, {}, {}, set()
         self.coins, self.changed, self.paid, self.makers, self.told = {}, [], set(), {}, set()
@@ -123,7 +124,8 @@ class Story:
         if account not in self.by_account:
             operator = account == self.operator
             key = OPERATOR if operator else f"account {account}"
-            self.lanes[key] = Lane("Operator" if operator else f"Account {account}", "", account)
+            named = self.names.get(account)
+            self.lanes[key] = Lane(named or ("Operator" if operator else f"Account {account}"), "", account)
             self.by_account[account] = key
         elif account == self.operator and OPERATOR not in self.lanes:
             self.lanes[OPERATOR] = Lane("Operator", "")
@@ -194,7 +196,7 @@ class Story:
         found = []
         for it in self.standing():
             what = f"exit of block {it.block}{self.of_coin(it.coin)}"
-            if it.closed is None and not it.own:
+            if it.closed is None and not (it.own and self.lanes[it.by].kind == "wallet"):
                 found.append((it.start + CHALLENGE_TIME, f"cancel or challenge the {what}"))
             for one in it.open_challenges():
                 if one.until > self.clock:
