@@ -164,7 +164,10 @@ fn open_to_others<R: Files<File = File> + Abort>(rt: &R) -> Result<(), Fail> {
     assert!(rt; !opens(rt, PATH), "a file that others write is refused");
     give_mode(rt, 0o744)?;
     let mut disk = disk(rt, PATH);
-    assert!(rt; syncs(&mut disk), "a file that only its owner writes is taken");
+    assert!(rt;
+        syncs(&mut disk),
+        "a file that only its owner writes is taken"
+    );
     let mode = fs::metadata(rt, PATH)?.mode() & 0o777;
     assert!(rt; mode == 0o600, "others can't read it any more");
     give_mode(rt, 0o622)?;
