@@ -4,7 +4,7 @@ use Rattle.std.specs.Prelude.{OnOk}
 use Rattle.plasma_tx.specs.declared.call.RootCall.{RootCall}
 use Rattle.plasma_tx.specs.Chain.{Chain}
 use Rattle.root_log.specs.Grammar.{chain_in, call_in}
-use Rattle.node_lines.specs.Grammar.{is_end_of_log}
+use Rattle.root_log.specs.EndOfLog.{is_end_of_log}
 use Rattle.log_runs.specs.Following.{Following, LogRun, first_line, call_line, leaves, log_line, later_line, line_at, next_line}
 use Rattle.log_runs.specs.Kept.{AreAt}
 

@@ -3,8 +3,8 @@ ghost use Rattle.log_runs.specs.Following.{begun};
 
 use super::follower::Follower;
 use super::reading::{read_call, read_first};
-use node_lines::is_end_of_log;
 use plasma_base::Bytes;
+use root_log::is_end_of_log;
 use std::alloc::Global;
 use streamed_lines::{Answerer, Halt};
 

@@ -13,16 +13,11 @@ use Rattle.node_replies.specs.declared.reply.Reply.{Reply}
 use Rattle.node_replies.specs.Causes.{phrase}
 use Rattle.node_replies.specs.Orders.{Response, Doing, wallet_does, watcher_does, operator_does}
 use Rattle.node_replies.specs.Texts.{reply_text}
-use Rattle.node_replies.specs.declared.order.WalletOrder.{WalletOrder}
 use Rattle.node_replies.specs.declared.order.WatcherOrder.{WatcherOrder}
-use Rattle.node_replies.specs.declared.order.OperatorOrder.{OperatorOrder}
 use Rattle.node_lines.specs.declared.wallet_line.WalletLine.{WalletLine}
-use Rattle.node_lines.specs.declared.watcher_line.WatcherLine.{WatcherLine}
 use Rattle.node_lines.specs.declared.operator_line.OperatorLine.{OperatorLine}
 use Rattle.node_journal.specs.declared.stop.Stop.{Stop}
 use Rattle.node_journal.specs.declared.stop.Stop.TheVariants.{NoMemory}
-use Rattle.node_answers.specs.declared.wallet.WalletAsk.{WalletAsk}
-use Rattle.node_answers.specs.declared.operator.OperatorAsk.{OperatorAsk}
 use Rattle.node_sessions.specs.declared.said.Said.{Said}
 use Rattle.node_sessions.specs.declared.said.Said.TheVariants.{Answered, Refused}
 
@@ -76,55 +71,20 @@ tells words = record { says = Ok (words ++ 10 ∷ []); note = None; leaf = None 
 abbrev pub refuses : List ℕ → Outcome
 refuses cause = record { says = Err cause; note = None; leaf = None }
 
--- the order that a watcher's command is
-abbrev pub watcher_order : WatcherLine → WatcherOrder
-watcher_order (WatcherLine.Guard bundle) = WatcherOrder.Guard bundle
-watcher_order (WatcherLine.Release coin tip) = WatcherOrder.Release coin tip
-watcher_order WatcherLine.Watch = WatcherOrder.Watch
-
--- what a command of the operator asks for
-abbrev pub operator_ask : OperatorLine → OperatorAsk
-operator_ask (OperatorLine.Offer transfer) = OperatorAsk.Order (OperatorOrder.Offer transfer)
-operator_ask (OperatorLine.Lay coin leaf) = OperatorAsk.Order (OperatorOrder.Lay coin leaf)
-operator_ask OperatorLine.Seal = OperatorAsk.Order OperatorOrder.Seal
-operator_ask (OperatorLine.Bundle coin tip) = OperatorAsk.Order (OperatorOrder.Bundle coin tip)
-operator_ask (OperatorLine.Prove coin block) = OperatorAsk.Order (OperatorOrder.Prove coin block)
-operator_ask (OperatorLine.Absences coin after last) = OperatorAsk.Order (OperatorOrder.Absences coin after last)
-operator_ask (OperatorLine.Receipt transfer due) = OperatorAsk.Receipt transfer due
-operator_ask OperatorLine.Migrate = OperatorAsk.Migrate
-
--- what a command of a wallet asks for
-abbrev pub wallet_ask : WalletLine → WalletAsk
-wallet_ask (WalletLine.Accept bundle) = WalletAsk.Order (WalletOrder.Accept bundle)
-wallet_ask (WalletLine.Send coin to last) = WalletAsk.Order (WalletOrder.Send coin to last)
-wallet_ask (WalletLine.Again coin) = WalletAsk.Order (WalletOrder.Again coin)
-wallet_ask (WalletLine.Leave coin) = WalletAsk.Order (WalletOrder.Leave coin)
-wallet_ask (WalletLine.Reclaim bundle) = WalletAsk.Order (WalletOrder.Reclaim bundle)
-wallet_ask WalletLine.Migrate = WalletAsk.Order WalletOrder.Migrate
-wallet_ask WalletLine.Watch = WalletAsk.Order WalletOrder.Watch
-wallet_ask (WalletLine.State coin) = WalletAsk.State coin
-wallet_ask WalletLine.Who = WalletAsk.Who
-
--- what it comes to by the records of the wallet, behind this log
-abbrev pub asked : (List ℕ → List ℕ) → List RootCall → WalletRecords → WalletAsk → Outcome
-asked dig log wallet (WalletAsk.Order order) = outcome_of (wallet_does dig log wallet order)
-asked dig log wallet (WalletAsk.State coin) = tells (state_words (coin_state dig wallet log coin))
-asked dig log wallet WalletAsk.Who = tells (hex_text (owner_text (owner_of (who wallet))))
-
+-- what a wallet's command comes to by its records, behind this log
 unfoldable pub wallet_outcome : (List ℕ → List ℕ) → List RootCall → WalletRecords → WalletLine → Outcome
-wallet_outcome dig log wallet line = asked dig log wallet (wallet_ask line)
+wallet_outcome dig log wallet (WalletLine.Order order) = outcome_of (wallet_does dig log wallet order)
+wallet_outcome dig log wallet (WalletLine.State coin) = tells (state_words (coin_state dig wallet log coin))
+wallet_outcome dig log wallet WalletLine.Who = tells (hex_text (owner_text (owner_of (who wallet))))
 
--- what a watcher's command comes to
-unfoldable pub watcher_outcome : (List ℕ → List ℕ) → List RootCall → List (List ℕ) → WatcherLine → Outcome
-watcher_outcome dig log notes line = outcome_of (watcher_does dig log notes (watcher_order line))
+-- what a watcher's comes to
+unfoldable pub watcher_outcome : (List ℕ → List ℕ) → List RootCall → List (List ℕ) → WatcherOrder → Outcome
+watcher_outcome dig log notes order = outcome_of (watcher_does dig log notes order)
 
 -- what an operator's comes to that has no key: neither a receipt nor a migration is to be had there
-abbrev pub keyless : (List ℕ → List ℕ) → List RootCall → List (List ℕ) → OperatorAsk → Outcome
-keyless dig log notes (OperatorAsk.Order order) = outcome_of (operator_does dig log notes order)
-keyless dig log notes ask = refuses (codes "no-key")
-
 unfoldable pub operator_outcome : (List ℕ → List ℕ) → List RootCall → List (List ℕ) → OperatorLine → Outcome
-operator_outcome dig log notes line = keyless dig log notes (operator_ask line)
+operator_outcome dig log notes (OperatorLine.Order order) = outcome_of (operator_does dig log notes order)
+operator_outcome dig log notes line = refuses (codes "no-key")
 
 -- ---- answering
 

@@ -17,8 +17,7 @@ use Rattle.receipt_audit.specs.Desk.{desk_secret, IssueEffect, issue_effect, Iss
 use Rattle.node_replies.specs.Causes.{phrase, offer_cause, device_fault, closed, no_memory}
 use Rattle.node_replies.specs.Orders.{operator_does}
 use Rattle.node_lines.specs.declared.operator_line.OperatorLine.{OperatorLine}
-use Rattle.node_answers.specs.declared.operator.OperatorAsk.{OperatorAsk}
-use Rattle.node_answers.specs.Answers.{Outcome, outcome_of, operator_ask}
+use Rattle.node_answers.specs.Answers.{Outcome, outcome_of}
 
 -- ---- receipts, as text; 10 is the line feed
 
@@ -85,12 +84,9 @@ migration_outcome marked = record {
 }
 
 -- by the records of both, and the log; one digest is that of openings and of promises
-abbrev pub keyed : (List ℕ → List ℕ) → List RootCall → DeskRecords → OperatorAsk → Outcome
-keyed dig log desk (OperatorAsk.Order order) = outcome_of (operator_does dig log desk.notes order)
-keyed dig log desk (OperatorAsk.Receipt transfer due) =
+unfoldable pub desk_outcome : (List ℕ → List ℕ) → List RootCall → DeskRecords → OperatorLine → Outcome
+desk_outcome dig log desk (OperatorLine.Order order) = outcome_of (operator_does dig log desk.notes order)
+desk_outcome dig log desk (OperatorLine.Receipt transfer due) =
     issue_outcome (blocks log) due
     (issue_effect dig dig (secret_of desk.notes) desk.notes desk.leaves log transfer due)
-keyed dig log desk OperatorAsk.Migrate = migration_outcome (is_marked desk.leaves)
-
-unfoldable pub desk_outcome : (List ℕ → List ℕ) → List RootCall → DeskRecords → OperatorLine → Outcome
-desk_outcome dig log desk line = keyed dig log desk (operator_ask line)
+desk_outcome dig log desk OperatorLine.Migrate = migration_outcome (is_marked desk.leaves)

@@ -8,7 +8,7 @@ ghost use Rattle.node_answers.specs.Answers.{IsSaid};
 ghost use Rattle.node_answers.specs.Desks.{desk_outcome, desk_records, issue_outcome, migration_outcome, secret_of};
 ghost use Rattle.node_answers.specs.Doing.{DidDesk, DidNotes};
 
-use super::operator::{OperatorAsk, answer_order, ask_of};
+use super::operator::answer_order;
 use super::receipts::{issue_cause, stop_of, words_of};
 use super::said::{put_words, refused};
 use crash_disk::Disk;
@@ -128,11 +128,11 @@ pub fn answer_keyed<D: Disk, H: Hash32 + Copy>(
     ensures hash_stays { keyed.new.hash ≡ keyed.old.hash }
     ensures digest_stays { keyed.new.node.hash ≡ keyed.old.node.hash }
 {
-    match ask_of(line) {
-        OperatorAsk::Order { order } => { answer_order(alloc, &mut keyed.node, log, &order, text) }
-        OperatorAsk::Receipt { transfer, due } => {
+    match line {
+        OperatorLine::Order { order } => { answer_order(alloc, &mut keyed.node, log, &order, text) }
+        OperatorLine::Receipt { transfer, due } => {
             answer_receipt(alloc, keyed, log, transfer.as_slice(), due, text)
         }
-        OperatorAsk::Migrate => answer_migrate(alloc, &mut keyed.desk, text),
+        OperatorLine::Migrate => answer_migrate(alloc, &mut keyed.desk, text),
     }
 }

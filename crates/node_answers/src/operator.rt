@@ -1,6 +1,6 @@
 ghost use Rattle.std.specs.Prelude.{◌≡◌, false, IfOk, OnErr};
 ghost use Rattle.node_replies.specs.Orders.{operator_does};
-ghost use Rattle.node_answers.specs.Answers.{operator_ask, outcome_of, operator_outcome, IsSaid};
+ghost use Rattle.node_answers.specs.Answers.{outcome_of, operator_outcome, IsSaid};
 ghost use Rattle.node_answers.specs.Doing.{DidNotes};
 
 use super::said::{put_given, refused};
@@ -11,38 +11,9 @@ use node_lines::OperatorLine;
 use node_replies::OperatorOrder;
 use node_sessions::Said;
 use operator_core::Operator;
-use plasma_base::{Bytes, Hash32};
+use plasma_base::Hash32;
 use plasma_tx::RootLog;
 use std::alloc::Global;
-
-/// What a command of the operator asks for: an order, a receipt of its desk, or the marker in the desk's journal.
-#[derive(Drop)]
-pub enum OperatorAsk {
-    Order { order: OperatorOrder },
-    Receipt { transfer: Bytes, due: u64 },
-    Migrate,
-}
-
-/// What a line asks for.
-pub fn ask_of(line: OperatorLine) -> OperatorAsk
-    ensures { result ≡ operator_ask line }
-{
-    let order = match line {
-        OperatorLine::Offer { transfer } => OperatorOrder::Offer { transfer },
-        OperatorLine::Lay { coin, leaf } => OperatorOrder::Lay { coin, leaf },
-        OperatorLine::Seal => OperatorOrder::Seal,
-        OperatorLine::Bundle { coin, tip } => OperatorOrder::Bundle { coin, tip },
-        OperatorLine::Prove { coin, block } => OperatorOrder::Prove { coin, block },
-        OperatorLine::Absences { coin, after, last } => OperatorOrder::Absences {
-            coin,
-            after,
-            last,
-        },
-        OperatorLine::Receipt { transfer, due } => return OperatorAsk::Receipt { transfer, due },
-        OperatorLine::Migrate => return OperatorAsk::Migrate,
-    };
-    OperatorAsk::Order { order }
-}
 
 /// Runs an order, and puts its answer.
 pub fn answer_order<D: Disk, H: Hash32 + Copy>(
@@ -84,8 +55,8 @@ pub fn answer_operator<D: Disk, H: Hash32 + Copy>(
     ensures untold { OnErr result (text.new.items ≡ text.old.items) }
     ensures hash { node.new.hash ≡ node.old.hash }
 {
-    match ask_of(line) {
-        OperatorAsk::Order { order } => answer_order(alloc, node, log, &order, text),
-        OperatorAsk::Receipt { .. } | OperatorAsk::Migrate => Ok(refused(alloc, b"no-key")?),
+    match line {
+        OperatorLine::Order { order } => answer_order(alloc, node, log, &order, text),
+        OperatorLine::Receipt { .. } | OperatorLine::Migrate => Ok(refused(alloc, b"no-key")?),
     }
 }

@@ -4,7 +4,7 @@ ghost use Rattle.plasma_tx.specs.Spelling.{owner_text};
 ghost use Rattle.node_rules.specs.Wallet.{who};
 ghost use Rattle.node_rules.specs.WalletRecords.{owner_of};
 ghost use Rattle.node_replies.specs.Orders.{wallet_does};
-ghost use Rattle.node_answers.specs.Answers.{state_words, wallet_ask, outcome_of, wallet_outcome, IsSaid};
+ghost use Rattle.node_answers.specs.Answers.{state_words, outcome_of, wallet_outcome, IsSaid};
 ghost use Rattle.node_answers.specs.Doing.{DidWallet};
 
 use super::said::{push_phrase, put_given, put_words};
@@ -19,32 +19,6 @@ use plasma_tx::RootLog;
 use std::alloc::Global;
 use wallet_core::CoinState;
 use wallet_node::WalletNode;
-
-/// What a command of a wallet asks for: an order, what a coin is to it, or who it is.
-#[derive(Drop)]
-pub enum WalletAsk {
-    Order { order: WalletOrder },
-    State { coin: u64 },
-    Who,
-}
-
-// What a line asks for.
-fn ask_of(line: WalletLine) -> WalletAsk
-    ensures { result ≡ wallet_ask line }
-{
-    let order = match line {
-        WalletLine::Accept { bundle } => WalletOrder::Accept { bundle },
-        WalletLine::Send { coin, to, last } => WalletOrder::Send { coin, to, last },
-        WalletLine::Again { coin } => WalletOrder::Again { coin },
-        WalletLine::Leave { coin } => WalletOrder::Leave { coin },
-        WalletLine::Reclaim { bundle } => WalletOrder::Reclaim { bundle },
-        WalletLine::Migrate => WalletOrder::Migrate,
-        WalletLine::Watch => WalletOrder::Watch,
-        WalletLine::State { coin } => return WalletAsk::State { coin },
-        WalletLine::Who => return WalletAsk::Who,
-    };
-    WalletAsk::Order { order }
-}
 
 // The words of what a coin is.
 fn words_of(alloc: Global, state: CoinState) -> Result<Vec<u8>, NoMemory>
@@ -111,13 +85,13 @@ pub fn answer_wallet<D: Disk, H: Hash32 + Copy>(
         node.old.records line).note node.old result node.new }
     ensures untold { OnErr result (text.new.items ≡ text.old.items) }
 {
-    match ask_of(line) {
-        WalletAsk::Order { order } => answer_order(alloc, node, log, &order, text),
-        WalletAsk::State { coin } => {
+    match line {
+        WalletLine::Order { order } => answer_order(alloc, node, log, &order, text),
+        WalletLine::State { coin } => {
             let words = words_of(alloc, node.state(log, coin))?;
             Ok(put_words(words, text)?)
         }
-        WalletAsk::Who => {
+        WalletLine::Who => {
             let words = words_of_owner(alloc, node)?;
             Ok(put_words(words, text)?)
         }

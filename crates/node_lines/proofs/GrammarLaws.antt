@@ -4,9 +4,11 @@ use Rattle.line_forms.specs.Forms.{value_in, text_of}
 use Rattle.line_forms.specs.Laws.{IsRow, IsMade, IsTable}
 use Rattle.line_forms.proofs.FormLaws.{whole-words, words-whole}
 use Rattle.line_forms.proofs.TokenLaws.{kinds}
+use Rattle.node_replies.specs.declared.order.WalletOrder.{WalletOrder}
+use Rattle.node_replies.specs.declared.order.WatcherOrder.{WatcherOrder}
+use Rattle.node_replies.specs.declared.order.OperatorOrder.{OperatorOrder}
 use Rattle.node_lines.specs.declared.wallet_line.WalletLine.{WalletLine}
 use Rattle.node_lines.specs.declared.wallet_line.WalletLineName.{WalletLineName}
-use Rattle.node_lines.specs.declared.watcher_line.WatcherLine.{WatcherLine}
 use Rattle.node_lines.specs.declared.watcher_line.WatcherLineName.{WatcherLineName}
 use Rattle.node_lines.specs.declared.operator_line.OperatorLine.{OperatorLine}
 use Rattle.node_lines.specs.declared.operator_line.OperatorLineName.{OperatorLineName}
@@ -22,7 +24,7 @@ wallet-row WalletLineName.Accept = search wallet_kinds
 wallet-row _ = search wallet_kinds
 
 wallet-made : (line : WalletLine) → IsMade wallet_lines wallet_parts line
-wallet-made (WalletLine.Accept bundle) = refl
+wallet-made (WalletLine.Order (WalletOrder.Accept bundle)) = refl
 wallet-made _ = refl
 
 pub wallet_table : IsTable false WalletLineName WalletLine wallet_lines wallet_parts
@@ -43,19 +45,19 @@ watcher-row : (name : WatcherLineName) → IsRow false watcher_lines watcher_par
 watcher-row WatcherLineName.Guard = search kinds
 watcher-row _ = search kinds
 
-watcher-made : (line : WatcherLine) → IsMade watcher_lines watcher_parts line
-watcher-made (WatcherLine.Guard bundle) = refl
+watcher-made : (line : WatcherOrder) → IsMade watcher_lines watcher_parts line
+watcher-made (WatcherOrder.Guard bundle) = refl
 watcher-made _ = refl
 
-pub watcher_table : IsTable false WatcherLineName WatcherLine watcher_lines watcher_parts
+pub watcher_table : IsTable false WatcherLineName WatcherOrder watcher_lines watcher_parts
 watcher_table = record { names = search rules; rows = watcher-row; made_of = watcher-made }
 
-pub watcher_line_in-text : (line : WatcherLine) → IsWatcherLine line
+pub watcher_line_in-text : (line : WatcherOrder) → IsWatcherLine line
     → watcher_line_in (watcher_line_text line) ≡ Some line
 unfolding watcher_line_in watcher_line_text value_in text_of
 watcher_line_in-text = whole-words watcher_lines watcher_parts watcher_table
 
-pub watcher_line_text-in : (bytes : List ℕ) (line : WatcherLine) → watcher_line_in bytes ≡ Some line
+pub watcher_line_text-in : (bytes : List ℕ) (line : WatcherOrder) → watcher_line_in bytes ≡ Some line
     → (bytes ≡ watcher_line_text line) × IsWatcherLine line
 unfolding watcher_line_in watcher_line_text value_in text_of
 watcher_line_text-in = words-whole watcher_lines watcher_parts watcher_table
@@ -67,7 +69,7 @@ operator-row OperatorLineName.Offer = search kinds
 operator-row _ = search kinds
 
 operator-made : (line : OperatorLine) → IsMade operator_lines operator_parts line
-operator-made (OperatorLine.Offer transfer) = refl
+operator-made (OperatorLine.Order (OperatorOrder.Offer transfer)) = refl
 operator-made _ = refl
 
 pub operator_table : IsTable false OperatorLineName OperatorLine operator_lines operator_parts

@@ -1,25 +1,22 @@
 -- The lines of a node's run: the commands of a wallet, of a watcher and of the operator, the one spelling of each, and
 -- the command that bytes spell.
-use Rattle.std.specs.Prelude.{ℕ, Bool, List, map, codes, Option, option_map}
-use Rattle.std.specs.Str.{bytes_eq}
+use Rattle.std.specs.Prelude.{ℕ, List, map, codes, Option, option_map}
 use Rattle.line_forms.specs.Forms.{Kind, Form, named, Table, Parts, of, ends, ◌▸◌, AreParts, text_of, value_in}
 use Rattle.line_forms.specs.Tokens.{AreBytes, number, hex, hex_of, optional_number}
 use Rattle.line_forms.specs.declared.tokens.TheConstants.{OWNER_BYTES}
 use Rattle.plasma_tx.specs.declared.owner.Owner.{Owner}
 use Rattle.plasma_tx.specs.Spelling.{IsOwner, owner_text, owner_in}
+use Rattle.node_replies.specs.declared.order.WalletOrder.{WalletOrder}
+use Rattle.node_replies.specs.declared.order.WatcherOrder.{WatcherOrder}
+use Rattle.node_replies.specs.declared.order.OperatorOrder.{OperatorOrder}
 use Rattle.node_lines.specs.declared.wallet_line.WalletLine.{WalletLine}
 use Rattle.node_lines.specs.declared.wallet_line.WalletLineName.{WalletLineName}
 use Rattle.node_lines.specs.declared.wallet_line.TheConstants.{WALLET_LINE_NAMES}
-use Rattle.node_lines.specs.declared.watcher_line.WatcherLine.{WatcherLine}
 use Rattle.node_lines.specs.declared.watcher_line.WatcherLineName.{WatcherLineName}
 use Rattle.node_lines.specs.declared.watcher_line.TheConstants.{WATCHER_LINE_NAMES}
 use Rattle.node_lines.specs.declared.operator_line.OperatorLine.{OperatorLine}
 use Rattle.node_lines.specs.declared.operator_line.OperatorLineName.{OperatorLineName}
 use Rattle.node_lines.specs.declared.operator_line.TheConstants.{OPERATOR_LINE_NAMES}
-
--- whether a line ends the log of a run; the lines after it are commands
-abbrev pub is_end_of_log : List ℕ → Bool
-is_end_of_log line = bytes_eq line (codes "--")
 
 -- ---- owners
 
@@ -39,13 +36,19 @@ owner = record {
 
 -- each command: its first word, and the kinds of its tokens
 abbrev pub wallet_form : WalletLineName → Form WalletLine
-wallet_form WalletLineName.Accept = named (codes "accept") (hex ▸ ends) WalletLine.Accept
-wallet_form WalletLineName.Send = named (codes "send") (number ▸ owner ▸ optional_number ▸ ends) WalletLine.Send
-wallet_form WalletLineName.Again = named (codes "again") (number ▸ ends) WalletLine.Again
-wallet_form WalletLineName.Leave = named (codes "leave") (number ▸ ends) WalletLine.Leave
-wallet_form WalletLineName.Reclaim = named (codes "reclaim") (hex ▸ ends) WalletLine.Reclaim
-wallet_form WalletLineName.Migrate = named (codes "migrate") ends WalletLine.Migrate
-wallet_form WalletLineName.Watch = named (codes "watch") ends WalletLine.Watch
+wallet_form WalletLineName.Accept =
+    named (codes "accept") (hex ▸ ends) (λ bundle. WalletLine.Order (WalletOrder.Accept bundle))
+wallet_form WalletLineName.Send =
+    named (codes "send") (number ▸ owner ▸ optional_number ▸ ends)
+    (λ coin to last. WalletLine.Order (WalletOrder.Send coin to last))
+wallet_form WalletLineName.Again =
+    named (codes "again") (number ▸ ends) (λ coin. WalletLine.Order (WalletOrder.Again coin))
+wallet_form WalletLineName.Leave =
+    named (codes "leave") (number ▸ ends) (λ coin. WalletLine.Order (WalletOrder.Leave coin))
+wallet_form WalletLineName.Reclaim =
+    named (codes "reclaim") (hex ▸ ends) (λ bundle. WalletLine.Order (WalletOrder.Reclaim bundle))
+wallet_form WalletLineName.Migrate = named (codes "migrate") ends (WalletLine.Order WalletOrder.Migrate)
+wallet_form WalletLineName.Watch = named (codes "watch") ends (WalletLine.Order WalletOrder.Watch)
 wallet_form WalletLineName.State = named (codes "state") (number ▸ ends) WalletLine.State
 wallet_form WalletLineName.Who = named (codes "who") ends WalletLine.Who
 
@@ -55,13 +58,13 @@ wallet_lines = record { names = map (λ row. (row.0.now, row.1)) WALLET_LINE_NAM
 
 -- a command as a row of the table, and its tokens
 abbrev pub wallet_parts : WalletLine → Parts WalletLineName WalletLine wallet_lines
-wallet_parts (WalletLine.Accept bundle) = of wallet_lines WalletLineName.Accept bundle
-wallet_parts (WalletLine.Send coin to last) = of wallet_lines WalletLineName.Send coin to last
-wallet_parts (WalletLine.Again coin) = of wallet_lines WalletLineName.Again coin
-wallet_parts (WalletLine.Leave coin) = of wallet_lines WalletLineName.Leave coin
-wallet_parts (WalletLine.Reclaim bundle) = of wallet_lines WalletLineName.Reclaim bundle
-wallet_parts WalletLine.Migrate = of wallet_lines WalletLineName.Migrate
-wallet_parts WalletLine.Watch = of wallet_lines WalletLineName.Watch
+wallet_parts (WalletLine.Order (WalletOrder.Accept bundle)) = of wallet_lines WalletLineName.Accept bundle
+wallet_parts (WalletLine.Order (WalletOrder.Send coin to last)) = of wallet_lines WalletLineName.Send coin to last
+wallet_parts (WalletLine.Order (WalletOrder.Again coin)) = of wallet_lines WalletLineName.Again coin
+wallet_parts (WalletLine.Order (WalletOrder.Leave coin)) = of wallet_lines WalletLineName.Leave coin
+wallet_parts (WalletLine.Order (WalletOrder.Reclaim bundle)) = of wallet_lines WalletLineName.Reclaim bundle
+wallet_parts (WalletLine.Order WalletOrder.Migrate) = of wallet_lines WalletLineName.Migrate
+wallet_parts (WalletLine.Order WalletOrder.Watch) = of wallet_lines WalletLineName.Watch
 wallet_parts (WalletLine.State coin) = of wallet_lines WalletLineName.State coin
 wallet_parts WalletLine.Who = of wallet_lines WalletLineName.Who
 
@@ -80,44 +83,49 @@ wallet_line_in bytes = value_in wallet_lines bytes
 -- ---- commands of a watcher
 
 -- each command: its first word, and the kinds of its tokens
-abbrev pub watcher_form : WatcherLineName → Form WatcherLine
-watcher_form WatcherLineName.Guard = named (codes "guard") (hex ▸ ends) WatcherLine.Guard
-watcher_form WatcherLineName.Release = named (codes "release") (number ▸ number ▸ ends) WatcherLine.Release
-watcher_form WatcherLineName.Watch = named (codes "watch") ends WatcherLine.Watch
+abbrev pub watcher_form : WatcherLineName → Form WatcherOrder
+watcher_form WatcherLineName.Guard = named (codes "guard") (hex ▸ ends) WatcherOrder.Guard
+watcher_form WatcherLineName.Release = named (codes "release") (number ▸ number ▸ ends) WatcherOrder.Release
+watcher_form WatcherLineName.Watch = named (codes "watch") ends WatcherOrder.Watch
 
 -- the table of the commands
-abbrev pub watcher_lines : Table WatcherLineName WatcherLine
+abbrev pub watcher_lines : Table WatcherLineName WatcherOrder
 watcher_lines = record { names = map (λ row. (row.0.now, row.1)) WATCHER_LINE_NAMES; row = watcher_form }
 
 -- a command as a row of the table, and its tokens
-abbrev pub watcher_parts : WatcherLine → Parts WatcherLineName WatcherLine watcher_lines
-watcher_parts (WatcherLine.Guard bundle) = of watcher_lines WatcherLineName.Guard bundle
-watcher_parts (WatcherLine.Release coin tip) = of watcher_lines WatcherLineName.Release coin tip
-watcher_parts WatcherLine.Watch = of watcher_lines WatcherLineName.Watch
+abbrev pub watcher_parts : WatcherOrder → Parts WatcherLineName WatcherOrder watcher_lines
+watcher_parts (WatcherOrder.Guard bundle) = of watcher_lines WatcherLineName.Guard bundle
+watcher_parts (WatcherOrder.Release coin tip) = of watcher_lines WatcherLineName.Release coin tip
+watcher_parts WatcherOrder.Watch = of watcher_lines WatcherLineName.Watch
 
 -- which commands are in the grammar
-abbrev pub IsWatcherLine : WatcherLine → Type 0
+abbrev pub IsWatcherLine : WatcherOrder → Type 0
 IsWatcherLine line = AreParts watcher_lines (watcher_parts line)
 
 -- the one spelling of a command: its words with one blank between each two
-unfoldable pub watcher_line_text : WatcherLine → List ℕ
+unfoldable pub watcher_line_text : WatcherOrder → List ℕ
 watcher_line_text line = text_of watcher_lines (watcher_parts line)
 
 -- the command that bytes spell, if they spell one
-unfoldable pub watcher_line_in : List ℕ → Option WatcherLine
+unfoldable pub watcher_line_in : List ℕ → Option WatcherOrder
 watcher_line_in bytes = value_in watcher_lines bytes
 
 -- ---- commands of the operator
 
 -- each command: its first word, and the kinds of its tokens
 abbrev pub operator_form : OperatorLineName → Form OperatorLine
-operator_form OperatorLineName.Offer = named (codes "offer") (hex ▸ ends) OperatorLine.Offer
-operator_form OperatorLineName.Lay = named (codes "lay") (number ▸ hex ▸ ends) OperatorLine.Lay
-operator_form OperatorLineName.Seal = named (codes "seal") ends OperatorLine.Seal
-operator_form OperatorLineName.Bundle = named (codes "bundle") (number ▸ number ▸ ends) OperatorLine.Bundle
-operator_form OperatorLineName.Prove = named (codes "prove") (number ▸ number ▸ ends) OperatorLine.Prove
+operator_form OperatorLineName.Offer =
+    named (codes "offer") (hex ▸ ends) (λ transfer. OperatorLine.Order (OperatorOrder.Offer transfer))
+operator_form OperatorLineName.Lay =
+    named (codes "lay") (number ▸ hex ▸ ends) (λ coin leaf. OperatorLine.Order (OperatorOrder.Lay coin leaf))
+operator_form OperatorLineName.Seal = named (codes "seal") ends (OperatorLine.Order OperatorOrder.Seal)
+operator_form OperatorLineName.Bundle =
+    named (codes "bundle") (number ▸ number ▸ ends) (λ coin tip. OperatorLine.Order (OperatorOrder.Bundle coin tip))
+operator_form OperatorLineName.Prove =
+    named (codes "prove") (number ▸ number ▸ ends) (λ coin block. OperatorLine.Order (OperatorOrder.Prove coin block))
 operator_form OperatorLineName.Absences =
-    named (codes "absences") (number ▸ number ▸ number ▸ ends) OperatorLine.Absences
+    named (codes "absences") (number ▸ number ▸ number ▸ ends)
+    (λ coin after last. OperatorLine.Order (OperatorOrder.Absences coin after last))
 operator_form OperatorLineName.Receipt = named (codes "receipt") (hex ▸ number ▸ ends) OperatorLine.Receipt
 operator_form OperatorLineName.Migrate = named (codes "migrate") ends OperatorLine.Migrate
 
@@ -127,12 +135,15 @@ operator_lines = record { names = map (λ row. (row.0.now, row.1)) OPERATOR_LINE
 
 -- a command as a row of the table, and its tokens
 abbrev pub operator_parts : OperatorLine → Parts OperatorLineName OperatorLine operator_lines
-operator_parts (OperatorLine.Offer transfer) = of operator_lines OperatorLineName.Offer transfer
-operator_parts (OperatorLine.Lay coin leaf) = of operator_lines OperatorLineName.Lay coin leaf
-operator_parts OperatorLine.Seal = of operator_lines OperatorLineName.Seal
-operator_parts (OperatorLine.Bundle coin tip) = of operator_lines OperatorLineName.Bundle coin tip
-operator_parts (OperatorLine.Prove coin block) = of operator_lines OperatorLineName.Prove coin block
-operator_parts (OperatorLine.Absences coin after last) = of operator_lines OperatorLineName.Absences coin after last
+operator_parts (OperatorLine.Order (OperatorOrder.Offer transfer)) = of operator_lines OperatorLineName.Offer transfer
+operator_parts (OperatorLine.Order (OperatorOrder.Lay coin leaf)) = of operator_lines OperatorLineName.Lay coin leaf
+operator_parts (OperatorLine.Order OperatorOrder.Seal) = of operator_lines OperatorLineName.Seal
+operator_parts (OperatorLine.Order (OperatorOrder.Bundle coin tip)) =
+    of operator_lines OperatorLineName.Bundle coin tip
+operator_parts (OperatorLine.Order (OperatorOrder.Prove coin block)) =
+    of operator_lines OperatorLineName.Prove coin block
+operator_parts (OperatorLine.Order (OperatorOrder.Absences coin after last)) =
+    of operator_lines OperatorLineName.Absences coin after last
 operator_parts (OperatorLine.Receipt transfer due) = of operator_lines OperatorLineName.Receipt transfer due
 operator_parts OperatorLine.Migrate = of operator_lines OperatorLineName.Migrate
 

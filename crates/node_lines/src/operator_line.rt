@@ -3,25 +3,16 @@ ghost use Rattle.line_forms.specs.Forms.{takes};
 ghost use Rattle.node_lines.specs.Grammar.{operator_form, operator_line_in, IsOperatorLine};
 
 use line_forms::{LineRefusal, Words, named};
+use node_replies::OperatorOrder;
 use plasma_base::Bytes;
 use std::alloc::Global;
 
 /// A command of the operator's run.
 #[derive(Drop)]
 pub enum OperatorLine {
-    /// `offer <hex>`: takes a signed transfer into the pool.
-    Offer { transfer: Bytes },
-    /// `lay <coin> <hex>`: puts any bytes at the coin.
-    Lay { coin: u64, leaf: Bytes },
-    /// `seal`: makes a tree of the pool, and offers its commit.
-    Seal,
-    /// `bundle <coin> <tip>`: the coin's history up to this tip.
-    Bundle { coin: u64, tip: u64 },
-    /// `prove <coin> <block>`: the opening of the block at the coin.
-    Prove { coin: u64, block: u64 },
-    /// `absences <coin> <after> <last>`: the openings at the coin of the blocks after `after` up to
-    /// `last`.
-    Absences { coin: u64, after: u64, last: u64 },
+    /// An order: `offer <hex>`, `lay <coin> <hex>`, `seal`, `bundle <coin> <tip>`, `prove <coin> <block>` or
+    /// `absences <coin> <after> <last>`.
+    Order { order: OperatorOrder },
     /// `receipt <hex> <due>`: takes a signed transfer into the pool, and promises in writing that a block
     /// up to `due` holds it.
     Receipt { transfer: Bytes, due: u64 },
@@ -54,6 +45,13 @@ pub const OPERATOR_LINE_NAMES: [(&[u8], OperatorLineName); 8] = [
     (b"migrate", OperatorLineName::Migrate),
 ];
 
+// A command that is an order.
+fn of_order(order: OperatorOrder) -> OperatorLine
+    ensures { result ≡ OperatorLine.Order order }
+{
+    OperatorLine::Order { order }
+}
+
 // The command with this first word.
 fn operator_line_of(
     alloc: Global,
@@ -64,27 +62,27 @@ fn operator_line_of(
     ensures bad { result ≡ Err LineRefusal.BadLine → takes (operator_form name) words.old ≡ None }
 {
     match name {
-        OperatorLineName::Offer => Ok(OperatorLine::Offer {
+        OperatorLineName::Offer => Ok(of_order(OperatorOrder::Offer {
             transfer: words.hex(alloc)?,
-        }),
-        OperatorLineName::Lay => Ok(OperatorLine::Lay {
+        })),
+        OperatorLineName::Lay => Ok(of_order(OperatorOrder::Lay {
             coin: words.number()?,
             leaf: words.hex(alloc)?,
-        }),
-        OperatorLineName::Seal => Ok(OperatorLine::Seal),
-        OperatorLineName::Bundle => Ok(OperatorLine::Bundle {
+        })),
+        OperatorLineName::Seal => Ok(of_order(OperatorOrder::Seal)),
+        OperatorLineName::Bundle => Ok(of_order(OperatorOrder::Bundle {
             coin: words.number()?,
             tip: words.number()?,
-        }),
-        OperatorLineName::Prove => Ok(OperatorLine::Prove {
+        })),
+        OperatorLineName::Prove => Ok(of_order(OperatorOrder::Prove {
             coin: words.number()?,
             block: words.number()?,
-        }),
-        OperatorLineName::Absences => Ok(OperatorLine::Absences {
+        })),
+        OperatorLineName::Absences => Ok(of_order(OperatorOrder::Absences {
             coin: words.number()?,
             after: words.number()?,
             last: words.number()?,
-        }),
+        })),
         OperatorLineName::Receipt => Ok(OperatorLine::Receipt {
             transfer: words.hex(alloc)?,
             due: words.number()?,

@@ -4,44 +4,17 @@ ghost use Rattle.node_lines.specs.Grammar.{wallet_form, wallet_line_in, IsWallet
 
 use super::owner_word::take_owner;
 use line_forms::{LineRefusal, Words, named};
-use plasma_base::Bytes;
-use plasma_tx::Owner;
+use node_replies::WalletOrder;
 use std::alloc::Global;
 
 /// A command of a wallet's run.
 #[derive(Drop)]
 pub enum WalletLine {
-    /// `accept <hex>`: takes a coin by its history.
-    Accept {
-        bundle: Bytes,
-    },
-    /// `send <coin> <hex of 64 bytes> [<last>]`: signs a transfer of the coin to this owner. With
-    /// `last` it names the last block that may hold it.
-    Send {
-        coin: u64,
-        to: Owner,
-        last: Option<u64>,
-    },
-    /// `again <coin>`: the coin's transfer as it was signed.
-    Again {
-        coin: u64,
-    },
-    /// `leave <coin>`: offers the start of an exit.
-    Leave {
-        coin: u64,
-    },
-    /// `reclaim <hex>`: takes a sent coin back, by absences up to the transfer's last block.
-    Reclaim {
-        bundle: Bytes,
-    },
-    /// `migrate`: puts the marker into the journal of the key's leaves.
-    Migrate,
-    /// `watch`: offers the calls that are due.
-    Watch,
+    /// An order: `accept <hex>`, `send <coin> <hex of 64 bytes> [<last>]`, `again <coin>`, `leave <coin>`,
+    /// `reclaim <hex>`, `migrate` or `watch`.
+    Order { order: WalletOrder },
     /// `state <coin>`: how the coin stands with the wallet.
-    State {
-        coin: u64,
-    },
+    State { coin: u64 },
     /// `who`: the wallet's owner.
     Who,
 }
@@ -73,6 +46,13 @@ pub const WALLET_LINE_NAMES: [(&[u8], WalletLineName); 9] = [
     (b"who", WalletLineName::Who),
 ];
 
+// A command that is an order.
+fn of_order(order: WalletOrder) -> WalletLine
+    ensures { result ≡ WalletLine.Order order }
+{
+    WalletLine::Order { order }
+}
+
 // The command with this first word.
 fn wallet_line_of(
     alloc: Global,
@@ -83,25 +63,25 @@ fn wallet_line_of(
     ensures bad { result ≡ Err LineRefusal.BadLine → takes (wallet_form name) words.old ≡ None }
 {
     match name {
-        WalletLineName::Accept => Ok(WalletLine::Accept {
+        WalletLineName::Accept => Ok(of_order(WalletOrder::Accept {
             bundle: words.hex(alloc)?,
-        }),
-        WalletLineName::Send => Ok(WalletLine::Send {
+        })),
+        WalletLineName::Send => Ok(of_order(WalletOrder::Send {
             coin: words.number()?,
             to: take_owner(alloc, words)?,
             last: words.optional_number()?,
-        }),
-        WalletLineName::Again => Ok(WalletLine::Again {
+        })),
+        WalletLineName::Again => Ok(of_order(WalletOrder::Again {
             coin: words.number()?,
-        }),
-        WalletLineName::Leave => Ok(WalletLine::Leave {
+        })),
+        WalletLineName::Leave => Ok(of_order(WalletOrder::Leave {
             coin: words.number()?,
-        }),
-        WalletLineName::Reclaim => Ok(WalletLine::Reclaim {
+        })),
+        WalletLineName::Reclaim => Ok(of_order(WalletOrder::Reclaim {
             bundle: words.hex(alloc)?,
-        }),
-        WalletLineName::Migrate => Ok(WalletLine::Migrate),
-        WalletLineName::Watch => Ok(WalletLine::Watch),
+        })),
+        WalletLineName::Migrate => Ok(of_order(WalletOrder::Migrate)),
+        WalletLineName::Watch => Ok(of_order(WalletOrder::Watch)),
         WalletLineName::State => Ok(WalletLine::State {
             coin: words.number()?,
         }),

@@ -3,21 +3,10 @@ ghost use Rattle.line_forms.specs.Forms.{takes};
 ghost use Rattle.node_lines.specs.Grammar.{watcher_form, watcher_line_in, IsWatcherLine};
 
 use line_forms::{LineRefusal, Words, named};
-use plasma_base::Bytes;
+use node_replies::WatcherOrder;
 use std::alloc::Global;
 
-/// A command of a watcher's run.
-#[derive(Drop)]
-pub enum WatcherLine {
-    /// `guard <hex>`: guards a coin, by its history.
-    Guard { bundle: Bytes },
-    /// `release <coin> <tip>`: guards the coin at this tip no longer.
-    Release { coin: u64, tip: u64 },
-    /// `watch`: offers the calls that are due.
-    Watch,
-}
-
-/// The first word of a watcher's command.
+/// The first word of a watcher's command: `guard <hex>`, `release <coin> <tip>` or `watch`.
 #[derive(Clone, Copy, PartialEq, Eq)]
 pub enum WatcherLineName {
     Guard,
@@ -32,31 +21,31 @@ pub const WATCHER_LINE_NAMES: [(&[u8], WatcherLineName); 3] = [
     (b"watch", WatcherLineName::Watch),
 ];
 
-// The command with this first word.
+// The order with this first word.
 fn watcher_line_of(
     alloc: Global,
     name: WatcherLineName,
     words: &mut Words<'_>,
-) -> Result<WatcherLine, LineRefusal>
+) -> Result<WatcherOrder, LineRefusal>
     ensures found { IfOk result (λ line. takes (watcher_form name) words.old ≡ Some (line, words.new)) }
     ensures bad { result ≡ Err LineRefusal.BadLine → takes (watcher_form name) words.old ≡ None }
 {
     match name {
-        WatcherLineName::Guard => Ok(WatcherLine::Guard {
+        WatcherLineName::Guard => Ok(WatcherOrder::Guard {
             bundle: words.hex(alloc)?,
         }),
-        WatcherLineName::Release => Ok(WatcherLine::Release {
+        WatcherLineName::Release => Ok(WatcherOrder::Release {
             coin: words.number()?,
             tip: words.number()?,
         }),
-        WatcherLineName::Watch => Ok(WatcherLine::Watch),
+        WatcherLineName::Watch => Ok(WatcherOrder::Watch),
     }
 }
 
-/// The watcher's command that a line spells, without a line feed. It refuses `BadLine` exactly where
+/// The watcher's order that a line spells, without a line feed. It refuses `BadLine` exactly where
 /// it spells none.
 #[tactic(auto, unfolding(crate::specs::Grammar::watcher_line_in, line_forms::specs::Forms::value_in))]
-pub fn read_watcher_line(alloc: Global, line: &[u8]) -> Result<WatcherLine, LineRefusal>
+pub fn read_watcher_line(alloc: Global, line: &[u8]) -> Result<WatcherOrder, LineRefusal>
     ensures found { IfOk result (λ it. watcher_line_in line.now ≡ Some it) }
     ensures bad { result ≡ Err LineRefusal.BadLine → watcher_line_in line.now ≡ None }
     ensures grammar { IfOk result IsWatcherLine }

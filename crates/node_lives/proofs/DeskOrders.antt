@@ -34,9 +34,7 @@ use Rattle.receipt_audit.proofs.Issues.{promise-binds, effect-refused, effect-is
 use Rattle.node_replies.specs.declared.order.OperatorOrder.{OperatorOrder}
 use Rattle.node_replies.specs.Orders.{with_record, operator_does}
 use Rattle.node_lines.specs.declared.operator_line.OperatorLine.{OperatorLine}
-use Rattle.node_answers.specs.declared.operator.OperatorAsk.{OperatorAsk}
-use Rattle.node_answers.specs.Answers.{operator_ask}
-use Rattle.node_answers.specs.Desks.{desk_records, secret_of, keyed, desk_outcome}
+use Rattle.node_answers.specs.Desks.{desk_records, secret_of, desk_outcome}
 use Rattle.node_roles.specs.Roles.{wallet_records, records_of_desk, desk_commands}
 use Rattle.node_lives.specs.Standing.{desk_leaves, are_promised}
 use Rattle.node_lives.proofs.Seeds.{HasSeed, seed-on, seed-is}
@@ -193,21 +191,16 @@ module _ (seed : List ℕ) (dig : List ℕ → List ℕ) (digests : (bytes : Lis
   secret-same =
       ap (λ (s : Option (List ℕ)). desk_secret (unwrap_or s [])) (seed-is (Some seed) desk.notes is.has)
 
-  ask-grows : (ask : OperatorAsk)
-      → GrowsBy seed desk (keyed dig log (desk_records desk.notes desk.leaves) ask).note
-      (keyed dig log (desk_records desk.notes desk.leaves) ask).leaf
-  ask-grows (OperatorAsk.Order order) =
-      leafless (operator_does dig log desk.notes order).note (operator_does dig log desk.notes order).leaf
-      (orders_keep_the_role dig log desk.notes order is.notes) (orders_add_no_leaf dig log desk.notes order)
-  ask-grows (OperatorAsk.Receipt transfer due) =
-      issue-grows (secret_of desk.notes) secret-same transfer due
-  ask-grows OperatorAsk.Migrate = migration-grows (is_marked desk.leaves) refl
-
   outcome-grows : (command : OperatorLine)
       → GrowsBy seed desk (desk_outcome dig log (desk_records desk.notes desk.leaves) command).note
       (desk_outcome dig log (desk_records desk.notes desk.leaves) command).leaf
   unfolding desk_outcome
-  outcome-grows command = ask-grows (operator_ask command)
+  outcome-grows (OperatorLine.Order order) =
+      leafless (operator_does dig log desk.notes order).note (operator_does dig log desk.notes order).leaf
+      (orders_keep_the_role dig log desk.notes order is.notes) (orders_add_no_leaf dig log desk.notes order)
+  outcome-grows (OperatorLine.Receipt transfer due) =
+      issue-grows (secret_of desk.notes) secret-same transfer due
+  outcome-grows OperatorLine.Migrate = migration-grows (is_marked desk.leaves) refl
 
 pub desk-grows : (seed : List ℕ) (dig : List ℕ → List ℕ) → ((bytes : List ℕ) → length (dig bytes) ≡ 32)
     → Growing dig (IsDesk seed) desk_commands

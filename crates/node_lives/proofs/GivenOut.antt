@@ -14,12 +14,10 @@ use Rattle.run_endings.specs.declared.status.Status.{Status}
 use Rattle.wallet_node.specs.State.{WalletState}
 use Rattle.node_replies.specs.declared.reply.Reply.{Reply}
 use Rattle.node_replies.specs.declared.order.WalletOrder.{WalletOrder}
-use Rattle.node_replies.specs.Orders.{wallet_does as order_does}
 use Rattle.node_lines.specs.declared.wallet_line.WalletLine.{WalletLine}
 use Rattle.node_lines.specs.Grammar.{wallet_line_in}
 use Rattle.node_lines.proofs.GrammarLaws.{wallet_line_text-in}
-use Rattle.node_answers.specs.declared.wallet.WalletAsk.{WalletAsk}
-use Rattle.node_answers.specs.Answers.{Outcome, outcome_of, wallet_ask, asked, wallet_outcome}
+use Rattle.node_answers.specs.Answers.{wallet_outcome}
 use Rattle.node_roles.specs.Notes.{NotesAt, with_note}
 use Rattle.node_roles.specs.Parts.{both, with_effect}
 use Rattle.node_roles.specs.Nodes.{NodeAt, keeping, outcome_at, node_does}
@@ -91,9 +89,8 @@ module _ {D : Type 0} (told : D → Option History) (plan : D → Option FaultPl
 
     -- a line of the session on the way to others
     module _ (bytes : List ℕ) (before stream : Stream (SessionState (NodeAt NotesAt)))
-        (lines : Begins rules (begun found) bytes before) (line : WalletLine)
-        (spelled : commanded wallet_line_in before.run (next_text bytes before) ≡ Some line) (order : WalletOrder)
-        (ordered : wallet_ask line ≡ WalletAsk.Order order) (q : ℕ)
+        (lines : Begins rules (begun found) bytes before) (order : WalletOrder)
+        (spelled : commanded wallet_line_in before.run (next_text bytes before) ≡ Some (WalletLine.Order order)) (q : ℕ)
         (reply : (gives_at told plan faults dig before.run order).reply ≡ Reply.Sent q) where
       abbrev at : NodeAt NotesAt
       at = before.run.node
@@ -101,23 +98,20 @@ module _ {D : Type 0} (told : D → Option History) (plan : D → Option FaultPl
       abbrev log : List RootCall
       log = calls_of before.run.log
 
+      abbrev line : WalletLine
+      line = WalletLine.Order order
+
       -- what it gives out is of the leaf
       next-gives : Own first at → blocks log < 2 ^ 64
           → IsOfLeaf (with_added (kept_at at) (outcome_at wallet_commands log at line).note
           (outcome_at wallet_commands log at line).leaf) q (gives_at told plan faults dig before.run order).made
       unfolding wallet_outcome
       next-gives here few =
-          let doing = order_does at.dig log (kept_at at) order in
-          let is : outcome_of doing ≡ outcome_at wallet_commands log at line =
-          sym (ap (asked at.dig log (kept_at at)) ordered) in
           let good : IsGood at.dig (kept_at at) =
           subst (λ (d : List ℕ → List ℕ). IsGood d (kept_at at)) (sym here.dig_is) here.good in
           let command = spelled-in wallet_line_in before.run (next_text bytes before) line spelled in
-          let gives = order-gives at.dig log (kept_at at) good few order
-          (sane-order line (wallet_line_text-in (next_text bytes before) line command).1 order ordered) q reply in
-          subst
-          (λ (o : Outcome). IsOfLeaf (with_added (kept_at at) o.note o.leaf) q doing.response.made) is
-          gives
+          order-gives at.dig log (kept_at at) good few order
+          (sane-order order (wallet_line_text-in (next_text bytes before) line command).1) q reply
 
       behind-gives : (spelling : List ℕ) → next_text bytes before ≡ text_of spelling → GoesOn rules before spelling
           stream
@@ -161,23 +155,24 @@ module _ {D : Type 0} (told : D → Option History) (plan : D → Option FaultPl
     -- a line that the session answered
     pub session-gives : (session : Session) (before : Stream (SessionState (NodeAt NotesAt)))
         (lines : Begins rules (begun found) (lines_answered session).bytes before)
-        → before.count < (lines_answered session).stream.count → (line : WalletLine)
-        → commanded wallet_line_in before.run (next_text (lines_answered session).bytes before) ≡ Some line
-        → (order : WalletOrder) → wallet_ask line ≡ WalletAsk.Order order → (q : ℕ)
+        → before.count < (lines_answered session).stream.count → (order : WalletOrder)
+        → commanded wallet_line_in before.run (next_text (lines_answered session).bytes before)
+        ≡ Some (WalletLine.Order order)
+        → (q : ℕ)
         → (gives_at told plan faults dig before.run order).reply ≡ Reply.Sent q
         → IsOfLeaf (kept_at (lines_answered session).stream.run.node) q
         (gives_at told plan faults dig before.run order).made
-    session-gives (inl answered) before lines more line spelled order ordered q reply =
+    session-gives (inl answered) before lines more order spelled q reply =
         let on = on-to-end rules before _ more (begun found) answered.bytes lines.front lines.rest lines.whole
         lines.runs
         answered.ended refl in
-        behind-gives answered.bytes before _ lines line spelled order ordered q reply on.0 on.1 on.2
-    session-gives (inr (inl faulted)) before lines more line spelled order ordered q reply =
+        behind-gives answered.bytes before _ lines order spelled q reply on.0 on.1 on.2
+    session-gives (inr (inl faulted)) before lines more order spelled q reply =
         let on = on-to-more rules before _ more (begun found) faulted.bytes lines.front lines.rest lines.whole
         lines.runs
         faulted.begins.front faulted.begins.rest faulted.begins.whole faulted.begins.runs in
-        behind-gives faulted.bytes before _ lines line spelled order ordered q reply on.0 on.1 on.2
-    session-gives (inr (inr broken)) before lines more line spelled order ordered q reply =
+        behind-gives faulted.bytes before _ lines order spelled q reply on.0 on.1 on.2
+    session-gives (inr (inr broken)) before lines more order spelled q reply =
         let on = on-to-more rules before _ more (begun found) broken.bytes lines.front lines.rest lines.whole lines.runs
         broken.begins.front broken.begins.rest broken.begins.whole broken.begins.runs in
-        behind-gives broken.bytes before _ lines line spelled order ordered q reply on.0 on.1 on.2
+        behind-gives broken.bytes before _ lines order spelled q reply on.0 on.1 on.2

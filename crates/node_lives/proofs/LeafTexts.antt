@@ -26,8 +26,6 @@ use Rattle.node_replies.proofs.WalletEnds.{SendEnds, Refused, Sends, send_ends}
 use Rattle.node_replies.specs.declared.order.WalletOrder.{WalletOrder}
 use Rattle.node_lines.specs.declared.wallet_line.WalletLine.{WalletLine}
 use Rattle.node_lines.specs.Grammar.{IsWalletLine}
-use Rattle.node_answers.specs.declared.wallet.WalletAsk.{WalletAsk}
-use Rattle.node_answers.specs.Answers.{wallet_ask}
 use Rattle.line_forms.specs.Forms.{IsOptional}
 use Rattle.line_forms.specs.Tokens.{number}
 use Rattle.node_lives.specs.Standing.{GoOn}
@@ -70,25 +68,9 @@ sane-last : (last : Option ℕ) → IsOptional number last → IfSome last (λ n
 sane-last None is = tt
 sane-last (Some n) is = is
 
-pub sane-order : (line : WalletLine) → IsWalletLine line → (order : WalletOrder)
-    → wallet_ask line ≡ WalletAsk.Order order → IsSaneOrder order
-sane-order (WalletLine.Accept bundle) is order asks =
-    (let same : WalletOrder.Accept bundle ≡ order = cc asks in subst IsSaneOrder same tt)
-sane-order (WalletLine.Send coin to last) is order asks =
-    (let same : WalletOrder.Send coin to last ≡ order = cc asks in
-    subst IsSaneOrder same (is.0, is.1.0.0, sane-last last is.1.1.0))
-sane-order (WalletLine.Again coin) is order asks =
-    (let same : WalletOrder.Again coin ≡ order = cc asks in subst IsSaneOrder same tt)
-sane-order (WalletLine.Leave coin) is order asks =
-    (let same : WalletOrder.Leave coin ≡ order = cc asks in subst IsSaneOrder same tt)
-sane-order (WalletLine.Reclaim bundle) is order asks =
-    (let same : WalletOrder.Reclaim bundle ≡ order = cc asks in subst IsSaneOrder same tt)
-sane-order WalletLine.Migrate is order asks =
-    (let same : WalletOrder.Migrate ≡ order = cc asks in subst IsSaneOrder same tt)
-sane-order WalletLine.Watch is order asks =
-    (let same : WalletOrder.Watch ≡ order = cc asks in subst IsSaneOrder same tt)
-sane-order (WalletLine.State coin) is order asks = absurd (cc asks)
-sane-order WalletLine.Who is order asks = absurd (cc asks)
+pub sane-order : (order : WalletOrder) → IsWalletLine (WalletLine.Order order) → IsSaneOrder order
+sane-order (WalletOrder.Send coin to last) is = (is.0, is.1.0.0, sane-last last is.1.1.0)
+sane-order _ is = tt
 
 -- ---- one order
 

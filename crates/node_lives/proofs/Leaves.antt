@@ -10,8 +10,6 @@ use Rattle.node_replies.specs.declared.reply.Reply.{Reply}
 use Rattle.node_replies.specs.declared.order.WalletOrder.{WalletOrder}
 use Rattle.node_lines.specs.declared.wallet_line.WalletLine.{WalletLine}
 use Rattle.node_lines.specs.Grammar.{wallet_line_in}
-use Rattle.node_answers.specs.declared.wallet.WalletAsk.{WalletAsk}
-use Rattle.node_answers.specs.Answers.{wallet_ask}
 use Rattle.node_roles.specs.Notes.{NotesAt}
 use Rattle.node_roles.specs.Nodes.{NodeAt}
 use Rattle.node_roles.specs.Roles.{wallet_parts, wallet_commands}
@@ -46,10 +44,8 @@ module _ {D : Type 0} (told : D → Option History) (plan : D → Option FaultPl
     lines : BeginsLines (node_rules told plan faults dig wallet_commands (wallet_parts ran.opened))
         (begun (node_found told plan faults dig (wallet_parts ran.opened))) ran.lines.bytes before
     answered : before.count < ran.lines.stream.count
-    line : WalletLine
-    spelled : commanded wallet_line_in before.run (next_text ran.lines.bytes before) ≡ Some line
     order : WalletOrder
-    ordered : wallet_ask line ≡ WalletAsk.Order order
+    spelled : commanded wallet_line_in before.run (next_text ran.lines.bytes before) ≡ Some (WalletLine.Order order)
     reply : (gives_at told plan faults dig before.run order).reply ≡ Reply.Sent q
     made_is : (gives_at told plan faults dig before.run order).made ≡ made
 
@@ -59,10 +55,8 @@ module _ {D : Type 0} (told : D → Option History) (plan : D → Option FaultPl
     before = out.before;
     lines = out.lines;
     answered = out.answered;
-    line = out.line;
-    spelled = out.spelled;
     order = out.order;
-    ordered = out.ordered;
+    spelled = out.spelled;
     reply = out.reply;
     made_is = out.made_is;
   }
@@ -97,7 +91,7 @@ module _ {D : Type 0} (told : D → Option History) (plan : D → Option FaultPl
         gives =
             λ q made g. subst (IsOfLeaf (ran_of ran).left q) g.made_is
             (session-gives told plan faults dig new.notes new.leaves outside (Unit {0}) status opened first own session
-            g.before g.lines g.answered g.line g.spelled g.order g.ordered q g.reply);
+            g.before g.lines g.answered g.order g.spelled q g.reply);
       })
   run-leaves first old new outside status tells stand (inr refused) one is = absurd (cc is)
 

@@ -9,19 +9,18 @@ use Rattle.node_replies.specs.Orders.{with_record}
 use Rattle.node_deeds.specs.WatcherLaws.{HasBytes}
 use Rattle.node_deeds.proofs.WatcherOrderLaws.{orders_keep_the_role as watcher_orders_keep, orders_add_no_leaf as watcher_adds_no_leaf}
 use Rattle.node_deeds.proofs.OperatorOrderLaws.{orders_keep_the_role as operator_orders_keep, orders_add_no_leaf}
-use Rattle.node_lines.specs.declared.watcher_line.WatcherLine.{WatcherLine}
+use Rattle.node_replies.specs.declared.order.WatcherOrder.{WatcherOrder}
+use Rattle.node_lines.specs.declared.operator_line.OperatorLine.{OperatorLine}
 use Rattle.node_lines.specs.Grammar.{IsWatcherLine}
 use Rattle.node_lines.proofs.GrammarLaws.{watcher_line_text-in}
-use Rattle.node_answers.specs.declared.operator.OperatorAsk.{OperatorAsk}
-use Rattle.node_answers.specs.Answers.{Outcome, watcher_order, operator_ask, watcher_outcome, keyless, operator_outcome}
+use Rattle.node_answers.specs.Answers.{Outcome, watcher_outcome, operator_outcome}
 use Rattle.node_roles.specs.Roles.{wallet_records, watcher_commands, operator_commands}
 use Rattle.node_lives.proofs.Own.{Grows, Growing}
 
--- the bytes of a watcher's command that a line spells are bytes
-line-bytes : (line : WatcherLine) → IsWatcherLine line → HasBytes (watcher_order line)
-line-bytes (WatcherLine.Guard bundle) is = is.0
-line-bytes (WatcherLine.Release coin tip) is = tt
-line-bytes WatcherLine.Watch is = tt
+-- the bytes of a watcher's order that a line spells are bytes
+order-bytes : (order : WatcherOrder) → IsWatcherLine order → HasBytes order
+order-bytes (WatcherOrder.Guard bundle) is = is.0
+order-bytes _ is = tt
 
 -- the records of a node without leaves, whose notes are of a role
 pub record AreAlone (kinds : Kinds) (records : WalletRecords) : Type 0 where
@@ -38,22 +37,22 @@ alone-grows kinds records outcome is leafless notes = record {
 
 pub watcher-grows : (dig : List ℕ → List ℕ) → Growing dig (AreAlone (watcher_kinds dig)) watcher_commands
 unfolding watcher_outcome
-watcher-grows dig log parts line command few spells is =
-    alone-grows (watcher_kinds dig) (wallet_records parts) (watcher_outcome dig log parts.notes command) is
-    (watcher_adds_no_leaf dig log parts.notes (watcher_order command))
-    (watcher_orders_keep dig log parts.notes (watcher_order command) is.notes
-    (line-bytes command (watcher_line_text-in line command spells).1))
+watcher-grows dig log parts line order few spells is =
+    alone-grows (watcher_kinds dig) (wallet_records parts) (watcher_outcome dig log parts.notes order) is
+    (watcher_adds_no_leaf dig log parts.notes order)
+    (watcher_orders_keep dig log parts.notes order is.notes
+    (order-bytes order (watcher_line_text-in line order spells).1))
 
 -- a receipt and a migration are refused, and add nothing
-ask-grows : (dig : List ℕ → List ℕ) (log : List RootCall) (records : WalletRecords) (ask : OperatorAsk)
-    → AreAlone operator_kinds records → Grows (AreAlone operator_kinds) records (keyless dig log records.notes ask)
-ask-grows dig log records (OperatorAsk.Order order) is =
-    alone-grows operator_kinds records (keyless dig log records.notes (OperatorAsk.Order order)) is
+outcome-grows : (dig : List ℕ → List ℕ) (log : List RootCall) (records : WalletRecords) (line : OperatorLine)
+    → AreAlone operator_kinds records
+    → Grows (AreAlone operator_kinds) records (operator_outcome dig log records.notes line)
+unfolding operator_outcome
+outcome-grows dig log records (OperatorLine.Order order) is =
+    alone-grows operator_kinds records (operator_outcome dig log records.notes (OperatorLine.Order order)) is
     (orders_add_no_leaf dig log records.notes order) (operator_orders_keep dig log records.notes order is.notes)
-ask-grows dig log records (OperatorAsk.Receipt transfer due) is = record { noted = is; both = is }
-ask-grows dig log records OperatorAsk.Migrate is = record { noted = is; both = is }
+outcome-grows dig log records (OperatorLine.Receipt transfer due) is = record { noted = is; both = is }
+outcome-grows dig log records OperatorLine.Migrate is = record { noted = is; both = is }
 
 pub operator-grows : (dig : List ℕ → List ℕ) → Growing dig (AreAlone operator_kinds) operator_commands
-unfolding operator_outcome
-operator-grows dig log parts line command few spells is =
-    ask-grows dig log (wallet_records parts) (operator_ask command) is
+operator-grows dig log parts line command few spells is = outcome-grows dig log (wallet_records parts) command is

@@ -12,6 +12,7 @@ use Rattle.node_rules.specs.WalletRecords.{identity_in, who_is}
 use Rattle.wallet_node.specs.State.{WalletState}
 use Rattle.node_replies.specs.Texts.{reply_text}
 use Rattle.node_replies.specs.Orders.{wallet_does as order_does}
+use Rattle.node_replies.specs.declared.order.WalletOrder.{WalletOrder}
 use Rattle.node_lines.specs.declared.wallet_line.WalletLine.{WalletLine}
 use Rattle.node_lines.specs.Grammar.{wallet_line_in}
 use Rattle.node_answers.specs.Answers.{Outcome, given_text, wallet_outcome}
@@ -71,7 +72,11 @@ chain-read : chain_in first_line ≡ Some chain
 unfolding chain_in value_in hex_of_in hex_in digits_in number_in number_within_in
 chain-read = refl
 
-pub migrate-spelled : wallet_line_in (codes "migrate") ≡ Some WalletLine.Migrate
+-- the command of the runs
+abbrev pub migrate_order : WalletLine
+migrate_order = WalletLine.Order WalletOrder.Migrate
+
+pub migrate-spelled : wallet_line_in (codes "migrate") ≡ Some migrate_order
 unfolding wallet_line_in value_in
 migrate-spelled = refl
 
@@ -90,12 +95,12 @@ abbrev pub is_new : Outcome
 is_new = record { says = Err (codes "already-new"); note = None; leaf = None }
 
 module _ (dig : List ℕ → List ℕ) where
-  pub migrates : wallet_outcome dig [] (record { notes = identity ∷ []; leaves = [] }) WalletLine.Migrate
+  pub migrates : wallet_outcome dig [] (record { notes = identity ∷ []; leaves = [] }) migrate_order
       ≡ adds_marker
   unfolding wallet_outcome order_does migrate_effect given_text reply_text
   migrates = refl
 
-  pub migrated : wallet_outcome dig [] (record { notes = identity ∷ []; leaves = marker ∷ [] }) WalletLine.Migrate
+  pub migrated : wallet_outcome dig [] (record { notes = identity ∷ []; leaves = marker ∷ [] }) migrate_order
       ≡ is_new
   unfolding wallet_outcome order_does migrate_effect
   migrated = refl
@@ -157,7 +162,7 @@ module _ (dig : List ℕ → List ℕ) where
 
     -- the session of the input, by what the command comes to
     session-is : (outcome : Outcome)
-        → wallet_outcome dig [] (record { notes = identity ∷ []; leaves = records }) WalletLine.Migrate ≡ outcome
+        → wallet_outcome dig [] (record { notes = identity ∷ []; leaves = records }) migrate_order ≡ outcome
         → stream_of rules (begun found) input true
         ≡ goes_on log_read (stream_or log_read (leaves log_read.run (done (node_with with_note found outcome))))
         (λ next. stream_from rules true (length input) next [])

@@ -18,7 +18,6 @@ use Rattle.node_rules.specs.WalletOpening.{leaves_of}
 use Rattle.wallet_node.specs.State.{leaves_part}
 use Rattle.wallet_node.specs.Opening.{OpensWallet}
 use Rattle.node_replies.specs.Roles.{Wallet}
-use Rattle.node_lines.specs.declared.wallet_line.WalletLine.{WalletLine}
 use Rattle.node_lines.specs.Grammar.{wallet_line_in}
 use Rattle.node_answers.specs.Answers.{Outcome}
 use Rattle.node_roles.specs.Notes.{NotesAt}
@@ -44,7 +43,7 @@ use Rattle.node_lives.specs.Lives.{IsLife}
 use Rattle.node_lives.specs.Answered.{kept_at, wallet_ran, ran_as, ran_by}
 use Rattle.node_lives.specs.Samples.{Drive, told, foretold, met, identity, input, DriveCall, SmallLife}
 use Rattle.node_lives.proofs.Roles.{ok-of, role-found}
-use Rattle.node_lives.proofs.SampleLines.{migrate-spelled, log_text, migrate_line, migrates, wallet_with, found, rules, log_read, log-runs, may-next, next-is, answered-session, refused-session}
+use Rattle.node_lives.proofs.SampleLines.{migrate_order, migrate-spelled, log_text, migrate_line, migrates, wallet_with, found, rules, log_read, log-runs, may-next, next-is, answered-session, refused-session}
 use Rattle.node_lives.proofs.Drives.{after, asked, made, all-passed, telling, blank, stopped_notes, begun_notes, begun_leaves, opened, faulted_leaves, crashed_notes, crashed_leaves, marked_leaves, opened_settled, begun_notes_settled, begun_leaves_settled, crashed_notes_settled, crashed_leaves_settled, marked_leaves_settled}
 
 -- ---- the inits
@@ -183,7 +182,7 @@ module _ (dig : List ℕ → List ℕ) where
     left = (
       may-next dig begun_notes begun_leaves [],
       (
-        WalletLine.Migrate,
+        migrate_order,
         ap wallet_line_in (next-is dig begun_notes begun_leaves []) ∙ migrate-spelled,
         subst (λ (o : Outcome). NodeFailed told met o (found dig begun_notes begun_leaves []).kept
             (both (opened begun_notes) faulted_leaves)) (sym (migrates dig))

@@ -11,7 +11,7 @@ use Rattle.plasma_tx.specs.Chain.{Chain}
 use Rattle.plasma_tx.specs.Views.{blocks}
 use Rattle.root_log.specs.declared.first_line.FirstLine.{FirstLine}
 use Rattle.root_log.specs.Grammar.{chain_in, chain_of, call_in, appended}
-use Rattle.node_lines.specs.Grammar.{is_end_of_log}
+use Rattle.root_log.specs.EndOfLog.{is_end_of_log}
 use Rattle.node_sessions.specs.Sessions.{SessionState, OrStop, begun, calls_of, other_chain, first_log, longer_log, joins, done, leaves, command_line, commanded, log_line, line_of, next_line, session_rules}
 use Rattle.node_lives.proofs.Lines.{lines-keep, stream-keeps, runs-keep}
 

@@ -22,8 +22,7 @@ use Rattle.node_deeds.proofs.WalletOrderLaws.{orders_add_one_record, orders_keep
 use Rattle.node_lines.specs.declared.wallet_line.WalletLine.{WalletLine}
 use Rattle.node_lines.specs.Grammar.{IsWalletLine, wallet_line_in}
 use Rattle.node_lines.proofs.GrammarLaws.{wallet_line_text-in}
-use Rattle.node_answers.specs.declared.wallet.WalletAsk.{WalletAsk}
-use Rattle.node_answers.specs.Answers.{Outcome, outcome_of, wallet_ask, asked, wallet_outcome}
+use Rattle.node_answers.specs.Answers.{Outcome, outcome_of, wallet_outcome}
 use Rattle.node_lives.proofs.Own.{with_added, Grows}
 
 -- ---- an order's note is bytes
@@ -82,25 +81,12 @@ module _ (dig : List ℕ → List ℕ) (log : List RootCall) (wallet : WalletRec
 
 -- ---- a line's order
 
--- the order of a command that a line spells is fit
-pub fit-order : (line : WalletLine) → IsWalletLine line → (order : WalletOrder)
-    → wallet_ask line ≡ WalletAsk.Order order → IsFitOrder order
-fit-order (WalletLine.Accept bundle) is order asks =
-    (let same : WalletOrder.Accept bundle ≡ order = cc asks in subst IsFitOrder same is.0)
-fit-order (WalletLine.Send coin to last) is order asks =
-    (let same : WalletOrder.Send coin to last ≡ order = cc asks in subst IsFitOrder same is.1.0.0.key)
-fit-order (WalletLine.Again coin) is order asks =
-    (let same : WalletOrder.Again coin ≡ order = cc asks in subst IsFitOrder same tt)
-fit-order (WalletLine.Leave coin) is order asks =
-    (let same : WalletOrder.Leave coin ≡ order = cc asks in subst IsFitOrder same tt)
-fit-order (WalletLine.Reclaim bundle) is order asks =
-    (let same : WalletOrder.Reclaim bundle ≡ order = cc asks in subst IsFitOrder same is.0)
-fit-order WalletLine.Migrate is order asks =
-    (let same : WalletOrder.Migrate ≡ order = cc asks in subst IsFitOrder same tt)
-fit-order WalletLine.Watch is order asks =
-    (let same : WalletOrder.Watch ≡ order = cc asks in subst IsFitOrder same tt)
-fit-order (WalletLine.State coin) is order asks = absurd (cc asks)
-fit-order WalletLine.Who is order asks = absurd (cc asks)
+-- an order that a line spells is fit
+fit-order : (order : WalletOrder) → IsWalletLine (WalletLine.Order order) → IsFitOrder order
+fit-order (WalletOrder.Accept bundle) is = is.0
+fit-order (WalletOrder.Send coin to last) is = is.1.0.0.key
+fit-order (WalletOrder.Reclaim bundle) is = is.0
+fit-order _ is = tt
 
 -- ---- what it leaves
 
@@ -144,15 +130,13 @@ module _ (dig : List ℕ → List ℕ) (log : List RootCall) (wallet : WalletRec
             (order-bytes dig log wallet order fit);
       })
 
-  ask-grows : (ask : WalletAsk) → ((order : WalletOrder) → ask ≡ WalletAsk.Order order → IsFitOrder order)
-      → Grows (IsGood dig) wallet (asked dig log wallet ask)
-  ask-grows (WalletAsk.Order order) fit = order-grows order (fit order refl)
-  ask-grows (WalletAsk.State coin) fit = record { noted = good; both = good }
-  ask-grows WalletAsk.Who fit = record { noted = good; both = good }
+  line-grows : (line : WalletLine) → IsWalletLine line → Grows (IsGood dig) wallet (wallet_outcome dig log wallet line)
+  unfolding wallet_outcome
+  line-grows (WalletLine.Order order) is = order-grows order (fit-order order is)
+  line-grows (WalletLine.State coin) is = record { noted = good; both = good }
+  line-grows WalletLine.Who is = record { noted = good; both = good }
 
   -- the records with what a command adds that a line spells
   pub outcome-grows : (line : List ℕ) (command : WalletLine) → wallet_line_in line ≡ Some command
       → Grows (IsGood dig) wallet (wallet_outcome dig log wallet command)
-  unfolding wallet_outcome
-  outcome-grows line command spells =
-      ask-grows (wallet_ask command) (fit-order command (wallet_line_text-in line command spells).1)
+  outcome-grows line command spells = line-grows command (wallet_line_text-in line command spells).1

@@ -13,8 +13,6 @@ use Rattle.node_replies.specs.Orders.{Response, wallet_does}
 use Rattle.node_lines.specs.declared.wallet_line.WalletLine.{WalletLine}
 use Rattle.operator_rules.specs.Records.{who_is}
 use Rattle.node_lines.specs.Grammar.{wallet_line_in}
-use Rattle.node_answers.specs.declared.wallet.WalletAsk.{WalletAsk}
-use Rattle.node_answers.specs.Answers.{wallet_ask}
 use Rattle.node_roles.specs.Notes.{NotesAt}
 use Rattle.node_roles.specs.Parts.{Parts, alone, both, of_each}
 use Rattle.node_roles.specs.Nodes.{NodeAt, records_at}
@@ -144,7 +142,7 @@ module _ {D : Type 0} (told : D → Option History) (plan : D → Option FaultPl
   gives_at session order =
       (wallet_does session.node.dig (calls_of session.log) (kept_at session.node) order).response
 
-  -- A wallet's run answered `sent q` to one of its lines, with these bytes: a command spelled there, behind the lines
+  -- A wallet's run answered `sent q` to one of its lines, with these bytes: an order spelled there, behind the lines
   -- before it.
   pub record GivesOut (call : Call told plan faults dig) (q : ℕ) (made : List ℕ) : Type 0 where
     pub ran : WalletRan D
@@ -153,9 +151,8 @@ module _ {D : Type 0} (told : D → Option History) (plan : D → Option FaultPl
     pub lines : Begins (node_rules told plan faults dig wallet_commands (wallet_parts ran.opened))
         (begun (node_found told plan faults dig (wallet_parts ran.opened))) ran.lines.bytes before
     pub answered : before.count < ran.lines.stream.count
-    pub line : WalletLine
-    pub spelled : commanded wallet_line_in before.run (next_text ran.lines.bytes before) ≡ Some line
     pub order : WalletOrder
-    pub ordered : wallet_ask line ≡ WalletAsk.Order order
+    pub spelled : commanded wallet_line_in before.run (next_text ran.lines.bytes before)
+        ≡ Some (WalletLine.Order order)
     pub reply : (gives_at before.run order).reply ≡ Reply.Sent q
     pub made_is : (gives_at before.run order).made ≡ made

@@ -12,7 +12,6 @@ use Rattle.operator_rules.specs.Records.{operator_kinds, who_is}
 use Rattle.operator_rules.specs.Commands.{forest_in, offer_effect}
 use Rattle.receipt_audit.specs.declared.refusal.IssueRefusal.{IssueRefusal}
 use Rattle.receipt_audit.specs.Desk.{IssueEffect, issue_effect, issue_or, receipt_or, record_or}
-use Rattle.node_replies.specs.Orders.{operator_does}
 use Rattle.node_lines.specs.declared.operator_line.OperatorLine.{OperatorLine}
 use Rattle.node_answers.specs.Answers.{operator_outcome}
 use Rattle.node_answers.specs.Desks.{DeskRecords, desk_outcome, issue_outcome, migration_outcome, secret_of}
@@ -69,15 +68,10 @@ migration-quiet false cause is = cc
 
 pub desk-quiet : (dig : List ℕ → List ℕ) (log : List RootCall) (desk : DeskRecords) (line : OperatorLine)
     → AddsNothingRefused (desk_outcome dig log desk line)
-unfolding desk_outcome operator_outcome operator_does
+unfolding desk_outcome operator_outcome
+desk-quiet dig log desk (OperatorLine.Order order) = operator-quiet dig log desk.notes (OperatorLine.Order order)
 desk-quiet dig log desk (OperatorLine.Receipt bytes due) = issue-quiet dig log desk bytes due
 desk-quiet dig log desk OperatorLine.Migrate = migration-quiet (is_marked desk.leaves)
-desk-quiet dig log desk (OperatorLine.Offer bytes) = operator-quiet dig log desk.notes (OperatorLine.Offer bytes)
-desk-quiet dig log desk (OperatorLine.Lay coin bytes) = operator-quiet dig log desk.notes (OperatorLine.Lay coin bytes)
-desk-quiet dig log desk OperatorLine.Seal = operator-quiet dig log desk.notes OperatorLine.Seal
-desk-quiet dig log desk (OperatorLine.Bundle coin tip) = λ cause is. (refl, refl)
-desk-quiet dig log desk (OperatorLine.Prove coin block) = λ cause is. (refl, refl)
-desk-quiet dig log desk (OperatorLine.Absences coin after last) = λ cause is. (refl, refl)
 
 -- the key is that of the first record
 pub secret-stays : (records : List (List ℕ)) → are_of operator_kinds records ≡ true → (body : List ℕ)

@@ -16,6 +16,7 @@ use Rattle.operator_rules.specs.Records.{Offered, Laid, note_text, operator_kind
 use Rattle.operator_rules.specs.Commands.{forest_in, offer_causes, offer_at, offer_of, offer_effect, lay_effect, seal_effect}
 use Rattle.node_replies.specs.Causes.{offer_cause, lay_cause, seal_cause}
 use Rattle.node_replies.specs.Orders.{on_pooled, on_laid, on_sealed, operator_does}
+use Rattle.node_replies.specs.declared.order.OperatorOrder.{OperatorOrder}
 use Rattle.node_lines.specs.declared.operator_line.OperatorLine.{OperatorLine}
 use Rattle.node_answers.specs.Answers.{operator_outcome}
 use Rattle.node_roles.proofs.Refusals.{AddsNothingRefused, refused-by, unless-quiet, second-quiet}
@@ -42,26 +43,26 @@ offer-quiet dig tag log forest bytes (Ok tx) why is =
 pub operator-quiet : (dig : List ℕ → List ℕ) (log : List RootCall) (notes : List (List ℕ)) (line : OperatorLine)
     → AddsNothingRefused (operator_outcome dig log notes line)
 unfolding operator_outcome operator_does offer_effect lay_effect seal_effect
-operator-quiet dig log notes (OperatorLine.Offer bytes) cause is = (
+operator-quiet dig log notes (OperatorLine.Order (OperatorOrder.Offer bytes)) cause is = (
   refl,
   refused-by offer_cause on_pooled (offer_effect dig notes log bytes).answer
       ((offer_effect dig notes log bytes).note ≡ None) cause (λ a why wrong. cc)
       (offer-quiet dig (who_is notes).tag log (forest_in notes) bytes (signed_in (who_is notes).tag bytes)) is,
 )
-operator-quiet dig log notes (OperatorLine.Lay coin bytes) cause is = (
+operator-quiet dig log notes (OperatorLine.Order (OperatorOrder.Lay coin bytes)) cause is = (
   refl,
   refused-by lay_cause (on_laid coin) (lay_effect coin bytes).answer ((lay_effect coin bytes).note ≡ None) cause
       (λ a why wrong. cc)
       (λ why. second-quiet (nat_lt MOST_LAID (length bytes)) tt (Some (note_text (Laid coin bytes))) _ why) is,
 )
-operator-quiet dig log notes OperatorLine.Seal cause is = (
+operator-quiet dig log notes (OperatorLine.Order OperatorOrder.Seal) cause is = (
   refl,
   refused-by seal_cause on_sealed (seal_effect dig notes).answer ((seal_effect dig notes).note ≡ None) cause
       (λ a why wrong. cc) (λ why wrong. cc) is,
 )
-operator-quiet dig log notes (OperatorLine.Bundle coin tip) cause is = (refl, refl)
-operator-quiet dig log notes (OperatorLine.Prove coin block) cause is = (refl, refl)
-operator-quiet dig log notes (OperatorLine.Absences coin after last) cause is = (refl, refl)
+operator-quiet dig log notes (OperatorLine.Order (OperatorOrder.Bundle coin tip)) cause is = (refl, refl)
+operator-quiet dig log notes (OperatorLine.Order (OperatorOrder.Prove coin block)) cause is = (refl, refl)
+operator-quiet dig log notes (OperatorLine.Order (OperatorOrder.Absences coin after last)) cause is = (refl, refl)
 operator-quiet dig log notes (OperatorLine.Receipt bytes due) cause is = (refl, refl)
 operator-quiet dig log notes OperatorLine.Migrate cause is = (refl, refl)
 

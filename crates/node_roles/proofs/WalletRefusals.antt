@@ -13,10 +13,10 @@ use Rattle.node_rules.proofs.WalletRole.{leaves_are_answered}
 use Rattle.node_replies.specs.Causes.{wallet_cause}
 use Rattle.node_replies.specs.Orders.{on_accepted, on_sent, on_leaving, on_reclaimed, on_migrated, wallet_does}
 use Rattle.node_replies.proofs.WalletEnds.{AcceptEnds, accept_ends, SendEnds, send_ends, ReclaimEnds, reclaim_ends}
+use Rattle.node_replies.specs.declared.order.WalletOrder.{WalletOrder}
 use Rattle.node_lines.specs.declared.wallet_line.WalletLine.{WalletLine}
 use Rattle.node_deeds.proofs.WalletOrderLaws.{orders_add_one_record}
-use Rattle.node_answers.specs.declared.wallet.WalletAsk.{WalletAsk}
-use Rattle.node_answers.specs.Answers.{wallet_ask, asked, wallet_outcome}
+use Rattle.node_answers.specs.Answers.{wallet_outcome}
 use Rattle.node_roles.proofs.Refusals.{AddsNothingRefused, refused-by}
 
 -- an effect that is refused adds nothing
@@ -80,41 +80,37 @@ migrate-quiet wallet why is = by (is_marked wallet.leaves) refl
 pub wallet-quiet : (dig : List ℕ → List ℕ) (log : List RootCall) (wallet : WalletRecords) (line : WalletLine)
     → AddsNothingRefused (wallet_outcome dig log wallet line)
 unfolding wallet_outcome wallet_does
-wallet-quiet dig log wallet (WalletLine.Accept bundle) cause is =
+wallet-quiet dig log wallet (WalletLine.Order (WalletOrder.Accept bundle)) cause is =
     refused-by wallet_cause on_accepted (accept_effect dig wallet log bundle).answer _ cause
     (λ a why wrong. cc)
     (accept-by dig wallet log bundle (accept_effect dig wallet log bundle) (accept_ends dig wallet log bundle)) is
-wallet-quiet dig log wallet (WalletLine.Send coin to last) cause is =
+wallet-quiet dig log wallet (WalletLine.Order (WalletOrder.Send coin to last)) cause is =
     refused-by wallet_cause on_sent (send_effect dig wallet log coin to last).answer _ cause
     (λ a why wrong. cc)
     (send-by dig wallet log coin to last (send_effect dig wallet log coin to last)
     (send_ends dig wallet log coin to last)) is
-wallet-quiet dig log wallet (WalletLine.Again coin) cause is = (refl, refl)
-wallet-quiet dig log wallet (WalletLine.Leave coin) cause is =
+wallet-quiet dig log wallet (WalletLine.Order (WalletOrder.Again coin)) cause is = (refl, refl)
+wallet-quiet dig log wallet (WalletLine.Order (WalletOrder.Leave coin)) cause is =
     refused-by wallet_cause on_leaving (leave_effect dig wallet log coin).answer _ cause (λ a why wrong. cc)
     (leave-quiet dig wallet log coin) is
-wallet-quiet dig log wallet (WalletLine.Reclaim bundle) cause is =
+wallet-quiet dig log wallet (WalletLine.Order (WalletOrder.Reclaim bundle)) cause is =
     refused-by wallet_cause on_reclaimed (reclaim_effect dig wallet log bundle).answer _ cause
     (λ a why wrong. cc)
     (reclaim-by (reclaim_effect dig wallet log bundle) (reclaim_ends dig wallet log bundle)) is
-wallet-quiet dig log wallet WalletLine.Migrate cause is =
+wallet-quiet dig log wallet (WalletLine.Order WalletOrder.Migrate) cause is =
     refused-by wallet_cause on_migrated (migrate_effect wallet).answer _ cause (λ a why wrong. cc)
     (migrate-quiet wallet) is
-wallet-quiet dig log wallet WalletLine.Watch cause is = (refl, refl)
+wallet-quiet dig log wallet (WalletLine.Order WalletOrder.Watch) cause is = (refl, refl)
 wallet-quiet dig log wallet (WalletLine.State coin) cause is = (refl, refl)
 wallet-quiet dig log wallet WalletLine.Who cause is = (refl, refl)
 
 -- a command adds a note or a leaf's record at most
-asks-add-one : (dig : List ℕ → List ℕ) (log : List RootCall) (wallet : WalletRecords) (ask : WalletAsk)
-    → ((asked dig log wallet ask).note ≡ None) ⊎ ((asked dig log wallet ask).leaf ≡ None)
-asks-add-one dig log wallet (WalletAsk.Order order) = orders_add_one_record dig log wallet order
-asks-add-one dig log wallet (WalletAsk.State coin) = inl refl
-asks-add-one dig log wallet WalletAsk.Who = inl refl
-
 pub wallet-adds-one : (dig : List ℕ → List ℕ) (log : List RootCall) (wallet : WalletRecords) (line : WalletLine)
     → ((wallet_outcome dig log wallet line).note ≡ None) ⊎ ((wallet_outcome dig log wallet line).leaf ≡ None)
 unfolding wallet_outcome
-wallet-adds-one dig log wallet line = asks-add-one dig log wallet (wallet_ask line)
+wallet-adds-one dig log wallet (WalletLine.Order order) = orders_add_one_record dig log wallet order
+wallet-adds-one dig log wallet (WalletLine.State coin) = inl refl
+wallet-adds-one dig log wallet WalletLine.Who = inl refl
 
 -- the tag is that of the first note
 pub wallet-tag : (dig : List ℕ → List ℕ) (notes : List (List ℕ)) → are_of (wallet_kinds dig) notes ≡ true

@@ -12,7 +12,7 @@ use Rattle.node_rules.specs.Kept.{links_handed}
 use Rattle.node_rules.specs.Watcher.{guard_causes, guard_taken, guard_by, guard_effect, release_effect, guards_in, is_of, who_is, note_text, Released, watcher_kinds}
 use Rattle.node_replies.specs.Causes.{watcher_cause}
 use Rattle.node_replies.specs.Orders.{on_guarded, on_released, watcher_does}
-use Rattle.node_lines.specs.declared.watcher_line.WatcherLine.{WatcherLine}
+use Rattle.node_replies.specs.declared.order.WatcherOrder.{WatcherOrder}
 use Rattle.node_answers.specs.Answers.{watcher_outcome}
 use Rattle.node_roles.proofs.Refusals.{AddsNothingRefused, refused-by, unless-quiet, first-quiet}
 
@@ -22,16 +22,16 @@ guard-quiet log guards (Err history) why is = refl
 guard-quiet log guards (Ok links) why is =
     unless-quiet (first_cause (guard_causes log links)) (guard_taken guards links) _ why refl is
 
-pub watcher-quiet : (dig : List ℕ → List ℕ) (log : List RootCall) (notes : List (List ℕ)) (line : WatcherLine)
-    → AddsNothingRefused (watcher_outcome dig log notes line)
+pub watcher-quiet : (dig : List ℕ → List ℕ) (log : List RootCall) (notes : List (List ℕ)) (order : WatcherOrder)
+    → AddsNothingRefused (watcher_outcome dig log notes order)
 unfolding watcher_outcome watcher_does guard_effect release_effect
-watcher-quiet dig log notes (WatcherLine.Guard bundle) cause is = (
+watcher-quiet dig log notes (WatcherOrder.Guard bundle) cause is = (
   refl,
   refused-by watcher_cause on_guarded (guard_effect dig notes log bundle).answer
       ((guard_effect dig notes log bundle).note ≡ None) cause (λ a why wrong. cc)
       (guard-quiet log (guards_in dig notes) (links_handed dig (who_is notes).tag log bundle)) is,
 )
-watcher-quiet dig log notes (WatcherLine.Release coin tip) cause is = (
+watcher-quiet dig log notes (WatcherOrder.Release coin tip) cause is = (
   refl,
   refused-by watcher_cause on_released (release_effect dig notes coin tip).answer
       ((release_effect dig notes coin tip).note ≡ None) cause (λ a why wrong. cc)
@@ -39,7 +39,7 @@ watcher-quiet dig log notes (WatcherLine.Release coin tip) cause is = (
       first-quiet (list_any (is_of coin tip) (guards_in dig notes)) tt (Some (note_text (Released coin tip))) _ why)
       is,
 )
-watcher-quiet dig log notes WatcherLine.Watch cause is = (refl, refl)
+watcher-quiet dig log notes WatcherOrder.Watch cause is = (refl, refl)
 
 -- the tag is that of the first record
 pub watcher-tag : (dig : List ℕ → List ℕ) (records : List (List ℕ)) → are_of (watcher_kinds dig) records ≡ true

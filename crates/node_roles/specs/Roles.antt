@@ -6,7 +6,7 @@ use Rattle.node_rules.specs.Watcher.{who_is as watcher_is}
 use Rattle.node_rules.specs.Wallet.{WalletRecords}
 use Rattle.node_rules.specs.WalletRecords.{who_is as wallet_is}
 use Rattle.wallet_node.specs.State.{WalletState, notes_part, leaves_part}
-use Rattle.node_lines.specs.declared.watcher_line.WatcherLine.{WatcherLine}
+use Rattle.node_replies.specs.declared.order.WatcherOrder.{WatcherOrder}
 use Rattle.node_lines.specs.declared.operator_line.OperatorLine.{OperatorLine}
 use Rattle.node_lines.specs.declared.wallet_line.WalletLine.{WalletLine}
 use Rattle.node_lines.specs.Grammar.{watcher_line_in, operator_line_in, wallet_line_in}
@@ -26,11 +26,11 @@ abbrev pub records_of_desk : Parts (List (List ℕ)) → DeskRecords
 records_of_desk parts = desk_records parts.notes (unwrap_or parts.leaves [])
 
 -- a watcher's commands
-abbrev pub watcher_commands : Commands WatcherLine
+abbrev pub watcher_commands : Commands WatcherOrder
 watcher_commands = record {
   tag = λ notes. (watcher_is notes).tag;
   command_in = watcher_line_in;
-  comes_to = λ dig log parts line. watcher_outcome dig log parts.notes line;
+  comes_to = λ dig log parts order. watcher_outcome dig log parts.notes order;
 }
 
 -- an operator's, without a key and with one

@@ -3,7 +3,8 @@ ghost use Rattle.std.specs.Prelude.{◌≡◌};
 use crash_disk::Disk;
 use node_answers::answer_watcher;
 use node_journal::Stop;
-use node_lines::{LineRefusal, WatcherLine, read_watcher_line};
+use node_lines::{LineRefusal, read_watcher_line};
+use node_replies::WatcherOrder;
 use node_sessions::{Commanded, Said};
 use plasma_base::Hash32;
 use plasma_tx::RootLog;
@@ -25,7 +26,7 @@ impl<D: Disk, H: Hash32 + Copy> Commanded for WatcherRun<D, H> {
     ghost use Rattle.node_roles.specs.Nodes.{NodeAt, outcome_at, node_does, IsNodeAt, StoppedAt};
     ghost use Rattle.node_roles.specs.Roles.{watcher_commands};
 
-    type Command = WatcherLine;
+    type Command = WatcherOrder;
 
     ghost At = { NodeAt NotesAt };
 
@@ -47,7 +48,7 @@ impl<D: Disk, H: Hash32 + Copy> Commanded for WatcherRun<D, H> {
         self.node.tag()
     }
 
-    fn read(&self, alloc: Global, line: &[u8]) -> Result<WatcherLine, LineRefusal> {
+    fn read(&self, alloc: Global, line: &[u8]) -> Result<WatcherOrder, LineRefusal> {
         read_watcher_line(alloc, line)
     }
 
@@ -55,10 +56,10 @@ impl<D: Disk, H: Hash32 + Copy> Commanded for WatcherRun<D, H> {
         &mut self,
         alloc: Global,
         log: &RootLog,
-        command: WatcherLine,
+        command: WatcherOrder,
         text: &mut Vec<u8>,
     ) -> Result<Said, Stop> {
         self.node.is_whole();
-        answer_watcher(alloc, &mut self.node, log, command, text)
+        answer_watcher(alloc, &mut self.node, log, &command, text)
     }
 }

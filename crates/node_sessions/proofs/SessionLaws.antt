@@ -5,7 +5,7 @@ use Rattle.std.proofs.lemmas.List.{append-nil}
 use Rattle.plasma_tx.specs.declared.call.RootCall.{RootCall}
 use Rattle.plasma_tx.specs.Chain.{Chain}
 use Rattle.root_log.specs.Grammar.{chain_in, appended}
-use Rattle.node_lines.specs.Grammar.{is_end_of_log}
+use Rattle.root_log.specs.EndOfLog.{is_end_of_log}
 use Rattle.node_journal.specs.declared.stop.Stop.{Stop}
 use Rattle.streamed_lines.specs.Reading.{IsAnswered}
 use Rattle.node_sessions.specs.Sessions.{SessionState, first_log, longer_log, joins, leaves, command_line, log_line, later_line, line_of, next_line, session_rules}

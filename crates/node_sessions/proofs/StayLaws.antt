@@ -3,7 +3,7 @@ use Rattle.std.proofs.Common.{◌≡◌, ℕ, ◌+◌, ◌&&◌, not, Bool, true
 use Rattle.plasma_tx.specs.declared.call.RootCall.{RootCall}
 use Rattle.plasma_tx.specs.Chain.{Chain}
 use Rattle.root_log.specs.Grammar.{chain_in, appended}
-use Rattle.node_lines.specs.Grammar.{is_end_of_log}
+use Rattle.root_log.specs.EndOfLog.{is_end_of_log}
 use Rattle.streamed_lines.specs.declared.ending.Ending.{Ending}
 use Rattle.streamed_lines.specs.declared.ending.Ending.TheVariants.{ReadFault, TooLong}
 use Rattle.streamed_lines.specs.declared.ending.Stop.{Stop}

@@ -3,7 +3,7 @@ use Rattle.std.specs.Prelude.{◌≡◌, ◌⊎◌, ℕ, ◌+◌, true, false, L
 use Rattle.plasma_tx.specs.declared.call.RootCall.{RootCall}
 use Rattle.plasma_tx.specs.Chain.{Chain}
 use Rattle.root_log.specs.Grammar.{chain_in, appended}
-use Rattle.node_lines.specs.Grammar.{is_end_of_log}
+use Rattle.root_log.specs.EndOfLog.{is_end_of_log}
 use Rattle.streamed_lines.specs.declared.ending.Ending.TheVariants.{Complete}
 use Rattle.streamed_lines.specs.Lines.{lines_in, text_of, is_too_long}
 use Rattle.streamed_lines.specs.Streams.{stream_of}

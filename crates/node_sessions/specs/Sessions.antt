@@ -4,7 +4,7 @@ use Rattle.std.specs.Str.{bytes_eq}
 use Rattle.plasma_tx.specs.declared.call.RootCall.{RootCall}
 use Rattle.plasma_tx.specs.Chain.{Chain}
 use Rattle.root_log.specs.Grammar.{chain_in, appended}
-use Rattle.node_lines.specs.Grammar.{is_end_of_log}
+use Rattle.root_log.specs.EndOfLog.{is_end_of_log}
 use Rattle.streamed_lines.specs.declared.ending.Stop.{Stop}
 use Rattle.streamed_lines.specs.declared.ending.Stop.TheVariants.{BadLine, Ends}
 use Rattle.streamed_lines.specs.Streams.{Rules}

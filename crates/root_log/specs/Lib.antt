@@ -1,3 +1,4 @@
 pub mod Calls
+pub mod EndOfLog
 pub mod Grammar
 pub mod Refusals

@@ -3,6 +3,7 @@
 #![tactic(auto)]
 
 mod calls;
+mod end_of_log;
 mod first_line;
 mod laws;
 mod lines;
@@ -10,6 +11,7 @@ mod refusal;
 mod text;
 
 pub use calls::call_of;
+pub use end_of_log::is_end_of_log;
 pub use first_line::{MOST_BLOCKS, TAG_BYTES};
 pub use laws::{
     a_call_and_its_line_are_one, a_call_has_one_spelling, a_chain_has_one_spelling,

@@ -1,8 +1,8 @@
-use Rattle.std.proofs.Common.{subst}
+use Rattle.std.proofs.Common.{sym, subst}
 use Rattle.leaf_journal.specs.NodeWords.{notes_of}
 use Rattle.node_replies.specs.Orders.{operator_does}
 use Rattle.node_deeds.proofs.OperatorOrderLaws.{orders_add_no_leaf}
-use Rattle.node_answers.specs.Desks.{desk_outcome, desk_records, keyed}
+use Rattle.node_answers.specs.Desks.{desk_outcome, desk_records}
 use Rattle.node_answers.specs.Doing.{DidDesk}
 use Rattle.node_answers.proofs.DeskDeeds.{notes-did}
 use Rattle.node_answers.proofs.keyed.answer_keyed.Goals as goal
@@ -15,10 +15,10 @@ returns-in-Order-clause-did g c =
     let log = c.args.log.now.log in
     let records = desk_records old.node.notes.records old.desk.records in
     subst
-    (λ ask. DidDesk g.D.Disk.told g.D.Disk.plan g.D.Disk.faults (keyed dig log records ask).note
-    (keyed dig log records ask).leaf old.node.notes (notes_of old.desk) c.answer_order.result
+    (λ line. DidDesk g.D.Disk.told g.D.Disk.plan g.D.Disk.faults (desk_outcome dig log records line).note
+    (desk_outcome dig log records line).leaf old.node.notes (notes_of old.desk) c.answer_order.result
     c.answer_order.new.node.notes (notes_of old.desk))
-    c.in-Order.ensures
+    (sym c.in-Order.is)
     (notes-did g.D.Disk.told g.D.Disk.plan g.D.Disk.faults
     (operator_does dig log old.node.notes.records c.in-Order.order).note
     (operator_does dig log old.node.notes.records c.in-Order.order).leaf old.node.notes (notes_of old.desk)

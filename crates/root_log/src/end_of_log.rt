@@ -1,7 +1,7 @@
 ghost use Rattle.std.specs.Prelude.{◌≡◌};
-ghost use Rattle.node_lines.specs.Grammar.{is_end_of_log};
+ghost use Rattle.root_log.specs.EndOfLog.{is_end_of_log};
 
-/// Whether a line ends the log that a node is run with: it is `--`. Each line after it is one command.
+/// Whether a line ends a log: it is `--`. The lines behind it are none of the log.
 pub fn is_end_of_log(line: &[u8]) -> bool
     ensures { result ≡ is_end_of_log line.now }
 {
