@@ -2,7 +2,7 @@
 use Rattle.std.proofs.Common.{◌≡◌, ℕ, ◌+◌, ◌&&◌, not, Bool, true, false, if◌then◌else◌, List, [], ◌∷◌, ◌++◌, length, Option, Result, Ok, Err, refl, sym, ap, ◌∙◌, subst, append_assoc}
 use Rattle.std.proofs.lemmas.List.{append-nil}
 use Rattle.world_rules.specs.Steps.{run_of}
-use Rattle.world_core.specs.Worlds.{WorldState, IsAfter, before_all}
+use Rattle.world_core.specs.Worlds.{RunningState, IsAfter, before_all}
 use Rattle.streamed_lines.specs.declared.ending.Ending.{Ending}
 use Rattle.streamed_lines.specs.declared.ending.Ending.TheVariants.{ReadFault, TooLong}
 use Rattle.streamed_lines.specs.declared.ending.Stop.{Stop}
@@ -83,7 +83,7 @@ unfolding replay_of
 answers-are dig bytes = (is-replayed dig bytes false).text
 
 -- a world before its first line
-pub ran-none : {H : Type 0} (digest_of : H → List ℕ → List ℕ) (hash : H) (world : WorldState H)
+pub ran-none : {H : Type 0} (digest_of : H → List ℕ → List ℕ) (hash : H) (world : RunningState H)
     → world ≡ before_all hash → IsAfter (digest_of hash) [] world
     → Ran digest_of world (begun (digest_of world.hash))
 unfolding run_of
@@ -91,7 +91,7 @@ ran-none digest_of hash world state after = record {
   lines = [];
   digest = refl;
   after =
-      subst (λ h. IsAfter (digest_of h) [] world) (ap WorldState.hash (sym state)) after;
+      subst (λ h. IsAfter (digest_of h) [] world) (ap RunningState.hash (sym state)) after;
   is = refl;
 }
 
@@ -99,7 +99,7 @@ ran-none digest_of hash world state after = record {
 module _ {W : Type 0} (RanTo : W → JudgedRun → Type 0) (Halted : W → JudgedRun → List ℕ → Halt NoCause → Type 0)
     (left later taken after : Option (List ℕ)) (dig : List ℕ → List ℕ) (text : List ℕ) (answerer : W) where
   -- its lines were answered up to what ended it
-  pub answers-so : {H : Type 0} (digest_of : H → List ℕ → List ℕ) (world : WorldState H) (ending : Ending NoCause)
+  pub answers-so : {H : Type 0} (digest_of : H → List ℕ → List ℕ) (world : RunningState H) (ending : Ending NoCause)
       → ((run : JudgedRun) → RanTo answerer run → Ran digest_of world run)
       → StreamAnswers replay_rules (begun dig) RanTo Halted left later taken after text ending answerer
       → Answers left later taken after digest_of dig text ending world

@@ -1,7 +1,7 @@
 -- How a run ends that is counted and not answered.
 use Rattle.std.proofs.Common.{◌≡◌, ℕ, inl, Bool, true, List, [], ◌++◌, Option, None, Ok, sym, ap, ◌∙◌, subst}
 use Rattle.plasma_outside.specs.declared.sink.SinkRefusal.{SinkRefusal}
-use Rattle.world_core.specs.Worlds.{WorldState}
+use Rattle.world_core.specs.Worlds.{RunningState}
 use Rattle.streamed_lines.specs.declared.ending.Ending.{Ending}
 use Rattle.streamed_lines.specs.declared.ending.Ending.TheVariants.{Complete}
 use Rattle.streamed_lines.specs.Outside.{Wrote, WroteFront}
@@ -20,7 +20,7 @@ use Rattle.replay_run.proofs.RunLaws.{stops-unwritten, failed-of, few-by, few-st
 
 -- a run whose lines were all answered, into nothing, up to what ended it
 module _ {H : Type 0} (left later : Option (List ℕ)) (digest_of : H → List ℕ → List ℕ) (dig : List ℕ → List ℕ)
-    (text : List ℕ) (ending : Ending NoCause) (world : WorldState H) (Failed_ : Bool → Type 0)
+    (text : List ℕ) (ending : Ending NoCause) (world : RunningState H) (Failed_ : Bool → Type 0)
     (answers : Answers left later None None digest_of dig text ending world)
     (reads : Failed_ (is_read_fault (Ok ending))) where
   -- what is written of it

@@ -5,7 +5,7 @@ use Rattle.schedule_text.specs.declared.line.Line.{Line}
 use Rattle.schedule_text.specs.Grammar.{line_in}
 use Rattle.world_rules.specs.declared.trace.TraceLine.{TraceLine}
 use Rattle.world_rules.specs.Steps.{Run, TraceEntry, LineEffect, with_line, step_run, run_of, entry_of}
-use Rattle.world_core.specs.Worlds.{WorldState, IsAfter}
+use Rattle.world_core.specs.Worlds.{RunningState, IsAfter}
 use Rattle.world_core.specs.Lines.{is_full, IsStep}
 use Rattle.streamed_lines.specs.declared.ending.Stop.TheVariants.{BadLine, TooLong, Ends}
 use Rattle.streamed_lines.specs.declared.ending.Halt.{Halt}
@@ -63,7 +63,7 @@ fitting-at judged b is =
 -- ---- one line
 
 -- bytes that spell a line, over a world that lines left
-module _ {H : Type 0} (digest_of : H → List ℕ → List ℕ) (world : WorldState H) (judged : JudgedRun)
+module _ {H : Type 0} (digest_of : H → List ℕ → List ℕ) (world : RunningState H) (judged : JudgedRun)
     (ran : Ran digest_of world judged) (bytes : List ℕ) (line : Line) (found : line_in bytes ≡ Some line) where
   abbrev dig : List ℕ → List ℕ
   dig = digest_of world.hash
@@ -85,7 +85,7 @@ module _ {H : Type 0} (digest_of : H → List ℕ → List ℕ) (world : WorldSt
   step-halts Failed never = tt
   step-halts NoMemory at = tt
 
-  pub step-goes : (told : TraceLine) (new : WorldState H) → new.hash ≡ world.hash
+  pub step-goes : (told : TraceLine) (new : RunningState H) → new.hash ≡ world.hash
       → IsStep dig ran.lines line told new → GoesOn digest_of judged bytes (told_text told) new
   step-goes told new same step =
       let next : JudgedRun = record { digest = judged.digest; run = step.after.run } in

@@ -4,7 +4,7 @@ use Rattle.std.specs.Prelude.{IsErr}
 use Rattle.std.proofs.lemmas.Bool.{false≢true}
 use Rattle.plasma_outside.specs.declared.sink.SinkRefusal.{SinkRefusal}
 use Rattle.plasma_outside.specs.declared.sink.SinkRefusal.TheVariants.{Failed, NoMemory as WantsMemory}
-use Rattle.world_core.specs.Worlds.{WorldState}
+use Rattle.world_core.specs.Worlds.{RunningState}
 use Rattle.streamed_lines.specs.declared.ending.Ending.{Ending}
 use Rattle.streamed_lines.specs.declared.ending.Ending.TheVariants.{Complete, BadLine, ReadFault, TooLong, Ended}
 use Rattle.run_endings.specs.declared.status.Status.{Status}
@@ -51,7 +51,7 @@ few-stopped WantsMemory bytes ending = tt
 
 -- a replay whose lines were all answered, up to what ended it
 module _ {H : Type 0} (left later taken after : Option (List ℕ)) (digest_of : H → List ℕ → List ℕ)
-    (dig : List ℕ → List ℕ) (text : List ℕ) (ending : Ending NoCause) (world : WorldState H) (Failed_ : Bool → Type 0)
+    (dig : List ℕ → List ℕ) (text : List ℕ) (ending : Ending NoCause) (world : RunningState H) (Failed_ : Bool → Type 0)
     (answers : Answers left later taken after digest_of dig text ending world)
     (reads : Failed_ (is_read_fault (Ok ending))) where
   -- what stands behind the answers

@@ -4,7 +4,7 @@ use Rattle.schedule_text.specs.declared.line.Line.{Line}
 use Rattle.schedule_text.specs.Grammar.{line_in}
 use Rattle.world_rules.specs.Steps.{Run, run_of}
 use Rattle.world_rules.specs.Texts.{entries_text}
-use Rattle.world_core.specs.Worlds.{WorldState, IsAfter}
+use Rattle.world_core.specs.Worlds.{RunningState, IsAfter}
 use Rattle.world_core.specs.Lines.{WouldFill}
 use Rattle.streamed_lines.specs.declared.ending.Ending.{Ending}
 use Rattle.streamed_lines.specs.declared.ending.Ending.TheVariants.{Complete}
@@ -40,14 +40,14 @@ NeverFails halt = Unit {0}
 -- over a world, whose hash has this digest
 module _ {H : Type 0} (digest_of : H → List ℕ → List ℕ) where
   -- the world is what lines leave that ran so, and judges by this digest
-  pub record Ran (world : WorldState H) (judged : JudgedRun) : Type 0 where
+  pub record Ran (world : RunningState H) (judged : JudgedRun) : Type 0 where
     pub lines : List Line
     pub digest : judged.digest ≡ digest_of world.hash
     pub after : IsAfter (digest_of world.hash) lines world
     pub is : run_of (digest_of world.hash) lines ≡ Some judged.run
 
   -- the next line was run, and its answer has this text
-  pub record GoesOn (judged : JudgedRun) (line text : List ℕ) (world : WorldState H) : Type 0 where
+  pub record GoesOn (judged : JudgedRun) (line text : List ℕ) (world : RunningState H) : Type 0 where
     pub next : JudgedRun
     pub is : replay_rules.next judged line ≡ Ok (next, text)
     pub ran : Ran world next
@@ -57,7 +57,7 @@ module _ {H : Type 0} (digest_of : H → List ℕ → List ℕ) where
 -- where these are told: what the source gave was answered to its end, and the sink has taken the text but for what is
 -- gathered; a world whose lines were all answered is what they left
 pub record Answers {H : Type 0} (left later taken after : Option (List ℕ)) (digest_of : H → List ℕ → List ℕ)
-    (dig : List ℕ → List ℕ) (text : List ℕ) (ending : Ending NoCause) (world : WorldState H) : Type 0 where
+    (dig : List ℕ → List ℕ) (text : List ℕ) (ending : Ending NoCause) (world : RunningState H) : Type 0 where
   pub bytes : List ℕ
   pub ended : Bool
   pub put : List ℕ

@@ -3,7 +3,7 @@ ghost use Rattle.plasma_base.specs.Causes.{faults_after};
 ghost use Rattle.plasma_outside.specs.Outside.{is_failed};
 ghost use Rattle.schedule_text.specs.declared.line.Line.{Line};
 ghost use Rattle.schedule_text.specs.Grammar.{IsLine, line_in};
-ghost use Rattle.world_core.specs.Worlds.{NodesSpell, IsAfter};
+ghost use Rattle.world_core.specs.Worlds.{IsAfter};
 ghost use Rattle.world_core.specs.Lines.{IsStep};
 ghost use Rattle.streamed_lines.specs.Outside.{ReadsToFault};
 ghost use Rattle.streamed_lines.specs.Reading.{HaltsAt, is_read_fault};
@@ -32,9 +32,8 @@ pub struct Replayer<H: Hash32 + Copy> {
 impl<H: Hash32 + Copy> Replayer<H> {
     // What answers a schedule from its first line on, with openings judged by this digest.
     fn new(alloc: Global, hash: H) -> Replayer<H>
-        ensures hash { result.world.hash ≡ hash }
-        ensures ran { Ran H.digest_of result.world (begun (H.digest_of result.world.hash)) }
-        ensures nodes { NodesSpell result.world }
+        ensures hash { result.world.running.hash ≡ hash }
+        ensures ran { Ran H.digest_of result.world.running (begun (H.digest_of result.world.running.hash)) }
     {
         Replayer {
             alloc,
@@ -65,14 +64,12 @@ fn step_line<H: Hash32 + Copy>(
     line: &Line,
 ) -> Result<TraceLine, Halt<NoCause>>
     requires grammar { IsLine line.now }
-    requires nodes { NodesSpell world.old }
-    ensures told { (lines : List Line) → IsAfter (H.digest_of world.old.hash) lines world.old
-        → IfOk result (λ told. IsStep (H.digest_of world.old.hash) lines line.now told world.new) }
-    ensures stops { (lines : List Line) → IsAfter (H.digest_of world.old.hash) lines world.old
-        → IfErr result (HasNoStep (H.digest_of world.old.hash) lines line.now) }
+    ensures told { (lines : List Line) → IsAfter (H.digest_of world.old.running.hash) lines world.old.running
+        → IfOk result (λ told. IsStep (H.digest_of world.old.running.hash) lines line.now told world.new.running) }
+    ensures stops { (lines : List Line) → IsAfter (H.digest_of world.old.running.hash) lines world.old.running
+        → IfErr result (HasNoStep (H.digest_of world.old.running.hash) lines line.now) }
     ensures no_failure { IfErr result NeverFails }
-    ensures hash { OnOk result (world.new.hash ≡ world.old.hash) }
-    ensures nodes { OnOk result (NodesSpell world.new) }
+    ensures hash { OnOk result (world.new.running.hash ≡ world.old.running.hash) }
 {
     match world.step(line) {
         Ok(told) => Ok(told),
@@ -92,20 +89,17 @@ fn take_line<H: Hash32 + Copy>(
     world: &mut World<H>,
     line: &[u8],
 ) -> Result<TraceLine, Halt<NoCause>>
-    requires nodes { NodesSpell world.old }
-    ensures told { (run : JudgedRun) → Ran H.digest_of world.old run
-        → IfOk result (λ told. GoesOn H.digest_of run line.now (told_text told) world.new) }
-    ensures halts { (run : JudgedRun) → Ran H.digest_of world.old run
+    ensures told { (run : JudgedRun) → Ran H.digest_of world.old.running run
+        → IfOk result (λ told. GoesOn H.digest_of run line.now (told_text told) world.new.running) }
+    ensures halts { (run : JudgedRun) → Ran H.digest_of world.old.running run
         → IfErr result (HaltsAt replay_rules run line.now) }
     ensures no_failure { IfErr result NeverFails }
-    ensures nodes { OnOk result (NodesSpell world.new) }
 {
     let read = read_line(alloc, line)?;
     step_line(world, &read)
 }
 
 impl<H: Hash32 + Copy> Answerer for Replayer<H> {
-    ghost use Rattle.world_core.specs.Worlds.{NodesSpell};
     ghost use Rattle.replay_run.specs.Replays.{JudgedRun, replay_rules};
     ghost use Rattle.replay_run.specs.Reading.{Ran, NeverFails};
 
@@ -115,11 +109,11 @@ impl<H: Hash32 + Copy> Answerer for Replayer<H> {
 
     ghost rules = { λ _. replay_rules };
 
-    ghost ran = { λ replayer run. Ran H.digest_of replayer.world run };
+    ghost ran = { λ replayer run. Ran H.digest_of replayer.world.running run };
 
     ghost halted = { λ _ _ _ halt. NeverFails halt };
 
-    ghost ready = { λ replayer. NodesSpell replayer.world };
+    ghost ready = { λ _. Unit {0} };
 
     fn answer(&mut self, line: &[u8], text: &mut Vec<u8>) -> Result<(), Halt<NoCause>> {
         let told = take_line(self.alloc, &mut self.world, line)?;
@@ -144,7 +138,7 @@ pub fn answer_schedule<H: Hash32 + Copy, S: Source, K: Sink>(
 ) -> Result<(World<H>, Ending<NoCause>), SinkRefusal>
     requires none { text.old.items ≡ [] }
     ensures answered { IfOk result (λ done. Answers (S.left source.old) (S.left source.new) (K.taken sink.old)
-        (K.taken sink.new) H.digest_of (H.digest_of h) text.new.items done.1 done.0) }
+        (K.taken sink.new) H.digest_of (H.digest_of h) text.new.items done.1 done.0.running) }
     ensures stopped { OnErr result (StopsEarly (S.left source.old) (S.left source.new) (K.taken sink.old)
         (K.taken sink.new) (H.digest_of h)) }
     ensures prompt { AnswersPromptly (replay_answers (H.digest_of h)) (S.left source.old) (S.left source.new)

@@ -39,7 +39,7 @@ impl Sink for NoSink {
 
 // Puts what is counted of a run at the end, and its exhibit.
 fn push_counts<H: Hash32 + Copy>(world: &World<H>, text: &mut Vec<u8>) -> Result<(), NoMemory>
-    ensures { (run : JudgedRun) → Ran H.digest_of world.now run
+    ensures { (run : JudgedRun) → Ran H.digest_of world.now.running run
         → OnOk result (text.new.items ≡ text.old.items ++ brief_text run.digest run.run) }
 {
     let counts = world.counts()?;
@@ -53,7 +53,7 @@ fn push_last<H: Hash32 + Copy>(
     ending: Ending<NoCause>,
     text: &mut Vec<u8>,
 ) -> Result<(), NoMemory>
-    ensures { (run : JudgedRun) → (ending ≡ Ending.Complete → Ran H.digest_of world.now run)
+    ensures { (run : JudgedRun) → (ending ≡ Ending.Complete → Ran H.digest_of world.now.running run)
         → OnOk result (text.new.items ≡ text.old.items ++ last_text (brief_text run.digest run.run) ending) }
 {
     match ending {

@@ -37,7 +37,7 @@ fn push_verdicts(verdicts: &[Verdict], text: &mut Vec<u8>) -> Result<(), NoMemor
 
 // Puts the verdicts and the exhibit of a run at the end.
 fn push_closing<H: Hash32 + Copy>(world: &World<H>, text: &mut Vec<u8>) -> Result<(), NoMemory>
-    ensures { (run : JudgedRun) → Ran H.digest_of world.now run
+    ensures { (run : JudgedRun) → Ran H.digest_of world.now.running run
         → OnOk result (text.new.items ≡ text.old.items ++ closing_text run.digest run.run) }
 {
     let verdicts = world.verdicts()?;
@@ -51,7 +51,7 @@ fn push_last<H: Hash32 + Copy>(
     ending: Ending<NoCause>,
     text: &mut Vec<u8>,
 ) -> Result<(), NoMemory>
-    ensures { (run : JudgedRun) → (ending ≡ Ending.Complete → Ran H.digest_of world.now run)
+    ensures { (run : JudgedRun) → (ending ≡ Ending.Complete → Ran H.digest_of world.now.running run)
         → OnOk result (text.new.items ≡ text.old.items ++ last_text (closing_text run.digest run.run) ending) }
 {
     match ending {

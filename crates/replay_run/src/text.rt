@@ -1,29 +1,11 @@
-ghost use Rattle.std.specs.Prelude.{◌≡◌, ◌≢◌, ◌++◌, ◌∷◌, [], ℕ, List, OnOk};
-ghost use Rattle.node_replies.specs.Causes.{phrase};
+ghost use Rattle.std.specs.Prelude.{◌≡◌, ◌≢◌, ◌++◌, ℕ, List, OnOk};
 ghost use Rattle.streamed_lines.specs.declared.ending.Ending.{Ending};
 ghost use Rattle.replay_run.specs.Text.{last_text};
 
 use super::ending::NoCause;
-use line_forms::push_number;
+use node_replies::{push_phrase, push_words};
 use plasma_base::NoMemory;
 use streamed_lines::Ending;
-
-// Puts words, and a number after them, at the end.
-fn push_phrase(out: &mut Vec<u8>, words: &[u8], number: u64) -> Result<(), NoMemory>
-    ensures { OnOk result (out.new.items ≡ out.old.items ++ phrase words.now (number ∷ [])) }
-{
-    out.extend_from_slice(words)?;
-    out.push(b' ')?;
-    push_number(out, number)
-}
-
-// Puts words at the end.
-fn push_words(out: &mut Vec<u8>, words: &[u8]) -> Result<(), NoMemory>
-    ensures { OnOk result (out.new.items ≡ out.old.items ++ words.now) }
-{
-    out.extend_from_slice(words)?;
-    Ok(())
-}
 
 /// Puts the last line at the end: what ended a run that isn't complete.
 #[tactic(auto, unfolding(crate::specs::Text::last_text))]
@@ -33,9 +15,9 @@ pub fn push_ending(out: &mut Vec<u8>, ending: Ending<NoCause>) -> Result<(), NoM
 {
     match ending {
         Ending::Complete => {}
-        Ending::BadLine { line } => push_phrase(out, b"bad line", line)?,
+        Ending::BadLine { line } => push_phrase(out, b"bad line", &[line])?,
         Ending::ReadFault => push_words(out, b"read fault")?,
-        Ending::TooLong { line } => push_phrase(out, b"too long", line)?,
+        Ending::TooLong { line } => push_phrase(out, b"too long", &[line])?,
     }
     out.push(b'\n')?;
     Ok(())

@@ -10,12 +10,12 @@ use Rattle.world_rules.specs.Steps.{TraceEntry, Run, run_of, events_of}
 use Rattle.world_rules.specs.Verdicts.{is_refused, verdicts_of, counts_of}
 use Rattle.world_trace.specs.Traces.{TraceState}
 use Rattle.world_scene.specs.Scenes.{SceneState}
-use Rattle.world_core.specs.Worlds.{WorldState, IsAfter}
+use Rattle.world_core.specs.Worlds.{RunningState, IsAfter}
 use Rattle.world_core.specs.Counting.{verdict_counts, with_log}
 use Rattle.world_core.proofs.RunFacts.{facts_count}
 use Rattle.world_core.proofs.Readings.{same-run, no_entries, tells, log_is}
 
-module _ {H : Type 0} (dig : List ℕ → List ℕ) (lines : List Line) (state : WorldState H)
+module _ {H : Type 0} (dig : List ℕ → List ℕ) (lines : List Line) (state : RunningState H)
     (after : IsAfter dig lines state) (run : Run) (ran : run_of dig lines ≡ Some run) where
   refused-is : state.refused ≡ count_by is_refused run.entries
   refused-is = after.refused ∙ ap (λ (r : Run). count_by is_refused r.entries) (same-run dig lines state after run ran)

@@ -28,7 +28,7 @@ use Rattle.world_scene.specs.declared.answer.LineAnswer.{LineAnswer}
 use Rattle.world_scene.specs.Scenes.{SceneState, shown_of, world_of}
 use Rattle.world_scene.specs.Steps.{answered}
 use Rattle.world_scene.specs.Events.{TellsEffect}
-use Rattle.world_core.specs.Worlds.{WorldState, before_all, world_in, TellsIn, wallets_in, MadeBytes, IsAfter}
+use Rattle.world_core.specs.Worlds.{RunningState, before_all, world_in, TellsIn, wallets_in, MadeBytes, IsAfter}
 use Rattle.world_core.specs.Lines.{name_in, IsStep, WouldFill}
 use Rattle.world_core.specs.Taking.{TellsLine, Takes, scene_with, with_item}
 use Rattle.world_core.specs.Counting.{with_answer}
@@ -128,8 +128,8 @@ abbrev pub told_as : ℕ → LineAnswer → TraceLine
 told_as number answer =
     record { line = number; done = answer.done; answer = answer.reply; made = answer.made }
 
-module _ {H : Type 0} (dig : List ℕ → List ℕ) (lines : List Line) (line : Line) (old : WorldState H)
-    (after : IsAfter dig lines old) (answer : LineAnswer) (taken : WorldState H)
+module _ {H : Type 0} (dig : List ℕ → List ℕ) (lines : List Line) (line : Line) (old : RunningState H)
+    (after : IsAfter dig lines old) (answer : LineAnswer) (taken : RunningState H)
     (takes : Takes dig old line answer taken) where
   -- the world that the line left
   abbrev pub left : World
@@ -235,7 +235,7 @@ module _ {H : Type 0} (dig : List ℕ → List ℕ) (lines : List Line) (line : 
       (tells : Tells dig (tests_by dig) (rules_of left.chain) (effect-is.0 ∷ events_of after.run.entries) trace)
       (refused : ℕ) (refused_is : refused ≡ count_by is_refused longer.entries) where
     -- the world with its mail item, and what is kept of it
-    abbrev pub new : WorldState H
+    abbrev pub new : RunningState H
     new = record {
       hash = old.hash;
       scene = Some (scene_with answer.made takes.scene);
@@ -276,7 +276,7 @@ module _ {H : Type 0} (dig : List ℕ → List ℕ) (lines : List Line) (line : 
 
   -- the world with the item put, and the line kept
   module _ (fits_line : IsLine line) (made : AreBytes answer.made) (item : List ℕ) (item_is : item ≡ answer.made)
-      (put : WorldState H) (put_is : put ≡ with_item taken item) (fits : taken.mail_size + length item ≤ MOST_MAIL)
+      (put : RunningState H) (put_is : put ≡ with_item taken item) (fits : taken.mail_size + length item ≤ MOST_MAIL)
       (trace : TraceState)
       (more : (scene : SceneState H) → put.scene ≡ Some scene
       → (tests : Tests) (rules : Rules) (events : List Event) (event : Event) → Tells dig tests rules events put.trace
@@ -288,7 +288,7 @@ module _ {H : Type 0} (dig : List ℕ → List ℕ) (lines : List Line) (line : 
       (refused_as : refused ≡ with_answer put.refused answer.done answer.reply) where
     same-put : put ≡ with_item (record old { scene = Some takes.scene }) answer.made
     same-put =
-        put_is ∙ ap (λ (t : WorldState H). with_item t item) takes.is
+        put_is ∙ ap (λ (t : RunningState H). with_item t item) takes.is
         ∙ ap (with_item (record old { scene = Some takes.scene })) item_is
 
     pub put_steps
@@ -296,23 +296,23 @@ module _ {H : Type 0} (dig : List ℕ → List ℕ) (lines : List Line) (line : 
     put_steps =
         let few : old.mail_size + length answer.made ≤ MOST_MAIL =
         subst (λ (n : ℕ). n ≤ MOST_MAIL)
-        (ap (λ (t : WorldState H). t.mail_size + length item) takes.is
+        (ap (λ (t : RunningState H). t.mail_size + length item) takes.is
         ∙ ap (λ (i : List ℕ). old.mail_size + length i) item_is) fits in
         let tells : Tells dig (tests_by dig) (rules_of left.chain) (effect-is.0 ∷ events_of after.run.entries) trace =
-        more (scene_with answer.made takes.scene) (ap (λ (p : WorldState H). p.scene) same-put)
+        more (scene_with answer.made takes.scene) (ap (λ (p : RunningState H). p.scene) same-put)
         (tests_by dig) (rules_of left.chain) (events_of after.run.entries) effect-is.0
         (subst (λ (t : TraceState). Tells dig (tests_by dig) (rules_of left.chain) (events_of after.run.entries) t)
-        (ap (λ (p : WorldState H). p.trace) (sym same-put)) told.tells) told.is calls-kept refl in
+        (ap (λ (p : RunningState H). p.trace) (sym same-put)) told.tells) told.is calls-kept refl in
         let named : trace.wallets ≡ old.trace.wallets ++ declared_by (name_in line) answer.event =
-        names (scene_with answer.made takes.scene) (ap (λ (p : WorldState H). p.scene) same-put)
-        ∙ ap (λ (p : WorldState H). p.trace.wallets ++ declared_by (name_in line) answer.event) same-put in
+        names (scene_with answer.made takes.scene) (ap (λ (p : RunningState H). p.scene) same-put)
+        ∙ ap (λ (p : RunningState H). p.trace.wallets ++ declared_by (name_in line) answer.event) same-put in
         let count : refused ≡ count_by is_refused longer.entries =
         refused_as
-        ∙ ap (λ (p : WorldState H). with_answer p.refused answer.done answer.reply) same-put
+        ∙ ap (λ (p : RunningState H). with_answer p.refused answer.done answer.reply) same-put
         ∙ refused_more after.run.entries (entry_of line effect) old.refused after.refused
         (subst (λ (n : ℕ). n < 2 ^ 64) (lines-kept trace tells) few_lines) in
         subst (IsStep dig lines line (told_as (length trace.facts) answer))
-        (ap (λ (p : WorldState H). record p { trace = trace; refused = refused }) (sym same-put))
+        (ap (λ (p : RunningState H). record p { trace = trace; refused = refused }) (sym same-put))
         (is-step fits_line made few trace named tells refused count)
 
   -- there was no room for it
@@ -321,5 +321,5 @@ module _ {H : Type 0} (dig : List ℕ → List ℕ) (lines : List Line) (line : 
   put_fills item item_is full =
       would-fill
       (subst (λ (n : ℕ). MOST_MAIL < n)
-      (ap (λ (t : WorldState H). t.mail_size + length item) takes.is
+      (ap (λ (t : RunningState H). t.mail_size + length item) takes.is
       ∙ ap (λ (i : List ℕ). old.mail_size + length i) item_is) full)

@@ -24,7 +24,7 @@ use Rattle.coin_verdicts.specs.Wallets.{named_of}
 use Rattle.world_trace.specs.Traces.{TraceState, no_trace, Tells}
 use Rattle.world_trace.proofs.Telling.{nothing_shown}
 use Rattle.world_scene.specs.Scenes.{SceneState, world_of}
-use Rattle.world_core.specs.Worlds.{WorldState, world_in, TellsIn, wallets_in, IsAfter}
+use Rattle.world_core.specs.Worlds.{RunningState, world_in, TellsIn, wallets_in, IsAfter}
 use Rattle.world_core.proofs.RunFacts.{legal_events, tells_none}
 
 -- rules of no contract
@@ -39,7 +39,7 @@ owners-stay : (events : List Event) → Stay events → OwnersStay events
 owners-stay [] are = are
 owners-stay (event ∷ events) are = (are.0, owners-stay events are.1)
 
-module _ {H : Type 0} (dig : List ℕ → List ℕ) (lines : List Line) (state : WorldState H)
+module _ {H : Type 0} (dig : List ℕ → List ℕ) (lines : List Line) (state : RunningState H)
     (after : IsAfter dig lines state) (run : Run) (ran : run_of dig lines ≡ Some run) where
   pub same-run : after.run ≡ run
   same-run = some_same after.run run (sym after.ran ∙ ran)

@@ -13,7 +13,7 @@ use Rattle.world_scene.specs.Steps.{answered}
 use Rattle.world_scene.specs.Events.{TellsInRuns}
 use Rattle.world_scene.specs.Steps.{AllSpell}
 use Rattle.world_scene.specs.Moves.{Moves}
-use Rattle.world_core.specs.Worlds.{WorldState, NodesSpell}
+use Rattle.world_core.specs.Worlds.{RunningState, NodesSpell}
 use Rattle.world_core.specs.Lines.{MovesIn}
 use Rattle.world_core.specs.Taking.{shows_in, TellsLine, Takes, scene_with, with_item}
 
@@ -22,7 +22,7 @@ abbrev pub begun_as : List ℕ → LineAnswer
 begun_as made = record { done = false; reply = Reply.Chain; made = made; event = LineEvent.Idle }
 
 -- the first line begins the chain
-pub takes_first : {H : Type 0} (dig : List ℕ → List ℕ) (old new : WorldState H) (tag operator most : ℕ)
+pub takes_first : {H : Type 0} (dig : List ℕ → List ℕ) (old new : RunningState H) (tag operator most : ℕ)
     (scene : SceneState H) (line : Line) (made : List ℕ) → old.scene ≡ None
     → line ≡ Line.Chain tag operator most → world_of scene ≡ new_world (new_chain tag operator most)
     → scene.hash ≡ old.hash → made ≡ [] → new ≡ record old { scene = Some scene }
@@ -44,7 +44,7 @@ takes_first dig old new tag operator most scene line made none line_is begun has
     })
 
 -- a line of a scene
-pub takes_next : {H : Type 0} (dig : List ℕ → List ℕ) (old new : WorldState H) (before scene : SceneState H)
+pub takes_next : {H : Type 0} (dig : List ℕ → List ℕ) (old new : RunningState H) (before scene : SceneState H)
     (line : Line) (answer : LineAnswer) → old.scene ≡ Some before
     → keeps_rules_in (world_of before) line ≡ true
     → shows dig (world_of before) line ≡ Some (answered answer (world_of scene))
@@ -93,10 +93,10 @@ moves-with digest old (Line.Cut node calls outcome command) new item moves = rec
 moves-with digest old line new item moves = record { nodes = moves.nodes; hash = moves.hash }
 
 pub moves_put : {H : Type 0} (digest : H → List ℕ → List ℕ) (old : Option (SceneState H)) (line : Line)
-    (taken put : WorldState H) (item : List ℕ) → put ≡ with_item taken item
+    (taken put : RunningState H) (item : List ℕ) → put ≡ with_item taken item
     → MovesIn digest old line taken.scene → MovesIn digest old line put.scene
 moves_put {H} digest old line taken put item is moves =
-    subst (λ (p : WorldState H). MovesIn digest old line p.scene) (sym is) (by old taken.scene moves)
+    subst (λ (p : RunningState H). MovesIn digest old line p.scene) (sym is) (by old taken.scene moves)
   where
     by : (before after : Option (SceneState H)) → MovesIn digest before line after
         → MovesIn digest before line (option_map (scene_with item) after)
@@ -104,9 +104,9 @@ moves_put {H} digest old line taken put item is moves =
     by (Some before) None moves = moves
     by (Some before) (Some after) moves = moves-with digest before line after item moves
 
-pub nodes_put : {H : Type 0} (taken put : WorldState H) (item : List ℕ) → put ≡ with_item taken item
+pub nodes_put : {H : Type 0} (taken put : RunningState H) (item : List ℕ) → put ≡ with_item taken item
     → NodesSpell taken → NodesSpell put
 nodes_put {H} taken put item is spell scene at =
     let found = option_map_some (scene_with item) taken.scene scene
-    (ap (λ (p : WorldState H). p.scene) (sym is) ∙ at) in
+    (ap (λ (p : RunningState H). p.scene) (sym is) ∙ at) in
     subst AllSpell found.2 (spell found.0 found.1)

@@ -5,9 +5,10 @@ use Rattle.schedule_text.specs.declared.line.Line.{Line}
 use Rattle.world_rules.specs.declared.trace.TraceLine.{TraceLine}
 use Rattle.world_rules.specs.Steps.{is_mail_full, TraceEntry, Run, run_of}
 use Rattle.world_scene.specs.declared.refusal.StepRefusal.{StepRefusal}
+use Rattle.world_scene.specs.declared.refusal.StepRefusal.TheVariants.{BadLine}
 use Rattle.world_scene.specs.Scenes.{SceneState}
 use Rattle.world_scene.specs.Moves.{Moves}
-use Rattle.world_core.specs.Worlds.{WorldState, IsAfter}
+use Rattle.world_core.specs.Worlds.{RunningState, IsAfter}
 
 -- the name of the wallet that a line declares; empty for another line
 abbrev pub name_in : Line → List ℕ
@@ -25,7 +26,7 @@ is_full run = option_map_or is_mail_full run.world false
 
 -- the world is what these lines and one more leave, whose line of the trace is this one; its mail isn't full
 pub record IsStep {H : Type 0} (dig : List ℕ → List ℕ) (lines : List Line) (line : Line) (told : TraceLine)
-    (state : WorldState H) : Type 0 where
+    (state : RunningState H) : Type 0 where
   pub after : IsAfter dig (line ∷ lines) state
   pub entry : TraceEntry
   pub earlier : List TraceEntry
@@ -37,10 +38,11 @@ pub record IsStep {H : Type 0} (dig : List ℕ → List ℕ) (lines : List Line)
 abbrev pub WouldFill : (List ℕ → List ℕ) → List Line → Line → Type 0
 WouldFill dig lines line = (run : Run) × (run_of dig (line ∷ lines) ≡ Some run) × (is_full run ≡ true)
 
--- after a step that gave this, the world steps on
-abbrev pub IsGoingOn : Result TraceLine StepRefusal → Type 0
-IsGoingOn (Ok told) = Unit {0}
-IsGoingOn (Err why) = why ≡ StepRefusal.BadLine
+-- a step that gave this ends the world: a line that breaks a rule doesn't
+abbrev pub is_ending : Result TraceLine StepRefusal → Bool
+is_ending (Ok told) = false
+is_ending (Err BadLine) = false
+is_ending (Err why) = true
 
 -- what a line did to the nodes' disks, once the chain has begun; it stays begun
 abbrev pub MovesIn : {H : Type 0} → (H → List ℕ → List ℕ) → Option (SceneState H) → Line → Option (SceneState H)

@@ -9,7 +9,7 @@ use Rattle.world_scene.specs.declared.answer.LineAnswer.{LineAnswer}
 use Rattle.world_scene.specs.Scenes.{SceneState, Shown, shown_of, world_of}
 use Rattle.world_scene.specs.Steps.{answered}
 use Rattle.world_scene.specs.Events.{TellsInRuns}
-use Rattle.world_core.specs.Worlds.{WorldState, world_in}
+use Rattle.world_core.specs.Worlds.{RunningState, world_in}
 
 -- what a line shows, where the definitions say that it does anything; the first begins the chain
 abbrev pub shows_in : (List ℕ → List ℕ) → Option World → Line → Option Shown
@@ -21,8 +21,8 @@ TellsLine dig None line event = event ≡ LineEvent.Idle
 TellsLine dig (Some world) line event = TellsInRuns dig world line event
 
 -- a line that keeps the rules did what it does, and was answered so
-pub record Takes {H : Type 0} (dig : List ℕ → List ℕ) (old : WorldState H) (line : Line) (answer : LineAnswer)
-    (new : WorldState H) : Type 0 where
+pub record Takes {H : Type 0} (dig : List ℕ → List ℕ) (old : RunningState H) (line : Line) (answer : LineAnswer)
+    (new : RunningState H) : Type 0 where
   pub scene : SceneState H
   pub is : new ≡ record old { scene = Some scene }
   pub hash : scene.hash ≡ old.hash
@@ -34,6 +34,6 @@ pub record Takes {H : Type 0} (dig : List ℕ → List ℕ) (old : WorldState H)
 abbrev pub scene_with : {H : Type 0} → List ℕ → SceneState H → SceneState H
 scene_with item scene = record scene { mail = scene.mail ++ item ∷ [] }
 
-abbrev pub with_item : {H : Type 0} → WorldState H → List ℕ → WorldState H
+abbrev pub with_item : {H : Type 0} → RunningState H → List ℕ → RunningState H
 with_item state item =
     record state { scene = option_map (scene_with item) state.scene; mail_size = state.mail_size + length item }

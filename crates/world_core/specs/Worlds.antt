@@ -1,5 +1,5 @@
 -- The world in memory, and when it is what lines leave.
-use Rattle.std.specs.Prelude.{◌≡◌, ◌≤◌, ℕ, List, [], map, Option, Some, None, option_map}
+use Rattle.std.specs.Prelude.{◌≡◌, ◌≤◌, ℕ, Bool, List, [], map, Option, Some, None, option_map}
 use Rattle.std.specs.List.{All, count_by}
 use Rattle.std.specs.Option.{ForSome, option_map_or}
 use Rattle.plasma_tx.specs.Spelling.{AreBytes}
@@ -18,27 +18,32 @@ use Rattle.world_scene.specs.Steps.{AllSpell}
 
 -- the digest, the world once the chain has begun, the bytes of all mail items, what is kept of the lines, and how many
 -- of their answers begin with `refused`
-pub record WorldState (H : Type 0) : Type 0 where
+pub record RunningState (H : Type 0) : Type 0 where
   pub hash : H
   pub scene : Option (SceneState H)
   pub mail_size : ℕ
   pub trace : TraceState
   pub refused : ℕ
 
+-- a world, and whether it has ended: memory ran out, or the mail was full
+pub record WorldState (H : Type 0) : Type 0 where
+  pub running : RunningState H
+  pub ended : Bool
+
 -- the world before its first line
-abbrev pub before_all : {H : Type 0} → H → WorldState H
+abbrev pub before_all : {H : Type 0} → H → RunningState H
 before_all hash = record { hash = hash; scene = None; mail_size = 0; trace = no_trace; refused = 0 }
 
 -- the world that it holds
-abbrev pub world_in : {H : Type 0} → WorldState H → Option World
+abbrev pub world_in : {H : Type 0} → RunningState H → Option World
 world_in state = option_map world_of state.scene
 
 -- each image of a crash now of each node's disks keeps the node's records
-abbrev pub NodesSpell : {H : Type 0} → WorldState H → Type 0
+abbrev pub NodesSpell : {H : Type 0} → RunningState H → Type 0
 NodesSpell state = ForSome state.scene AllSpell
 
 -- the world judges openings by its digest
-abbrev pub HasHash : {H : Type 0} → WorldState H → Type 0
+abbrev pub HasHash : {H : Type 0} → RunningState H → Type 0
 HasHash {H} state = ForSome state.scene (λ (scene : SceneState H). scene.hash ≡ state.hash)
 
 -- what is kept of the lines is that of these events, in the world that they left
@@ -56,7 +61,7 @@ abbrev pub MadeBytes : TraceEntry → Type 0
 MadeBytes entry = AreBytes entry.made
 
 -- The world and what it keeps are what these lines leave, the newest first. Each is in the grammar, and made bytes.
-pub record IsAfter {H : Type 0} (dig : List ℕ → List ℕ) (lines : List Line) (state : WorldState H) : Type 0 where
+pub record IsAfter {H : Type 0} (dig : List ℕ → List ℕ) (lines : List Line) (state : RunningState H) : Type 0 where
   pub run : Run
   pub ran : run_of dig lines ≡ Some run
   pub world : run.world ≡ world_in state

@@ -32,9 +32,9 @@ impl<H: Hash32 + Copy> Model for RunningWorld<H> {
     ghost use Rattle.std.specs.Coded.{codes};
     ghost use Rattle.world_trace.specs.contracts.trace.Trace as kept;
     ghost use Rattle.world_trace.specs.Traces.{HasDigest};
-    ghost use Rattle.world_core.specs.Worlds.{WorldState};
+    ghost use Rattle.world_core.specs.Worlds.{RunningState};
 
-    ghost Value = { WorldState H };
+    ghost Value = { RunningState H };
 
     ghost coded = { Prim.hlevel (codes, H.code, kept.the_row.coded) };
 

@@ -1,11 +1,11 @@
-ghost use Rattle.std.specs.Prelude.{◌≡◌, ◌∷◌, [], false, List, None, Some, IfOk, OnOk, IsErrOf};
+ghost use Rattle.std.specs.Prelude.{◌≡◌, ◌∷◌, [], true, false, List, None, Some, IfOk, OnOk, IsErrOf};
 ghost use Rattle.sha2.specs.Sha256.{sha256};
 ghost use Rattle.schedule_text.specs.declared.line.Line.{Line};
 ghost use Rattle.schedule_text.specs.Grammar.{IsLine};
 ghost use Rattle.world_rules.specs.Steps.{Run, run_of};
 ghost use Rattle.world_rules.specs.Verdicts.{verdicts_of, exhibit_of_run, counts_of};
 ghost use Rattle.world_core.specs.Worlds.{before_all, NodesSpell, IsAfter};
-ghost use Rattle.world_core.specs.Lines.{IsGoingOn, IsStep, WouldFill, MovesIn};
+ghost use Rattle.world_core.specs.Lines.{is_ending, IsStep, WouldFill, MovesIn};
 
 use super::running::RunningWorld;
 use plasma_base::{Hash32, NoMemory, Sha};
@@ -34,7 +34,7 @@ impl<H: Hash32 + Copy> Model for World<H> {
 
     ghost coded = { Prim.hlevel (codes, H.code, kept.the_row.coded) };
 
-    ghost view = { λ w. w.running };
+    ghost view = { λ w. record { running = w.running; ended = w.has_ended } };
 
     // Until it has ended, each image of a crash now of each node's disks keeps the node's records.
     ghost invariant = { λ w. w.has_ended ≡ false → NodesSpell w.running };
@@ -43,8 +43,9 @@ impl<H: Hash32 + Copy> Model for World<H> {
 impl World<Sha> {
     /// The world before its first line. Openings are judged by SHA-256 (FIPS 180-4).
     pub fn new(alloc: Global) -> World<Sha>
-        ensures after { IsAfter sha256 [] result }
-        ensures nodes { NodesSpell result }
+        ensures after { IsAfter sha256 [] result.running }
+        ensures nodes { NodesSpell result.running }
+        ensures ended { result.ended ≡ false }
     {
         World::new_with(alloc, Sha)
     }
@@ -52,7 +53,7 @@ impl World<Sha> {
 
 // Whether no line is stepped after a step that gave this.
 fn ends(stepped: &Result<TraceLine, StepRefusal>) -> bool
-    ensures { result ≡ false → IsGoingOn stepped.now }
+    ensures { result ≡ is_ending stepped.now }
 {
     match stepped {
         Ok(_) => false,
@@ -64,9 +65,9 @@ fn ends(stepped: &Result<TraceLine, StepRefusal>) -> bool
 impl<H: Hash32 + Copy> World<H> {
     /// The world before its first line, with openings judged by this digest.
     pub fn new_with(alloc: Global, hash: H) -> World<H>
-        ensures state { result ≡ before_all hash }
-        ensures after { IsAfter (H.digest_of hash) [] result }
-        ensures nodes { NodesSpell result }
+        ensures state { result ≡ record { running = before_all hash; ended = false } }
+        ensures after { IsAfter (H.digest_of hash) [] result.running }
+        ensures nodes { NodesSpell result.running }
     {
         World {
             running: RunningWorld::new(alloc, hash),
@@ -82,19 +83,23 @@ impl<H: Hash32 + Copy> World<H> {
         requires { IsLine line.now }
 
         // The world is the run of all lines so far, and the answer is the line's in it.
-        ensures ok { (lines : List Line) → IsAfter (H.digest_of self.old.hash) lines self.old
-            → IfOk result (λ told. IsStep (H.digest_of self.old.hash) lines line.now told self.new) }
-        ensures hash { OnOk result (self.new.hash ≡ self.old.hash) }
+        ensures ok { (lines : List Line) → IsAfter (H.digest_of self.old.running.hash) lines self.old.running
+            → IfOk result (λ told. IsStep (H.digest_of self.old.running.hash) lines line.now told self.new.running) }
+        ensures hash { OnOk result (self.new.running.hash ≡ self.old.running.hash) }
 
         // Every image of a crash now of each node's disks keeps its identity and its records; the disks of a node that
         // runs a command make the calls of that command, and all others stay.
-        ensures nodes { OnOk result (NodesSpell self.new) }
-        ensures moves { OnOk result (MovesIn H.digest_of self.old.scene line.now self.new.scene) }
-        ensures bad { (lines : List Line) → IsAfter (H.digest_of self.old.hash) lines self.old
-            → IsErrOf result StepRefusal.BadLine → run_of (H.digest_of self.old.hash) (line.now ∷ lines) ≡ None }
+        ensures nodes { OnOk result (NodesSpell self.new.running) }
+        ensures moves { OnOk result (MovesIn H.digest_of self.old.running.scene line.now self.new.running.scene) }
+        ensures bad { (lines : List Line) → IsAfter (H.digest_of self.old.running.hash) lines self.old.running
+            → IsErrOf result StepRefusal.BadLine → run_of (H.digest_of self.old.running.hash) (line.now ∷ lines) ≡ None }
         ensures same { IsErrOf result StepRefusal.BadLine → self.new ≡ self.old }
-        ensures full { (lines : List Line) → IsAfter (H.digest_of self.old.hash) lines self.old
-            → IsErrOf result StepRefusal.MailFull → WouldFill (H.digest_of self.old.hash) lines line.now }
+
+        // It ends with any other refusal, and from then on answers `NoMemory` and stays.
+        ensures ends { self.new.ended ≡ is_ending result }
+        ensures ended { self.old.ended ≡ true → IsErrOf result StepRefusal.NoMemory × (self.new ≡ self.old) }
+        ensures full { (lines : List Line) → IsAfter (H.digest_of self.old.running.hash) lines self.old.running
+            → IsErrOf result StepRefusal.MailFull → WouldFill (H.digest_of self.old.running.hash) lines line.now }
     {
         if self.has_ended {
             return Err(StepRefusal::NoMemory);
@@ -106,7 +111,7 @@ impl<H: Hash32 + Copy> World<H> {
 
     /// What is kept of the lines so far.
     pub fn trace(&self) -> &Trace
-        ensures { result.now ≡ self.now.trace }
+        ensures { result.now ≡ self.now.running.trace }
     {
         &self.running.trace
     }
@@ -114,18 +119,18 @@ impl<H: Hash32 + Copy> World<H> {
     /// The verdicts on all wallets' coins, in the order of their declarations and by rising coin; none before the
     /// first line. `NoMemory` is its one refusal.
     pub fn verdicts(&self) -> Result<Vec<Verdict>, NoMemory>
-        ensures { (lines : List Line) (run : Run) → IsAfter (H.digest_of self.now.hash) lines self.now
-            → run_of (H.digest_of self.now.hash) lines ≡ Some run
-            → IfOk result (λ verdicts. verdicts.items ≡ verdicts_of (H.digest_of self.now.hash) run) }
+        ensures { (lines : List Line) (run : Run) → IsAfter (H.digest_of self.now.running.hash) lines self.now.running
+            → run_of (H.digest_of self.now.running.hash) lines ≡ Some run
+            → IfOk result (λ verdicts. verdicts.items ≡ verdicts_of (H.digest_of self.now.running.hash) run) }
     {
         self.running.verdicts()
     }
 
     /// What the lines show that excuses a loss: nothing before the first line. `NoMemory` is its one refusal.
     pub fn exhibit(&self) -> Result<Exhibit, NoMemory>
-        ensures { (lines : List Line) (run : Run) → IsAfter (H.digest_of self.now.hash) lines self.now
-            → run_of (H.digest_of self.now.hash) lines ≡ Some run
-            → IfOk result (λ exhibit. exhibit ≡ exhibit_of_run (H.digest_of self.now.hash) run) }
+        ensures { (lines : List Line) (run : Run) → IsAfter (H.digest_of self.now.running.hash) lines self.now.running
+            → run_of (H.digest_of self.now.running.hash) lines ≡ Some run
+            → IfOk result (λ exhibit. exhibit ≡ exhibit_of_run (H.digest_of self.now.running.hash) run) }
     {
         self.running.exhibit()
     }
@@ -133,9 +138,9 @@ impl<H: Hash32 + Copy> World<H> {
     /// How much there is of the lines: how many they are, were accepted by the contract or answered with a refusal, the
     /// blocks and coins of the chain, and the verdicts of each kind. `NoMemory` is its one refusal.
     pub fn counts(&self) -> Result<Counts, NoMemory>
-        ensures { (lines : List Line) (run : Run) → IsAfter (H.digest_of self.now.hash) lines self.now
-            → run_of (H.digest_of self.now.hash) lines ≡ Some run
-            → IfOk result (λ counts. counts ≡ counts_of (H.digest_of self.now.hash) run) }
+        ensures { (lines : List Line) (run : Run) → IsAfter (H.digest_of self.now.running.hash) lines self.now.running
+            → run_of (H.digest_of self.now.running.hash) lines ≡ Some run
+            → IfOk result (λ counts. counts ≡ counts_of (H.digest_of self.now.running.hash) run) }
     {
         self.running.counts()
     }

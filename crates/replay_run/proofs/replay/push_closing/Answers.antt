@@ -9,7 +9,7 @@ use Rattle.replay_run.proofs.replay.push_closing.Goals as goal
 pub returns : goal.returns
 returns g c =
     λ run ran.
-    let dig : List ℕ → List ℕ = g.H.Hash32.digest_of c.args.world.now.hash in
+    let dig : List ℕ → List ℕ = g.H.Hash32.digest_of c.args.world.now.running.hash in
     let old : List ℕ = c.args.text.now.items in
     let verdicts = c.as_slice.ensures.value ∙ c.in_ok-verdicts.ensures ran.lines run.run ran.after ran.is in
     let shown = c.in_ok-exhibit.ensures ran.lines run.run ran.after ran.is in

@@ -1,7 +1,7 @@
 use Rattle.std.proofs.Common.{◌∙◌, length, sym, ap}
 use Rattle.plasma_tx.specs.Chain.{Chain}
 use Rattle.world_rules.specs.declared.verdict.Counts.{Counts}
-use Rattle.world_core.specs.Worlds.{WorldState}
+use Rattle.world_core.specs.Worlds.{RunningState}
 use Rattle.world_core.specs.Counting.{verdict_counts, with_log}
 use Rattle.world_core.proofs.Countings.{counts_none, counts_some}
 use Rattle.world_core.proofs.running.RunningWorld.counts.Goals as goal
@@ -12,9 +12,9 @@ returns-in-None g c lines run after ran =
     let found = c.deref.ensures.value ∙ c.in_ok-verdicts.ensures lines run after ran in
     c.verdict_counts-counts.ensures
     ∙ ap (λ n. verdict_counts n c.self.inside.refused c.deref.result.now) c.len.ensures
-    ∙ ap (λ (s : WorldState _). verdict_counts (length s.trace.facts) s.refused c.deref.result.now) c.self.view_is
+    ∙ ap (λ (s : RunningState _). verdict_counts (length s.trace.facts) s.refused c.deref.result.now) c.self.view_is
     ∙ counts_none dig lines c.args.self.now after run ran c.deref.result.now
-    (ap (λ (s : WorldState _). s.scene) (sym c.self.view_is) ∙ c.in-None.is) found
+    (ap (λ (s : RunningState _). s.scene) (sym c.self.view_is) ∙ c.in-None.is) found
 
 pub returns : goal.returns
 returns g c lines run after ran =
@@ -22,9 +22,9 @@ returns g c lines run after ran =
     let found = c.deref.ensures.value ∙ c.in_ok-verdicts.ensures lines run after ran in
     let counted = c.verdict_counts-counts.ensures
     ∙ ap (λ n. verdict_counts n c.self.inside.refused c.deref.result.now) c.len.ensures
-    ∙ ap (λ (s : WorldState _). verdict_counts (length s.trace.facts) s.refused c.deref.result.now) c.self.view_is in
+    ∙ ap (λ (s : RunningState _). verdict_counts (length s.trace.facts) s.refused c.deref.result.now) c.self.view_is in
     c.with_log.ensures
     ∙ ap (λ (l : Chain). with_log l.log c.verdict_counts-counts.result) c.log.ensures
     ∙ ap (λ (counts : Counts). with_log c.in-Some.scene.chain.log counts) counted
     ∙ counts_some dig lines c.args.self.now after run ran c.in-Some.scene c.deref.result.now
-    (ap (λ (s : WorldState _). s.scene) (sym c.self.view_is) ∙ c.in-Some.is) found
+    (ap (λ (s : RunningState _). s.scene) (sym c.self.view_is) ∙ c.in-Some.is) found

@@ -6,7 +6,7 @@ use Rattle.world_rules.specs.Events.{log_of}
 use Rattle.world_trace.specs.Events.{IsEvent}
 use Rattle.world_trace.specs.Traces.{Tells}
 use Rattle.world_scene.specs.declared.refusal.StepRefusal.{StepRefusal}
-use Rattle.world_core.specs.Worlds.{WorldState}
+use Rattle.world_core.specs.Worlds.{RunningState}
 use Rattle.world_core.specs.Counting.{with_answer}
 use Rattle.world_core.specs.Lines.{IsStep, MovesIn}
 use Rattle.world_core.proofs.LongerRuns.{no_run, put_steps, put_fills, told_as}
@@ -38,8 +38,8 @@ returns-clause-ok g c lines after =
     let trace = c.keep.new.self.trace in
     let refused = c.with_answer-self-inside.result in
     let kept_is = c.self.view_is ∙ c.in_ok-keep.ensures.rest in
-    let hash = ap (λ (s : WorldState _). s.hash) c.in_ok-put_mail.ensures.put ∙ c.in_ok-done.ensures.hash in
-    let long = c.len.ensures ∙ ap (λ (s : WorldState _). length s.trace.facts) kept_is in
+    let hash = ap (λ (s : RunningState _). s.hash) c.in_ok-put_mail.ensures.put ∙ c.in_ok-done.ensures.hash in
+    let long = c.len.ensures ∙ ap (λ (s : RunningState _). length s.trace.facts) kept_is in
     let stepped = put_steps dig lines line old after answer c.take_line.new.self
     (c.in_ok-done.ensures.takes after.hash) c.requires.grammar (subst AreBytes c.as_slice.ensures c.are_bytes.ensures)
     c.in_ok-item.item c.in_ok-item.ensures put c.in_ok-put_mail.ensures.put c.in_ok-put_mail.ensures.fits trace
@@ -51,9 +51,9 @@ returns-clause-ok g c lines after =
     c.in_ok-keep.ensures.named
     (subst (λ (n : ℕ). n < 2 ^ 64) long c.len.type_inv) refused
     (c.with_answer-self-inside.ensures
-    ∙ ap (λ (s : WorldState _). with_answer s.refused answer.done answer.reply) kept_is) in
+    ∙ ap (λ (s : RunningState _). with_answer s.refused answer.done answer.reply) kept_is) in
     subst (IsStep dig lines line (told_as c.len.result answer))
-    (sym (ap (λ (s : WorldState _). record s { refused = refused }) kept_is))
+    (sym (ap (λ (s : RunningState _). record s { refused = refused }) kept_is))
     (subst (λ (n : ℕ). IsStep dig lines line (told_as n answer)
     (record put { trace = trace; refused = refused })) (sym long) stepped)
 
@@ -61,16 +61,16 @@ pub returns-clause-nodes : goal.returns-clause-nodes
 returns-clause-nodes g c scene is =
     nodes_put c.take_line.new.self c.put_mail.new.self c.in_ok-item.item c.in_ok-put_mail.ensures.put
     c.in_ok-done.ensures.nodes scene
-    (ap (λ (s : WorldState _). s.scene) (sym (c.self.view_is ∙ c.in_ok-keep.ensures.rest)) ∙ is)
+    (ap (λ (s : RunningState _). s.scene) (sym (c.self.view_is ∙ c.in_ok-keep.ensures.rest)) ∙ is)
 
 pub returns-clause-moves : goal.returns-clause-moves
 returns-clause-moves g c =
-    subst (λ (s : WorldState _). MovesIn g.H.Hash32.digest_of c.args.self.now.scene c.args.line.now s.scene)
+    subst (λ (s : RunningState _). MovesIn g.H.Hash32.digest_of c.args.self.now.scene c.args.line.now s.scene)
     (sym (c.self.view_is ∙ c.in_ok-keep.ensures.rest))
     (moves_put g.H.Hash32.digest_of c.args.self.now.scene c.args.line.now c.take_line.new.self c.put_mail.new.self
     c.in_ok-item.item c.in_ok-put_mail.ensures.put c.in_ok-done.ensures.moves)
 
 pub returns-clause-hash : goal.returns-clause-hash
 returns-clause-hash g c =
-    ap (λ (s : WorldState _). s.hash) (c.self.view_is ∙ c.in_ok-keep.ensures.rest)
-    ∙ ap (λ (s : WorldState _). s.hash) c.in_ok-put_mail.ensures.put ∙ c.in_ok-done.ensures.hash
+    ap (λ (s : RunningState _). s.hash) (c.self.view_is ∙ c.in_ok-keep.ensures.rest)
+    ∙ ap (λ (s : RunningState _). s.hash) c.in_ok-put_mail.ensures.put ∙ c.in_ok-done.ensures.hash

@@ -3,7 +3,7 @@ use Rattle.std.specs.Option.{ForSome}
 use Rattle.plasma_tx.proofs.Names.{some_same}
 use Rattle.world_scene.specs.declared.answer.LineAnswer.{LineAnswer}
 use Rattle.world_scene.specs.Steps.{AllSpell}
-use Rattle.world_core.specs.Worlds.{WorldState}
+use Rattle.world_core.specs.Worlds.{RunningState}
 use Rattle.world_core.specs.Taking.{Takes}
 use Rattle.world_core.proofs.Takings.{takes_next, moves_hash}
 use Rattle.world_core.proofs.running.RunningWorld.take_line.Goals as goal
@@ -11,7 +11,7 @@ use Rattle.world_core.proofs.running.RunningWorld.take_line.Goals.{in-Ok, in-Err
 
 pub take_line-requires-clause-spells : goal.take_line-requires-clause-spells
 take_line-requires-clause-spells g c =
-    c.requires.nodes c.in-Some.scene (ap (λ (s : WorldState _). s.scene) (sym c.self.view_is) ∙ c.in-Some.is)
+    c.requires.nodes c.in-Some.scene (ap (λ (s : RunningState _). s.scene) (sym c.self.view_is) ∙ c.in-Some.is)
 
 pub returns-after-take_line-clause-takes : goal.returns-after-take_line-clause-takes
 returns-after-take_line-clause-takes g c has =
@@ -19,16 +19,16 @@ returns-after-take_line-clause-takes g c has =
     let old = c.args.self.now in
     let before = c.in-Some.scene in
     let scene = c.take_line.new.self in
-    let new : WorldState _ = record {
+    let new : RunningState _ = record {
       hash = c.self.inside.hash;
       scene = Some scene;
       mail_size = c.self.inside.mail_size;
       trace = c.self.inside.trace;
       refused = c.self.inside.refused;
     } in
-    let some = ap (λ (s : WorldState _). s.scene) (sym c.self.view_is) ∙ c.in-Some.is in
+    let some = ap (λ (s : RunningState _). s.scene) (sym c.self.view_is) ∙ c.in-Some.is in
     let hash = has before some in
-    let is = ap (λ (s : WorldState _). record s { scene = Some scene }) c.self.view_is in
+    let is = ap (λ (s : RunningState _). record s { scene = Some scene }) c.self.view_is in
     let Taken = λ (answer : LineAnswer). Takes (digest old.hash) old c.args.line.now answer new in
     elim c.match-take_line.branch [
       | in-Ok w ↦
