@@ -1,23 +1,18 @@
 -- What an append and an opening tell of a two-level signer's records.
-use Rattle.std.proofs.Common.{◌≡◌, ◌≤◌, ◌+◌, ◌-◌, max, ℕ, true, false, List, [], ◌∷◌, ◌++◌, length, Option, Some, None, Result, Ok, Err, refl, sym, ◌∙◌, ap, subst, inl, inr, arith, append-nil}
-use Rattle.std.specs.Option.{option_map}
-use Rattle.std.specs.Result.{is_err, is_ok, IfErr, OnErr, OnOk}
+use Rattle.std.proofs.Common.{◌≡◌, ◌≤◌, ◌+◌, ◌-◌, max, ℕ, true, false, List, [], ◌∷◌, ◌++◌, length, Option, Some, Result, Ok, Err, refl, sym, ◌∙◌, ap, subst, arith}
+use Rattle.std.specs.Result.{is_ok, IfErr, OnErr, OnOk}
 use Rattle.std.proofs.lemmas.Bool.{lt-ltb, le-leb}
 use Rattle.plasma_base.specs.Causes.{faults_after}
-use Rattle.crash_disk.specs.Disk.{Step, History, content, MayLeave, FaultPlan, LeavesOnly}
-use Rattle.crash_disk.specs.Calls.{WhereTold, IsStill, Course, passed, failed_after, after_course, Made}
+use Rattle.crash_disk.specs.Disk.{History, FaultPlan}
+use Rattle.crash_disk.specs.Calls.{WhereTold, IsStill, passed}
 use Rattle.crash_disk.proofs.Calls.{made_from}
-use Rattle.gate_journal.specs.Image.{spelled}
-use Rattle.gate_journal.specs.Steps.{append_steps}
-use Rattle.gate_journal.specs.Journal.{JournalState, Keeps, KeepsWithOrWithout, IsSettled, fresh_journal, with_spare, has_spare, is_fault, Appended, AppendFailed, Appends}
+use Rattle.gate_journal.specs.Image.{most, spelled}
+use Rattle.gate_journal.specs.Journal.{JournalState, IsSettled, fresh_journal, with_spare, has_spare, Appended, AppendFailed}
 use Rattle.node_journal.specs.Notes.{NotesState, KeepsAtAnyMoment, stopped_by, Added, AddFailed, Did}
 use Rattle.gate_journal.specs.Life.{Stay}
-use Rattle.gate_journal.specs.declared.refusal.JournalRefusal.{JournalRefusal}
-use Rattle.gate_journal.specs.declared.refusal.JournalRefusal.TheVariants.{AlreadyMade, NotJournal, RecordTooLong, DeviceFault, Closed, NoMemory}
 use Rattle.node_journal.specs.declared.stop.Stop.{Stop}
 use Rattle.node_journal.specs.declared.stop.Stop.TheVariants.{Closed as StopClosed, NoMemory as StopNoMemory, DeviceFault as StopFault}
-use Rattle.gate_journal.proofs.Lives.{in_from}
-use Rattle.gate_journal.proofs.Rest.{leaves_now}
+use Rattle.node_journal.proofs.Keeping.{moments_stay, settled_stays}
 use Rattle.lms_sign.specs.Types.{leaf_count}
 use Rattle.hss_keys.specs.declared.seed.HssSeed.{HssSeed}
 use Rattle.hss_keys.specs.declared.entry.Entry.{Entry}
@@ -29,175 +24,54 @@ use Rattle.hss_keys.specs.Sound.{LevelRecordsState, IsKept, HasRoom}
 use Rattle.hss_keys.proofs.Counts.{left-less, left-most, IsNextLeaf}
 use Rattle.hss_keys.proofs.Form.{all_same, one_more, spelled-count}
 
--- what was told is told of something
-told_of : (f : History → History) (told now : Option History) (history : History) → now ≡ option_map f told
-    → now ≡ Some history
-    → (before : History) × (told ≡ Some before) × (history ≡ f before)
-told_of f None now history is some = absurd (cc (is, some))
-told_of f (Some before) now history is some = (before, refl, cc (is, some))
-
-told_before : {D : Type 0} {told : D → Option History} {plan : D → Option FaultPlan} {old new : D} {steps : List ℕ
-    → List Step} {count : ℕ} {course : Course} → Made told plan steps count course old new
-    → (now : History) → told new ≡ Some now → (before : History) × (told old ≡ Some before)
-    × (now ≡ after_course course (steps (content before)) before)
-told_before {told = told} {old = old} {new = new} {steps = steps} {course = course} made now some =
-    told_of (λ h. after_course course (steps (content h)) h) (told old) (told new) now made.calls some
-
 are_ok : (seed : HssSeed) (records : List (List ℕ)) → level_records seed records ≡ Ok records
     → are_level_records seed records ≡ true
 are_ok seed records are = ap is_ok are
 
--- each image of a settled disk keeps its records
-settled_stays : (seed : HssSeed) (records : List (List ℕ)) (history : History)
-    → level_records seed records ≡ Ok records → IsSettled history records
-    → Stay (are_level_records seed) records history
-settled_stays seed records history are settled image may = (
-  records,
-  in_from (are_level_records seed) image records (settled.images image may) (are_ok seed records are),
-  ([], sym (append-nil records)),
-)
-
--- the notes of a journal with some records
-abbrev pub notes_over : {D : Type 0} → JournalState D → List (List ℕ) → NotesState D
-notes_over journal records = record { disk = journal.disk; closed = journal.closed; records = records }
-
 -- over an open journal with room for a record that may follow
-module _ {D : Type 0} (told : D → Option History) (plan : D → Option FaultPlan) (faults : D
-    → ℕ) {journal : JournalState D} {kept : LevelRecordsState} (body : List ℕ)
-    (open' : journal.closed ≡ false) (is_kept : IsKept (told journal.disk) journal kept)
-    (room : HasRoom journal kept 1) (follows : may_follow kept.seed kept.records body ≡ true)
-    (short : length body ≤ 137)
+module _ {D : Type 0} (told : D → Option History) {journal : JournalState D} {kept : LevelRecordsState} (body : List ℕ)
+    (open' : journal.closed ≡ false) (is_kept : IsKept (told journal.disk) journal kept) (room : HasRoom journal kept 1)
+    (follows : may_follow kept.seed kept.records body ≡ true) (short : length body ≤ 137)
   where
     more_are : level_records kept.seed (kept.records ++ body ∷ []) ≡ Ok (kept.records ++ body ∷ [])
     more_are = one_more kept.seed kept.records body is_kept.are follows
 
-    spare : has_spare journal (length body) ≡ true
+    pub spare : has_spare journal (length body) ≡ true
     spare = rw (
       lt-ltb 0 journal.spare_bodies (omega (arith, room.bodies)),
       le-leb (length body) journal.spare_bytes (omega (arith, short, room.bytes (omega arith))),
     ) refl
 
-    -- an append then goes through, or meets a fault
-    pub goes_through : (r : Result Unit JournalRefusal) (new : JournalState D) → Appends told plan body journal r new
-        → is_err r ≡ false → (r ≡ Ok tt) × Appended told plan body journal new
-    goes_through (Ok done) new did ok = (refl, did)
-    goes_through (Err why) new did ok = absurd (cc ok)
+    pub fits : length body ≤ most
+    fits = omega (arith, short)
 
-    pub meets_fault : (r : Result Unit JournalRefusal) (new : JournalState D) → Appends told plan body journal r new
-        → is_err r ≡ true → (is_fault r ≡ true) × AppendFailed told plan body journal new
-    meets_fault (Ok done) new did err = absurd (cc err)
-    meets_fault (Err DeviceFault) new did err = (refl, did)
-    meets_fault (Err Closed) new did err = absurd (cc (did.0, open'))
-    meets_fault (Err (RecordTooLong count)) new did err = absurd (omega (arith, did.1, short))
-    meets_fault (Err NoMemory) new did err = absurd (cc (did.2, spare))
-    meets_fault (Err (AlreadyMade count)) new did err = absurd did
-    meets_fault (Err (NotJournal place)) new did err = absurd did
-
-    pub moments : (new : JournalState D)
-        → (journal.closed ≡ false → WhereTold (told journal.disk)
-        (λ before. (records : List (List ℕ)) → Keeps records (content before)
-        → WhereTold (told new.disk) (λ now. LeavesOnly before now (KeepsWithOrWithout records body))))
-        → KeepsAtAnyMoment kept.records body (told journal.disk) (told new.disk)
-    moments new clause before is =
-        clause open' before is kept.records (is_kept.settled open' before is).read
-
-    -- what the images keep at any moment they keep now
-    moments_stay : {new : D} {steps : List ℕ → List Step} {most' : ℕ} {course : Course}
-        → Made told plan steps most' course journal.disk new
-        → KeepsAtAnyMoment kept.records body (told journal.disk) (told new)
-        → WhereTold (told new) (Stay (are_level_records kept.seed) kept.records)
-    moments_stay {steps = steps} {course = course} made any now some image may =
-        let before = told_before made now some in
-        let only = any before.0 before.1 now some in
-        let here = leaves_now before.0 course (steps (content before.0)) (KeepsWithOrWithout kept.records body)
-        (subst (λ (h : History). LeavesOnly before.0 h (KeepsWithOrWithout kept.records body)) before.2 only) image
-        (subst (λ (h : History). MayLeave h image) before.2 may) in
-        elim here [
-          | inl without ↦ (
-            kept.records,
-            in_from (are_level_records kept.seed) image kept.records without
-                (are_ok kept.seed kept.records is_kept.are),
-            ([], sym (append-nil kept.records)),
-          )
-          | inr with' ↦ (
-            kept.records ++ body ∷ [],
-            in_from (are_level_records kept.seed) image (kept.records ++ body ∷ []) with'
-                (are_ok kept.seed (kept.records ++ body ∷ []) more_are),
-            (body ∷ [], refl),
-          )
-        ]
-
-    pub fault_did : {new : JournalState D} → AppendFailed told plan body journal new
-        → KeepsAtAnyMoment kept.records body (told journal.disk) (told new.disk)
-        → faults new.disk ≡ faults_after (faults journal.disk) true
-        → AddFailed told plan faults body (notes_over journal kept.records) (notes_over new kept.records)
-    fault_did {new = new} failed any cause = record {
-      was_open = open';
-      fits = failed.fits;
-      passed = failed.count;
-      made = subst (λ (n : ℕ). Made told plan (λ image. append_steps n body) 4 (failed_after failed.count) journal.disk
-          new.disk) (is_kept.gate open') failed.made;
-      any_moment = any;
-      count = cause;
-      is_closed = failed.is_closed;
-      records = refl;
-    }
-
-    pub fault_kept : {new : JournalState D} → AppendFailed told plan body journal new
+    pub fault_kept : {plan : D → Option FaultPlan} {new : JournalState D}
+        → AppendFailed told plan body journal new
         → KeepsAtAnyMoment kept.records body (told journal.disk) (told new.disk) → IsKept (told new.disk) new kept
     fault_kept {new = new} failed any =
         let shut : new.closed ≡ false → ⊥ = λ still. absurd (let is = failed.is_closed in cc (is, still)) in
         record {
           are = is_kept.are;
-          stay = moments_stay failed.made any;
+          stay = moments_stay (are_level_records kept.seed) kept.records (are_ok kept.seed kept.records is_kept.are)
+              body (are_ok kept.seed (kept.records ++ body ∷ []) more_are) failed.made any;
           settled = λ still. absurd (shut still);
           gate = λ still. absurd (shut still);
         }
 
-    pub settles : {new : JournalState D} → Appended told plan body journal new
-        → WhereTold (told journal.disk) (λ before. (records : List (List ℕ)) → Keeps records (content before)
-        → WhereTold (told new.disk) (λ now. IsSettled now (records ++ body ∷ [])))
-        → WhereTold (told new.disk) (λ now. IsSettled now (kept.records ++ body ∷ []))
-    settles appended clause now some =
-        let before = told_before appended.made now some in
-        clause before.0 before.1 kept.records (is_kept.settled open' before.0 before.1).read now some
-
-    pub append_did : {new : JournalState D} {records : List (List ℕ)} → Appended told plan body journal new
-        → records ≡ kept.records ++ body ∷ []
-        → WhereTold (told new.disk) (λ now. IsSettled now (kept.records ++ body ∷ []))
-        → KeepsAtAnyMoment kept.records body (told journal.disk) (told new.disk)
-        → faults new.disk ≡ faults journal.disk
-        → Added told plan faults body (notes_over journal kept.records) (notes_over new records)
-    append_did {new = new} appended is settled any cause =
-        let closed : new.closed ≡ journal.closed = ap (λ (j : JournalState D). j.closed) appended.journal in
-        record {
-          was_open = open';
-          fits = appended.fits;
-          made = subst (λ (n : ℕ). Made told plan (λ image. append_steps n body) 4 passed journal.disk new.disk)
-              (is_kept.gate open') appended.made;
-          any_moment = any;
-          count = cause;
-          is_open = closed ∙ open';
-          records = is;
-          settled = subst (λ (l : List (List ℕ)). WhereTold (told new.disk) (λ now. IsSettled now l)) (sym is)
-              settled;
-        }
-
-    pub append_kept : {new : JournalState D} {more : LevelRecordsState} → Appended told plan body journal new
+    pub append_kept : {plan : D → Option FaultPlan} {new : JournalState D} {more : LevelRecordsState}
+        → Appended told plan body journal new
         → more.seed ≡ kept.seed → more.records ≡ kept.records ++ body ∷ []
-        → WhereTold (told new.disk) (λ now. IsSettled now (kept.records ++ body ∷ []))
+        → WhereTold (told new.disk) (λ now. IsSettled now more.records)
         → IsKept (told new.disk) new more
     append_kept {new = new} {more = more} appended same is settled =
-        let all = kept.records ++ body ∷ [] in
         let gate : new.gate ≡ journal.gate + (5 + length body) = ap (λ (j : JournalState D). j.gate)
         appended.journal in
         let are : level_records more.seed more.records ≡ Ok more.records = rw (same, is) more_are in
-        let here : WhereTold (told new.disk) (λ now. IsSettled now more.records) =
-        subst (λ (l : List (List ℕ)). WhereTold (told new.disk) (λ now. IsSettled now l)) (sym is) settled in
         record {
           are = are;
-          stay = λ history some. settled_stays more.seed more.records history are (here history some);
-          settled = λ still. here;
+          stay = λ history some. settled_stays (are_level_records more.seed) more.records
+              (are_ok more.seed more.records are) history (settled history some);
+          settled = λ still. settled;
           gate = λ still. omega (
             arith,
             gate,
@@ -208,13 +82,15 @@ module _ {D : Type 0} (told : D → Option History) (plan : D → Option FaultPl
         }
 
     -- the room after it
-    pub bodies-left : {new : JournalState D} → Appended told plan body journal new
+    pub bodies-left : {plan : D → Option FaultPlan} {new : JournalState D}
+        → Appended told plan body journal new
         → journal.spare_bodies ≤ new.spare_bodies + 1
     bodies-left {new = new} appended =
         let bodies = ap (λ (j : JournalState D). j.spare_bodies) appended.journal in
         omega (arith, rw spare at bodies)
 
-    pub bytes-left : {new : JournalState D} → Appended told plan body journal new
+    pub bytes-left : {plan : D → Option FaultPlan} {new : JournalState D}
+        → Appended told plan body journal new
         → journal.spare_bytes ≤ new.spare_bytes
     bytes-left {new = new} appended =
         let bytes : new.spare_bytes ≡ max (length body) journal.spare_bytes = ap
@@ -274,7 +150,8 @@ module _ {D : Type 0} (told : D → Option History) (new : JournalState D) (kept
         ∙ ap (λ (j : JournalState D). j.gate) fresh in
         record {
           are = are;
-          stay = λ history some. settled_stays kept.seed kept.records history are (opened_settled history some);
+          stay = λ history some. settled_stays (are_level_records kept.seed) kept.records
+              (are_ok kept.seed kept.records are) history (opened_settled history some);
           settled = λ still. opened_settled;
           gate = λ still. gate ∙ ap (λ (l : List (List ℕ)). length (spelled l)) same;
         }

@@ -20,7 +20,8 @@ use Rattle.hss_keys.specs.Sound.{LevelRecordsState, IsFormRefusal, IsSound}
 use Rattle.hss_keys.proofs.Counts.{left-most}
 use Rattle.hss_keys.proofs.Form.{all_same}
 use Rattle.hss_keys.proofs.Lives.{in_image}
-use Rattle.hss_keys.proofs.Adding.{notes_over, opened_kept, opened_settled, reserved_room}
+use Rattle.node_journal.proofs.Keeping.{notes_over, made_still, journal_opened}
+use Rattle.hss_keys.proofs.Adding.{opened_kept, reserved_room}
 
 -- what an image keeps is read by the signer's reader
 read-refused : (seed : HssSeed) (bodies : List (List ℕ)) (place : ℕ) (r : Result (List (List ℕ)) ℕ)
@@ -46,13 +47,6 @@ module _ {D : Type 0} (told : D → Option History) (plan : D → Option FaultPl
         → RefusesRole told plan faults (level_records_in seed) old why new
     refused_by_journal {old = old} {new = new} why did count =
         record { refused = refuses_level old new why did; count = count }
-
-    made_still : {old mid new : D} → Made told plan open_steps 3 passed old mid → IsStill told plan faults mid new
-        → Made told plan open_steps 3 passed old new
-    made_still made still = record {
-      calls = still.same_calls ∙ made.calls;
-      planned = (made.planned.0, still.same_plan ∙ made.planned.1);
-    }
 
     stopped : {old new : D} → Made told plan open_steps 3 passed old new
         → Made told plan open_steps 3 (stopped_after 3) old new
@@ -109,14 +103,11 @@ module _ {D : Type 0} (told : D → Option History) (plan : D → Option FaultPl
         opened_level made keeps count =
             let same : bodies ≡ kept.records = all_same kept.seed bodies kept.records here in
             let are : level_records seed kept.records ≡ Ok kept.records = ap (level_records seed) (sym same) ∙ read in
-            record {
-              kept = λ before some. in_image seed (content before) kept.records
-                  (subst (λ (l : List (List ℕ)). Keeps l (content before)) same (keeps before some)) are;
-              made = made_still made still;
-              count = still.same_count ∙ count;
-              is_open = ap (λ (j : JournalState D). j.closed) is ∙ ap (λ (j : JournalState D). j.closed) fresh;
-              settled = opened_settled told new kept bodies here settled_now;
-            }
+            journal_opened told plan faults (level_records_in seed) disk old new kept.records
+            (λ image keeps. in_image seed image kept.records keeps are)
+            (ap (λ (j : JournalState D). j.closed) is ∙ ap (λ (j : JournalState D). j.closed) fresh) made
+            (λ before some. subst (λ (l : List (List ℕ)). Keeps l (content before)) same (keeps before some))
+            (subst (λ (l : List (List ℕ)). WhereTold (told old.disk) (λ now. IsSettled now l)) same settled) count still
 
         pub opened_sound : {key : List ℕ} → key ≡ hss_key_of seed
             → leaves_left kept.seed (entries_of kept.records) ≤ kept.spare → IsSound (told new.disk) new key kept

@@ -13,16 +13,10 @@ use Rattle.hss_keys.specs.declared.refusal.LevelRefusal.TheVariants.{LevelOpen, 
 use Rattle.hss_keys.specs.Keys.{bottom_key, hss_key_of}
 use Rattle.hss_keys.specs.Entries.{entry_text, entries_of, key_at, message_at, opened_count, used_in}
 
--- the disk; whether a device fault closed the journal; what the keys are made from; and the records
+-- its records in a journal on a disk, as a node's notes are; and what the keys are made from
 pub record LevelsState (D : Type 0) : Type 0 where
-  pub disk : D
-  pub closed : Bool
+  pub notes : NotesState D
   pub seed : HssSeed
-  pub records : List (List ℕ)
-
--- the same as a node's notes
-abbrev pub notes_of : {D : Type 0} → LevelsState D → NotesState D
-notes_of levels = record { disk = levels.disk; closed = levels.closed; records = levels.records }
 
 -- what callers see of a bound: the public key, the top leaf, the bottom key that it signs, the bottom leaf and the
 -- message

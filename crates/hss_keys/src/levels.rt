@@ -8,7 +8,7 @@ ghost use Rattle.node_journal.specs.Notes.{Did, Opened, RefusesRole, stopped_by}
 ghost use Rattle.lms_sign.specs.Types.{leaf_count};
 ghost use Rattle.hss_keys.specs.Entries.{entries_of, entry_text, key_at, opened_count, used_in, IsEntry};
 ghost use Rattle.hss_keys.specs.Form.{are_level_records, entry_may_follow, level_records, level_records_in};
-ghost use Rattle.hss_keys.specs.Levels.{advance_causes, advance_effect, again_answer, bind_effect, bound_of, has_leaf, leaves_left, level_stop, notes_of, KeepsBound};
+ghost use Rattle.hss_keys.specs.Levels.{advance_causes, advance_effect, again_answer, bind_effect, bound_of, has_leaf, leaves_left, level_stop, KeepsBound};
 ghost use Rattle.hss_keys.specs.Sound.{HasRoom, IsFormRefusal, IsKept};
 
 use super::bound::HssBound;
@@ -47,10 +47,8 @@ impl<D: Disk> Model for Levels<D> {
     ghost use Rattle.hss_keys.specs.Sound.{IsSound};
 
     ghost view = { λ l. record {
-      disk = l.journal.disk;
-      closed = l.journal.closed;
+      notes = record { disk = l.journal.disk; closed = l.journal.closed; records = l.records.records };
       seed = l.records.seed;
-      records = l.records.records;
     } };
 
     ghost invariant = { λ l. IsSound (D.told l.journal.disk) l.journal l.key l.records };
@@ -124,7 +122,7 @@ impl<D: Disk> Levels<D> {
     /// than the last, or one that isn't the next or isn't there. A refusal hands the disk back.
     pub fn open(alloc: Global, disk: D, secret: &HssSecret) -> Result<Levels<D>, Returned<D>>
         ensures opened { IfOk result (λ opened.
-            Opened D.told D.plan D.faults (level_records_in secret.now) disk (notes_of opened)) }
+            Opened D.told D.plan D.faults (level_records_in secret.now) disk opened.notes) }
         ensures seed { IfOk result (λ opened. opened.seed ≡ secret.now) }
         ensures refused { IfErr result (λ returned.
             RefusesRole D.told D.plan D.faults (level_records_in secret.now) disk returned.why returned.disk) }
@@ -150,24 +148,24 @@ impl<D: Disk> Levels<D> {
     /// What holds of every two-level signer: its records have the form, an open journal is settled with them, and each
     /// image that a crash may leave continues them, also where a fault closed the journal.
     pub fn is_whole(&self)
-        ensures are { level_records self.now.seed self.now.records ≡ Ok self.now.records }
-        ensures settled { self.now.closed ≡ false →
-            WhereTold (D.told self.now.disk) (λ now. IsSettled now self.now.records) }
-        ensures stay { WhereTold (D.told self.now.disk) (Stay (are_level_records self.now.seed) self.now.records) }
+        ensures are { level_records self.now.seed self.now.notes.records ≡ Ok self.now.notes.records }
+        ensures settled { self.now.notes.closed ≡ false →
+            WhereTold (D.told self.now.notes.disk) (λ now. IsSettled now self.now.notes.records) }
+        ensures stay { WhereTold (D.told self.now.notes.disk) (Stay (are_level_records self.now.seed) self.now.notes.records) }
     {
         let _ = &self.key;
     }
 
     /// Whether a device fault closed the signer.
     pub fn is_closed(&self) -> bool
-        ensures { result ≡ self.now.closed }
+        ensures { result ≡ self.now.notes.closed }
     {
         self.journal.is_closed()
     }
 
     /// The number of bottom keys that were opened, whose top leaves are the first ones.
     pub fn opened(&self) -> u32
-        ensures value { result ≡ opened_count (entries_of self.now.records) }
+        ensures value { result ≡ opened_count (entries_of self.now.notes.records) }
         ensures within { result ≤ leaf_count self.now.seed.top }
     {
         self.records.opened()
@@ -175,7 +173,7 @@ impl<D: Disk> Levels<D> {
 
     /// The number of bound leaves of the last bottom key, which are the first ones.
     pub fn used(&self) -> u32
-        ensures value { result ≡ used_in (entries_of self.now.records) }
+        ensures value { result ≡ used_in (entries_of self.now.notes.records) }
         ensures within { result ≤ leaf_count self.now.seed.bottom }
     {
         self.records.used()
@@ -183,7 +181,7 @@ impl<D: Disk> Levels<D> {
 
     /// Whether the last bottom key has a leaf that isn't bound.
     pub fn has_leaf(&self) -> bool
-        ensures { result ≡ has_leaf self.now.seed (entries_of self.now.records) }
+        ensures { result ≡ has_leaf self.now.seed (entries_of self.now.notes.records) }
     {
         self.records.has_leaf()
     }
@@ -199,12 +197,12 @@ impl<D: Disk> Levels<D> {
     pub fn advance(&mut self, secret: &HssSecret) -> Result<u32, LevelRefusal>
         requires secret { secret.now ≡ self.old.seed }
         ensures answer { level_stop result ≡ None
-            → result ≡ (advance_effect self.old.seed self.old.records).answer }
-        ensures did { Did D.told D.plan D.faults (advance_effect self.old.seed self.old.records).note
-            (notes_of self.old) (level_stop result) (notes_of self.new) }
+            → result ≡ (advance_effect self.old.seed self.old.notes.records).answer }
+        ensures did { Did D.told D.plan D.faults (advance_effect self.old.seed self.old.notes.records).note
+            self.old.notes (level_stop result) self.new.notes }
         ensures seed { self.new.seed ≡ self.old.seed }
         ensures memory { result ≡ Err LevelRefusal.NoMemory
-            → first_cause (advance_causes self.old.seed (entries_of self.old.records)) ≡ None }
+            → first_cause (advance_causes self.old.seed (entries_of self.old.notes.records)) ≡ None }
     {
         if self.is_closed() {
             return Err(LevelRefusal::Closed);
@@ -228,11 +226,11 @@ impl<D: Disk> Levels<D> {
 
     // Takes the memory for one more bottom key and its messages, and appends its entry.
     fn open_level(&mut self, entry: &Entry) -> Result<(), Stop>
-        requires open { self.old.closed ≡ false }
+        requires open { self.old.notes.closed ≡ false }
         requires entry { IsEntry entry.now }
-        requires follows { entry_may_follow self.old.seed (entries_of self.old.records) entry.now ≡ true }
+        requires follows { entry_may_follow self.old.seed (entries_of self.old.notes.records) entry.now ≡ true }
         ensures did { Did D.told D.plan D.faults (Some (entry_text entry.now))
-            (notes_of self.old) (stopped_by result) (notes_of self.new) }
+            self.old.notes (stopped_by result) self.new.notes }
         ensures seed { self.new.seed ≡ self.old.seed }
     {
         let leaves = self.records.bottom_leaves();
@@ -252,12 +250,12 @@ impl<D: Disk> Levels<D> {
         requires some { 1 ≤ length message.now }
         requires most { length message.now ≤ 128 }
         ensures answer { level_stop result ≡ None
-            → result ≡ (bind_effect self.old.seed self.old.records message.now).answer }
-        ensures did { Did D.told D.plan D.faults (bind_effect self.old.seed self.old.records message.now).note
-            (notes_of self.old) (level_stop result) (notes_of self.new) }
+            → result ≡ (bind_effect self.old.seed self.old.notes.records message.now).answer }
+        ensures did { Did D.told D.plan D.faults (bind_effect self.old.seed self.old.notes.records message.now).note
+            self.old.notes (level_stop result) self.new.notes }
         ensures seed { self.new.seed ≡ self.old.seed }
         ensures no_memory { result ≢ Err LevelRefusal.NoMemory }
-        ensures kept { IfOk result (KeepsBound self.new.records) }
+        ensures kept { IfOk result (KeepsBound self.new.notes.records) }
     {
         if self.is_closed() {
             return Err(LevelRefusal::Closed);
@@ -275,13 +273,13 @@ impl<D: Disk> Levels<D> {
 
     // Appends the entry that binds the next leaf, for which there is room.
     fn bind_leaf(&mut self, top_leaf: u32, leaf: u32, message: &[u8]) -> Result<(), Stop>
-        requires open { self.old.closed ≡ false }
+        requires open { self.old.notes.closed ≡ false }
         requires some { 1 ≤ length message.now }
         requires most { length message.now ≤ 128 }
-        requires follows { entry_may_follow self.old.seed (entries_of self.old.records)
+        requires follows { entry_may_follow self.old.seed (entries_of self.old.notes.records)
             (Entry.Binds top_leaf leaf message.now) ≡ true }
         ensures did { Did D.told D.plan D.faults (Some (entry_text (Entry.Binds top_leaf leaf message.now)))
-            (notes_of self.old) (stopped_by result) (notes_of self.new) }
+            self.old.notes (stopped_by result) self.new.notes }
         ensures seed { self.new.seed ≡ self.old.seed }
         ensures fault { IfErr result (λ stop. stop ≡ Stop.DeviceFault) }
     {
@@ -295,10 +293,10 @@ impl<D: Disk> Levels<D> {
 
     // A leaf of an opened bottom key, bound to a message.
     fn bound(&self, top_leaf: u32, leaf: u32, message: Message) -> HssBound
-        requires top { top_leaf < opened_count (entries_of self.now.records) }
+        requires top { top_leaf < opened_count (entries_of self.now.notes.records) }
         requires below { leaf < leaf_count self.now.seed.bottom }
         ensures value { result ≡ bound_of self.now.seed top_leaf leaf message }
-        ensures key { key_at (entries_of self.now.records) top_leaf ≡ Some result.bottom }
+        ensures key { key_at (entries_of self.now.notes.records) top_leaf ≡ Some result.bottom }
     {
         self.records.is_whole();
         HssBound {
@@ -313,8 +311,8 @@ impl<D: Disk> Levels<D> {
     /// The bound message of leaf q of the bottom key of top leaf j, ready to be signed again; `None` where no such
     /// record is kept. It takes no memory.
     pub fn again(&self, j: u32, q: u32) -> Option<HssBound>
-        ensures value { result ≡ again_answer self.now.seed self.now.records j q }
-        ensures kept { IfSome result (KeepsBound self.now.records) }
+        ensures value { result ≡ again_answer self.now.seed self.now.notes.records j q }
+        ensures kept { IfSome result (KeepsBound self.now.notes.records) }
     {
         let message = self.records.message(j, q)?;
         Some(self.bound(j, q, message))
@@ -322,7 +320,7 @@ impl<D: Disk> Levels<D> {
 
     /// The disk, handed back.
     pub fn take_disk(self) -> D
-        ensures { result ≡ self.disk }
+        ensures { result ≡ self.notes.disk }
     {
         let Levels { journal, .. } = self;
         journal.take_disk()

@@ -19,7 +19,7 @@ pub struct NextLeaf {
 /// The leaf that signs next; `None` where no leaf is left. The secret has to be that of `Levels::open`.
 pub fn next_leaf<D: Disk>(levels: &Levels<D>, secret: &HssSecret) -> Option<NextLeaf>
     requires { secret.now ≡ levels.now.seed }
-    ensures { result ≡ next_leaf levels.now.seed (entries_of levels.now.records) }
+    ensures { result ≡ next_leaf levels.now.seed (entries_of levels.now.notes.records) }
 {
     let opened = levels.opened();
     if levels.has_leaf() {

@@ -2,7 +2,6 @@ ghost use Rattle.std.specs.Prelude.{◌≡◌, true, IfOk, IfErr};
 ghost use Rattle.node_journal.specs.Role.{are_of};
 ghost use Rattle.node_journal.specs.Notes.{Opened};
 ghost use Rattle.hss_keys.specs.Form.{level_records_in};
-ghost use Rattle.hss_keys.specs.Levels.{notes_of};
 ghost use Rattle.hss_runs.specs.Identity.{seed_of, signer_kinds};
 ghost use Rattle.hss_runs.specs.Runs.{OpensSigner, RefusesLeaves, RefusesSigner};
 
@@ -55,7 +54,7 @@ fn open_behind<D: Disk>(
     ensures secret { IfOk result (λ signer. signer.secret ≡ seed_of notes.notes.records) }
     ensures levels { IfOk result (λ signer. signer.levels.seed ≡ seed_of notes.notes.records) }
     ensures opened { IfOk result (λ signer. Opened D.told D.plan D.faults
-        (level_records_in (seed_of notes.notes.records)) leaves (notes_of signer.levels)) }
+        (level_records_in (seed_of notes.notes.records)) leaves signer.levels.notes) }
     ensures refused { IfErr result (λ returned. RefusesLeaves D.told D.plan D.faults
         notes.notes leaves returned.why returned.notes returned.leaves) }
 {
@@ -99,7 +98,7 @@ pub fn open_signer<D: Disk>(
     leaves: D,
 ) -> Result<Signer<D>, ReturnedBoth<D>>
     ensures opened { IfOk result (λ signer.
-        OpensSigner D.told D.plan D.faults notes leaves signer.notes.notes (notes_of signer.levels)) }
+        OpensSigner D.told D.plan D.faults notes leaves signer.notes.notes signer.levels.notes) }
     ensures secret { IfOk result (λ signer. signer.secret ≡ seed_of signer.notes.notes.records) }
     ensures levels { IfOk result (λ signer. signer.levels.seed ≡ seed_of signer.notes.notes.records) }
     ensures refused { IfErr result (λ returned. RefusesSigner D.told D.plan D.faults

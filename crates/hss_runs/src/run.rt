@@ -3,7 +3,6 @@ ghost use Rattle.plasma_base.specs.Causes.{faults_after};
 ghost use Rattle.run_endings.specs.Statuses.{is_write_fault, FaultsBy};
 ghost use Rattle.node_runs.specs.Faults.{CountsEither};
 ghost use Rattle.hss_keys.specs.Entries.{entries_of};
-ghost use Rattle.hss_keys.specs.Levels.{notes_of};
 ghost use Rattle.hss_runs.specs.Signing.{is_signable, next_leaf, signing, signs};
 ghost use Rattle.hss_runs.specs.Runs.{RunsSigner, Signs};
 
@@ -41,11 +40,11 @@ fn sign_by<D: Disk, K: Sink>(
     message: &[u8],
 ) -> Status
     requires secret { secret.now ≡ levels.old.seed }
-    requires open { levels.old.closed ≡ false }
-    requires next { next_leaf levels.old.seed (entries_of levels.old.records) ≡ Some next }
+    requires open { levels.old.notes.closed ≡ false }
+    requires next { next_leaf levels.old.seed (entries_of levels.old.notes.records) ≡ Some next }
     requires signable { is_signable message.now ≡ true }
     ensures signs { Signs D.told D.plan D.faults (K.taken sink.old) (K.taken sink.new) result
-        (signs levels.old.seed message.now next) (notes_of levels.old) (notes_of levels.new) }
+        (signs levels.old.seed message.now next) levels.old.notes levels.new.notes }
     ensures no_read_fault { result ≢ Status.ReadFault }
     ensures sink_faults { K.faults sink.new ≡ faults_after (K.faults sink.old) (is_write_fault result) }
 {
@@ -70,9 +69,9 @@ fn sign<D: Disk, K: Sink>(
     message: &[u8],
 ) -> Status
     requires secret { secret.now ≡ levels.old.seed }
-    requires open { levels.old.closed ≡ false }
+    requires open { levels.old.notes.closed ≡ false }
     ensures signs { Signs D.told D.plan D.faults (K.taken sink.old) (K.taken sink.new) result
-        (signing levels.old.seed levels.old.records message.now) (notes_of levels.old) (notes_of levels.new) }
+        (signing levels.old.seed levels.old.notes.records message.now) levels.old.notes levels.new.notes }
     ensures no_read_fault { result ≢ Status.ReadFault }
     ensures sink_faults { K.faults sink.new ≡ faults_after (K.faults sink.old) (is_write_fault result) }
 {

@@ -3,7 +3,7 @@ ghost use Rattle.node_journal.specs.Notes.{Did, stopped_by};
 ghost use Rattle.hss_keys.specs.declared.entry.Entry.TheVariants.{Opens, Binds};
 ghost use Rattle.hss_keys.specs.Keys.{bottom_key};
 ghost use Rattle.hss_keys.specs.Entries.{entries_of, entry_text};
-ghost use Rattle.hss_keys.specs.Levels.{bound_of, notes_of};
+ghost use Rattle.hss_keys.specs.Levels.{bound_of};
 ghost use Rattle.hss_runs.specs.Inside.{stop_in};
 ghost use Rattle.hss_runs.specs.Signing.{is_signable, next_leaf, entries_added};
 ghost use Rattle.hss_runs.specs.Runs.{DidAll};
@@ -31,13 +31,13 @@ fn open_next<D: Disk>(
     next: NextLeaf,
 ) -> Result<(), Stop>
     requires secret { secret.now ≡ levels.old.seed }
-    requires next { next_leaf levels.old.seed (entries_of levels.old.records) ≡ Some next }
+    requires next { next_leaf levels.old.seed (entries_of levels.old.notes.records) ≡ Some next }
     requires opens { next.opens ≡ true }
     ensures did { Did D.told D.plan D.faults
         (Some (entry_text (Opens next.top_leaf (bottom_key levels.old.seed next.top_leaf))))
-        (notes_of levels.old) (stopped_by result) (notes_of levels.new) }
+        levels.old.notes (stopped_by result) levels.new.notes }
     ensures seed { levels.new.seed ≡ levels.old.seed }
-    ensures next { OnOk result (next_leaf levels.new.seed (entries_of levels.new.records)
+    ensures next { OnOk result (next_leaf levels.new.seed (entries_of levels.new.notes.records)
         ≡ Some (record { top_leaf = next.top_leaf; leaf = next.leaf; opens = false })) }
 {
     let _ = next;
@@ -58,13 +58,13 @@ fn bind_opened<D: Disk>(
     message: &[u8],
 ) -> Result<HssBound, Stop>
     requires signable { is_signable message.now ≡ true }
-    requires open { levels.old.closed ≡ false }
-    requires next { next_leaf levels.old.seed (entries_of levels.old.records) ≡ Some next }
+    requires open { levels.old.notes.closed ≡ false }
+    requires next { next_leaf levels.old.seed (entries_of levels.old.notes.records) ≡ Some next }
     requires opened { next.opens ≡ false }
     ensures bound { IfOk result
         (λ bound. bound ≡ bound_of levels.old.seed next.top_leaf next.leaf message.now) }
     ensures did { Did D.told D.plan D.faults (Some (entry_text (Binds next.top_leaf next.leaf message.now)))
-        (notes_of levels.old) (stopped_by result) (notes_of levels.new) }
+        levels.old.notes (stopped_by result) levels.new.notes }
     ensures fault { IfErr result (λ stop. stop ≡ Stop.DeviceFault) }
 {
     let _ = next;
@@ -83,13 +83,13 @@ pub fn bind_next<D: Disk>(
     message: &[u8],
 ) -> Result<HssBound, Stop>
     requires secret { secret.now ≡ levels.old.seed }
-    requires open { levels.old.closed ≡ false }
-    requires next { next_leaf levels.old.seed (entries_of levels.old.records) ≡ Some next }
+    requires open { levels.old.notes.closed ≡ false }
+    requires next { next_leaf levels.old.seed (entries_of levels.old.notes.records) ≡ Some next }
     requires signable { is_signable message.now ≡ true }
     ensures bound { IfOk result
         (λ bound. bound ≡ bound_of levels.old.seed next.top_leaf next.leaf message.now) }
     ensures did { DidAll D.told D.plan D.faults (entries_added levels.old.seed next message.now)
-        (notes_of levels.old) (stopped_by result) (notes_of levels.new) }
+        levels.old.notes (stopped_by result) levels.new.notes }
 {
     if next.opens {
         open_next(levels, secret, next)?;

@@ -1,5 +1,5 @@
 -- The records that bind and migrate, behind others.
-use Rattle.std.proofs.Common.{◌≡◌, ◌<◌, ◌≤◌, ◌+◌, ℕ, true, false, List, [], ◌∷◌, ◌++◌, length, take, drop, refl, ◌∙◌, ap, inl, inr, arith, length-append}
+use Rattle.std.proofs.Common.{◌≡◌, ◌<◌, ◌≤◌, ◌+◌, ℕ, true, false, List, [], ◌∷◌, ◌++◌, length, take, drop, Option, Some, None, Err, refl, ◌∙◌, ap, subst, inl, inr, arith, length-append}
 use Rattle.std.specs.Prelude.{◌||◌}
 use Rattle.std.specs.Int.{w32, to_be_bytes}
 use Rattle.std.specs.Str.{bytes_eq}
@@ -7,6 +7,11 @@ use Rattle.std.proofs.lemmas.Bool.{cases_Bool, eq-eqb, lt-ltb, le-leb}
 use Rattle.std.proofs.lemmas.List.{take_at, drop_at}
 use Rattle.std.proofs.lemmas.List.Folds.{list_any-append}
 use Rattle.std.proofs.lemmas.Slice.Eq.{bytes_eq-Decides}
+use Rattle.crash_disk.specs.Disk.{History, FaultPlan}
+use Rattle.node_journal.specs.Notes.{NotesState, Did}
+use Rattle.leaf_journal.specs.declared.refusal.BindRefusal.{BindRefusal}
+use Rattle.leaf_journal.specs.declared.refusal.BindRefusal.TheVariants.{KeySpent, DeviceFault, Closed}
+use Rattle.leaf_journal.specs.Leaves.{leaves_of, leaf_effect, bind_stop}
 use Rattle.leaf_journal.specs.Records.{binding_record, is_marked, is_marker, marker, may_follow, MayBind, messages_of, with_number}
 use Rattle.leaf_journal.proofs.Messages.{other_length}
 use Rattle.leaf_journal.proofs.Form.{more-marked, more-unmarked, more-mark}
@@ -84,3 +89,34 @@ marker-marked records = list_any-append is_marker records (marker ∷ []) ∙ or
     or_true : (b : _) → (b || true) ≡ true
     or_true true = refl
     or_true false = refl
+
+-- a bind where a leaf is left
+module _ (key : List ℕ) (records : List (List ℕ)) (message : List ℕ)
+    (left : length (messages_of records) < leaves_of key) where
+  pub bind-noted : (leaf_effect key records message).note ≡ Some (binding_record records message)
+  bind-noted = rw (lt-ltb (length (messages_of records)) (leaves_of key) left) refl
+
+  -- nothing but a stop keeps it from being bound
+  pub bind-fails : (why : BindRefusal)
+      → (bind_stop (Err why) ≡ None → Err why ≡ (leaf_effect key records message).answer)
+      → bind_stop (Err why) ≡ None → ⊥
+  bind-fails why answered none =
+      absurd (cc (rw (lt-ltb (length (messages_of records)) (leaves_of key) left) at answered none))
+
+  -- its record was added, or it was stopped
+  pub bind-did : {D : Type 0} (told : D → Option History) (plan : D → Option FaultPlan) (faults : D → ℕ)
+      (old new : NotesState D) (stop : _)
+      → Did told plan faults (leaf_effect key records message).note old stop new
+      → Did told plan faults (Some (binding_record records message)) old stop new
+  bind-did told plan faults old new stop did =
+      subst (λ (n : Option (List ℕ)). Did told plan faults n old stop new) bind-noted did
+
+  pub bind-stays : {D : Type 0} (told : D → Option History) (plan : D → Option FaultPlan) (faults : D → ℕ)
+      (old new : NotesState D) (why : BindRefusal)
+      → (bind_stop (Err why) ≡ None → Err why ≡ (leaf_effect key records message).answer)
+      → Did told plan faults (leaf_effect key records message).note old (bind_stop (Err why)) new
+      → new.records ≡ old.records
+  bind-stays told plan faults old new (KeySpent count) answered did = absurd (bind-fails (KeySpent count) answered refl)
+  bind-stays told plan faults old new DeviceFault answered did =
+      (bind-did told plan faults old new (bind_stop (Err DeviceFault)) did).records
+  bind-stays told plan faults old new Closed answered did = ap (λ (s : NotesState _). s.records) did.1

@@ -4,4 +4,3 @@ pub mod KindRecords
 pub mod Binding
 pub mod Lives
 pub mod Adding
-pub mod NodeWords

@@ -2,4 +2,3 @@ pub mod Records
 pub mod Leaves
 pub mod Laws
 pub mod Sound
-pub mod NodeWords

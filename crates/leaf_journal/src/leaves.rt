@@ -1,15 +1,13 @@
-ghost use Rattle.std.specs.Prelude.{◌≡◌, ◌≤◌, ◌++◌, ◌∷◌, ◌+◌, ℕ, [], true, false, length, if◌then◌else◌, is_ok, is_err, option_map, Ok, IfOk, IfErr, OnOk, OnErr};
+ghost use Rattle.std.specs.Prelude.{◌≡◌, ◌≤◌, ◌++◌, ◌∷◌, ◌+◌, ℕ, [], true, false, length, if◌then◌else◌, is_ok, option_map, Ok, IfOk, IfErr, OnOk, OnErr, None};
 ghost use Rattle.std.specs.Option.{OnSome, option_copied};
 ghost use Rattle.std.specs.List.{slice_get};
-ghost use Rattle.plasma_base.specs.Causes.{faults_after};
-ghost use Rattle.crash_disk.specs.Disk.{content};
-ghost use Rattle.crash_disk.specs.Calls.{WhereTold, IsStill, passed, Made};
-ghost use Rattle.gate_journal.specs.Steps.{open_steps};
-ghost use Rattle.gate_journal.specs.Journal.{IsSettled, RefusesOpen, is_device_fault, with_spare};
+ghost use Rattle.crash_disk.specs.Calls.{WhereTold, IsStill};
+ghost use Rattle.gate_journal.specs.Journal.{IsSettled, with_spare};
 ghost use Rattle.gate_journal.specs.Life.{Stay};
 ghost use Rattle.lms_sign.specs.Tree.{public_key_of};
-ghost use Rattle.leaf_journal.specs.Records.{are_leaf_records, is_marked, leaf_records, leaf_records_in, leaf_records_in_of, leaf_records_of, marker, may_follow, MayBind, MessagesPass, messages_of};
-ghost use Rattle.leaf_journal.specs.Leaves.{leaves_of, Adds, FailsToAdd, Binds, Migrates, is_fault, is_migrate_fault};
+ghost use Rattle.node_journal.specs.Notes.{Added, AddFailed, Did, Opened, RefusesRole};
+ghost use Rattle.leaf_journal.specs.Records.{are_leaf_records, is_marked, leaf_records, leaf_records_in, leaf_records_in_of, leaf_records_of, may_follow, MayBind, MessagesPass, messages_of};
+ghost use Rattle.leaf_journal.specs.Leaves.{leaves_of, leaf_effect, marker_effect, bind_stop, migrate_stop};
 ghost use Rattle.leaf_journal.specs.Sound.{IsFormRefusal};
 
 use super::bound::Bound;
@@ -43,10 +41,8 @@ impl<D: Disk> Model for Leaves<D> {
     ghost use Rattle.leaf_journal.specs.Sound.{IsSound};
 
     ghost view = { λ l. record {
-      disk = l.journal.disk;
-      closed = l.journal.closed;
+      notes = record { disk = l.journal.disk; closed = l.journal.closed; records = l.records.records };
       key = l.key;
-      records = l.records.records;
     } };
 
     ghost invariant = { λ l. IsSound (D.told l.journal.disk) l.journal l.key l.records };
@@ -86,19 +82,11 @@ impl<D: Disk> Leaves<D> {
     /// isn't its place among the messages; and a message past the number of leaves. A refusal hands the
     /// disk back.
     pub fn open(alloc: Global, disk: D, key: &SecretKey) -> Result<Leaves<D>, Returned<D>>
-        ensures records { IfOk result (λ opened. WhereTold (D.told disk) (λ before.
-            leaf_records_in (leaves_of (public_key_of key.now)) (content before) ≡ Ok opened.records)) }
-        ensures leaves { IfOk result (λ opened. opened
-            ≡ record { disk = opened.disk; closed = false; key = public_key_of key.now; records = opened.records }) }
-        ensures settled { IfOk result (λ opened.
-            WhereTold (D.told opened.disk) (λ now. IsSettled now opened.records)) }
-        ensures made { IfOk result (λ opened. Made D.told D.plan open_steps 3 passed disk opened.disk) }
-        ensures cause { IfOk result (λ opened. D.faults opened.disk ≡ D.faults disk) }
-        ensures refused { IfErr result (λ returned.
-            RefusesOpen (leaf_records_in (leaves_of (public_key_of key.now)))
-            D.told D.plan disk returned.why returned.disk) }
-        ensures refused_cause { IfErr result (λ returned.
-            D.faults returned.disk ≡ faults_after (D.faults disk) (is_device_fault returned.why)) }
+        ensures opened { IfOk result (λ opened. Opened D.told D.plan D.faults
+            (leaf_records_in (leaves_of (public_key_of key.now))) disk opened.notes) }
+        ensures key { IfOk result (λ opened. opened.key ≡ public_key_of key.now) }
+        ensures refused { IfErr result (λ returned. RefusesRole D.told D.plan D.faults
+            (leaf_records_in (leaves_of (public_key_of key.now))) disk returned.why returned.disk) }
     {
         Leaves::open_of::<EveryMessage>(alloc, disk, key)
     }
@@ -114,19 +102,12 @@ impl<D: Disk> Leaves<D> {
         disk: D,
         key: &SecretKey,
     ) -> Result<Leaves<D>, Returned<D>>
-        ensures records { IfOk result (λ opened. WhereTold (D.told disk) (λ before. leaf_records_in_of K.is_message
-            (leaves_of (public_key_of key.now)) (content before) ≡ Ok opened.records)) }
-        ensures leaves { IfOk result (λ opened. opened
-            ≡ record { disk = opened.disk; closed = false; key = public_key_of key.now; records = opened.records }) }
-        ensures kind { IfOk result (λ opened. MessagesPass K.is_message opened.records) }
-        ensures settled { IfOk result (λ opened.
-            WhereTold (D.told opened.disk) (λ now. IsSettled now opened.records)) }
-        ensures made { IfOk result (λ opened. Made D.told D.plan open_steps 3 passed disk opened.disk) }
-        ensures cause { IfOk result (λ opened. D.faults opened.disk ≡ D.faults disk) }
-        ensures refused { IfErr result (λ returned. RefusesOpen (leaf_records_in_of K.is_message
-            (leaves_of (public_key_of key.now))) D.told D.plan disk returned.why returned.disk) }
-        ensures refused_cause { IfErr result (λ returned.
-            D.faults returned.disk ≡ faults_after (D.faults disk) (is_device_fault returned.why)) }
+        ensures opened { IfOk result (λ opened. Opened D.told D.plan D.faults
+            (leaf_records_in_of K.is_message (leaves_of (public_key_of key.now))) disk opened.notes) }
+        ensures key { IfOk result (λ opened. opened.key ≡ public_key_of key.now) }
+        ensures kind { IfOk result (λ opened. MessagesPass K.is_message opened.notes.records) }
+        ensures refused { IfErr result (λ returned. RefusesRole D.told D.plan D.faults
+            (leaf_records_in_of K.is_message (leaves_of (public_key_of key.now))) disk returned.why returned.disk) }
     {
         let Ok(none) = LeafRecords::new(alloc, key.leaves()) else {
             let why = JournalRefusal::NoMemory;
@@ -152,25 +133,25 @@ impl<D: Disk> Leaves<D> {
     /// What holds of all leaves: their records have the form, an open journal is settled with them, and each
     /// image that a crash may leave continues them, also where a fault closed the journal.
     pub fn is_whole(&self)
-        ensures are { leaf_records (leaves_of self.now.key) self.now.records ≡ Ok self.now.records }
-        ensures settled { self.now.closed ≡ false →
-            WhereTold (D.told self.now.disk) (λ now. IsSettled now self.now.records) }
-        ensures stay { WhereTold (D.told self.now.disk)
-            (Stay (are_leaf_records (leaves_of self.now.key)) self.now.records) }
+        ensures are { leaf_records (leaves_of self.now.key) self.now.notes.records ≡ Ok self.now.notes.records }
+        ensures settled { self.now.notes.closed ≡ false →
+            WhereTold (D.told self.now.notes.disk) (λ now. IsSettled now self.now.notes.records) }
+        ensures stay { WhereTold (D.told self.now.notes.disk)
+            (Stay (are_leaf_records (leaves_of self.now.key)) self.now.notes.records) }
     {
         let _ = &self.key;
     }
 
     /// Whether a device fault closed the journal.
     pub fn is_closed(&self) -> bool
-        ensures { result ≡ self.now.closed }
+        ensures { result ≡ self.now.notes.closed }
     {
         self.journal.is_closed()
     }
 
     /// Whether the marker is there.
     pub fn marked(&self) -> bool
-        ensures { result ≡ is_marked self.now.records }
+        ensures { result ≡ is_marked self.now.notes.records }
     {
         self.records.is_marked()
     }
@@ -184,12 +165,16 @@ impl<D: Disk> Leaves<D> {
     /// In this order: `Closed` after a device fault; `KeySpent` where every leaf is bound;
     /// `DeviceFault`, which closes the journal.
     pub fn bind(&mut self, message: &[u8]) -> Result<Bound, BindRefusal>
-        requires { MayBind self.old.records message.now }
-        ensures binds { Binds D.told D.plan message.now self.old result self.new }
-        ensures messages { messages_of self.new.records
-            ≡ (if is_ok result then messages_of self.old.records ++ message.now ∷ []
-            else messages_of self.old.records) }
-        ensures cause { D.faults self.new.disk ≡ faults_after (D.faults self.old.disk) (is_fault result) }
+        requires { MayBind self.old.notes.records message.now }
+        ensures answer { bind_stop result ≡ None
+            → result ≡ (leaf_effect self.old.key self.old.notes.records message.now).answer }
+        ensures did { Did D.told D.plan D.faults
+            (leaf_effect self.old.key self.old.notes.records message.now).note self.old.notes (bind_stop result)
+            self.new.notes }
+        ensures messages { messages_of self.new.notes.records
+            ≡ (if is_ok result then messages_of self.old.notes.records ++ message.now ∷ []
+            else messages_of self.old.notes.records) }
+        ensures key { self.new.key ≡ self.old.key }
     {
         if self.is_closed() {
             return Err(BindRefusal::Closed);
@@ -216,10 +201,12 @@ impl<D: Disk> Leaves<D> {
     /// In this order: `Closed` after a device fault; `AlreadyNew` where the marker is there;
     /// `DeviceFault`, which closes the journal.
     pub fn migrate(&mut self) -> Result<(), MigrateRefusal>
-        ensures migrates { Migrates D.told D.plan self.old result self.new }
-        ensures messages { messages_of self.new.records ≡ messages_of self.old.records }
-        ensures marked { OnOk result (is_marked self.new.records ≡ true) }
-        ensures cause { D.faults self.new.disk ≡ faults_after (D.faults self.old.disk) (is_migrate_fault result) }
+        ensures answer { migrate_stop result ≡ None → result ≡ (marker_effect self.old.notes.records).answer }
+        ensures did { Did D.told D.plan D.faults (marker_effect self.old.notes.records).note self.old.notes
+            (migrate_stop result) self.new.notes }
+        ensures messages { messages_of self.new.notes.records ≡ messages_of self.old.notes.records }
+        ensures marked { OnOk result (is_marked self.new.notes.records ≡ true) }
+        ensures key { self.new.key ≡ self.old.key }
     {
         if self.is_closed() {
             return Err(MigrateRefusal::Closed);
@@ -235,11 +222,11 @@ impl<D: Disk> Leaves<D> {
 
     // Appends a record that may follow, of an open journal, and takes it into memory.
     fn add(&mut self, body: ShortBytes) -> Result<(), DiskFailed>
-        requires open { self.old.closed ≡ false }
-        requires follows { may_follow (leaves_of self.old.key) self.old.records body ≡ true }
-        ensures adds { OnOk result (Adds D.told D.plan body self.old self.new) }
-        ensures fails { OnErr result (FailsToAdd D.told D.plan body self.old self.new) }
-        ensures cause { D.faults self.new.disk ≡ faults_after (D.faults self.old.disk) (is_err result) }
+        requires open { self.old.notes.closed ≡ false }
+        requires follows { may_follow (leaves_of self.old.key) self.old.notes.records body ≡ true }
+        ensures added { OnOk result (Added D.told D.plan D.faults body self.old.notes self.new.notes) }
+        ensures failed { OnErr result (AddFailed D.told D.plan D.faults body self.old.notes self.new.notes) }
+        ensures key { self.new.key ≡ self.old.key }
     {
         if self.journal.append(body.as_slice()).is_err() {
             return Err(DiskFailed);
@@ -253,7 +240,7 @@ impl<D: Disk> Leaves<D> {
     pub fn again(&self, q: u32) -> Option<Bound>
         ensures value { result ≡ option_map
             (λ message. record { key = self.now.key; leaf = q; message = message })
-            (slice_get (messages_of self.now.records) q) }
+            (slice_get (messages_of self.now.notes.records) q) }
     {
         let message = self.records.message(q)?;
         Some(Bound {
@@ -265,14 +252,14 @@ impl<D: Disk> Leaves<D> {
 
     /// The message that a leaf is bound to, lent; `None` where that leaf isn't bound.
     pub fn record(&self, q: u32) -> Option<&[u8]>
-        ensures { option_copied result ≡ slice_get (messages_of self.now.records) q }
+        ensures { option_copied result ≡ slice_get (messages_of self.now.notes.records) q }
     {
         self.records.message(q)
     }
 
     /// The number of bound leaves, which are the first ones.
     pub fn used(&self) -> u32
-        ensures value { result ≡ length (messages_of self.now.records) }
+        ensures value { result ≡ length (messages_of self.now.notes.records) }
         ensures within { result ≤ leaves_of self.now.key }
     {
         self.records.used()
@@ -280,7 +267,7 @@ impl<D: Disk> Leaves<D> {
 
     /// The disk, handed back.
     pub fn take_disk(self) -> D
-        ensures { result ≡ self.disk }
+        ensures { result ≡ self.notes.disk }
     {
         let Leaves { journal, .. } = self;
         journal.take_disk()

@@ -1,7 +1,6 @@
 //! The leaves of a key over a disk: each signs at most one message, whatever fails or crashes.
 #![tactic(auto)]
 
-mod adaptors;
 mod bound;
 mod kind;
 mod laws;
@@ -11,11 +10,6 @@ mod records;
 mod refusal;
 mod short;
 
-pub use adaptors::{
-    bind_answers, binds_in_node_words, migration_answers, migrations_in_node_words,
-    openings_in_node_words, openings_of_in_node_words, refusals_in_node_words,
-    refusals_of_in_node_words,
-};
 pub use bound::Bound;
 pub use kind::MessageKind;
 pub use laws::{

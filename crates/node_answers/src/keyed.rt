@@ -1,7 +1,6 @@
 ghost use Rattle.std.specs.Prelude.{◌≡◌, false, IfOk, OnErr};
 ghost use Rattle.lms_sign.specs.Tree.{public_key_of};
 ghost use Rattle.leaf_journal.specs.Records.{is_marked};
-ghost use Rattle.leaf_journal.specs.NodeWords.{notes_of};
 ghost use Rattle.plasma_tx.specs.Views.{blocks};
 ghost use Rattle.receipt_audit.specs.Desk.{issue_effect};
 ghost use Rattle.node_answers.specs.Answers.{IsSaid};
@@ -45,13 +44,13 @@ fn answer_receipt<D: Disk, H: Hash32 + Copy>(
     requires key { public_key_of keyed.old.key ≡ keyed.old.desk.key }
     ensures said { IfOk result (λ said. IsSaid (issue_outcome (blocks log.now.log) due (issue_effect
         (H.digest_of keyed.old.hash) (H.digest_of keyed.old.node.hash) keyed.old.key keyed.old.node.notes.records
-        keyed.old.desk.records log.now.log transfer.now due)).says said text.old.items text.new.items) }
+        keyed.old.desk.notes.records log.now.log transfer.now due)).says said text.old.items text.new.items) }
     ensures did { DidDesk D.told D.plan D.faults (issue_effect
         (H.digest_of keyed.old.hash) (H.digest_of keyed.old.node.hash) keyed.old.key keyed.old.node.notes.records
-        keyed.old.desk.records log.now.log transfer.now due).note (issue_effect
+        keyed.old.desk.notes.records log.now.log transfer.now due).note (issue_effect
         (H.digest_of keyed.old.hash) (H.digest_of keyed.old.node.hash) keyed.old.key keyed.old.node.notes.records
-        keyed.old.desk.records log.now.log transfer.now due).leaf keyed.old.node.notes (notes_of keyed.old.desk) result
-        keyed.new.node.notes (notes_of keyed.new.desk) }
+        keyed.old.desk.notes.records log.now.log transfer.now due).leaf keyed.old.node.notes keyed.old.desk.notes result
+        keyed.new.node.notes keyed.new.desk.notes }
     ensures untold { OnErr result (text.new.items ≡ text.old.items) }
     ensures key_stays { keyed.new.key ≡ keyed.old.key }
     ensures desk_stays { keyed.new.desk.key ≡ keyed.old.desk.key }
@@ -78,9 +77,9 @@ fn answer_migrate<D: Disk>(
     text: &mut Vec<u8>,
 ) -> Result<Said, Stop>
     ensures said { IfOk result (λ said.
-        IsSaid (migration_outcome (is_marked desk.old.records)).says said text.old.items text.new.items) }
-    ensures did { DidNotes D.told D.plan D.faults (migration_outcome (is_marked desk.old.records)).leaf
-        (notes_of desk.old) result (notes_of desk.new) }
+        IsSaid (migration_outcome (is_marked desk.old.notes.records)).says said text.old.items text.new.items) }
+    ensures did { DidNotes D.told D.plan D.faults (migration_outcome (is_marked desk.old.notes.records)).leaf
+        desk.old.notes result desk.new.notes }
     ensures untold { OnErr result (text.new.items ≡ text.old.items) }
     ensures key { desk.new.key ≡ desk.old.key }
 {
@@ -109,19 +108,19 @@ pub fn answer_keyed<D: Disk, H: Hash32 + Copy>(
     text: &mut Vec<u8>,
 ) -> Result<Said, Stop>
     requires open { keyed.old.node.notes.closed ≡ false }
-    requires desk_open { keyed.old.desk.closed ≡ false }
+    requires desk_open { keyed.old.desk.notes.closed ≡ false }
     requires secret { keyed.old.key ≡ secret_of keyed.old.node.notes.records }
     requires key { public_key_of keyed.old.key ≡ keyed.old.desk.key }
     requires hash { keyed.old.hash ≡ keyed.old.node.hash }
     ensures said { IfOk result (λ said. IsSaid (desk_outcome (H.digest_of keyed.old.node.hash) log.now.log
-        (desk_records keyed.old.node.notes.records keyed.old.desk.records) line).says said text.old.items
+        (desk_records keyed.old.node.notes.records keyed.old.desk.notes.records) line).says said text.old.items
         text.new.items) }
     ensures did { DidDesk D.told D.plan D.faults
         (desk_outcome (H.digest_of keyed.old.node.hash) log.now.log
-        (desk_records keyed.old.node.notes.records keyed.old.desk.records) line).note
+        (desk_records keyed.old.node.notes.records keyed.old.desk.notes.records) line).note
         (desk_outcome (H.digest_of keyed.old.node.hash) log.now.log
-        (desk_records keyed.old.node.notes.records keyed.old.desk.records) line).leaf
-        keyed.old.node.notes (notes_of keyed.old.desk) result keyed.new.node.notes (notes_of keyed.new.desk) }
+        (desk_records keyed.old.node.notes.records keyed.old.desk.notes.records) line).leaf
+        keyed.old.node.notes keyed.old.desk.notes result keyed.new.node.notes keyed.new.desk.notes }
     ensures untold { OnErr result (text.new.items ≡ text.old.items) }
     ensures key_stays { keyed.new.key ≡ keyed.old.key }
     ensures desk_stays { keyed.new.desk.key ≡ keyed.old.desk.key }

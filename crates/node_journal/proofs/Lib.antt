@@ -1,6 +1,7 @@
 pub mod Roles
-mod Openings
+pub mod Openings
 mod Spelling
+pub mod Keeping
 mod Adding
 mod Courses
 mod Untaken

@@ -4,3 +4,4 @@ pub mod Effect
 pub mod Begin
 pub mod Laws
 pub mod Inside
+pub mod Parts

@@ -21,6 +21,11 @@ pub record NotesAndRole (D R : Type 0) : Type 0 where
   pub notes : NotesState D
   pub role : R
 
+-- a node that keeps notes alone, a watcher or an operator, and the digest that it was opened with
+pub record NodeState (D H : Type 0) : Type 0 where
+  pub notes : NotesState D
+  pub hash : H
+
 -- the device calls of an append behind these records
 abbrev pub note_steps : List (List ℕ) → List ℕ → List ℕ → List Step
 note_steps records body image = append_steps (length (spelled records)) body

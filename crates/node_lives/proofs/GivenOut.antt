@@ -19,7 +19,8 @@ use Rattle.node_lines.specs.Grammar.{wallet_line_in}
 use Rattle.node_lines.proofs.GrammarLaws.{wallet_line_text-in}
 use Rattle.node_answers.specs.Answers.{wallet_outcome}
 use Rattle.node_roles.specs.Notes.{NotesAt, with_note}
-use Rattle.node_roles.specs.Parts.{both, with_effect}
+use Rattle.node_journal.specs.Parts.{both}
+use Rattle.node_roles.specs.Parts.{with_effect}
 use Rattle.node_roles.specs.Nodes.{NodeAt, keeping, outcome_at, node_does}
 use Rattle.node_roles.specs.Roles.{wallet_parts, wallet_commands}
 use Rattle.node_sessions.specs.Sessions.{SessionState, begun, calls_of, commanded}

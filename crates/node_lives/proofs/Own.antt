@@ -16,7 +16,8 @@ use Rattle.run_endings.specs.declared.status.Status.TheVariants.{Done, Refused, 
 use Rattle.node_replies.specs.Orders.{with_record}
 use Rattle.node_answers.specs.Answers.{Outcome}
 use Rattle.node_roles.specs.Notes.{NotesAt, with_note}
-use Rattle.node_roles.specs.Parts.{Parts, with_effect}
+use Rattle.node_journal.specs.Parts.{Parts}
+use Rattle.node_roles.specs.Parts.{with_effect}
 use Rattle.node_roles.specs.Nodes.{NodeAt, keeping, records_at, Commands, left_with, outcome_at, node_does}
 use Rattle.node_roles.specs.Roles.{wallet_records}
 use Rattle.node_sessions.specs.Sessions.{SessionState, calls_of}

@@ -8,7 +8,8 @@ use Rattle.node_rules.specs.Wallet.{WalletRecords}
 use Rattle.node_replies.specs.Orders.{with_record}
 use Rattle.node_answers.specs.Answers.{Outcome}
 use Rattle.node_roles.specs.Notes.{NotesAt, with_note}
-use Rattle.node_roles.specs.Parts.{Parts, OfLeaves, PartFails}
+use Rattle.node_journal.specs.Parts.{Parts, OfLeaves}
+use Rattle.node_roles.specs.Parts.{PartFails}
 use Rattle.node_roles.specs.Nodes.{records_at}
 use Rattle.node_roles.specs.Roles.{wallet_records}
 use Rattle.node_runs.specs.Disks.{Keeps, MayKeep, KeepsNode, NodeFailed}

@@ -17,7 +17,7 @@ use Rattle.node_rules.specs.Wallet.{WalletRecords}
 use Rattle.node_replies.specs.Roles.{Role, Wallet, Watcher, Operator}
 use Rattle.run_endings.specs.declared.status.Status.{Status}
 use Rattle.run_endings.specs.declared.status.Status.TheVariants.{NotJournal}
-use Rattle.node_roles.specs.Parts.{Parts, alone, both}
+use Rattle.node_journal.specs.Parts.{Parts, alone, both}
 use Rattle.node_roles.specs.Nodes.{Commands}
 use Rattle.node_roles.specs.Roles.{watcher_commands, operator_commands, desk_commands}
 use Rattle.node_runs.specs.Sessions.{Outside}

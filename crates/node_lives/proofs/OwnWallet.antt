@@ -21,7 +21,8 @@ use Rattle.wallet_node.specs.Opening.{OpensWallet, RefusesWallet}
 use Rattle.node_replies.specs.Orders.{with_record}
 use Rattle.node_answers.specs.Answers.{Outcome}
 use Rattle.node_roles.specs.Notes.{NotesAt, with_note}
-use Rattle.node_roles.specs.Parts.{Parts, both, OfLeaves, PartFails}
+use Rattle.node_journal.specs.Parts.{Parts, both, OfLeaves}
+use Rattle.node_roles.specs.Parts.{PartFails}
 use Rattle.node_roles.specs.Nodes.{records_at}
 use Rattle.node_roles.specs.Roles.{wallet_parts, wallet_records, wallet_commands}
 use Rattle.node_runs.specs.Disks.{Keeps, MayKeep, KeepsNode, NodeFailed}

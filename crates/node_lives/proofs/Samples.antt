@@ -21,7 +21,7 @@ use Rattle.node_replies.specs.Roles.{Wallet}
 use Rattle.node_lines.specs.Grammar.{wallet_line_in}
 use Rattle.node_answers.specs.Answers.{Outcome}
 use Rattle.node_roles.specs.Notes.{NotesAt}
-use Rattle.node_roles.specs.Parts.{both}
+use Rattle.node_journal.specs.Parts.{both}
 use Rattle.node_roles.specs.Nodes.{NodeAt}
 use Rattle.node_roles.specs.Roles.{wallet_parts, wallet_commands}
 use Rattle.node_sessions.specs.Sessions.{SessionState, begun}

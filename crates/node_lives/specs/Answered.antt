@@ -14,7 +14,7 @@ use Rattle.node_lines.specs.declared.wallet_line.WalletLine.{WalletLine}
 use Rattle.operator_rules.specs.Records.{who_is}
 use Rattle.node_lines.specs.Grammar.{wallet_line_in}
 use Rattle.node_roles.specs.Notes.{NotesAt}
-use Rattle.node_roles.specs.Parts.{Parts, alone, both, of_each}
+use Rattle.node_journal.specs.Parts.{Parts, alone, both, of_each}
 use Rattle.node_roles.specs.Nodes.{NodeAt, records_at}
 use Rattle.node_roles.specs.Roles.{wallet_parts, wallet_records, wallet_commands}
 use Rattle.node_sessions.specs.Sessions.{SessionState, begun, calls_of, commanded}

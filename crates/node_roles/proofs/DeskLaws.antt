@@ -10,7 +10,7 @@ use Rattle.node_sessions.specs.declared.said.Said.{Said}
 use Rattle.node_answers.specs.Answers.{Outcome}
 use Rattle.node_answers.specs.Doing.{DidEach, DidDesk}
 use Rattle.node_roles.specs.Notes.{NotesAt, IsNotesAt}
-use Rattle.node_roles.specs.Parts.{Parts, both}
+use Rattle.node_journal.specs.Parts.{Parts, both}
 use Rattle.node_roles.specs.Nodes.{IsNodeAt}
 use Rattle.node_roles.proofs.NodeLaws.{Goes, with-leaves}
 use Rattle.node_roles.proofs.NotesLaws.{adds-at, fails-at, same-at, stays}

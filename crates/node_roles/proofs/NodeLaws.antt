@@ -11,7 +11,8 @@ use Rattle.node_sessions.specs.declared.said.Said.TheVariants.{Answered, Refused
 use Rattle.node_answers.specs.Answers.{Outcome, IsSaid, StopsIn}
 use Rattle.node_sessions.specs.Commands.{IsDone}
 use Rattle.node_roles.specs.Notes.{NotesAt, with_note, StaysAt, IsNotesAt, FailedAt}
-use Rattle.node_roles.specs.Parts.{Parts, both, of_each, OfLeaves, with_effect, EachFails}
+use Rattle.node_journal.specs.Parts.{Parts, both, of_each, OfLeaves}
+use Rattle.node_roles.specs.Parts.{with_effect, EachFails}
 use Rattle.node_roles.specs.Nodes.{NodeAt, keeping, records_at, Commands, left_with, node_with, outcome_at, node_does, IsNodeAt, StoppedAt}
 use Rattle.node_roles.proofs.Refusals.{AddsNothingRefused}
 

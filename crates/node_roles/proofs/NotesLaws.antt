@@ -12,7 +12,8 @@ use Rattle.node_journal.specs.declared.stop.Stop.{Stop}
 use Rattle.node_journal.specs.declared.stop.Stop.TheVariants.{Closed, NoMemory, DeviceFault}
 use Rattle.node_answers.specs.Answers.{Outcome}
 use Rattle.node_roles.specs.Notes.{NotesAt, with_note, IsNotesAt, FailedAt}
-use Rattle.node_roles.specs.Parts.{Parts, alone, OfLeaves, PartFails}
+use Rattle.node_journal.specs.Parts.{Parts, alone, OfLeaves}
+use Rattle.node_roles.specs.Parts.{PartFails}
 use Rattle.node_roles.specs.Nodes.{IsNodeAt}
 use Rattle.node_roles.proofs.NodeLaws.{Goes}
 

@@ -10,7 +10,7 @@ use Rattle.wallet_node.specs.State.{WalletState, notes_part, leaves_part}
 use Rattle.node_deeds.specs.WalletOrders.{DidEither}
 use Rattle.node_answers.specs.Answers.{Outcome}
 use Rattle.node_roles.specs.Notes.{NotesAt, IsNotesAt, StaysAt}
-use Rattle.node_roles.specs.Parts.{Parts, both}
+use Rattle.node_journal.specs.Parts.{Parts, both}
 use Rattle.node_roles.specs.Nodes.{IsNodeAt}
 use Rattle.node_roles.specs.Roles.{wallet_parts}
 use Rattle.node_roles.proofs.NodeLaws.{Goes, with-leaves}

@@ -8,7 +8,8 @@ use Rattle.node_journal.specs.declared.stop.Stop.TheVariants.{Closed, NoMemory, 
 use Rattle.node_replies.specs.Orders.{with_record}
 use Rattle.node_answers.specs.Answers.{Outcome}
 use Rattle.node_roles.specs.Notes.{NotesAt, with_note, StaysAt, IsNotesAt, FailedAt}
-use Rattle.node_roles.specs.Parts.{Parts, of_each, OfEach, with_effect, EachFails}
+use Rattle.node_journal.specs.Parts.{Parts, of_each, OfEach}
+use Rattle.node_roles.specs.Parts.{with_effect, EachFails}
 
 -- Where a node is that commands came to: what is kept of its parts, and the digest by which it judges openings.
 pub record NodeAt (A : Type 0) : Type 0 where

@@ -12,7 +12,7 @@ use Rattle.node_lines.specs.declared.wallet_line.WalletLine.{WalletLine}
 use Rattle.node_lines.specs.Grammar.{watcher_line_in, operator_line_in, wallet_line_in}
 use Rattle.node_answers.specs.Answers.{watcher_outcome, operator_outcome, wallet_outcome}
 use Rattle.node_answers.specs.Desks.{DeskRecords, desk_records, desk_outcome}
-use Rattle.node_roles.specs.Parts.{Parts, both}
+use Rattle.node_journal.specs.Parts.{Parts, both}
 use Rattle.node_roles.specs.Nodes.{Commands}
 
 -- a wallet's parts; and the records of parts as those of a wallet, and of an operator and its desk

@@ -18,12 +18,11 @@ pub struct DeskRun<D: Disk, H: Hash32 + Copy> {
 impl<D: Disk, H: Hash32 + Copy> Commanded for DeskRun<D, H> {
     ghost use Rattle.std.specs.Prelude.{◌≡◌, false, ◌&&◌};
     ghost use Rattle.lms_sign.specs.Tree.{public_key_of};
-    ghost use Rattle.leaf_journal.specs.NodeWords.{notes_of};
     ghost use Rattle.operator_rules.specs.Records.{who_is};
     ghost use Rattle.node_lines.specs.Grammar.{operator_line_in};
     ghost use Rattle.node_answers.specs.Desks.{secret_of};
     ghost use Rattle.node_roles.specs.Notes.{NotesAt};
-    ghost use Rattle.node_roles.specs.Parts.{both};
+    ghost use Rattle.node_journal.specs.Parts.{both};
     ghost use Rattle.node_roles.specs.Nodes.{NodeAt, outcome_at, node_does, IsNodeAt, StoppedAt};
     ghost use Rattle.node_roles.specs.Roles.{desk_commands};
 
@@ -38,13 +37,13 @@ impl<D: Disk, H: Hash32 + Copy> Commanded for DeskRun<D, H> {
     ghost does = { λ _. node_does desk_commands };
 
     ghost is_at = { λ run at. (H.digest_of run.keyed.node.hash ≡ at.dig)
-        × IsNodeAt D.told D.faults at.kept (both run.keyed.node.notes (notes_of run.keyed.desk)) };
+        × IsNodeAt D.told D.faults at.kept (both run.keyed.node.notes run.keyed.desk.notes) };
 
     ghost is_stopped = { λ run log at line stop. StoppedAt D.told D.faults
-        (outcome_at desk_commands log at line) at.kept stop (both run.keyed.node.notes (notes_of run.keyed.desk))
-        × ((run.keyed.node.notes.closed && run.keyed.desk.closed) ≡ false) };
+        (outcome_at desk_commands log at line) at.kept stop (both run.keyed.node.notes run.keyed.desk.notes)
+        × ((run.keyed.node.notes.closed && run.keyed.desk.notes.closed) ≡ false) };
 
-    ghost is_open = { λ run. (run.keyed.node.notes.closed ≡ false) × (run.keyed.desk.closed ≡ false)
+    ghost is_open = { λ run. (run.keyed.node.notes.closed ≡ false) × (run.keyed.desk.notes.closed ≡ false)
         × (run.keyed.key ≡ secret_of run.keyed.node.notes.records)
         × (public_key_of run.keyed.key ≡ run.keyed.desk.key) × (run.keyed.hash ≡ run.keyed.node.hash) };
 

@@ -21,7 +21,7 @@ impl<D: Disk, H: Hash32 + Copy> Commanded for OperatorRun<D, H> {
     ghost use Rattle.operator_rules.specs.Records.{who_is};
     ghost use Rattle.node_lines.specs.Grammar.{operator_line_in};
     ghost use Rattle.node_roles.specs.Notes.{NotesAt};
-    ghost use Rattle.node_roles.specs.Parts.{alone};
+    ghost use Rattle.node_journal.specs.Parts.{alone};
     ghost use Rattle.node_roles.specs.Nodes.{NodeAt, outcome_at, node_does, IsNodeAt, StoppedAt};
     ghost use Rattle.node_roles.specs.Roles.{operator_commands};
 

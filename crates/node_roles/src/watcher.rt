@@ -22,7 +22,7 @@ impl<D: Disk, H: Hash32 + Copy> Commanded for WatcherRun<D, H> {
     ghost use Rattle.node_rules.specs.Watcher.{who_is};
     ghost use Rattle.node_lines.specs.Grammar.{watcher_line_in};
     ghost use Rattle.node_roles.specs.Notes.{NotesAt};
-    ghost use Rattle.node_roles.specs.Parts.{alone};
+    ghost use Rattle.node_journal.specs.Parts.{alone};
     ghost use Rattle.node_roles.specs.Nodes.{NodeAt, outcome_at, node_does, IsNodeAt, StoppedAt};
     ghost use Rattle.node_roles.specs.Roles.{watcher_commands};
 

@@ -23,7 +23,8 @@ use Rattle.wallet_node.specs.Opening.{OpensWallet, RefusesWallet, IsUnbound}
 use Rattle.node_replies.specs.Orders.{with_record}
 use Rattle.node_answers.specs.Answers.{Outcome}
 use Rattle.node_roles.specs.Notes.{NotesAt, with_note}
-use Rattle.node_roles.specs.Parts.{Parts, alone, both, of_each, with_effect}
+use Rattle.node_journal.specs.Parts.{Parts, alone, both, of_each}
+use Rattle.node_roles.specs.Parts.{with_effect}
 use Rattle.node_roles.specs.Nodes.{NodeAt, keeping, records_at, Commands, left_with, outcome_at, node_does, records_do}
 use Rattle.node_roles.specs.Roles.{watcher_commands, operator_commands, desk_commands, wallet_commands, wallet_parts}
 use Rattle.node_sessions.specs.Sessions.{SessionState, begun}

@@ -9,7 +9,8 @@ use Rattle.node_journal.specs.declared.stop.Stop.{Stop}
 use Rattle.node_journal.specs.declared.stop.Stop.TheVariants.{NoMemory, DeviceFault}
 use Rattle.node_answers.specs.Answers.{Outcome}
 use Rattle.node_roles.specs.Notes.{NotesAt, with_note, StaysAt, IsNotesAt, FailedAt}
-use Rattle.node_roles.specs.Parts.{Parts, of_each, OfLeaves, with_effect, PartFails}
+use Rattle.node_journal.specs.Parts.{Parts, of_each, OfLeaves}
+use Rattle.node_roles.specs.Parts.{with_effect, PartFails}
 use Rattle.node_roles.specs.Nodes.{NodeAt, Commands, outcome_at, IsNodeAt, StoppedAt}
 use Rattle.run_endings.specs.declared.status.Status.{Status}
 use Rattle.node_runs.specs.Disks.{Keeps, MayKeep, opened_at, KeepsNode, NodeFailed}

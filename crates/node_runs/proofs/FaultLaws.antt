@@ -18,7 +18,8 @@ use Rattle.node_sessions.specs.Sessions.{begun, calls_of, session_rules}
 use Rattle.node_sessions.proofs.StayLaws.{ok-same, session-keeps, run-keeps}
 use Rattle.node_answers.specs.Answers.{Outcome}
 use Rattle.node_roles.specs.Notes.{NotesAt, with_note}
-use Rattle.node_roles.specs.Parts.{Parts, alone, both, OfLeaves, with_effect, PartFails}
+use Rattle.node_journal.specs.Parts.{Parts, alone, both, OfLeaves}
+use Rattle.node_roles.specs.Parts.{with_effect, PartFails}
 use Rattle.node_roles.specs.Nodes.{NodeAt, Commands, left_with, outcome_at, node_does}
 use Rattle.node_roles.specs.Roles.{watcher_commands, operator_commands, desk_commands, wallet_commands}
 use Rattle.operator_rules.specs.Records.{who_is as operator_is}

@@ -9,7 +9,7 @@ use Rattle.node_rules.specs.Wallet.{WalletRecords}
 use Rattle.node_rules.specs.WalletRecords.{wallet_kinds, is_body}
 use Rattle.node_rules.specs.WalletOpening.{leaves_of, are_bound}
 use Rattle.operator_rules.specs.Records.{operator_kinds, who_is}
-use Rattle.node_roles.specs.Parts.{Parts, alone, both}
+use Rattle.node_journal.specs.Parts.{Parts, alone, both}
 use Rattle.node_roles.specs.Nodes.{Commands, records_do}
 use Rattle.node_roles.specs.Roles.{watcher_commands, operator_commands, desk_commands, wallet_commands}
 use Rattle.node_sessions.specs.Laws.{KeepTheRules}

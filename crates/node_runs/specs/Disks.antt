@@ -7,7 +7,8 @@ use Rattle.gate_journal.specs.Journal.{IsSettled}
 use Rattle.node_journal.specs.Notes.{NotesState, KeepsAtAnyMoment}
 use Rattle.node_answers.specs.Answers.{Outcome}
 use Rattle.node_roles.specs.Notes.{NotesAt, told_after}
-use Rattle.node_roles.specs.Parts.{Parts, of_each, OfEach, EachFails}
+use Rattle.node_journal.specs.Parts.{Parts, of_each, OfEach}
+use Rattle.node_roles.specs.Parts.{EachFails}
 
 -- over disks that tell their history and count their faults
 module _ {D : Type 0} (told : D → Option History) (faults : D → ℕ) where

@@ -11,7 +11,7 @@ use Rattle.leaf_journal.specs.Records.{leaf_records_in_of}
 use Rattle.operator_rules.specs.Records.{operator_kinds, who_is}
 use Rattle.receipt_audit.specs.Promises.{is_promise}
 use Rattle.receipt_audit.specs.Desk.{desk_secret}
-use Rattle.node_roles.specs.Parts.{alone, both}
+use Rattle.node_journal.specs.Parts.{alone, both}
 use Rattle.node_roles.specs.Roles.{operator_commands, desk_commands}
 use Rattle.run_endings.specs.declared.status.Status.{Status}
 use Rattle.node_runs.specs.Sessions.{Outside}

@@ -7,7 +7,7 @@ use Rattle.node_rules.specs.Watcher.{watcher_kinds}
 use Rattle.operator_rules.specs.Records.{operator_kinds, who_is}
 use Rattle.wallet_node.specs.State.{WalletState}
 use Rattle.wallet_node.specs.Opening.{OpensWallet}
-use Rattle.node_roles.specs.Parts.{Parts, alone, both}
+use Rattle.node_journal.specs.Parts.{Parts, alone, both}
 use Rattle.node_roles.specs.Nodes.{Commands}
 use Rattle.node_roles.specs.Roles.{watcher_commands, operator_commands, desk_commands, wallet_commands, wallet_parts}
 use Rattle.node_sessions.specs.Sessions.{begun}

@@ -8,7 +8,8 @@ use Rattle.node_rules.specs.Watcher.{watcher_kinds}
 use Rattle.wallet_node.specs.State.{WalletState}
 use Rattle.wallet_node.specs.Opening.{OpensWallet, RefusesWallet}
 use Rattle.node_roles.specs.Notes.{NotesAt, with_note}
-use Rattle.node_roles.specs.Parts.{Parts, alone, both, with_effect}
+use Rattle.node_journal.specs.Parts.{Parts, alone, both}
+use Rattle.node_roles.specs.Parts.{with_effect}
 use Rattle.node_roles.specs.Nodes.{NodeAt, Commands, outcome_at, node_does}
 use Rattle.node_roles.specs.Roles.{watcher_commands, wallet_commands, wallet_parts}
 use Rattle.node_sessions.specs.Sessions.{SessionState, session_rules}

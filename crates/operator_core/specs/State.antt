@@ -2,7 +2,6 @@
 use Rattle.std.specs.Prelude.{ℕ, Option, Some, None, Result, Err}
 use Rattle.node_journal.specs.declared.stop.Stop.{Stop}
 use Rattle.node_journal.specs.declared.stop.Stop.TheVariants.{Closed, NoMemory, DeviceFault}
-use Rattle.node_journal.specs.Notes.{NotesState}
 use Rattle.operator_rules.specs.declared.sealed.Sealed.{Sealed}
 use Rattle.operator_rules.specs.declared.refusal.OfferRefusal.{OfferRefusal}
 use Rattle.operator_rules.specs.declared.refusal.OfferRefusal.TheVariants.{Closed as OfferClosed, NoMemory as OfferNoMemory, DeviceFault as OfferFault}
@@ -10,11 +9,6 @@ use Rattle.operator_rules.specs.declared.refusal.LayRefusal.{LayRefusal}
 use Rattle.operator_rules.specs.declared.refusal.LayRefusal.TheVariants.{Closed as LayClosed, NoMemory as LayNoMemory, DeviceFault as LayFault}
 use Rattle.operator_rules.specs.declared.refusal.SealRefusal.{SealRefusal}
 use Rattle.operator_rules.specs.declared.refusal.SealRefusal.TheVariants.{Closed as SealClosed, NoMemory as SealNoMemory, DeviceFault as SealFault}
-
--- the notes over the disk, and the digest that it was opened with
-pub record OperatorState (D H : Type 0) : Type 0 where
-  pub notes : NotesState D
-  pub hash : H
 
 -- what stopped an offer whatever its definition says, if something did
 abbrev pub offer_stop : Result ℕ OfferRefusal → Option Stop

@@ -72,9 +72,9 @@ pub struct Operator<D: Disk, H: Hash32 + Copy = Sha> {
 }
 
 impl<D: Disk, H: Hash32 + Copy> Model for Operator<D, H> {
-    ghost use Rattle.operator_core.specs.State.{OperatorState};
+    ghost use Rattle.node_journal.specs.Notes.{NodeState};
 
-    ghost Value = { OperatorState D H };
+    ghost Value = { NodeState D H };
 
     ghost use Rattle.operator_core.specs.Inside.{IsRight};
 

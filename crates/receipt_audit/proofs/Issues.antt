@@ -2,11 +2,10 @@
 use Rattle.std.proofs.Common.{◌≡◌, ℕ, ◌<◌, ◌≤◌, ◌==◌, not, Bool, true, false, if◌then◌else◌, List, [], ◌∷◌, ◌++◌, length, take, drop, Option, Some, None, Ok, Err, inr, refl, sym, ap, ◌∙◌, subst, arith, lit<}
 use Rattle.std.specs.Prelude.{Result, nat_le}
 use Rattle.std.specs.List.{All, AllByRecursion}
-use Rattle.std.proofs.lemmas.Bool.{lt-ltb, leb-false, not-false, true≢false, eqb-true, and_parts}
+use Rattle.std.proofs.lemmas.Bool.{leb-false, not-false, true≢false, eqb-true, and_parts}
 use Rattle.std.proofs.Math.Seq.{take-append_seam, drop-append_seam}
 use Rattle.std.proofs.lemmas.List.Elements.{All-push}
 use Rattle.crash_disk.specs.Disk.{History, FaultPlan}
-use Rattle.plasma_base.specs.Causes.{faults_after}
 use Rattle.lms_sign.specs.declared.secret.Secret.{Secret}
 use Rattle.lms_sign.specs.Types.{leaf_count}
 use Rattle.lms_sign.specs.Tree.{signature_of, public_key_of}
@@ -16,11 +15,10 @@ use Rattle.node_journal.specs.Role.{are_of}
 use Rattle.node_journal.specs.Notes.{NotesState, Did}
 use Rattle.node_journal.specs.declared.stop.Stop.TheVariants.{NoMemory as StopNoMemory, DeviceFault as StopFault}
 use Rattle.leaf_journal.specs.Records.{binding_record, is_marked, messages_of, MayBind, MessagesPass}
-use Rattle.leaf_journal.specs.Leaves.{LeavesState, leaves_of, used_of, BoundState, Binds, is_fault}
-use Rattle.leaf_journal.specs.NodeWords.{bind_note, has_leaf, notes_of}
+use Rattle.leaf_journal.specs.Leaves.{LeavesState, leaves_of, leaf_effect, bind_stop}
 use Rattle.leaf_journal.specs.declared.refusal.BindRefusal.{BindRefusal}
 use Rattle.leaf_journal.specs.declared.refusal.BindRefusal.TheVariants.{KeySpent as BindSpent, DeviceFault as BindFault, Closed as BindClosed}
-use Rattle.leaf_journal.proofs.NodeWords.{binds_in_node_words}
+use Rattle.leaf_journal.proofs.Binding.{bind-did, bind-fails}
 use Rattle.plasma_tx.specs.declared.call.RootCall.{RootCall}
 use Rattle.plasma_tx.specs.Spelling.{has_second_mark, body_at_start}
 use Rattle.plasma_tx.specs.Views.{blocks}
@@ -45,38 +43,30 @@ use Rattle.receipt_audit.specs.Desk.{DidIssue, IssueEffect, AtDesk, issue_causes
 
 -- ---- the next leaf
 
-module _ {D : Type 0} (told : D → Option History) (plan : D → Option FaultPlan) (faults : D → ℕ) (text : List ℕ)
-    (old new : LeavesState D) (left : used_of old < leaves_of old.key) (may : MayBind old.records text) where
-  noted : bind_note old text ≡ Some (binding_record old.records text)
-  noted = (let is : has_leaf old ≡ true = lt-ltb (used_of old) (leaves_of old.key) left in rw is refl)
-
-  -- a promise was bound
-  pub bound-did : (bound : BoundState) → Binds told plan text old (Ok bound) new
-      → faults new.disk ≡ faults_after (faults old.disk) (is_fault (Ok bound))
-      → Did told plan faults (Some (binding_record old.records text)) (notes_of old) None (notes_of new)
-  bound-did bound binds cause =
-      subst (λ (n : Option (List ℕ)). Did told plan faults n (notes_of old) None (notes_of new)) noted
-      (binds_in_node_words told plan faults text old new (Ok bound) may binds cause)
-
-  -- nothing but a fault keeps an open desk with a leaf from it
-  pub bind-failed : (why : BindRefusal) → old.closed ≡ false → Binds told plan text old (Err why) new
-      → faults new.disk ≡ faults_after (faults old.disk) (is_fault {T = BoundState} (Err why))
-      → Did told plan faults (Some (binding_record old.records text)) (notes_of old) (Some StopFault) (notes_of new)
-  bind-failed (BindSpent count) is_open binds cause = absurd (omega (arith, binds.1, left))
-  bind-failed BindFault is_open binds cause =
-      subst (λ (n : Option (List ℕ)). Did told plan faults n (notes_of old) (Some StopFault) (notes_of new)) noted
-      (binds_in_node_words told plan faults text old new (Err BindFault) may binds cause)
-  bind-failed BindClosed is_open binds cause = absurd (true≢false (sym binds.0 ∙ is_open))
+-- nothing but a fault keeps an open desk with a leaf from binding a promise
+pub bind-failed : {D : Type 0} (told : D → Option History) (plan : D → Option FaultPlan) (faults : D → ℕ)
+    (text : List ℕ) (old new : LeavesState D) → length (messages_of old.notes.records) < leaves_of old.key
+    → (why : BindRefusal) → old.notes.closed ≡ false
+    → (bind_stop (Err why) ≡ None → Err why ≡ (leaf_effect old.key old.notes.records text).answer)
+    → Did told plan faults (leaf_effect old.key old.notes.records text).note old.notes (bind_stop (Err why)) new.notes
+    → Did told plan faults (Some (binding_record old.notes.records text)) old.notes (Some StopFault) new.notes
+bind-failed told plan faults text old new left (BindSpent count) is_open answered did =
+    absurd (bind-fails old.key old.notes.records text left (BindSpent count) answered refl)
+bind-failed told plan faults text old new left BindFault is_open answered did =
+    bind-did old.key old.notes.records text left told plan faults old.notes new.notes (Some StopFault) did
+bind-failed told plan faults text old new left BindClosed is_open answered did =
+    absurd (true≢false (sym did.0 ∙ is_open))
 
 -- a leaf is left of the key that the desk was opened with
 pub left-of : {D : Type 0} (old seen : LeavesState D) (secret : Secret) (count : ℕ) → old ≡ seen
     → public_key_of secret ≡ seen.key → count ≡ leaf_count secret.types
     → count ≡ leaf_count (types_of (public_key_of secret))
-    → length (messages_of seen.records) < leaf_count secret.types → used_of old < leaves_of old.key
+    → length (messages_of seen.notes.records) < leaf_count secret.types
+    → length (messages_of old.notes.records) < leaves_of old.key
 left-of old seen secret count same key value public left =
-    subst (λ (s : LeavesState _). used_of s < leaves_of s.key) (sym same)
-    (subst (λ (k : List ℕ). used_of seen < leaf_count (types_of k)) key
-    (subst (λ (n : ℕ). used_of seen < n) (sym value ∙ public) left))
+    subst (λ (s : LeavesState _). length (messages_of s.notes.records) < leaves_of s.key) (sym same)
+    (subst (λ (k : List ℕ). length (messages_of seen.notes.records) < leaf_count (types_of k)) key
+    (subst (λ (n : ℕ). length (messages_of seen.notes.records) < n) (sym value ∙ public) left))
 
 -- a promise has 100 bytes
 pub promise-length : (text : List ℕ) → is_promise text ≡ true → length text ≡ 100

@@ -5,6 +5,5 @@ pub mod Convictions
 pub mod AuditTests
 pub mod Audits
 pub mod Refusals
-pub mod Desks
 pub mod Issues
 pub mod Given

@@ -4,8 +4,7 @@ ghost use Rattle.lms_sign.specs.Tree.{public_key_of};
 ghost use Rattle.gate_journal.specs.Journal.{IsSettled};
 ghost use Rattle.node_journal.specs.Notes.{Did, Opened, RefusesRole};
 ghost use Rattle.leaf_journal.specs.Records.{is_marked, leaf_records_in_of, messages_of, MessagesPass};
-ghost use Rattle.leaf_journal.specs.Leaves.{leaves_of};
-ghost use Rattle.leaf_journal.specs.NodeWords.{migrate_answer, migrate_note, migrate_stop, notes_of};
+ghost use Rattle.leaf_journal.specs.Leaves.{leaves_of, marker_effect, migrate_stop};
 ghost use Rattle.receipt_audit.specs.Promises.{is_promise};
 
 use super::promise::PromiseKind;
@@ -33,7 +32,7 @@ impl<D: Disk> Model for Desk<D> {
 
     ghost view = { λ desk. desk.leaves };
 
-    ghost invariant = { λ desk. MessagesPass is_promise desk.leaves.records };
+    ghost invariant = { λ desk. MessagesPass is_promise desk.leaves.notes.records };
 }
 
 impl<D: Disk> Desk<D> {
@@ -44,7 +43,7 @@ impl<D: Disk> Desk<D> {
     /// `Leaves::open_of` says. A refusal hands the disk back.
     pub fn open(alloc: Global, disk: D, key: &SecretKey) -> Result<Desk<D>, Returned<D>>
         ensures opened { IfOk result (λ opened. Opened D.told D.plan D.faults
-            (leaf_records_in_of is_promise (leaves_of (public_key_of key.now))) disk (notes_of opened)) }
+            (leaf_records_in_of is_promise (leaves_of (public_key_of key.now))) disk opened.notes) }
         ensures key { IfOk result (λ opened. opened.key ≡ public_key_of key.now) }
         ensures refused { IfErr result (λ returned. RefusesRole D.told D.plan D.faults
             (leaf_records_in_of is_promise (leaves_of (public_key_of key.now))) disk returned.why returned.disk) }
@@ -58,30 +57,30 @@ impl<D: Disk> Desk<D> {
     /// What holds of every desk: each of its messages is a promise, and while no fault closed it each image
     /// that a crash may leave keeps its records. It does nothing.
     pub fn is_whole(&self)
-        ensures promises { MessagesPass is_promise self.now.records }
-        ensures settled { self.now.closed ≡ false
-            → WhereTold (D.told self.now.disk) (λ now. IsSettled now self.now.records) }
+        ensures promises { MessagesPass is_promise self.now.notes.records }
+        ensures settled { self.now.notes.closed ≡ false
+            → WhereTold (D.told self.now.notes.disk) (λ now. IsSettled now self.now.notes.records) }
     {
         self.leaves.is_whole();
     }
 
     /// Whether a device fault closed it.
     pub fn is_closed(&self) -> bool
-        ensures { result ≡ self.now.closed }
+        ensures { result ≡ self.now.notes.closed }
     {
         self.leaves.is_closed()
     }
 
     /// Whether its journal has the marker, without which it issues nothing.
     pub fn marked(&self) -> bool
-        ensures { result ≡ is_marked self.now.records }
+        ensures { result ≡ is_marked self.now.notes.records }
     {
         self.leaves.marked()
     }
 
     /// The number of bound leaves, which are the first ones.
     pub fn used(&self) -> u32
-        ensures { result ≡ length (messages_of self.now.records) }
+        ensures { result ≡ length (messages_of self.now.notes.records) }
     {
         self.leaves.used()
     }
@@ -93,9 +92,9 @@ impl<D: Disk> Desk<D> {
     /// In this order: `Closed` after a device fault; `AlreadyNew` where the marker is there; `DeviceFault`,
     /// which closes the desk.
     pub fn migrate(&mut self) -> Result<(), MigrateRefusal>
-        ensures answer { migrate_stop result ≡ None → result ≡ migrate_answer self.old }
-        ensures did { Did D.told D.plan D.faults (migrate_note self.old) (notes_of self.old) (migrate_stop result)
-            (notes_of self.new) }
+        ensures answer { migrate_stop result ≡ None → result ≡ (marker_effect self.old.notes.records).answer }
+        ensures did { Did D.told D.plan D.faults (marker_effect self.old.notes.records).note self.old.notes (migrate_stop result)
+            self.new.notes }
         ensures key { self.new.key ≡ self.old.key }
     {
         self.leaves.migrate()
@@ -103,7 +102,7 @@ impl<D: Disk> Desk<D> {
 
     /// The disk, handed back.
     pub fn take_disk(self) -> D
-        ensures { result ≡ self.disk }
+        ensures { result ≡ self.notes.disk }
     {
         let Desk { leaves, .. } = self;
         leaves.take_disk()

@@ -8,7 +8,6 @@ ghost use Rattle.node_journal.specs.Effect.{first_cause};
 ghost use Rattle.node_journal.specs.Notes.{Did};
 ghost use Rattle.node_journal.specs.declared.stop.Stop.{Stop};
 ghost use Rattle.leaf_journal.specs.Records.{binding_record, is_marked, messages_of};
-ghost use Rattle.leaf_journal.specs.NodeWords.{notes_of};
 ghost use Rattle.operator_rules.specs.Commands.{forest_in};
 ghost use Rattle.receipt_audit.specs.Promises.{is_promise, promise_text};
 ghost use Rattle.receipt_audit.specs.Desk.{DidIssue, issue_causes, issue_effect, issue_stop, promise_for, unoffered};
@@ -97,7 +96,7 @@ fn unoffered(why: OfferRefusal) -> IssueRefusal
 impl<D: Disk> Desk<D> {
     // What an issue is refused for before the transfer is offered.
     fn cause_of(&self, key: &SecretKey, blocks: u64, due: u64) -> Option<IssueRefusal>
-        ensures { result ≡ first_cause (issue_causes (leaf_count key.now.types) self.now.records blocks due) }
+        ensures { result ≡ first_cause (issue_causes (leaf_count key.now.types) self.now.notes.records blocks due) }
     {
         if due <= blocks {
             return Some(IssueRefusal::BadDue { blocks });
@@ -115,20 +114,20 @@ impl<D: Disk> Desk<D> {
     // Binds the next leaf to a promise.
     fn bind_promise(&mut self, key: &SecretKey, text: &[u8; 100]) -> Result<Bound, DiskFailed>
         requires key { public_key_of key.now ≡ self.old.key }
-        requires open { self.old.closed ≡ false }
-        requires marked { is_marked self.old.records ≡ true }
-        requires left { length (messages_of self.old.records) < leaf_count key.now.types }
+        requires open { self.old.notes.closed ≡ false }
+        requires marked { is_marked self.old.notes.records ≡ true }
+        requires left { length (messages_of self.old.notes.records) < leaf_count key.now.types }
         requires promise { is_promise text.now ≡ true }
         ensures bound { IfOk result (λ bound. bound.key ≡ self.old.key) }
-        ensures leaf { IfOk result (λ bound. bound.leaf ≡ length (messages_of self.old.records)) }
+        ensures leaf { IfOk result (λ bound. bound.leaf ≡ length (messages_of self.old.notes.records)) }
         ensures message { IfOk result (λ bound. bound.message ≡ text.now) }
-        ensures messages { OnOk result (messages_of self.new.records
-            ≡ messages_of self.old.records ++ text.now ∷ []) }
+        ensures messages { OnOk result (messages_of self.new.notes.records
+            ≡ messages_of self.old.notes.records ++ text.now ∷ []) }
         ensures did { OnOk result (Did D.told D.plan D.faults
-            (Some (binding_record self.old.records text.now)) (notes_of self.old) None (notes_of self.new)) }
+            (Some (binding_record self.old.notes.records text.now)) self.old.notes None self.new.notes) }
         ensures failed { OnErr result (Did D.told D.plan D.faults
-            (Some (binding_record self.old.records text.now)) (notes_of self.old) (Some Stop.DeviceFault)
-            (notes_of self.new)) }
+            (Some (binding_record self.old.notes.records text.now)) self.old.notes (Some Stop.DeviceFault)
+            self.new.notes) }
         ensures key { self.new.key ≡ self.old.key }
     {
         let used = self.used();
@@ -148,22 +147,22 @@ impl<D: Disk> Desk<D> {
         room: Vec<u8>,
     ) -> Result<Receipt, DiskFailed>
         requires key { public_key_of key.now ≡ self.old.key }
-        requires open { self.old.closed ≡ false }
-        requires marked { is_marked self.old.records ≡ true }
-        requires left { length (messages_of self.old.records) < leaf_count key.now.types }
+        requires open { self.old.notes.closed ≡ false }
+        requires marked { is_marked self.old.notes.records ≡ true }
+        requires left { length (messages_of self.old.notes.records) < leaf_count key.now.types }
         requires room { length room.items ≡ 100 + signature_length key.now.types }
         ensures value { IfOk result (λ receipt. receipt.bytes ≡ promise_text promise.now
-            ++ signature_of key.now (length (messages_of self.old.records)) (promise_text promise.now)) }
+            ++ signature_of key.now (length (messages_of self.old.notes.records)) (promise_text promise.now)) }
         ensures valid { IfOk result (λ receipt.
             IsValid (public_key_of key.now) (take 100 receipt.bytes) (drop 100 receipt.bytes)) }
-        ensures bound { IfOk result (λ receipt. messages_of self.new.records
-            ≡ messages_of self.old.records ++ take 100 receipt.bytes ∷ []) }
+        ensures bound { IfOk result (λ receipt. messages_of self.new.notes.records
+            ≡ messages_of self.old.notes.records ++ take 100 receipt.bytes ∷ []) }
         ensures did { OnOk result (Did D.told D.plan D.faults
-            (Some (binding_record self.old.records (promise_text promise.now))) (notes_of self.old) None
-            (notes_of self.new)) }
+            (Some (binding_record self.old.notes.records (promise_text promise.now))) self.old.notes None
+            self.new.notes) }
         ensures failed { OnErr result (Did D.told D.plan D.faults
-            (Some (binding_record self.old.records (promise_text promise.now))) (notes_of self.old)
-            (Some Stop.DeviceFault) (notes_of self.new)) }
+            (Some (binding_record self.old.notes.records (promise_text promise.now))) self.old.notes
+            (Some Stop.DeviceFault) self.new.notes) }
         ensures key { self.new.key ≡ self.old.key }
     {
         let text = promise.write();
@@ -195,16 +194,16 @@ impl<D: Disk> Desk<D> {
     ) -> Result<Receipt, IssueRefusal>
         requires key { public_key_of key.now ≡ self.old.key }
         ensures answer { issue_stop result ≡ None → result
-            ≡ (issue_effect (H.digest_of h) (H.digest_of op.old.hash) key.now op.old.notes.records self.old.records
+            ≡ (issue_effect (H.digest_of h) (H.digest_of op.old.hash) key.now op.old.notes.records self.old.notes.records
             log.now.log tx.now due).answer }
         ensures did { DidIssue E.told E.plan E.faults D.told D.plan D.faults
-            (issue_effect (H.digest_of h) (H.digest_of op.old.hash) key.now op.old.notes.records self.old.records
+            (issue_effect (H.digest_of h) (H.digest_of op.old.hash) key.now op.old.notes.records self.old.notes.records
             log.now.log tx.now due)
-            op.old.notes (notes_of self.old) (issue_stop result) op.new.notes (notes_of self.new) }
+            op.old.notes self.old.notes (issue_stop result) op.new.notes self.new.notes }
         ensures signed { IfOk result (λ receipt.
             IsValid (public_key_of key.now) (take 100 receipt.bytes) (drop 100 receipt.bytes)) }
-        ensures bound { IfOk result (λ receipt. messages_of self.new.records
-            ≡ messages_of self.old.records ++ take 100 receipt.bytes ∷ []) }
+        ensures bound { IfOk result (λ receipt. messages_of self.new.notes.records
+            ≡ messages_of self.old.notes.records ++ take 100 receipt.bytes ∷ []) }
         ensures pooled { OnOk result
             (leaf_of (forest_in op.new.notes.records).pool (body_at_start tx.now).coin ≡ tx.now) }
         ensures key_stays { self.new.key ≡ self.old.key }

@@ -3,11 +3,7 @@ use Rattle.std.proofs.Common.{◌≡◌, ℕ, true, false, List, Option, Ok, Err
 use Rattle.std.specs.Prelude.{Result, IfOk, IfErr}
 use Rattle.sha2.specs.Sha256.{sha256}
 use Rattle.sha2.proofs.Facts256.{length-sha256}
-use Rattle.plasma_base.specs.Causes.{faults_after}
-use Rattle.crash_disk.specs.Disk.{History, content, FaultPlan}
-use Rattle.crash_disk.specs.Calls.{WhereTold, passed, Made}
-use Rattle.gate_journal.specs.Steps.{open_steps}
-use Rattle.gate_journal.specs.Journal.{IsSettled, RefusesOpen, is_device_fault}
+use Rattle.crash_disk.specs.Disk.{History, FaultPlan}
 use Rattle.gate_journal.specs.declared.refusal.JournalRefusal.{JournalRefusal}
 use Rattle.gate_journal.specs.declared.refusal.JournalRefusal.TheVariants.{NoMemory}
 use Rattle.lms_sign.specs.declared.secret.Secret.{Secret}
@@ -16,10 +12,8 @@ use Rattle.lms_sign.specs.Tree.{public_key_of}
 use Rattle.lms_sign.proofs.Laws.{key-types}
 use Rattle.node_journal.specs.Notes.{NotesState, Opened, RefusesRole}
 use Rattle.leaf_journal.specs.Records.{leaf_records_in_of}
-use Rattle.leaf_journal.specs.Leaves.{LeavesState, leaves_of as leaves_of_key}
-use Rattle.leaf_journal.specs.NodeWords.{notes_of as as_notes}
-use Rattle.leaf_journal.proofs.Adding.{none_made}
-use Rattle.leaf_journal.proofs.NodeWords.{openings_of_in_node_words, refusals_of_in_node_words}
+use Rattle.node_journal.proofs.Keeping.{none_made}
+use Rattle.leaf_journal.specs.Leaves.{leaves_of as leaves_of_key}
 use Rattle.node_rules.specs.declared.identity.WalletIdentity.{WalletIdentity}
 use Rattle.node_rules.specs.WalletRecords.{is_body, leaves_in, secret_of, who_is}
 use Rattle.node_rules.specs.WalletOpening.{leaves_of}
@@ -45,30 +39,18 @@ module _ {D : Type 0} (told : D → Option History) (plan : D → Option FaultPl
       ∙ ap (λ (w : WalletIdentity). leaf_count w.types) who_is_it
 
   -- leaves that were opened
-  pub behind-opened : (opened : LeavesState D)
-      → WhereTold (told disk) (λ before.
-      leaf_records_in_of is_body (leaves_of_key (public_key_of secret)) (content before) ≡ Ok opened.records)
-      → opened
-      ≡ record { disk = opened.disk; closed = false; key = public_key_of secret; records = opened.records }
-      → WhereTold (told opened.disk) (λ now. IsSettled now opened.records)
-      → Made told plan open_steps 3 passed disk opened.disk
-      → faults opened.disk ≡ faults disk
-      → OpensLeaves told plan faults dig notes disk (as_notes opened)
-  behind-opened opened kept is settled made count =
-      subst (λ (n : ℕ). Opened told plan faults (leaf_records_in_of is_body n) disk (as_notes opened)) leaves-same
-      (openings_of_in_node_words told plan faults
-      (leaf_records_in_of is_body (leaves_of_key (public_key_of secret))) (public_key_of secret) disk opened kept is
-      settled made count)
+  pub behind-opened : (opened : NotesState D)
+      → Opened told plan faults (leaf_records_in_of is_body (leaves_of_key (public_key_of secret))) disk opened
+      → OpensLeaves told plan faults dig notes disk opened
+  behind-opened opened =
+      subst (λ (n : ℕ). Opened told plan faults (leaf_records_in_of is_body n) disk opened) leaves-same
 
   -- leaves that weren't
   pub behind-refused : (new : D) (why : JournalRefusal)
-      → RefusesOpen (leaf_records_in_of is_body (leaves_of_key (public_key_of secret))) told plan disk why new
-      → faults new ≡ faults_after (faults disk) (is_device_fault why)
+      → RefusesRole told plan faults (leaf_records_in_of is_body (leaves_of_key (public_key_of secret))) disk why new
       → RefusesLeaves told plan faults dig notes disk why new
-  behind-refused new why refused count =
+  behind-refused new why =
       subst (λ (n : ℕ). RefusesRole told plan faults (leaf_records_in_of is_body n) disk why new) leaves-same
-      (refusals_of_in_node_words told plan faults
-      (leaf_records_in_of is_body (leaves_of_key (public_key_of secret))) disk new why refused count)
 
 -- no call was made of leaves, for want of memory
 pub behind-none : {D : Type 0} (told : D → Option History) (plan : D → Option FaultPlan) (faults : D → ℕ)
@@ -81,9 +63,8 @@ behind-none told plan faults dig notes disk = record {
 
 -- what the wallet has of leaves that were opened
 pub behind-over : {D H : Type 0} (told : D → Option History) (plan : D → Option FaultPlan) (faults : D → ℕ)
-    (dig : List ℕ → List ℕ) (notes : NotesState D) (disk : D) (opened : LeavesState D) (key : List ℕ) (hash : H)
-    (result : Result (WalletState D H) (ReturnedBoth D)) → OpensLeaves told plan faults dig notes disk (as_notes opened)
-    → opened ≡ record { disk = opened.disk; closed = false; key = key; records = opened.records }
+    (dig : List ℕ → List ℕ) (notes : NotesState D) (disk : D) (opened : NotesState D) (hash : H)
+    (result : Result (WalletState D H) (ReturnedBoth D)) → OpensLeaves told plan faults dig notes disk opened
     → IfOk result (λ node. node ≡ record {
       notes_disk = notes.disk;
       leaves_disk = opened.disk;
@@ -92,15 +73,17 @@ pub behind-over : {D H : Type 0} (told : D → Option History) (plan : D → Opt
       hash = hash;
     })
     → IfOk result (λ node. OpensLeaves told plan faults dig notes disk (leaves_part node))
-behind-over told plan faults dig notes disk opened key hash (Err returned) opens is over = tt
-behind-over {D} told plan faults dig notes disk opened key hash (Ok node) opens is over =
-    let same : as_notes opened ≡ leaves_part node = ap as_notes is ∙ sym (ap leaves_part over) in
+behind-over told plan faults dig notes disk opened hash (Err returned) opens over = tt
+behind-over {D} told plan faults dig notes disk opened hash (Ok node) opens over =
+    let same : opened ≡ leaves_part node =
+    (λ i. record { disk = opened.disk; closed = opens.is_open i; records = opened.records }) ∙ sym (ap leaves_part over)
+    in
     subst (λ (leaves : NotesState D). OpensLeaves told plan faults dig notes disk leaves) same opens
 
 -- what was refused behind leaves that were opened
 pub behind-unbound : {D T : Type 0} (told : D → Option History) (plan : D → Option FaultPlan) (faults : D → ℕ)
-    (dig : List ℕ → List ℕ) (notes : NotesState D) (disk : D) (opened : LeavesState D)
-    (result : Result T (ReturnedBoth D)) → OpensLeaves told plan faults dig notes disk (as_notes opened)
+    (dig : List ℕ → List ℕ) (notes : NotesState D) (disk : D) (opened : NotesState D)
+    (result : Result T (ReturnedBoth D)) → OpensLeaves told plan faults dig notes disk opened
     → IfErr result (λ returned. IsUnbound dig (leaves_in opened.records) notes.records returned.why)
     → IfErr result (λ returned. returned.notes ≡ notes.disk)
     → IfErr result (λ returned. returned.leaves ≡ opened.disk)
@@ -108,7 +91,7 @@ pub behind-unbound : {D T : Type 0} (told : D → Option History) (plan : D → 
     RefusesBehind told plan faults dig notes disk returned.why returned.notes returned.leaves)
 behind-unbound told plan faults dig notes disk opened (Ok node) opens unbound same same_leaves = tt
 behind-unbound told plan faults dig notes disk opened (Err returned) opens unbound same same_leaves =
-    (same, inr (as_notes opened, opens, same_leaves, unbound))
+    (same, inr (opened, opens, same_leaves, unbound))
 
 -- what was refused behind notes that were opened
 pub wallet-refused : {D T : Type 0} (told : D → Option History) (plan : D → Option FaultPlan) (faults : D → ℕ)

@@ -1,16 +1,13 @@
 -- What a wallet's leaves do, in the words of its commands.
-use Rattle.std.proofs.Common.{◌≡◌, ◌<◌, ℕ, Bool, true, false, List, [], ◌∷◌, ◌++◌, length, Option, None, Some, if◌then◌else◌, Ok, Err, inl, inr, refl, sym, ◌∙◌, ap, subst, arith}
+use Rattle.std.proofs.Common.{◌≡◌, ℕ, Bool, true, false, List, [], ◌∷◌, ◌++◌, length, Option, None, Some, if◌then◌else◌, Ok, Err, inl, inr, refl, sym, ◌∙◌, ap, subst, arith}
 use Rattle.std.specs.Prelude.{Result, IfSome}
 use Rattle.std.specs.List.{All}
-use Rattle.std.proofs.lemmas.Bool.{lt-ltb}
 use Rattle.std.proofs.lemmas.List.Elements.{All-push}
-use Rattle.crash_disk.specs.Disk.{History, FaultPlan}
 use Rattle.lms_sign.specs.declared.secret.Secret.{Secret}
 use Rattle.plasma_tx.specs.declared.body.Body.{Body}
 use Rattle.plasma_tx.specs.Spelling.{body_text, body_at_start}
 use Rattle.leaf_journal.specs.Records.{binding_record, is_marked, marker, messages_of, MayBind}
-use Rattle.leaf_journal.specs.Leaves.{LeavesState, leaves_of, used_of, Binds}
-use Rattle.leaf_journal.specs.NodeWords.{bind_note, bind_stop, has_leaf, migrate_note, migrate_stop}
+use Rattle.leaf_journal.specs.Leaves.{marker_effect, bind_stop, migrate_stop}
 use Rattle.leaf_journal.specs.declared.refusal.BindRefusal.{BindRefusal}
 use Rattle.leaf_journal.specs.declared.refusal.BindRefusal.TheVariants.{KeySpent, DeviceFault as BindFault, Closed as BindClosed}
 use Rattle.leaf_journal.specs.declared.refusal.MigrateRefusal.{MigrateRefusal}
@@ -31,34 +28,21 @@ migrate-stops AlreadyNew = refl
 migrate-stops DeviceFault = refl
 migrate-stops Closed = refl
 
-pub migrate-same : {D : Type 0} (wallet : WalletRecords) (leaves : LeavesState D) → wallet.leaves ≡ leaves.records
-    → migrate_note leaves ≡ (migrate_effect wallet).leaf
+pub migrate-same : (wallet : WalletRecords)
+    → (marker_effect wallet.leaves).note ≡ (migrate_effect wallet).leaf
 unfolding migrate_effect
-migrate-same wallet leaves is = at (is_marked wallet.leaves) refl
+migrate-same wallet = at (is_marked wallet.leaves) refl
   where
-    at : (b : Bool) → is_marked wallet.leaves ≡ b → migrate_note leaves
+    at : (b : Bool) → is_marked wallet.leaves ≡ b → (marker_effect wallet.leaves).note
         ≡ (if is_marked wallet.leaves then answers {A = Result Unit WalletRefusal} (Err RefusedNew)
         else binds_it (Ok tt) marker).leaf
-    at true marked = rw (sym (ap is_marked is), marked) refl
-    at false marked = rw (sym (ap is_marked is), marked) refl
+    at true marked = rw marked refl
+    at false marked = rw marked refl
 
 pub bind-stops : (why : BindRefusal) → bind_stop (Err why) ≡ stop_in (bind_refusal why)
 bind-stops (KeySpent count) = refl
 bind-stops BindFault = refl
 bind-stops BindClosed = refl
-
--- a bind is stopped by nothing but a fault, or the leaves are closed, where one is left
-pub bind-fails : {D : Type 0} (told : D → Option History) (plan : D → Option FaultPlan) (message : List ℕ)
-    (old new : LeavesState D) (why : BindRefusal) → Binds told plan message old (Err why) new
-    → used_of old < leaves_of old.key → stop_in (bind_refusal why) ≡ None → ⊥
-bind-fails told plan message old new (KeySpent count) binds left none = omega (arith, binds.1, left)
-bind-fails told plan message old new BindFault binds left none = absurd (cc none)
-bind-fails told plan message old new BindClosed binds left none = absurd (cc none)
-
-pub bind-noted : {D : Type 0} (old : LeavesState D) (message : List ℕ) → used_of old < leaves_of old.key
-    → bind_note old message ≡ Some (binding_record old.records message)
-bind-noted old message left = (let is : has_leaf old ≡ true = lt-ltb (used_of old) (leaves_of old.key) left in
-    rw is refl)
 
 -- a message that a body's bytes are
 pub body-binds : (leaves : List (List ℕ)) (body : Body) → length body.tag ≡ 32 → length body.to.key ≡ 56
@@ -116,17 +100,6 @@ read-is message body is = at (is_body message) is
 
 pub read-some : (message : List ℕ) → is_body message ≡ true → None ≡ body_of message → ⊥
 read-some message is none = (let wrong : None ≡ Some (body_at_start message) = rw is at none in absurd (cc wrong))
-
--- a bind that failed leaves records and key
-pub bind-same : {D : Type 0} (told : D → Option History) (plan : D → Option FaultPlan) (message : List ℕ)
-    (old new : LeavesState D) (why : BindRefusal) → Binds told plan message old (Err why) new
-    → (new.records ≡ old.records) × (new.key ≡ old.key)
-bind-same told plan message old new (KeySpent count) binds =
-    (ap (λ s. s.records) binds.3, ap (λ s. s.key) binds.3)
-bind-same told plan message old new BindFault binds =
-    (ap (λ s. s.records) binds.1.leaves, ap (λ s. s.key) binds.1.leaves)
-bind-same told plan message old new BindClosed binds =
-    (ap (λ s. s.records) binds.1, ap (λ s. s.key) binds.1)
 
 -- what is kept stays with what is the same
 pub kept-same : (dig : List ℕ → List ℕ) (notes leaves more : List (List ℕ)) (who : WalletIdentity) (secret : Secret)

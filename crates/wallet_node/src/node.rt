@@ -41,14 +41,14 @@ impl<D: Disk, H: Hash32 + Copy> Model for WalletNode<D, H> {
 
     ghost view = { λ n. record {
       notes_disk = n.notes.notes.disk;
-      leaves_disk = n.leaves.disk;
-      closed = n.notes.notes.closed || n.leaves.closed;
-      records = record { notes = n.notes.notes.records; leaves = n.leaves.records };
+      leaves_disk = n.leaves.notes.disk;
+      closed = n.notes.notes.closed || n.leaves.notes.closed;
+      records = record { notes = n.notes.notes.records; leaves = n.leaves.notes.records };
       hash = n.hash;
     } };
 
     ghost invariant = { λ n.
-        IsKept (H.digest_of n.hash) (record { notes = n.notes.notes.records; leaves = n.leaves.records })
+        IsKept (H.digest_of n.hash) (record { notes = n.notes.notes.records; leaves = n.leaves.notes.records })
         n.who n.key n.leaves.key n.memory n.bodies.items
         × (n.notes.role ≡ record { hash = n.hash }) };
 }

@@ -79,13 +79,13 @@ fn kept_by<D: Disk, H: Hash32>(
     requires role { are_of (wallet_kinds (H.digest_of h.now)) records.now ≡ true }
     requires who { who.now ≡ who_is records.now }
     requires public { public ≡ public_key_of (secret_of who.now) }
-    requires pass { MessagesPass is_body leaves.now.records }
+    requires pass { MessagesPass is_body leaves.now.notes.records }
     ensures memory { IfOk result (λ kept. kept.0 ≡ memory_in (H.digest_of h.now) records.now) }
-    ensures bodies { IfOk result (λ kept. kept.1.items ≡ leaves_in leaves.now.records) }
+    ensures bodies { IfOk result (λ kept. kept.1.items ≡ leaves_in leaves.now.notes.records) }
     ensures bound { IfOk result (λ kept.
-        are_bound_notes (leaves_in leaves.now.records) (notes_of (H.digest_of h.now) records.now) ≡ true) }
+        are_bound_notes (leaves_in leaves.now.notes.records) (notes_of (H.digest_of h.now) records.now) ≡ true) }
     ensures refused { IfErr result
-        (IsUnbound (H.digest_of h.now) (leaves_in leaves.now.records) records.now) }
+        (IsUnbound (H.digest_of h.now) (leaves_in leaves.now.notes.records) records.now) }
 {
     let bodies = read_bodies(alloc, leaves)?;
     let account = who.account;
@@ -110,21 +110,21 @@ fn over<D: Disk, H: Hash32 + Copy>(
     requires who { who ≡ who_is notes.notes.records }
     requires key { key ≡ secret_of who }
     requires public { leaves.key ≡ public_key_of key }
-    requires pass { MessagesPass is_body leaves.records }
+    requires pass { MessagesPass is_body leaves.notes.records }
     requires open { notes.notes.closed ≡ false }
-    requires open_leaves { leaves.closed ≡ false }
+    requires open_leaves { leaves.notes.closed ≡ false }
     ensures opened { IfOk result (λ node. node ≡ record {
       notes_disk = notes.notes.disk;
-      leaves_disk = leaves.disk;
+      leaves_disk = leaves.notes.disk;
       closed = false;
-      records = record { notes = notes.notes.records; leaves = leaves.records };
+      records = record { notes = notes.notes.records; leaves = leaves.notes.records };
       hash = hash;
     }) }
     ensures bound { IfOk result (λ node. are_bound (H.digest_of hash) node.records ≡ true) }
     ensures refused { IfErr result (λ returned.
-        IsUnbound (H.digest_of hash) (leaves_in leaves.records) notes.notes.records returned.why) }
+        IsUnbound (H.digest_of hash) (leaves_in leaves.notes.records) notes.notes.records returned.why) }
     ensures disk { IfErr result (λ returned. returned.notes ≡ notes.notes.disk) }
-    ensures leaves_disk { IfErr result (λ returned. returned.leaves ≡ leaves.disk) }
+    ensures leaves_disk { IfErr result (λ returned. returned.leaves ≡ leaves.notes.disk) }
 {
     notes.is_whole();
     let public = key.secret_key().public();

@@ -21,8 +21,8 @@ use wallet_core::LeafRecord;
 
 // What the leaves bind, by their numbers.
 pub fn read_bodies<D: Disk>(alloc: Global, leaves: &Leaves<D>) -> Result<Vec<LeafRecord>, NoMemory>
-    requires { MessagesPass is_body leaves.now.records }
-    ensures { IfOk result (λ bodies. bodies.items ≡ leaves_in leaves.now.records) }
+    requires { MessagesPass is_body leaves.now.notes.records }
+    ensures { IfOk result (λ bodies. bodies.items ≡ leaves_in leaves.now.notes.records) }
 {
     let used = leaves.used();
     let mut bodies = Vec::with_capacity(alloc, used as usize)?;

@@ -1,15 +1,9 @@
 -- What callers see of a watcher, and what stops its commands.
 use Rattle.std.specs.Prelude.{Option, Some, None, Result, Ok, Err}
-use Rattle.node_journal.specs.Notes.{NotesState}
 use Rattle.node_journal.specs.declared.stop.Stop.{Stop}
 use Rattle.node_journal.specs.declared.stop.Stop.TheVariants.{Closed, NoMemory, DeviceFault}
 use Rattle.node_rules.specs.declared.refusal.WatcherRefusal.{WatcherRefusal}
 use Rattle.node_rules.specs.declared.refusal.WatcherRefusal.TheVariants.{Closed as RefusedClosed, NoMemory as RefusedMemory, DeviceFault as RefusedFault}
-
--- a watcher's notes, and the digest that it was opened with
-pub record WatcherState (D H : Type 0) : Type 0 where
-  pub notes : NotesState D
-  pub hash : H
 
 -- what stopped a command that was refused for this: its definition says nothing of these three
 abbrev pub stop_in : WatcherRefusal → Option Stop

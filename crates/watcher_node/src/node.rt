@@ -32,10 +32,10 @@ pub struct WatcherNode<D: Disk, H: Hash32 + Copy = Sha> {
 
 impl<D: Disk, H: Hash32 + Copy> Model for WatcherNode<D, H> {
     ghost use Rattle.std.specs.Prelude.{◌≡◌};
-    ghost use Rattle.watcher_node.specs.State.{WatcherState};
+    ghost use Rattle.node_journal.specs.Notes.{NodeState};
     ghost use Rattle.watcher_node.specs.Inside.{IsKept};
 
-    ghost Value = { WatcherState D H };
+    ghost Value = { NodeState D H };
 
     ghost view = { λ n. record { notes = n.notes.notes; hash = n.hash } };
 

@@ -8,6 +8,7 @@ use Rattle.crash_disk.specs.declared.outcome.Outcome.{Outcome}
 use Rattle.gate_journal.specs.Image.{kept_records}
 use Rattle.gate_journal.specs.declared.refusal.JournalRefusal.{JournalRefusal}
 use Rattle.node_journal.specs.Notes.{NotesState, Did, Opened, RefusesRole}
+use Rattle.node_journal.specs.Parts.{Parts}
 use Rattle.node_journal.specs.Role.{role_in}
 use Rattle.node_journal.specs.declared.stop.Stop.{Stop}
 use Rattle.node_journal.specs.declared.stop.Stop.TheVariants.{DeviceFault, NoMemory}
@@ -84,10 +85,9 @@ pub record Half : Type 0 where
   pub disk : MemState
   pub records : List (List ℕ)
 
--- the halves of a node: wallets alone have leaves
-pub record Halves : Type 0 where
-  pub notes : Half
-  pub leaves : Option Half
+-- those of a node: wallets alone have leaves
+abbrev pub Halves : Type 0
+Halves = Parts Half
 
 -- the half of a journal that is open
 abbrev pub half_of : NotesState MemState → Half

@@ -1,6 +1,5 @@
-//! What is kept of the lines of a run: of each line what its verdicts need, and what they show that excuses a loss.
-//! That is the event of a node's order or of a call, and what verdicts need to know of a call that is entered into the
-//! contract.
+//! What is kept of the lines of a run: of each line what verdicts need, and of all together what they show that excuses
+//! a loss. A line's event is that of a node's order or of a call that is entered into the contract.
 #![tactic(auto)]
 
 mod asked;

@@ -1,13 +1,12 @@
 use Rattle.std.proofs.Common.{inl}
-use Rattle.hss_keys.specs.Levels.{notes_of}
 use Rattle.hss_runs.proofs.FaultLaws.{signer-counts}
 use Rattle.hss_runs.proofs.run.run_signer.Goals as goal
 
 pub returns-in-Ok-clause-runs : goal.returns-in-Ok-clause-runs
 returns-in-Ok-clause-runs g c = inl (record {
   opened = c.in-Ok.signer.notes.notes;
-  levels = notes_of c.in-Ok.signer.levels;
-  last = notes_of c.sign-status.new.levels;
+  levels = c.in-Ok.signer.levels.notes;
+  last = c.sign-status.new.levels.notes;
   opens = c.in-Ok.ensures.opened;
   notes_are = c.take_disk-notes.ensures;
   leaves_are = c.take_disk-leaves.ensures;

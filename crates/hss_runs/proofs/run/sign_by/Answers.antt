@@ -4,7 +4,6 @@ use Rattle.run_endings.specs.declared.status.Status.TheVariants.{Done}
 use Rattle.run_endings.specs.Outputs.{EndsAs}
 use Rattle.hss_keys.specs.declared.seed.HssSeed.{HssSeed}
 use Rattle.hss_keys.specs.Entries.{entries_of}
-use Rattle.hss_keys.specs.Levels.{notes_of}
 use Rattle.hss_keys.proofs.Form.{are_counted}
 use Rattle.hss_runs.specs.Signing.{entries_added}
 use Rattle.hss_runs.proofs.Adding.{adds-settle, fails-leave}
@@ -15,9 +14,9 @@ use Rattle.hss_runs.proofs.run.sign_by.Goals as goal
 pub prepare-requires : goal.prepare-requires
 prepare-requires g c =
     let old = c.args.levels.now in
-    let most = (are_counted old.seed old.records c.is_whole.ensures.are).opened in
+    let most = (are_counted old.seed old.notes.records c.is_whole.ensures.are).opened in
     subst (λ (s : HssSeed). c.args.next.top_leaf < leaf_count s.top) (sym c.requires.secret)
-    (top-within old.seed (entries_of old.records) c.args.next c.requires.next (omega (arith, most)))
+    (top-within old.seed (entries_of old.notes.records) c.args.next c.requires.next (omega (arith, most)))
 
 pub returns-in-Ok-bind_next-clause-signs : goal.returns-in-Ok-bind_next-clause-signs
 returns-in-Ok-bind_next-clause-signs g c =
@@ -31,7 +30,7 @@ returns-in-Ok-bind_next-clause-signs g c =
     inl (record {
       adds = c.in-Ok-bind_next.ensures.did;
       settled = adds-settle d.told d.plan d.faults (entries_added old.seed c.args.next c.args.message.now)
-          (notes_of old) (notes_of new) c.in-Ok-bind_next.ensures.did (c.is_whole.ensures.settled c.requires.open);
+          old.notes new.notes c.in-Ok-bind_next.ensures.did (c.is_whole.ensures.settled c.requires.open);
       ends = subst (λ (l : List ℕ). EndsAs (record { status = Done; answers = []; last = l }) c.put_line.result
           (k.taken c.args.sink.now) (k.taken c.put_line.new.sink) ⊥) line c.put_line.ensures.output;
     })
@@ -44,6 +43,6 @@ returns-in-Err-DeviceFault-clause-signs g c =
     inr (inl (record {
       fails = failed;
       left = fails-leave d.told d.plan d.faults (entries_added old.seed c.args.next c.args.message.now)
-          (notes_of old) (notes_of c.bind_next.new.levels) failed;
+          old.notes c.bind_next.new.levels.notes failed;
       ends = c.put_line-in-Err-DeviceFault.ensures.output;
     }))

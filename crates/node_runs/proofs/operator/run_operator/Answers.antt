@@ -1,6 +1,6 @@
 use Rattle.std.proofs.Common.{inl, refl, None}
 use contract.BorrowLft.{⊑_meet, ⊑_static}
-use Rattle.node_roles.specs.Parts.{alone}
+use Rattle.node_journal.specs.Parts.{alone}
 use Rattle.node_roles.specs.Roles.{operator_commands}
 use Rattle.node_runs.specs.Operators.{RunsOperator}
 use Rattle.node_runs.specs.Prompt.{OperatorPromptly}

@@ -7,10 +7,9 @@ use Rattle.gate_journal.specs.declared.refusal.JournalRefusal.TheVariants.{NoMem
 use Rattle.node_journal.specs.Notes.{Opened, RefusesRole}
 use Rattle.leaf_journal.specs.Leaves.{leaves_of}
 use Rattle.leaf_journal.specs.Records.{leaf_records_in_of}
-use Rattle.leaf_journal.specs.NodeWords.{notes_of}
 use Rattle.receipt_audit.specs.Promises.{is_promise}
 use Rattle.receipt_audit.specs.Desk.{desk_secret}
-use Rattle.node_roles.specs.Parts.{both}
+use Rattle.node_journal.specs.Parts.{both}
 use Rattle.node_roles.specs.Nodes.{outcome_at, StoppedAt}
 use Rattle.node_roles.specs.Roles.{desk_commands}
 use Rattle.streamed_lines.proofs.OutsideLaws.{gave-none}
@@ -50,7 +49,7 @@ run_session-run-requires g c κs within =
                 refl,
                 (
                   opened-there g.D.Disk.told g.D.Disk.faults c.args.node.notes c.requires.is_open c.requires.settled,
-                  opened-there g.D.Disk.told g.D.Disk.faults (notes_of c.in-Ok-open.desk)
+                  opened-there g.D.Disk.told g.D.Disk.faults c.in-Ok-open.desk.notes
                       c.in-Ok-open.ensures.opened.is_open c.in-Ok-open.ensures.opened.settled,
                 ),
               ),
@@ -65,15 +64,15 @@ returns-in-Ok-open-clause-runs g c =
     let told = g.D.Disk.told in
     let faults = g.D.Disk.faults in
     let notes = c.run_session-run.result.0.keyed.node.notes in
-    let leaves = notes_of c.run_session-run.result.0.keyed.desk in
+    let leaves = c.run_session-run.result.0.keyed.desk.notes in
     let runs = rw c.requires.hash at c.run_session-run.ensures.runs in
     inl (
-      notes_of c.in-Ok-open.desk,
+      c.in-Ok-open.desk.notes,
       subst (λ (key : Secret). Opened told g.D.Disk.plan faults (leaf_records_in_of is_promise (leaves_of
-          (public_key_of key))) c.args.leaves (notes_of c.in-Ok-open.desk)) c.in-Ok.ensures c.in-Ok-open.ensures.opened,
+          (public_key_of key))) c.args.leaves c.in-Ok-open.desk.notes) c.in-Ok.ensures c.in-Ok-open.ensures.opened,
       rw (c.take_disk-in-Ok-open.ensures, c.take_disk-in-Ok-open-2.ensures)
           (handed-back told g.D.Disk.plan faults (g.H.Hash32.digest_of c.args.h) desk_commands
-          (both c.args.node.notes (notes_of c.in-Ok-open.desk)) (both notes leaves) _
+          (both c.args.node.notes c.in-Ok-open.desk.notes) (both notes leaves) _
           (λ log at line stop. StoppedAt told faults (outcome_at desk_commands log at line) at.kept stop
           (both notes leaves)
           × ((notes.closed && leaves.closed) ≡ false))
@@ -83,9 +82,9 @@ returns-in-Ok-open-clause-runs g c =
 pub returns-in-Ok-open-clause-prompt : goal.returns-in-Ok-open-clause-prompt
 returns-in-Ok-open-clause-prompt g c =
     inl (
-      notes_of c.in-Ok-open.desk,
+      c.in-Ok-open.desk.notes,
       subst (λ (key : Secret). Opened g.D.Disk.told g.D.Disk.plan g.D.Disk.faults (leaf_records_in_of is_promise
-          (leaves_of (public_key_of key))) c.args.leaves (notes_of c.in-Ok-open.desk)) c.in-Ok.ensures
+          (leaves_of (public_key_of key))) c.args.leaves c.in-Ok-open.desk.notes) c.in-Ok.ensures
           c.in-Ok-open.ensures.opened,
       rw c.requires.hash at c.run_session-run.ensures.prompt,
     )

@@ -1,6 +1,6 @@
 use Rattle.std.proofs.Common.{inl, inr, refl}
 use contract.BorrowLft.{⊑_meet, ⊑_static}
-use Rattle.node_roles.specs.Parts.{alone}
+use Rattle.node_journal.specs.Parts.{alone}
 use Rattle.node_roles.specs.Roles.{watcher_commands}
 use Rattle.streamed_lines.proofs.OutsideLaws.{gave-none}
 use Rattle.node_runs.specs.Runs.{RunsWatcher}

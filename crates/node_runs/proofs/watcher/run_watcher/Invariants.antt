@@ -1,4 +1,4 @@
-use Rattle.node_roles.specs.Parts.{alone}
+use Rattle.node_journal.specs.Parts.{alone}
 use Rattle.node_runs.specs.Disks.{node_opened}
 use Rattle.node_runs.proofs.watcher.run_watcher.Given as goal
 

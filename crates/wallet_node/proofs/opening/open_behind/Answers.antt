@@ -18,11 +18,9 @@ returns-in-Ok-open_of-clause-opened g c =
     let opens = behind-opened g.D.Disk.told g.D.Disk.plan g.D.Disk.faults dig notes c.args.leaves
     c.identity_of-who.result c.secret_key.result.now
     (c.identity_of-who.ensures.value ∙ ap who_is c.records.ensures) c.identity_of-who.ensures.types
-    (c.secret_key.ensures ∙ c.in-Ok.ensures) leaves c.in-Ok-open_of.ensures.records c.in-Ok-open_of.ensures.leaves
-    c.in-Ok-open_of.ensures.settled c.in-Ok-open_of.ensures.made c.in-Ok-open_of.ensures.cause in
-    behind-over g.D.Disk.told g.D.Disk.plan g.D.Disk.faults dig notes c.args.leaves leaves _ c.args.h c.over.result
-    opens
-    c.in-Ok-open_of.ensures.leaves c.over.ensures.opened
+    (c.secret_key.ensures ∙ c.in-Ok.ensures) leaves.notes c.in-Ok-open_of.ensures.opened in
+    behind-over g.D.Disk.told g.D.Disk.plan g.D.Disk.faults dig notes c.args.leaves leaves.notes c.args.h c.over.result
+    opens c.over.ensures.opened
 
 pub returns-in-Ok-open_of-clause-refused : goal.returns-in-Ok-open_of-clause-refused
 returns-in-Ok-open_of-clause-refused g c =
@@ -32,9 +30,9 @@ returns-in-Ok-open_of-clause-refused g c =
     let opens = behind-opened g.D.Disk.told g.D.Disk.plan g.D.Disk.faults dig notes c.args.leaves
     c.identity_of-who.result c.secret_key.result.now
     (c.identity_of-who.ensures.value ∙ ap who_is c.records.ensures) c.identity_of-who.ensures.types
-    (c.secret_key.ensures ∙ c.in-Ok.ensures) leaves c.in-Ok-open_of.ensures.records c.in-Ok-open_of.ensures.leaves
-    c.in-Ok-open_of.ensures.settled c.in-Ok-open_of.ensures.made c.in-Ok-open_of.ensures.cause in
-    behind-unbound g.D.Disk.told g.D.Disk.plan g.D.Disk.faults dig notes c.args.leaves leaves c.over.result opens
+    (c.secret_key.ensures ∙ c.in-Ok.ensures) leaves.notes c.in-Ok-open_of.ensures.opened in
+    behind-unbound g.D.Disk.told g.D.Disk.plan g.D.Disk.faults dig notes c.args.leaves leaves.notes c.over.result
+    opens
     c.over.ensures.refused c.over.ensures.disk c.over.ensures.leaves_disk
 
 pub returns-in-Err-open_of-clause-refused : goal.returns-in-Err-open_of-clause-refused
@@ -44,5 +42,5 @@ returns-in-Err-open_of-clause-refused g c = (
       c.args.notes.notes c.args.leaves c.identity_of-who.result c.secret_key.result.now
       (c.identity_of-who.ensures.value ∙ ap who_is c.records.ensures) c.identity_of-who.ensures.types
       (c.secret_key.ensures ∙ c.in-Ok.ensures) c.in-Err-open_of.returned.disk c.in-Err-open_of.returned.why
-      c.in-Err-open_of.ensures.refused c.in-Err-open_of.ensures.refused_cause),
+      c.in-Err-open_of.ensures.refused),
 )

@@ -8,7 +8,7 @@ pub returns-clause-kept : goal.returns-clause-kept
 returns-clause-kept g c =
     let old = c.args.self.now in
     let message = c.in_ok-message.message in
-    let value = subst (λ (s : LevelsState _). Some message ≡ message_at (entries_of s.records) c.args.j c.args.q)
+    let value = subst (λ (s : LevelsState _). Some message ≡ message_at (entries_of s.notes.records) c.args.j c.args.q)
     c.self.view_is c.in_ok-message.ensures.value in
-    bound-kept old.seed old.records c.args.j c.args.q message c.bound.result c.bound.ensures.value
+    bound-kept old.seed old.notes.records c.args.j c.args.q message c.bound.result c.bound.ensures.value
     c.bound.ensures.key (sym value)

@@ -21,7 +21,7 @@ invariant_of-result g c =
     ap (λ (k : List ℕ). leaf_count (types_of k)) c.key.ensures
     ∙ ap leaf_count (bottom-types seed c.args.top_leaf whole.bottom) in
     let count = ap (λ (s : LevelsState _). leaf_count s.seed.bottom) c.self.view_is in
-    let within = subst (λ (s : LevelsState _). c.args.top_leaf < opened_count (entries_of s.records))
+    let within = subst (λ (s : LevelsState _). c.args.top_leaf < opened_count (entries_of s.notes.records))
     (sym c.self.view_is) c.requires.top in
     record {
       top = omega (arith, top, within, counted.opened);
@@ -31,8 +31,8 @@ invariant_of-result g c =
 pub returns-clause-key : goal.returns-clause-key
 returns-clause-key g c =
     let inside = c.self.inside in
-    let within = subst (λ (s : LevelsState _). c.args.top_leaf < opened_count (entries_of s.records))
+    let within = subst (λ (s : LevelsState _). c.args.top_leaf < opened_count (entries_of s.notes.records))
     (sym c.self.view_is) c.requires.top in
-    subst (λ (s : LevelsState _). key_at (entries_of s.records) c.args.top_leaf ≡ Some c.key.result) c.self.view_is
+    subst (λ (s : LevelsState _). key_at (entries_of s.notes.records) c.args.top_leaf ≡ Some c.key.result) c.self.view_is
     (bottom-kept inside.records.seed inside.records.records c.args.top_leaf c.key.result c.is_whole.ensures.are within
     c.key.ensures)

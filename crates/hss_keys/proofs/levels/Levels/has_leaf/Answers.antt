@@ -4,4 +4,4 @@ use Rattle.hss_keys.specs.Levels.{LevelsState, has_leaf}
 use Rattle.hss_keys.proofs.levels.Levels.has_leaf.Goals as goal
 
 pub returns : goal.returns
-returns g c = c.has_leaf.ensures ∙ ap (λ (s : LevelsState _). has_leaf s.seed (entries_of s.records)) c.self.view_is
+returns g c = c.has_leaf.ensures ∙ ap (λ (s : LevelsState _). has_leaf s.seed (entries_of s.notes.records)) c.self.view_is

@@ -4,9 +4,10 @@ use Rattle.gate_journal.specs.Journal.{JournalState}
 use Rattle.node_journal.specs.Notes.{Did, stopped_by}
 use Rattle.hss_keys.specs.Entries.{entries_of, entry_text}
 use Rattle.hss_keys.specs.Form.{entry_may_follow}
-use Rattle.hss_keys.specs.Levels.{LevelsState, notes_of}
+use Rattle.hss_keys.specs.Levels.{LevelsState}
 use Rattle.hss_keys.specs.Sound.{IsSound}
-use Rattle.hss_keys.proofs.Adding.{did_reserved, kept_reserved, kept_same, notes_over, reserved_room}
+use Rattle.node_journal.proofs.Keeping.{notes_over}
+use Rattle.hss_keys.proofs.Adding.{did_reserved, kept_reserved, kept_same, reserved_room}
 use Rattle.hss_keys.proofs.Sounding.{level_sound, same_sound}
 use Rattle.hss_keys.proofs.levels.Levels.open_level.Goals as goal
 
@@ -26,7 +27,7 @@ invariant_of-self-in_err-reserve g c =
 pub append-requires-clause-open : goal.append-requires-clause-open
 append-requires-clause-open g c =
     ap (λ (j : JournalState _). j.closed) c.in_ok-reserve.ensures.room
-    ∙ ap (λ (s : LevelsState _). s.closed) c.self.view_is ∙ c.requires.open
+    ∙ ap (λ (s : LevelsState _). s.notes.closed) c.self.view_is ∙ c.requires.open
 
 pub append-requires-clause-kept : goal.append-requires-clause-kept
 append-requires-clause-kept g c =
@@ -44,7 +45,7 @@ append-requires-clause-room g c =
 pub append-requires-clause-follows : goal.append-requires-clause-follows
 append-requires-clause-follows g c =
     let level = c.reserve_level.ensures in
-    let follows = subst (λ (s : LevelsState _). entry_may_follow s.seed (entries_of s.records) c.args.entry.now ≡ true)
+    let follows = subst (λ (s : LevelsState _). entry_may_follow s.seed (entries_of s.notes.records) c.args.entry.now ≡ true)
     (sym c.self.view_is) c.requires.follows in
     rw (level.seed, level.records) follows
 
@@ -62,7 +63,7 @@ pub returns-clause-did : goal.returns-clause-did
 returns-clause-did g c =
     let d = g.D.Disk in
     let append = c.append.ensures in
-    subst (λ (s : LevelsState _). Did d.told d.plan d.faults (Some (entry_text c.args.entry.now)) (notes_of s)
+    subst (λ (s : LevelsState _). Did d.told d.plan d.faults (Some (entry_text c.args.entry.now)) s.notes
     (stopped_by c.append.result)
     (record {
       disk = c.append.new.journal.disk;

@@ -4,7 +4,8 @@ use Rattle.node_journal.specs.Role.{may_follow}
 use Rattle.node_journal.specs.Notes.{NotesState, NotesAndRole, Added, Did}
 use Rattle.node_journal.specs.Inside.{stop_of}
 use Rattle.node_journal.specs.declared.stop.Stop.{Stop}
-use Rattle.node_journal.proofs.Adding.{notes_over, went, sound_more, stopped}
+use Rattle.node_journal.proofs.Adding.{note_went, sound_more, stopped}
+use Rattle.node_journal.proofs.Keeping.{notes_over}
 use Rattle.node_journal.proofs.notes.Notes.add.Goals as goal
 
 pub invariant_of-self-in-Ok : goal.invariant_of-self-in-Ok
@@ -36,7 +37,7 @@ returns-in-Ok-clause-did g c =
     (rules, c.unwrap.ensures, c.push.ensures.items, c.reserve.ensures.items) in
     let same : c.push.new.self.items ≡ inside.records.items ++ body ∷ [] = pushed
     ∙ ap (λ (b : List ℕ). inside.records.items ++ b ∷ []) (sym c.as_slice.ensures) in
-    let added = went kinds d.told d.plan d.faults body inside.journal c.append.new.self inside.records.items
+    let added = note_went kinds d.told d.plan d.faults body inside.journal c.append.new.self inside.records.items
     c.self.invariant c.append.ensures.any_moment
     c.in-Ok.ensures.appends c.in-Ok.ensures.kept c.push.new.self.items same c.in-Ok.ensures.cause in
     subst (λ (s : NotesState _). Added d.told d.plan d.faults c.args.body s now)

@@ -1,9 +1,8 @@
 use Rattle.std.proofs.Common.{ap, sym, ◌∙◌}
 use Rattle.lms_sign.specs.Tree.{public_key_of}
 use Rattle.operator_rules.specs.Records.{who_is}
-use Rattle.leaf_journal.specs.NodeWords.{notes_of}
 use Rattle.node_answers.specs.Desks.{desk_records, secret_of}
-use Rattle.node_roles.specs.Parts.{both}
+use Rattle.node_journal.specs.Parts.{both}
 use Rattle.node_roles.specs.Roles.{desk_commands}
 use Rattle.node_roles.proofs.NodeLaws.{done-at, stopped-at}
 use Rattle.node_roles.proofs.DeskLaws.{desk-goes, desk-open, each-keeps, stops-one}
@@ -17,14 +16,14 @@ returns-clause-said g c =
     let new = c.answer_keyed.new.keyed in
     λ at is.
     done-at g.D.Disk.told g.D.Disk.faults desk_commands c.args.log.now.log c.args.command
-    (g.H.Hash32.digest_of old.node.hash) at (both old.node.notes (notes_of old.desk))
-    (both new.node.notes (notes_of new.desk)) is.0 is.1 _
-    (desk-goes g.D.Disk.told g.D.Disk.plan g.D.Disk.faults _ at.kept old.node.notes (notes_of old.desk)
-    new.node.notes (notes_of new.desk) is.1)
+    (g.H.Hash32.digest_of old.node.hash) at (both old.node.notes old.desk.notes)
+    (both new.node.notes new.desk.notes) is.0 is.1 _
+    (desk-goes g.D.Disk.told g.D.Disk.plan g.D.Disk.faults _ at.kept old.node.notes old.desk.notes
+    new.node.notes new.desk.notes is.1)
     c.answer_keyed.result c.answer_keyed.ensures.did _ _
     (λ left there. (ap g.H.Hash32.digest_of c.answer_keyed.ensures.digest_stays ∙ is.0, there))
     (desk-quiet (g.H.Hash32.digest_of old.node.hash) c.args.log.now.log
-    (desk_records old.node.notes.records (notes_of old.desk).records) c.args.command)
+    (desk_records old.node.notes.records old.desk.notes.records) c.args.command)
     _ _ c.answer_keyed.ensures.said
 
 pub returns-clause-stopped : goal.returns-clause-stopped
@@ -32,13 +31,13 @@ returns-clause-stopped g c =
     let old = c.args.self.now.keyed in
     let new = c.answer_keyed.new.keyed in
     λ at is.
-    stops-one g.D.Disk.told g.D.Disk.plan g.D.Disk.faults _ _ _ old.node.notes (notes_of old.desk) new.node.notes
-    (notes_of new.desk) c.answer_keyed.result c.requires.0 c.requires.1 c.answer_keyed.ensures.did
+    stops-one g.D.Disk.told g.D.Disk.plan g.D.Disk.faults _ _ _ old.node.notes old.desk.notes new.node.notes
+    new.desk.notes c.answer_keyed.result c.requires.0 c.requires.1 c.answer_keyed.ensures.did
     (stopped-at g.D.Disk.told g.D.Disk.faults desk_commands c.args.log.now.log c.args.command
-    (g.H.Hash32.digest_of old.node.hash) at (both old.node.notes (notes_of old.desk))
-    (both new.node.notes (notes_of new.desk)) is.0 is.1 _
-    (desk-goes g.D.Disk.told g.D.Disk.plan g.D.Disk.faults _ at.kept old.node.notes (notes_of old.desk)
-    new.node.notes (notes_of new.desk) is.1)
+    (g.H.Hash32.digest_of old.node.hash) at (both old.node.notes old.desk.notes)
+    (both new.node.notes new.desk.notes) is.0 is.1 _
+    (desk-goes g.D.Disk.told g.D.Disk.plan g.D.Disk.faults _ at.kept old.node.notes old.desk.notes
+    new.node.notes new.desk.notes is.1)
     c.answer_keyed.result c.answer_keyed.ensures.did)
 
 pub returns-clause-open : goal.returns-clause-open
@@ -46,14 +45,14 @@ returns-clause-open g c =
     let old = c.args.self.now.keyed in
     let new = c.answer_keyed.new.keyed in
     let stays = c.answer_keyed.ensures in
-    desk-open g.D.Disk.told g.D.Disk.plan g.D.Disk.faults _ _ old.node.notes (notes_of old.desk) new.node.notes
-    (notes_of new.desk) c.answer_keyed.result stays.did
+    desk-open g.D.Disk.told g.D.Disk.plan g.D.Disk.faults _ _ old.node.notes old.desk.notes new.node.notes
+    new.desk.notes c.answer_keyed.result stays.did
     (λ notes_open leaves_open. (
       notes_open,
       leaves_open,
       stays.key_stays ∙ c.requires.2
-          ∙ sym (each-keeps g.D.Disk.told g.D.Disk.plan g.D.Disk.faults secret_of _ _ old.node.notes (notes_of old.desk)
-          new.node.notes (notes_of new.desk) stays.did.0
+          ∙ sym (each-keeps g.D.Disk.told g.D.Disk.plan g.D.Disk.faults secret_of _ _ old.node.notes old.desk.notes
+          new.node.notes new.desk.notes stays.did.0
           (secret-stays old.node.notes.records c.is_whole.ensures.role) stays.did.1),
       ap public_key_of stays.key_stays ∙ c.requires.3 ∙ sym stays.desk_stays,
       stays.hash_stays ∙ c.requires.4 ∙ sym stays.digest_stays,
@@ -64,5 +63,5 @@ returns-clause-same_tag g c =
     let old = c.args.self.now.keyed in
     let new = c.answer_keyed.new.keyed in
     each-keeps g.D.Disk.told g.D.Disk.plan g.D.Disk.faults (λ records. (who_is records).tag) _ _ old.node.notes
-    (notes_of old.desk) new.node.notes (notes_of new.desk) c.answer_keyed.ensures.did.0
+    old.desk.notes new.node.notes new.desk.notes c.answer_keyed.ensures.did.0
     (operator-tag old.node.notes.records c.is_whole.ensures.role) c.answer_keyed.ensures.did.1

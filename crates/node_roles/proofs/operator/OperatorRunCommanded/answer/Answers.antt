@@ -1,6 +1,6 @@
 use Rattle.std.proofs.Common.{ap, ◌∙◌}
 use Rattle.operator_rules.specs.Records.{who_is}
-use Rattle.node_roles.specs.Parts.{alone}
+use Rattle.node_journal.specs.Parts.{alone}
 use Rattle.node_roles.specs.Roles.{operator_commands}
 use Rattle.node_roles.proofs.NodeLaws.{done-at, stopped-at}
 use Rattle.node_roles.proofs.NotesLaws.{notes-go, stays}

@@ -1,6 +1,6 @@
 use Rattle.std.proofs.Common.{ap, ◌∙◌}
 use Rattle.node_rules.specs.Watcher.{who_is}
-use Rattle.node_roles.specs.Parts.{alone}
+use Rattle.node_journal.specs.Parts.{alone}
 use Rattle.node_roles.specs.Roles.{watcher_commands}
 use Rattle.node_roles.proofs.NodeLaws.{done-at, stopped-at}
 use Rattle.node_roles.proofs.NotesLaws.{notes-go, stays}

@@ -21,4 +21,4 @@ returns-in-Ok-clause-bound g c =
     (signature_of c.args.key.now c.in-Ok.bound.leaf c.in-Ok.bound.message) c.signed.result.bytes long
     c.signed.ensures.value in
     c.in-Ok.ensures.messages
-    ∙ ap (λ (m : List ℕ). messages_of c.args.self.now.records ++ m ∷ []) (sym (parts.0 ∙ c.in-Ok.ensures.message))
+    ∙ ap (λ (m : List ℕ). messages_of c.args.self.now.notes.records ++ m ∷ []) (sym (parts.0 ∙ c.in-Ok.ensures.message))

@@ -38,7 +38,7 @@ invariant_of-self-in-Ok g c =
     ∙ c.is_whole.ensures.role in
     let may = ap (λ (s : WalletState _ _). is_bound_change (leaves_in s.records.leaves) c.args.change) c.self.view_is
     ∙ c.requires.bound in (
-      kept-more dig records inside.leaves.records c.args.body c.add.new.self.notes.records inside.who inside.key
+      kept-more dig records inside.leaves.notes.records c.args.body c.add.new.self.notes.records inside.who inside.key
           inside.leaves.key inside.memory c.try_over.new.self inside.bodies.items c.args.change role
           c.in-Ok.ensures.did.records spells may c.in_ok-undo.ensures.ok c.self.invariant.0,
       c.add.ensures.role ∙ c.self.invariant.1,
@@ -47,17 +47,17 @@ invariant_of-self-in-Ok g c =
 pub returns-in-Ok : goal.returns-in-Ok
 returns-in-Ok g c =
     let inside = c.self.inside in
-    let both = open-both inside.notes.notes.closed inside.leaves.closed
+    let both = open-both inside.notes.notes.closed inside.leaves.notes.closed
     (ap (λ (s : WalletState _ _). s.closed) c.self.view_is ∙ sym c.is_closed.ensures ∙ c.if-is_closed.false) in
     note-done g.D.Disk.told g.D.Disk.plan g.D.Disk.faults (Some c.args.body) None inside.notes.notes
-    c.add.new.self.notes inside.hash c.args.self.now inside.leaves.disk inside.leaves.closed inside.leaves.records
+    c.add.new.self.notes inside.hash c.args.self.now inside.leaves.notes.disk inside.leaves.notes.closed inside.leaves.notes.records
     c.self.view_is both.1 c.in-Ok.ensures.did
 
 pub returns-in-Err : goal.returns-in-Err
 returns-in-Err g c =
     let inside = c.self.inside in
-    let both = open-both inside.notes.notes.closed inside.leaves.closed
+    let both = open-both inside.notes.notes.closed inside.leaves.notes.closed
     (ap (λ (s : WalletState _ _). s.closed) c.self.view_is ∙ sym c.is_closed.ensures ∙ c.if-is_closed.false) in
     note-done g.D.Disk.told g.D.Disk.plan g.D.Disk.faults (Some c.args.body) (Some c.in-Err.stop) inside.notes.notes
-    c.add.new.self.notes inside.hash c.args.self.now inside.leaves.disk inside.leaves.closed inside.leaves.records
+    c.add.new.self.notes inside.hash c.args.self.now inside.leaves.notes.disk inside.leaves.notes.closed inside.leaves.notes.records
     c.self.view_is both.1 c.in-Err.ensures.did

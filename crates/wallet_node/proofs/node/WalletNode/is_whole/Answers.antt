@@ -15,7 +15,7 @@ returns-clause-role g c =
     let kept = c.self.invariant.0 in
     let dig = g.H.Hash32.digest_of inside.hash in
     let records = inside.notes.notes.records in
-    let leaves = inside.leaves.records in
+    let leaves = inside.leaves.notes.records in
     let role : are_of (wallet_kinds dig) records ≡ true =
     ap (λ (r : WalletRole _). are_of (wallet_kinds (g.H.Hash32.digest_of r.hash)) records) (sym c.self.invariant.1)
     ∙ c.is_whole.ensures.role in

@@ -1,6 +1,5 @@
-use Rattle.std.proofs.Common.{◌≡◌, ℕ, List, Option, refl, sym, ◌∙◌, ap, subst₂}
-use Rattle.leaf_journal.specs.NodeWords.{migrate_note, migrate_stop, notes_of}
-use Rattle.leaf_journal.proofs.NodeWords.{migrations_in_node_words}
+use Rattle.std.proofs.Common.{◌≡◌, ℕ, List, Option, sym, ◌∙◌, ap, subst₂}
+use Rattle.leaf_journal.specs.Leaves.{marker_effect, migrate_stop}
 use Rattle.node_journal.specs.Notes.{Did}
 use Rattle.node_journal.specs.declared.stop.Stop.{Stop}
 use Rattle.std.specs.Prelude.{Result}
@@ -15,10 +14,8 @@ use Rattle.wallet_node.proofs.node.WalletNode.migrate.Goals as goal
 pub returns-clause-did : goal.returns-clause-did
 returns-clause-did g c =
     let inside = c.self.inside in
-    let both = open-both inside.notes.notes.closed inside.leaves.closed
+    let both = open-both inside.notes.notes.closed inside.leaves.notes.closed
     (ap (λ (s : WalletState _ _). s.closed) c.self.view_is ∙ sym c.is_closed.ensures ∙ c.if-is_closed.false) in
-    let did = migrations_in_node_words g.D.Disk.told g.D.Disk.plan g.D.Disk.faults inside.leaves c.migrate.new.self
-    c.migrate.result c.migrate.ensures.migrates c.migrate.ensures.cause in
     let stop : migrate_stop c.migrate.result ≡ wallet_stop c.match-migrate.result = elim c.match-migrate.branch [
       | in-Ok w ↦ ap migrate_stop w.in-Ok.is
           ∙ ap (λ (r : Result (Unit {0}) WalletRefusal). wallet_stop r) (sym w.result-is)
@@ -26,11 +23,12 @@ returns-clause-did g c =
           ∙ ap (λ (why : WalletRefusal). stop_in why) (sym w.migrate_refusal.ensures)
           ∙ ap (λ (r : Result (Unit {0}) WalletRefusal). wallet_stop r) (sym w.result-is)
     ] in
-    let note : migrate_note inside.leaves ≡ (migrate_effect c.args.self.now.records).leaf =
-    migrate-same (record { notes = inside.notes.notes.records; leaves = inside.leaves.records }) inside.leaves refl
+    let note : (marker_effect inside.leaves.notes.records).note ≡ (migrate_effect c.args.self.now.records).leaf =
+    migrate-same (record { notes = inside.notes.notes.records; leaves = inside.leaves.notes.records })
     ∙ ap (λ (s : WalletState _ _). (migrate_effect s.records).leaf) c.self.view_is in
     leaf-done g.D.Disk.told g.D.Disk.plan g.D.Disk.faults (migrate_effect c.args.self.now.records).leaf
-    (wallet_stop c.match-migrate.result) (notes_of inside.leaves) (notes_of c.migrate.new.self) inside.hash
+    (wallet_stop c.match-migrate.result) inside.leaves.notes c.migrate.new.self.notes inside.hash
     c.args.self.now inside.notes.notes.disk inside.notes.notes.closed inside.notes.notes.records c.self.view_is both.0
     (subst₂ (λ (added : Option (List ℕ)) (stopped : Option Stop). Did g.D.Disk.told g.D.Disk.plan g.D.Disk.faults added
-    (notes_of inside.leaves) stopped (notes_of c.migrate.new.self)) note stop did)
+    inside.leaves.notes stopped c.migrate.new.self.notes) note stop
+    c.migrate.ensures.did)

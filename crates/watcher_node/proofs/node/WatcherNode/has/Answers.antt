@@ -1,7 +1,7 @@
 use Rattle.std.proofs.Common.{sym, ◌∙◌, ap}
 use Rattle.std.specs.List.{list_any}
 use Rattle.node_rules.specs.Watcher.{who_is, notes_of, guards_of, guards_in, is_of}
-use Rattle.watcher_node.specs.State.{WatcherState}
+use Rattle.node_journal.specs.Notes.{NodeState}
 use Rattle.watcher_node.specs.Inside.{watched_in}
 use Rattle.watcher_node.proofs.Order.{asked-keyed}
 use Rattle.watcher_node.proofs.Steps.{any-map}
@@ -17,5 +17,5 @@ returns g c =
     ∙ sym (asked-keyed c.args.coin c.args.tip inside.guards.entries (watched_in tag (notes_of dig records))
     c.self.invariant.0.are_all)
     ∙ any-map tag c.args.coin c.args.tip (guards_of (notes_of dig records))
-    ∙ ap (λ (s : WatcherState _ _). list_any (is_of c.args.coin c.args.tip)
+    ∙ ap (λ (s : NodeState _ _). list_any (is_of c.args.coin c.args.tip)
     (guards_in (g.H.Hash32.digest_of s.hash) s.notes.records)) c.self.view_is

@@ -7,7 +7,7 @@ use Rattle.node_journal.specs.Role.{are_of, may_follow}
 use Rattle.node_rules.specs.Watcher.{watcher_kinds, who_is, notes_of, guards_of, guards_in, note_in, is_of}
 use Rattle.watcher_node.specs.declared.role.WatcherRole.{WatcherRole}
 use Rattle.watcher_node.specs.declared.watched.Change.TheVariants.{Guards}
-use Rattle.watcher_node.specs.State.{WatcherState}
+use Rattle.node_journal.specs.Notes.{NodeState}
 use Rattle.watcher_node.specs.Inside.{change_of, watched_in, is_watched_at, by_place, IsKept}
 use Rattle.watcher_node.proofs.Order.{asked-keyed, put-keyed, put-undone}
 use Rattle.watcher_node.proofs.Steps.{any-map}
@@ -19,7 +19,7 @@ add-requires-clause-kind g c =
     let inside = c.self.inside in
     let records = inside.notes.notes.records in
     let dig = g.H.Hash32.digest_of inside.hash in
-    let spells = subst (λ (s : WatcherState _ _). Some (Guards c.args.watched)
+    let spells = subst (λ (s : NodeState _ _). Some (Guards c.args.watched)
     ≡ option_map (change_of (who_is s.notes.records).tag)
     (note_in (g.H.Hash32.digest_of s.hash) (who_is s.notes.records).tag c.args.body)) (sym c.self.view_is)
     c.requires.spells in
@@ -35,7 +35,7 @@ invariant_of-self-in-Ok g c =
     let inside = c.self.inside in
     let records = inside.notes.notes.records in
     let dig = g.H.Hash32.digest_of inside.hash in
-    let spells = subst (λ (s : WatcherState _ _). Some (Guards c.args.watched)
+    let spells = subst (λ (s : NodeState _ _). Some (Guards c.args.watched)
     ≡ option_map (change_of (who_is s.notes.records).tag)
     (note_in (g.H.Hash32.digest_of s.hash) (who_is s.notes.records).tag c.args.body)) (sym c.self.view_is)
     c.requires.spells in
@@ -47,7 +47,7 @@ invariant_of-self-in-Ok g c =
     let tip = c.args.watched.tip in
     let absent : list_any (is_watched_at coin tip) (watched_in tag (notes_of dig records)) ≡ false =
     any-map tag coin tip (guards_of (notes_of dig records))
-    ∙ ap (λ (s : WatcherState _ _). list_any (is_of coin tip) (guards_in (g.H.Hash32.digest_of s.hash) s.notes.records))
+    ∙ ap (λ (s : NodeState _ _). list_any (is_of coin tip) (guards_in (g.H.Hash32.digest_of s.hash) s.notes.records))
     c.self.view_is
     ∙ c.requires.absent in (
       kept-more dig records c.args.body c.add.new.self.notes.records inside.tag inside.account inside.guards.entries
@@ -68,7 +68,7 @@ invariant_of-self-in-Err g c =
     let tip = c.args.watched.tip in
     let absent : list_any (is_watched_at coin tip) (watched_in tag (notes_of dig records)) ≡ false =
     any-map tag coin tip (guards_of (notes_of dig records))
-    ∙ ap (λ (s : WatcherState _ _). list_any (is_of coin tip) (guards_in (g.H.Hash32.digest_of s.hash) s.notes.records))
+    ∙ ap (λ (s : NodeState _ _). list_any (is_of coin tip) (guards_in (g.H.Hash32.digest_of s.hash) s.notes.records))
     c.self.view_is
     ∙ c.requires.absent in
     let before = inside.guards.entries in

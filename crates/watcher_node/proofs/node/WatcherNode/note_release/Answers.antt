@@ -4,7 +4,7 @@ use Rattle.node_journal.specs.Role.{are_of, may_follow}
 use Rattle.node_rules.specs.Watcher.{watcher_kinds, who_is, note_in}
 use Rattle.watcher_node.specs.declared.role.WatcherRole.{WatcherRole}
 use Rattle.watcher_node.specs.declared.watched.Change.TheVariants.{Releases}
-use Rattle.watcher_node.specs.State.{WatcherState}
+use Rattle.node_journal.specs.Notes.{NodeState}
 use Rattle.watcher_node.specs.Inside.{change_of}
 use Rattle.watcher_node.proofs.Kept.{kept-more, change-follows}
 use Rattle.watcher_node.proofs.node.WatcherNode.note_release.Goals as goal
@@ -14,7 +14,7 @@ add-requires-clause-kind g c =
     let inside = c.self.inside in
     let records = inside.notes.notes.records in
     let dig = g.H.Hash32.digest_of inside.hash in
-    let spells = subst (λ (s : WatcherState _ _). Some (Releases c.args.coin c.args.tip)
+    let spells = subst (λ (s : NodeState _ _). Some (Releases c.args.coin c.args.tip)
     ≡ option_map (change_of (who_is s.notes.records).tag)
     (note_in (g.H.Hash32.digest_of s.hash) (who_is s.notes.records).tag c.args.body)) (sym c.self.view_is)
     c.requires.spells in
@@ -30,7 +30,7 @@ invariant_of-self g c =
     let inside = c.self.inside in
     let records = inside.notes.notes.records in
     let dig = g.H.Hash32.digest_of inside.hash in
-    let spells = subst (λ (s : WatcherState _ _). Some (Releases c.args.coin c.args.tip)
+    let spells = subst (λ (s : NodeState _ _). Some (Releases c.args.coin c.args.tip)
     ≡ option_map (change_of (who_is s.notes.records).tag)
     (note_in (g.H.Hash32.digest_of s.hash) (who_is s.notes.records).tag c.args.body)) (sym c.self.view_is)
     c.requires.spells in

@@ -1,6 +1,6 @@
 use Rattle.std.proofs.Common.{◌∙◌, ap}
 use Rattle.node_rules.specs.Watcher.{watch_answer}
-use Rattle.watcher_node.specs.State.{WatcherState}
+use Rattle.node_journal.specs.Notes.{NodeState}
 use Rattle.watcher_node.proofs.Dues.{dues-answer}
 use Rattle.watcher_node.proofs.node.WatcherNode.watch.Goals as goal
 
@@ -12,4 +12,4 @@ returns g c =
     c.in_ok-calls.ensures
     ∙ dues-answer (g.H.Hash32.digest_of inside.hash) inside.notes.notes.records log inside.account
     inside.guards.entries kept.is_account kept.are_all
-    ∙ ap (λ (s : WatcherState _ _). watch_answer (g.H.Hash32.digest_of s.hash) s.notes.records log) c.self.view_is
+    ∙ ap (λ (s : NodeState _ _). watch_answer (g.H.Hash32.digest_of s.hash) s.notes.records log) c.self.view_is
