@@ -1,17 +1,23 @@
 -- What a text's log is, line by line.
-use Rattle.std.proofs.Common.{◌≡◌, ◌∙◌, ℕ, ◌+◌, ◌<◌, List, [], ◌∷◌, map, length, take, get_or, Option, Some, None, Bor, ap, sym, refl, arith}
+use Rattle.std.proofs.Common.{◌≡◌, ◌∙◌, ℕ, ◌+◌, ◌<◌, List, [], ◌∷◌, map, length, take, get_or, Option, Some, None, Result, Err, Bor, ap, sym, refl, arith}
 use Rattle.std.specs.Prelude.{fold, option_map}
 use Rattle.std.specs.Str.Lines.{lines}
 use Rattle.std.proofs.lemmas.List.Sums.{fold_more}
 use Rattle.std.proofs.lemmas.List.Folds.{fold-map, fold_stays, fold_stuck}
 use Rattle.plasma_tx.specs.declared.call.RootCall.{RootCall}
 use Rattle.plasma_tx.specs.Chain.{Chain, with_log}
+use Rattle.root_log.specs.declared.refusal.LogRefusal.{LogRefusal}
 use Rattle.root_log.specs.Grammar.{appended, call_in, chain_in}
 use Rattle.history_example.specs.Logs.{texts, and_call, and_calls, log_in, log_of}
 
 -- what a line does to a chain
 abbrev step : Option Chain → Bor (List ℕ) → Option Chain
 step chain call = and_call chain call.now
+
+-- a refusal that is answered is the one that came
+pub same_refusal : {A : Type 0} (why other : LogRefusal)
+    → ◌≡◌ {A = Result A LogRefusal} (Err why) (Err other) → why ≡ other
+same_refusal why other is = cc
 
 -- one more line, with its call
 pub one_more : (first before after : Chain) (calls : List (Bor (List ℕ))) (i : ℕ) (call : Bor (List ℕ))
