@@ -1,5 +1,5 @@
 -- The log that a text spells.
-use Rattle.std.specs.Prelude.{ℕ, List, [], ◌∷◌, map, fold, Option, Some, None, option_and_then}
+use Rattle.std.specs.Prelude.{ℕ, List, [], ◌∷◌, map, fold, Option, None, option_and_then}
 use Rattle.std.specs.Borrow.{Bor}
 use Rattle.std.specs.Str.Lines.{lines}
 use Rattle.plasma_tx.specs.Chain.{Chain}
