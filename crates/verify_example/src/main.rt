@@ -33,8 +33,8 @@ impl Verdict {
 }
 
 /// The verdict on any bytes. What is decided is decided here, over values, so that a contract can say it: `Says` has
-/// what each verdict means, by the definitions of `lms_sign`. At a call the prover knows the callee's clauses, those of
-/// `read` and `verify` here, so no proof is written.
+/// what each verdict means, by the definitions of `lms_sign`. The prover knows the clauses of what is called, here of
+/// `read` and `verify`, so no proof is written.
 fn judge(key: &[u8], message: &[u8], signature: &[u8]) -> Verdict
     ensures { Says result key.now message.now signature.now }
 {
