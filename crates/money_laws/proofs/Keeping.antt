@@ -1,0 +1,268 @@
+-- Who keeps a coin: what is known of it, and what was before an event.
+use Rattle.std.proofs.Common.{◌≡◌, ◌≢◌, ◌⊎◌, ℕ, ◌+◌, ◌<◌, ◌==◌, ◌&&◌, ◌||◌, not, true, false, if◌then◌else◌, List, [], ◌∷◌, Option, Some, None, inl, inr, refl, sym, ap, ◌∙◌, subst, arith}
+use Rattle.std.specs.List.{list_any}
+use Rattle.std.proofs.lemmas.Bool.{cases_eq, eq-eqb, ne_eqb, eqb-true, and_parts, or_cases, or_left, or_right, not-true, true≢false, false≢true, false_from_ne_true}
+use Rattle.plasma_tx.specs.declared.owner.Owner.{Owner}
+use Rattle.plasma_tx.specs.declared.body.Body.{Body}
+use Rattle.plasma_tx.specs.declared.opening.RawOpening.{RawOpening}
+use Rattle.plasma_tx.specs.declared.call.RootCall.{RootCall}
+use Rattle.plasma_tx.specs.declared.call.RootCall.TheVariants.{Deposit}
+use Rattle.plasma_tx.specs.declared.views.CoinView.{CoinView}
+use Rattle.plasma_tx.specs.Views.{coins, coin_at, new_coin, exits}
+use Rattle.plasma_tx.specs.Shown.{Tests, Rules, tests_by}
+use Rattle.plasma_tx.specs.Links.{last_owner_of}
+use Rattle.plasma_tx.proofs.Bounds.{coin_at-le}
+use Rattle.watch_duty.proofs.Members.{Has}
+use Rattle.wallet_core.specs.State.{is_owner}
+use Rattle.world_rules.specs.Laws.{IsDigest}
+use Rattle.world_rules.specs.Events.{Event, Declares, Joins, Accepts, Binds, TakesBack, log_of, wallet_owner, accepted, bound_by, taken_back, not_taken, leaf_at, signed_away_by, is_sent_from, is_bundle}
+use Rattle.world_rules.specs.Exhibits.{seen, strings_of, has_clash, forges_one}
+use Rattle.world_rules.specs.Safety.{was_deposited}
+use Rattle.world_laws.specs.Legal.{deposits_by, IsLegal}
+use Rattle.world_laws.proofs.Lists.{some_same, none_some, any-some}
+use Rattle.world_laws.proofs.Clash.{HasOneLeaf, one_leaf}
+use Rattle.world_laws.proofs.Shown.{IsShownAt, all_shown, seen-grow}
+use Rattle.world_laws.proofs.Absences.{names, away-untake, away-unbind, IsParted, parted, back-more}
+use Rattle.world_laws.proofs.Bound.{SignsBy, is_noted, owner-is, line_bound, unspent}
+use Rattle.world_laws.proofs.Held.{Known, HeldAt, known-from, bundle-named, deposited-coin, empty-walk, end_shown, shown_same}
+use Rattle.world_laws.proofs.Before.{NoneStands, none-stands, none-before}
+use Rattle.world_laws.proofs.Watched.{IsSpend}
+use Rattle.money_laws.specs.Keepers.{keeps_with, keeps}
+
+-- what it is to keep
+pub record Keeping (events : List Event) (w c e : ℕ) : Type 0 where
+  pub me : Owner
+  pub me_is : wallet_owner events w ≡ Some me
+  pub source : (was_deposited me e (coin_at (log_of events) c) ≡ true)
+      ⊎ (list_any (is_bundle c e) (accepted events w) ≡ true)
+  pub not_away : is_sent_from (signed_away_by events w) c e ≡ false
+
+pub keeping : (events : List Event) (w c e : ℕ) → keeps events w c e ≡ true → Keeping events w c e
+unfolding keeps
+keeping events w c e is = by_owner (wallet_owner events w) refl is
+  where
+    by_owner : (o : Option Owner) → wallet_owner events w ≡ o
+        → keeps_with (log_of events) o (signed_away_by events w) (accepted events w) c e ≡ true
+        → Keeping events w c e
+    by_owner None o_is h = absurd (false≢true h)
+    by_owner (Some me) o_is h =
+        let parts = and_parts (was_deposited me e (coin_at (log_of events) c)
+        || list_any (is_bundle c e) (accepted events w)) (not (is_sent_from (signed_away_by events w) c e)) h in
+        record { me = me; me_is = o_is; source = or_cases _ _ parts.0; not_away = not-true _ parts.1 }
+
+-- the coin that is kept, with a history up to e
+pub kept_at : (tests : Tests) (rules : Rules) (events : List Event) (w c e : ℕ) → IsLegal tests rules events
+    → (h : Keeping events w c e) → HeldAt tests rules events w c e h.me
+kept_at tests rules events w c e legal h =
+    elim h.source [
+      | inl deposited ↦
+          let d = deposited-coin h.me e (coin_at (log_of events) c) deposited in
+          record {
+            made = d.0;
+            made_is = d.1;
+            openings = [];
+            known = record {
+              walk = empty-walk tests rules (log_of events) c d.0 e h.me d.2 d.3;
+              has = λ o k. absurd k;
+            };
+            from = λ o k. absurd k;
+          }
+      | inr accepted_is ↦
+          let r = any-some (is_bundle c e) (accepted events w) accepted_is in
+          let n = is_noted tests rules events w r.0 legal r.1 in
+          let name = bundle-named c e r.0 r.2 in
+          let mine : last_owner_of n.links ≡ h.me = n.mine ∙ some_same n.me h.me (sym n.me_is ∙ h.me_is) in
+          let found : coin_at (log_of events) c ≡ Some n.history.made =
+          ap (coin_at (log_of events)) (sym name.0) ∙ n.history.coin in
+          record {
+            made = n.history.made;
+            made_is = found;
+            openings = r.0.openings;
+            known = subst (λ x. Known tests rules (log_of events) (seen events c) c n.history.made e x
+                r.0.openings) mine
+                (known-from tests rules (log_of events) (seen events) r.0 n.links c e n.history.made n.history
+                n.is_seen name.0 name.1 found);
+            from = λ o k. (r.0, r.1, name.0, k);
+          }
+    ]
+
+-- ---- keeping, before the event
+
+deposit-caller : (log : List RootCall) (c : ℕ) (made : CoinView) → coin_at log c ≡ Some made
+    → list_any (deposits_by made.owner.account) log ≡ true
+unfolding coin_at
+deposit-caller [] c made is = absurd (none_some made is)
+deposit-caller (Deposit account amount key ∷ log) c made is =
+    (elim (c == coins log + 1) as (λ b. (if b then Some (new_coin log account amount key) else coin_at log c)
+    ≡ Some made → list_any (deposits_by made.owner.account) (Deposit account amount key ∷ log) ≡ true) [
+      | true ↦ λ same. or_left (account == made.owner.account) (list_any (deposits_by made.owner.account) log)
+          (eq-eqb account made.owner.account
+          (ap (λ (x : CoinView). x.owner.account) (some_same (new_coin log account amount key) made same)))
+      | false ↦ λ later. or_right (account == made.owner.account) (list_any (deposits_by made.owner.account) log)
+          (deposit-caller log c made later)
+    ]) is
+deposit-caller (call ∷ log) c made is =
+    or_right (deposits_by made.owner.account call) (list_any (deposits_by made.owner.account) log)
+    (deposit-caller log c made is)
+
+abbrev pub KeptBefore : (event : Event) (events : List Event) (w c e : ℕ) → Type 0
+KeptBefore event events w c e = Keeping events w c e ⊎ NoneStands (log_of (event ∷ events)) c
+
+before-deposit : (tests : Tests) (rules : Rules) (account amount : ℕ) (key : List ℕ) (events : List Event)
+    (w c e : ℕ) → IsLegal tests rules events → Keeping (Joins (Deposit account amount key) ∷ events) w c e
+    → KeptBefore (Joins (Deposit account amount key)) events w c e
+unfolding log_of wallet_owner accepted bound_by taken_back coin_at exits
+before-deposit tests rules account amount key events w c e legal h =
+    elim (cases_eq c (coins (log_of events) + 1)) [
+      | inl new ↦ inr (λ x there c_is.
+          let s = all_shown tests rules events legal x there in
+          let low = coin_at-le (log_of events) x.coin s.made s.made_is in
+          absurd (omega (arith, low, c_is)))
+      | inr apart ↦ inl (record {
+        me = h.me;
+        me_is = h.me_is;
+        source = simp (ne_eqb c (coins (log_of events) + 1) apart) at h.source;
+        not_away = h.not_away;
+      })
+    ]
+
+-- a coin that is kept after an event was kept before it, or no exit of it stands after the event
+pub kept_before : (tests : Tests) (rules : Rules) (event : Event) (events : List Event) (w c e : ℕ)
+    → IsLegal tests rules (event ∷ events) → Keeping (event ∷ events) w c e → KeptBefore event events w c e
+unfolding log_of wallet_owner accepted bound_by taken_back coin_at exits IsLegal
+kept_before tests rules (Declares v me) events w c e legal h =
+    (elim (v == w) as (λ b. (v == w) ≡ b → (if b then Some me else wallet_owner events w) ≡ Some h.me
+    → KeptBefore (Declares v me) events w c e) [
+      | true ↦ λ same is. absurd (new-one (eqb-true v w same) (some_same me h.me is) h.source)
+      | false ↦ λ apart is. inl (record { me = h.me; me_is = is; source = h.source; not_away = h.not_away })
+    ]) refl h.me_is
+  where
+    new-one : v ≡ w → me ≡ h.me
+        → (was_deposited h.me e (coin_at (log_of events) c) ≡ true)
+        ⊎ (list_any (is_bundle c e) (accepted events w) ≡ true) → ⊥
+    new-one same mine (inl deposited) = by_coin (coin_at (log_of events) c) refl deposited
+      where
+        by_coin : (o : Option CoinView) → coin_at (log_of events) c ≡ o → was_deposited h.me e o ≡ true → ⊥
+        by_coin None is was = false≢true was
+        by_coin (Some made) is was =
+            let owner = owner-is made.owner h.me (and_parts (made.deposit == e) (is_owner made.owner h.me) was).1 in
+            let account : made.owner.account ≡ me.account = ap (λ (x : Owner). x.account) (owner ∙ sym mine) in
+            true≢false (sym (deposit-caller (log_of events) c made is)
+            ∙ ap (λ a. list_any (deposits_by a) (log_of events)) account ∙ legal.0.no_deposit)
+    new-one same mine (inr was) =
+        let r = any-some (is_bundle c e) (accepted events w) was in
+        let n = is_noted tests rules events w r.0 legal.1 r.1 in
+        none_some n.me (sym legal.0.new ∙ ap (wallet_owner events) same ∙ n.me_is)
+kept_before tests rules (Joins (Deposit account amount key)) events w c e legal h =
+    before-deposit tests rules account amount key events w c e legal.1 h
+kept_before tests rules (Accepts v bundle) events w c e legal h =
+    (elim (v == w) as (λ b. (was_deposited h.me e (coin_at (log_of events) c) ≡ true)
+    ⊎ (list_any (is_bundle c e) (if b then bundle ∷ accepted events w else accepted events w) ≡ true)
+    → KeptBefore (Accepts v bundle) events w c e) [
+      | false ↦ λ source. inl (record { me = h.me; me_is = h.me_is; source = source; not_away = h.not_away })
+      | true ↦ λ source. elim source [
+        | inl deposited ↦ inl (record {
+          me = h.me;
+          me_is = h.me_is;
+          source = inl deposited;
+          not_away = h.not_away;
+        })
+        | inr was ↦ elim (or_cases (is_bundle c e bundle) (list_any (is_bundle c e) (accepted events w)) was) [
+          | inr earlier ↦ inl (record {
+            me = h.me;
+            me_is = h.me_is;
+            source = inr earlier;
+            not_away = h.not_away;
+          })
+          | inl this ↦ inr (none-stands (log_of events) bundle.coin c legal.0.none_stands
+              (eqb-true bundle.coin c (and_parts (bundle.coin == c) (bundle.tip == e) this).0))
+        ]
+      ]
+    ]) h.source
+kept_before tests rules (Binds v body) events w c e legal h = inl (record {
+  me = h.me;
+  me_is = h.me_is;
+  source = h.source;
+  not_away = away-unbind (v == w) c e (taken_back events w) body (bound_by events w) h.not_away;
+})
+kept_before tests rules (TakesBack v q bundle) events w c e legal h =
+    (elim (v == w) as (λ b. (v == w) ≡ b
+    → is_sent_from (not_taken (if b then q ∷ taken_back events w else taken_back events w) (bound_by events w)) c e
+    ≡ false → KeptBefore (TakesBack v q bundle) events w c e) [
+      | false ↦ λ apart off. inl (record { me = h.me; me_is = h.me_is; source = h.source; not_away = off })
+      | true ↦ λ same off. elim (cases_eq bundle.coin c) [
+        | inl this ↦ inr (none-stands (log_of events) bundle.coin c legal.0.none_stands this)
+        | inr other ↦ inl (record {
+          me = h.me;
+          me_is = h.me_is;
+          source = h.source;
+          not_away = away-untake q c e (taken_back events w) (bound_by events w) (named other (eqb-true v w same))
+              off;
+        })
+      ]
+    ]) refl h.not_away
+  where
+    -- the leaf is of another coin
+    named : bundle.coin ≢ c → v ≡ w → (body : Body) → leaf_at q (bound_by events w) ≡ Some body
+        → names c e body ≡ false
+    named other same body is =
+        let r : legal.0.body ≡ body =
+        some_same legal.0.body body (sym legal.0.leaf_is ∙ ap (λ x. leaf_at q (bound_by events x)) same ∙ is) in
+        false_from_ne_true ((body.coin == c) && (body.parent == e)) (λ on. other (sym legal.0.coin_is
+        ∙ ap (λ (x : Body). x.coin) r
+        ∙ eqb-true body.coin c (and_parts (body.coin == c) (body.parent == e) on).0))
+kept_before tests rules event events w c e legal h =
+    inl (record { me = h.me; me_is = h.me_is; source = h.source; not_away = h.not_away })
+
+-- ---- what is known at an event on a coin that is kept before it
+
+pub record AtTip (tests : Tests) (rules : Rules) (events : List Event) (w c e : ℕ) (more : List RawOpening)
+    : Type 0 where
+  pub keep : Keeping events w c e
+  pub held : HeldAt tests rules events w c e keep.me
+  pub one_before : HasOneLeaf tests (log_of events) c (seen events c)
+  pub one : HasOneLeaf tests (log_of events) c more
+  pub has : (o : RawOpening) → Has (seen events c) o → Has more o
+  pub parts : IsParted tests (log_of events) more c (bound_by events w) (signed_away_by events w)
+
+module _ (dig : List ℕ → List ℕ) (digest : IsDigest dig) (rules : Rules) (w c e : ℕ) where
+  pub at_tip : (event : Event) (events : List Event) → IsLegal (tests_by dig) rules events
+      → has_clash dig (strings_of dig c (seen (event ∷ events) c)) ≡ false → Keeping events w c e
+      → AtTip (tests_by dig) rules events w c e (seen (event ∷ events) c)
+  at_tip event events legal none h = record {
+    keep = h;
+    held = kept_at (tests_by dig) rules events w c e legal h;
+    one_before = one_leaf dig digest (log_of events) c (seen events c) (none-before dig event events c none);
+    one = one_leaf dig digest (log_of events) c (seen (event ∷ events) c) none;
+    has = seen-grow event events c;
+    parts = λ body b c_is. elim (parted (tests_by dig) rules events w c legal body b c_is) [
+      | inl l ↦ inl l
+      | inr k ↦ inr (back-more (tests_by dig) (log_of events) (seen events c) (seen (event ∷ events) c) body
+          (seen-grow event events c) k)
+    ];
+  }
+
+module _ (tests : Tests) (rules : Rules) (signs : SignsBy tests) (events : List Event) (w c e : ℕ)
+    (more : List RawOpening) (at : AtTip tests rules events w c e more) where
+  -- whoever is shown to own the block e is the keeper
+  pub keeper-owns : (owner : Owner) (n : ℕ)
+      → IsShownAt tests rules (log_of events) (seen events c) c at.held.made n owner → n ≡ e → owner ≡ at.keep.me
+  keeper-owns owner n shown is =
+      shown_same tests rules (log_of events) (seen events c) c at.held.made at.one_before e owner at.keep.me
+      (subst (λ k. IsShownAt tests rules (log_of events) (seen events c) c at.held.made k owner) is shown)
+      (end_shown tests rules (log_of events) (seen events c) c at.held.made at.one_before e at.keep.me
+      at.held.openings at.held.known)
+
+  -- no opening of the event's call spends the tip
+  pub tip-kept : (openings : List RawOpening)
+      → forges_one rules.tag (wallet_owner events w) (bound_by events w) c openings ≡ false → (o : RawOpening)
+      → Has openings o → Has more o → (parent : ℕ) (owner : Owner)
+      → IsSpend tests rules (log_of events) c o parent owner → parent ≡ e → owner ≡ at.keep.me → ⊥
+  tip-kept openings none o has seen_it parent owner spend at_tip mine =
+      let off : forges_one rules.tag (Some at.keep.me) (bound_by events w) c openings ≡ false =
+      subst (λ x. forges_one rules.tag x (bound_by events w) c openings ≡ false) at.keep.me_is none in
+      let b = line_bound rules c at.keep.me (bound_by events w) openings off o spend.tx has spend.tx_is
+      (signs spend.tx at.keep.me (subst (λ x. tests.is_signed spend.tx x ≡ true) mine spend.signed)) in
+      unspent tests rules (log_of events) more c e (bound_by events w) (signed_away_by events w) at.one
+      at.keep.not_away at.parts o spend.tx seen_it spend.opened (subst (λ n. n < o.block) at_tip spend.above)
+      spend.tx_is (spend.parent_is ∙ at_tip) b

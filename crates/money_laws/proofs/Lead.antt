@@ -1,0 +1,233 @@
+-- An exit that has led since it began is paid.
+use Rattle.std.proofs.Common.{◌≡◌, ℕ, ◌+◌, ◌<◌, ◌==◌, ◌&&◌, ◌||◌, not, Bool, true, false, if◌then◌else◌, List, [], ◌∷◌, ◌++◌, Option, Some, None, option_map, inl, inr, refl, sym, ap, ◌∙◌, subst, arith}
+use Rattle.std.specs.Prelude.{is_some, nat_le}
+use Rattle.std.specs.List.{AllByRecursion, list_any, list_all}
+use Rattle.std.proofs.lemmas.Bool.{cases_Bool, eqb-true, eq-eqb, leb-true, leb-false, le-leb, and_parts, and_from, not-true, not_from_false, true≢false, false≢true, false_from_ne_true}
+use Rattle.plasma_tx.specs.declared.rules.TheConstants.{CHALLENGE_WINDOW, RESPONSE_WINDOW, EXIT_PERIOD}
+use Rattle.plasma_tx.specs.declared.call.RootCall.{RootCall}
+use Rattle.plasma_tx.specs.declared.call.RootCall.TheVariants.{StartDeposit, StartSpend, Before, Respond, Finish}
+use Rattle.plasma_tx.specs.Laws.{is_start, is_end, start_by, last_start, without_challenges}
+use Rattle.plasma_tx.specs.Views.{now, Challenge, Exit, is_exit, exits, exit_at, challenge_at, with_challenge, with_answer, new_challenge, has_no_open_challenge, is_withdrawn}
+use Rattle.plasma_tx.specs.Shown.{Tests, Rules}
+use Rattle.plasma_tx.specs.Table.{answer_to, is_accepted, IsLegal}
+use Rattle.plasma_tx.proofs.Accepted.{accepted_calls_show}
+use Rattle.plasma_tx.proofs.Each.{all-append, each-exit}
+use Rattle.plasma_tx.proofs.Ends.{paid_exactly}
+use Rattle.plasma_tx.proofs.RuleNames.{exits-distinct}
+use Rattle.plasma_tx.proofs.Stands.{exits_stand}
+use Rattle.watch_duty.proofs.Members.{Has, all-has, only-found}
+use Rattle.world_laws.proofs.Lists.{some_same, none_some, any-none, and-off, all-from, all-changed, all-answered, found-has, all_answered-from}
+use Rattle.plasma_tx.specs.Shown.{tests_by, rules_of}
+use Rattle.world_rules.specs.Events.{log_of}
+use Rattle.world_laws.proofs.Shown.{legal-log, legal-table}
+use Rattle.money_laws.specs.MoneyLaws.{LeadersOfRunsArePaid}
+use Rattle.money_laws.proofs.Tips.{legal-to}
+use Rattle.money_laws.specs.First.{is_ripe, is_missed, ends_lead, leads, has_led, LeadersArePaid, FirstsLead}
+
+-- ---- challenges are made in their window
+
+abbrev InWindow : Exit → Type 0
+InWindow x = AllByRecursion (λ ch. ch.at < x.start + CHALLENGE_WINDOW) x.challenges
+
+pushed-in : (x : Exit) (new : Challenge) → new.at < x.start + CHALLENGE_WINDOW → InWindow x
+    → InWindow (with_challenge new x)
+pushed-in x new inside was =
+    elim (is_some (challenge_at new.block x.challenges)) as (λ b.
+    InWindow (if b then x else record x { challenges = x.challenges ++ new ∷ [] })) [
+      | true ↦ was
+      | false ↦ all-append (λ (ch : Challenge). ch.at < x.start + CHALLENGE_WINDOW) x.challenges new was inside
+    ]
+
+pub windows : (rules : Rules) (log : List RootCall) → IsLegal rules log → AllByRecursion InWindow (exits log)
+unfolding exits IsLegal
+windows rules [] legal = tt
+windows rules (Before account k f shown ∷ log) legal =
+    let s = accepted_calls_show legal.0.0 rules log (Before account k f shown) legal.0.1 in
+    all-changed InWindow log k f (with_challenge (new_challenge log account k f shown))
+    (λ x found was.
+    let same : s.exit ≡ x = some_same s.exit x (sym s.stands ∙ found) in
+    pushed-in x (new_challenge log account k f shown)
+    (subst (λ (y : Exit). now log < y.start + CHALLENGE_WINDOW) same s.in_time) was)
+    (windows rules log legal.1)
+windows rules (Respond account k f challenged spend ∷ log) legal =
+    all-changed InWindow log k f (with_answer challenged)
+    (λ x found was. all-answered (λ ch. ch.at < x.start + CHALLENGE_WINDOW) challenged x.challenges
+    (λ ch names inside. inside) was)
+    (windows rules log legal.1)
+windows rules (call ∷ log) legal = each-exit InWindow log call tt tt (windows rules log legal.1)
+
+-- ---- what leading says
+
+led-leads : (log : List RootCall) (c e : ℕ) → has_led log c e ≡ true → leads log c e ≡ true
+unfolding has_led
+led-leads [] c e is = absurd (false≢true is)
+led-leads (call ∷ log) c e is = (and_parts (leads (call ∷ log) c e) (is_start c e call || has_led log c e) is).0
+
+lead-kept : (log : List RootCall) (c e : ℕ) → leads log c e ≡ true → (x : Exit) → Has (exits log) x → x.coin ≡ c
+    → ends_lead (now log) e x ≡ false
+lead-kept log c e is x there c_is =
+    and-off (x.coin == c) (ends_lead (now log) e x)
+    (any-none (λ exit. (exit.coin == c) && ends_lead (now log) e exit) (exits log) x
+    (not-true (list_any (λ exit. (exit.coin == c) && ends_lead (now log) e exit) (exits log)) is) there)
+    (eq-eqb x.coin c c_is)
+
+-- no other standing exit is ripe
+not-ripe : (log : List RootCall) (c e : ℕ) → leads log c e ≡ true → (x : Exit) → Has (exits log) x → x.coin ≡ c
+    → (x.block == e) ≡ false → is_ripe (now log) x ≡ false
+not-ripe log c e is x there c_is apart =
+    sym (ap (λ b. if b then list_any (is_missed (now log)) x.challenges else is_ripe (now log) x) apart)
+    ∙ lead-kept log c e is x there c_is
+
+-- and no challenge of the own one was missed
+none-missed : (log : List RootCall) (c e : ℕ) → leads log c e ≡ true → (x : Exit) → Has (exits log) x → x.coin ≡ c
+    → x.block ≡ e → list_any (is_missed (now log)) x.challenges ≡ false
+none-missed log c e is x there c_is at =
+    sym (ap (λ b. if b then list_any (is_missed (now log)) x.challenges else is_ripe (now log) x)
+    (eq-eqb x.block e at))
+    ∙ lead-kept log c e is x there c_is
+
+-- ---- the exit before a call
+
+-- an exit that stands after a call that doesn't start it stood before, and the call doesn't end it
+record Stood (call : RootCall) (log : List RootCall) (c e : ℕ) : Type 0 where
+  exit : Exit
+  stands : exit_at log c e ≡ Some exit
+  not_ended : is_end c e call ≡ false
+
+stood : (call : RootCall) (log : List RootCall) (c e : ℕ) (own : Exit) → exit_at (call ∷ log) c e ≡ Some own
+    → is_start c e call ≡ false → Stood call log c e
+unfolding last_start
+stood call log c e own found other =
+    by_end (is_end c e call) refl
+    (sym (ap (λ b. if b then start_by log c e call else if is_end c e call then None else last_start log c e) other)
+    ∙ sym (exits_stand (call ∷ log) c e) ∙ ap (option_map without_challenges) found)
+  where
+    by_exit : (o : Option Exit) → exit_at log c e ≡ o → is_end c e call ≡ false
+        → option_map without_challenges o ≡ Some (without_challenges own) → Stood call log c e
+    by_exit None is goes_on same = absurd (none_some (without_challenges own) same)
+    by_exit (Some exit) is goes_on same = record { exit = exit; stands = is; not_ended = goes_on }
+
+    by_end : (b : Bool) → is_end c e call ≡ b
+        → (if b then None else last_start log c e) ≡ Some (without_challenges own) → Stood call log c e
+    by_end true is same = absurd (none_some (without_challenges own) same)
+    by_end false is same =
+        by_exit (exit_at log c e) refl is (exits_stand log c e ∙ same)
+
+-- ---- the coin isn't withdrawn
+
+-- by the start
+start-unwithdrawn : (tests : Tests) (rules : Rules) (log : List RootCall) (call : RootCall) (c e : ℕ)
+    → is_start c e call ≡ true → is_accepted (answer_to tests rules log call) ≡ true
+    → is_withdrawn (call ∷ log) c ≡ false
+unfolding is_withdrawn
+start-unwithdrawn tests rules log (StartDeposit account k block) c e start is =
+    subst (λ n. is_withdrawn log n ≡ false) (eqb-true k c (and_parts (k == c) (block == e) start).0)
+    (accepted_calls_show tests rules log (StartDeposit account k block) is).not_withdrawn
+start-unwithdrawn tests rules log (StartSpend account k parent exit) c e start is =
+    subst (λ n. is_withdrawn log n ≡ false) (eqb-true k c (and_parts (k == c) (exit.block == e) start).0)
+    (accepted_calls_show tests rules log (StartSpend account k parent exit) is).not_withdrawn
+start-unwithdrawn tests rules log call c e start is = absurd (false≢true start)
+
+-- by a later call, where the exit leads before it
+later-unwithdrawn : (tests : Tests) (rules : Rules) (log : List RootCall) (call : RootCall) (c e : ℕ)
+    → is_end c e call ≡ false → leads log c e ≡ true → is_accepted (answer_to tests rules log call) ≡ true
+    → is_withdrawn log c ≡ false → is_withdrawn (call ∷ log) c ≡ false
+unfolding is_withdrawn
+later-unwithdrawn tests rules log (Finish account k f) c e goes_on lead is before =
+    ap (λ b. b || is_withdrawn log c)
+    (false_from_ne_true ((k == c) && has_no_open_challenge (exit_at log k f)) (λ yes.
+    let k_is = eqb-true k c (and_parts (k == c) (has_no_open_challenge (exit_at log k f)) yes).0 in
+    let s = accepted_calls_show tests rules log (Finish account k f) is in
+    let place = found-has log k f s.exit s.stands in
+    let apart = false_from_ne_true (s.exit.block == e) (λ at. true≢false
+    (sym (and_from (k == c) (f == e) (eq-eqb k c k_is)
+    (eq-eqb f e (sym place.2 ∙ eqb-true s.exit.block e at))) ∙ goes_on)) in
+    true≢false (sym (le-leb (s.exit.start + EXIT_PERIOD) (now log) s.in_time)
+    ∙ not-ripe log c e lead s.exit place.0 (place.1 ∙ k_is) apart)))
+    ∙ before
+later-unwithdrawn tests rules log call c e goes_on lead is before = before
+
+unwithdrawn : (rules : Rules) (log : List RootCall) (c e : ℕ) (own : Exit) → IsLegal rules log
+    → exit_at log c e ≡ Some own → has_led log c e ≡ true → is_withdrawn log c ≡ false
+unfolding IsLegal has_led is_withdrawn
+unwithdrawn rules [] c e own legal found led = refl
+unwithdrawn rules (call ∷ log) c e own legal found led =
+    elim (cases_Bool (is_start c e call)) [
+      | inl start ↦ start-unwithdrawn legal.0.0 rules log call c e start legal.0.1
+      | inr other ↦
+          let before : has_led log c e ≡ true = sym (ap (λ b. b || has_led log c e) other)
+          ∙ (and_parts (leads (call ∷ log) c e) (is_start c e call || has_led log c e) led).1 in
+          let s = stood call log c e own found other in
+          later-unwithdrawn legal.0.0 rules log call c e s.not_ended (led-leads log c e before) legal.0.1
+          (unwithdrawn rules log c e s.exit legal.1 s.stands before)
+    ]
+
+-- ---- it is paid
+
+settled : (b : Bool) → (b ≡ false → b ≡ true) → b ≡ true
+settled true f = refl
+settled false f = f refl
+
+pub leaders_are_paid : LeadersArePaid
+leaders_are_paid tests rules log account c e own legal found led over =
+    let place = found-has log c e own found in
+    let none = none-missed log c e (led-leads log c e led) own place.0 place.1 place.2 in
+    let inside = all-has InWindow (exits log) own (windows rules log legal) place.0 in
+    let answered : list_all (λ (ch : Challenge). ch.answered) own.challenges ≡ true =
+    all_answered-from own.challenges (all-from (λ (ch : Challenge). ch.answered ≡ true) own.challenges
+    (λ ch there. settled ch.answered (λ no.
+    let early = all-has (λ (x : Challenge). x.at < own.start + CHALLENGE_WINDOW) own.challenges ch inside there in
+    absurd (true≢false (sym (and_from (not ch.answered) (nat_le (ch.at + RESPONSE_WINDOW) (now log))
+    (not_from_false ch.answered no) (le-leb (ch.at + RESPONSE_WINDOW) (now log) (omega (arith, early, over))))
+    ∙ any-none (is_missed (now log)) own.challenges ch none there))))) in
+    (paid_exactly tests rules log account c e).1 (
+      record { exit = own; stands = found; in_time = over },
+      and_from (has_no_open_challenge (Some own)) (not (is_withdrawn log c)) answered
+          (not_from_false (is_withdrawn log c) (unwithdrawn rules log c e own legal found led)),
+    )
+
+pub run_leaders_are_paid : LeadersOfRunsArePaid
+run_leaders_are_paid dig lines run world later events account c e own is split =
+    leaders_are_paid (tests_by dig) (rules_of world.chain) (log_of events) account c e own
+    (legal-table (tests_by dig) (rules_of world.chain) (log_of events)
+    (legal-log (tests_by dig) (rules_of world.chain) events (legal-to dig lines run world later events is split)))
+
+-- ---- who began first leads
+
+any-off : (p : Exit → Bool) (xs : List Exit) → ((x : Exit) → Has xs x → p x ≡ false) → list_any p xs ≡ false
+any-off p [] off = refl
+any-off p (x ∷ xs) off = ap (λ b. b || list_any p xs) (off x (inl refl)) ∙ any-off p xs (λ y there. off y (inr there))
+
+the-one : (log : List RootCall) (c e : ℕ) (own x : Exit) → exit_at log c e ≡ Some own → Has (exits log) x
+    → x.coin ≡ c → x.block ≡ e → x ≡ own
+unfolding exit_at
+the-one log c e own x found there c_is at =
+    some_same x own (sym (only-found (is_exit c e) (exits log) x (exits-distinct log c e) there
+    (and_from (x.coin == c) (x.block == e) (eq-eqb x.coin c c_is) (eq-eqb x.block e at))) ∙ found)
+
+pub firsts_lead : FirstsLead
+firsts_lead log c e own found first none early =
+    not_from_false (list_any (λ exit. (exit.coin == c) && ends_lead (now log) e exit) (exits log))
+    (any-off (λ exit. (exit.coin == c) && ends_lead (now log) e exit) (exits log)
+    (λ x there. false_from_ne_true ((x.coin == c) && ends_lead (now log) e x) (λ yes.
+    let parts = and_parts (x.coin == c) (ends_lead (now log) e x) yes in
+    let c_is = eqb-true x.coin c parts.0 in
+    elim (cases_Bool (x.block == e)) [
+      | inl at ↦
+          let missed : list_any (is_missed (now log)) x.challenges ≡ true =
+          sym (ap (λ b. if b then list_any (is_missed (now log)) x.challenges else is_ripe (now log) x) at)
+          ∙ parts.1 in
+          let same = the-one log c e own x found there c_is (eqb-true x.block e at) in
+          true≢false (sym missed
+          ∙ ap (λ (y : Exit). list_any (is_missed (now log)) y.challenges) same ∙ none)
+      | inr apart ↦
+          let ripe : is_ripe (now log) x ≡ true =
+          sym (ap (λ b. if b then list_any (is_missed (now log)) x.challenges else is_ripe (now log) x) apart)
+          ∙ parts.1 in
+          let over = leb-true (x.start + EXIT_PERIOD) (now log) ripe in
+          let later = leb-false (x.start + 1) own.start
+          (and-off (x.coin == c) (nat_le (x.start + 1) own.start)
+          (any-none (λ other. (other.coin == c) && nat_le (other.start + 1) own.start) (exits log) x first there)
+          parts.0) in
+          absurd (omega (arith, over, later, early))
+    ])))

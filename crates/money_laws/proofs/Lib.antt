@@ -1,0 +1,12 @@
+pub mod SumsOver
+pub mod Ends
+pub mod Keeping
+pub mod Tips
+pub mod Back
+pub mod Lead
+pub mod Ledger
+pub mod Timely
+pub mod LookedTimely
+pub mod Reserves
+pub mod OnOffer
+pub mod MoneySamples

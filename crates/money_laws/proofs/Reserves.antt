@@ -1,0 +1,620 @@
+-- The reserve suffices, and no less does.
+use Rattle.std.proofs.Common.{◌≡◌, ℕ, ◌+◌, ◌<◌, ◌≤◌, ◌==◌, ◌&&◌, not, Bool, true, false, if◌then◌else◌, List, [], ◌∷◌, ◌++◌, Option, Some, None, option_map, inl, inr, ◌⊎◌, refl, sym, ap, ◌∙◌, subst, arith}
+use Rattle.std.specs.Prelude.{is_some, is_none, nat_lt}
+use Rattle.std.specs.Option.{option_or}
+use Rattle.std.specs.List.{list_any, list_all}
+use Rattle.std.proofs.lemmas.Bool.{cases_Bool, eqb-true, eq-eqb, lt-ltb, ltb-true, leb-true, and_parts, and_from, or_parts, or_cases, not_from_false, true≢false, false≢true, false_from_ne_true}
+use Rattle.plasma_tx.specs.declared.rules.TheConstants.{CHALLENGE_BOND, CHALLENGE_WINDOW}
+use Rattle.plasma_tx.specs.declared.owner.Owner.{Owner}
+use Rattle.plasma_tx.specs.declared.call.Shown.{Shown}
+use Rattle.plasma_tx.specs.declared.call.Shown.TheVariants.{Deposit as AtDeposit, Spend}
+use Rattle.plasma_tx.specs.declared.call.RootCall.{RootCall}
+use Rattle.plasma_tx.specs.declared.call.RootCall.TheVariants.{After, Between, Before, Respond}
+use Rattle.plasma_tx.specs.declared.views.CoinView.{CoinView}
+use Rattle.plasma_tx.specs.Views.{now, block_at, coin_at, Challenge, Exit, exits, exit_at, block_of, challenge_at, with_challenge, with_answer, new_challenge}
+use Rattle.plasma_tx.specs.Shown.{Tests, Rules, root_at, shown_tx, shown_owner}
+use Rattle.plasma_tx.specs.Table.{answer_to, is_accepted, log_after, is_over, is_before_parent}
+use Rattle.plasma_tx.specs.RuleLaws.{is_of_exit}
+use Rattle.plasma_tx.specs.Money.{pays, takes, share_of, balance_of}
+use Rattle.plasma_tx.proofs.Accepted.{accepted_calls_show}
+use Rattle.plasma_tx.proofs.Acceptance.{shown_calls_are_accepted}
+use Rattle.plasma_tx.proofs.Names.{option_or-none, find-changed, challenge_at-push}
+use Rattle.plasma_tx.proofs.RuleLeaves.{others_leave_exits}
+use Rattle.plasma_tx.proofs.Stands.{same-challenged}
+use Rattle.watch_duty.proofs.Members.{Has}
+use Rattle.world_laws.proofs.Lists.{some_same, any-none, and-off, found-has}
+use Rattle.world_laws.proofs.Watched.{is_none-push, is_none-answered}
+use Rattle.money_laws.specs.Bonds.{sum_over}
+use Rattle.money_laws.specs.Reserve.{needs_before, asks, reserve, Tip, reserve_of, AreAccepted, with_calls, is_before_by, is_at_tip, AreApart, ReserveIsNeeded}
+use Rattle.money_laws.specs.MoneyLaws.{is_same_before, is_before_at, is_free, is_before_of, is_before, BeforesAreAccepted}
+use Rattle.money_laws.proofs.SumsOver.{ended, changed}
+
+-- ---- the parts of a sum
+
+pub over-one : (of : Exit → ℕ) (xs : List Exit) (x : Exit) → Has xs x → of x ≤ sum_over of xs
+unfolding sum_over
+over-one of [] x there = absurd there
+over-one of (y ∷ ys) x (inl is) =
+    let same : of y ≡ of x = ap of is in omega (arith, same)
+over-one of (y ∷ ys) x (inr there) = omega (arith, over-one of ys x there)
+
+-- the reserve of a tip is no more than that of the tips
+pub tip-one : (log : List RootCall) (c e : ℕ) (tips : List Tip) → list_any (is_at_tip c e) tips ≡ true
+    → reserve log c e ≤ reserve_of log tips
+unfolding reserve_of
+tip-one log c e [] is = absurd (false≢true is)
+tip-one log c e (tip ∷ tips) is =
+    elim (or_cases (is_at_tip c e tip) (list_any (is_at_tip c e) tips) is) [
+      | inl here ↦
+          let parts = and_parts (tip.coin == c) (tip.block == e) here in
+          let same : reserve log tip.coin tip.block ≡ reserve log c e =
+          ap (λ n. reserve log n tip.block) (eqb-true tip.coin c parts.0)
+          ∙ ap (λ n. reserve log c n) (eqb-true tip.block e parts.1) in
+          omega (arith, same)
+      | inr later ↦ omega (arith, tip-one log c e tips later)
+    ]
+
+-- ---- what an exit asks
+
+abbrev bond_if : Bool → ℕ
+bond_if b = if b then CHALLENGE_BOND else 0
+
+asks-most : (a : Bool) → bond_if a ≤ CHALLENGE_BOND
+asks-most true = omega arith
+asks-most false = omega arith
+
+asks-less : (a b m n o : Bool) → (n ≡ false → m ≡ false) → bond_if (a && (b && m && o)) ≤ bond_if (a && (b && n && o))
+asks-less false b m n o off = omega arith
+asks-less true false m n o off = omega arith
+asks-less true true false n o off = omega arith
+asks-less true true true true o off = omega arith
+asks-less true true true false o off = absurd (true≢false (off refl))
+
+asks-none : (a b m o : Bool) → m ≡ false → bond_if (a && (b && m && o)) ≡ 0
+asks-none a b true o off = absurd (true≢false off)
+asks-none false b false o off = refl
+asks-none true false false o off = refl
+asks-none true true false o off = refl
+
+-- a challenge that was made is there
+push-there : (challenges : List Challenge) (new : Challenge)
+    → is_none (challenge_at new.block (challenges ++ new ∷ [])) ≡ false
+push-there [] new = ap (λ (b : Bool). is_none (if b then Some new else None)) (eq-eqb new.block new.block refl)
+push-there (first ∷ rest) new =
+    elim (first.block == new.block) as (λ b. is_none
+    (if b then Some first else challenge_at new.block (rest ++ new ∷ [])) ≡ false) [
+      | true ↦ refl
+      | false ↦ push-there rest new
+    ]
+
+module _ (log : List RootCall) (c e : ℕ) where
+  challenged-less : (x : Exit) (new : Challenge) → is_some (challenge_at new.block x.challenges) ≡ false
+      → asks log c e (with_challenge new x) ≤ asks log c e x
+  challenged-less x new none =
+      subst (λ (b : Bool). asks log c e (if b then x else record x { challenges = x.challenges ++ new ∷ [] })
+      ≤ asks log c e x) (sym none)
+      (asks-less (x.coin == c) (nat_lt e x.parent) (is_none (challenge_at e (x.challenges ++ new ∷ [])))
+      (is_none (challenge_at e x.challenges)) (not (is_over log x.start CHALLENGE_WINDOW))
+      (λ off. is_none-push e x.challenges new off))
+
+  challenged-none : (x : Exit) (new : Challenge) → is_some (challenge_at new.block x.challenges) ≡ false
+      → new.block ≡ e → asks log c e (with_challenge new x) ≡ 0
+  challenged-none x new none at =
+      subst (λ (b : Bool). asks log c e (if b then x else record x { challenges = x.challenges ++ new ∷ [] })
+      ≡ 0) (sym none)
+      (asks-none (x.coin == c) (nat_lt e x.parent) (is_none (challenge_at e (x.challenges ++ new ∷ [])))
+      (not (is_over log x.start CHALLENGE_WINDOW))
+      (subst (λ n. is_none (challenge_at n (x.challenges ++ new ∷ [])) ≡ false) at (push-there x.challenges new)))
+
+-- a challenge at another block leaves who is challenged at this one
+push-same : (b : ℕ) (challenges : List Challenge) (new : Challenge) → (new.block == b) ≡ false
+    → challenge_at b (challenges ++ new ∷ []) ≡ challenge_at b challenges
+push-same b challenges new apart =
+    challenge_at-push b challenges new
+    ∙ ap (λ (t : Bool). option_or (challenge_at b challenges) (if t then Some new else None)) apart
+    ∙ option_or-none (challenge_at b challenges)
+
+-- so what the exit asks elsewhere stays
+asks-same : (log : List RootCall) (k e : ℕ) (x : Exit) (new : Challenge)
+    → is_some (challenge_at new.block x.challenges) ≡ false → ((x.coin == k) && (new.block == e)) ≡ false
+    → asks log k e (with_challenge new x) ≡ asks log k e x
+asks-same log k e x new none apart =
+    subst (λ (b : Bool). asks log k e (if b then x else record x { challenges = x.challenges ++ new ∷ [] })
+    ≡ asks log k e x) (sym none)
+    (elim (cases_Bool (x.coin == k)) [
+      | inl own ↦ ap (λ o. bond_if ((x.coin == k)
+          && (nat_lt e x.parent && is_none o && not (is_over log x.start CHALLENGE_WINDOW))))
+          (push-same e x.challenges new (and-off (x.coin == k) (new.block == e) apart own))
+      | inr other ↦
+          ap (λ b. bond_if (b && (nat_lt e x.parent && is_none (challenge_at e (x.challenges ++ new ∷ []))
+          && not (is_over log x.start CHALLENGE_WINDOW)))) other
+          ∙ sym (ap (λ b. bond_if (b && needs_before log e x)) other)
+    ])
+
+-- ---- one Before
+
+-- the Before is accepted, but for the money
+pub record Could (tests : Tests) (rules : Rules) (log : List RootCall) (c f : ℕ) (shown : Shown) : Type 0 where
+  pub exit : Exit
+  pub stands : exit_at log c f ≡ Some exit
+  pub in_time : now log < exit.start + CHALLENGE_WINDOW
+  pub before : is_before_parent log (coin_at log c) exit shown ≡ true
+  pub owner : Owner
+  pub owner_shown : shown_owner tests rules log c shown ≡ Some owner
+  pub none_there : challenge_at (block_of shown) exit.challenges ≡ None
+
+-- what is shown comes before the exit's parent
+before-parent : (log : List RootCall) (made : Option CoinView) (exit : Exit) (shown : Shown)
+    → is_before_parent log made exit shown ≡ true → block_of shown < exit.parent
+before-parent log None exit shown is = absurd (false≢true is)
+before-parent log (Some coin) exit (AtDeposit block) is =
+    let parts = and_parts (block == coin.deposit) (nat_lt coin.deposit exit.parent) is in
+    let at = eqb-true block coin.deposit parts.0 in
+    let low = ltb-true coin.deposit exit.parent parts.1 in omega (arith, at, low)
+before-parent log (Some coin) exit (Spend opening) is =
+    ltb-true opening.block exit.parent
+    (and_parts (is_some (root_at log opening.block) && nat_lt coin.deposit opening.block)
+    (nat_lt opening.block exit.parent) is).1
+
+-- so the exit asks for it
+could-asks : (tests : Tests) (rules : Rules) (log : List RootCall) (c f : ℕ) (shown : Shown)
+    (could : Could tests rules log c f shown) → asks log c (block_of shown) could.exit ≡ CHALLENGE_BOND
+could-asks tests rules log c f shown could =
+    let e : ℕ = block_of shown in
+    let place = found-has log c f could.exit could.stands in
+    let above = before-parent log (coin_at log c) could.exit shown could.before in
+    let free : is_none (challenge_at e could.exit.challenges) ≡ true = ap is_none could.none_there in
+    let early : is_over log could.exit.start CHALLENGE_WINDOW ≡ false =
+    false_from_ne_true (is_over log could.exit.start CHALLENGE_WINDOW) (λ over.
+    let late = leb-true (could.exit.start + CHALLENGE_WINDOW) (now log) over in
+    absurd (omega (arith, late, could.in_time))) in
+    ap bond_if (and_from (could.exit.coin == c) (needs_before log e could.exit)
+    (eq-eqb could.exit.coin c place.1)
+    (and_from (nat_lt e could.exit.parent && is_none (challenge_at e could.exit.challenges))
+    (not (is_over log could.exit.start CHALLENGE_WINDOW))
+    (and_from (nat_lt e could.exit.parent) (is_none (challenge_at e could.exit.challenges))
+    (lt-ltb e could.exit.parent above) free)
+    (not_from_false (is_over log could.exit.start CHALLENGE_WINDOW) early)))
+
+-- and the reserve has its bond
+could-reserve : (tests : Tests) (rules : Rules) (log : List RootCall) (c f : ℕ) (shown : Shown)
+    → Could tests rules log c f shown → CHALLENGE_BOND ≤ reserve log c (block_of shown)
+could-reserve tests rules log c f shown could =
+    let place = found-has log c f could.exit could.stands in
+    let one = over-one (asks log c (block_of shown)) (exits log) could.exit place.0 in
+    omega (arith, could-asks tests rules log c f shown could, one)
+
+-- ---- the reserve after a Before
+
+module _ (log : List RootCall) (by c f : ℕ) (shown : Shown) (x : Exit) (stands : exit_at log c f ≡ Some x)
+    (none : challenge_at (block_of shown) x.challenges ≡ None) where
+  fresh : is_some (challenge_at (block_of shown) x.challenges) ≡ false
+  fresh = ap is_some none
+
+  change : (k e : ℕ) → reserve (Before by c f shown ∷ log) k e + asks log k e x
+      ≡ reserve log k e + asks log k e (with_challenge (new_challenge log by c f shown) x)
+  unfolding exits now
+  change k e = changed (asks log k e) log c f (with_challenge (new_challenge log by c f shown)) x stands
+
+  no-more : (k e : ℕ) → reserve (Before by c f shown ∷ log) k e ≤ reserve log k e
+  no-more k e =
+      omega (arith, change k e, challenged-less log k e x (new_challenge log by c f shown) fresh)
+
+  at-most-one : (k e : ℕ) → reserve log k e ≤ reserve (Before by c f shown ∷ log) k e + CHALLENGE_BOND
+  at-most-one k e =
+      omega (arith, change k e, asks-most ((x.coin == k) && needs_before log e x))
+
+  -- at another tip it stays
+  stays : (tip : Tip) → is_at_tip c (block_of shown) tip ≡ false
+      → reserve log tip.coin tip.block ≤ reserve (Before by c f shown ∷ log) tip.coin tip.block
+  stays tip apart =
+      let place = found-has log c f x stands in
+      let off = false_from_ne_true ((x.coin == tip.coin) && (block_of shown == tip.block)) (λ yes.
+      let parts = and_parts (x.coin == tip.coin) (block_of shown == tip.block) yes in
+      true≢false (sym (and_from (tip.coin == c) (tip.block == block_of shown)
+      (eq-eqb tip.coin c (sym (eqb-true x.coin tip.coin parts.0) ∙ place.1))
+      (eq-eqb tip.block (block_of shown) (sym (eqb-true (block_of shown) tip.block parts.1)))) ∙ apart)) in
+      omega (
+        arith,
+        change tip.coin tip.block,
+        asks-same log tip.coin tip.block x (new_challenge log by c f shown) fresh off,
+      )
+
+  all-stay : (tips : List Tip) → list_any (is_at_tip c (block_of shown)) tips ≡ false
+      → reserve_of log tips ≤ reserve_of (Before by c f shown ∷ log) tips
+  unfolding reserve_of
+  all-stay [] apart = omega arith
+  all-stay (tip ∷ tips) apart =
+      let parts = or_parts (is_at_tip c (block_of shown) tip) (list_any (is_at_tip c (block_of shown)) tips) apart in
+      omega (arith, stays tip parts.0, all-stay tips parts.1)
+
+  -- so it falls by one bond at most
+  all-at-most-one : (tips : List Tip) → AreApart tips
+      → reserve_of log tips ≤ reserve_of (Before by c f shown ∷ log) tips + CHALLENGE_BOND
+  unfolding reserve_of AreApart
+  all-at-most-one [] apart = omega arith
+  all-at-most-one (tip ∷ tips) apart =
+      elim (cases_Bool (is_at_tip c (block_of shown) tip)) [
+        | inl here ↦
+            let parts = and_parts (tip.coin == c) (tip.block == block_of shown) here in
+            let rest : list_any (is_at_tip c (block_of shown)) tips ≡ false =
+            subst (λ n. list_any (is_at_tip n (block_of shown)) tips ≡ false) (eqb-true tip.coin c parts.0)
+            (subst (λ m. list_any (is_at_tip tip.coin m) tips ≡ false)
+            (eqb-true tip.block (block_of shown) parts.1) apart.0) in
+            omega (arith, at-most-one tip.coin tip.block, all-stay tips rest)
+        | inr other ↦ omega (arith, stays tip other, all-at-most-one tips apart.1)
+      ]
+
+  one-less : asks log c (block_of shown) x ≡ CHALLENGE_BOND
+      → reserve (Before by c f shown ∷ log) c (block_of shown) + CHALLENGE_BOND ≤ reserve log c (block_of shown)
+  one-less asked =
+      omega (
+        arith,
+        change c (block_of shown),
+        challenged-none log c (block_of shown) x (new_challenge log by c f shown) fresh refl,
+        asked,
+      )
+
+  all-no-more : (tips : List Tip) → reserve_of (Before by c f shown ∷ log) tips ≤ reserve_of log tips
+  unfolding reserve_of
+  all-no-more [] = omega arith
+  all-no-more (tip ∷ tips) = omega (arith, no-more tip.coin tip.block, all-no-more tips)
+
+  all-less : asks log c (block_of shown) x ≡ CHALLENGE_BOND → (tips : List Tip)
+      → list_any (is_at_tip c (block_of shown)) tips ≡ true
+      → reserve_of (Before by c f shown ∷ log) tips + CHALLENGE_BOND ≤ reserve_of log tips
+  unfolding reserve_of
+  all-less asked [] is = absurd (false≢true is)
+  all-less asked (tip ∷ tips) is =
+      elim (or_cases (is_at_tip c (block_of shown) tip) (list_any (is_at_tip c (block_of shown)) tips) is) [
+        | inl here ↦
+            let parts = and_parts (tip.coin == c) (tip.block == block_of shown) here in
+            let less : reserve (Before by c f shown ∷ log) tip.coin tip.block + CHALLENGE_BOND
+            ≤ reserve log tip.coin tip.block =
+            subst (λ n. reserve (Before by c f shown ∷ log) n tip.block + CHALLENGE_BOND ≤ reserve log n tip.block)
+            (sym (eqb-true tip.coin c parts.0))
+            (subst (λ m. reserve (Before by c f shown ∷ log) c m + CHALLENGE_BOND ≤ reserve log c m)
+            (sym (eqb-true tip.block (block_of shown) parts.1)) (one-less asked)) in
+            omega (arith, less, all-no-more tips)
+        | inr later ↦ omega (arith, no-more tip.coin tip.block, all-less asked tips later)
+      ]
+
+-- what it takes
+taken : (log : List RootCall) (by c f : ℕ) (shown : Shown) → CHALLENGE_BOND ≤ balance_of log by
+    → balance_of (Before by c f shown ∷ log) by + CHALLENGE_BOND ≡ balance_of log by
+unfolding balance_of pays takes share_of
+taken log by c f shown covered =
+    let own : (if by == by then CHALLENGE_BOND else 0) ≡ CHALLENGE_BOND =
+    ap (λ b. if b then CHALLENGE_BOND else 0) (eq-eqb by by refl) in
+    omega (arith, own, covered)
+
+-- ---- no less suffices
+
+needed : (tests : Tests) (rules : Rules) (calls log : List RootCall) (account : ℕ) (tips : List Tip)
+    → AreApart tips → list_all (is_before_by account) calls ≡ true → AreAccepted tests rules log calls
+    → reserve_of (with_calls log calls) tips ≡ 0 → reserve_of log tips ≤ balance_of log account
+unfolding AreAccepted with_calls
+needed tests rules [] log account tips apart mine accepted none = omega (arith, none)
+needed tests rules (Before by k f shown ∷ calls) log account tips apart mine accepted none =
+    let parts = and_parts (by == account) (list_all (is_before_by account) calls) mine in
+    let is = eqb-true by account parts.0 in
+    let s = accepted_calls_show tests rules log (Before by k f shown) accepted.0 in
+    let rest = needed tests rules calls (Before by k f shown ∷ log) account tips apart parts.1 accepted.1 none in
+    let most = all-at-most-one log by k f shown s.exit s.stands s.none_there tips apart in
+    let cost : balance_of (Before by k f shown ∷ log) account + CHALLENGE_BOND ≡ balance_of log account =
+    subst (λ n. balance_of (Before by k f shown ∷ log) n + CHALLENGE_BOND ≡ balance_of log n) is
+    (taken log by k f shown s.covered) in
+    omega (arith, rest, most, cost)
+needed tests rules (call ∷ calls) log account tips apart mine accepted none =
+    absurd (false≢true (and_parts (is_before_by account call) (list_all (is_before_by account) calls) mine).0)
+
+pub reserve_is_needed : ReserveIsNeeded
+reserve_is_needed tests rules log account tips calls = needed tests rules calls log account tips
+
+-- ---- another Before after one
+
+-- a challenge at another block isn't the new one
+push-other : (b : ℕ) (challenges : List Challenge) (new : Challenge) → challenge_at b challenges ≡ None
+    → (new.block == b) ≡ false → challenge_at b (challenges ++ new ∷ []) ≡ None
+push-other b challenges new none apart =
+    challenge_at-push b challenges new
+    ∙ ap (λ o. option_or o (if new.block == b then Some new else None)) none
+    ∙ ap (λ (t : Bool). option_or None (if t then Some new else None)) apart
+
+-- what comes before the parent does so after a Before
+before-same : (log : List RootCall) (by c f : ℕ) (shown offered : Shown) (made : Option CoinView) (one other : Exit)
+    → one.parent ≡ other.parent → is_before_parent log made one offered ≡ true
+    → is_before_parent (Before by c f shown ∷ log) made other offered ≡ true
+unfolding block_at
+before-same log by c f shown offered None one other same is = absurd (false≢true is)
+before-same log by c f shown (AtDeposit block) (Some coin) one other same is =
+    ap (λ p. (block == coin.deposit) && nat_lt coin.deposit p) (sym same) ∙ is
+before-same log by c f shown (Spend opening) (Some coin) one other same is =
+    ap (λ p. is_some (root_at log opening.block) && nat_lt coin.deposit opening.block && nat_lt opening.block p)
+    (sym same) ∙ is
+
+module _ (tests : Tests) (rules : Rules) (log : List RootCall) (by c f : ℕ) (shown : Shown) (x : Exit)
+    (stands : exit_at log c f ≡ Some x) (none : challenge_at (block_of shown) x.challenges ≡ None)
+    (k g : ℕ) (offered : Shown) (could : Could tests rules log k g offered) where
+  found-after : exit_at (Before by c f shown ∷ log) k g
+      ≡ (if (c == k) && (f == g) then option_map (with_challenge (new_challenge log by c f shown)) (exit_at log k g)
+      else exit_at log k g)
+  unfolding exits exit_at
+  found-after =
+      find-changed k g c f (with_challenge (new_challenge log by c f shown))
+      (λ y. ap (λ (z : Exit). z.coin) (same-challenged (new_challenge log by c f shown) y))
+      (λ y. ap (λ (z : Exit). z.block) (same-challenged (new_challenge log by c f shown) y)) (exits log)
+
+  other-could : ((c == k) && (f == g)) ≡ false → Could tests rules (Before by c f shown ∷ log) k g offered
+  unfolding now coin_at block_at shown_tx
+  other-could other = record {
+    exit = could.exit;
+    stands = found-after
+        ∙ ap (λ (b : Bool). if b then option_map (with_challenge (new_challenge log by c f shown)) (exit_at log k g)
+        else exit_at log k g) other
+        ∙ could.stands;
+    in_time = could.in_time;
+    before = could.before;
+    owner = could.owner;
+    owner_shown = could.owner_shown;
+    none_there = could.none_there;
+  }
+
+  same-could : ((c == k) && (f == g)) ≡ true → (block_of shown == block_of offered) ≡ false
+      → Could tests rules (Before by c f shown ∷ log) k g offered
+  unfolding now coin_at block_at shown_tx
+  same-could own apart =
+      let parts = and_parts (c == k) (f == g) own in
+      let here : exit_at log k g ≡ Some x = subst (λ n. exit_at log n g ≡ Some x) (eqb-true c k parts.0)
+      (subst (λ m. exit_at log c m ≡ Some x) (eqb-true f g parts.1) stands) in
+      let same : could.exit ≡ x = some_same could.exit x (sym could.stands ∙ here) in
+      let new : Challenge = new_challenge log by c f shown in
+      let pushed : Exit = record x { challenges = x.challenges ++ new ∷ [] } in
+      let is : with_challenge new x ≡ pushed = ap (λ (b : Bool). if b then x else pushed) (ap is_some none) in
+      record {
+        exit = pushed;
+        stands = found-after
+            ∙ ap (λ (b : Bool). if b then option_map (with_challenge new) (exit_at log k g) else exit_at log k g) own
+            ∙ ap (option_map (with_challenge new)) here ∙ ap (λ (y : Exit). Some y) is;
+        in_time = subst (λ (y : Exit). now log < y.start + CHALLENGE_WINDOW) same could.in_time;
+        before = before-same log by c f shown offered (coin_at log k) could.exit pushed
+            (ap (λ (y : Exit). y.parent) same) could.before;
+        owner = could.owner;
+        owner_shown = could.owner_shown;
+        none_there = push-other (block_of offered) x.challenges new
+            (subst (λ (y : Exit). challenge_at (block_of offered) y.challenges ≡ None) same could.none_there) apart;
+      }
+
+  could-after : ((c == k) && (f == g) && (block_of shown == block_of offered)) ≡ false
+      → Could tests rules (Before by c f shown ∷ log) k g offered
+  could-after apart =
+      elim (cases_Bool ((c == k) && (f == g))) [
+        | inl own ↦ same-could own
+            (sym (ap (λ (b : Bool). b && (block_of shown == block_of offered)) own) ∙ apart)
+        | inr other ↦ other-could other
+      ]
+
+-- ---- other calls
+
+-- a call that takes no money
+module _ (tests : Tests) (rules : Rules) (log : List RootCall) where
+  free-could : (call : RootCall) (k g : ℕ) (offered : Shown) → is_free call ≡ true → is_of_exit k g call ≡ false
+      → Could tests rules log k g offered → Could tests rules (call ∷ log) k g offered
+  unfolding now coin_at block_at shown_tx
+  free-could (After by c f spend) k g offered free other could = record {
+    exit = could.exit;
+    stands = others_leave_exits log (After by c f spend) k g other ∙ could.stands;
+    in_time = could.in_time;
+    before = could.before;
+    owner = could.owner;
+    owner_shown = could.owner_shown;
+    none_there = could.none_there;
+  }
+  free-could (Between by c f spend) k g offered free other could = record {
+    exit = could.exit;
+    stands = others_leave_exits log (Between by c f spend) k g other ∙ could.stands;
+    in_time = could.in_time;
+    before = could.before;
+    owner = could.owner;
+    owner_shown = could.owner_shown;
+    none_there = could.none_there;
+  }
+  free-could (Respond by c f challenged spend) k g offered free other could = record {
+    exit = could.exit;
+    stands = others_leave_exits log (Respond by c f challenged spend) k g other ∙ could.stands;
+    in_time = could.in_time;
+    before = could.before;
+    owner = could.owner;
+    owner_shown = could.owner_shown;
+    none_there = could.none_there;
+  }
+  free-could call k g offered free other could = absurd (false≢true free)
+
+  -- an answer leaves what an exit asks
+  answered-asks : (c e challenged : ℕ) (x : Exit) → asks log c e (with_answer challenged x) ≡ asks log c e x
+  answered-asks c e challenged x =
+      ap (λ b. bond_if ((x.coin == c)
+      && (nat_lt e x.parent && b && not (is_over log x.start CHALLENGE_WINDOW))))
+      (is_none-answered e challenged x.challenges)
+
+  free-reserve : (call : RootCall) (c e : ℕ) → is_free call ≡ true
+      → is_accepted (answer_to tests rules log call) ≡ true → reserve (call ∷ log) c e ≤ reserve log c e
+  unfolding exits now
+  free-reserve (After by k f spend) c e free ok =
+      let s = accepted_calls_show tests rules log (After by k f spend) ok in
+      omega (arith, ended (asks log c e) log k f s.exit s.stands)
+  free-reserve (Between by k f spend) c e free ok =
+      let s = accepted_calls_show tests rules log (Between by k f spend) ok in
+      omega (arith, ended (asks log c e) log k f s.exit s.stands)
+  free-reserve (Respond by k f challenged spend) c e free ok =
+      let s = accepted_calls_show tests rules log (Respond by k f challenged spend) ok in
+      omega (
+        arith,
+        changed (asks log c e) log k f (with_answer challenged) s.exit s.stands,
+        answered-asks c e challenged s.exit,
+      )
+  free-reserve call c e free ok = absurd (false≢true free)
+
+  free-reserves : (call : RootCall) (tips : List Tip) → is_free call ≡ true
+      → is_accepted (answer_to tests rules log call) ≡ true → reserve_of (call ∷ log) tips ≤ reserve_of log tips
+  unfolding reserve_of
+  free-reserves call [] free ok = omega arith
+  free-reserves call (tip ∷ tips) free ok =
+      omega (arith, free-reserve call tip.coin tip.block free ok, free-reserves call tips free ok)
+
+  free-balance : (call : RootCall) (account : ℕ) → is_free call ≡ true
+      → balance_of log account ≤ balance_of (call ∷ log) account
+  unfolding balance_of takes share_of
+  free-balance (After by k f spend) account free = omega arith
+  free-balance (Between by k f spend) account free = omega arith
+  free-balance (Respond by k f challenged spend) account free = omega arith
+  free-balance call account free = absurd (false≢true free)
+
+-- ---- one after the other
+
+-- the call is a Before that is accepted, but for the money
+unfoldable pub CouldBe : Tests → Rules → List RootCall → RootCall → Type 0
+CouldBe tests rules log (Before by c f shown) = Could tests rules log c f shown
+CouldBe tests rules log call = ⊥
+
+-- a Before of the account at one of the tips that is accepted, but for the money; none of the later ones is the same
+pub record IsReady (tests : Tests) (rules : Rules) (log : List RootCall) (account : ℕ) (tips : List Tip)
+    (call : RootCall) (later : List RootCall) : Type 0 where
+  pub at_tip : is_before_at account tips call ≡ true
+  pub could : CouldBe tests rules log call
+  pub once : list_any (is_same_before call) later ≡ false
+
+unfoldable pub AreReady : Tests → Rules → List RootCall → ℕ → List Tip → List RootCall → Type 0
+AreReady tests rules log account tips [] = Unit {0}
+AreReady tests rules log account tips (call ∷ calls) =
+    (IsReady tests rules log account tips call calls
+    ⊎ ((is_free call ≡ true) × (list_any (is_before_of call) calls ≡ false)))
+    × AreReady tests rules log account tips calls
+
+module _ (tests : Tests) (rules : Rules) (account : ℕ) (tips : List Tip) where
+  -- the calls are ready after one more, where each Before of them is
+  ready-still : (log : List RootCall) (new : RootCall) (calls : List RootCall)
+      → ((call : RootCall) → Has calls call → CouldBe tests rules log call → CouldBe tests rules (new ∷ log) call)
+      → AreReady tests rules log account tips calls → AreReady tests rules (new ∷ log) account tips calls
+  unfolding AreReady
+  ready-still log new [] still ready = tt
+  ready-still log new (call ∷ calls) still ready = (
+    elim ready.0 [
+      | inl r ↦ inl (record { at_tip = r.at_tip; could = still call (inl refl) r.could; once = r.once })
+      | inr free ↦ inr free
+    ],
+    ready-still log new calls (λ other there. still other (inr there)) ready.1,
+  )
+
+  ready-before : (log : List RootCall) (by c f : ℕ) (shown : Shown) (x : Exit) → exit_at log c f ≡ Some x
+      → challenge_at (block_of shown) x.challenges ≡ None → (calls : List RootCall)
+      → list_any (is_same_before (Before by c f shown)) calls ≡ false
+      → AreReady tests rules log account tips calls
+      → AreReady tests rules (Before by c f shown ∷ log) account tips calls
+  unfolding CouldBe
+  ready-before log by c f shown x stands none calls once =
+      ready-still log (Before by c f shown) calls (λ call there.
+      still call (any-none (is_same_before (Before by c f shown)) calls call once there))
+    where
+      still : (call : RootCall) → is_same_before (Before by c f shown) call ≡ false → CouldBe tests rules log call
+          → CouldBe tests rules (Before by c f shown ∷ log) call
+      still (Before to k g offered) apart could =
+          could-after tests rules log by c f shown x stands none k g offered could apart
+      still call apart could = absurd could
+
+  ready-free : (log : List RootCall) (new : RootCall) (calls : List RootCall) → is_free new ≡ true
+      → list_any (is_before_of new) calls ≡ false → AreReady tests rules log account tips calls
+      → AreReady tests rules (new ∷ log) account tips calls
+  unfolding CouldBe
+  ready-free log new calls free others =
+      ready-still log new calls (λ call there.
+      still call (any-none (is_before_of new) calls call others there))
+    where
+      still : (call : RootCall) → is_before_of new call ≡ false → CouldBe tests rules log call
+          → CouldBe tests rules (new ∷ log) call
+      still (Before to k g offered) apart could = free-could tests rules log new k g offered free apart could
+      still call apart could = absurd could
+
+  -- what is accepted behind a call, whether or not it is accepted
+  behind : (call : RootCall) (calls log : List RootCall)
+      → (is_accepted (answer_to tests rules log call) ≡ true → BeforesAreAccepted tests rules (call ∷ log) calls)
+      → BeforesAreAccepted tests rules log calls
+      → BeforesAreAccepted tests rules (log_after tests rules log call) calls
+  unfolding log_after
+  behind call calls log more same =
+      (elim (is_accepted (answer_to tests rules log call)) as (λ b.
+      is_accepted (answer_to tests rules log call) ≡ b
+      → BeforesAreAccepted tests rules (if b then call ∷ log else log) calls) [
+        | true ↦ λ ok. more ok
+        | false ↦ λ refused. same
+      ]) refl
+
+  -- no Before takes no money
+  free-not : (call : RootCall) → is_free call ≡ true → is_before call ≡ true → ⊥
+  free-not (Before by c f shown) free is = false≢true free
+  free-not call free is = false≢true is
+
+  -- a Before that is ready is accepted, and leaves the reserve of the later ones
+  record IsTaken (log : List RootCall) (call : RootCall) (calls : List RootCall) : Type 0 where
+    accepted : is_accepted (answer_to tests rules log call) ≡ true
+    enough : reserve_of (call ∷ log) tips ≤ balance_of (call ∷ log) account
+    ready : AreReady tests rules (call ∷ log) account tips calls
+
+  take : (log : List RootCall) (call : RootCall) (calls : List RootCall)
+      → IsReady tests rules log account tips call calls → AreReady tests rules log account tips calls
+      → reserve_of log tips ≤ balance_of log account → IsTaken log call calls
+  unfolding CouldBe
+  take log (Before by c f shown) calls r ready enough =
+      let parts = and_parts (by == account) (list_any (is_at_tip c (block_of shown)) tips) r.at_tip in
+      let is = eqb-true by account parts.0 in
+      let could = r.could in
+      let bond = could-reserve tests rules log c f shown could in
+      let among = tip-one log c (block_of shown) tips parts.1 in
+      let covered : CHALLENGE_BOND ≤ balance_of log by =
+      subst (λ n. CHALLENGE_BOND ≤ balance_of log n) (sym is) (omega (arith, bond, among, enough)) in
+      let less = all-less log by c f shown could.exit could.stands could.none_there
+      (could-asks tests rules log c f shown could) tips parts.1 in
+      let cost : balance_of (Before by c f shown ∷ log) account + CHALLENGE_BOND ≡ balance_of log account =
+      subst (λ n. balance_of (Before by c f shown ∷ log) n + CHALLENGE_BOND ≡ balance_of log n) is
+      (taken log by c f shown covered) in
+      record {
+        accepted = shown_calls_are_accepted tests rules log (Before by c f shown) (record {
+          exit = could.exit;
+          stands = could.stands;
+          in_time = could.in_time;
+          before = could.before;
+          owner = could.owner;
+          owner_shown = could.owner_shown;
+          none_there = could.none_there;
+          covered = covered;
+        });
+        enough = omega (arith, less, cost, enough);
+        ready = ready-before log by c f shown could.exit could.stands could.none_there calls r.once ready;
+      }
+  take log call calls r ready enough = absurd r.could
+
+  pub in-order : (calls log : List RootCall) → AreReady tests rules log account tips calls
+      → reserve_of log tips ≤ balance_of log account → BeforesAreAccepted tests rules log calls
+  unfolding AreReady BeforesAreAccepted log_after
+  in-order [] log ready enough = tt
+  in-order (call ∷ calls) log ready enough =
+      elim ready.0 [
+        | inl r ↦
+            let t = take log call calls r ready.1 enough in (
+              λ is. t.accepted,
+              subst (λ (b : Bool). BeforesAreAccepted tests rules (if b then call ∷ log else log) calls)
+                  (sym t.accepted) (in-order calls (call ∷ log) t.ready t.enough),
+            )
+        | inr free ↦ (
+          λ is. absurd (free-not call free.0 is),
+          behind call calls log
+              (λ ok. in-order calls (call ∷ log) (ready-free log call calls free.0 free.1 ready.1)
+              (omega (
+                arith,
+                enough,
+                free-reserves tests rules log call tips free.0 ok,
+                free-balance tests rules log call account free.0,
+              )))
+              (in-order calls log ready.1 enough),
+        )
+      ]

@@ -1,0 +1,204 @@
+-- No challenge at the tip of a coin that a wallet keeps is answered.
+use Rattle.std.proofs.Common.{◌≡◌, ℕ, ◌&&◌, not, Bool, true, false, if◌then◌else◌, List, [], ◌∷◌, ◌++◌, Option, Some, None, inl, inr, refl, sym, ap, ◌∙◌, subst}
+use Rattle.std.specs.Prelude.{is_some}
+use Rattle.std.specs.List.{AllByRecursion}
+use Rattle.plasma_tx.specs.declared.owner.Owner.{Owner}
+use Rattle.plasma_tx.specs.declared.opening.RawOpening.{RawOpening}
+use Rattle.plasma_tx.specs.declared.call.Shown.{Shown}
+use Rattle.plasma_tx.specs.declared.call.RootCall.{RootCall}
+use Rattle.plasma_tx.specs.declared.call.RootCall.TheVariants.{Before, Respond}
+use Rattle.plasma_tx.specs.Laws.{is_challenged_at}
+use Rattle.plasma_tx.specs.Views.{Challenge, Exit, exits, block_of, challenge_at, with_challenge, with_answer, new_challenge, is_withdrawn}
+use Rattle.plasma_tx.specs.Shown.{Tests, Rules, tests_by, rules_of}
+use Rattle.plasma_tx.specs.Table.{answer_to, is_accepted}
+use Rattle.plasma_tx.specs.Accepted.{Challenges, Responds}
+use Rattle.plasma_tx.proofs.Accepted.{accepted_calls_show}
+use Rattle.plasma_tx.proofs.Answered.{new_challenges_are_open}
+use Rattle.plasma_tx.proofs.Bounds.{responds_answer}
+use Rattle.plasma_tx.proofs.Each.{all-append, each-exit}
+use Rattle.watch_duty.specs.Laws.{openings_of_call}
+use Rattle.watch_duty.proofs.Members.{Has, all-has, contains-has}
+use Rattle.schedule_text.specs.declared.line.Line.{Line}
+use Rattle.world_rules.specs.Laws.{IsDigest}
+use Rattle.world_rules.specs.Events.{Event, Joins, log_of, wallet_owner, accepted, bound_by, signed_away_by}
+use Rattle.world_rules.specs.World.{World}
+use Rattle.world_rules.specs.Steps.{Run, events_of}
+use Rattle.world_rules.specs.Exhibits.{openings_of, seen, strings_of, has_clash, collides, forges_one, is_forged}
+use Rattle.world_rules.specs.Safety.{holds_with, holds}
+use Rattle.world_laws.specs.Headline.{IsRun}
+use Rattle.world_laws.specs.Legal.{IsLegal}
+use Rattle.world_laws.proofs.Lists.{some_same, all-from, all-changed, all-answered, found-has, challenge-has}
+use Rattle.world_laws.proofs.Shown.{IsShownChallenge, seen-call, legal-log, legal-table}
+use Rattle.world_laws.proofs.Bound.{SignsBy}
+use Rattle.world_laws.proofs.Before.{none-before, forged-parts, legal-before}
+use Rattle.world_laws.proofs.CoinEvents.{runs-legal}
+use Rattle.world_laws.proofs.Promises.{suffix-legal}
+use Rattle.world_laws.proofs.Steps.{of_held, own-openings}
+use Rattle.world_laws.proofs.Watched.{IsSpend, is_spend}
+use Rattle.money_laws.specs.Keepers.{keeps_with, keeps, HoldersKeep, LegalTipsAreNotAnswered, LegalTipsStayOpen, TipsStayOpen}
+use Rattle.money_laws.proofs.Keeping.{Keeping, keeping, KeptBefore, kept_before, AtTip, at_tip, keeper-owns, tip-kept}
+
+pub holders_keep : HoldersKeep
+unfolding holds keeps
+holders_keep events w c e = by_owner (wallet_owner events w)
+  where
+    by_owner : (o : Option Owner)
+        → holds_with (log_of events) o (signed_away_by events w) (accepted events w) c e
+        ≡ (keeps_with (log_of events) o (signed_away_by events w) (accepted events w) c e
+        && not (is_withdrawn (log_of events) c))
+    by_owner None = refl
+    by_owner (Some me) = refl
+
+-- the challenges of the exit at e are open, where it is of coin c
+abbrev pub IsOpenAt : ℕ → ℕ → Exit → Type 0
+IsOpenAt c e x = x.coin ≡ c → AllByRecursion (λ ch. ch.block ≡ e → ch.answered ≡ false) x.challenges
+
+abbrev pub AllOpenAt : ℕ → ℕ → List Exit → Type 0
+AllOpenAt c e xs = AllByRecursion (IsOpenAt c e) xs
+
+pushed-open : (c e : ℕ) (x : Exit) (new : Challenge) → is_some (challenge_at new.block x.challenges) ≡ false
+    → new.answered ≡ false → IsOpenAt c e x → IsOpenAt c e (with_challenge new x)
+pushed-open c e x new none unanswered was =
+    subst (λ (b : Bool). IsOpenAt c e (if b then x else record x { challenges = x.challenges ++ new ∷ [] }))
+    (sym none)
+    (λ c_is. all-append (λ (ch : Challenge). ch.block ≡ e → ch.answered ≡ false) x.challenges new (was c_is)
+    (λ _. unanswered))
+
+module _ (tests : Tests) (rules : Rules) (signs : SignsBy tests) (events : List Event) (w c e : ℕ)
+    (legal : IsLegal tests rules events) (more : List RawOpening) (at : AtTip tests rules events w c e more) where
+  -- an answer of a challenge at e would spend the tip
+  pub no-answer : (account k f challenged : ℕ) (spend : RawOpening)
+      → ((o : RawOpening) → Has (openings_of_call c (Respond account k f challenged spend)) o → Has more o)
+      → forges_one rules.tag (wallet_owner events w) (bound_by events w) c
+      (openings_of_call c (Respond account k f challenged spend)) ≡ false
+      → Responds tests rules (log_of events) k f challenged spend → k ≡ c → challenged ≡ e → ⊥
+  no-answer account k f challenged spend has none is c_is at_tip =
+      let log : List RootCall = log_of events in
+      let place = found-has log k f is.exit is.stands in
+      let of = of_held tests rules events w c e at.keep.me legal at.held is.exit place.0 (place.1 ∙ c_is) in
+      let h = challenge-has challenged is.exit.challenges is.challenge is.there in
+      let known = all-has
+      (IsShownChallenge tests rules log (seen events c) c at.held.made is.exit.parent is.exit.start)
+      is.exit.challenges is.challenge of.challenges h.0 in
+      let spent = is_spend tests rules log k spend is.tx is.challenge.block is.challenge.owner is.shown is.child
+      is.later is.signed in
+      let here = own-openings k c (spend ∷ []) spend c_is (inl refl) in
+      let ch_tip : is.challenge.block ≡ e = h.1 ∙ at_tip in
+      tip-kept tests rules signs events w c e more at (openings_of_call c (Respond account k f challenged spend)) none
+      spend here (has spend here) is.challenge.block is.challenge.owner
+      (subst (λ z. IsSpend tests rules log z spend is.challenge.block is.challenge.owner) c_is spent) ch_tip
+      (keeper-owns tests rules signs events w c e more at is.challenge.owner is.challenge.block known.shown ch_tip)
+
+  opened-Before : (account k f : ℕ) (shown : Shown) → Challenges tests rules (log_of events) account k f shown
+      → AllOpenAt c e (exits (log_of events)) → AllOpenAt c e (exits (Before account k f shown ∷ log_of events))
+  unfolding exits
+  opened-Before account k f shown is all =
+      let log : List RootCall = log_of events in
+      let new : Challenge = new_challenge log account k f shown in
+      let by = responds_answer rules log (legal-table tests rules log (legal-log tests rules events legal)) in
+      all-changed (IsOpenAt c e) log k f (with_challenge new)
+      (λ x found was.
+      let same : is.exit ≡ x = some_same is.exit x (sym is.stands ∙ found) in
+      let none : is_some (challenge_at (block_of shown) x.challenges) ≡ false =
+      ap (λ (y : Exit). is_some (challenge_at (block_of shown) y.challenges)) (sym same) ∙ ap is_some is.none_there in
+      let unanswered : new.answered ≡ false = new_challenges_are_open log k f (block_of shown) by
+      (ap is_some found) (ap (is_challenged_at (block_of shown)) found ∙ none) in
+      pushed-open c e x new none unanswered was)
+      all
+
+  opened-Respond : (account k f challenged : ℕ) (spend : RawOpening)
+      → ((o : RawOpening) → Has (openings_of_call c (Respond account k f challenged spend)) o → Has more o)
+      → forges_one rules.tag (wallet_owner events w) (bound_by events w) c
+      (openings_of_call c (Respond account k f challenged spend)) ≡ false
+      → Responds tests rules (log_of events) k f challenged spend → AllOpenAt c e (exits (log_of events))
+      → AllOpenAt c e (exits (Respond account k f challenged spend ∷ log_of events))
+  unfolding exits
+  opened-Respond account k f challenged spend has none is all =
+      let log : List RootCall = log_of events in
+      all-changed (IsOpenAt c e) log k f (with_answer challenged)
+      (λ x found was c_is.
+      let place = found-has log k f x found in
+      all-answered (λ ch. ch.block ≡ e → ch.answered ≡ false) challenged x.challenges
+      (λ ch names was_open at_tip. absurd (no-answer account k f challenged spend has none is (sym place.1 ∙ c_is)
+      (sym names ∙ at_tip)))
+      (was c_is))
+      all
+
+  -- every accepted call
+  opened-call : (call : RootCall) → ((o : RawOpening) → Has (openings_of_call c call) o → Has more o)
+      → forges_one rules.tag (wallet_owner events w) (bound_by events w) c (openings_of_call c call) ≡ false
+      → is_accepted (answer_to tests rules (log_of events) call) ≡ true → AllOpenAt c e (exits (log_of events))
+      → AllOpenAt c e (exits (call ∷ log_of events))
+  opened-call (Before account k f shown) has none is all =
+      opened-Before account k f shown
+      (accepted_calls_show tests rules (log_of events) (Before account k f shown) is) all
+  opened-call (Respond account k f challenged spend) has none is all =
+      opened-Respond account k f challenged spend has none
+      (accepted_calls_show tests rules (log_of events) (Respond account k f challenged spend) is) all
+  opened-call (RootCall.StartDeposit account k block) has none is all =
+      each-exit (IsOpenAt c e) (log_of events) (RootCall.StartDeposit account k block) (λ c_is. tt) tt all
+  opened-call (RootCall.StartSpend account k parent exit) has none is all =
+      each-exit (IsOpenAt c e) (log_of events) (RootCall.StartSpend account k parent exit) (λ c_is. tt) tt all
+  opened-call call has none is all = each-exit (IsOpenAt c e) (log_of events) call tt tt all
+
+module _ (dig : List ℕ → List ℕ) (digest : IsDigest dig) (rules : Rules) (w c e : ℕ) where
+  opened-event : (event : Event) (events : List Event) → IsLegal (tests_by dig) rules (event ∷ events)
+      → has_clash dig (strings_of dig c (seen (event ∷ events) c)) ≡ false
+      → is_forged rules.tag (event ∷ events) w c ≡ false → Keeping events w c e
+      → AllOpenAt c e (exits (log_of events)) → AllOpenAt c e (exits (log_of (event ∷ events)))
+  unfolding log_of IsLegal openings_of
+  opened-event (Joins call) events legal none unforged h all =
+      opened-call (tests_by dig) rules (λ tx owner is. is) events w c e legal.1 (seen (Joins call ∷ events) c)
+      (at_tip dig digest rules w c e (Joins call) events legal.1 none h) call (seen-call call events c)
+      (forged-parts rules.tag (Joins call) events w c unforged).0 legal.0.accepted all
+  opened-event event events legal none unforged h all = all
+
+  -- while it is kept, each challenge at the tip is open
+  pub opened : (events : List Event) → IsLegal (tests_by dig) rules events
+      → has_clash dig (strings_of dig c (seen events c)) ≡ false → is_forged rules.tag events w c ≡ false
+      → Keeping events w c e → AllOpenAt c e (exits (log_of events))
+  unfolding exits log_of
+  opened [] legal none unforged h = tt
+  opened (event ∷ events) legal none unforged h =
+      later (kept_before (tests_by dig) rules event events w c e legal h)
+      (λ g. opened events (legal-before (tests_by dig) rules event events legal) (none-before dig event events c none)
+      (forged-parts rules.tag event events w c unforged).1 g)
+    where
+      later : KeptBefore event events w c e
+          → (Keeping events w c e → AllOpenAt c e (exits (log_of events)))
+          → AllOpenAt c e (exits (log_of (event ∷ events)))
+      later (inr new) before =
+          all-from (IsOpenAt c e) (exits (log_of (event ∷ events))) (λ x there c_is. absurd (new x there c_is))
+      later (inl g) before = opened-event event events legal none unforged g (before g)
+
+pub tips_are_not_answered : LegalTipsAreNotAnswered
+unfolding collides IsLegal openings_of
+tips_are_not_answered dig rules events w c e account block spend digest legal keeper =
+    let call : RootCall = Respond account c block e spend in
+    no-answer (tests_by dig) rules (λ tx owner is. is) events w c e legal.1 (seen (Joins call ∷ events) c)
+    (at_tip dig digest rules w c e (Joins call) events legal.1 keeper.whole (keeping events w c e keeper.kept))
+    account c block e spend (seen-call call events c)
+    (forged-parts rules.tag (Joins call) events w c keeper.honest).0
+    (accepted_calls_show (tests_by dig) rules (log_of events) call legal.0.accepted) refl refl
+
+pub tips_stay_open : LegalTipsStayOpen
+unfolding collides
+tips_stay_open dig rules events w c e digest legal kept none unforged exit challenge there c_is has at_tip =
+    all-has (λ (ch : Challenge). ch.block ≡ e → ch.answered ≡ false) exit.challenges challenge
+    (all-has (IsOpenAt c e) (exits (log_of events)) exit
+    (opened dig digest rules w c e events legal none unforged (keeping events w c e kept))
+    (contains-has (exits (log_of events)) exit there) c_is)
+    (contains-has exit.challenges challenge has) at_tip
+
+-- the events up to a line of a run are legal
+pub legal-to : (dig : List ℕ → List ℕ) (lines : List Line) (run : Run) (world : World) (later events : List Event)
+    → IsRun dig lines run world → events_of run.entries ≡ later ++ events
+    → IsLegal (tests_by dig) (rules_of world.chain) events
+legal-to dig lines run world later events is split =
+    suffix-legal (tests_by dig) (rules_of world.chain) later events
+    (subst (IsLegal (tests_by dig) (rules_of world.chain)) split (runs-legal dig lines run world is))
+
+pub run_tips_stay_open : TipsStayOpen
+run_tips_stay_open dig lines run world later events w c e is split =
+    tips_stay_open dig (rules_of world.chain) events w c e is.digest
+    (legal-to dig lines run world later events is split)
