@@ -9,7 +9,7 @@ use Rattle.plasma_tx.specs.declared.answer.Answer.{Answer}
 use Rattle.plasma_tx.specs.Shown.{tests_by, rules_of}
 use Rattle.plasma_tx.specs.Table.{answer_to, is_accepted}
 use Rattle.node_rules.specs.WalletRecords.{owner_of}
-use Rattle.watch_duty.proofs.Members.{has-contains}
+use Rattle.watch_duty.proofs.Members.{contains-has, has-contains}
 use Rattle.world_rules.specs.Events.{Event, Joins, Bounces, log_of, wallet_owner, offers_of}
 use Rattle.world_rules.specs.World.{Role, Wallet, Watcher, Operator, Node, World, is_wallet_role, owner_of_node}
 use Rattle.world_rules.specs.Declarations.{declared_wallet, is_declared_account, is_caller, may_be_wallet}
@@ -18,13 +18,15 @@ use Rattle.world_rules.proofs.RunLaws.{logs_are_of_events}
 use Rattle.world_rules.proofs.OfferLaws.{offers_are_of_events}
 use Rattle.schedule_text.specs.declared.line.Line.{Line}
 use Rattle.world_laws.specs.Headline.{IsRun}
-use Rattle.world_laws.specs.Legal.{starts_by, deposits_by, LegalDeclaration, IsLegalEvent}
+use Rattle.world_laws.specs.Legal.{starts_by, deposits_by, left_by, LegalDeclaration, IsLegalEvent, IsLegal}
 use Rattle.world_laws.proofs.Lists.{some_same, none_some}
 use Rattle.world_laws.proofs.Origins.{IsFrom, Plain, Deposits, Raw, Offered}
 use Rattle.world_laws.proofs.Holders.{holders, IsHeld, held-wallet, IsKnown, unknown-none}
 use Rattle.world_laws.proofs.Identities.{IsOfRole, wallet-node, next-unknown}
 use Rattle.world_laws.proofs.Keeps.{Keeps, raw-moves, holder-is, held-by, account-new, not-held}
 use Rattle.world_laws.proofs.Acts.{runs-keep}
+use Rattle.world_laws.proofs.Offers.{start-any}
+use Rattle.world_laws.proofs.OwnExits.{offered_left}
 
 -- what is known of the world behind a run's events
 pub record IsBehind (events : List Event) (world : World) : Type 0 where
@@ -105,9 +107,10 @@ module _ (events : List Event) (world : World) (behind : IsBehind events world) 
 
   -- the event of a call that is entered is legal
   pub legal-entered : (dig : List ℕ → List ℕ) (callers : List ℕ) (call : RootCall) → IsFrom world callers call
+      → IsLegal (tests_by dig) (rules_of world.chain) events
       → IsLegalEvent (tests_by dig) (rules_of world.chain) events
       (called dig (record world { raw_callers = callers }) call).event
-  legal-entered dig callers call from = by (is_accepted answer) refl
+  legal-entered dig callers call from legal = by (is_accepted answer) refl
     where
       answer : Answer
       answer = answer_to (tests_by dig) (rules_of world.chain) world.chain.log call
@@ -121,7 +124,13 @@ module _ (events : List Event) (world : World) (behind : IsBehind events world) 
       by true is =
           subst (λ b. IsLegalEvent (tests_by dig) (rules_of world.chain) events
           (if b then Joins call else Bounces call)) (sym is)
-          (record { accepted = sym by_log ∙ is; offered = from-offered callers call from })
+          (record {
+            accepted = sym by_log ∙ is;
+            offered = λ w me me_is start. has-contains (left_by events w) call
+                (offered_left (tests_by dig) (rules_of world.chain) events w call legal
+                (contains-has (offers_of events w) call (from-offered callers call from w me me_is start))
+                (start-any me.account call start));
+          })
       by false is =
           subst (λ b. IsLegalEvent (tests_by dig) (rules_of world.chain) events
           (if b then Joins call else Bounces call)) (sym is) (sym by_log ∙ is)

@@ -126,38 +126,40 @@ module _ (dig : List ℕ → List ℕ) (events : List Event) (world : World) (be
 
   -- ---- each line
 
-  legal-does : (effect : LineEffect) → Does dig world effect → P effect.event
-  legal-does effect (Rests reply made is) = subst (λ (e : LineEffect). P e.event) (sym is) (λ left. tt)
-  legal-does effect (Enters callers call from is) =
+  legal-does : (effect : LineEffect) → IsLegal (tests_by dig) (rules_of world.chain) events → Does dig world effect
+      → P effect.event
+  legal-does effect legal (Rests reply made is) = subst (λ (e : LineEffect). P e.event) (sym is) (λ left. tt)
+  legal-does effect legal (Enters callers call from is) =
       subst (λ (e : LineEffect). P e.event) (sym is)
-      (λ left. legal-entered events world behind dig callers call from)
-  legal-does effect (AddsWallet name account seed types line may is) =
+      (λ left. legal-entered events world behind dig callers call from legal)
+  legal-does effect legal (AddsWallet name account seed types line may is) =
       subst (λ (e : LineEffect). P e.event) (sym is)
       (λ left. legal-declared events world behind name account seed types may)
-  legal-does effect (AddsWatcher name account line may is) =
+  legal-does effect legal (AddsWatcher name account line may is) =
       subst (λ (e : LineEffect). P e.event) (sym is) (λ left. tt)
-  legal-does effect (AddsRogue name who is) = subst (λ (e : LineEffect). P e.event) (sym is) (λ left. tt)
-  legal-does effect (Crashes n node node_is is) = subst (λ (e : LineEffect). P e.event) (sym is) (λ left. tt)
-  legal-does effect (Commands command n node deed fit done is) =
+  legal-does effect legal (AddsRogue name who is) = subst (λ (e : LineEffect). P e.event) (sym is) (λ left. tt)
+  legal-does effect legal (Crashes n node node_is is) = subst (λ (e : LineEffect). P e.event) (sym is) (λ left. tt)
+  legal-does effect legal (Commands command n node deed fit done is) =
       subst (λ (e : LineEffect). P e.event) (sym is) (legal-deed command n node deed done)
-  legal-does effect (Cuts command calls outcome n node deed fit done is) =
+  legal-does effect legal (Cuts command calls outcome n node deed fit done is) =
       subst (λ (e : LineEffect). P e.event) (sym is)
       (legal-cut n node deed (cut world n node calls outcome command deed) (legal-deed command n node deed done)
       (is_cut world n node calls outcome command deed))
 
 -- ---- every run
 
--- each event of a run is legal after those before it, where what is left of it is shown
+-- each event of a run is legal after those before it, which are, where what is left of it is shown
 pub legal-event : (dig : List ℕ → List ℕ) (lines : List Line) (run : Run) (world : World) (line : Line)
-    (effect : LineEffect) → IsRun dig lines run world → IsLine line → step dig (Some world) line ≡ Some effect
+    (effect : LineEffect) → IsRun dig lines run world → IsLine line
+    → IsLegal (tests_by dig) (rules_of world.chain) (events_of run.entries) → step dig (Some world) line ≡ Some effect
     → IsLegalWhere (tests_by dig) (rules_of world.chain) (events_of run.entries) effect.event
-legal-event dig lines run world line effect run_is in_grammar is =
+legal-event dig lines run world line effect run_is in_grammar legal is =
     let made = stepped dig world line effect is in
     subst (λ (e : LineEffect). IsLegalWhere (tests_by dig) (rules_of world.chain) (events_of run.entries) e.event)
     (sym made.effect_is)
     (legal-does dig (events_of run.entries) world (is-behind dig lines run world run_is)
     (kept-world dig lines run world run_is) (runs-shown dig lines run world run_is)
-    (runs-accept-shown dig lines run world run_is) made.bare
+    (runs-accept-shown dig lines run world run_is) made.bare legal
     (does dig world line made.bare in_grammar made.keeps made.bare_is))
 
 -- what is left of the events of every run
@@ -188,7 +190,7 @@ unfolding events_of IsLegal
 next-legal dig left lines run world line effect run_is in_grammar legal is =
     subst (λ (rules : Rules). IsLegal (tests_by dig) rules (effect.event ∷ events_of run.entries))
     (sym (rules-stay dig world line effect is)) (
-      legal-event dig lines run world line effect run_is in_grammar is
+      legal-event dig lines run world line effect run_is in_grammar legal is
           (left lines run world line effect run_is in_grammar is),
       legal,
     )

@@ -18,16 +18,16 @@ use Rattle.plasma_tx.proofs.Accepted.{accepted_calls_show}
 use Rattle.plasma_tx.proofs.Ends.{paid_exactly}
 use Rattle.watch_duty.proofs.Members.{Has, all-has, contains-has}
 use Rattle.world_rules.specs.Laws.{IsDigest}
-use Rattle.world_rules.specs.Events.{Event, Declares, Joins, Accepts, log_of, wallet_owner, accepted, bound_by, taken_back, signed_away_by, is_sent_from, is_bundle, offers_of}
+use Rattle.world_rules.specs.Events.{Event, Declares, Joins, Accepts, log_of, wallet_owner, accepted, bound_by, taken_back, signed_away_by, is_sent_from, is_bundle}
 use Rattle.world_rules.specs.Exhibits.{seen, strings_of, has_clash, is_forged}
 use Rattle.world_rules.specs.Safety.{was_deposited, holds, is_mine, is_own, finish_harms, call_harms, harms}
 use Rattle.world_rules.specs.Verdicts.{is_others, is_finish_paid, pays_own, pays_other, ends_own, takes_from, before_taking, exit_was_paid}
-use Rattle.world_laws.specs.Legal.{starts_by, is_tip, LegalCall, IsLegal}
+use Rattle.world_laws.specs.Legal.{starts_by, left_by, is_tip, LegalCall, IsLegal}
 use Rattle.world_laws.specs.Looked.{is_looked_after}
 use Rattle.world_laws.proofs.Lists.{some_same, none_some, found-has}
 use Rattle.world_laws.proofs.Bound.{owner-stays, holding}
 use Rattle.world_laws.proofs.Guards.{holds-from}
-use Rattle.world_laws.proofs.Offers.{offered_start, start-any, coin-stays}
+use Rattle.world_laws.proofs.Offers.{left_start, coin-stays}
 use Rattle.world_laws.specs.Invariant.{IfOf, AllWatched}
 use Rattle.world_laws.proofs.Before.{none-before, forged-parts, legal-before}
 use Rattle.world_laws.proofs.Safe.{looked-parts, watched, safe-event}
@@ -208,9 +208,8 @@ module _ (dig : List ℕ → List ℕ) (digest : IsDigest dig) (rules : Rules) (
       → (was_deposited me e (coin_at (log_of events) c) ≡ true)
       ⊎ (list_any (is_bundle c e) (accepted events w) ≡ true)
   start-source events call legal me_is allowed s =
-      let k = offered_start (tests_by dig) rules events w call legal
-      (contains-has (offers_of events w) call (allowed.offered w me me_is s.start))
-      (start-any me.account call s.start) in
+      let k = left_start (tests_by dig) rules events w call legal
+      (contains-has (left_by events w) call (allowed.offered w me me_is s.start)) in
       let mine : k.me ≡ me = some_same k.me me (sym k.me_is ∙ me_is) in
       let tip : is_tip events w me c e ≡ true =
       (λ i. is_tip events w (sym mine i) (sym s.coin_is i) (sym s.block_is i)) ∙ k.tip in

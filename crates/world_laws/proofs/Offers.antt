@@ -1,9 +1,9 @@
--- A start that a wallet offers is the start of an exit at its tip.
-use Rattle.std.proofs.Common.{◌≡◌, ◌⊎◌, ℕ, ◌-◌, ◌≤◌, ◌||◌, true, false, if◌then◌else◌, List, [], ◌∷◌, length, Option, Some, None, inl, inr, refl, sym, ap, ◌∙◌, subst}
+-- A start that a wallet's leave offers is the start of an exit at a tip that it has.
+use Rattle.std.proofs.Common.{◌≡◌, ◌⊎◌, ℕ, ◌-◌, ◌==◌, ◌||◌, Bool, true, false, if◌then◌else◌, List, [], ◌∷◌, length, Option, Some, None, inl, inr, refl, sym, ap, ◌∙◌, subst}
 use Rattle.std.specs.Prelude.{slice_get}
 use Rattle.std.specs.Option.{option_map_or}
 use Rattle.std.specs.List.{AllByRecursion, list_any}
-use Rattle.std.proofs.lemmas.Bool.{eqb-true, or_left, or_right, true≢false, false≢true}
+use Rattle.std.proofs.lemmas.Bool.{eqb-true, or_cases, or_left, or_right, false≢true}
 use Rattle.plasma_tx.specs.declared.owner.Owner.{Owner}
 use Rattle.plasma_tx.specs.declared.links.Link.{Link}
 use Rattle.plasma_tx.specs.declared.links.Links.{Links}
@@ -22,18 +22,17 @@ use Rattle.node_rules.specs.Kept.{kept_links}
 use Rattle.node_rules.specs.Wallet.{start_by, start_of}
 use Rattle.node_rules.specs.Watcher.{due_for_kept}
 use Rattle.watch_duty.specs.Duty.{due_for, due_of}
-use Rattle.watch_duty.proofs.Members.{Has, all-has, contains-has, has-contains, has-flat_map}
+use Rattle.watch_duty.proofs.Members.{Has, all-has, contains-has, has-flat_map}
 use Rattle.watch_duty.proofs.Dues.{IsDue as IsDueFor, DueAfter, DueBetween, DueBefore, DueRespond, due_for-due}
-use Rattle.world_rules.specs.Events.{Event, Joins, Watches, Leaves, Seals, log_of, coin_of_call, wallet_owner, accepted, is_bundle, is_command_of, offered, offers_of}
+use Rattle.world_rules.specs.Events.{Event, Joins, Accepts, Leaves, log_of, coin_of_call, wallet_owner, accepted, is_bundle}
 use Rattle.node_replies.specs.Orders.{exit_block}
 use Rattle.world_rules.specs.Safety.{was_deposited}
 use Rattle.world_laws.specs.Headline.{is_start}
-use Rattle.world_laws.specs.Legal.{starts_by, is_tip, ShowsTip, Taken, Bare, LegalLeave, IsLegal}
+use Rattle.world_laws.specs.Legal.{starts_by, left_by, is_tip, ShowsTip, Taken, Bare, LegalLeave, IsLegal}
 use Rattle.world_laws.proofs.Lists.{some_same, got-has}
 use Rattle.world_laws.proofs.Histories.{links-at}
 use Rattle.world_laws.proofs.Bound.{owner-stays, Holding, holding, is_noted}
 use Rattle.world_laws.proofs.Held.{held_at, deposited-coin}
-use Rattle.world_laws.proofs.Nodes.{same-node, tip-same}
 use Rattle.world_laws.proofs.Guards.{kept-some}
 
 -- ---- what is due starts no exit
@@ -120,16 +119,15 @@ module _ (tests : Tests) (rules : Rules) (events : List Event) (w : ℕ) (legal 
             (links-at rules b.coin b.openings),
       )
 
--- ---- a start on offer
+-- ---- a start that was offered once
 
--- the start is of the greatest block at which the wallet came to have the coin
-pub record IsOfferedStart (events : List Event) (w : ℕ) (call : RootCall) : Type 0 where
+-- the start is of a block at which the wallet came to have the coin
+pub record IsLeftStart (events : List Event) (w : ℕ) (call : RootCall) : Type 0 where
   pub me : Owner
   pub me_is : wallet_owner events w ≡ Some me
   pub made : CoinView
   pub made_is : coin_at (log_of events) (coin_of_call call) ≡ Some made
   pub tip : is_tip events w me (coin_of_call call) (exit_block call) ≡ true
-  pub top : (n : ℕ) → is_tip events w me (coin_of_call call) n ≡ true → n ≤ exit_block call
 
 tip-held : (events : List Event) (w c e : ℕ) (h : Holding events w c e) → is_tip events w h.me c e ≡ true
 tip-held events w c e h = either h.source
@@ -139,16 +137,28 @@ tip-held events w c e h = either h.source
     either (inl l) = or_left _ _ l
     either (inr r) = or_right _ _ r
 
--- it stays so while the wallet does nothing else
-tip-stays : (event : Event) (events : List Event) (w : ℕ) (me : Owner) (c n : ℕ) (made : CoinView)
-    → coin_at (log_of events) c ≡ Some made → is_command_of w event ≡ false
-    → is_tip (event ∷ events) w me c n ≡ is_tip events w me c n
+-- a tip stays one, whatever comes
+tip-grows : (event : Event) (events : List Event) (w : ℕ) (me : Owner) (c n : ℕ) (made : CoinView)
+    → coin_at (log_of events) c ≡ Some made → is_tip events w me c n ≡ true → is_tip (event ∷ events) w me c n ≡ true
 unfolding log_of accepted
-tip-stays (Joins call) events w me c n made found other =
+tip-grows (Joins call) events w me c n made found is =
     ap (λ o. was_deposited me n o || list_any (is_bundle c n) (accepted events w))
     (coin_at-grown (log_of events) call c made found ∙ sym found)
-tip-stays event events w me c n made found other =
-    tip-same event events w me c n (same-node event events w other refl)
+    ∙ is
+tip-grows (Accepts v bundle) events w me c n made found is = by (v == w)
+  where
+    by : (b : Bool) → (was_deposited me n (coin_at (log_of events) c)
+        || list_any (is_bundle c n) (if b then bundle ∷ accepted events w else accepted events w)) ≡ true
+    by false = is
+    by true =
+        elim (or_cases (was_deposited me n (coin_at (log_of events) c)) (list_any (is_bundle c n) (accepted events w))
+        is) [
+          | inl deposited ↦ or_left (was_deposited me n (coin_at (log_of events) c)) _ deposited
+          | inr taken ↦
+              or_right (was_deposited me n (coin_at (log_of events) c)) _
+              (or_right (is_bundle c n bundle) (list_any (is_bundle c n) (accepted events w)) taken)
+        ]
+tip-grows event events w me c n made found is = is
 
 pub coin-stays : (event : Event) (events : List Event) (c : ℕ) (made : CoinView)
     → coin_at (log_of events) c ≡ Some made → coin_at (log_of (event ∷ events)) c ≡ Some made
@@ -157,22 +167,6 @@ coin-stays (Joins call) events c made is = coin_at-grown (log_of events) call c 
 coin-stays event events c made is = is
 
 module _ (tests : Tests) (rules : Rules) where
-  start-stays : (event : Event) (events : List Event) (w : ℕ) (call : RootCall)
-      → IsLegal tests rules (event ∷ events) → is_command_of w event ≡ false → IsOfferedStart events w call
-      → IsOfferedStart (event ∷ events) w call
-  start-stays event events w call legal other k =
-      let same : (n : ℕ) → is_tip (event ∷ events) w k.me (coin_of_call call) n
-      ≡ is_tip events w k.me (coin_of_call call) n =
-      λ n. tip-stays event events w k.me (coin_of_call call) n k.made k.made_is other in
-      record {
-        me = k.me;
-        me_is = owner-stays tests rules event events w k.me legal k.me_is;
-        made = k.made;
-        made_is = coin-stays event events (coin_of_call call) k.made k.made_is;
-        tip = same (exit_block call) ∙ k.tip;
-        top = λ n is. k.top n (sym (same n) ∙ is);
-      }
-
   -- a leave names the coin and the tip at which the wallet holds it
   pub left-names : (events : List Event) (w : ℕ) (call : RootCall) → IsLegal tests rules events
       → (l : LegalLeave rules events w call) → StartsAt call l.bundle.coin l.bundle.tip
@@ -186,7 +180,7 @@ module _ (tests : Tests) (rules : Rules) where
 
   -- what a leave offers
   left-start : (events : List Event) (w : ℕ) (call : RootCall) → IsLegal tests rules events
-      → LegalLeave rules events w call → IsOfferedStart events w call
+      → LegalLeave rules events w call → IsLeftStart events w call
   left-start events w call legal l =
       let h = holding events w l.bundle.coin l.bundle.tip l.at_top.held in
       let mine : h.me ≡ l.me = some_same h.me l.me (sym h.me_is ∙ l.me_is) in
@@ -201,46 +195,33 @@ module _ (tests : Tests) (rules : Rules) where
         made_is = ap (coin_at (log_of events)) coin ∙ held.made_is;
         tip = (λ i. is_tip events w (sym mine i) (coin i) (block i))
             ∙ tip-held events w l.bundle.coin l.bundle.tip h;
-        top = λ n is. subst (λ b. n ≤ b) (sym block)
-            (l.at_top.top n (ap (λ k. is_tip events w l.me k n) (sym coin) ∙ is));
       }
 
-  -- what a command offers
-  command-start : (event : Event) (events : List Event) (w : ℕ) (call : RootCall)
-      → IsLegal tests rules (event ∷ events) → is_command_of w event ≡ true → Has (offered event) call
-      → is_start call ≡ true → IsOfferedStart (event ∷ events) w call
-  unfolding IsLegal log_of wallet_owner accepted
-  command-start (Watches m calls) events w call legal own h start =
-      let due = legal.0.only call (has-contains calls call h) in
-      absurd (true≢false (sym start ∙ kept-no_start rules.tag (log_of events) legal.0.account due.bundle call
-      (contains-has (due_for_kept rules.tag (log_of events) legal.0.account due.bundle) call due.due)))
-  command-start (Leaves m made) events w call legal own (inl same) start =
-      let k = left-start events m made legal.1 legal.0 in
-      let here : IsOfferedStart events w call = subst (λ x. IsOfferedStart events w x) same
-      (subst (λ x. IsOfferedStart events x made) (eqb-true m w own) k) in
-      record {
-        me = here.me;
-        me_is = here.me_is;
-        made = here.made;
-        made_is = here.made_is;
-        tip = here.tip;
-        top =
-            here.top;
-      }
-  command-start (Leaves m made) events w call legal own (inr none) start = absurd none
-  command-start (Seals made) events w call legal own (inl same) start =
-      absurd (true≢false (sym start ∙ ap is_start (sym same) ∙ legal.0))
-  command-start (Seals made) events w call legal own (inr none) start = absurd none
-  command-start event events w call legal own h start = absurd h
+  left-on : (event : Event) (events : List Event) (w : ℕ) (call : RootCall) → IsLegal tests rules (event ∷ events)
+      → IsLeftStart events w call → IsLeftStart (event ∷ events) w call
+  left-on event events w call legal k = record {
+    me = k.me;
+    me_is = owner-stays tests rules event events w k.me legal k.me_is;
+    made = k.made;
+    made_is = coin-stays event events (coin_of_call call) k.made k.made_is;
+    tip = tip-grows event events w k.me (coin_of_call call) (exit_block call) k.made k.made_is k.tip;
+  }
 
-  pub offered_start : (events : List Event) (w : ℕ) (call : RootCall) → IsLegal tests rules events
-      → Has (offers_of events w) call → is_start call ≡ true → IsOfferedStart events w call
-  unfolding IsLegal offers_of
-  offered_start [] w call legal h start = absurd h
-  offered_start (event ∷ events) w call legal h start =
-      (elim (is_command_of w event) as (λ b. is_command_of w event ≡ b
-      → Has (if b then offered event else offers_of events w) call → IsOfferedStart (event ∷ events) w call) [
-        | true ↦ λ own there. command-start event events w call legal own there start
-        | false ↦ λ other there. start-stays event events w call legal other
-            (offered_start events w call legal.1 there start)
-      ]) refl h
+  pub left_start : (events : List Event) (w : ℕ) (call : RootCall) → IsLegal tests rules events
+      → Has (left_by events w) call → IsLeftStart events w call
+  unfolding IsLegal left_by
+  left_start [] w call legal h = absurd h
+  left_start (Leaves v made ∷ events) w call legal h =
+      left-on (Leaves v made) events w call legal
+      ((elim (v == w) as (λ b. (v == w) ≡ b → Has (if b then made ∷ left_by events w else left_by events w) call
+      → IsLeftStart events w call) [
+        | true ↦ λ own there. (elim there [
+          | inl same ↦
+              subst (λ x. IsLeftStart events w x) same
+              (subst (λ x. IsLeftStart events x made) (eqb-true v w own) (left-start events v made legal.1 legal.0))
+          | inr earlier ↦ left_start events w call legal.1 earlier
+        ])
+        | false ↦ λ other there. left_start events w call legal.1 there
+      ]) refl h)
+  left_start (event ∷ events) w call legal h =
+      left-on event events w call legal (left_start events w call legal.1 h)

@@ -22,7 +22,7 @@ use Rattle.world_laws.specs.Legal.{starts_by, left_by, is_left, LegalLeave, IsLe
 use Rattle.world_laws.proofs.Lists.{some_same, all-from}
 use Rattle.world_laws.proofs.Absences.{names, any-rest, any-without, any-top}
 use Rattle.world_laws.proofs.Bound.{holding}
-use Rattle.world_laws.proofs.Offers.{kept-no_start, start-any, left-names}
+use Rattle.world_laws.proofs.Offers.{kept-no_start, left-names}
 
 -- ---- the account of each standing exit started one
 
@@ -118,24 +118,41 @@ left-grow (Leaves v call) events w c e is = either (v == w)
     either false = is
 left-grow event events w c e is = is
 
+left-has : (event : Event) (events : List Event) (w : ℕ) (call : RootCall) → Has (left_by events w) call
+    → Has (left_by (event ∷ events) w) call
+unfolding left_by
+left-has (Leaves v made) events w call h = either (v == w)
+  where
+    either : (b : Bool) → Has (if b then made ∷ left_by events w else left_by events w) call
+    either true = inr h
+    either false = h
+left-has event events w call h = h
+
+-- one of the starts is of its coin and block
+pub left-is : (starts : List RootCall) (call : RootCall) → Has starts call
+    → is_left starts (coin_of_call call) (exit_block call) ≡ true
+left-is [] call h = absurd h
+left-is (made ∷ starts) call (inl same) =
+    or_left ((coin_of_call made == coin_of_call call) && (exit_block made == exit_block call))
+    (is_left starts (coin_of_call call) (exit_block call))
+    (and_from (coin_of_call made == coin_of_call call) (exit_block made == exit_block call)
+    (eq-eqb (coin_of_call made) (coin_of_call call) (ap coin_of_call same))
+    (eq-eqb (exit_block made) (exit_block call) (ap exit_block same)))
+left-is (made ∷ starts) call (inr there) =
+    or_right ((coin_of_call made == coin_of_call call) && (exit_block made == exit_block call))
+    (is_left starts (coin_of_call call) (exit_block call)) (left-is starts call there)
+
 module _ (tests : Tests) (rules : Rules) where
   command-left : (event : Event) (events : List Event) (w : ℕ) (call : RootCall)
       → IsLegal tests rules (event ∷ events) → is_command_of w event ≡ true → Has (offered event) call
-      → is_start call ≡ true
-      → is_left (left_by (event ∷ events) w) (coin_of_call call) (exit_block call) ≡ true
+      → is_start call ≡ true → Has (left_by (event ∷ events) w) call
   unfolding IsLegal left_by
   command-left (Watches m calls) events w call legal own h start =
       let due = legal.0.only call (has-contains calls call h) in
       absurd (true≢false (sym start ∙ kept-no_start rules.tag (log_of events) legal.0.account due.bundle call
       (contains-has (due_for_kept rules.tag (log_of events) legal.0.account due.bundle) call due.due)))
   command-left (Leaves m made) events w call legal own (inl same) start =
-      subst (λ (b : Bool). is_left (if b then made ∷ left_by events w else left_by events w) (coin_of_call call)
-      (exit_block call) ≡ true) (sym own)
-      (or_left ((coin_of_call made == coin_of_call call) && (exit_block made == exit_block call))
-      (is_left (left_by events w) (coin_of_call call) (exit_block call))
-      (and_from (coin_of_call made == coin_of_call call) (exit_block made == exit_block call)
-      (eq-eqb (coin_of_call made) (coin_of_call call) (ap coin_of_call same))
-      (eq-eqb (exit_block made) (exit_block call) (ap exit_block same))))
+      subst (λ (b : Bool). Has (if b then made ∷ left_by events w else left_by events w) call) (sym own) (inl same)
   command-left (Leaves m made) events w call legal own (inr none) start = absurd none
   command-left (Seals made) events w call legal own (inl same) start =
       absurd (true≢false (sym start ∙ ap is_start (sym same) ∙ legal.0))
@@ -143,17 +160,14 @@ module _ (tests : Tests) (rules : Rules) where
   command-left event events w call legal own h start = absurd h
 
   pub offered_left : (events : List Event) (w : ℕ) (call : RootCall) → IsLegal tests rules events
-      → Has (offers_of events w) call → is_start call ≡ true
-      → is_left (left_by events w) (coin_of_call call) (exit_block call) ≡ true
+      → Has (offers_of events w) call → is_start call ≡ true → Has (left_by events w) call
   unfolding IsLegal offers_of
   offered_left [] w call legal h start = absurd h
   offered_left (event ∷ events) w call legal h start =
       (elim (is_command_of w event) as (λ b. is_command_of w event ≡ b
-      → Has (if b then offered event else offers_of events w) call
-      → is_left (left_by (event ∷ events) w) (coin_of_call call) (exit_block call) ≡ true) [
+      → Has (if b then offered event else offers_of events w) call → Has (left_by (event ∷ events) w) call) [
         | true ↦ λ own there. command-left event events w call legal own there start
-        | false ↦ λ other there. left-grow event events w (coin_of_call call) (exit_block call)
-            (offered_left events w call legal.1 there start)
+        | false ↦ λ other there. left-has event events w call (offered_left events w call legal.1 there start)
       ]) refl h
 
 -- ---- from the leaving on, no leaf signs the coin away from there
@@ -256,9 +270,8 @@ module _ (tests : Tests) (rules : Rules) (w c e : ℕ) where
       (came-from tests rules (log_of events) me c e call legal.0.accepted) there own) [
         | inl r ↦ own_left events legal.1 me me_is r.0 r.1 r.2
         | inr s ↦ (λ i. is_left (left_by events w) (sym s.coin_is i) (sym s.block_is i))
-            ∙ offered_left tests rules events w call legal.1
-            (contains-has (offers_of events w) call (legal.0.offered w me me_is s.start))
-            (start-any me.account call s.start)
+            ∙ left-is (left_by events w) call
+            (contains-has (left_by events w) call (legal.0.offered w me me_is s.start))
       ])
   own_left (event ∷ events) legal me me_is x there own =
       left-grow event events w c e (own_left events legal.1 me me_is x there own)

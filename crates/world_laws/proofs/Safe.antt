@@ -1,25 +1,26 @@
 -- A held coin that is looked after is safe, at every one of legal events.
 use Rattle.std.proofs.Common.{◌≡◌, ◌⊎◌, ℕ, ◌&&◌, not, true, false, List, [], ◌∷◌, Some, inl, inr, refl, sym, ap, ◌∙◌, subst, arith}
 use Rattle.std.specs.List.{list_any}
-use Rattle.std.proofs.lemmas.Bool.{not-true, cases_Bool, and_parts, and_from, and_right, or_left, or_right, not_from_false}
+use Rattle.std.proofs.lemmas.Bool.{not-true, cases_Bool, and_parts, and_from, and_right, or_cases, or_left, or_right, not_from_false}
 use Rattle.plasma_tx.specs.declared.owner.Owner.{Owner}
 use Rattle.plasma_tx.specs.declared.call.RootCall.{RootCall}
 use Rattle.plasma_tx.specs.declared.call.RootCall.TheVariants.{Tick}
 use Rattle.plasma_tx.specs.Views.{now, coin_at, exits}
 use Rattle.plasma_tx.specs.Shown.{Tests, Rules, tests_by}
 use Rattle.world_rules.specs.Laws.{IsDigest}
-use Rattle.world_rules.specs.Events.{Event, Joins, Bounces, log_of, coin_of_call, wallet_owner, accepted, bound_by, is_bundle, offers_of}
+use Rattle.world_rules.specs.Events.{Event, Joins, Bounces, log_of, coin_of_call, wallet_owner, accepted, bound_by, is_bundle}
 use Rattle.node_replies.specs.Orders.{exit_block}
 use Rattle.world_rules.specs.Exhibits.{openings_of, seen, strings_of, has_clash, collides, forges_one, is_forged}
 use Rattle.world_rules.specs.Safety.{was_deposited, holds, harms, is_harmed, is_safe}
-use Rattle.world_laws.specs.Legal.{starts_by, is_tip, LegalCall, IsLegal}
+use Rattle.world_laws.specs.Legal.{starts_by, left_by, is_left, is_tip, LegalCall, IsLegal}
 use Rattle.world_laws.specs.LegalLaws.{LegalCoinsAreSafe}
 use Rattle.world_laws.proofs.Lists.{some_same, all-from}
 use Rattle.world_laws.proofs.Clash.{one_leaf}
 use Rattle.world_laws.proofs.Shown.{seen-call}
 use Rattle.world_laws.proofs.Bound.{Holding, holding}
 use Rattle.world_laws.proofs.Held.{held_top}
-use Rattle.world_laws.proofs.Offers.{start-any, offered_start}
+use Rattle.world_laws.proofs.Offers.{left_start}
+use Rattle.world_laws.proofs.OwnExits.{left-is, left-stands}
 use Rattle.world_laws.specs.Invariant.{IfOf, AllWatched}
 use Rattle.world_laws.specs.Looked.{goes_unseen, is_looked_after}
 use Rattle.world_laws.proofs.Before.{none-before, forged-parts, HeldBefore, held_before, legal-before, at_event}
@@ -54,13 +55,25 @@ module _ (dig : List ℕ → List ℕ) (digest : IsDigest dig) (rules : Rules) (
       → starts_by h.me.account call ≡ true → coin_of_call call ≡ c → exit_block call ≡ e
   own_start call events legal none unforged h allowed start c_is =
       let one = one_leaf dig digest (log_of events) c (seen events c) none in
-      let k = offered_start (tests_by dig) rules events w call legal
-      (contains-has (offers_of events w) call (allowed.offered w h.me h.me_is start))
-      (start-any h.me.account call start) in
+      let block = exit_block call in
+      let has = contains-has (left_by events w) call (allowed.offered w h.me h.me_is start) in
+      let k = left_start (tests_by dig) rules events w call legal has in
       let mine : k.me ≡ h.me = some_same k.me h.me (sym k.me_is ∙ h.me_is) in
-      let low = held_top (tests_by dig) rules (λ tx owner is. is) events w c e legal one h unforged (exit_block call)
-      ((λ i. is_tip events w (sym mine i) (sym c_is i) (exit_block call)) ∙ k.tip) in
-      let high = k.top e ((λ i. is_tip events w (mine i) (c_is i) e) ∙ held_tip h) in
+      let tip : is_tip events w h.me c block ≡ true =
+      (λ i. is_tip events w (sym mine i) (sym c_is i) block) ∙ k.tip in
+      let left : is_left (left_by events w) c block ≡ true =
+      (λ i. is_left (left_by events w) (sym c_is i) block) ∙ left-is (left_by events w) call has in
+      let there : Holding events w c block = record {
+        me = h.me;
+        me_is = h.me_is;
+        source = or_cases (was_deposited h.me block (coin_at (log_of events) c))
+            (list_any (is_bundle c block) (accepted events w)) tip;
+        not_away = left-stands (tests_by dig) rules events w c block legal left;
+        not_withdrawn = h.not_withdrawn;
+      } in
+      let low = held_top (tests_by dig) rules (λ tx owner is. is) events w c e legal one h unforged block tip in
+      let high = held_top (tests_by dig) rules (λ tx owner is. is) events w c block legal one there unforged e
+      (held_tip h) in
       omega (arith, low, high)
     where
       held_tip : (h : Holding events w c e) → is_tip events w h.me c e ≡ true

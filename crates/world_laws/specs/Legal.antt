@@ -15,7 +15,7 @@ use Rattle.coin_history.specs.History.{IsHistory, IsAbsent}
 use Rattle.node_rules.specs.Kept.{kept_links}
 use Rattle.node_rules.specs.Wallet.{start_of}
 use Rattle.node_rules.specs.Watcher.{due_for_kept}
-use Rattle.world_rules.specs.Events.{Event, Declares, Joins, Bounces, Accepts, Guards, Binds, TakesBack, Watches, Leaves, Seals, log_of, coin_of_call, wallet_owner, accepted, bound_by, leaf_at, signed_away_by, is_sent_from, is_bundle, guarded_by, is_command_of, offers_of}
+use Rattle.world_rules.specs.Events.{Event, Declares, Joins, Bounces, Accepts, Guards, Binds, TakesBack, Watches, Leaves, Seals, log_of, coin_of_call, wallet_owner, accepted, bound_by, leaf_at, signed_away_by, is_sent_from, is_bundle, guarded_by, is_command_of}
 use Rattle.node_replies.specs.Orders.{exit_block}
 use Rattle.world_rules.specs.Safety.{was_deposited, holds}
 use Rattle.world_laws.specs.Headline.{is_start}
@@ -70,11 +70,11 @@ pub record LegalDeclaration (events : List Event) (w : ℕ) (me : Owner) : Type 
   pub no_start : list_any (starts_by me.account) (log_of events) ≡ false
   pub own_account : (v : ℕ) (other : Owner) → wallet_owner events v ≡ Some other → other.account ≢ me.account
 
--- the contract accepts the call, and where it starts an exit by a wallet's account, that wallet's node offers it
+-- the contract accepts the call, and where it starts an exit by a wallet's account, that wallet's node offered it once
 pub record LegalCall (tests : Tests) (rules : Rules) (events : List Event) (call : RootCall) : Type 0 where
   pub accepted : is_accepted (answer_to tests rules (log_of events) call) ≡ true
   pub offered : (w : ℕ) (me : Owner) → wallet_owner events w ≡ Some me → starts_by me.account call ≡ true
-      → Contains (offers_of events w) call
+      → Contains (left_by events w) call
 
 -- the bundle is the history of a coin that now is the wallet's; it isn't withdrawn, and no exit of it stands
 pub record LegalAccept (tests : Tests) (rules : Rules) (events : List Event) (w : ℕ) (bundle : Bundle) : Type 0 where
