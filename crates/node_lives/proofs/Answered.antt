@@ -8,7 +8,7 @@ use Rattle.node_replies.specs.Roles.{Role}
 use Rattle.run_endings.specs.declared.status.Status.{Status}
 use Rattle.node_runs.specs.Sessions.{Outside}
 use Rattle.node_lives.specs.Disks.{Pair, BothTell}
-use Rattle.node_lives.specs.Calls.{Asked, ToBegin, ToRun, ToUseNoDisk, DoesAsked, Starves, Call}
+use Rattle.node_lives.specs.Calls.{Asked, ToBegin, ToRun, ToSign, ToUseNoDisk, DoesAsked, Starves, Call}
 use Rattle.node_lives.specs.Lives.{IsLife}
 use Rattle.node_lives.specs.Standing.{identity_alone, Stand}
 use Rattle.node_lives.specs.Answered.{Ran, ran_as, ran_by, ran_in}
@@ -41,6 +41,7 @@ module _ {D : Type 0} (told : D → Option History) (plan : D → Option FaultPl
   call-goes role first (ToRun other) old new outside status tells stand seeded own (inr starves) =
       none-goes role first new
   call-goes role first (ToBegin disks identity) old new outside status tells stand seeded own did = absurd (cc own)
+  call-goes role first (ToSign message) old new outside status tells stand seeded own did = absurd (cc own)
   call-goes role first ToUseNoDisk old new outside status tells stand seeded own did = absurd (cc own)
 
   -- what a call of a life found and left that was a run of the role

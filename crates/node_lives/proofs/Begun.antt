@@ -42,7 +42,7 @@ alone-wallet dig identity is =
     })
 
 -- an init that is done was answered Ok
-answered-ok : (answer : Result Unit InitRefusal) (status : Status) (before after : Option (List ℕ))
+pub answered-ok : (answer : Result Unit InitRefusal) (status : Status) (before after : Option (List ℕ))
     → EndsAs (init_output answer) status before after ⊥ → status ≡ Done → answer ≡ Ok tt
 answered-ok answer status before after ends made = elim (ends-by (init_output answer) status before after ⊥ ends) [
   | inl same ↦ init-done answer (same ∙ made)
@@ -50,7 +50,7 @@ answered-ok answer status before after ends made = elim (ends-by (init_output an
   | inr (inr starved) ↦ absurd (cc (starved, made))
 ]
 
-ok-holds : {P : Type 0} (answer : Result Unit InitRefusal) → answer ≡ Ok tt → OnOk answer P → P
+pub ok-holds : {P : Type 0} (answer : Result Unit InitRefusal) → answer ≡ Ok tt → OnOk answer P → P
 ok-holds (Ok done) is holds = holds
 ok-holds (Err why) is holds = absurd (cc is)
 

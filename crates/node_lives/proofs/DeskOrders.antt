@@ -187,7 +187,7 @@ module _ (seed : List ℕ) (dig : List ℕ → List ℕ) (digests : (bytes : Lis
               leaves = bound-or none (offer_effect dig desk.notes log bytes).answer refl;
             })
 
-  secret-same : secret_of desk.notes ≡ desk_secret seed
+  pub secret-same : secret_of desk.notes ≡ desk_secret seed
   secret-same =
       ap (λ (s : Option (List ℕ)). desk_secret (unwrap_or s [])) (seed-is (Some seed) desk.notes is.has)
 

@@ -92,7 +92,7 @@ opened_settled drive records settled = settled_now _ records (record {
 }) refl
 
 -- a journal that was just made
-made_settled : (history : History) → content (with_made 6 (journal_steps []) history) ≡ spelled [] ++ 0 ∷ []
+pub made_settled : (history : History) → content (with_made 6 (journal_steps []) history) ≡ spelled [] ++ 0 ∷ []
     → IsSettled (with_made 6 (journal_steps []) history) []
 made_settled history is = settled_now _ [] (record {
   gate = 0;

@@ -1,10 +1,10 @@
--- A call that isn't a run of a node's own role leaves the node's disks as they are: it begins nothing and opens
--- nothing.
+-- A call that isn't one of those that open a node's disks leaves these as they are: it begins nothing and opens nothing.
 use Rattle.std.proofs.Common.{◌≡◌, ℕ, List, Option, Some, Result, Ok, Err, ap, inl, inr}
 use Rattle.std.specs.Prelude.{OnOk}
 use Rattle.crash_disk.specs.Disk.{History, content, FaultPlan}
 use Rattle.node_journal.specs.Role.{role_in}
 use Rattle.gate_journal.specs.declared.refusal.InitRefusal.{InitRefusal}
+use Rattle.gate_journal.specs.declared.refusal.JournalRefusal.{JournalRefusal}
 use Rattle.node_replies.specs.Roles.{Role, Wallet, Watcher, Operator}
 use Rattle.run_endings.specs.declared.status.Status.{Status}
 use Rattle.run_endings.specs.declared.status.Status.TheVariants.{Done, NoMemory}
@@ -13,8 +13,10 @@ use Rattle.node_runs.specs.Endings.{init_output}
 use Rattle.node_runs.specs.Sessions.{Outside}
 use Rattle.node_runs.specs.Runs.{RunsWatcher, RunsWallet}
 use Rattle.node_runs.specs.Operators.{RunsOperator}
+use Rattle.hss_runs.specs.Identity.{signer_kinds}
+use Rattle.hss_runs.specs.Runs.{RefusesSigner, RunsSigner}
 use Rattle.node_lives.specs.Disks.{Pair}
-use Rattle.node_lives.specs.Calls.{Begun, NotesAlone, BothDisks, Asked, ToBegin, ToRun, ToUseNoDisk, BeginsAs, RunsAs, DoesAsked, Starves}
+use Rattle.node_lives.specs.Calls.{Begun, NotesAlone, BothDisks, Asked, ToBegin, ToRun, ToSign, ToUseNoDisk, BeginsAs, RunsAs, DoesAsked, Starves}
 use Rattle.node_lives.specs.Standing.{kinds_of}
 use Rattle.node_lives.proofs.Quiet.{Quietly, quiet-same}
 use Rattle.node_lives.proofs.Taken.{AllRecorded, init-taken, pair-taken}
@@ -45,11 +47,14 @@ module _ {D : Type 0} (told : D → Option History) (plan : D → Option FaultPl
     leaves = ap (λ (p : Pair D). p.leaves) is;
   }
 
-  -- over notes that keep records of no other role
-  module _ (role : Role) (old new : Pair D) (before : History) (is : told old.notes ≡ Some before)
+  -- Over notes that keep records, which are read by the node's own calls alone: by runs of no other role, and by no
+  -- signing that isn't one.
+  module _ (own : Asked → Type 0) (old new : Pair D) (before : History) (is : told old.notes ≡ Some before)
       (all : AllRecorded (told old.notes))
-      (apart : (other : Role) → (other ≡ role → ⊥) → (found : List (List ℕ))
-      → role_in (kinds_of dig other) (content before) ≡ Ok found → ⊥) where
+      (apart : (other : Role) → (own (ToRun other) → ⊥) → (found : List (List ℕ))
+      → role_in (kinds_of dig other) (content before) ≡ Ok found → ⊥)
+      (unsigned : (message : List ℕ) → (own (ToSign message) → ⊥) → (found : List (List ℕ))
+      → role_in signer_kinds (content before) ≡ Ok found → ⊥) where
     begins-quiet : (disks : Begun) (identity : List ℕ) (outside : Outside) (status : Status)
         → BeginsAs told plan faults dig disks identity old new outside status
         → (status ≡ Done → ⊥) × QuietBoth old new
@@ -66,7 +71,7 @@ module _ {D : Type 0} (told : D → Option History) (plan : D → Option FaultPl
           record { notes = taken.1; leaves = same },
         )
 
-    runs-quiet : (other : Role) (outside : Outside) (status : Status) → (other ≡ role → ⊥)
+    runs-quiet : (other : Role) (outside : Outside) (status : Status) → (own (ToRun other) → ⊥)
         → RunsAs told plan faults dig other old new outside status → QuietBoth old new
     unfolding RunsWatcher RunsOperator RunsWallet
     runs-quiet Wallet outside status never (inl (opened, opens, session)) =
@@ -90,8 +95,25 @@ module _ {D : Type 0} (told : D → Option History) (plan : D → Option FaultPl
       leaves = same;
     }
 
-    -- what a call did that isn't a run of the role
-    pub asked-quiet : (asked : Asked) (outside : Outside) (status : Status) → (asked ≡ ToRun role → ⊥)
+    signs-refused : (message : List ℕ) (why : JournalRefusal) → (own (ToSign message) → ⊥)
+        → RefusesSigner told plan faults old.notes old.leaves why new.notes new.leaves → QuietBoth old new
+    signs-refused message why never (inl (refuses, same)) = record {
+      notes = refused-quiet told plan (role_in signer_kinds) old.notes new.notes why refuses.refused;
+      leaves = same;
+    }
+    signs-refused message why never (inr (opened, opens, refuses)) =
+        absurd (unsigned message never opened.records (opens.kept before is))
+
+    signs-quiet : (message : List ℕ) (outside : Outside) (status : Status) → (own (ToSign message) → ⊥)
+        → RunsSigner told plan faults outside.taken outside.after status message old.notes old.leaves new.notes
+        new.leaves
+        → QuietBoth old new
+    signs-quiet message outside status never (inl ran) =
+        absurd (unsigned message never ran.opened.records (ran.opens.opens_notes.kept before is))
+    signs-quiet message outside status never (inr refused) = signs-refused message refused.why never refused.refuses
+
+    -- what a call did that isn't one of its own
+    pub asked-quiet : (asked : Asked) (outside : Outside) (status : Status) → (own asked → ⊥)
         → DoesAsked told plan faults dig asked old new outside status
         → ((disks : Begun) (identity : List ℕ) → asked ≡ ToBegin disks identity → status ≡ Done → ⊥)
         × QuietBoth old new
@@ -100,7 +122,11 @@ module _ {D : Type 0} (told : D → Option History) (plan : D → Option FaultPl
         (λ one named same done. quiet.0 done, quiet.1)
     asked-quiet (ToRun other) outside status never did = (
       λ one named wrong. absurd (cc wrong),
-      runs-quiet other outside status (λ same. never (ap (λ (r : Role). ToRun r) same)) did,
+      runs-quiet other outside status never did,
+    )
+    asked-quiet (ToSign message) outside status never did = (
+      λ one named wrong. absurd (cc wrong),
+      signs-quiet message outside status never did,
     )
     asked-quiet ToUseNoDisk outside status never did = (λ one named wrong. absurd (cc wrong), both-same old new did)
 

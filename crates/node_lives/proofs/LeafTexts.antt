@@ -49,12 +49,12 @@ found-passes test (y ∷ ys) x found = by (found-passes test ys x) (test y) refl
     by again true is same = (let one : y ≡ x = cc same in subst (λ z. test z ≡ true) one is)
     by again false is same = again same
 
-got-behind : {X : Type 0} (xs ys : List X) (k : ℕ) (x : X) → slice_get xs k ≡ Some x → slice_get (xs ++ ys) k ≡ Some x
+pub got-behind : {X : Type 0} (xs ys : List X) (k : ℕ) (x : X) → slice_get xs k ≡ Some x → slice_get (xs ++ ys) k ≡ Some x
 got-behind [] ys k x got = absurd (cc got)
 got-behind (y ∷ xs) ys zero x got = got
 got-behind (y ∷ xs) ys (suc k) x got = got-behind xs ys k x got
 
-got-last : {X : Type 0} (xs : List X) (x : X) → slice_get (xs ++ x ∷ []) (length xs) ≡ Some x
+pub got-last : {X : Type 0} (xs : List X) (x : X) → slice_get (xs ++ x ∷ []) (length xs) ≡ Some x
 got-last [] x = refl
 got-last (y ∷ xs) x = got-last xs x
 
@@ -189,7 +189,7 @@ module _ (dig : List ℕ → List ℕ) (log : List RootCall) (wallet : WalletRec
 
 -- ---- later
 
-messages-on : (earlier later : List (List ℕ)) → Continue earlier later
+pub messages-on : (earlier later : List (List ℕ)) → Continue earlier later
     → Continue (messages_of earlier) (messages_of later)
 messages-on earlier later on = (
   (if is_marked earlier then map (drop 4) on.0 else messages_of on.0),

@@ -19,7 +19,7 @@ use Rattle.streamed_lines.specs.Reading.{next_text}
 use Rattle.node_runs.specs.Sessions.{Outside, Begins as BeginsLines}
 use Rattle.node_runs.specs.Runs.{RunsWallet, node_rules, node_found}
 use Rattle.node_lives.specs.Disks.{Pair, BothTell}
-use Rattle.node_lives.specs.Calls.{Asked, ToBegin, ToRun, ToUseNoDisk, RunsAs, DoesAsked, Starves, Call}
+use Rattle.node_lives.specs.Calls.{Asked, ToBegin, ToRun, ToSign, ToUseNoDisk, RunsAs, DoesAsked, Starves, Call}
 use Rattle.node_lives.specs.Lives.{IsLife}
 use Rattle.node_lives.specs.Standing.{identity_alone, GoOn, Stand}
 use Rattle.node_lives.specs.Answered.{WalletRan, ran_of, lines_answered, wallet_ran, wallet_ran_by, wallet_ran_in, gives_at, GivesOut}
@@ -32,7 +32,7 @@ use Rattle.node_lives.proofs.Begun.{begun-stands}
 use Rattle.node_lives.proofs.Opens.{tells-some}
 use Rattle.node_lives.proofs.Life.{StandsAt, stands-on, newest, lies-stand, lie-behind, call-keeps}
 
-contains-cons : {X : Type 0} (x : X) (xs : List X) (y : X) → Contains (x ∷ xs) y → (x ≡ y) ⊎ Contains xs y
+pub contains-cons : {X : Type 0} (x : X) (xs : List X) (y : X) → Contains (x ∷ xs) y → (x ≡ y) ⊎ Contains xs y
 contains-cons x xs y (zero, within, is) = inl is
 contains-cons x xs y (suc k, within, is) = inr (k, omega (arith, within), is)
 
@@ -106,6 +106,7 @@ module _ {D : Type 0} (told : D → Option History) (plan : D → Option FaultPl
   by-leaves first (ToRun Watcher) old new outside status tells stand did = λ one is. absurd (cc is)
   by-leaves first (ToRun Operator) old new outside status tells stand did = λ one is. absurd (cc is)
   by-leaves first (ToBegin other identity) old new outside status tells stand did = λ one is. absurd (cc is)
+  by-leaves first (ToSign message) old new outside status tells stand did = λ one is. absurd (cc is)
   by-leaves first ToUseNoDisk old new outside status tells stand did = λ one is. absurd (cc is)
 
   call-leaves : (first : WalletRecords) (call : Call told plan faults dig) → BothTell told call.old

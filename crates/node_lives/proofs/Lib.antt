@@ -1,29 +1,29 @@
-mod Quiet
-mod Taken
+pub mod Quiet
+pub mod Taken
 mod Lines
-mod Within
-mod Stays
-mod Sessions
-mod Roles
-mod Statuses
-mod Foreign
-mod Seeds
-mod Own
+pub mod Within
+pub mod Stays
+pub mod Sessions
+pub mod Roles
+pub mod Statuses
+pub mod Foreign
+pub mod Seeds
+pub mod Own
 mod OwnEach
-mod Opens
+pub mod Opens
 mod RoleKept
 mod WalletOrders
 mod OwnWallet
-mod DeskOrders
-mod OwnRuns
-mod Begun
-mod Life
+pub mod DeskOrders
+pub mod OwnRuns
+pub mod Begun
+pub mod Life
 mod Answered
-mod LeafTexts
+pub mod LeafTexts
 mod GivenOut
-mod Leaves
-mod Drives
+pub mod Leaves
+pub mod Drives
 mod SampleLines
 mod Samples
 pub mod Identities
-mod Written
+pub mod Written

@@ -15,7 +15,7 @@ use Rattle.run_endings.specs.declared.status.Status.TheVariants.{Done, NotJourna
 use Rattle.operator_rules.specs.Records.{who_is}
 use Rattle.node_runs.specs.Sessions.{Outside}
 use Rattle.node_lives.specs.Disks.{Pair}
-use Rattle.node_lives.specs.Calls.{Begun, Asked, ToBegin, ToRun, ToUseNoDisk, DoesAsked, Starves, Call}
+use Rattle.node_lives.specs.Calls.{Begun, Asked, ToBegin, ToRun, ToSign, ToUseNoDisk, DoesAsked, Starves, Call}
 use Rattle.node_lives.specs.Disks.{Lies, Stays, Crashed, BothLie, BothTell}
 use Rattle.node_lives.specs.Lives.{LieBehind, IsLife}
 use Rattle.node_lives.specs.Standing.{identity_alone, kinds_of, LeavesStay, Stand}
@@ -23,7 +23,7 @@ use Rattle.node_lives.specs.Laws.{FindsTheNode, BegunNodesStay}
 use Rattle.node_lives.proofs.Quiet.{LeavesNoMore}
 use Rattle.node_lives.proofs.Taken.{AllRecorded}
 use Rattle.node_lives.proofs.Stays.{quiet-stays}
-use Rattle.node_lives.proofs.Roles.{role-recorded, none-other}
+use Rattle.node_lives.proofs.Roles.{role-recorded, none-other, none-signer}
 use Rattle.node_lives.proofs.Foreign.{QuietBoth, asked-quiet, starves-quiet}
 use Rattle.node_lives.proofs.Seeds.{Seeded, alone-seeded}
 use Rattle.node_lives.proofs.Opens.{tells-some}
@@ -33,6 +33,7 @@ use Rattle.node_lives.proofs.Begun.{begun-stands}
 -- the call runs a node of the role, or it doesn't
 own-run : (asked : Asked) (role : Role) → (asked ≡ ToRun role) ⊎ (asked ≡ ToRun role → ⊥)
 own-run (ToBegin other identity) role = inr (λ is. cc is)
+own-run (ToSign message) role = inr (λ is. cc is)
 own-run ToUseNoDisk role = inr (λ is. cc is)
 own-run (ToRun Wallet) Wallet = inl refl
 own-run (ToRun Wallet) Watcher = inr (λ is. cc is)
@@ -48,7 +49,7 @@ module _ {D : Type 0} (told : D → Option History) (plan : D → Option FaultPl
     (dig : List ℕ → List ℕ) where
   -- ---- between two calls
 
-  lies-no-more : (left next : D) → Lies told left next → (now : History) → told next ≡ Some now
+  pub lies-no-more : (left next : D) → Lies told left next → (now : History) → told next ≡ Some now
       → (before : History) × (told left ≡ Some before) × LeavesNoMore before now
   lies-no-more left next (Stays same) now is = (now, ap told (sym same) ∙ is, λ image may. may)
   lies-no-more left next (Crashed before image was may there) now is =
@@ -157,9 +158,11 @@ module _ {D : Type 0} (told : D → Option History) (plan : D → Option FaultPl
     foreign-keeps asked old new outside status never tells stand did =
         let h = tells-some (told old.notes) tells.0 in
         let are = notes-are role first old tells stand h.0 h.1 (content h.0) (content_may_be_left h.0) in
-        let quiet = asked-quiet told plan faults dig role old new h.0 h.1 (all-recorded role first old tells stand)
-        (λ other apart found read. none-other dig role other (content h.0) are.records found apart are.keeps are.are
-        read)
+        let quiet = asked-quiet told plan faults dig (λ one. one ≡ ToRun role) old new h.0 h.1
+        (all-recorded role first old tells stand)
+        (λ other apart found read. none-other dig role other (content h.0) are.records found
+        (λ same. apart (ap (λ (r : Role). ToRun r) same)) are.keeps are.are read)
+        (λ message apart found read. none-signer dig role (content h.0) are.records found are.keeps are.are read)
         asked outside status never did in
         record {
           runs = λ own wrong. never own;

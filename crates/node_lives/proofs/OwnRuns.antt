@@ -49,7 +49,7 @@ any records = true
 alone-each : (kinds : Kinds) (records : WalletRecords) → AreAlone kinds records → AreEach (are_of kinds) any records
 alone-each kinds records is = record { notes = is.notes; leaves = refl }
 
-desk-each : (seed : List ℕ) (records : WalletRecords) → IsDesk seed records
+pub desk-each : (seed : List ℕ) (records : WalletRecords) → IsDesk seed records
     → AreEach (are_of operator_kinds) (are_promised seed) records
 desk-each seed records is = record { notes = is.notes; leaves = is.leaves }
 
@@ -88,7 +88,7 @@ module _ {D : Type 0} (told : D → Option History) (plan : D → Option FaultPl
     }
 
   -- a session over disks of which each stays by itself
-  each-run : {L : Type 0} (are others : List (List ℕ) → Bool) (Good : WalletRecords → Type 0)
+  pub each-run : {L : Type 0} (are others : List (List ℕ) → Bool) (Good : WalletRecords → Type 0)
       (each : (records : WalletRecords) → Good records → AreEach are others records) (commands : Commands L)
       (growing : Growing dig Good commands) (opened : Parts (NotesState D)) (disks : Parts D) (outside : Outside)
       (status : Status) (first : WalletRecords) → IsOwn dig Good first (node_found told plan faults dig opened)
@@ -128,16 +128,16 @@ module _ {D : Type 0} (told : D → Option History) (plan : D → Option FaultPl
     abbrev On : Option Ran → Type 0
     On ran = RunOn Operator first new status ran
 
-    notes : OpensRole operator_kinds first old.notes
+    pub notes : OpensRole operator_kinds first old.notes
     notes = role-opening operator_kinds first old.notes tells.0 stand.0
 
     -- records that go on have the seed
-    later-seed : (later : WalletRecords) → GoOn first later → HasSeed seeded.seed later.notes
+    pub later-seed : (later : WalletRecords) → GoOn first later → HasSeed seeded.seed later.notes
     later-seed later on = seed-on seeded.seed first.notes later.notes seeded.has on.notes
 
     -- the leaves stay by the seed, and by what the notes say
     module _ (seed : Option (List ℕ)) (is : seeded.seed ≡ seed) where
-      leaves-stand : (later : WalletRecords) → GoOn first later → LeavesStay dig told seed later.leaves new.leaves
+      pub leaves-stand : (later : WalletRecords) → GoOn first later → LeavesStay dig told seed later.leaves new.leaves
           → LeavesStay dig told (who_is later.notes).key_seed later.leaves new.leaves
       leaves-stand later on stay =
           subst (λ (s : Option (List ℕ)). LeavesStay dig told s later.leaves new.leaves)
@@ -179,7 +179,7 @@ module _ {D : Type 0} (told : D → Option History) (plan : D → Option FaultPl
             opening (are_promised seed) (desk_records_in seed) told plan faults first.leaves old.leaves
             (desk-found seed) tells.1 (leaves-stay (Some seed) is)
 
-        desk-own : (desk : NotesState D) → Opened told plan faults (desk_records_in seed) old.leaves desk
+        pub desk-own : (desk : NotesState D) → Opened told plan faults (desk_records_in seed) old.leaves desk
             → IsOwn dig (IsDesk seed) first (node_found told plan faults dig (both opened desk))
         desk-own desk opens_desk =
             let finds = notes.finds opened opens in

@@ -10,6 +10,7 @@ use Rattle.node_journal.specs.Role.{Kinds, are_of, front_of, read_of_kinds, role
 use Rattle.node_rules.specs.Watcher.{identity_in as watcher_in}
 use Rattle.node_rules.specs.WalletRecords.{identity_in as wallet_in, identity_of as wallet_identity_of, types_in, may_be_second}
 use Rattle.operator_rules.specs.Records.{identity_in as operator_in, identity_of as operator_identity_of}
+use Rattle.hss_runs.specs.Identity.{seed_in, signer_kinds}
 use Rattle.node_replies.specs.Roles.{Role, Wallet, Watcher, Operator}
 use Rattle.node_lives.specs.Standing.{kinds_of}
 use Rattle.node_lives.proofs.Quiet.{HasRecord}
@@ -56,15 +57,27 @@ wallet-mark (mark ∷ bytes) is =
           let e = marked mark 4 (length bytes == 80) front.0 in omega (arith, e))
     ]
 
-operator-mark : (body : List ℕ) → is_some (operator_in body) ≡ true → 33 ≤ mark_of body
+operator-marks : (body : List ℕ) → is_some (operator_in body) ≡ true → (mark_of body ≡ 33) ⊎ (mark_of body ≡ 38)
 unfolding operator_in
-operator-mark [] is = absurd (cc is)
-operator-mark (mark ∷ bytes) is =
+operator-marks [] is = absurd (cc is)
+operator-marks (mark ∷ bytes) is =
     elim (some-either ((mark == 33) && (length bytes == 40)) ((mark == 38) && (length bytes == 72))
     (operator_identity_of bytes None) (operator_identity_of bytes (Some (slice_range bytes 40 72))) is) [
-      | inl first ↦ (let e = marked mark 33 (length bytes == 40) first in omega (arith, e))
-      | inr second ↦ (let e = marked mark 38 (length bytes == 72) second in omega (arith, e))
+      | inl first ↦ inl (marked mark 33 (length bytes == 40) first)
+      | inr second ↦ inr (marked mark 38 (length bytes == 72) second)
     ]
+
+operator-mark : (body : List ℕ) → is_some (operator_in body) ≡ true → 33 ≤ mark_of body
+operator-mark body is = elim (operator-marks body is) [
+  | inl first ↦ omega (arith, first)
+  | inr second ↦ omega (arith, second)
+]
+
+signer-mark : (body : List ℕ) → is_some (seed_in body) ≡ true → mark_of body ≡ 49
+unfolding seed_in
+signer-mark [] is = absurd (cc is)
+signer-mark (mark ∷ seed) is =
+    marked mark 49 (length seed == 32) (some-if ((mark == 49) && (length seed == 32)) seed is)
 
 module _ (dig : List ℕ → List ℕ) where
   identities-apart : (one other : Role) (body : List ℕ) → (other ≡ one → ⊥)
@@ -78,6 +91,15 @@ module _ (dig : List ℕ → List ℕ) where
   identities-apart Operator Wallet body apart is also = omega (arith, operator-mark body is, wallet-mark body also)
   identities-apart Operator Watcher body apart is also = omega (arith, operator-mark body is, watcher-mark body also)
   identities-apart Operator Operator body apart is also = apart refl
+
+  pub signer-apart : (role : Role) (body : List ℕ) → (kinds_of dig role).is_identity body ≡ true
+      → signer_kinds.is_identity body ≡ true → ⊥
+  signer-apart Wallet body is also = omega (arith, wallet-mark body is, signer-mark body also)
+  signer-apart Watcher body is also = omega (arith, watcher-mark body is, signer-mark body also)
+  signer-apart Operator body is also = elim (operator-marks body is) [
+    | inl first ↦ omega (arith, first, signer-mark body also)
+    | inr second ↦ omega (arith, second, signer-mark body also)
+  ]
 
 -- ---- records of a role
 
@@ -137,15 +159,28 @@ module _ (kinds : Kinds) where
 
 -- ---- of one role and of no other
 
+pub kinds-apart : (one other : Kinds)
+    → ((body : List ℕ) → one.is_identity body ≡ true → other.is_identity body ≡ true → ⊥) → (image : List ℕ)
+    (records found : List (List ℕ)) → Keeps records image → are_of one records ≡ true → role_in other image ≡ Ok found
+    → ⊥
+kinds-apart one other apart image records found keeps is read =
+    let theirs = role-read other image found read in
+    let same = keeps-same image records found keeps theirs.0 in
+    let b = begins-with one records is in
+    let c = begins-with other found theirs.1 in
+    let e : b.identity ≡ c.identity = cc (b.are, same, c.are) in
+    apart c.identity (subst (λ (i : List ℕ). one.is_identity i ≡ true) e b.is) c.is
+
 module _ (dig : List ℕ → List ℕ) where
   pub none-other : (one other : Role) (image : List ℕ) (records found : List (List ℕ)) → (other ≡ one → ⊥)
       → Keeps records image → are_of (kinds_of dig one) records ≡ true
       → role_in (kinds_of dig other) image ≡ Ok found → ⊥
-  none-other one other image records found apart keeps is read =
-      let theirs = role-read (kinds_of dig other) image found read in
-      let same = keeps-same image records found keeps theirs.0 in
-      let b = begins-with (kinds_of dig one) records is in
-      let c = begins-with (kinds_of dig other) found theirs.1 in
-      let e : b.identity ≡ c.identity = cc (b.are, same, c.are) in
-      identities-apart dig one other c.identity apart
-      (subst (λ (i : List ℕ). (kinds_of dig one).is_identity i ≡ true) e b.is) c.is
+  none-other one other image records found apart =
+      kinds-apart (kinds_of dig one) (kinds_of dig other) (λ body. identities-apart dig one other body apart) image
+      records found
+
+  -- nor of a two-level signer
+  pub none-signer : (role : Role) (image : List ℕ) (records found : List (List ℕ)) → Keeps records image
+      → are_of (kinds_of dig role) records ≡ true → role_in signer_kinds image ≡ Ok found → ⊥
+  none-signer role image records found = kinds-apart (kinds_of dig role) signer_kinds (signer-apart dig role) image
+      records found

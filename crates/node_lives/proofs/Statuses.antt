@@ -52,7 +52,7 @@ session-other (TooLongEnding n) is = cc
 session-other (Ended n cause) is = cc
 
 -- an opening that isn't refused for a place
-refused-other : (why : JournalRefusal) → ((place : ℕ) → why ≡ PlaceRefusal place → ⊥)
+pub refused-other : (why : JournalRefusal) → ((place : ℕ) → why ≡ PlaceRefusal place → ⊥)
     → (refused_output why).status ≡ NotJournal → ⊥
 refused-other (PlaceRefusal place) never is = never place refl
 refused-other FaultRefusal never is = cc

@@ -18,7 +18,7 @@ use Rattle.node_runs.specs.Sessions.{Outside, RunsSession}
 use Rattle.node_runs.specs.Runs.{RunsWatcher, RunsWallet}
 use Rattle.node_runs.specs.Operators.{RunsBehind, RunsOperator}
 use Rattle.node_lives.specs.Disks.{Pair}
-use Rattle.node_lives.specs.Calls.{Asked, ToBegin, ToRun, ToUseNoDisk, RunsAs, DoesAsked, Starves}
+use Rattle.node_lives.specs.Calls.{Asked, ToBegin, ToRun, ToSign, ToUseNoDisk, RunsAs, DoesAsked, Starves}
 use Rattle.node_lives.specs.Answered.{lines_answered, Ran, behind_ran, watcher_ran, operator_ran, wallet_ran, ran_as, ran_by}
 use Rattle.node_lives.specs.Laws.{IsLastLine, RunsWriteTheirAnswers}
 
@@ -26,7 +26,7 @@ all-front : (before after : Option (List ℕ)) (text : List ℕ) → Wrote befor
 all-front before after text wrote = record { front = text; back = []; whole = append-nil text; wrote = wrote }
 
 -- what a run wrote that ended as an output
-ends-front : (output : Output) (status : Status) (before after : Option (List ℕ)) (failed : Type 0)
+pub ends-front : (output : Output) (status : Status) (before after : Option (List ℕ)) (failed : Type 0)
     → EndsAs output status before after failed → WroteFront before after (output.answers ++ output.last)
 ends-front output WriteFault before after failed ends = ends.front
 ends-front output NoMemory before after failed ends = ends.front
@@ -119,6 +119,7 @@ module _ {D : Type 0} (told : D → Option History) (plan : D → Option FaultPl
   by-writes (ToRun role) old new outside status (inl did) = run-writes role old new outside status did
   by-writes (ToRun role) old new outside status (inr starves) = none-writes outside
   by-writes (ToBegin role identity) old new outside status did = none-writes outside
+  by-writes (ToSign message) old new outside status did = none-writes outside
   by-writes ToUseNoDisk old new outside status did = none-writes outside
 
   pub runs_write_their_answers : RunsWriteTheirAnswers told plan faults dig

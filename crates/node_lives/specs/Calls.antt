@@ -8,6 +8,7 @@ use Rattle.node_runs.specs.Sessions.{Outside}
 use Rattle.node_runs.specs.Runs.{RunsWatcher, RunsWallet}
 use Rattle.node_runs.specs.Operators.{RunsOperator}
 use Rattle.node_runs.specs.Inits.{InitsNotes, InitsPair}
+use Rattle.hss_runs.specs.Runs.{RunsSigner}
 use Rattle.node_lives.specs.Disks.{Pair}
 
 -- which disks an init begins: that of the notes alone, or both
@@ -15,10 +16,12 @@ pub data Begun : Type 0 where
   NotesAlone : Begun
   BothDisks : Begun
 
--- what a call is asked for: to begin disks with this identity; to run a node of a role; or something that uses no disk
+-- what a call is asked for: to begin disks with this identity; to run a node of a role; to sign this message by a
+-- two-level key; or something that uses no disk
 pub data Asked : Type 0 where
   ToBegin : Begun → List ℕ → Asked
   ToRun : Role → Asked
+  ToSign : List ℕ → Asked
   ToUseNoDisk : Asked
 
 -- memory ran out before a disk was used
@@ -50,6 +53,8 @@ module _ {D : Type 0} (told : D → Option History) (plan : D → Option FaultPl
   abbrev pub DoesAsked : Asked → Pair D → Pair D → Outside → Status → Type 0
   DoesAsked (ToBegin disks identity) old new outside status = BeginsAs disks identity old new outside status
   DoesAsked (ToRun role) old new outside status = RunsAs role old new outside status
+  DoesAsked (ToSign message) old new outside status =
+      RunsSigner told plan faults outside.taken outside.after status message old.notes old.leaves new.notes new.leaves
   DoesAsked ToUseNoDisk old new outside status = new ≡ old
 
   -- A call: the disks that it was handed and that it handed back, what it did outside, its status, and that it did so.

@@ -24,6 +24,7 @@ abbrev Fit : Option Form → Type 0
 Fit (Some (InitWallet tag account seed types)) = Are32 tag × (account < 2 ^ 64) × Are32 seed
 Fit (Some (InitOperator tag account key_seed)) = Are32 tag × (account < 2 ^ 64) × IfSome key_seed Are32
 Fit (Some (InitWatcher tag account)) = Are32 tag × (account < 2 ^ 64)
+Fit (Some (HssInit seed)) = Are32 seed
 Fit form = Unit {0}
 
 over : {A : Type 0} (P : A → Type 0) (value : Option A) (form : A → Option Form) → IfSome value P
@@ -164,7 +165,7 @@ free (Some x) form each = each x
 hss-init-fit : (words : List (List ℕ)) → Fit (hss_init words)
 unfolding hss_init
 hss-init-fit [] = tt
-hss-init-fit (seed ∷ []) = free (hex_of_in 32 seed) HssInit (λ s. tt)
+hss-init-fit (seed ∷ []) = mapped Are32 (hex_of_in 32 seed) HssInit (hex-fits seed) (λ s is. is)
 hss-init-fit (seed ∷ more ∷ words) = tt
 
 hss-sign-fit : (words : List (List ℕ)) → Fit (hss_sign words)
@@ -248,4 +249,5 @@ inits_are_of_their_roles dig = record {
         seed = fits.2.1;
         types = sound-as words (InitWallet tag account seed types) is;
       }) fits.0.0 fits.2.0);
+  signer = λ words seed is. (fits-as words (HssInit seed) is).1;
 }

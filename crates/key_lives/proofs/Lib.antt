@@ -1,0 +1,10 @@
+mod Growth
+mod Calls
+mod SignerRuns
+mod SignerLife
+mod SignerWrites
+mod Given
+mod DeskTexts
+mod DeskRuns
+mod DeskLife
+mod SignerSample

@@ -1,0 +1,5 @@
+pub mod Signers
+pub mod SignerLaws
+pub mod Desks
+pub mod DeskLaws
+pub mod SignerSample

@@ -1,0 +1,10 @@
+//! That the keys of a two-level signer and of an operator sign once each leaf, over a whole life: laws of the lives of
+//! `node_lives`. It has no code.
+#![tactic(auto)]
+
+mod laws;
+
+pub use laws::{
+    a_small_signers_life_is_one, begun_signers_stay, desks_promise_once, signed_records_stand,
+    signers_lives_sign_once, signings_write_their_answers,
+};
