@@ -15,9 +15,9 @@ use Rattle.streamed_lines.specs.Reading.{next_text}
 use Rattle.node_lines.specs.declared.operator_line.OperatorLine.{OperatorLine}
 use Rattle.node_lines.specs.Grammar.{operator_line_in}
 use Rattle.node_lines.proofs.GrammarLaws.{operator_line_text-in}
-use Rattle.node_answers.specs.declared.operator.OperatorAsk.{OperatorAsk}
-use Rattle.node_answers.specs.Answers.{Outcome, operator_ask}
-use Rattle.node_answers.specs.Desks.{desk_records, keyed, desk_outcome}
+use Rattle.plasma_tx.specs.Views.{blocks}
+use Rattle.node_answers.specs.Answers.{Outcome}
+use Rattle.node_answers.specs.Desks.{desk_records, desk_outcome, issue_outcome}
 use Rattle.node_roles.specs.Notes.{NotesAt}
 use Rattle.node_journal.specs.Parts.{both}
 use Rattle.node_roles.specs.Nodes.{NodeAt, outcome_at}
@@ -36,7 +36,7 @@ use Rattle.node_lives.proofs.Own.{with_added, IsOwn}
 use Rattle.node_lives.proofs.DeskOrders.{IsDesk, desk-grows}
 use Rattle.node_lives.proofs.OwnRuns.{desk-each, each-run, leaves-stand, desk-own, later-seed, notes}
 use Rattle.key_lives.specs.Desks.{DeskRan, desk_parts, desk_left, issues_at, desk_ran_behind, desk_ran, desk_ran_by, desk_ran_in, GivesReceipt}
-use Rattle.key_lives.proofs.DeskTexts.{IsOfDesk, receipt-stays, IsSaneAsk, sane-ask, issue-gives}
+use Rattle.key_lives.proofs.DeskTexts.{IsOfDesk, receipt-stays, IsSaneLine, sane-line, issue-gives}
 use Rattle.key_lives.proofs.Given.{session-holds}
 
 module _ {D : Type 0} (told : D → Option History) (plan : D → Option FaultPlan) (faults : D → ℕ)
@@ -51,7 +51,7 @@ module _ {D : Type 0} (told : D → Option History) (plan : D → Option FaultPl
     pub spelled : commanded operator_line_in before.run (next_text ran.lines.bytes before) ≡ Some line
     pub transfer : List ℕ
     pub due : ℕ
-    pub ordered : operator_ask line ≡ OperatorAsk.Receipt transfer due
+    pub ordered : line ≡ OperatorLine.Receipt transfer due
     pub leaf : length (messages_of (kept_at before.run.node).leaves) ≡ q
     pub gives : (issues_at before.run transfer due).answer ≡ Ok (record { bytes = receipt })
 
@@ -73,8 +73,8 @@ module _ {D : Type 0} (told : D → Option History) (plan : D → Option FaultPl
   -- what one line adds that is answered with a receipt
   module _ (seed : List ℕ) (digests : (bytes : List ℕ) → length (dig bytes) ≡ 32) (session : SessionState (NodeAt NotesAt))
       (first : WalletRecords) (own : IsOwn dig (IsDesk seed) first session.node) (line : OperatorLine)
-      (transfer : List ℕ) (due : ℕ) (ordered : operator_ask line ≡ OperatorAsk.Receipt transfer due)
-      (sane : IsSaneAsk (OperatorAsk.Receipt transfer due)) (q : ℕ) (receipt : List ℕ)
+      (transfer : List ℕ) (due : ℕ) (ordered : line ≡ OperatorLine.Receipt transfer due)
+      (sane : IsSaneLine (OperatorLine.Receipt transfer due)) (q : ℕ) (receipt : List ℕ)
       (leaf : length (messages_of (kept_at session.node).leaves) ≡ q)
       (gives : (issues_at session transfer due).answer ≡ Ok (record { bytes = receipt })) where
     abbrev log : List RootCall
@@ -83,12 +83,10 @@ module _ {D : Type 0} (told : D → Option History) (plan : D → Option FaultPl
     abbrev outcome : Outcome
     outcome = outcome_at desk_commands log session.node line
 
-    outcome-is : outcome
-        ≡ keyed session.node.dig log (desk_records (kept_at session.node).notes (kept_at session.node).leaves)
-        (OperatorAsk.Receipt transfer due)
+    outcome-is : outcome ≡ issue_outcome (blocks log) due (issues_at session transfer due)
     unfolding desk_outcome
     outcome-is =
-        ap (keyed session.node.dig log (desk_records (kept_at session.node).notes (kept_at session.node).leaves))
+        ap (desk_outcome session.node.dig log (desk_records (kept_at session.node).notes (kept_at session.node).leaves))
         ordered
 
     pub line-gives : IsOfDesk seed (with_added (kept_at session.node) outcome.note outcome.leaf).leaves q receipt
@@ -156,7 +154,7 @@ module _ {D : Type 0} (told : D → Option History) (plan : D → Option FaultPl
                 let command = spelled-in operator_line_in g.before.run (next_text (lines_answered session).bytes
                 g.before) g.line g.spelled in
                 line-gives seed digests g.before.run first here g.line g.transfer g.due g.ordered
-                (subst IsSaneAsk g.ordered (sane-ask g.line (operator_line_text-in _ g.line command).1)) q receipt
+                (subst IsSaneLine g.ordered (sane-line g.line (operator_line_text-in _ g.line command).1)) q receipt
                 g.leaf g.gives);
           }
 

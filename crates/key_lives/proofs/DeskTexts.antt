@@ -18,8 +18,6 @@ use Rattle.receipt_audit.proofs.Given.{issues_give_receipts}
 use Rattle.node_replies.specs.Orders.{with_record}
 use Rattle.node_lines.specs.declared.operator_line.OperatorLine.{OperatorLine}
 use Rattle.node_lines.specs.Grammar.{IsOperatorLine}
-use Rattle.node_answers.specs.declared.operator.OperatorAsk.{OperatorAsk}
-use Rattle.node_answers.specs.Answers.{operator_ask}
 use Rattle.node_answers.specs.Desks.{secret_of}
 use Rattle.node_lives.proofs.DeskOrders.{IsDesk, secret-same}
 use Rattle.node_lives.proofs.LeafTexts.{got-behind, got-last, messages-on}
@@ -50,24 +48,19 @@ receipt-one seed leaves q made also one other =
     let same : one.promise ≡ other.promise = (let a = one.bound in let b = other.bound in cc (a, b)) in
     one.is ∙ ap (λ (p : List ℕ). p ++ signature_of (desk_secret seed) q p) same ∙ sym other.is
 
--- what is asked for by a line is bytes, and a number of 64 bits
-abbrev pub IsSaneAsk : OperatorAsk → Type 0
-IsSaneAsk (OperatorAsk.Receipt transfer due) = AreBytes transfer × (due < 2 ^ 64)
-IsSaneAsk ask = Unit {0}
+-- what a line asks for is bytes, and a number of 64 bits
+abbrev pub IsSaneLine : OperatorLine → Type 0
+IsSaneLine (OperatorLine.Receipt transfer due) = AreBytes transfer × (due < 2 ^ 64)
+IsSaneLine line = Unit {0}
 
-pub sane-ask : (line : OperatorLine) → IsOperatorLine line → IsSaneAsk (operator_ask line)
-sane-ask (OperatorLine.Offer transfer) is = tt
-sane-ask (OperatorLine.Lay coin leaf) is = tt
-sane-ask OperatorLine.Seal is = tt
-sane-ask (OperatorLine.Bundle coin tip) is = tt
-sane-ask (OperatorLine.Prove coin block) is = tt
-sane-ask (OperatorLine.Absences coin after last) is = tt
-sane-ask (OperatorLine.Receipt transfer due) is = (is.0, is.1.0)
-sane-ask OperatorLine.Migrate is = tt
+pub sane-line : (line : OperatorLine) → IsOperatorLine line → IsSaneLine line
+sane-line (OperatorLine.Order order) is = tt
+sane-line (OperatorLine.Receipt transfer due) is = (is.0, is.1.0)
+sane-line OperatorLine.Migrate is = tt
 
 module _ (seed : List ℕ) (dig : List ℕ → List ℕ) (digests : (bytes : List ℕ) → length (dig bytes) ≡ 32)
     (log : List RootCall) (desk : WalletRecords) (is : IsDesk seed desk) (transfer : List ℕ) (due : ℕ)
-    (sane : IsSaneAsk (OperatorAsk.Receipt transfer due)) where
+    (sane : IsSaneLine (OperatorLine.Receipt transfer due)) where
   abbrev secret : Secret
   secret = secret_of desk.notes
 

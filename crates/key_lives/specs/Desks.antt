@@ -10,8 +10,6 @@ use Rattle.node_rules.specs.Wallet.{WalletRecords}
 use Rattle.node_replies.specs.Roles.{Operator}
 use Rattle.node_lines.specs.declared.operator_line.OperatorLine.{OperatorLine}
 use Rattle.node_lines.specs.Grammar.{operator_line_in}
-use Rattle.node_answers.specs.declared.operator.OperatorAsk.{OperatorAsk}
-use Rattle.node_answers.specs.Answers.{operator_ask}
 use Rattle.node_answers.specs.Desks.{secret_of}
 use Rattle.node_roles.specs.Notes.{NotesAt}
 use Rattle.node_journal.specs.Parts.{Parts, both}
@@ -92,6 +90,6 @@ module _ {D : Type 0} (told : D → Option History) (plan : D → Option FaultPl
     pub spelled : commanded operator_line_in before.run (next_text ran.lines.bytes before) ≡ Some line
     pub transfer : List ℕ
     pub due : ℕ
-    pub ordered : operator_ask line ≡ OperatorAsk.Receipt transfer due
+    pub ordered : line ≡ OperatorLine.Receipt transfer due
     pub leaf : length (messages_of (kept_at before.run.node).leaves) ≡ q
     pub gives : (issues_at before.run transfer due).answer ≡ Ok (record { bytes = receipt })
