@@ -8,5 +8,6 @@ pub mod Ledger
 pub mod Timely
 pub mod LookedTimely
 pub mod Reserves
+pub mod InOrder
 pub mod OnOffer
 pub mod MoneySamples

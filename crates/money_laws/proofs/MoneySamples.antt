@@ -38,8 +38,8 @@ planted block parent = record {
       ∷ body_text (record { tag = tag; coin = 1; parent = parent; to = stranger; last = None });
 }
 
--- Account 21 deposited coin 1 in block 1, and has so much left. The operator planted blocks 2 to 6, of which 3 spends 2,
--- 4 spends 3, and 6 spends 5; 2 and 5 spend blocks that aren't there.
+-- Account 21 deposited coin 1 in block 1, and has so much left. The operator planted blocks 2 to 6, of which 3 spends
+-- 2, 4 spends 3, and 6 spends 5; 2 and 5 spend blocks that aren't there.
 abbrev began : ℕ → List RootCall
 began left =
     Commit 9 []

@@ -33,7 +33,8 @@ use Rattle.world_laws.proofs.Guards.{kept-some}
 use Rattle.world_laws.proofs.DueTaken.{fresh, due_calls_are_taken}
 use Rattle.money_laws.specs.Reserve.{needs_before, asks, Tip, reserve_of, is_at_tip}
 use Rattle.money_laws.specs.MoneyLaws.{is_before_at, IsOnOffer, AreOnOffer, LegalReserveSuffices, ReserveSuffices}
-use Rattle.money_laws.proofs.Reserves.{over-one, tip-one, Could, CouldBe, IsReady, AreReady, in-order}
+use Rattle.money_laws.proofs.Reserves.{over-one, tip-one, Could}
+use Rattle.money_laws.proofs.InOrder.{CouldBe, IsReady, AreReady, in-order}
 use Rattle.money_laws.proofs.Tips.{legal-to}
 
 -- a Before that is due is of an exit that asks for it

@@ -1,5 +1,5 @@
 -- The reserve suffices, and no less does.
-use Rattle.std.proofs.Common.{◌≡◌, ℕ, ◌+◌, ◌<◌, ◌≤◌, ◌==◌, ◌&&◌, not, Bool, true, false, if◌then◌else◌, List, [], ◌∷◌, ◌++◌, Option, Some, None, option_map, inl, inr, ◌⊎◌, refl, sym, ap, ◌∙◌, subst, arith}
+use Rattle.std.proofs.Common.{◌≡◌, ℕ, ◌+◌, ◌<◌, ◌≤◌, ◌==◌, ◌&&◌, not, Bool, true, false, if◌then◌else◌, List, [], ◌∷◌, ◌++◌, Option, Some, None, option_map, inl, inr, refl, sym, ap, ◌∙◌, subst, arith}
 use Rattle.std.specs.Prelude.{is_some, is_none, nat_lt}
 use Rattle.std.specs.Option.{option_or}
 use Rattle.std.specs.List.{list_any, list_all}
@@ -9,25 +9,21 @@ use Rattle.plasma_tx.specs.declared.owner.Owner.{Owner}
 use Rattle.plasma_tx.specs.declared.call.Shown.{Shown}
 use Rattle.plasma_tx.specs.declared.call.Shown.TheVariants.{Deposit as AtDeposit, Spend}
 use Rattle.plasma_tx.specs.declared.call.RootCall.{RootCall}
-use Rattle.plasma_tx.specs.declared.call.RootCall.TheVariants.{After, Between, Before, Respond}
+use Rattle.plasma_tx.specs.declared.call.RootCall.TheVariants.{Before}
 use Rattle.plasma_tx.specs.declared.views.CoinView.{CoinView}
-use Rattle.plasma_tx.specs.Views.{now, block_at, coin_at, Challenge, Exit, exits, exit_at, block_of, challenge_at, with_challenge, with_answer, new_challenge}
+use Rattle.plasma_tx.specs.Views.{now, block_at, coin_at, Challenge, Exit, exits, exit_at, block_of, challenge_at, with_challenge, new_challenge}
 use Rattle.plasma_tx.specs.Shown.{Tests, Rules, root_at, shown_tx, shown_owner}
-use Rattle.plasma_tx.specs.Table.{answer_to, is_accepted, log_after, is_over, is_before_parent}
-use Rattle.plasma_tx.specs.RuleLaws.{is_of_exit}
+use Rattle.plasma_tx.specs.Table.{is_over, is_before_parent}
 use Rattle.plasma_tx.specs.Money.{pays, takes, share_of, balance_of}
 use Rattle.plasma_tx.proofs.Accepted.{accepted_calls_show}
-use Rattle.plasma_tx.proofs.Acceptance.{shown_calls_are_accepted}
 use Rattle.plasma_tx.proofs.Names.{option_or-none, find-changed, challenge_at-push}
-use Rattle.plasma_tx.proofs.RuleLeaves.{others_leave_exits}
 use Rattle.plasma_tx.proofs.Stands.{same-challenged}
 use Rattle.watch_duty.proofs.Members.{Has}
-use Rattle.world_laws.proofs.Lists.{some_same, any-none, and-off, found-has}
-use Rattle.world_laws.proofs.Watched.{is_none-push, is_none-answered}
+use Rattle.world_laws.proofs.Lists.{some_same, and-off, found-has}
+use Rattle.world_laws.proofs.Watched.{is_none-push}
 use Rattle.money_laws.specs.Bonds.{sum_over}
 use Rattle.money_laws.specs.Reserve.{needs_before, asks, reserve, Tip, reserve_of, AreAccepted, with_calls, is_before_by, is_at_tip, AreApart, ReserveIsNeeded}
-use Rattle.money_laws.specs.MoneyLaws.{is_same_before, is_before_at, is_free, is_before_of, is_before, BeforesAreAccepted}
-use Rattle.money_laws.proofs.SumsOver.{ended, changed}
+use Rattle.money_laws.proofs.SumsOver.{changed}
 
 -- ---- the parts of a sum
 
@@ -56,7 +52,7 @@ tip-one log c e (tip ∷ tips) is =
 
 -- ---- what an exit asks
 
-abbrev bond_if : Bool → ℕ
+abbrev pub bond_if : Bool → ℕ
 bond_if b = if b then CHALLENGE_BOND else 0
 
 asks-most : (a : Bool) → bond_if a ≤ CHALLENGE_BOND
@@ -157,7 +153,7 @@ before-parent log (Some coin) exit (Spend opening) is =
     (nat_lt opening.block exit.parent) is).1
 
 -- so the exit asks for it
-could-asks : (tests : Tests) (rules : Rules) (log : List RootCall) (c f : ℕ) (shown : Shown)
+pub could-asks : (tests : Tests) (rules : Rules) (log : List RootCall) (c f : ℕ) (shown : Shown)
     (could : Could tests rules log c f shown) → asks log c (block_of shown) could.exit ≡ CHALLENGE_BOND
 could-asks tests rules log c f shown could =
     let e : ℕ = block_of shown in
@@ -177,7 +173,7 @@ could-asks tests rules log c f shown could =
     (not_from_false (is_over log could.exit.start CHALLENGE_WINDOW) early)))
 
 -- and the reserve has its bond
-could-reserve : (tests : Tests) (rules : Rules) (log : List RootCall) (c f : ℕ) (shown : Shown)
+pub could-reserve : (tests : Tests) (rules : Rules) (log : List RootCall) (c f : ℕ) (shown : Shown)
     → Could tests rules log c f shown → CHALLENGE_BOND ≤ reserve log c (block_of shown)
 could-reserve tests rules log c f shown could =
     let place = found-has log c f could.exit could.stands in
@@ -260,7 +256,7 @@ module _ (log : List RootCall) (by c f : ℕ) (shown : Shown) (x : Exit) (stands
   all-no-more [] = omega arith
   all-no-more (tip ∷ tips) = omega (arith, no-more tip.coin tip.block, all-no-more tips)
 
-  all-less : asks log c (block_of shown) x ≡ CHALLENGE_BOND → (tips : List Tip)
+  pub all-less : asks log c (block_of shown) x ≡ CHALLENGE_BOND → (tips : List Tip)
       → list_any (is_at_tip c (block_of shown)) tips ≡ true
       → reserve_of (Before by c f shown ∷ log) tips + CHALLENGE_BOND ≤ reserve_of log tips
   unfolding reserve_of
@@ -280,7 +276,7 @@ module _ (log : List RootCall) (by c f : ℕ) (shown : Shown) (x : Exit) (stands
       ]
 
 -- what it takes
-taken : (log : List RootCall) (by c f : ℕ) (shown : Shown) → CHALLENGE_BOND ≤ balance_of log by
+pub taken : (log : List RootCall) (by c f : ℕ) (shown : Shown) → CHALLENGE_BOND ≤ balance_of log by
     → balance_of (Before by c f shown ∷ log) by + CHALLENGE_BOND ≡ balance_of log by
 unfolding balance_of pays takes share_of
 taken log by c f shown covered =
@@ -385,236 +381,11 @@ module _ (tests : Tests) (rules : Rules) (log : List RootCall) (by c f : ℕ) (s
             (subst (λ (y : Exit). challenge_at (block_of offered) y.challenges ≡ None) same could.none_there) apart;
       }
 
-  could-after : ((c == k) && (f == g) && (block_of shown == block_of offered)) ≡ false
+  pub could-after : ((c == k) && (f == g) && (block_of shown == block_of offered)) ≡ false
       → Could tests rules (Before by c f shown ∷ log) k g offered
   could-after apart =
       elim (cases_Bool ((c == k) && (f == g))) [
         | inl own ↦ same-could own
             (sym (ap (λ (b : Bool). b && (block_of shown == block_of offered)) own) ∙ apart)
         | inr other ↦ other-could other
-      ]
-
--- ---- other calls
-
--- a call that takes no money
-module _ (tests : Tests) (rules : Rules) (log : List RootCall) where
-  free-could : (call : RootCall) (k g : ℕ) (offered : Shown) → is_free call ≡ true → is_of_exit k g call ≡ false
-      → Could tests rules log k g offered → Could tests rules (call ∷ log) k g offered
-  unfolding now coin_at block_at shown_tx
-  free-could (After by c f spend) k g offered free other could = record {
-    exit = could.exit;
-    stands = others_leave_exits log (After by c f spend) k g other ∙ could.stands;
-    in_time = could.in_time;
-    before = could.before;
-    owner = could.owner;
-    owner_shown = could.owner_shown;
-    none_there = could.none_there;
-  }
-  free-could (Between by c f spend) k g offered free other could = record {
-    exit = could.exit;
-    stands = others_leave_exits log (Between by c f spend) k g other ∙ could.stands;
-    in_time = could.in_time;
-    before = could.before;
-    owner = could.owner;
-    owner_shown = could.owner_shown;
-    none_there = could.none_there;
-  }
-  free-could (Respond by c f challenged spend) k g offered free other could = record {
-    exit = could.exit;
-    stands = others_leave_exits log (Respond by c f challenged spend) k g other ∙ could.stands;
-    in_time = could.in_time;
-    before = could.before;
-    owner = could.owner;
-    owner_shown = could.owner_shown;
-    none_there = could.none_there;
-  }
-  free-could call k g offered free other could = absurd (false≢true free)
-
-  -- an answer leaves what an exit asks
-  answered-asks : (c e challenged : ℕ) (x : Exit) → asks log c e (with_answer challenged x) ≡ asks log c e x
-  answered-asks c e challenged x =
-      ap (λ b. bond_if ((x.coin == c)
-      && (nat_lt e x.parent && b && not (is_over log x.start CHALLENGE_WINDOW))))
-      (is_none-answered e challenged x.challenges)
-
-  free-reserve : (call : RootCall) (c e : ℕ) → is_free call ≡ true
-      → is_accepted (answer_to tests rules log call) ≡ true → reserve (call ∷ log) c e ≤ reserve log c e
-  unfolding exits now
-  free-reserve (After by k f spend) c e free ok =
-      let s = accepted_calls_show tests rules log (After by k f spend) ok in
-      omega (arith, ended (asks log c e) log k f s.exit s.stands)
-  free-reserve (Between by k f spend) c e free ok =
-      let s = accepted_calls_show tests rules log (Between by k f spend) ok in
-      omega (arith, ended (asks log c e) log k f s.exit s.stands)
-  free-reserve (Respond by k f challenged spend) c e free ok =
-      let s = accepted_calls_show tests rules log (Respond by k f challenged spend) ok in
-      omega (
-        arith,
-        changed (asks log c e) log k f (with_answer challenged) s.exit s.stands,
-        answered-asks c e challenged s.exit,
-      )
-  free-reserve call c e free ok = absurd (false≢true free)
-
-  free-reserves : (call : RootCall) (tips : List Tip) → is_free call ≡ true
-      → is_accepted (answer_to tests rules log call) ≡ true → reserve_of (call ∷ log) tips ≤ reserve_of log tips
-  unfolding reserve_of
-  free-reserves call [] free ok = omega arith
-  free-reserves call (tip ∷ tips) free ok =
-      omega (arith, free-reserve call tip.coin tip.block free ok, free-reserves call tips free ok)
-
-  free-balance : (call : RootCall) (account : ℕ) → is_free call ≡ true
-      → balance_of log account ≤ balance_of (call ∷ log) account
-  unfolding balance_of takes share_of
-  free-balance (After by k f spend) account free = omega arith
-  free-balance (Between by k f spend) account free = omega arith
-  free-balance (Respond by k f challenged spend) account free = omega arith
-  free-balance call account free = absurd (false≢true free)
-
--- ---- one after the other
-
--- the call is a Before that is accepted, but for the money
-unfoldable pub CouldBe : Tests → Rules → List RootCall → RootCall → Type 0
-CouldBe tests rules log (Before by c f shown) = Could tests rules log c f shown
-CouldBe tests rules log call = ⊥
-
--- a Before of the account at one of the tips that is accepted, but for the money; none of the later ones is the same
-pub record IsReady (tests : Tests) (rules : Rules) (log : List RootCall) (account : ℕ) (tips : List Tip)
-    (call : RootCall) (later : List RootCall) : Type 0 where
-  pub at_tip : is_before_at account tips call ≡ true
-  pub could : CouldBe tests rules log call
-  pub once : list_any (is_same_before call) later ≡ false
-
-unfoldable pub AreReady : Tests → Rules → List RootCall → ℕ → List Tip → List RootCall → Type 0
-AreReady tests rules log account tips [] = Unit {0}
-AreReady tests rules log account tips (call ∷ calls) =
-    (IsReady tests rules log account tips call calls
-    ⊎ ((is_free call ≡ true) × (list_any (is_before_of call) calls ≡ false)))
-    × AreReady tests rules log account tips calls
-
-module _ (tests : Tests) (rules : Rules) (account : ℕ) (tips : List Tip) where
-  -- the calls are ready after one more, where each Before of them is
-  ready-still : (log : List RootCall) (new : RootCall) (calls : List RootCall)
-      → ((call : RootCall) → Has calls call → CouldBe tests rules log call → CouldBe tests rules (new ∷ log) call)
-      → AreReady tests rules log account tips calls → AreReady tests rules (new ∷ log) account tips calls
-  unfolding AreReady
-  ready-still log new [] still ready = tt
-  ready-still log new (call ∷ calls) still ready = (
-    elim ready.0 [
-      | inl r ↦ inl (record { at_tip = r.at_tip; could = still call (inl refl) r.could; once = r.once })
-      | inr free ↦ inr free
-    ],
-    ready-still log new calls (λ other there. still other (inr there)) ready.1,
-  )
-
-  ready-before : (log : List RootCall) (by c f : ℕ) (shown : Shown) (x : Exit) → exit_at log c f ≡ Some x
-      → challenge_at (block_of shown) x.challenges ≡ None → (calls : List RootCall)
-      → list_any (is_same_before (Before by c f shown)) calls ≡ false
-      → AreReady tests rules log account tips calls
-      → AreReady tests rules (Before by c f shown ∷ log) account tips calls
-  unfolding CouldBe
-  ready-before log by c f shown x stands none calls once =
-      ready-still log (Before by c f shown) calls (λ call there.
-      still call (any-none (is_same_before (Before by c f shown)) calls call once there))
-    where
-      still : (call : RootCall) → is_same_before (Before by c f shown) call ≡ false → CouldBe tests rules log call
-          → CouldBe tests rules (Before by c f shown ∷ log) call
-      still (Before to k g offered) apart could =
-          could-after tests rules log by c f shown x stands none k g offered could apart
-      still call apart could = absurd could
-
-  ready-free : (log : List RootCall) (new : RootCall) (calls : List RootCall) → is_free new ≡ true
-      → list_any (is_before_of new) calls ≡ false → AreReady tests rules log account tips calls
-      → AreReady tests rules (new ∷ log) account tips calls
-  unfolding CouldBe
-  ready-free log new calls free others =
-      ready-still log new calls (λ call there.
-      still call (any-none (is_before_of new) calls call others there))
-    where
-      still : (call : RootCall) → is_before_of new call ≡ false → CouldBe tests rules log call
-          → CouldBe tests rules (new ∷ log) call
-      still (Before to k g offered) apart could = free-could tests rules log new k g offered free apart could
-      still call apart could = absurd could
-
-  -- what is accepted behind a call, whether or not it is accepted
-  behind : (call : RootCall) (calls log : List RootCall)
-      → (is_accepted (answer_to tests rules log call) ≡ true → BeforesAreAccepted tests rules (call ∷ log) calls)
-      → BeforesAreAccepted tests rules log calls
-      → BeforesAreAccepted tests rules (log_after tests rules log call) calls
-  unfolding log_after
-  behind call calls log more same =
-      (elim (is_accepted (answer_to tests rules log call)) as (λ b.
-      is_accepted (answer_to tests rules log call) ≡ b
-      → BeforesAreAccepted tests rules (if b then call ∷ log else log) calls) [
-        | true ↦ λ ok. more ok
-        | false ↦ λ refused. same
-      ]) refl
-
-  -- no Before takes no money
-  free-not : (call : RootCall) → is_free call ≡ true → is_before call ≡ true → ⊥
-  free-not (Before by c f shown) free is = false≢true free
-  free-not call free is = false≢true is
-
-  -- a Before that is ready is accepted, and leaves the reserve of the later ones
-  record IsTaken (log : List RootCall) (call : RootCall) (calls : List RootCall) : Type 0 where
-    accepted : is_accepted (answer_to tests rules log call) ≡ true
-    enough : reserve_of (call ∷ log) tips ≤ balance_of (call ∷ log) account
-    ready : AreReady tests rules (call ∷ log) account tips calls
-
-  take : (log : List RootCall) (call : RootCall) (calls : List RootCall)
-      → IsReady tests rules log account tips call calls → AreReady tests rules log account tips calls
-      → reserve_of log tips ≤ balance_of log account → IsTaken log call calls
-  unfolding CouldBe
-  take log (Before by c f shown) calls r ready enough =
-      let parts = and_parts (by == account) (list_any (is_at_tip c (block_of shown)) tips) r.at_tip in
-      let is = eqb-true by account parts.0 in
-      let could = r.could in
-      let bond = could-reserve tests rules log c f shown could in
-      let among = tip-one log c (block_of shown) tips parts.1 in
-      let covered : CHALLENGE_BOND ≤ balance_of log by =
-      subst (λ n. CHALLENGE_BOND ≤ balance_of log n) (sym is) (omega (arith, bond, among, enough)) in
-      let less = all-less log by c f shown could.exit could.stands could.none_there
-      (could-asks tests rules log c f shown could) tips parts.1 in
-      let cost : balance_of (Before by c f shown ∷ log) account + CHALLENGE_BOND ≡ balance_of log account =
-      subst (λ n. balance_of (Before by c f shown ∷ log) n + CHALLENGE_BOND ≡ balance_of log n) is
-      (taken log by c f shown covered) in
-      record {
-        accepted = shown_calls_are_accepted tests rules log (Before by c f shown) (record {
-          exit = could.exit;
-          stands = could.stands;
-          in_time = could.in_time;
-          before = could.before;
-          owner = could.owner;
-          owner_shown = could.owner_shown;
-          none_there = could.none_there;
-          covered = covered;
-        });
-        enough = omega (arith, less, cost, enough);
-        ready = ready-before log by c f shown could.exit could.stands could.none_there calls r.once ready;
-      }
-  take log call calls r ready enough = absurd r.could
-
-  pub in-order : (calls log : List RootCall) → AreReady tests rules log account tips calls
-      → reserve_of log tips ≤ balance_of log account → BeforesAreAccepted tests rules log calls
-  unfolding AreReady BeforesAreAccepted log_after
-  in-order [] log ready enough = tt
-  in-order (call ∷ calls) log ready enough =
-      elim ready.0 [
-        | inl r ↦
-            let t = take log call calls r ready.1 enough in (
-              λ is. t.accepted,
-              subst (λ (b : Bool). BeforesAreAccepted tests rules (if b then call ∷ log else log) calls)
-                  (sym t.accepted) (in-order calls (call ∷ log) t.ready t.enough),
-            )
-        | inr free ↦ (
-          λ is. absurd (free-not call free.0 is),
-          behind call calls log
-              (λ ok. in-order calls (call ∷ log) (ready-free log call calls free.0 free.1 ready.1)
-              (omega (
-                arith,
-                enough,
-                free-reserves tests rules log call tips free.0 ok,
-                free-balance tests rules log call account free.0,
-              )))
-              (in-order calls log ready.1 enough),
-        )
       ]

@@ -29,9 +29,9 @@ pub fn bonds_come_back()
 {}
 
 /// A law: a reserve suffices. Where an account has 40 for each standing exit of the coins that it guards whose parent
-/// comes after the tip, which isn't challenged there and whose window is open, each Before on offer is accepted, entered
-/// one after the other in whatever order, whatever is entered between them of an After, a Between or a Respond of other
-/// exits. No less suffices: who entered all of them had as much.
+/// comes after the tip, which isn't challenged there and whose window is open, each Before on offer is accepted,
+/// entered one after the other in whatever order, whatever is entered between them of an After, a Between or a
+/// Respond of other exits. No less suffices: who entered all of them had as much.
 pub fn a_reserve_suffices()
     ensures legal { LegalReserveSuffices }
     ensures run { ReserveSuffices }
