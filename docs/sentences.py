@@ -1,8 +1,8 @@
 """The sentences of pages: those with more than 40 words, for docs/check; and how many words a page has.
 
-A heading, a paragraph, an entry of a list and a cell of a table end a sentence as a full stop does; in a cell, which has
-no room for a list, a semicolon ends an entry. Blocks of code and comments are no sentences. A code span is one word,
-whatever stands in it, and of a link its text counts.
+A heading, a paragraph, an entry of a list and a cell of a table end a sentence as a full stop does. In a cell, which
+has no room for a list, a semicolon ends an entry. Blocks of code and comments are no sentences. A code span is one
+word, whatever stands in it, and of a link its text counts.
 """
 import re
 

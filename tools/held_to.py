@@ -40,8 +40,8 @@ class Held:
                     found = self.judged(played, node)
                     if found:
                         last[node] = found
-                        yield from (f"{name}, line {line.number}, {node}: {it}" for it in self.of(found))
-                        yield from (f"{name}, line {line.number}, {node}: {it}" for it in self.later(played, line, found))
+                        misses = [*self.of(found), *self.later(played, line, found)]
+                        yield from (f"{name}, line {line.number}, {node}: {it}" for it in misses)
             yield from (f"{name}: over files {it}" for it in played.differs)
             yield from (f"{name}: {it}" for it in self.at_the_end(played, last))
 
