@@ -202,10 +202,23 @@ class Sentences:
             taken = any(it.coin == coin and it.by != name and self.ended(it) == "paid" for it in self.story.exits)
             what = f"coin {coin}, {amount:,}" if taken else f"the exit of coin {coin}"
             yield f"{name.capitalize()} lost {what}, {seen}."
+        for name, coins in self.under_way().items():
+            them = "them" if coins[1:] else "it"
+            yield f"{name.capitalize()} signed {self.of(coins)} away, and no wallet accepted {them}."
         if held:
             each = [f"{name.capitalize()} has {self.of(coins)}" for name, coins in held.items()]
             yield f"At the end {listed(each)}."
         yield from self.exhibit()
+
+    def under_way(self):
+        """The coins that a wallet signed away, where no wallet accepted them behind that, and nobody was paid."""
+        found = {}
+        paid = {it.coin for it in self.story.exits if self.ended(it) == "paid"}
+        for name, coin, *words in self.story.run.verdicts:
+            accepted = self.coins[coin].accepted if coin in self.coins else []
+            if words[0] == "away" and coin not in paid and accepted[-1:] in ([], [name]):
+                found.setdefault(name, []).append(coin)
+        return found
 
     def of(self, coins):
         return f"{len(coins)} coins" if len(coins) > MOST_NAMED else listed(f"coin {coin}" for coin in coins)
