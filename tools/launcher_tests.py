@@ -10,7 +10,7 @@ import unittest
 
 from testing import HERE, Program
 
-LAUNCHER = f"{os.path.dirname(HERE)}/plasma"
+LAUNCHER, BIN = f"{os.path.dirname(HERE)}/plasma", f"{os.path.dirname(HERE)}/bin"
 CHAIN, LOG = "chain 1 9 100\n", f"chain 0x{1:064x} 9 100\n"
 KEY, OWNER = "0x0000000500000004" + "0" * 96, "0x" + "0" * 128
 MANY = CHAIN + "".join(f"wallet w{number} {100 + number} {number}\n" for number in range(66))
@@ -112,6 +112,7 @@ class Launched(unittest.TestCase):
             (f"'{LAUNCHER}' replay < /", 4, "standard input is a folder"),
             (f"'{LAUNCHER}' replay <&-", 4, "standard input is closed"),
             (f"'{LAUNCHER}' replay > /dev/full < in", 5, "a full device"),
+            (f"PLASMA_PROGRAM='{BIN}/plasma' '{LAUNCHER}' replay < in", 125, "this launcher itself"),
             ("unset PLASMA_PROGRAM; ./copied replay < in", 125, "a copy of it alone is no use"),
             (f"(echo {CHAIN.strip()}; yes fund 1 1 | head -n 20000) | '{LAUNCHER}' replay | head -n 1", 0, ""),
             (f"'{LAUNCHER}' --help | head -n 1", 0, ""),
