@@ -28,6 +28,7 @@ class Held:
 
     def __init__(self, safe, program, grammar, counts):
         self.safe, self.program, self.grammar, self.counts = safe, program, grammar, counts
+        self.last, self.told = None, []
         safe.PROGRAM = program
 
     def misses(self, name, schedule):
@@ -40,8 +41,8 @@ class Held:
                     found = self.judged(played, node)
                     if found:
                         last[node] = found
-                        yield from (f"{name}, line {line.number}, {node}: {it}" for it in self.of(found))
-                        yield from (f"{name}, line {line.number}, {node}: {it}" for it in self.later(played, line, found))
+                        misses = [*self.of(found), *self.later(played, line, found)]
+                        yield from (f"{name}, line {line.number}, {node}: {it}" for it in misses)
             yield from (f"{name}: over files {it}" for it in played.differs)
             yield from (f"{name}: {it}" for it in self.at_the_end(played, last))
 
@@ -76,9 +77,7 @@ class Held:
         standing = sorted(log.standing(), key=lambda it: it.opens)
         if not standing or not any(it.exits for it in verdicts):
             return
-        lines = played.schedule.splitlines()[: line.number]
-        lines += [f"tick {LATER}", *(f"call 999 finish {it.coin} {it.block}" for it in standing)]
-        told = [it.split(" ")[1] for it in self.replayed(lines)[line.number + 1 : line.number + 1 + len(standing)]]
+        told = self.finished(played, line, standing)
         for it in verdicts:
             mine = [one for one, answer in zip(standing, told) if answer == "paid" and one.coin == it.coin]
             other = [one for one in mine if one.block != it.tip]
@@ -86,6 +85,16 @@ class Held:
                 yield f"coin {it.coin} is SAFE, and account {other[0].account} is paid for it"
             if it.word == "TOO LATE" and not other and not it.due and "challenge of your exit" not in str(it.notes):
                 yield f"coin {it.coin} is TOO LATE, and nobody else is paid for it"
+
+    def finished(self, played, line, standing):
+        """What these finishes are answered then. Which log it is says all, so it is asked once for each."""
+        log = played.text()
+        if self.last != log:
+            lines = played.schedule.splitlines()[: line.number]
+            lines += [f"tick {LATER}", *(f"call 999 finish {it.coin} {it.block}" for it in standing)]
+            answers = self.replayed(lines)[line.number + 1 : line.number + 1 + len(standing)]
+            self.last, self.told = log, [it.split(" ")[1] for it in answers]
+        return self.told
 
     def replayed(self, lines):
         text = "".join(f"{line}\n" for line in lines).encode()

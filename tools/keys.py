@@ -4,6 +4,7 @@ import sys
 
 import node_files
 import lms
+from called import usage
 
 
 def public_key(seed):
@@ -15,8 +16,7 @@ def node_in(words, tool, doc):
     """Who the node is in the folder that the words name, or in the current one, and the path of its notes; None where
     they are no node's. Other words, and a file that can't be read, end the tool."""
     if len(words) > 1 or words[:1] in (["-h"], ["--help"]):
-        print(doc, file=sys.stderr)
-        sys.exit(2)
+        sys.exit(usage(doc, words))
     path = os.path.join(words[0] if words else ".", node_files.NOTES)
     try:
         with open(path, "rb") as file:

@@ -24,9 +24,11 @@ table{border-collapse:collapse;width:100%}th,td{text-align:left;vertical-align:t
 border-bottom:1px solid var(--rule)}th{color:var(--soft);font-weight:normal}
 code{font-family:Menlo,Consolas,"DejaVu Sans Mono",monospace;font-size:.85em;overflow-wrap:anywhere}
 td.time{font-weight:bold;padding-top:.8rem}
+.wide{display:none}@media screen and (max-width:56rem){.wide{display:block}}
 @media (max-width:40rem){thead{display:none}tr{display:block;padding:.35rem 0;border-bottom:1px solid var(--rule)}
 td{display:block;border:0;padding:0 .5rem .1rem 0}td[data-of]::before{content:attr(data-of) ": ";color:var(--soft)}}
-@media print{.picture{overflow:visible;max-height:none}.heads{display:none}.picture svg{max-width:100%;height:auto;max-height:25cm}tr{break-inside:avoid}
+@media print{.picture{overflow:visible;max-height:none}.heads{display:none}tr{break-inside:avoid}
+.picture svg{max-width:100%;height:auto;max-height:25cm}
 .table{break-before:page}}
 """
 TONES = {"green": "good", "amber": "warn", "red": "bad", "grey": "soft"}
@@ -42,7 +44,9 @@ def page(title, story, svg, reason="", sentences=(), purse=()):
         *verdicts(story.run),
         *money(story, purse),
         f"<p class=\"bad\"><code>{escape(reason)}</code></p>" if reason else "",
-        '<h2>The picture</h2>\n<div class="picture" tabindex="0" role="region" aria-label="the picture">',
+        '<h2>The picture</h2>\n<p class="wide soft">It may be wider than this screen: move it sideways. Each line '
+        "stands below.</p>",
+        '<div class="picture" tabindex="0" role="region" aria-label="the picture">',
         heads(story, svg), f"{svg}</div>",
         '<div class="table"><h2>Line by line</h2>\n<table><thead><tr><th>line</th><th>schedule</th><th>answer</th>'
         "<th>in words</th></tr></thead>\n<tbody>",

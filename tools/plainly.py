@@ -76,10 +76,15 @@ def offers(number, *kinds):
     return "due: " + ", ".join(kinds) if kinds else "nothing is due"
 
 
+def stands(opens):
+    """An exit that stands has a time to be stopped, and one from which it may be finished."""
+    return f"stands: stop it before {day_of(opens - EXIT_TIME + CHALLENGE_TIME)}, finish from {day_of(opens)}"
+
+
 SAID = {
     "deposited": lambda coin, block: f"coin {coin}, block {block}",
     "committed": lambda block: f"block {block}",
-    "started": lambda opens: f"stands; finish from {day_of(int(opens))}",
+    "started": lambda opens: stands(int(opens)),
     "challenged": lambda until: f"challenged, until {day_of(int(until))}",
     "nothing": lambda: "no such offer",
     "accepted": lambda coin, tip: "accepted",

@@ -134,7 +134,8 @@ class Typed(Safety):
         to = self.play(THEFT)
         _, said = self.safe(to, "bob", "--me", "Bob", "--me", "21=Ursula")
         for part in ("an exit by Ursula, of block 1, stands since day 0 (line 6)", "finished from day 10½",
-                     "due: after, by day 7; costs nothing, and brings 100", "coin 1, 300, block 2: ACT BY day 7, in 7 days"):
+                     "due: after, by day 7; costs nothing, and brings 100",
+                     "coin 1, 300, block 2: ACT BY day 7, in 7 days"):
             self.assertIn(part, said)
         _, calls = self.safe(to, "wanda", "--calls")
         self.assertRegex(calls, r"^call 31 after 1 1 2 0x[0-9a-f]+\n$")
@@ -201,8 +202,8 @@ class Typed(Safety):
             done = self.typed(f"{to}/bob", other)
             self.assertEqual((done.returncode, done.stdout), (2, ""))
             self.assertIn(part, done.stderr)
-        for words, part in (((f"{to}/op", f"{to}/log"), "neither a wallet nor a watcher"), ((to, f"{to}/log"), "No such file"),
-                            (("x",), "a folder and a log"), ((to, other, "--soon"), "no option")):
+        for words, part in (((f"{to}/op", f"{to}/log"), "neither a wallet nor a watcher"),
+                            ((to, f"{to}/log"), "No such file"), (("x",), "a folder and a log"), ((to, other, "--soon"), "no option")):
             done = self.typed(*words)
             self.assertEqual((done.returncode, done.stdout), (2, ""))
             self.assertIn(part, done.stderr)

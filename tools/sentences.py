@@ -69,7 +69,8 @@ class Sentences:
         if len(told) < LEAST and not self.story.exits and self.coins:
             told.append("Nobody claimed a coin on the root chain.")
         if len(told) < LEAST:
-            told.append(f"The run has {count(len(self.story.lines), 'line')}, and its clock shows {self.clock()} at the end.")
+            lines = count(len(self.story.lines), "line")
+            told.append(f"The run has {lines}, and its clock shows {self.clock()} at the end.")
         return told[:MOST]
 
     def clock(self):
@@ -113,8 +114,8 @@ class Sentences:
         back = [line for line in self.story.lines if line.form == "reclaim" and is_good(line)]
         if back:
             coins = listed(f"coin {line.answer[1]}" for line in back)
-            yield f"{self.cap(listed(self.name(line.get('wallet')) for line in back))} took {coins} back, since the transfer " \
-                  "can't come any more."
+            who = self.cap(listed(self.name(line.get("wallet")) for line in back))
+            yield f"{who} took {coins} back, since the transfer can't come any more."
         lost = [line for line in self.story.lines if line.answer[:2] == ["refused", "no-funds"]]
         if lost:
             row = self.row_of(lost[0])
@@ -201,10 +202,23 @@ class Sentences:
             taken = any(it.coin == coin and it.by != name and self.ended(it) == "paid" for it in self.story.exits)
             what = f"coin {coin}, {amount:,}" if taken else f"the exit of coin {coin}"
             yield f"{name.capitalize()} lost {what}, {seen}."
+        for name, coins in self.under_way().items():
+            them = "them" if coins[1:] else "it"
+            yield f"{name.capitalize()} signed {self.of(coins)} away, and no wallet accepted {them}."
         if held:
             each = [f"{name.capitalize()} has {self.of(coins)}" for name, coins in held.items()]
             yield f"At the end {listed(each)}."
         yield from self.exhibit()
+
+    def under_way(self):
+        """The coins that a wallet signed away, where no wallet accepted them behind that, and nobody was paid."""
+        found = {}
+        paid = {it.coin for it in self.story.exits if self.ended(it) == "paid"}
+        for name, coin, *words in self.story.run.verdicts:
+            accepted = self.coins[coin].accepted if coin in self.coins else []
+            if words[0] == "away" and coin not in paid and accepted[-1:] in ([], [name]):
+                found.setdefault(name, []).append(coin)
+        return found
 
     def of(self, coins):
         return f"{len(coins)} coins" if len(coins) > MOST_NAMED else listed(f"coin {coin}" for coin in coins)
@@ -237,7 +251,8 @@ class Sentences:
         hostile = [it for it in self.story.exits if not it.own]
         taken = [it for it in hostile if self.ended(it) == "paid"]
         if taken and self.victim(taken[0]):
-            return f"{self.cap(self.name(taken[0].by))} takes coin {taken[0].coin} from {self.name(self.victim(taken[0]))}"
+            victim = self.name(self.victim(taken[0]))
+            return f"{self.cap(self.name(taken[0].by))} takes coin {taken[0].coin} from {victim}"
         if hostile and not taken:
             whose = f" from {self.name(self.victim(hostile[0]))}" if self.victim(hostile[0]) else ""
             return f"{self.cap(self.name(hostile[0].by))} tries to take coin {hostile[0].coin}{whose}"

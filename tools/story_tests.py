@@ -1,5 +1,5 @@
-"""The tests of the sentences of tools/story, for tools/test: they are those of the table tools/sentences, which a person
-has read, for each example that replays a schedule; what each account has fits the money that the run asks for; and a
+"""The tests of the sentences of tools/story, for tools/test: they are those of the table tools/sentences, which was read
+by a person, for each example that replays a schedule; what each account has fits the money that the run asks for; and a
 log of a chain is told as well.
 
 usage: python3 tools/story_tests.py      prints the table anew, to be read
@@ -96,8 +96,8 @@ class Sentence(unittest.TestCase):
         schedule, replayed = told.as_schedule(text + "tick 907200\ncall 5 finish 1 1\n")
         self.assertFalse(replayed)
         answers = [re.sub(r"^\d+ ", "", line) for line in told.at_its_word(schedule).splitlines()]
-        self.assertEqual(answers, ["chain", "funded", "deposited 1 1", "committed 2", "started 907200", "ticked", "paid",
-                                   "no exhibit"])
+        self.assertEqual(answers, ["chain", "funded", "deposited 1 1", "committed 2", "started 907200", "ticked",
+                                   "paid", "no exhibit"])
 
 
 if __name__ == "__main__":
