@@ -82,7 +82,7 @@ def gate_alone(program, node, log):
 
 
 def sh(line, *words):
-    subprocess.run(["sh", "-c", line, *words], check=True, stderr=subprocess.DEVNULL)
+    subprocess.run(["sh", "-c", line, *words], check=True, stdout=subprocess.DEVNULL, stderr=subprocess.DEVNULL)
 
 
 def block_of(path, number):

@@ -24,6 +24,8 @@ FORM, EARLIER = "plasma mark 1", 40
 # A mark has at most so many checks of parts of a journal, by which it is told where a byte changed.
 PARTS = 4096
 OFF = "none"
+# The beginnings of the two journals that were looked at last, where they are large, each with the state of its SHA-256.
+KNOWN, LARGE = collections.deque(maxlen=2), 1 << 20
 
 # How far a journal goes, the SHA-256 of its bytes up to there, and checks of its parts, each of so many bytes.
 End = collections.namedtuple("End", "place sum size checks")
@@ -80,18 +82,30 @@ def size_for(count):
     return size
 
 
+def sum_at(image, place):
+    """The SHA-256 of a journal up to this place. Where it begins as one whose sum was made before, as in front of a run,
+    the rest alone is put to that."""
+    known, state = max((it for it in KNOWN if len(it[0]) <= place and image.startswith(it[0])),
+                       key=lambda it: len(it[0]), default=(b"", hashlib.sha256()))
+    state = state.copy()
+    state.update(memoryview(image)[len(known) : place])
+    if place - len(known) >= LARGE:
+        KNOWN.append((bytes(memoryview(image)[:place]), state))
+    return state.hexdigest()
+
+
 def end_at(image, place):
     """The end of a journal that goes to this place."""
     view = memoryview(image)[:place]
     size = size_for(place)
     checks = [zlib.crc32(view[at : at + size]) for at in range(0, place, size)]
-    return End(place, hashlib.sha256(view).hexdigest(), size, checks)
+    return End(place, sum_at(image, place), size, checks)
 
 
 def goes_on(image, end):
     """Where a journal ends that begins with the marked bytes; None where it doesn't. Unfit where what follows them is
     no record."""
-    if len(image) <= end.place or hashlib.sha256(memoryview(image)[: end.place]).hexdigest() != end.sum:
+    if len(image) <= end.place or sum_at(image, end.place) != end.sum:
         return None
     place = end.place
     while image[place : place + 1] == bytes([node_files.GATE]):
