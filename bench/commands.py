@@ -1,5 +1,5 @@
-"""The commands of nodes that bench/kill, bench/faults, bench/power_cuts and the benches of marks try: each with a world in
-which its lines are all accepted."""
+"""The commands of nodes that bench/kill, bench/faults, bench/power_cuts and the benches of marks try: each with a world
+in which its lines are all accepted."""
 import collections
 import os
 import shutil

@@ -27,9 +27,9 @@ class Launched(kill.Bare):
         super().__init__(program)
         self.room, self.marks, self.command = room, f"{room}/marks", f"{room}/launcher"
         self.looks, self.lasted = collections.Counter({"false alarms": 0}), {}
-        script = f"export PLASMA_MARKS={shlex.quote(self.marks)}\nexec {shlex.join(launcher_words(program, []))} \"$@\"\n"
         with open(self.command, "w", encoding="utf-8") as file:
-            file.write(f"#!/bin/sh\n{script}")
+            file.write(f"#!/bin/sh\nexport PLASMA_MARKS={shlex.quote(self.marks)}\n"
+                       f"exec {shlex.join(launcher_words(program, []))} \"$@\"\n")
         os.chmod(self.command, 0o700)
 
     def keeper(self):
