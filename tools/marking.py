@@ -10,6 +10,7 @@ from node_files import JOURNALS, NOTES
 from marks import Found, Refused
 
 NEVER = "Don't run this folder, and don't put anything else in its place: a leaf that signs twice gives the key away."
+AGAIN = "To try something again with a known seed, keep its marks apart: export PLASMA_MARKS=$PWD/marks"
 ADOPT = "'plasma-mark adopt', typed in it, asks what it has to know, and then marks it."
 
 
@@ -185,7 +186,7 @@ def before_init(keeper, folder, identity):
     mark = keeper.at(keeper.path(identity, folder)) if identity.seed else None
     if mark and not goes_on_from(mark, marks.images_in(folder)):
         raise Refused([f"this seed has a {mark.node} already, made or last run in {mark.folder} at {mark.time}",
-                       "A seed is for one folder and no other. Take another seed."])
+                       "A seed is for one folder and no other. Take another seed.", AGAIN])
 
 
 def sync_journals(folder):
