@@ -102,6 +102,47 @@ class Launched(kill.Bare):
                              timeout=kill.LONGEST, env={**os.environ, "PLASMA_MARKS": self.marks})
         return kill.Killed(folder, given, ran.stdout, None), ran.returncode
 
+    # ---- two at once
+
+    def at_once(self, case, given, tally):
+        """Three runs at once over a folder, of which one may be killed: each is done, or refused since another one is
+        on the folder, and none is stopped by a mark."""
+        chance = random.Random(f"{given.seed} {case.name} at once")
+        for _ in range(given.kills):
+            folder = kill.copied(case.base, f"{self.room}/killed")
+            self.begin(folder)
+            runs = []
+            for line in chance.sample(case.lines, min(3, len(case.lines))):
+                runs.append(self.begun(folder, case, line))
+                time.sleep(chance.uniform(0, 0.6 * self.seconds(case, None)))
+            if chance.randrange(2):
+                self.kill(runs[-1], chance)
+            for run in runs:
+                _, said = run.communicate()
+                self.looks[f"at once: status {run.returncode}"] += 1
+                if run.returncode not in (0, 1, 6, -signal.SIGKILL):
+                    self.wrong_one(case.name, said.decode(errors="replace"), tally)
+            try:
+                self.holds(folder)
+            except kill.Wrong as why:
+                self.wrong_one(case.name, str(why), tally)
+
+    def begun(self, folder, case, line):
+        run = subprocess.Popen([self.command, *kill.words_of(case.role, [line])], cwd=folder, stdin=subprocess.PIPE,
+                               stdout=subprocess.DEVNULL, stderr=subprocess.PIPE, start_new_session=True)
+        try:
+            run.stdin.write(kill.text_of(case.log, [line]))
+            run.stdin.flush()
+        except BrokenPipeError:
+            pass
+        run.stdin.close()
+        run.stdin = None
+        return run
+
+    def wrong_one(self, name, why, tally):
+        tally.wrong[name] += 1
+        print(f"{name}, at once: {why}", flush=True)
+
     def show(self):
         print(", ".join(f"{what} {count}" for what, count in sorted(self.looks.items())))
 

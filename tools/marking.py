@@ -1,6 +1,7 @@
 """What the marks say of a folder: whether it goes on from its mark, and else what it looks like. For the launcher and
 tools/mark.
 """
+import fcntl
 import os
 import zlib
 
@@ -212,9 +213,31 @@ def sync_journals(folder):
     return True
 
 
-def tails_of(found):
-    """Where the journals ended in front of a run, and what stood there."""
-    return {name: (place, found.images[name][place:]) for name, place in found.ends.items()}
+def is_free(folder):
+    """Whether no run is on the folder at this moment."""
+    for name in JOURNALS:
+        try:
+            held = os.open(os.path.join(folder, name), os.O_RDONLY | os.O_NOFOLLOW | os.O_NONBLOCK)
+        except OSError:
+            continue
+        try:
+            fcntl.flock(held, fcntl.LOCK_EX | fcntl.LOCK_NB)
+        except OSError:
+            return False
+        finally:
+            os.close(held)
+    return True
+
+
+def in_front(keeper, folder):
+    """Looks at a folder in front of a run: where the journals end, and what stood there. Nothing where another run is
+    on the folder: what that writes is none of this run's."""
+    alone = is_free(folder)
+    # (else the journals might be those in front of a mark that another run makes meanwhile)
+    with keeper.alone():
+        _, _, found = looked_at(keeper, folder)
+    tails = {name: (place, found.images[name][place:]) for name, place in found.ends.items()}
+    return tails if alone and is_free(folder) else {}
 
 
 def lost_behind_ends(found, tails):
@@ -251,9 +274,11 @@ def renew(keeper, folder, is_new=False, tails=None):
                 raise Refused([f"this seed has a {before.node} already, in {before.folder}: remove this folder, and"
                                " take another seed"])
         else:
+            alone = is_free(folder)
             _, before, found = looked_at(keeper, folder)
             path = keeper.path(found.identity, folder)
-            stop_where_lost(keeper, path, found, folder, before, tails or {})
+            if tails and alone and is_free(folder):
+                stop_where_lost(keeper, path, found, folder, before, tails)
             if is_as_marked(before, found, folder):
                 return
         keeper.put(path, marks.mark_of(found, folder, before))
