@@ -195,6 +195,27 @@ class AroundARun(Room):
         self.assertIn("what was answered is lost", done.stderr)
         self.assertIn("old copy", self.run_node("exit 0").stderr)
 
+    def test_what_was_answered_is_marked_also_where_the_file_went_away(self):
+        self.put(folder=self.room, leaves=leaves(1, 2), notes=leaves(1))
+        writes = "cat ../leaves.journal > leaves.journal; "
+        for then, part in (
+            ("cp -p ../notes.journal other; mv other leaves.journal", "leaves.journal lacks what the run wrote"),
+            ("rm leaves.journal", "leaves.journal is gone"), ("mv leaves.journal other", "leaves.journal is gone"),
+            ("sleep 0.4; cat ../notes.journal > leaves.journal", "leaves.journal lacks what the run wrote"),
+        ):
+            shutil.rmtree(f"{self.room}/marks")
+            self.put(leaves=leaves(1))
+            self.mark()
+            done = self.run_node(f"{writes}echo sent; {then}")
+            self.assertEqual((done.returncode, done.stdout), (125, "sent\n"), then)
+            self.assertIn(part, done.stderr)
+            # (the mark in front of the run would take these)
+            self.put(leaves=leaves(1))
+            self.assertIn("leaves.journal is an old copy", self.refused())
+            self.assertIn("2 leaves used", self.typed("mark", "show").stdout)
+            self.put(leaves=leaves(1, 2))
+            self.assertEqual(self.refused(), "")
+
     def test_what_a_stopped_run_left_is_no_alarm(self):
         self.put(leaves=leaves(1) + leaves(1, 2)[len(leaves(1)) :])
         for text in ("exit 0", "exit 1", "kill -9 $$"):

@@ -7,7 +7,7 @@ import zlib
 
 import node_files
 import marks
-from node_files import JOURNALS, NOTES
+from node_files import JOURNALS, LEAVES, NOTES
 from marks import Found, Refused
 
 NEVER = "Don't run this folder, and don't put anything else in its place: a leaf that signs twice gives the key away."
@@ -116,6 +116,8 @@ def told(name, image, end, mark):
     if place is not None and place < end.place and not any((at + 1) * size <= place for at in parts):
         if len(image) <= end.place or is_earlier(name, image, place, mark):
             return old_copy(name, image, place, end, mark)
+    if not end.checks:
+        return [f"{name} isn't what the last run left: it lacks what that wrote up to byte {end.place}"]
     if is_elsewhere_too(parts, image, end, size):
         return [f"{name} isn't what the last run left, from byte {parts[0] * size} on: another node's file, or another"
                 " copy of this node's that was run elsewhere"]
@@ -190,18 +192,20 @@ def before_init(keeper, folder, identity):
                        "A seed is for one folder and no other. Take another seed.", AGAIN])
 
 
+def may_be_written(folder):
+    """Whether no journal is one whose sync failed: its owner may not write it."""
+    paths = [os.path.join(folder, name) for name in JOURNALS]
+    return all(os.lstat(path).st_mode & 0o200 for path in paths if os.path.lexists(path))
+
+
 def sync_journals(folder):
-    """Lets the journals last before they are marked: a run that was killed may have left bytes in memory alone. False
-    where a file may not be written, so that a sync of it failed."""
+    """Lets the journals last before they are marked: a run that was killed may have left bytes in memory alone."""
     for name in JOURNALS:
-        path = os.path.join(folder, name)
         try:
-            held = os.open(path, os.O_RDONLY | os.O_NOFOLLOW | os.O_NONBLOCK)
+            held = os.open(os.path.join(folder, name), os.O_RDONLY | os.O_NOFOLLOW | os.O_NONBLOCK)
         except FileNotFoundError:
             continue
         try:
-            if not os.fstat(held).st_mode & 0o200:
-                return False
             os.fsync(held)
         except OSError:
             # (as the program does: no later sync would tell of it)
@@ -210,7 +214,6 @@ def sync_journals(folder):
         finally:
             os.close(held)
     marks.sync_folder(folder)
-    return True
 
 
 def is_free(folder):
@@ -229,61 +232,125 @@ def is_free(folder):
     return True
 
 
+class Watch:
+    """What a run is seen to add to its journals, in the files that were there in front of it: so that is known also
+    where these are removed, replaced or overwritten before the run is marked."""
+
+    def __init__(self, folder, path, mark, found, is_alone):
+        self.folder, self.path, self.mark, self.ends = folder, path, mark, found.ends
+        self.held, self.added, self.sums = {}, {}, {}
+        # (where another run is on the folder, what stands behind an end is none of this run's)
+        self.tails = {name: found.images[name][place:] for name, place in found.ends.items()} if is_alone else {}
+        for name, place in found.ends.items():
+            self.held[name] = os.open(os.path.join(folder, name), os.O_RDONLY | os.O_NOFOLLOW | os.O_NONBLOCK)
+            self.added[name], self.sums[name] = bytearray(), marks.state_at(found.images[name], place)
+
+    def look(self):
+        """Reads on, as far as there are whole records."""
+        for name in self.held:
+            while True:
+                try:
+                    found = self.next_of(name)
+                except OSError:
+                    break
+                if not found:
+                    break
+                self.added[name] += found
+
+    def next_of(self, name):
+        """The next record behind an open gate, with what frames it; nothing where there is none, or not yet."""
+        place = self.ends[name] + len(self.added[name])
+        head = os.pread(self.held[name], 5, place)
+        size = node_files.number(head[1:])
+        if len(head) < 5 or head[0] != node_files.GATE or size > node_files.LONGEST:
+            return b""
+        record = os.pread(self.held[name], size, place + 5)
+        return head + record if len(record) == size else b""
+
+    def lost_in(self, images):
+        """Lines on the journals that lack what was added."""
+        return [f"{name} lacks what the run wrote: it was replaced, or older bytes were put there"
+                for name, added in self.added.items()
+                if images[name][self.ends[name] : self.ends[name] + len(added)] != added]
+
+    def lost_behind(self, found):
+        """Lines on the journals behind whose end a run that ended in order wrote anything: that was an answered record,
+        and something closed the gate in front of it. (What a stopped run left stands there from before.)"""
+        def is_lost(name, tail):
+            end = found.ends[name] + 1
+            return found.images[name][end:] != tail[end - self.ends[name] :]
+
+        return [f"{name} ends at byte {found.ends[name]}, and behind it stand bytes that the run wrote: older ones were"
+                " put over it, and what was answered is lost" for name, tail in self.tails.items() if is_lost(name, tail)]
+
+    def keep(self, keeper, found=None):
+        """Marks what was added, so that no run goes on from anything older."""
+        mark, ends = keeper.at(self.path) or self.mark, {}
+        for name, end in mark.ends.items():
+            added = self.added[name]
+            place, total = self.ends[name] + len(added), self.sums[name].copy()
+            total.update(added)
+            ends[name] = marks.End(place, total.hexdigest(), end.size, []) if place > end.place else end
+            if found and self.lost_behind(found) and len(found.images[name]) > ends[name].place:
+                ends[name] = marks.end_at(found.images[name], len(found.images[name]))
+        used = mark.used + (node_files.count_in(self.added[LEAVES]) if LEAVES in self.added else 0)
+        keeper.put(self.path, mark._replace(folder=self.folder, ends=ends, used=used, time=marks.now()))
+
+
 def in_front(keeper, folder):
-    """Looks at a folder in front of a run: where the journals end, and what stood there. Nothing where another run is
-    on the folder: what that writes is none of this run's."""
+    """Looks at a folder in front of a run."""
     alone = is_free(folder)
     # (else the journals might be those in front of a mark that another run makes meanwhile)
     with keeper.alone():
-        _, _, found = looked_at(keeper, folder)
-    tails = {name: (place, found.images[name][place:]) for name, place in found.ends.items()}
-    return tails if alone and is_free(folder) else {}
+        path, mark, found = looked_at(keeper, folder)
+    return Watch(folder, path, mark, found, alone and is_free(folder))
 
 
-def lost_behind_ends(found, tails):
-    """The journals behind whose end a run that ended in order wrote anything: that was an answered record, and
-    something closed the gate in front of it. (What a run left that was stopped stands there from before.)"""
-    def is_lost(name, place, tail):
-        end = found.ends[name]
-        return found.images[name][end + 1 :] != tail[end + 1 - place :]
-
-    return [name for name, (place, tail) in tails.items() if is_lost(name, place, tail)]
-
-
-def stop_where_lost(keeper, path, found, folder, before, tails):
-    """Where answered records are lost, no run goes on from the mark any more: it asks for their bytes too."""
-    lost = lost_behind_ends(found, tails)
-    if lost:
-        ends = {name: len(found.images[name]) if name in lost else end for name, end in found.ends.items()}
-        keeper.put(path, marks.mark_of(found._replace(ends=ends), folder, before))
-        raise Refused([f"{name} ends at byte {found.ends[name]}, and behind it stand bytes that the run wrote: older"
-                       " ones were put over it, and what was answered is lost" for name in lost] + [NEVER])
-
-
-def renew(keeper, folder, is_new=False, tails=None):
-    """Marks what a run left. A new node is marked from its beginning; else the journals have to go on from the mark.
-    With `tails` the run ended in order."""
-    if not sync_journals(folder):
+def renew(keeper, folder, is_new=False, watch=None, in_order=False):
+    """Marks what a run left. A new node is marked from its beginning; else the journals have to go on from the mark, and
+    to have what the run was seen to add."""
+    if not may_be_written(folder):
         return
     with keeper.alone():
-        if is_new:
-            found = marks.found_in(folder)
-            path = keeper.path(found.identity, folder)
-            before = keeper.at(path)
-            if before and not goes_on_from(before, found.images) and found.identity.seed:
-                raise Refused([f"this seed has a {before.node} already, in {before.folder}: remove this folder, and"
-                               " take another seed"])
-        else:
-            alone = is_free(folder)
-            _, before, found = looked_at(keeper, folder)
-            path = keeper.path(found.identity, folder)
-            if tails and alone and is_free(folder):
-                stop_where_lost(keeper, path, found, folder, before, tails)
-            if is_as_marked(before, found, folder):
-                return
+        before, found = of_new(keeper, folder) if is_new else of_run(keeper, folder, watch, in_order)
+        if not is_new and is_as_marked(before, found, folder):
+            return
+        # (behind the look, so that no bytes are marked that aren't on the disk)
+        sync_journals(folder)
+        path = keeper.path(found.identity, folder)
         keeper.put(path, marks.mark_of(found, folder, before))
         if is_new:
             keeper.leave(folder, path)
+
+
+def of_new(keeper, folder):
+    """The mark before, and what stands in the folder of a node that was made."""
+    found = marks.found_in(folder)
+    before = keeper.at(keeper.path(found.identity, folder))
+    if before and not goes_on_from(before, found.images) and found.identity.seed:
+        raise Refused([f"this seed has a {before.node} already, in {before.folder}: remove this folder, and take"
+                       " another seed"])
+    return before, found
+
+
+def of_run(keeper, folder, watch, in_order):
+    """The mark before, and what stands in the folder behind a run."""
+    alone, lost, found = is_free(folder), [], None
+    try:
+        _, before, found = looked_at(keeper, folder)
+        if watch:
+            lost = watch.lost_in(found.images)
+            if not lost and in_order and alone and is_free(folder):
+                lost = watch.lost_behind(found)
+    except Refused as error:
+        lost = error.args[0]
+    except NoNode:
+        lost = [f"{NOTES} doesn't begin as a node's any more"]
+    if lost:
+        if watch:
+            watch.keep(keeper, found)
+        raise Refused([*lost, NEVER] if NEVER not in lost else lost)
+    return before, found
 
 
 def is_as_marked(mark, found, folder):

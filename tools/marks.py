@@ -82,16 +82,20 @@ def size_for(count):
     return size
 
 
-def sum_at(image, place):
-    """The SHA-256 of a journal up to this place. Where it begins as one whose sum was made before, as in front of a run,
-    the rest alone is put to that."""
+def state_at(image, place):
+    """The SHA-256 of a journal up to this place, to go on with. Where it begins as one whose sum was made before, as in
+    front of a run, the rest alone is put to that."""
     known, state = max((it for it in KNOWN if len(it[0]) <= place and image.startswith(it[0])),
                        key=lambda it: len(it[0]), default=(b"", hashlib.sha256()))
     state = state.copy()
     state.update(memoryview(image)[len(known) : place])
     if place - len(known) >= LARGE:
         KNOWN.append((bytes(memoryview(image)[:place]), state))
-    return state.hexdigest()
+    return state
+
+
+def sum_at(image, place):
+    return state_at(image, place).hexdigest()
 
 
 def end_at(image, place):
