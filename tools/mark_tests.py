@@ -81,6 +81,12 @@ class Marked(Room):
         self.assertEqual(self.refused(f"{self.room}/two"), "")
         shutil.copytree(f"{self.room}/one", f"{self.room}/three")
         self.assertEqual(self.refused(f"{self.room}/three"), "")
+        # (an older copy of `one` goes on from the mark of `two`, and is none of it)
+        os.mkdir(f"{self.room}/old")
+        self.put(folder=f"{self.room}/one", notes=node_files.spelled(WATCHER, b"\x13" + bytes(16), b"\x13" + bytes(16)))
+        marking.renew(self.keeper(), f"{self.room}/one")
+        self.put(folder=f"{self.room}/old", notes=node_files.spelled(WATCHER, b"\x13" + bytes(16)))
+        self.assertIn("has no mark", self.refused(f"{self.room}/old"))
         self.put(folder=f"{self.room}/one", notes=node_files.spelled(WATCHER))
         self.assertIn("old copy", self.refused(f"{self.room}/one"))
 

@@ -47,19 +47,22 @@ def looked_at(keeper, folder):
 
 
 def other_mark(keeper, identity, images, path):
-    """Of a node without a key: the mark of another folder from which this one goes on."""
+    """Of a node without a key: the mark of another folder of which this one is a copy. Where there are several such
+    folders it has to end where the mark does: an old copy of one of them may go on from the mark of another."""
     if identity.seed:
         return None
     begin = path.partition("-")[0]
-    for other, mark in keeper.all():
-        if mark and other.partition("-")[0] == begin and goes_on_from(mark, images):
-            return mark
-    return None
+    known = [mark for other, mark in keeper.all() if mark and other.partition("-")[0] == begin]
+    return next((mark for mark in known if goes_on_from(mark, images, ends_there=len(known) > 1)), None)
 
 
-def goes_on_from(mark, images):
+def goes_on_from(mark, images, ends_there=False):
     try:
-        return all(name in images and marks.goes_on(images[name], end) is not None for name, end in mark.ends.items())
+        for name, end in mark.ends.items():
+            place = marks.goes_on(images[name], end) if name in images else None
+            if place is None or ends_there and place != end.place:
+                return False
+        return True
     except node_files.Unfit:
         return False
 

@@ -5,7 +5,8 @@ down, by the node's identity, how far each journal goes and the SHA-256 up to th
 have to go on from that, byte for byte. A mark is written to a new file, synced, renamed, and its folder is synced.
 
 A node with a key has one mark, wherever its folder is. One without a key has a mark for each folder, since two
-watchers may have one account; a copy of it in another folder is taken where it goes on from any of these marks.
+watchers may have one account; a copy in another folder is taken where it goes on from the one mark that there is, or
+ends where one of them does.
 """
 import collections
 import contextlib
