@@ -109,6 +109,21 @@ class Marked(Room):
         self.put(leaves=leaves(1, 2))
         self.assertIn("old copy", self.refused())
 
+    def test_a_node_without_a_key_that_is_moved(self):
+        shutil.rmtree(f"{self.room}/marks")
+        for name in ("one", "old"):
+            os.mkdir(f"{self.room}/{name}")
+            self.put(folder=f"{self.room}/{name}", notes=node_files.spelled(WATCHER))
+        self.mark(f"{self.room}/one")
+        os.rename(f"{self.room}/one", f"{self.room}/two")
+        self.assertEqual(self.refused(f"{self.room}/two"), "")
+        self.put(folder=f"{self.room}/two", notes=node_files.spelled(WATCHER, b"\x13" + bytes(16)))
+        marking.renew(self.keeper(), f"{self.room}/two")
+        self.assertEqual(self.refused(f"{self.room}/two"), "")
+        # (the mark of the folder that is gone takes nothing older any more)
+        self.assertEqual(len([*self.keeper().all()]), 1)
+        self.assertIn("has no mark", self.refused(f"{self.room}/old"))
+
     def test_a_mark_that_is_damaged_is_none(self):
         path = next(f"{self.room}/marks/{name}" for name in os.listdir(f"{self.room}/marks") if name != "lock")
         with open(path, "a", encoding="utf-8") as file:

@@ -324,6 +324,8 @@ def renew(keeper, folder, is_new=False, watch=None, in_order=False):
         keeper.put(path, marks.mark_of(found, folder, before))
         if is_new:
             keeper.leave(folder, path)
+        elif not os.path.isdir(before.folder):
+            keeper.moved(keeper.path(found.identity, before.folder), path)
 
 
 def of_new(keeper, folder):

@@ -219,6 +219,12 @@ class Marks:
         os.rename(path + ".new", path)
         sync_folder(self.folder)
 
+    def moved(self, path, to):
+        """The mark of a folder that is there no more is none: the node was moved, and has its mark as it is now."""
+        if path != to and os.path.exists(path):
+            os.remove(path)
+            sync_folder(self.folder)
+
     def of_folder(self, folder, without=None):
         """The mark that names this folder, of another node than the one at a path."""
         named = [mark for path, mark in self.all() if mark and mark.folder == folder and path != without]
