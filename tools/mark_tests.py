@@ -208,6 +208,18 @@ class AroundARun(Room):
         self.assertEqual((done.returncode, done.stdout), (125, "sent\n"))
         self.assertIn("changed while the run had it open", done.stderr)
 
+    def test_the_first_run_of_a_copy_without_a_key(self):
+        notes = [node_files.spelled(WATCHER, *[b"\x13" + bytes(16)] * count) for count in range(3)]
+        for name, records in (("one", 1), ("two", 0), ("copy", 1)):
+            os.mkdir(f"{self.room}/{name}")
+            self.put(folder=f"{self.room}/{name}", notes=notes[records])
+        self.mark(f"{self.room}/one")
+        self.mark(f"{self.room}/two")
+        self.put(folder=self.room, notes=notes[2])
+        for _ in range(2):
+            done = self.run_node("cat ../notes.journal > notes.journal", "watcher", folder=f"{self.room}/copy")
+            self.assertEqual((done.returncode, done.stderr), (0, ""))
+
     def test_older_bytes_that_are_put_over_answered_records(self):
         self.put(folder=self.room, leaves=leaves(1, 2), notes=leaves(1))
         lays = "dd status=none conv=notrunc of=leaves.journal if=../"

@@ -19,15 +19,16 @@ class NoNode(Exception):
     """No node is in the folder, and none was: the program says so itself, and writes nothing."""
 
 
-def looked_at(keeper, folder):
-    """The mark's path, the mark and what stands in the folder, where that goes on from the mark; else Refused."""
+def looked_at(keeper, folder, in_front_of_run=None):
+    """The mark's path, the mark and what stands in the folder, where that goes on from the mark; else Refused. Behind
+    the first run of a copy its mark is the one that it had in front."""
     images = marks.images_in(folder)
     try:
         identity = node_files.identity_in(images.get(NOTES))
     except node_files.Unfit as error:
         raise (Refused(unknown(keeper, folder, images, error)) if keeper.of_folder(folder) else NoNode()) from error
     path = keeper.path(identity, folder)
-    mark = keeper.at(path) or other_mark(keeper, identity, images, path)
+    mark = keeper.at(path) or in_front_of_run or other_mark(keeper, identity, images, path)
     if not mark:
         raise Refused(unmarked(keeper, folder, identity, images))
     wrong, ends = [], {}
@@ -342,7 +343,7 @@ def of_run(keeper, folder, watch, in_order):
     """The mark before, and what stands in the folder behind a run."""
     alone, lost, found = is_free(folder), [], None
     try:
-        _, before, found = looked_at(keeper, folder)
+        _, before, found = looked_at(keeper, folder, watch and watch.mark)
         if watch:
             lost = watch.lost_in(found.images)
             if not lost and in_order and alone and is_free(folder):
