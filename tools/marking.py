@@ -297,8 +297,9 @@ class Watch:
             ends[name] = marks.End(place, total.hexdigest(), end.size, []) if place > end.place else end
             if found and self.lost_behind(found) and len(found.images[name]) > ends[name].place:
                 ends[name] = marks.end_at(found.images[name], len(found.images[name]))
-        used = mark.used + (node_files.count_in(self.added[LEAVES]) if LEAVES in self.added else 0)
-        keeper.put(self.path, mark._replace(folder=self.folder, ends=ends, used=used, time=marks.now()))
+        if ends != mark.ends:
+            used = mark.used + (node_files.count_in(self.added[LEAVES]) if LEAVES in self.added else 0)
+            keeper.put(self.path, mark._replace(folder=self.folder, ends=ends, used=used, time=marks.now()))
 
 
 def in_front(keeper, folder):
