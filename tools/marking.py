@@ -284,8 +284,9 @@ class Watch:
             end = found.ends[name] + 1
             return found.images[name][end:] != tail[end - self.ends[name] :]
 
+        lost = [name for name, tail in self.tails.items() if is_lost(name, tail)]
         return [f"{name} ends at byte {found.ends[name]}, and behind it stand bytes that the run wrote: older ones were"
-                " put over it, and what was answered is lost" for name, tail in self.tails.items() if is_lost(name, tail)]
+                " put over it, and what was answered is lost" for name in lost]
 
     def keep(self, keeper, found=None):
         """Marks what was added, so that no run goes on from anything older."""
@@ -312,8 +313,8 @@ def in_front(keeper, folder):
 
 
 def renew(keeper, folder, is_new=False, watch=None, in_order=False):
-    """Marks what a run left. A new node is marked from its beginning; else the journals have to go on from the mark, and
-    to have what the run was seen to add."""
+    """Marks what a run left. A new node is marked from its beginning; else the journals have to go on from the mark,
+    and to have what the run was seen to add."""
     if not may_be_written(folder):
         return
     with keeper.alone():

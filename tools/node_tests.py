@@ -1,5 +1,5 @@
-"""The tests of tools/make_node, tools/verify_node and the run of an operator, for tools/test; and what those of the marks
-begin with (mark_tests.py). What needs the proved program isn't tried where there is none.
+"""The tests of tools/make_node, tools/verify_node and the run of an operator, for tools/test; and what those of the
+marks begin with (mark_tests.py). What needs the proved program isn't tried where there is none.
 """
 import gzip
 import os
