@@ -104,11 +104,13 @@ class Launched(kill.Bare):
 
     # ---- two at once
 
-    def at_once(self, case, given, tally):
+    def at_once(self, case, given, tally, until):
         """Three runs at once over a folder, of which one may be killed: each is done, or refused since another one is
-        on the folder, and none is stopped by a mark."""
+        on the folder, and none is stopped by a mark. There are a fifth as many of these as kills."""
         chance = random.Random(f"{given.seed} {case.name} at once")
-        for _ in range(given.kills):
+        for _ in range(given.kills // 5 + 1):
+            if time.monotonic() > until:
+                break
             folder = kill.copied(case.base, f"{self.room}/killed")
             self.begin(folder)
             runs = []
