@@ -2,14 +2,13 @@
 import contextlib
 import fcntl
 import os
-import re
 import resource
 import shutil
 import subprocess
 import time
 
 from judging import LAST, Wrong, answered, fresh, looked, looked_at, tried
-from nodes import JOURNALS, content, fed, kill, owner_of, pieces, unmark
+from nodes import JOURNALS, content, fed, kill, owner_of, pieces
 
 
 def streams(program, case, one, what, words, tally, room):
@@ -17,11 +16,14 @@ def streams(program, case, one, what, words, tally, room):
     folder = kill.copied(case.base, f"{room}/faulted")
     with open(f"{room}/input", "wb") as file:
         file.write(kill.text_of(case.log, case.lines))
-    status = subprocess.run(["sh", "-c", f'exec "$0" {case.role} < "$1/input" > "$1/output" {words}', program, room],
-                            cwd=folder, stderr=subprocess.DEVNULL).returncode
+    line = f'exec "$0" {" ".join(kill.words_of(case.role, case.lines))} < "$1/input" > "$1/output" {words}'
+    status = subprocess.run(["sh", "-c", line, program, room], cwd=folder, stderr=subprocess.DEVNULL).returncode
     least = len(case.lines) if status == 0 else 0
     fit = {"output closed": {5}, "input closed": {3, 4}, "both closed": {3, 4, 5}, "error closed": {0},
            "output full": {5}}[what]
+    if case.role == kill.SIGNER:
+        # (it reads no input)
+        fit = {"input closed": {0}, "both closed": {5}}.get(what, fit)
     tried(tally, case.name, what, status, fit, lambda: looked(program, case, one, folder, least, room))
 
 
@@ -30,8 +32,8 @@ def no_reader(program, case, one, tally, room):
     folder = kill.copied(case.base, f"{room}/faulted")
     end, begin = os.pipe()
     os.close(end)
-    status = subprocess.run([program, case.role], input=kill.text_of(case.log, case.lines), stdout=begin,
-                            cwd=folder).returncode
+    status = subprocess.run([program, *kill.words_of(case.role, case.lines)], stdout=begin, cwd=folder,
+                            input=kill.text_of(case.log, case.lines)).returncode
     os.close(begin)
     tried(tally, case.name, "pipe without reader", status, {5}, lambda: looked(program, case, one, folder, 0, room))
 
@@ -45,8 +47,9 @@ def may_not_grow(program, case, one, tally, room):
         for ignores, fit in ((True, {6}), (False, {-25})):
             folder = kill.copied(case.base, f"{room}/faulted")
             status = subprocess.run(
-                [program, case.role], input=kill.text_of(case.log, case.lines), stdout=subprocess.DEVNULL, cwd=folder,
-                restore_signals=not ignores, preexec_fn=lambda: resource.setrlimit(resource.RLIMIT_FSIZE, (most, most)),
+                [program, *kill.words_of(case.role, case.lines)], input=kill.text_of(case.log, case.lines),
+                stdout=subprocess.DEVNULL, cwd=folder, restore_signals=not ignores,
+                preexec_fn=lambda: resource.setrlimit(resource.RLIMIT_FSIZE, (most, most)),
             ).returncode
             what = "size limit" if ignores else "size limit, kills"
             tried(tally, case.name, what, status, fit, lambda: looked(program, case, one, folder, 0, room))
@@ -63,7 +66,8 @@ def full_file_system(program, case, tally, room):
             left = os.statvfs(small).f_bavail
             with open(f"{small}/filler", "wb") as file:
                 file.write(b"\0" * 4096 * (left - pages))
-            written, status = fed([program, case.role], folder, pieces(case), [len(it) for it in one.answers])
+            words = [program, *kill.words_of(case.role, case.lines)]
+            written, status = fed(words, folder, pieces(case), [len(it) for it in one.answers])
             os.remove(f"{small}/filler")
             whole = status == 0
 
@@ -248,68 +252,3 @@ def between_two(program, case, one, folder, change):
     sizes = [len(answer) for answer in one.answers]
     written, status = fed([program, case.role], folder, pieces(case), sizes, between=between)
     return written, status, problems[0] if problems else None
-
-
-def on_ext4(program, tally, room):
-    """A sync that fails on ext4, since the disk below is full: later runs may not read what that disk doesn't have.
-
-    The gate of the record stands alone in its block: in front of it are noughts, which a `lay` put there, and the
-    block behind it has room. The block's place on the disk is given back, and the disk filled. Then writing the gate
-    fails, and the disk has the noughts, as before."""
-    log = [f"chain {kill.TAG} 9 1000"]
-    with mounted(["-t", "tmpfs", "-o", "size=40m", "tmpfs"], f"{room}/ram") as ram:
-        if ram is None:
-            return False
-        image = f"{ram}/image"
-        sh("dd if=/dev/zero of=$0 bs=1M count=32 status=none && mkfs.ext4 -q -F -b 4096 "
-           "-E nodiscard,lazy_itable_init=0,lazy_journal_init=0 $0 && fallocate -l 32M $0", image)
-        with mounted(["-o", "loop,nodiscard", image], f"{room}/ext4") as disk:
-            if disk is None:
-                return False
-            node = gate_alone(program, fresh(f"{disk}/node"), log)
-            block = block_of(f"{node}/notes.journal", 2)
-            sh(f"fallocate -p -o {block * 4096} -l 4096 $0 && dd if=/dev/zero of=$0.fill bs=4096 status=none; "
-               f"dd if=/dev/zero of=$0.rest bs=1 count=8192 status=none; true", image)
-            _, first = kill.run(program, node, "operator", log, ["lay 2 0xaa"])
-            sh("rm -f $0.fill $0.rest", image)
-            second, status = kill.run(program, node, "operator", log, ["seal"])
-        with mounted(["-o", "loop,nodiscard", image], f"{room}/ext4") as disk:
-            node = f"{disk}/node"
-            found, _ = kill.records(node, "notes.journal")
-            unmark(node)
-            third, after = kill.run(program, node, "operator", log, ["seal"])
-
-    def look():
-        if len(found) != 2 or after != 0 or not third.startswith(b"sealed 1\n"):
-            raise Wrong(f"after the restart: {len(found)} records, status {after}, {third[:20]!r}")
-        if status != 6 or second != LAST[6]:
-            raise Wrong(f"the next run ends with status {status} and {second[:9]!r}, which the disk doesn't have")
-
-    tried(tally, "ext4", "a sync that fails", first, {6}, look)
-    return True
-
-
-def gate_alone(program, node, log):
-    """An operator's folder, in which the last gate is the last byte of its block, behind noughts."""
-    path = f"{node}/notes.journal"
-    subprocess.run([program, *owner_of("operator")], cwd=node, stdout=subprocess.DEVNULL, check=True)
-    # (a frame has 5 bytes in front, and the record of a lay its kind and the coin)
-    count = 3 * 4096 - os.stat(path).st_size - 5 - 9
-    kill.done(program, node, "operator", log, [f"lay 1 0x{'00' * count}"])
-    subprocess.run(["sync"], check=True)
-    if os.stat(path).st_size != 3 * 4096:
-        raise SystemExit("--ext4: the gate isn't the last byte of its block")
-    return node
-
-
-def sh(line, *words):
-    subprocess.run(["sh", "-c", line, *words], check=True, stderr=subprocess.DEVNULL)
-
-
-def block_of(path, number):
-    """The block on its disk of a block of a file."""
-    shown = subprocess.run(["filefrag", "-v", "-b4096", path], stdout=subprocess.PIPE, text=True, check=True).stdout
-    for first, last, place in re.findall(r"^ *\d+: +(\d+)\.\. +(\d+): +(\d+)\.\.", shown, re.M):
-        if int(first) <= number <= int(last):
-            return int(place) + number - int(first)
-    raise SystemExit(f"filefrag doesn't tell where {path} stands")

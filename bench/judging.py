@@ -46,7 +46,7 @@ def looked_at(program, case, one, folder, marks, count, room, written=b""):
         raise Wrong("a sync failed, and no file is marked" if marks else "a file is marked, and no sync failed")
     if marks:
         before = content(folder)
-        _, again = kill.run(program, folder, case.role, case.log, kill.others(case, stood))
+        _, again = kill.run(program, folder, case.role, case.log, kill.others(case, stood) or case.lines)
         if again != 6 or content(folder) != before:
             raise Wrong(f"a run over a marked file ends with status {again}")
         unmark(folder)

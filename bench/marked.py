@@ -20,6 +20,21 @@ KINDS = ("refused", "same", "signs twice", "told otherwise")
 Life = collections.namedtuple("Life", "case states shown")
 
 
+def cases(program, room):
+    """Those of bench/kill, and a wallet with another type of key, whose leaves have no marker: `plain`."""
+    folder, coins = f"{room}/plain", range(1, kill.COUNT + 1)
+    os.mkdir(folder)
+    subprocess.run([program, "init", "wallet", kill.TAG, "11", f"0x{106:064x}", "5", "3"], cwd=folder,
+                   stdout=subprocess.DEVNULL, check=True)
+    log = [f"chain {kill.TAG} 9 1000"]
+    (owner,) = kill.done(program, folder, "wallet", log, ["who"])
+    log += ["fund 11 1000000", *(f"call 11 deposit 1 0x{owner[18:]}" for _ in coins)]
+    sends, states = [f"send {coin} 0x{coin + 40:0128x}" for coin in coins], [f"state {coin}" for coin in coins]
+    return [*kill.cases(program, room), kill.Case(
+        "plain", "wallet", folder, JOURNALS[1], log, sends,
+        lambda count: (log, states + [f"again {coin}" for coin in coins[:count]]))]
+
+
 def laid(folder, images):
     """Puts the files into a folder, and no others."""
     os.makedirs(folder, exist_ok=True)
@@ -83,7 +98,7 @@ def probe(life, lines):
     """A line that binds the next leaf to another message than any line of the life."""
     if life.case.role == kill.SIGNER:
         return ["sign 0x63"]
-    if life.case.name == "send":
+    if life.case.name in ("send", "plain"):
         return [f"send {coin} 0x{coin:0128x}" for coin in (1, kill.COUNT + 1)]
     return lines[:1]
 

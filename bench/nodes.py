@@ -6,6 +6,7 @@ import os
 import shutil
 import signal
 import subprocess
+import sys
 import threading
 
 HERE = os.path.dirname(os.path.abspath(__file__))
@@ -21,7 +22,7 @@ def loaded(name):
     return module
 
 
-kill = loaded("kill")
+kill = sys.modules.get("kill") or loaded("kill")
 JOURNALS = kill.JOURNALS
 KEYED = "operator with a key"
 

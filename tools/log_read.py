@@ -1,5 +1,5 @@
 """What a root log, a bundle, an opening and a transfer say, by docs/FORMATS.md and apart from the program: for
-tools/verify_node. It takes the log's word, as a node does.
+tools/verify_node and tools/safe. It takes the log's word, as a node does.
 """
 import collections
 import functools
@@ -10,8 +10,15 @@ from node_files import Unfit, number
 BODIES = {b"PCT1": 116, b"PCT2": 124}
 DEPTH = 64
 
-# A signed transfer: its body and signature, and what the body says.
-Transfer = collections.namedtuple("Transfer", "body sign tag coin parent owner last")
+
+class Transfer(collections.namedtuple("Transfer", "body sign tag coin parent owner last")):
+    """A signed transfer: its body and signature, and what the body says."""
+
+    @property
+    def account(self):
+        return number(self.owner[:8])
+
+
 # A coin of the log: the block of its deposit, its first owner and its amount.
 Coin = collections.namedtuple("Coin", "block owner amount")
 # A bundle: the coin, the tip, and its items, each a block and an opening.

@@ -1,15 +1,17 @@
 """What the marks say of a folder: whether it goes on from its mark, and else what it looks like. For the launcher and
 tools/mark.
 """
+import fcntl
 import os
 import zlib
 
 import node_files
 import marks
-from node_files import JOURNALS, NOTES
+from node_files import JOURNALS, LEAVES, NOTES
 from marks import Found, Refused
 
 NEVER = "Don't run this folder, and don't put anything else in its place: a leaf that signs twice gives the key away."
+AGAIN = "To try something again with a known seed, keep its marks apart: export PLASMA_MARKS=$PWD/marks"
 ADOPT = "'plasma-mark adopt', typed in it, asks what it has to know, and then marks it."
 
 
@@ -17,15 +19,16 @@ class NoNode(Exception):
     """No node is in the folder, and none was: the program says so itself, and writes nothing."""
 
 
-def looked_at(keeper, folder):
-    """The mark's path, the mark and what stands in the folder, where that goes on from the mark; else Refused."""
+def looked_at(keeper, folder, in_front_of_run=None):
+    """The mark's path, the mark and what stands in the folder, where that goes on from the mark; else Refused. Behind
+    the first run of a copy its mark is the one that it had in front."""
     images = marks.images_in(folder)
     try:
         identity = node_files.identity_in(images.get(NOTES))
     except node_files.Unfit as error:
         raise (Refused(unknown(keeper, folder, images, error)) if keeper.of_folder(folder) else NoNode()) from error
     path = keeper.path(identity, folder)
-    mark = keeper.at(path) or other_mark(keeper, identity, images, path)
+    mark = keeper.at(path) or in_front_of_run or other_mark(keeper, identity, images, path)
     if not mark:
         raise Refused(unmarked(keeper, folder, identity, images))
     wrong, ends = [], {}
@@ -45,19 +48,22 @@ def looked_at(keeper, folder):
 
 
 def other_mark(keeper, identity, images, path):
-    """Of a node without a key: the mark of another folder from which this one goes on."""
+    """Of a node without a key: the mark of another folder of which this one is a copy. Where there are several such
+    folders it has to end where the mark does: an old copy of one of them may go on from the mark of another."""
     if identity.seed:
         return None
     begin = path.partition("-")[0]
-    for other, mark in keeper.all():
-        if mark and other.partition("-")[0] == begin and goes_on_from(mark, images):
-            return mark
-    return None
+    known = [mark for other, mark in keeper.all() if mark and other.partition("-")[0] == begin]
+    return next((mark for mark in known if goes_on_from(mark, images, ends_there=len(known) > 1)), None)
 
 
-def goes_on_from(mark, images):
+def goes_on_from(mark, images, ends_there=False):
     try:
-        return all(name in images and marks.goes_on(images[name], end) is not None for name, end in mark.ends.items())
+        for name, end in mark.ends.items():
+            place = marks.goes_on(images[name], end) if name in images else None
+            if place is None or ends_there and place != end.place:
+                return False
+        return True
     except node_files.Unfit:
         return False
 
@@ -114,6 +120,8 @@ def told(name, image, end, mark):
     if place is not None and place < end.place and not any((at + 1) * size <= place for at in parts):
         if len(image) <= end.place or is_earlier(name, image, place, mark):
             return old_copy(name, image, place, end, mark)
+    if not end.checks:
+        return [f"{name} isn't what the last run left: it lacks what that wrote up to byte {end.place}"]
     if is_elsewhere_too(parts, image, end, size):
         return [f"{name} isn't what the last run left, from byte {parts[0] * size} on: another node's file, or another"
                 " copy of this node's that was run elsewhere"]
@@ -185,21 +193,23 @@ def before_init(keeper, folder, identity):
     mark = keeper.at(keeper.path(identity, folder)) if identity.seed else None
     if mark and not goes_on_from(mark, marks.images_in(folder)):
         raise Refused([f"this seed has a {mark.node} already, made or last run in {mark.folder} at {mark.time}",
-                       "A seed is for one folder and no other. Take another seed."])
+                       "A seed is for one folder and no other. Take another seed.", AGAIN])
+
+
+def may_be_written(folder):
+    """Whether no journal is one whose sync failed: its owner may not write it."""
+    paths = [os.path.join(folder, name) for name in JOURNALS]
+    return all(os.lstat(path).st_mode & 0o200 for path in paths if os.path.lexists(path))
 
 
 def sync_journals(folder):
-    """Lets the journals last before they are marked: a run that was killed may have left bytes in memory alone. False
-    where a file may not be written, so that a sync of it failed."""
+    """Lets the journals last before they are marked: a run that was killed may have left bytes in memory alone."""
     for name in JOURNALS:
-        path = os.path.join(folder, name)
         try:
-            held = os.open(path, os.O_RDONLY | os.O_NOFOLLOW | os.O_NONBLOCK)
+            held = os.open(os.path.join(folder, name), os.O_RDONLY | os.O_NOFOLLOW | os.O_NONBLOCK)
         except FileNotFoundError:
             continue
         try:
-            if not os.fstat(held).st_mode & 0o200:
-                return False
             os.fsync(held)
         except OSError:
             # (as the program does: no later sync would tell of it)
@@ -208,56 +218,147 @@ def sync_journals(folder):
         finally:
             os.close(held)
     marks.sync_folder(folder)
+
+
+def is_free(folder):
+    """Whether no run is on the folder at this moment."""
+    for name in JOURNALS:
+        try:
+            held = os.open(os.path.join(folder, name), os.O_RDONLY | os.O_NOFOLLOW | os.O_NONBLOCK)
+        except OSError:
+            continue
+        try:
+            fcntl.flock(held, fcntl.LOCK_EX | fcntl.LOCK_NB)
+        except OSError:
+            return False
+        finally:
+            os.close(held)
     return True
 
 
-def tails_of(found):
-    """Where the journals ended in front of a run, and what stood there."""
-    return {name: (place, found.images[name][place:]) for name, place in found.ends.items()}
+class Watch:
+    """What a run is seen to add to its journals, in the files that were there in front of it: so that is known also
+    where these are removed, replaced or overwritten before the run is marked."""
+
+    def __init__(self, folder, path, mark, found, is_alone):
+        self.folder, self.path, self.mark, self.ends = folder, path, mark, found.ends
+        self.held, self.added, self.sums = {}, {}, {}
+        # (where another run is on the folder, what stands behind an end is none of this run's)
+        self.tails = {name: found.images[name][place:] for name, place in found.ends.items()} if is_alone else {}
+        for name, place in found.ends.items():
+            self.held[name] = os.open(os.path.join(folder, name), os.O_RDONLY | os.O_NOFOLLOW | os.O_NONBLOCK)
+            self.added[name], self.sums[name] = bytearray(), marks.state_at(found.images[name], place)
+
+    def look(self):
+        """Reads on, as far as there are whole records."""
+        for name in self.held:
+            while True:
+                try:
+                    found = self.next_of(name)
+                except OSError:
+                    break
+                if not found:
+                    break
+                self.added[name] += found
+
+    def next_of(self, name):
+        """The next record behind an open gate, with what frames it; nothing where there is none, or not yet."""
+        place = self.ends[name] + len(self.added[name])
+        head = os.pread(self.held[name], 5, place)
+        size = node_files.number(head[1:])
+        if len(head) < 5 or head[0] != node_files.GATE or size > node_files.LONGEST:
+            return b""
+        record = os.pread(self.held[name], size, place + 5)
+        return head + record if len(record) == size else b""
+
+    def lost_in(self, images):
+        """Lines on the journals that lack what was added."""
+        return [f"{name} lacks what the run wrote: it was replaced, or older bytes were put there"
+                for name, added in self.added.items()
+                if images[name][self.ends[name] : self.ends[name] + len(added)] != added]
+
+    def lost_behind(self, found):
+        """Lines on the journals behind whose end a run that ended in order wrote anything: that was an answered record,
+        and something closed the gate in front of it. (What a stopped run left stands there from before.)"""
+        def is_lost(name, tail):
+            end = found.ends[name] + 1
+            return found.images[name][end:] != tail[end - self.ends[name] :]
+
+        lost = [name for name, tail in self.tails.items() if is_lost(name, tail)]
+        return [f"{name} ends at byte {found.ends[name]}, and behind it stand bytes that the run wrote: older ones were"
+                " put over it, and what was answered is lost" for name in lost]
+
+    def keep(self, keeper, found=None):
+        """Marks what was added, so that no run goes on from anything older."""
+        mark, ends = keeper.at(self.path) or self.mark, {}
+        for name, end in mark.ends.items():
+            added = self.added[name]
+            place, total = self.ends[name] + len(added), self.sums[name].copy()
+            total.update(added)
+            ends[name] = marks.End(place, total.hexdigest(), end.size, []) if place > end.place else end
+            if found and self.lost_behind(found) and len(found.images[name]) > ends[name].place:
+                ends[name] = marks.end_at(found.images[name], len(found.images[name]))
+        if ends != mark.ends:
+            used = mark.used + (node_files.count_in(self.added[LEAVES]) if LEAVES in self.added else 0)
+            keeper.put(self.path, mark._replace(folder=self.folder, ends=ends, used=used, time=marks.now()))
 
 
-def lost_behind_ends(found, tails):
-    """The journals behind whose end a run that ended in order wrote anything: that was an answered record, and
-    something closed the gate in front of it. (What a run left that was stopped stands there from before.)"""
-    def is_lost(name, place, tail):
-        end = found.ends[name]
-        return found.images[name][end + 1 :] != tail[end + 1 - place :]
-
-    return [name for name, (place, tail) in tails.items() if is_lost(name, place, tail)]
-
-
-def stop_where_lost(keeper, path, found, folder, before, tails):
-    """Where answered records are lost, no run goes on from the mark any more: it asks for their bytes too."""
-    lost = lost_behind_ends(found, tails)
-    if lost:
-        ends = {name: len(found.images[name]) if name in lost else end for name, end in found.ends.items()}
-        keeper.put(path, marks.mark_of(found._replace(ends=ends), folder, before))
-        raise Refused([f"{name} ends at byte {found.ends[name]}, and behind it stand bytes that the run wrote: older"
-                       " ones were put over it, and what was answered is lost" for name in lost] + [NEVER])
+def in_front(keeper, folder):
+    """Looks at a folder in front of a run."""
+    alone = is_free(folder)
+    # (else the journals might be those in front of a mark that another run makes meanwhile)
+    with keeper.alone():
+        path, mark, found = looked_at(keeper, folder)
+    return Watch(folder, path, mark, found, alone and is_free(folder))
 
 
-def renew(keeper, folder, is_new=False, tails=None):
-    """Marks what a run left. A new node is marked from its beginning; else the journals have to go on from the mark.
-    With `tails` the run ended in order."""
-    if not sync_journals(folder):
+def renew(keeper, folder, is_new=False, watch=None, in_order=False):
+    """Marks what a run left. A new node is marked from its beginning; else the journals have to go on from the mark,
+    and to have what the run was seen to add."""
+    if not may_be_written(folder):
         return
     with keeper.alone():
-        if is_new:
-            found = marks.found_in(folder)
-            path = keeper.path(found.identity, folder)
-            before = keeper.at(path)
-            if before and not goes_on_from(before, found.images) and found.identity.seed:
-                raise Refused([f"this seed has a {before.node} already, in {before.folder}: remove this folder, and"
-                               " take another seed"])
-        else:
-            _, before, found = looked_at(keeper, folder)
-            path = keeper.path(found.identity, folder)
-            stop_where_lost(keeper, path, found, folder, before, tails or {})
-            if is_as_marked(before, found, folder):
-                return
+        before, found = of_new(keeper, folder) if is_new else of_run(keeper, folder, watch, in_order)
+        if not is_new and is_as_marked(before, found, folder):
+            return
+        # (behind the look, so that no bytes are marked that aren't on the disk)
+        sync_journals(folder)
+        path = keeper.path(found.identity, folder)
         keeper.put(path, marks.mark_of(found, folder, before))
         if is_new:
             keeper.leave(folder, path)
+        elif not os.path.isdir(before.folder):
+            keeper.moved(keeper.path(found.identity, before.folder), path)
+
+
+def of_new(keeper, folder):
+    """The mark before, and what stands in the folder of a node that was made."""
+    found = marks.found_in(folder)
+    before = keeper.at(keeper.path(found.identity, folder))
+    if before and not goes_on_from(before, found.images) and found.identity.seed:
+        raise Refused([f"this seed has a {before.node} already, in {before.folder}: remove this folder, and take"
+                       " another seed"])
+    return before, found
+
+
+def of_run(keeper, folder, watch, in_order):
+    """The mark before, and what stands in the folder behind a run."""
+    alone, lost, found = is_free(folder), [], None
+    try:
+        _, before, found = looked_at(keeper, folder, watch and watch.mark)
+        if watch:
+            lost = watch.lost_in(found.images)
+            if not lost and in_order and alone and is_free(folder):
+                lost = watch.lost_behind(found)
+    except Refused as error:
+        lost = error.args[0]
+    except NoNode:
+        lost = [f"{NOTES} doesn't begin as a node's any more"]
+    if lost:
+        if watch:
+            watch.keep(keeper, found)
+        raise Refused([*lost, NEVER] if NEVER not in lost else lost)
+    return before, found
 
 
 def is_as_marked(mark, found, folder):

@@ -5,7 +5,8 @@ down, by the node's identity, how far each journal goes and the SHA-256 up to th
 have to go on from that, byte for byte. A mark is written to a new file, synced, renamed, and its folder is synced.
 
 A node with a key has one mark, wherever its folder is. One without a key has a mark for each folder, since two
-watchers may have one account; a copy of it in another folder is taken where it goes on from any of these marks.
+watchers may have one account; a copy in another folder is taken where it goes on from the one mark that there is, or
+ends where one of them does.
 """
 import collections
 import contextlib
@@ -24,6 +25,8 @@ FORM, EARLIER = "plasma mark 1", 40
 # A mark has at most so many checks of parts of a journal, by which it is told where a byte changed.
 PARTS = 4096
 OFF = "none"
+# The beginnings of the two journals that were looked at last, where they are large, each with the state of its SHA-256.
+KNOWN, LARGE = collections.deque(maxlen=2), 1 << 20
 
 # How far a journal goes, the SHA-256 of its bytes up to there, and checks of its parts, each of so many bytes.
 End = collections.namedtuple("End", "place sum size checks")
@@ -80,18 +83,34 @@ def size_for(count):
     return size
 
 
+def state_at(image, place):
+    """The SHA-256 of a journal up to this place, to go on with. Where it begins as one whose sum was made before, as in
+    front of a run, the rest alone is put to that."""
+    known, state = max((it for it in KNOWN if len(it[0]) <= place and image.startswith(it[0])),
+                       key=lambda it: len(it[0]), default=(b"", hashlib.sha256()))
+    state = state.copy()
+    state.update(memoryview(image)[len(known) : place])
+    if place - len(known) >= LARGE:
+        KNOWN.append((bytes(memoryview(image)[:place]), state))
+    return state
+
+
+def sum_at(image, place):
+    return state_at(image, place).hexdigest()
+
+
 def end_at(image, place):
     """The end of a journal that goes to this place."""
     view = memoryview(image)[:place]
     size = size_for(place)
     checks = [zlib.crc32(view[at : at + size]) for at in range(0, place, size)]
-    return End(place, hashlib.sha256(view).hexdigest(), size, checks)
+    return End(place, sum_at(image, place), size, checks)
 
 
 def goes_on(image, end):
     """Where a journal ends that begins with the marked bytes; None where it doesn't. Unfit where what follows them is
     no record."""
-    if len(image) <= end.place or hashlib.sha256(memoryview(image)[: end.place]).hexdigest() != end.sum:
+    if len(image) <= end.place or sum_at(image, end.place) != end.sum:
         return None
     place = end.place
     while image[place : place + 1] == bytes([node_files.GATE]):
@@ -199,6 +218,12 @@ class Marks:
             os.fsync(file.fileno())
         os.rename(path + ".new", path)
         sync_folder(self.folder)
+
+    def moved(self, path, to):
+        """The mark of a folder that is there no more is none: the node was moved, and has its mark as it is now."""
+        if path != to and os.path.exists(path):
+            os.remove(path)
+            sync_folder(self.folder)
 
     def of_folder(self, folder, without=None):
         """The mark that names this folder, of another node than the one at a path."""

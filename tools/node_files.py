@@ -64,6 +64,11 @@ def record_at(image, place):
     return Record(place, bytes(image[place + 5 : place + 5 + length]))
 
 
+def count_in(records):
+    """How many records these bytes spell, which begin with a gate; a marker isn't counted."""
+    return sum(it.bytes != MARKER for it in Journal(HEAD + bytes(records) + bytes([SHUT])).records)
+
+
 def hidden(journal):
     """Whole records behind the journal's end, each behind a gate that isn't open: the first one's gate is the end. One
     behind a gate of nought is what a run left that was stopped there."""

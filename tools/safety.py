@@ -6,7 +6,7 @@ else started can be paid any more without a call that is still due.
 """
 from dataclasses import asdict, dataclass, field
 
-from journals import leaf_of, transfer_in
+from log_read import leaf_of, transfer_in
 from rootlog import CHALLENGE_BOND, EXIT_BOND
 
 GOOD = ("SAFE", "SENT", "PAID")
