@@ -3,6 +3,7 @@ cases.
 """
 import collections
 import gzip
+import hashlib
 import importlib.machinery
 import importlib.util
 import os
@@ -13,13 +14,22 @@ import sys
 import tempfile
 import traceback
 
+try:
+    # (of strings this short the digest that Python has itself takes three fifths of the time)
+    from _sha256 import sha256 as short_sha256  # Python before 3.12
+except ImportError:
+    from _sha2 import sha256 as short_sha256
+
+hashlib.sha256 = short_sha256
 TOP = os.path.dirname(os.path.dirname(os.path.abspath(__file__)))
 JOURNALS = ("notes.journal", "leaves.journal")
 LONGEST = 120  # seconds that one run may take
+FORGET = 500  # runs
 
 # A run: its words, its input, and the files that the folder is given before it; None leaves what the run before left.
 Step = collections.namedtuple("Step", "words input files", defaults=[b"", None])
-Case = collections.namedtuple("Case", "kind steps")
+# Runs in one folder; of some it may be known already what the program made of them, by their places.
+Case = collections.namedtuple("Case", "kind steps told", defaults=[{}])
 # What a run wrote, how it ended, and the files behind it.
 Did = collections.namedtuple("Did", "text status files")
 
@@ -62,8 +72,9 @@ class Program:
 
 
 class Module:
-    """A program in Python that is read once, and of which each run is a fork of this process. It has a function `run`,
-    which takes the words and gives the status."""
+    """A program in Python that is read once, and run here. It has a function `run`, which takes the words and gives the
+    status, reads and writes by the numbers 0 and 1, and keeps nothing between two runs but what it computed of the
+    same words."""
 
     def __init__(self, path):
         folder = os.path.dirname(path)
@@ -71,6 +82,9 @@ class Module:
         loader = importlib.machinery.SourceFileLoader("second_opinion_program", path)
         self.module = importlib.util.module_from_spec(importlib.util.spec_from_loader(loader.name, loader))
         loader.exec_module(self.module)
+        self.kept = [it for name in os.listdir(folder) if name.endswith(".py") and name[:-3] in sys.modules
+                     for it in vars(sys.modules[name[:-3]]).values() if hasattr(it, "cache_clear")]
+        self.runs = 0
 
     def make_keys(self, seeds, types):
         """Makes the keys of these seeds, so that no run needs to."""
@@ -78,32 +92,51 @@ class Module:
             sys.modules["lms"].key_of_seed(seed, *types).tree()
 
     def run(self, folder, step):
+        self.runs += 1
+        if self.runs % FORGET == 0:
+            self.forget()
         if step.files is not None:
             put(folder, step.files)
-        with tempfile.TemporaryFile() as read, tempfile.TemporaryFile() as written:
-            read.write(step.input)
-            read.seek(0)
-            child = os.fork()
-            if not child:
-                self.child(folder, step.words, read, written)
-            _, status = os.waitpid(child, 0)
-            written.seek(0)
-            return Did(written.read(), os.waitstatus_to_exitcode(status), found(folder))
+        here, streams = os.getcwd(), [os.dup(0), os.dup(1)]
+        read, written = (os.memfd_create(name) for name in ("read", "written"))
+        with open(read, "r+b") as given, open(written, "r+b") as told:
+            given.write(step.input)
+            given.seek(0)
+            try:
+                os.chdir(folder)
+                os.dup2(read, 0)
+                os.dup2(written, 1)
+                status = self.status_of(step.words)
+            finally:
+                os.chdir(here)
+                for number, stream in enumerate(streams):
+                    os.dup2(stream, number)
+                    os.close(stream)
+            told.seek(0)
+            return Did(told.read(), status, found(folder))
 
-    def child(self, folder, words, read, written):
-        status = 99
+    def status_of(self, words):
+        signal.signal(signal.SIGALRM, too_long)
+        signal.alarm(LONGEST)
         try:
-            signal.alarm(LONGEST)
-            os.chdir(folder)
-            os.dup2(read.fileno(), 0)
-            os.dup2(written.fileno(), 1)
-            status = self.module.run(words)
+            return self.module.run(words)
         except SystemExit as end:
-            status = end.code
-        except BaseException:  # noqa: B902
+            return end.code
+        except Exception:
             traceback.print_exc()
+            return 99
         finally:
-            os._exit(status or 0)
+            signal.alarm(0)
+
+    def forget(self):
+        """What was computed is forgotten now and then, all but keys, so that it doesn't grow."""
+        for it in self.kept:
+            if "key" not in it.__name__:
+                it.cache_clear()
+
+
+def too_long(*_):
+    raise TimeoutError("a run took too long")
 
 
 def kept_program(room):
@@ -117,10 +150,11 @@ def kept_program(room):
     return f"{room}/program"
 
 
-def played(program, case, room):
+def played(program, case, room, told=None):
     """What came of each run of a case, in a folder that is empty at first."""
+    told = told or {}
     with tempfile.TemporaryDirectory(dir=room) as folder:
-        return [program.run(folder, step) for step in case.steps]
+        return [told.get(place) or program.run(folder, step) for place, step in enumerate(case.steps)]
 
 
 def differ(one, other):
@@ -180,7 +214,7 @@ class Smaller:
 
     def __call__(self, case):
         dids = [played(program, case, self.room) for program in self.programs]
-        case = case._replace(steps=case.steps[: differ(*dids) + 1])
+        case = case._replace(steps=case.steps[: (differ(*dids) or 0) + 1])
         place = 0
         while place < len(case.steps) - 1 and self.trials > 0:
             steps = [*case.steps]

@@ -2,6 +2,9 @@
 generators of bench/agree.
 """
 import subprocess
+import threading
+
+from agreeing import Did
 
 WINDOW, ANSWER_TIME, EXIT_TIME = 604_800, 302_400, 907_200
 OPERATOR = 9
@@ -41,7 +44,7 @@ class World:
     def __init__(self, program, random, most=60):
         self.random, self.most = random, most
         self.child = subprocess.Popen([program, "replay"], stdin=subprocess.PIPE, stdout=subprocess.PIPE, bufsize=0)
-        self.text, self.lines, self.answers = b"", [], []
+        self.told, self.text, self.lines, self.answers = [], b"", [], []
         self.clock, self.blocks, self.room = 0, 0, 100
         self.coins, self.exits, self.challenges, self.deadlines = {}, {}, {}, []
         self.wallets, self.watchers, self.rogues, self.accounts, self.down = {}, {}, {}, [], set()
@@ -74,20 +77,27 @@ class World:
             got = self.child.stdout.read(1 << 16)
             if not got:
                 raise Ended
+            self.told.append(got)
             self.text += got
         line, self.text = self.text.split(b"\n", 1)
         return line.decode("latin-1")
 
-    def close(self):
-        """Ends the replay: the schedule."""
+    def close(self, more=b""):
+        """Ends the replay, with more behind it: the schedule, and what the program made of it."""
+        writer = threading.Thread(target=self.give, args=[more])
+        writer.start()
+        self.told.append(self.child.stdout.read())
+        writer.join()
+        self.child.stdout.close()
+        text = "".join(f"{line}\n" for line in self.lines).encode("latin-1") + more
+        return text, Did(b"".join(self.told), self.child.wait(), {})
+
+    def give(self, more):
         try:
+            self.child.stdin.write(more)
             self.child.stdin.close()
         except BrokenPipeError:
             pass
-        self.ends = (self.text + self.child.stdout.read()).decode("latin-1")
-        self.child.stdout.close()
-        self.child.wait()
-        return "".join(f"{line}\n" for line in self.lines).encode("latin-1")
 
     @property
     def last(self):

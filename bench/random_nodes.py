@@ -160,6 +160,6 @@ class Followed:
 
 def followed(program, random):
     """The runs of a random schedule."""
-    text, answers, _ = schedule(program, random, random.choice(FOLLOWED))
+    text, _, answers = schedule(program, random, random.choice(FOLLOWED))
     lines = text.decode("latin-1").split("\n")
     return Followed(program, random, lines, answers)

@@ -74,7 +74,7 @@ def types_of(random, kind):
 
 
 def schedule(program, random, kind):
-    """A schedule of a kind."""
+    """A schedule of a kind, what the program made of it, and its answers line by line."""
     world = World(program, random, LONGEST[kind] * random.choice([1, 1, 1, 2]) // random.choice([1, 1, 2]))
     try:
         if kind == "names":
@@ -85,10 +85,8 @@ def schedule(program, random, kind):
             walk(world, steps, kind)
     except Ended:
         pass
-    text = world.close()
-    if kind == "lines":
-        text += a_line(random, text, world)
-    return text, world.answers, world.ends
+    text, did = world.close(a_line(random, world) if kind == "lines" else b"")
+    return text, did, world.answers
 
 
 def walk(world, steps, kind):
