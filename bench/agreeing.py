@@ -86,11 +86,6 @@ class Module:
                      for it in vars(sys.modules[name[:-3]]).values() if hasattr(it, "cache_clear")]
         self.runs = 0
 
-    def make_keys(self, seeds, types):
-        """Makes the keys of these seeds, so that no run needs to."""
-        for seed in seeds:
-            sys.modules["lms"].key_of_seed(seed, *types).tree()
-
     def run(self, folder, step):
         self.runs += 1
         if self.runs % FORGET == 0:
