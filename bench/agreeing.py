@@ -28,8 +28,9 @@ FORGET = 500  # runs
 
 # A run: its words, its input, and the files that the folder is given before it; None leaves what the run before left.
 Step = collections.namedtuple("Step", "words input files", defaults=[b"", None])
-# Runs in one folder; of some it may be known already what the program made of them, by their places.
-Case = collections.namedtuple("Case", "kind steps told", defaults=[{}])
+# Runs in one folder; of some it may be known already what the program made of them, by their places. The marks say
+# what the case was made for.
+Case = collections.namedtuple("Case", "kind steps told marks", defaults=[{}, ()])
 # What a run wrote, how it ended, and the files behind it.
 Did = collections.namedtuple("Did", "text status files")
 

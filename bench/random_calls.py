@@ -147,6 +147,17 @@ class Calls(Steps):
         else:
             self.start()
 
+    def penny(self):
+        """A new account challenges an exit with a bond, or with a penny less or more."""
+        coin, exit = self.exit_of(lambda coin, exit: self.parent_of(coin, exit) > coin.block)
+        if coin and self.parent_of(coin, exit) > coin.block:
+            account = 1000 + self.world.last
+            self.world(f"fund {account} {self.random.choice([39, 40, 40, 41])}")
+            earlier = [block for block in [coin.block, *coin.leaves] if block < self.parent_of(coin, exit)]
+            block = self.random.choice(earlier)
+            self.world(f"call {account} before {coin.number} {exit} {block} {self.shown_or_deposit(coin, block)}")
+            self.world(f"money {account}")
+
     def all_challenges(self):
         """Each earlier block challenges an exit, and some are answered."""
         coin, exit = self.exit_of()

@@ -17,11 +17,11 @@ class Chain:
     def __init__(self, random, coins=2, blocks=6):
         self.random, self.keys = random, [signer(seed, 5, 3) for _, seed in OWNERS]
         self.log, self.trees, self.blocks = [HEAD, "fund 21 1000000"], {}, 0
-        self.tips, self.transfers, self.holders = {}, [], {}
+        self.tips, self.transfers, self.holders, self.links = {}, [], {}, {}
         for coin in range(1, coins + 1):
             self.log.append(f"call 21 deposit {random.choice([1, 100])} {hexed(public_key(self.keys[0]))}")
             self.blocks += 1
-            self.tips[coin], self.holders[coin] = self.blocks, 0
+            self.tips[coin], self.holders[coin], self.links[coin] = self.blocks, 0, [self.blocks]
         for _ in range(random.randrange(blocks)):
             self.block()
 
@@ -45,6 +45,7 @@ class Chain:
                 self.transfers.append((coin, self.tips[coin], signed))
                 if made[coin] == signed:
                     self.tips[coin], self.holders[coin] = self.blocks + 1, taker
+                    self.links[coin].append(self.blocks + 1)
         tree = Tree(made if leaves is None else leaves)
         self.blocks += 1
         self.trees[self.blocks] = tree
@@ -88,7 +89,8 @@ def receipts(_, random):
                                         f"bundle {coin} 0"]))
     if not marked and random.random() < 0.5:
         lines.insert(0, "migrate")
-    return Case("receipts", [Step(["operator"], chain.text(lines), files), Step(["operator"], chain.text(["seal"]))])
+    steps = [Step(["operator"], chain.text(lines), files), Step(["operator"], chain.text(["seal"]))]
+    return Case("receipts", steps[: random.choice([1, 1, 2])])
 
 
 def audits(_, random):
@@ -119,34 +121,41 @@ def audits(_, random):
 
 
 def archives(_, random):
-    """Openings that are kept in order, or not; events; and what is asked."""
-    chain = Chain(random, coins=2, blocks=7)
+    """Openings that are kept in order, or not; events; and what is asked. In most each opening is put, and good."""
+    chain, sane = Chain(random, coins=2, blocks=14), random.random() < 0.65
     cut = random.randrange(3, len(chain.log) + 1) if random.random() < 0.3 else len(chain.log)
     events = [f"event {line}" for line in chain.log[cut:]]
     chain.log = chain.log[:cut]
     lines = []
     for coin in chain.tips:
         for block in sorted(chain.trees):
-            if random.random() < 0.9:
-                shown = chain.opening(coin, block if random.random() < 0.95 else random.choice([*chain.trees]))
-                lines.append(f"put {coin} {block} {hexed(chain.maybe_spoiled(shown, 0.05))}")
-            if random.random() < 0.25:
-                lines.append(question(random, chain, coin))
-    if random.random() < 0.2:
+            if sane or random.random() < 0.9:
+                other = random.choice([*chain.trees]) if random.random() < 0.05 and not sane else block
+                shown = chain.maybe_spoiled(chain.opening(coin, other), 0 if sane else 0.05)
+                lines.append(f"put {coin} {block} {hexed(shown)}")
+            if random.random() < 0.35:
+                lines.append(question(random, chain, coin, sane))
+    if random.random() < 0.2 and not sane:
         lines.insert(0, random.choice(["event tick 5", "event call 77 finish 1 1", "event chain 0x00 9 5", "event",
                                        "event  x",
                                        f"event {HEAD}", "event money 1", "who", "put 1 1 0x", "put 1 2", "tip"]))
     for event in events:
-        lines.insert(random.randrange(len(lines) + 1) if random.random() < 0.3 else 0, event)
-    lines.append(question(random, chain, random.choice([1, 2, 3])))
+        lines.insert(random.randrange(len(lines) + 1) if random.random() < 0.3 and not sane else 0, event)
+    lines += [question(random, chain, random.choice([1, 2]), sane) for _ in range(2)]
+    lines.append(question(random, chain, random.choice([1, 2, 3]), False))
     return Case("archive", [Step(["archive"], chain.text(lines))])
 
 
-def question(random, chain, coin):
+def question(random, chain, coin, sane):
+    """What an archive is asked: of a sane run nothing that it refuses, as long as all openings are put."""
     if random.random() < 0.05:
         coin = random.choice([0, 3, 2**64 - 1])
-    tips = [chain.tips.get(coin, 1), 0, 1, 2, chain.blocks, chain.blocks + 1]
-    return random.choice([f"tip {coin}", f"broken {coin}", f"bundle {coin} {random.choice(tips)}", f"bundle {coin} 0"])
+        return f"broken {coin}" if sane else random.choice([f"tip {coin}", f"bundle {coin} 0", f"broken {coin}"])
+    if sane and random.random() < 0.75:
+        return random.choice([f"tip {coin}", f"tip {coin}", f"broken {coin}"])
+    links = chain.links.get(coin, [1])
+    tips = links if sane else [*links, 0, 1, 2, chain.blocks, chain.blocks + 1]
+    return f"bundle {coin} {random.choice(tips)}"
 
 
 # ---- words
@@ -174,7 +183,8 @@ def levels(_, random):
     if random.random() < 0.25:
         at = random.choice([0, 4, 8, 1296, 1300, 1304, 1352, 1356])
         signed = signed[:at] + u32(random.choice([0, 1, 2, 3, 4, 5, 6])) + signed[at + 4 :]
-    return Case("levels", [Step(["hss", "verify", *changed_words(random, [key, message, signed])])])
+    words = changed_words(random, [key, message, signed])
+    return Case("levels", [Step(["hss", "verify", *words])], {}, (f"a signature of {count} levels",))
 
 
 def changed_words(random, words):
@@ -218,8 +228,76 @@ def nothing_there(_, random):
     return Case("nothing", [Step([role], f"{HEAD}\n--\nwatch\n".encode(), files)])
 
 
-FORMS = [(receipts, 12), (audits, 12), (archives, 10), (verifies, 5), (levels, 2), (makes, 2), (usages, 2),
-         (nothing_there, 2)]
+# ---- nodes and signers that are begun
+
+BEGUN = {"no byte": b"", "less than a mark": b"PG", "a mark": b"PGJ1", "five other bytes": b"abcde",
+         "six other bytes": b"abcdef", "no record": journal(), "no record, and another end": journal(end=b"\x37"),
+         "no record, and bytes behind it": journal() + b"\xa5\0", "an empty record": journal(b""),
+         "a record": journal(identity("watcher", 14)), "a record that is cut": journal(b"\x03")[:-2],
+         "a record that is begun": b"PGJ1\xa5\0\0"}
+
+
+def inits(_, random):
+    """An `init`, mostly one that is begun over files."""
+    tag, seed = hexed(TAG), hexed(seed_of(random.choice([1, 2])))
+    words = random.choice([["init", "wallet", tag, "11", seed], ["init", "wallet", tag, "11", seed, "6", "3"],
+                           ["init", "wallet", tag, "11", seed, "5", "4"], ["init", "operator", tag, "9"],
+                           ["init", "operator", tag, "9", seed], ["init", "watcher", tag, "14"],
+                           ["hss", "init", seed]])
+    if random.random() < 0.15:
+        at = random.randrange(1, len(words) + 1)
+        words = random.choice([words[:at], [*words, "5"], [*words[:at], "7", *words[at + 1 :]],
+                               [*words[:at], words[-1][:-2], *words[at + 1 :]]])
+    names = random.sample(["notes.journal", "leaves.journal"], random.choice([0, 1, 1, 2]))
+    kinds = [random.choice([*BEGUN]) for _ in names]
+    files = {name: BEGUN[kind] for name, kind in zip(names, kinds)}
+    marks = [f"an init over {name[:5]}: {kind}" for name, kind in zip(names, kinds)]
+    return Case("init", [Step(words, b"", files), Step(words)], {}, tuple(marks))
+
+
+def signer_records(random, top):
+    """The records of a signer's leaves, and what is odd about them."""
+
+    def begun(number, key=None):
+        return b"\1" + u32(number) + (key or public_key(bottom_key(top, number)))
+
+    def bound(number, leaf, message=b"m"):
+        return b"\2" + u32(number) + u32(leaf) + message
+
+    full = [bound(0, leaf) for leaf in range(32)]
+    return random.choice([
+        ("none", []), ("none", []), ("a key without messages", [begun(0)]),
+        ("messages of each length", [begun(0), bound(0, 0), bound(0, 1, bytes(128))]),
+        ("one leaf left", [begun(0), *full[:31]]), ("no leaf left", [begun(0), *full]),
+        ("two keys", [begun(0), *full[:2], begun(1), bound(1, 0)]), ("another key", [begun(0, bytes(56))]),
+        ("the next key's", [begun(0, public_key(bottom_key(top, 1)))]), ("the second key first", [begun(1)]),
+        ("a key twice", [begun(0), begun(0)]), ("a leaf twice", [begun(0), bound(0, 0), bound(0, 0)]),
+        ("a leaf left out", [begun(0), bound(0, 1)]), ("another key's leaf", [begun(0), bound(1, 0)]),
+        ("one leaf too many", [begun(0), *full, bound(0, 32)]), ("no key", [bound(0, 0)]),
+        ("a message of no byte", [begun(0), bound(0, 0, b"")]), ("a long message", [begun(0), bound(0, 0, bytes(129))]),
+        ("a short key", [begun(0)[:-1]]), ("another kind", [begun(0), b"\3" + bytes(8)]),
+    ])
+
+
+def signs(_, random):
+    """Signatures of two levels by a signer's files, good ones or changed ones."""
+    top = signer(1)
+    said, made = signer_records(random, top)
+    if random.random() < 0.01:
+        said, made = "all leaves spent", [b"\1" + u32(j) + public_key(bottom_key(top, j)) for j in range(32)]
+        made += [b"\2" + u32(31) + u32(leaf) + b"m" for leaf in range(32)]
+    first = b"\x31" + top.seed
+    notes = random.choice([[first]] * 12 + [[], [first, first], [first + b"\0"], [identity("watcher", 14)]])
+    files = {"notes.journal": journal(*notes), "leaves.journal": journal(*made)}
+    if random.random() < 0.1:
+        files["leaves.journal"] = spoiled(random, files["leaves.journal"])
+    message = random.randbytes(random.choice([1, 1, 32, 127, 128, 129, 0]))
+    step = Step(["hss", "sign", hexed(message)], b"", files)
+    return Case("sign", [step, Step(["hss", "sign", "0x61"])], {}, (f"a signer's leaves: {said}",))
+
+
+FORMS = [(receipts, 12), (audits, 12), (archives, 10), (verifies, 5), (levels, 2), (makes, 1), (usages, 2),
+         (nothing_there, 2), (inits, 4), (signs, 2)]
 
 
 def a_form(program, random):

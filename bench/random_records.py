@@ -14,8 +14,9 @@ MADE = []
 
 def moments(program, random):
     """A followed schedule, mostly one that was there before: it serves for some cases."""
-    if not MADE or random.random() < 0.1:
-        MADE[:] = [*MADE[-5:], followed(program, random)]
+    while not MADE or random.random() < 0.1:
+        made = followed(program, random)
+        MADE[:] = [*MADE[-5:], *([made] if made.moments else [])]
     return random.choice(MADE)
 
 
@@ -23,7 +24,7 @@ def cases_of_moments(program, random, kind):
     """A node of a schedule at some moment, over files or a log that were changed."""
     made = moments(program, random)
     wallets = [it for it in made.moments if it[0] == "wallet"] or made.moments
-    for _ in range(2 if made.moments else 0):
+    for _ in range(2):
         role, _, files, log = random.choice(wallets if random.random() < 0.6 else made.moments)
         other = random.choice(made.moments)
         if kind == "records":

@@ -12,7 +12,7 @@ CHAIN = {"fund": 2, "money": 2, "tick": 4}
 TRADE = {"deposit": 4, "pass_on": 10, "send": 3, "offer": 2, "lay": 1, "seal": 2, "take": 4, "again": 1, "leave": 3,
          "migrate": 1, "watch": 4, "prove": 1, "absences": 1, "reclaim": 3, "release": 1, "empty_block": 1, "enter": 1}
 DISPUTE = {"deposit_of_stranger": 4, "plant": 6, "start": 6, "after": 3, "between": 3, "before": 5, "respond": 4,
-           "finish": 5}
+           "finish": 5, "penny": 1}
 KINDS = {
     "life": {**CHAIN, **TRADE, "start": 1, "finish": 2},
     "dispute": {**CHAIN, **DISPUTE, "deposit_of_stranger": 1, "links": 6, "double_spend": 3, "seal": 1,
@@ -42,9 +42,9 @@ def begun(world, kind):
     random, keys = world.random, {}
     most = random.choice([1, 2, 3, 5, 9]) if kind == "full" else random.choice([100, 100, 3000])
     world(f"chain 1 {OPERATOR} {most}")
-    names = random.sample(NAMES, 5)
-    seeds = random.sample(range(1, 9), 5)
-    wallets = {"dispute": 0, "restart": random.choice([0, 1, 2]), "spent": 2}.get(kind, random.choice([1, 2, 2, 3]))
+    wallets = {"dispute": 0, "restart": random.choice([0, 1, 2]), "spent": 2}.get(kind, random.choice([1, 1, 2, 2, 3]))
+    wallets = random.choice([7, 8, 9]) if wallets and random.random() < 0.01 else wallets
+    names, seeds = random.sample(NAMES, max(wallets, 1)), random.sample(range(1, 11), max(wallets, 1))
     for place in range(wallets):
         types = types_of(random, kind)
         keys[names[place]] = key_of(seeds[place], types or (5, 4))
@@ -68,9 +68,9 @@ def begun(world, kind):
 
 def types_of(random, kind):
     """Mostly the types whose keys are made soonest."""
-    if kind in ("lines", "names") or random.random() < 0.97:
+    if kind in ("lines", "names") or random.random() < 0.99:
         return 5, 3
-    return random.choice([(5, 4), (6, 3), None])
+    return random.choice([(5, 4), (5, 4), (6, 3), None])
 
 
 def schedule(program, random, kind):

@@ -326,6 +326,9 @@ class Steps:
                 self.world(f"watch {name}")
         if self.chance(0.3):
             self.random.choice([self.fund, self.money, self.again, self.release])()
+        for name in [*self.world.wallets, *self.world.watchers]:
+            if self.chance(0.08):
+                self.world(f"open {name}")
         if self.chance(self.haste):
             self.tick()
 

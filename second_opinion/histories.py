@@ -118,9 +118,9 @@ def refuse_present(chain, bundle, after):
     for block, _, leaf in opened_items(chain, bundle, after):
         refuse_if(leaf != b'', 'not-absent', block)
 
-def link_walk(chain, coin_number, leaf_at, last):
+def link_walk(chain, coin_number, leaf_at, last, ends_broken=False):
     """The last link and the first broken leaf of a coin, over the leaves that `leaf_at` knows up to `last`.
-    A broken leaf is neither empty nor the next link; the walk goes on behind one.
+    A broken leaf is neither empty nor the next link; an operator's walk goes on behind one, an archive's ends.
     """
     coin = chain.coins[coin_number]
     tip, owner, broken = coin.block, coin.owner, None
@@ -133,4 +133,6 @@ def link_walk(chain, coin_number, leaf_at, last):
             tip, owner = block, transfer.owner
         elif broken is None:
             broken = block
+            if ends_broken:
+                break
     return tip, owner, broken

@@ -159,8 +159,8 @@ class Archive:
             return opened_leaf(self.chain.root_of(block), coin, opening) if opening else b''
         return leaf
 
-    def walk(self, coin):
-        return link_walk(self.chain, coin, self.leaf_at(coin), len(self.chain.blocks))
+    def walk(self, coin, last):
+        return link_walk(self.chain, coin, self.leaf_at(coin), last, ends_broken=True)
 
     def event(self, call):
         self.chain.follow(call)
@@ -179,16 +179,15 @@ class Archive:
 
     def tip(self, coin):
         refuse_if(coin not in self.chain.coins, 'no-coin')
-        return ['tip %d' % self.walk(coin)[0]]
+        return ['tip %d' % self.walk(coin, len(self.chain.blocks))[0]]
 
     def broken(self, coin):
-        broken = self.walk(coin)[2] if coin in self.chain.coins else None
+        broken = self.walk(coin, len(self.chain.blocks))[2] if coin in self.chain.coins else None
         return ['whole' if broken is None else 'broken %d' % broken]
 
     def bundle(self, coin, tip):
         refuse_if(coin not in self.chain.coins, 'no-coin')
-        is_link = link_walk(self.chain, coin, self.leaf_at(coin), tip)[0] == tip
-        refuse_if(not is_link, 'not-tip', tip)
+        refuse_if(self.walk(coin, tip)[0] != tip, 'not-tip', tip)
         blocks = self.chain.committed_between(self.chain.coins[coin].block, tip)
         bundle = Bundle(coin, tip, [(block, self.kept[coin, block]) for block in blocks])
         return ['bundled %d' % tip, '0x' + bundle.bytes().hex()]
