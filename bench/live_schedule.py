@@ -50,7 +50,7 @@ class World:
         self.wallets, self.watchers, self.rogues, self.accounts, self.down = {}, {}, {}, [], set()
         self.pool, self.sealed, self.trees = {}, None, {}
         self.transfers, self.bundles, self.items, self.proofs = [], [], [], {}
-        self.offers, self.leaving, self.leaf_of = {}, {}, {}
+        self.offers, self.leaving, self.leaf_of, self.victims = {}, {}, {}, {}
 
     # ---- lines
 

@@ -147,6 +147,22 @@ class Calls(Steps):
         else:
             self.start()
 
+    def dropped(self):
+        """Two new accounts challenge an exit, which is finished when its time has come."""
+        coin, exit = self.exit_of(lambda coin, exit: sum(it < self.parent_of(coin, exit) for it in coin.leaves))
+        earlier = [it for it in [coin.block, *coin.leaves] if it < self.parent_of(coin, exit)] if coin else []
+        if len(earlier) < 2:
+            return
+        accounts = [2000 + self.world.last, 3000 + self.world.last]
+        for account, block in zip(accounts, self.random.sample(earlier, 2)):
+            self.world(f"fund {account} 40")
+            self.world(f"call {account} before {coin.number} {exit} {block} {self.shown_or_deposit(coin, block)}")
+        end = self.world.exits.get((coin.number, exit), 0) + EXIT_TIME
+        self.world(f"tick {max(end, self.world.clock)}")
+        self.world(f"call {self.stranger()} finish {coin.number} {exit}")
+        for account in accounts:
+            self.world(f"money {account}")
+
     def penny(self):
         """A new account challenges an exit with a bond, or with a penny less or more."""
         coin, exit = self.exit_of(lambda coin, exit: self.parent_of(coin, exit) > coin.block)
@@ -173,21 +189,27 @@ class Calls(Steps):
     def theft(self):
         """A rogue takes a coin that a wallet has, by the wallet's own key where it has it. Deadlines pass, looked at
         or not."""
-        held = [coin for coin in self.world.coins.values() if coin.owner in self.world.wallets]
         name = self.name("rogues")
+        victim = self.world.victims.get(name)
+        if victim and self.chance(0.6):
+            self.money_for(self.world.wallets[victim], 5)
+            self.world(f"deposit {victim} 5")
+        held = [coin for coin in self.world.coins.values() if coin.owner in self.world.wallets]
         if not held or not name:
             return
+        held = held[-1:] if held[-1].owner == victim and self.chance(0.8) else held
+        held = [coin for coin in held if coin.owner == victim] or held
         coin = self.random.choice(held)
-        parent = coin.tip if self.chance(0.6) else self.laid(coin, name, self.some([coin.tip, coin.block]), name)
+        parent = coin.tip if self.chance(0.7) else self.laid(coin, name, self.some([coin.tip, coin.block]), name)
         exit = self.laid(coin, name, parent, name)
         self.exit_begun(coin, name, parent, exit)
         begun = self.world.exits.get((coin.number, exit))
         if begun is None:
             return
         for time in (WINDOW, WINDOW + ANSWER_TIME):
-            if self.chance(0.5):
-                self.look()
-            if self.chance(0.3):
+            if self.chance(0.6):
+                self.look_on()
+            elif self.chance(0.3):
                 self.respond()
             if self.chance(0.8):
                 self.world(f"tick {max(begun + time - self.chance(0.3), self.world.clock)}")

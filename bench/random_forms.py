@@ -173,22 +173,24 @@ def verifies(_, random):
 
 
 def levels(_, random):
-    """Signatures of two levels, seldom of one or three, mostly good ones."""
+    """A signature of two levels, seldom of one or three, as it is and with one thing changed."""
     top, number = signer(random.choice([1, 2])), random.choice([0, 1, 31])
     count = random.choice([2] * 10 + [1, 3])
     keys = [top, bottom_key(top, number), bottom_key(top, 1 - number % 2)][:count]
     message = random.randbytes(random.choice([1, 32, 128, 129, 0]))
     signed = levels_signature(keys, [number, 1, 2][:count], message)
     key = levels_key(top, random.choice([count] * 8 + [1, 2, 3]))
-    if random.random() < 0.25:
-        at = random.choice([0, 4, 8, 1296, 1300, 1304, 1352, 1356])
-        signed = signed[:at] + u32(random.choice([0, 1, 2, 3, 4, 5, 6])) + signed[at + 4 :]
-    words = changed_words(random, [key, message, signed])
-    return Case("levels", [Step(["hss", "verify", *words])], {}, (f"a signature of {count} levels",))
+    steps = []
+    for at in random.sample([0, 0, None, None, 4, 8, 1296, 1300, 1304, 1352, 1356], 4):
+        number = u32(random.choice([0, 1, 2, 3, 4, 5, 6]))
+        shown = signed if at is None else signed[:at] + number + signed[at + 4 :]
+        words = changed_words(random, [key, message, shown], 0.3)
+        steps.append(Step(["hss", "verify", *words]))
+    return Case("levels", steps, {}, (f"a signature of {count} levels",))
 
 
-def changed_words(random, words):
-    if random.random() < 0.4:
+def changed_words(random, words, share=0.4):
+    if random.random() < share:
         at = random.randrange(3)
         words[at] = spoiled(random, words[at])
     words = [hexed(word) for word in words]
@@ -296,7 +298,7 @@ def signs(_, random):
     return Case("sign", [step, Step(["hss", "sign", "0x61"])], {}, (f"a signer's leaves: {said}",))
 
 
-FORMS = [(receipts, 12), (audits, 12), (archives, 10), (verifies, 5), (levels, 2), (makes, 1), (usages, 2),
+FORMS = [(receipts, 9), (audits, 10), (archives, 10), (verifies, 5), (levels, 5), (makes, 1), (usages, 2),
          (nothing_there, 2), (inits, 4), (signs, 2)]
 
 

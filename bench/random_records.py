@@ -28,7 +28,8 @@ def cases_of_moments(program, random, kind):
         role, _, files, log = random.choice(wallets if random.random() < 0.6 else made.moments)
         other = random.choice(made.moments)
         if kind == "records":
-            files = changed_files(random, files, other[2])
+            back = taken_back(random, files) if role == "wallet" and random.random() < 0.3 else None
+            files = back or changed_files(random, files, other[2])
             if random.random() < 0.04:
                 role = random.choice(ROLES)
         else:
@@ -83,6 +84,21 @@ def changed_files(random, files, others):
             contents, end = records(files[name])
             files[name] = journal(*changed_records(random, contents), end=end)
     return files
+
+
+def taken_back(random, files):
+    """The files of a wallet with a note that a transfer was taken back, of a leaf that there is: mostly one that
+    doesn't fit; None where no leaf binds a transfer."""
+    notes, leaves = (records(files.get(name, journal()))[0] for name in ("notes.journal", "leaves.journal"))
+    bodies = [it[4:] if it[4:8] in (b"PCT1", b"PCT2") else it for it in leaves if it != MARKER]
+    if not bodies:
+        return None
+    leaf = random.randrange(len(bodies))
+    coin, tip = bodies[leaf][36:44], bodies[leaf][44:52]
+    coin, tip, leaf = random.choice([
+        (coin, tip, leaf), (u64(int.from_bytes(coin, "big") + 1), tip, leaf), (coin, u64(9), leaf),
+        (coin, tip, leaf + 1), (coin, tip, (leaf + 1) % len(bodies)), (coin, tip, 2**32 - 1)])
+    return {"notes.journal": journal(*notes, b"\x05" + coin + tip + u32(leaf)), "leaves.journal": files["leaves.journal"]}
 
 
 def changed_end(random, content):

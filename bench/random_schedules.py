@@ -10,9 +10,9 @@ NAMES = ["a", "b", "c", "d", "ann", "bob2", "carol", "zz9", "wallet", "sixteenle
 # How often each step comes, by kind.
 CHAIN = {"fund": 2, "money": 2, "tick": 4}
 TRADE = {"deposit": 4, "pass_on": 10, "send": 3, "offer": 2, "lay": 1, "seal": 2, "take": 4, "again": 1, "leave": 3,
-         "migrate": 1, "watch": 4, "prove": 1, "absences": 1, "reclaim": 3, "release": 1, "empty_block": 1, "enter": 1}
+         "migrate": 1, "taken_back": 2, "watch": 4, "prove": 1, "absences": 1, "reclaim": 3, "release": 1, "empty_block": 1, "enter": 1}
 DISPUTE = {"deposit_of_stranger": 4, "plant": 6, "start": 6, "after": 3, "between": 3, "before": 5, "respond": 4,
-           "finish": 5, "penny": 1}
+           "finish": 5, "penny": 1, "dropped": 2}
 KINDS = {
     "life": {**CHAIN, **TRADE, "start": 1, "finish": 2},
     "dispute": {**CHAIN, **DISPUTE, "deposit_of_stranger": 1, "links": 6, "double_spend": 3, "seal": 1,
@@ -21,7 +21,7 @@ KINDS = {
     "thief": {**CHAIN, **TRADE, "plant": 3, "planted_pair": 5, "start": 4, "look": 6, "finish": 5, "tick": 4,
               "theft": 6, "before": 2,
               "respond": 3, "double_spend": 2, "all_challenges": 2},
-    "restart": {**CHAIN, "deposit_of_stranger": 1, "links": 4, "double_spend": 2, "planted_pair": 3, "start": 5,
+    "restart": {**CHAIN, "deposit_of_stranger": 1, "links": 4, "dropped": 1, "double_spend": 2, "planted_pair": 3, "start": 5,
                 "restart": 14, "finish": 1, "look": 2, "take": 3, "all_challenges": 2},
     "crashes": {**CHAIN, **TRADE, "cut": 16, "crash": 5, "open": 2, "start": 2},
     "bytes": {**CHAIN, "deposit": 2, "deposit_of_stranger": 2, "commit": 8, "start": 8, "after": 4, "between": 4,
@@ -57,6 +57,7 @@ def begun(world, kind):
             victim = names[random.randrange(wallets)]
             key = keys[victim]
             seed, types = int.from_bytes(key.seed, "big"), (key.lms, key.ots)
+            world.victims[name] = victim
         keys[name] = key_of(seed, types)
         world(f"rogue {name} {21 + place} {seed} {types[0]} {types[1]}")
         world(f"fund {21 + place} {random.choice([0, 100, 400, 10_000])}")

@@ -332,6 +332,39 @@ class Steps:
         if self.chance(self.haste):
             self.tick()
 
+    def look_on(self):
+        """Everybody watches until nothing is due, and then maybe does something else, or somebody calls."""
+        names = [*self.world.wallets, *self.world.watchers]
+        for name in names:
+            answer = self.world(f"watch {name}")
+            for number in range(1, int(answer[1]) + 1 if answer[0] == "offers" else 1):
+                self.world(f"enter {name} {number}")
+        for name in names:
+            self.world(f"watch {name}")
+        lines = {"open": [f"open {name}" for name in names], "call": ["fund 50 1"], "nothing": [],
+                 "refused": [f"again {name} 0" if name in self.world.wallets else f"release {name} 0 0"
+                             for name in names]}
+        for line in lines[self.random.choice(["open", "open", "nothing", "nothing", "call", "refused"])]:
+            self.world(line)
+
+    def taken_back(self):
+        """A wallet sends a coin that no block takes, and takes it back when the last block is there."""
+        held = [coin for coin in self.world.coins.values() if coin.owner in self.world.wallets]
+        if not held:
+            return
+        coin = self.random.choice(held)
+        if self.chance(0.6):
+            self.world(f"migrate {coin.owner}")
+        last = self.world.blocks + self.random.choice([1, 1, 2, 3])
+        answer = self.world(f"send {coin.owner} {coin.number} {self.random.choice([*self.world.wallets])} {last}")
+        for _ in range(last - self.world.blocks if answer[0] == "sent" else 0):
+            self.world("seal")
+            self.world("enter op 1")
+        self.world(f"absences {coin.number} {coin.tip} {last}")
+        self.world(f"reclaim {coin.owner} #{self.world.last}")
+        if self.chance(0.5):
+            self.send(coin)
+
     def enter(self):
         name = self.some([*self.world.wallets, *self.world.watchers, "op"])
         if name:
