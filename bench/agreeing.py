@@ -28,9 +28,8 @@ FORGET = 500  # runs
 
 # A run: its words, its input, and the files that the folder is given before it; None leaves what the run before left.
 Step = collections.namedtuple("Step", "words input files", defaults=[b"", None])
-# Runs in one folder; of some it may be known already what the program made of them, by their places. The marks say
-# what the case was made for.
-Case = collections.namedtuple("Case", "kind steps told marks", defaults=[{}, ()])
+# Runs in one folder. The marks say what the case was made for.
+Case = collections.namedtuple("Case", "kind steps marks", defaults=[()])
 # What a run wrote, how it ended, and the files behind it.
 Did = collections.namedtuple("Did", "text status files")
 
@@ -79,13 +78,29 @@ class Module:
 
     def __init__(self, path):
         folder = os.path.dirname(path)
+        names = [name[:-3] for name in os.listdir(folder) if name.endswith(".py")]
+        for name in names:
+            sys.modules.pop(name, None)  # (another one's part)
         sys.path.insert(0, folder)
         loader = importlib.machinery.SourceFileLoader("second_opinion_program", path)
         self.module = importlib.util.module_from_spec(importlib.util.spec_from_loader(loader.name, loader))
         loader.exec_module(self.module)
-        self.kept = [it for name in os.listdir(folder) if name.endswith(".py") and name[:-3] in sys.modules
-                     for it in vars(sys.modules[name[:-3]]).values() if hasattr(it, "cache_clear")]
+        sys.path.remove(folder)
+        self.parts = {name: sys.modules[name] for name in names if name in sys.modules}
+        self.kept = [it for part in self.parts.values() for it in vars(part).values() if hasattr(it, "cache_clear")]
         self.runs = 0
+
+    def replay(self):
+        """A replay line by line: a function that gives the answer of the next line, or None where it ends the run."""
+        world, ends = self.parts["world"].World(), (self.parts["refusals"].BadLine, self.parts["refusals"].Ended)
+
+        def answer(line):
+            try:
+                return world.answer(len(world.mail) + 1, line)
+            except ends:
+                return None
+
+        return answer
 
     def run(self, folder, step):
         self.runs += 1
@@ -146,11 +161,10 @@ def kept_program(room):
     return f"{room}/program"
 
 
-def played(program, case, room, told=None):
+def played(program, case, room):
     """What came of each run of a case, in a folder that is empty at first."""
-    told = told or {}
     with tempfile.TemporaryDirectory(dir=room) as folder:
-        return [told.get(place) or program.run(folder, step) for place, step in enumerate(case.steps)]
+        return [program.run(folder, step) for step in case.steps]
 
 
 def differ(one, other):

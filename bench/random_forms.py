@@ -67,7 +67,7 @@ class Chain:
 
 # ---- receipts
 
-def receipts(_, random):
+def receipts(random):
     """An operator with a key, or without one, is asked for receipts."""
     chain = Chain(random, coins=random.choice([1, 2, 3]))
     key = signer(9)
@@ -93,7 +93,7 @@ def receipts(_, random):
     return Case("receipts", steps[: random.choice([1, 1, 2])])
 
 
-def audits(_, random):
+def audits(random):
     """A receipt and a bundle, mostly such that convict."""
     chain = Chain(random, coins=2, blocks=3)
     key = signer(random.choice([9, 10]), 5, 3) if random.random() < 0.95 else signer(9)
@@ -120,7 +120,7 @@ def audits(_, random):
     return Case("audit", [Step(["audit", hexed(shown_key), hexed(receipt)], chain.text(lines))])
 
 
-def archives(_, random):
+def archives(random):
     """Openings that are kept in order, or not; events; and what is asked. In most each opening is put, and good."""
     chain, sane = Chain(random, coins=2, blocks=14), random.random() < 0.65
     cut = random.randrange(3, len(chain.log) + 1) if random.random() < 0.3 else len(chain.log)
@@ -160,7 +160,7 @@ def question(random, chain, coin, sane):
 
 # ---- words
 
-def verifies(_, random):
+def verifies(random):
     """Signatures of one level, mostly good ones, or with one thing changed."""
     types = random.choice([(5, 3)] * 8 + [(5, 4)])
     key, message = signer(random.choice([1, 2, 3]), *types), random.randbytes(random.choice([0, 1, 32, 116, 200]))
@@ -172,7 +172,7 @@ def verifies(_, random):
     return Case("verify", [Step(["verify", *changed_words(random, words)])])
 
 
-def levels(_, random):
+def levels(random):
     """A signature of two levels, seldom of one or three, as it is and with one thing changed."""
     top, number = signer(random.choice([1, 2])), random.choice([0, 1, 31])
     count = random.choice([2] * 10 + [1, 3])
@@ -186,7 +186,7 @@ def levels(_, random):
         shown = signed if at is None else signed[:at] + number + signed[at + 4 :]
         words = changed_words(random, [key, message, shown], 0.3)
         steps.append(Step(["hss", "verify", *words]))
-    return Case("levels", steps, {}, (f"a signature of {count} levels",))
+    return Case("levels", steps, (f"a signature of {count} levels",))
 
 
 def changed_words(random, words, share=0.4):
@@ -200,7 +200,7 @@ def changed_words(random, words, share=0.4):
     return words
 
 
-def makes(program, random):
+def makes(random):
     """A schedule that the program makes, and its replay."""
     seed = random.choice([0, 1, 2**64 - 1, random.randrange(2**64)])
     count = random.choice([0, 1, 5, 12])
@@ -209,7 +209,7 @@ def makes(program, random):
     return Case("make", [Step(words)])
 
 
-def usages(_, random):
+def usages(random):
     """Words that are no form, mostly."""
     forms = ["replay x", "brief ", "", " ", "verify", "hss", "hss verify", "wallet who", "make 1", "archive 1",
              "Replay", "--help", "audit 0x" + "00" * 56, "audit 0x" + "00" * 55 + " 0x", "verify 0x 0x", "verify 0x 0x 0x",
@@ -219,7 +219,7 @@ def usages(_, random):
     return Case("usage", [Step(words.split(" ") if words else [], b"chain 1 9 100\n")])
 
 
-def nothing_there(_, random):
+def nothing_there(random):
     """A node's form in a folder that lacks its files."""
     role = random.choice(["wallet", "operator", "watcher"])
     files = random.choice([{}, {"notes.journal": b""}, {"leaves.journal": journal()}, {"notes.journal": journal()},
@@ -239,7 +239,7 @@ BEGUN = {"no byte": b"", "less than a mark": b"PG", "a mark": b"PGJ1", "five oth
          "a record that is begun": b"PGJ1\xa5\0\0"}
 
 
-def inits(_, random):
+def inits(random):
     """An `init`, mostly one that is begun over files."""
     tag, seed = hexed(TAG), hexed(seed_of(random.choice([1, 2])))
     words = random.choice([["init", "wallet", tag, "11", seed], ["init", "wallet", tag, "11", seed, "6", "3"],
@@ -254,7 +254,7 @@ def inits(_, random):
     kinds = [random.choice([*BEGUN]) for _ in names]
     files = {name: BEGUN[kind] for name, kind in zip(names, kinds)}
     marks = [f"an init over {name[:5]}: {kind}" for name, kind in zip(names, kinds)]
-    return Case("init", [Step(words, b"", files), Step(words)], {}, tuple(marks))
+    return Case("init", [Step(words, b"", files), Step(words)], tuple(marks))
 
 
 def signer_records(random, top):
@@ -281,7 +281,7 @@ def signer_records(random, top):
     ])
 
 
-def signs(_, random):
+def signs(random):
     """Signatures of two levels by a signer's files, good ones or changed ones."""
     top = signer(1)
     said, made = signer_records(random, top)
@@ -295,13 +295,13 @@ def signs(_, random):
         files["leaves.journal"] = spoiled(random, files["leaves.journal"])
     message = random.randbytes(random.choice([1, 1, 32, 127, 128, 129, 0]))
     step = Step(["hss", "sign", hexed(message)], b"", files)
-    return Case("sign", [step, Step(["hss", "sign", "0x61"])], {}, (f"a signer's leaves: {said}",))
+    return Case("sign", [step, Step(["hss", "sign", "0x61"])], (f"a signer's leaves: {said}",))
 
 
 FORMS = [(receipts, 9), (audits, 10), (archives, 10), (verifies, 5), (levels, 5), (makes, 1), (usages, 2),
          (nothing_there, 2), (inits, 4), (signs, 2)]
 
 
-def a_form(program, random):
+def a_form(random):
     makers, weights = zip(*FORMS)
-    return random.choices(makers, weights)[0](program, random)
+    return random.choices(makers, weights)[0](random)

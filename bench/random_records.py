@@ -12,17 +12,17 @@ ROLES = ["wallet", "wallet", "operator", "watcher"]
 MADE = []
 
 
-def moments(program, random):
+def moments(second, random):
     """A followed schedule, mostly one that was there before: it serves for some cases."""
     while not MADE or random.random() < 0.1:
-        made = followed(program, random)
+        made = followed(second, random)
         MADE[:] = [*MADE[-5:], *([made] if made.moments else [])]
     return random.choice(MADE)
 
 
-def cases_of_moments(program, random, kind):
+def cases_of_moments(second, random, kind):
     """A node of a schedule at some moment, over files or a log that were changed."""
-    made = moments(program, random)
+    made = moments(second, random)
     wallets = [it for it in made.moments if it[0] == "wallet"] or made.moments
     for _ in range(2):
         role, _, files, log = random.choice(wallets if random.random() < 0.6 else made.moments)

@@ -1,5 +1,5 @@
-"""Random schedules, by kinds. Each is made by a replay that is given line by line, so that the next line can make use
-of what was answered. For bench/agree.
+"""Random schedules, by kinds. Each grows in a replay by the second opinion, line by line, so that the next line can make
+use of what was answered. For bench/agree.
 """
 from live_schedule import OPERATOR, Ended, World
 from random_bytes import Raw, key_of
@@ -74,9 +74,9 @@ def types_of(random, kind):
     return random.choice([(5, 4), (5, 4), (6, 3), None])
 
 
-def schedule(program, random, kind):
-    """A schedule of a kind, what the program made of it, and its answers line by line."""
-    world = World(program, random, LONGEST[kind] * random.choice([1, 1, 1, 2]) // random.choice([1, 1, 2]))
+def schedule(second, random, kind):
+    """A schedule of a kind, and the second opinion's answers to it."""
+    world = World(second, random, LONGEST[kind] * random.choice([1, 1, 1, 2]) // random.choice([1, 1, 2]))
     try:
         if kind == "names":
             declarations(world)
@@ -86,8 +86,7 @@ def schedule(program, random, kind):
             walk(world, steps, kind)
     except Ended:
         pass
-    text, did = world.close(a_line(random, world) if kind == "lines" else b"")
-    return text, did, world.answers
+    return world.text + (a_line(random, world) if kind == "lines" else b""), world.answers
 
 
 def walk(world, steps, kind):

@@ -83,8 +83,6 @@ class Tracker:
             if self.parties[holding[0]].account != found.account:
                 self.losses.setdefault(holding, line)
 
-    # Openings, for the exhibit. A collision of SHA-256 can't be written down, so none is looked for.
-
     def see_openings(self, coin, openings, line):
         wallets = self.wallets()
         for block, opening in openings:
