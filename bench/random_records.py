@@ -121,12 +121,25 @@ def changed_records(random, contents):
     elif kind == 2 and len(contents) > 1:
         other = random.randrange(len(contents))
         contents[at], contents[other] = contents[other], contents[at]
+    elif kind == 3 and contents and contents[at][:1] in (b"\x02", b"\x12") and len(contents[at]) > 21:
+        contents.insert(random.choice([at, len(contents)]), fewer_links(random, contents[at]))
     elif kind < 5 or not contents:
         contents.insert(random.randrange(len(contents) + 1) if random.random() < 0.4 else len(contents),
                         a_record(random))
     else:
         contents[at] = with_field(random, contents[at])
     return contents
+
+
+def fewer_links(random, content):
+    """A record of a kept bundle with the same tip and without one of its links, mostly one before the last."""
+    items, at = [], 21
+    while at < len(content):
+        length = int.from_bytes(content[at + 8 : at + 12], "big")
+        items.append(content[at : at + 12 + length])
+        at += 12 + length
+    del items[random.randrange(len(items))]
+    return content[:17] + u32(len(items)) + b"".join(items)
 
 
 def with_field(random, content):
@@ -202,9 +215,20 @@ call 77 commit 0x00
  --""".format(key="00" * 56, root="11" * 32, zeros="00" * 8, tag="00" * 31 + "01").split("\n")
 
 
+def calls_of_exits(random):
+    """Calls of the exits of a coin, in any order: what a contract would have refused has its effect too."""
+    coin = random.choice([1, 1, 2])
+    block = [random.choice([1, 2, 3, 4, 5]) for _ in range(40)].pop
+    forms = ["exit {0} {1} 0x {2} 0x", "exit {0} {1} - {2} 0x", "start {0} {1}", "before {0} {1} {2} -",
+             "before {0} {1} {2} 0x", "respond {0} {1} {2} {3} 0x", "finish {0} {1}", "after {0} {1} {2} 0x"]
+    weights = [5, 1, 1, 3, 3, 3, 1, 1]
+    return [f"call {random.choice([77, 78])} {form}".format(coin, block(), block(), block())
+            for form in random.choices(forms, weights, k=random.choice([1, 2, 4, 8]))]
+
+
 def changed_log(random, log):
     """A log with lines that are missing, twice there, elsewhere or new."""
-    log = [*log]
+    log = [*log, *(calls_of_exits(random) if random.random() < 0.4 else [])]
     for _ in range(random.choice([1, 1, 2, 4])):
         at = random.randrange(len(log))
         kind = random.randrange(10)

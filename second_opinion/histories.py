@@ -49,8 +49,8 @@ def handed_bundle(data):
     except BadBundle as bad:
         raise Refused('bad-bundle', bad.place)
 
-# A transfer of a coin that spends the link before it, in its block, with its opening.
-Link = namedtuple('Link', 'block parent owner opening')
+# The opening of a transfer of a coin, which spends the link before it, in its block.
+Link = namedtuple('Link', 'block opening')
 
 class History:
     def __init__(self, bundle, links, owner):
@@ -92,7 +92,7 @@ def read_history(chain, data):
         transfer = spelled_transfer(leaf, chain.tag, bundle.coin, block)
         refuse_if(transfer is None or transfer.parent != tip, 'not-link', block)
         refuse_if(not transfer.signed_by(owner), 'bad-signature', block)
-        links.append(Link(block, tip, transfer.owner, opening))
+        links.append(Link(block, opening))
         tip, owner = block, transfer.owner
     return History(bundle, links, owner)
 
@@ -110,7 +110,7 @@ def kept_links(tag, data):
         transfer = spelled_transfer(parts[0], tag, bundle.coin, block) if parts else None
         if transfer is None:
             return None, None
-        links.append(Link(block, transfer.parent, transfer.owner, opening))
+        links.append(Link(block, opening))
     return (bundle, links) if not links or links[-1].block == bundle.tip else (None, None)
 
 def refuse_present(chain, bundle, after):

@@ -3,9 +3,7 @@ import lms
 from journals import BadRecord, FileJournal, LEAVES_FILE, LONGEST_MESSAGE, NotJournal, NOTES_FILE
 from lms import number_bytes, PUBLIC_LENGTH
 from refusals import Ended, Refused, refuse_if
-SIGNER = b'\x31'
-BEGUN = b'\x01'
-BOUND = b'\x02'
+SIGNER, BEGUN, BOUND = b'\x31', b'\x01', b'\x02'
 LEAVES = 32
 
 def say_valid(output, valid):

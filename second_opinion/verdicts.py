@@ -101,7 +101,7 @@ class Tracker:
         return lms.verify(wallet.node.key.public, transfer.body, transfer.signature)
 
     def exhibit(self):
-        """A collision of SHA-256 can't be written down, so none is looked for."""
+        # A collision of SHA-256 can't be written down, so none is looked for.
         return 'no exhibit' if self.forgery is None else 'forgery %d' % self.forgery
 
     def verdict(self, name, coin, block):
