@@ -163,6 +163,23 @@ class Calls(Steps):
         for account in accounts:
             self.world(f"money {account}")
 
+    def odd_spends(self):
+        """An exit, in blocks before which its parent is spent by another key, another parent is, or nothing."""
+        own = [coin for coin in self.world.coins.values() if coin.owner in self.world.rogues]
+        if not own or len(self.world.rogues) < 2:
+            return
+        coin = self.random.choice(own)
+        giver, parent = coin.owner, coin.tip
+        other = next(name for name in self.world.rogues if name != giver)
+        blocks = [self.laid(coin, other, parent, giver), self.laid(coin, giver, self.world.blocks, giver)]
+        self.empty_block()
+        blocks.append(self.world.blocks)
+        exit = self.laid(coin, giver, parent, giver)
+        self.exit_begun(coin, giver, parent, exit)
+        for block in self.random.sample(blocks, 2):
+            shown = self.shown(coin, block)
+            self.world(f"call {self.stranger()} between {coin.number} {exit} {block} {shown}")
+
     def penny(self):
         """A new account challenges an exit with a bond, or with a penny less or more."""
         coin, exit = self.exit_of(lambda coin, exit: self.parent_of(coin, exit) > coin.block)

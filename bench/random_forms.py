@@ -67,57 +67,100 @@ class Chain:
 
 # ---- receipts
 
+def asked_transfer(random, chain):
+    """A coin's next transfer that a receipt is asked for; often one that isn't taken."""
+    coin = random.choice([*chain.tips])
+    signed, _ = chain.transfer(coin, random.choice([None, None, chain.blocks + 1, chain.blocks + 2]))
+    odd = random.randrange(16)
+    if odd == 0:
+        signed, _ = chain.transfer(coin, chain.blocks)
+    elif odd == 1 and chain.transfers:
+        signed = random.choice(chain.transfers)[2]
+    elif odd == 2:
+        signed = transfer(chain.keys[0], 0, 9, 1, signed[52:116])
+    elif odd == 3:
+        signed = signed[:-1] + bytes([signed[-1] ^ 1])
+    elif odd == 4:
+        signed = random.choice([b"PCT3" + signed[4:], signed[:115], signed[:4] + bytes(32) + signed[36:], b""])
+    elif odd == 5:
+        signed = chain.maybe_spoiled(signed, 1)
+    return coin, signed
+
+
+def desk_records(random):
+    """The records of an operator's leaves, mostly with the marker, and mostly promises."""
+    marked = random.random() < 0.8
+    count = random.choice([0, 0, 1, 1, 31, 32]) if marked else 0
+    bound = [u32(q) + promise(1, 1, bytes([q]), 2, 4) for q in range(count)]
+    records = [*([MARKER] if marked else []), *bound]
+    if random.random() < 0.12:
+        odd = [promise(1, 1, b"", 2, 4), b"PCT1" + bytes(112), u32(count) + b"PCT1" + bytes(112), MARKER, b"",
+               u32(count) + promise(1, 1, b"", 2, 4)[:99], u32(count) + promise(1, 1, b"", 2, 4, mark=b"PCR2")]
+        records.insert(random.choice([0, len(records)]), random.choice(odd))
+    return records
+
+
 def receipts(random):
     """An operator with a key, or without one, is asked for receipts."""
-    chain = Chain(random, coins=random.choice([1, 2, 3]))
-    key = signer(9)
-    marked = random.random() < 0.75
-    bound = [u32(q) + promise(1, 1, bytes([q]), 2, 4) for q in range(random.choice([0, 0, 1, 31,
-                                                                                    32]))] if marked else []
-    files = {"notes.journal": journal(identity("operator", 9, key.seed if random.random() < 0.93 else None)),
-             "leaves.journal": journal(*([MARKER] if marked else []), *bound)}
+    chain = Chain(random, coins=random.choice([1, 2, 3]), blocks=random.choice([1, 1, 4]))
+    key, records = signer(9), desk_records(random)
+    files = {"notes.journal": journal(identity("operator", 9, key.seed if random.random() < 0.9 else None)),
+             "leaves.journal": journal(*records)}
     lines = []
     for _ in range(random.choice([1, 1, 2, 3])):
-        coin = random.choice([*chain.tips])
-        signed, _ = chain.transfer(coin, random.choice([None, chain.blocks, chain.blocks + 1, chain.blocks + 2]))
-        if chain.transfers and random.random() < 0.15:
-            signed = random.choice(chain.transfers)[2]
+        coin, signed = asked_transfer(random, chain)
         due = chain.blocks + random.choice([-1, 0, 1, 1, 1, 2, 3, 2**63])
-        lines.append(f"receipt {hexed(chain.maybe_spoiled(signed))} {max(due, 0)}")
-        if random.random() < 0.3:
-            lines.append(random.choice(["migrate", "seal", f"offer {hexed(signed)}", f"lay {coin} 0x",
-                                        f"bundle {coin} 0"]))
-    if not marked and random.random() < 0.5:
+        lines.append(f"receipt {hexed(signed)} {max(due, 0)}")
+        if random.random() < 0.4:
+            line = random.choice(["migrate", "seal", f"offer {hexed(signed)}", f"lay {coin} 0x", f"bundle {coin} 0"])
+            lines.insert(random.choice([0, len(lines)]), line)
+    if MARKER not in records and random.random() < 0.5:
         lines.insert(0, "migrate")
     steps = [Step(["operator"], chain.text(lines), files), Step(["operator"], chain.text(["seal"]))]
     return Case("receipts", steps[: random.choice([1, 1, 2])])
 
 
+# What may be odd about an audit; most have at most one of these.
+ODD_AUDITS = ["short", "mark", "tag", "types", "another key", "signature", "not yet", "bytes", "another coin", "tip",
+              "a block less", "a block more", "not opened", "kept", "issued late", "issued early", "more lines",
+              "no line"]
+
+
 def audits(random):
-    """A receipt and a bundle, mostly such that convict."""
-    chain = Chain(random, coins=2, blocks=3)
-    key = signer(random.choice([9, 10]), 5, 3) if random.random() < 0.95 else signer(9)
-    coin = random.choice([1, 2])
+    """A receipt and a bundle, such that convict or have one thing that is odd."""
+    odd = random.choice([*ODD_AUDITS, *[None] * 8])
+    chain, key, coin = Chain(random, coins=2, blocks=3), signer(random.choice([9, 10]), 5, 3), random.choice([1, 2])
     signed, _ = chain.transfer(coin)
-    issued = chain.blocks + random.choice([0, 0, 0, -1, 1])
+    issued = chain.blocks + {"issued late": 1, "issued early": -1}.get(odd, 0)
     parent = chain.tips[coin]
-    for _ in range(random.choice([1, 2, 3])):
-        kept = random.random() < 0.12
+    for number in range(random.choice([1, 2, 3])):
+        kept = odd == "kept" and number == 0
         chain.block({coin: signed} if kept else random.choice([None, {}, {coin: b"\1"}]))
-    due = chain.blocks + random.choice([0, 0, 0, 0, -1, 1])
-    tag = TAG if random.random() < 0.96 else bytes(32)
-    text = promise(coin, parent, signed, issued, due, tag, random.choice([b"PCR1"] * 30 + [b"PCR2"]))
+    due = chain.blocks + (odd == "not yet") - (odd == "tip")
+    text = promise(coin, parent, signed, issued, due, bytes(32) if odd == "tag" else TAG,
+                   b"PCR2" if odd == "mark" else b"PCR1")
     receipt = text + signature(key, random.randrange(32), text)
-    receipt = receipt[:99] if random.random() < 0.02 else chain.maybe_spoiled(receipt, 0.06)
-    shown_key = public_key(key) if random.random() < 0.95 else public_key(signer(10, 5, 3))
-    if random.random() < 0.04:
-        shown_key = u32(random.choice([5, 6, 7])) + u32(random.choice([2, 3, 4])) + shown_key[8:]
-    first, last = issued + 1 + random.choice([0] * 9 + [1, -1]), due + random.choice([0] * 9 + [1, -1])
-    shown = chain.maybe_spoiled(chain.bundle(coin if random.random() < 0.95 else 3 - coin, first, last), 0.1)
-    lines = [hexed(shown), *random.choice([[]] * 12 + [["0x"], [""], ["who"]])]
-    if random.random() < 0.03:
-        lines = random.choice([[], ["0x0"], ["x"]])
-    return Case("audit", [Step(["audit", hexed(shown_key), hexed(receipt)], chain.text(lines))])
+    receipt = {"short": receipt[: random.choice([0, 99, 100])]}.get(odd, receipt)
+    receipt = chain.maybe_spoiled(receipt, 1 if odd == "signature" else 0)
+    shown_key = public_key(signer(11 if odd == "another key" else key.seed[-1], 5, 3))
+    if odd == "types":
+        shown_key = u32(random.choice([4, 5, 7])) + u32(random.choice([2, 5])) + shown_key[8:]
+    return Case("audit", [Step(["audit", hexed(shown_key), hexed(receipt)],
+                               chain.text(audit_lines(random, chain, odd, coin, issued, due)))])
+
+
+def audit_lines(random, chain, odd, coin, issued, due):
+    """The line of the bundle, and what stands behind it."""
+    coin = 3 - coin if odd == "another coin" else coin
+    first = issued + 1 + {"a block less": 1, "a block more": -1}.get(odd, 0)
+    shown = chain.bundle(coin, first, due + random.choice([0, 1]) if odd == "tip" else due)
+    if odd == "not opened":
+        shown = chain.bundle(3 - coin, first, due)
+        shown = coin.to_bytes(8, "big") + shown[8:]
+    lines = [hexed(chain.maybe_spoiled(shown, 1 if odd == "bytes" else 0))]
+    if odd == "more lines":
+        lines.append(random.choice(["0x", "", "who"]))
+    return random.choice([[], ["0x0"], ["x"]]) if odd == "no line" else lines
 
 
 def archives(random):

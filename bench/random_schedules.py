@@ -15,13 +15,13 @@ DISPUTE = {"deposit_of_stranger": 4, "plant": 6, "start": 6, "after": 3, "betwee
            "finish": 5, "penny": 1, "dropped": 2}
 KINDS = {
     "life": {**CHAIN, **TRADE, "start": 1, "finish": 2},
-    "dispute": {**CHAIN, **DISPUTE, "deposit_of_stranger": 1, "links": 6, "double_spend": 3, "seal": 1,
+    "dispute": {**CHAIN, **DISPUTE, "deposit_of_stranger": 1, "links": 6, "odd_spends": 2, "double_spend": 3, "seal": 1,
                 "all_challenges": 3},
     "guarded": {**CHAIN, **TRADE, **DISPUTE, "look": 6, "planted_pair": 5, "double_spend": 3, "all_challenges": 2},
     "thief": {**CHAIN, **TRADE, "plant": 3, "planted_pair": 5, "start": 4, "look": 6, "finish": 5, "tick": 4,
               "theft": 6, "before": 2,
               "respond": 3, "double_spend": 2, "all_challenges": 2},
-    "restart": {**CHAIN, "deposit_of_stranger": 1, "links": 4, "dropped": 1, "double_spend": 2, "planted_pair": 3, "start": 5,
+    "restart": {**CHAIN, "deposit_of_stranger": 1, "links": 4, "dropped": 1, "odd_spends": 1, "double_spend": 2, "planted_pair": 3, "start": 5,
                 "restart": 14, "finish": 1, "look": 2, "take": 3, "all_challenges": 2},
     "crashes": {**CHAIN, **TRADE, "cut": 16, "crash": 5, "open": 2, "start": 2},
     "bytes": {**CHAIN, "deposit": 2, "deposit_of_stranger": 2, "commit": 8, "start": 8, "after": 4, "between": 4,
@@ -116,7 +116,8 @@ def spend_key(world, steps):
     for place, coin in enumerate(coins):
         if place == world.random.choice([0, 5, 20, 31]):
             world(f"migrate {name}")
-        world(f"send {name} {coin} {world.random.choice([*world.wallets])}{steps.last_block()}")
+        last = steps.last_block() if steps.chance(0.2) else ""
+        world(f"send {name} {coin} {world.random.choice([*world.wallets])}{last}")
 
 
 def plain(steps):

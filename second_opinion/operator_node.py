@@ -26,7 +26,8 @@ def read_operator(identity):
 class PromiseLeaves(KeyLeaves):
     """An operator's leaves: each message is a promise, and so none stands before the marker."""
     def take(self, record):
-        if self.marked and (len(record) != 4 + PROMISE_LENGTH or record[4:8] != PROMISE_MARK):
+        binds_promise = self.marked and len(record) == 4 + PROMISE_LENGTH and record[4:8] == PROMISE_MARK
+        if not binds_promise and (self.marked or record != LEAVES_MARKER):
             raise BadRecord
         super().take(record)
 
