@@ -146,7 +146,8 @@ class Followed:
         known = ("0x", "call ", "fund", "tick")
         while lines and lines[0].startswith(known):
             below.append(lines.pop(0))
-        node.offers = below if word in ("watch", "leave", "seal") else []
+        # (what `who` answers, which may come behind the last command, is no offer)
+        node.offers = [it for it in below if it[:2] != "0x"] if word in ("watch", "leave", "seal") else []
         if word in ("send", "again", "bundle", "absences", "prove") and below:
             self.items[number] = bytes.fromhex(below[0][2:])
 
