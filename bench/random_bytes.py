@@ -81,7 +81,7 @@ class Raw(Calls):
             return opening(b"", {})
         kind = self.random.randrange(100)
         siblings, leaf = tree.siblings(number), tree.leaves.get(number, b"")
-        if kind == 0:
+        if kind in (0, 3, 4, 5):
             # (a sibling that is the default of its level, as no proof has it)
             level = self.random.randrange(64)
             siblings = {level: DEFAULTS[level], **siblings}
@@ -89,7 +89,7 @@ class Raw(Calls):
             siblings.pop(self.random.choice([*siblings]))
         elif kind == 2:
             return u32(len(leaf)) + leaf + u64(2**64 - 1) + b"".join(DEFAULTS[:64])
-        elif kind == 3:
+        elif kind == 6:
             return u32(len(leaf) + self.random.choice([-1, 1, 2**31]) & 2**32 - 1) + opening(leaf, siblings)[4:]
         return opening(leaf, siblings)
 

@@ -118,10 +118,13 @@ class Calls(Steps):
         if coin:
             likely = [block for block in self.spends(coin, challenged) if block <= self.parent_of(coin, exit)]
             spend = self.some(likely or self.spends(coin, challenged), *coin.leaves, self.block(coin))
-            shown = self.shown(coin, spend)
-            answer = self.world(f"call {self.stranger()} respond {coin.number} {exit} {challenged} {spend} {shown}")
+            shown, account = self.shown(coin, spend), self.stranger()
+            if key in open_ones and self.chance(0.3):
+                self.world(f"tick {max(self.world.challenges[key] - self.random.choice([0, 0, 1]), self.world.clock)}")
+            answer = self.world(f"call {account} respond {coin.number} {exit} {challenged} {spend} {shown}")
             if answer == ["responded"]:
                 self.answered.add(key)
+                self.world(f"money {account}")
 
     def finish(self):
         coin, exit = self.exit_of()
