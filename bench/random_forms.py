@@ -255,9 +255,9 @@ def makes(random):
 def usages(random):
     """Words that are no form, mostly."""
     forms = ["replay x", "brief ", "", " ", "verify", "hss", "hss verify", "wallet who", "make 1", "archive 1",
-             "Replay", "--help", "audit 0x" + "00" * 56, "audit 0x" + "00" * 55 + " 0x", "verify 0x 0x", "verify 0x 0x 0x",
-             "verify 0x 0x 0x 0x", "verify 0x0 0x 0x", "verify  0x 0x", "verify 0X 0x 0x", "hss verify 0x 0x 0x",
-             "hss verify 0x 0x", "make 1 0", "make  1", "make 1 1 1", "operator ", "watcher x"]
+             "Replay", "--help", "audit 0x" + "00" * 56, "audit 0x" + "00" * 55 + " 0x", "verify 0x 0x",
+             "verify 0x 0x 0x", "verify 0x 0x 0x 0x", "verify 0x0 0x 0x", "verify  0x 0x", "verify 0X 0x 0x",
+             "hss verify 0x 0x 0x", "hss verify 0x 0x", "make 1 0", "make  1", "make 1 1 1", "operator ", "watcher x"]
     words = random.choice(forms)
     return Case("usage", [Step(words.split(" ") if words else [], b"chain 1 9 100\n")])
 

@@ -3,6 +3,7 @@ from plasma_bytes import hexed
 
 LINE, INPUT, LINES, MAIL = 8_388_608, 67_108_864, 200_000, 268_435_456
 LAID = 65_536
+KEY = "0x0000000500000004" + "00" * 48
 
 
 def beside(random, limit):
@@ -67,8 +68,8 @@ def of_blocks(random):
     """The most of a chain line, and as many blocks as it allows."""
     most = random.choice([0, 1, 2, 2_999, 3_000, 3_001])
     many = [f"call 9 commit {hexed(bytes(32))}"] * min(most + 1, 3_001)
-    return [f"chain 1 9 {most}", *many, "fund 1 5", f"call 1 deposit 5 {hexed(bytes(3) + bytes([5, 0, 0, 0, 4]) + bytes(48))}",
-            "bundle 1 0", "absences 1 0 1"], f"blocks: {most:,}"
+    return [f"chain 1 9 {most}", *many, "fund 1 5", f"call 1 deposit 5 {KEY}", "bundle 1 0",
+            "absences 1 0 1"], f"blocks: {most:,}"
 
 
 def of_leaves(random):
@@ -80,22 +81,20 @@ def of_leaves(random):
 
 def of_numbers(random):
     """Sums, times, tokens and names at their ends."""
-    key = "0x0000000500000004" + "00" * 48
     number = random.choice([2**64 - 1, 2**64])
     name = "n" * random.choice([15, 16, 17])
     fund = random.choice([2**62 - 1, 2**62, 2**62 + 1])
     time = random.choice([2**40 - 1, 2**40, 2**40 + 1])
     lines = [f"chain {random.choice([0, 2**64 - 1])} 9 100", f"fund 1 {fund}", f"fund 2 {random.choice([0, 1, 2])}",
-             f"call 1 deposit {fund} {key}", "call 1 start 1 1", f"tick {time}", f"tick {time - 1}", "fund 1 100",
+             f"call 1 deposit {fund} {KEY}", "call 1 start 1 1", f"tick {time}", f"tick {time - 1}", "fund 1 100",
              "call 1 start 1 1", "call 1 finish 1 1", f"watcher {name} {number}"]
     return lines, f"numbers: a sum of {fund}, a time of {time}, {len(name)} letters"
 
 
 def of_bonds(random):
     """Accounts with a bond, and with a penny less or more."""
-    key = "0x0000000500000004" + "00" * 48
     bond = random.choice([99, 100, 101])
-    lines = ["chain 1 9 100", f"fund 1 {bond + 5}", f"call 1 deposit 5 {key}", "call 1 start 1 1", "money 1",
+    lines = ["chain 1 9 100", f"fund 1 {bond + 5}", f"call 1 deposit 5 {KEY}", "call 1 start 1 1", "money 1",
              "tick 907199", "call 2 finish 1 1", "tick 907200", "call 2 finish 1 1", "money 1"]
     return lines, f"a bond of 100, with {bond}"
 

@@ -98,7 +98,7 @@ def taken_back(random, files):
     coin, tip, leaf = random.choice([
         (coin, tip, leaf), (u64(int.from_bytes(coin, "big") + 1), tip, leaf), (coin, u64(9), leaf),
         (coin, tip, leaf + 1), (coin, tip, (leaf + 1) % len(bodies)), (coin, tip, 2**32 - 1)])
-    return {"notes.journal": journal(*notes, b"\x05" + coin + tip + u32(leaf)), "leaves.journal": files["leaves.journal"]}
+    return {**files, "notes.journal": journal(*notes, b"\x05" + coin + tip + u32(leaf))}
 
 
 def changed_end(random, content):

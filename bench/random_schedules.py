@@ -1,5 +1,5 @@
-"""Random schedules, by kinds. Each grows in a replay by the second opinion, line by line, so that the next line can make
-use of what was answered. For bench/agree.
+"""Random schedules, by kinds. Each grows in a replay by the second opinion, line by line, so that the next line can
+make use of what was answered. For bench/agree.
 """
 from live_schedule import OPERATOR, Ended, World
 from random_bytes import Raw, key_of
@@ -10,7 +10,8 @@ NAMES = ["a", "b", "c", "d", "ann", "bob2", "carol", "zz9", "wallet", "sixteenle
 # How often each step comes, by kind.
 CHAIN = {"fund": 2, "money": 2, "tick": 4}
 TRADE = {"deposit": 4, "pass_on": 10, "send": 3, "offer": 2, "lay": 1, "seal": 2, "take": 4, "again": 1, "leave": 3,
-         "migrate": 1, "taken_back": 2, "watch": 4, "prove": 1, "absences": 1, "reclaim": 3, "release": 1, "empty_block": 1, "enter": 1}
+         "migrate": 1, "taken_back": 2, "watch": 4, "prove": 1, "absences": 1, "reclaim": 3, "release": 1,
+         "empty_block": 1, "enter": 1}
 DISPUTE = {"deposit_of_stranger": 4, "plant": 6, "start": 6, "after": 3, "between": 3, "before": 5, "respond": 4,
            "finish": 5, "penny": 1, "dropped": 2}
 KINDS = {
@@ -21,7 +22,8 @@ KINDS = {
     "thief": {**CHAIN, **TRADE, "plant": 3, "planted_pair": 5, "start": 4, "look": 6, "finish": 5, "tick": 4,
               "theft": 6, "before": 2,
               "respond": 3, "double_spend": 2, "all_challenges": 2},
-    "restart": {**CHAIN, "deposit_of_stranger": 1, "links": 4, "dropped": 1, "odd_spends": 1, "double_spend": 2, "planted_pair": 3, "start": 5,
+    "restart": {**CHAIN, "deposit_of_stranger": 1, "links": 4, "dropped": 1, "odd_spends": 1,
+                "double_spend": 2, "planted_pair": 3, "start": 5,
                 "restart": 14, "finish": 1, "look": 2, "take": 3, "all_challenges": 2},
     "crashes": {**CHAIN, **TRADE, "cut": 16, "crash": 5, "open": 2, "start": 2},
     "bytes": {**CHAIN, "deposit": 2, "deposit_of_stranger": 2, "commit": 8, "start": 8, "after": 4, "between": 4,

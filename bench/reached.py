@@ -28,9 +28,9 @@ CAUSES = {
     "run: put": "no-coin unknown-block have-block gap bad-opening", "run: tip": "no-coin",
     "run: bundle": "no-coin not-tip unknown-block", "run: sign": "bad-length key-spent", "run: line": "other-chain",
 }
-LINES = ("chain wallet watcher rogue fund tick money deposit enter sign crash cut open up down nothing commit start exit"
-         " after between before respond finish accept guard send again leave reclaim migrate release watch offer lay seal"
-         " bundle prove absences").split()
+LINES = ("chain wallet watcher rogue fund tick money deposit enter sign crash cut open up down nothing commit start"
+         " exit after between before respond finish accept guard send again leave reclaim migrate release watch offer"
+         " lay seal bundle prove absences").split()
 ENDS = ["no exhibit", "forgery", "bad line", "too long"]
 RUNS = ("who state accept send again leave reclaim migrate watch guard release offer lay seal bundle prove absences"
         " receipt event put tip broken").split()
@@ -72,8 +72,9 @@ def wanted():
     """All that has to be reached, by its name."""
     names = [f"{line}: {cause}" for line, causes in CAUSES.items() for cause in causes.split(" ")]
     names += [f"line {name}" for name in LINES] + [f"run {name}" for name in RUNS]
-    names += [f"cut at {calls} with {outcome}: {end}" for calls in range(5) for outcome in ("old", "new", "mix", "mix a5")
-              for end in ("stopped", "done") if calls < 4 or end == "done"]
+    names += [f"cut at {calls} with {outcome}: {end}" for calls in range(5)
+              for outcome in ("old", "new", "mix", "mix a5") for end in ("stopped", "done")
+              if calls < 4 or end == "done"]
     names += [f"verdict {name}" for name in ("held", "paid", "away", "unattended", "lost")]
     return names + [f"ends {name}" for name in ENDS] + [*MEETINGS, UP, OTHER, REFUSED]
 
@@ -224,8 +225,9 @@ class Schedule:
     def see_tick(self, words, said, _):
         if said[0] == "ticked":
             self.clock = time = int(words[1])
-            self.counts["a tick to the end of a window"] += any(start + WINDOW == time for start in self.exits.values())
-            self.counts["a tick to an exit's opening"] += any(start + EXIT_TIME == time for start in self.exits.values())
+            starts = [*self.exits.values()]
+            self.counts["a tick to the end of a window"] += any(start + WINDOW == time for start in starts)
+            self.counts["a tick to an exit's opening"] += any(start + EXIT_TIME == time for start in starts)
             self.counts["a tick to the end of an answer's time"] += any(
                 at + ANSWER_TIME == time for key, (at, _) in self.challenges.items() if key not in self.answered)
 
