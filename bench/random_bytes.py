@@ -131,7 +131,7 @@ class Raw(Calls):
         tip = self.some([coin.tip], *coin.leaves, self.world.blocks)
         owner_name = [coin.owner] if coin.owner in self.world.wallets else names
         bundle_word = self.bundle(coin.number, coin.block + 1, tip)
-        for name in {self.some(owner_name, *names), self.some([*self.world.watchers], *names)} - {0}:
+        for name in sorted({self.some(owner_name, *names), self.some([*self.world.watchers], *names)} - {0}):
             self.world(f"{'guard' if name in self.world.watchers else 'accept'} {name} {bundle_word}")
 
     def reclaim(self):

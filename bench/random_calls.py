@@ -252,7 +252,7 @@ class Calls(Steps):
             self.open()
 
     def open(self):
-        down = [*self.world.down]
+        down = sorted(self.world.down)
         self.world(f"open {self.some(down, self.node())}")
 
     def cut(self):

@@ -265,7 +265,7 @@ class Steps:
         bundle = self.last_item()
         names = [*self.world.wallets, *self.world.watchers]
         owner = [coin.owner] if coin.owner in self.world.wallets else names
-        for name in {self.some(owner, *names), self.some([*self.world.watchers], *names)} - {0}:
+        for name in sorted({self.some(owner, *names), self.some([*self.world.watchers], *names)} - {0}):
             self.world(f"{'guard' if name in self.world.watchers else 'accept'} {name} {bundle}")
 
     def last_item(self):
