@@ -23,7 +23,8 @@ except ImportError:
 hashlib.sha256 = short_sha256
 TOP = os.path.dirname(os.path.dirname(os.path.abspath(__file__)))
 JOURNALS = ("notes.journal", "leaves.journal")
-LONGEST = 120  # seconds that one run may take
+LONGEST = 120  # seconds of a processor that one run may take
+WAITING = 3600  # seconds until a run is given up, on a machine that has other work
 FORGET = 500  # runs
 
 # A run: its words, its input, and the files that the folder is given before it; None leaves what the run before left.
@@ -67,7 +68,7 @@ class Program:
         if step.files is not None:
             put(folder, step.files)
         done = subprocess.run([*self.words, *step.words], input=step.input, stdout=subprocess.PIPE,
-                              stderr=subprocess.DEVNULL, cwd=folder, timeout=LONGEST, check=False)
+                              stderr=subprocess.DEVNULL, cwd=folder, timeout=WAITING, check=False)
         return Did(done.stdout, done.returncode, found(folder))
 
 
@@ -127,8 +128,8 @@ class Module:
             return Did(told.read(), status, found(folder))
 
     def status_of(self, words):
-        signal.signal(signal.SIGALRM, too_long)
-        signal.alarm(LONGEST)
+        signal.signal(signal.SIGPROF, too_long)
+        signal.setitimer(signal.ITIMER_PROF, LONGEST)
         try:
             return self.module.run(words)
         except SystemExit as end:
@@ -137,7 +138,7 @@ class Module:
             traceback.print_exc()
             return 99
         finally:
-            signal.alarm(0)
+            signal.setitimer(signal.ITIMER_PROF, 0)
 
     def forget(self):
         """What was computed is forgotten now and then, all but keys, so that it doesn't grow."""
@@ -146,8 +147,12 @@ class Module:
                 it.cache_clear()
 
 
+class TooLong(Exception):
+    """A run took too long. (A TimeoutError would be a device fault to the second opinion.)"""
+
+
 def too_long(*_):
-    raise TimeoutError("a run took too long")
+    raise TooLong
 
 
 def kept_program(room):
