@@ -3,6 +3,7 @@ cases.
 """
 import collections
 import gzip
+import hashlib
 import importlib.machinery
 import importlib.util
 import os
@@ -13,13 +14,23 @@ import sys
 import tempfile
 import traceback
 
+try:
+    # (of strings this short the digest that Python has itself takes three fifths of the time)
+    from _sha256 import sha256 as short_sha256  # Python before 3.12
+except ImportError:
+    from _sha2 import sha256 as short_sha256
+
+hashlib.sha256 = short_sha256
 TOP = os.path.dirname(os.path.dirname(os.path.abspath(__file__)))
 JOURNALS = ("notes.journal", "leaves.journal")
-LONGEST = 120  # seconds that one run may take
+LONGEST = 120  # seconds of a processor that one run may take
+WAITING = 3600  # seconds until a run is given up, on a machine that has other work
+FORGET = 500  # runs
 
 # A run: its words, its input, and the files that the folder is given before it; None leaves what the run before left.
 Step = collections.namedtuple("Step", "words input files", defaults=[b"", None])
-Case = collections.namedtuple("Case", "kind steps")
+# Runs in one folder. The marks say what the case was made for.
+Case = collections.namedtuple("Case", "kind steps marks", defaults=[()])
 # What a run wrote, how it ended, and the files behind it.
 Did = collections.namedtuple("Did", "text status files")
 
@@ -57,53 +68,91 @@ class Program:
         if step.files is not None:
             put(folder, step.files)
         done = subprocess.run([*self.words, *step.words], input=step.input, stdout=subprocess.PIPE,
-                              stderr=subprocess.DEVNULL, cwd=folder, timeout=LONGEST, check=False)
+                              stderr=subprocess.DEVNULL, cwd=folder, timeout=WAITING, check=False)
         return Did(done.stdout, done.returncode, found(folder))
 
 
 class Module:
-    """A program in Python that is read once, and of which each run is a fork of this process. It has a function `run`,
-    which takes the words and gives the status."""
+    """A program in Python that is read once, and run here. It has a function `run`, which takes the words and gives the
+    status, reads and writes by the numbers 0 and 1, and keeps nothing between two runs but what it computed of the
+    same words."""
 
     def __init__(self, path):
         folder = os.path.dirname(path)
+        names = [name[:-3] for name in os.listdir(folder) if name.endswith(".py")]
+        for name in names:
+            sys.modules.pop(name, None)  # (another one's part)
         sys.path.insert(0, folder)
         loader = importlib.machinery.SourceFileLoader("second_opinion_program", path)
         self.module = importlib.util.module_from_spec(importlib.util.spec_from_loader(loader.name, loader))
         loader.exec_module(self.module)
+        sys.path.remove(folder)
+        self.parts = {name: sys.modules[name] for name in names if name in sys.modules}
+        self.kept = [it for part in self.parts.values() for it in vars(part).values() if hasattr(it, "cache_clear")]
+        self.runs = 0
 
-    def make_keys(self, seeds, types):
-        """Makes the keys of these seeds, so that no run needs to."""
-        for seed in seeds:
-            sys.modules["lms"].key_of_seed(seed, *types).tree()
+    def replay(self):
+        """A replay line by line: a function that gives the answer of the next line, or None where it ends the run."""
+        world, ends = self.parts["world"].World(), (self.parts["refusals"].BadLine, self.parts["refusals"].Ended)
+
+        def answer(line):
+            try:
+                return world.answer(len(world.mail) + 1, line)
+            except ends:
+                return None
+
+        return answer
 
     def run(self, folder, step):
+        self.runs += 1
+        if self.runs % FORGET == 0:
+            self.forget()
         if step.files is not None:
             put(folder, step.files)
-        with tempfile.TemporaryFile() as read, tempfile.TemporaryFile() as written:
-            read.write(step.input)
-            read.seek(0)
-            child = os.fork()
-            if not child:
-                self.child(folder, step.words, read, written)
-            _, status = os.waitpid(child, 0)
-            written.seek(0)
-            return Did(written.read(), os.waitstatus_to_exitcode(status), found(folder))
+        here, streams = os.getcwd(), [os.dup(0), os.dup(1)]
+        read, written = (os.memfd_create(name) for name in ("read", "written"))
+        with open(read, "r+b") as given, open(written, "r+b") as told:
+            given.write(step.input)
+            given.seek(0)
+            try:
+                os.chdir(folder)
+                os.dup2(read, 0)
+                os.dup2(written, 1)
+                status = self.status_of(step.words)
+            finally:
+                os.chdir(here)
+                for number, stream in enumerate(streams):
+                    os.dup2(stream, number)
+                    os.close(stream)
+            told.seek(0)
+            return Did(told.read(), status, found(folder))
 
-    def child(self, folder, words, read, written):
-        status = 99
+    def status_of(self, words):
+        signal.signal(signal.SIGPROF, too_long)
+        signal.setitimer(signal.ITIMER_PROF, LONGEST)
         try:
-            signal.alarm(LONGEST)
-            os.chdir(folder)
-            os.dup2(read.fileno(), 0)
-            os.dup2(written.fileno(), 1)
-            status = self.module.run(words)
+            return self.module.run(words)
         except SystemExit as end:
-            status = end.code
-        except BaseException:  # noqa: B902
+            return end.code
+        except Exception:
             traceback.print_exc()
+            return 99
         finally:
-            os._exit(status or 0)
+            signal.setitimer(signal.ITIMER_PROF, 0)
+
+    def forget(self):
+        """What was computed is forgotten now and then, all but keys, so that it doesn't grow."""
+        for it in self.kept:
+            if "key" not in it.__name__:
+                it.cache_clear()
+
+
+class TooLong(Exception):
+    """A run took too long. (A TimeoutError would be a device fault to the second opinion.)"""
+
+
+def too_long(*_):
+    raise TooLong
 
 
 def kept_program(room):
@@ -180,7 +229,7 @@ class Smaller:
 
     def __call__(self, case):
         dids = [played(program, case, self.room) for program in self.programs]
-        case = case._replace(steps=case.steps[: differ(*dids) + 1])
+        case = case._replace(steps=case.steps[: (differ(*dids) or 0) + 1])
         place = 0
         while place < len(case.steps) - 1 and self.trials > 0:
             steps = [*case.steps]

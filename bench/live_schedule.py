@@ -1,8 +1,6 @@
-"""A schedule that grows: each line is given to a replay, and what it answers says what may come next. For the
-generators of bench/agree.
+"""A schedule that grows: each line is given to a replay by the second opinion, and what that answers says what may
+come next. For the generators of bench/agree.
 """
-import subprocess
-
 WINDOW, ANSWER_TIME, EXIT_TIME = 604_800, 302_400, 907_200
 OPERATOR = 9
 
@@ -38,16 +36,15 @@ class Transfer:
 class World:
     """What the lines so far have made, as far as a generator needs it."""
 
-    def __init__(self, program, random, most=60):
-        self.random, self.most = random, most
-        self.child = subprocess.Popen([program, "replay"], stdin=subprocess.PIPE, stdout=subprocess.PIPE, bufsize=0)
-        self.text, self.lines, self.answers = b"", [], []
+    def __init__(self, second, random, most=60):
+        self.replay, self.random, self.most = second.replay(), random, most
+        self.lines, self.answers = [], []
         self.clock, self.blocks, self.room = 0, 0, 100
         self.coins, self.exits, self.challenges, self.deadlines = {}, {}, {}, []
         self.wallets, self.watchers, self.rogues, self.accounts, self.down = {}, {}, {}, [], set()
         self.pool, self.sealed, self.trees = {}, None, {}
         self.transfers, self.bundles, self.items, self.proofs = [], [], [], {}
-        self.offers, self.leaving, self.leaf_of = {}, {}, {}
+        self.offers, self.leaving, self.leaf_of, self.victims = {}, {}, {}, {}
 
     # ---- lines
 
@@ -56,37 +53,16 @@ class World:
         if len(self.lines) >= self.most:
             raise Ended
         self.lines.append(line)
-        try:
-            self.child.stdin.write(line.encode("latin-1") + b"\n")
-        except BrokenPipeError:
-            raise Ended from None
-        answer = self.read()
-        number, _, rest = answer.partition(" ")
-        if number != str(len(self.lines)):
+        answer = self.replay(line.encode("latin-1"))
+        if answer is None:
             raise Ended
-        self.answers.append(rest)
-        words = rest.split(" ")
+        self.answers.append(answer)
+        words = answer.split(" ")
         self.see(line.split(" "), words)
         return words
 
-    def read(self):
-        while b"\n" not in self.text:
-            got = self.child.stdout.read(1 << 16)
-            if not got:
-                raise Ended
-            self.text += got
-        line, self.text = self.text.split(b"\n", 1)
-        return line.decode("latin-1")
-
-    def close(self):
-        """Ends the replay: the schedule."""
-        try:
-            self.child.stdin.close()
-        except BrokenPipeError:
-            pass
-        self.ends = (self.text + self.child.stdout.read()).decode("latin-1")
-        self.child.stdout.close()
-        self.child.wait()
+    @property
+    def text(self):
         return "".join(f"{line}\n" for line in self.lines).encode("latin-1")
 
     @property

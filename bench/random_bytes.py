@@ -81,7 +81,7 @@ class Raw(Calls):
             return opening(b"", {})
         kind = self.random.randrange(100)
         siblings, leaf = tree.siblings(number), tree.leaves.get(number, b"")
-        if kind == 0:
+        if kind in (0, 3, 4, 5):
             # (a sibling that is the default of its level, as no proof has it)
             level = self.random.randrange(64)
             siblings = {level: DEFAULTS[level], **siblings}
@@ -89,7 +89,7 @@ class Raw(Calls):
             siblings.pop(self.random.choice([*siblings]))
         elif kind == 2:
             return u32(len(leaf)) + leaf + u64(2**64 - 1) + b"".join(DEFAULTS[:64])
-        elif kind == 3:
+        elif kind == 6:
             return u32(len(leaf) + self.random.choice([-1, 1, 2**31]) & 2**32 - 1) + opening(leaf, siblings)[4:]
         return opening(leaf, siblings)
 
@@ -131,7 +131,7 @@ class Raw(Calls):
         tip = self.some([coin.tip], *coin.leaves, self.world.blocks)
         owner_name = [coin.owner] if coin.owner in self.world.wallets else names
         bundle_word = self.bundle(coin.number, coin.block + 1, tip)
-        for name in {self.some(owner_name, *names), self.some([*self.world.watchers], *names)} - {0}:
+        for name in sorted({self.some(owner_name, *names), self.some([*self.world.watchers], *names)} - {0}):
             self.world(f"{'guard' if name in self.world.watchers else 'accept'} {name} {bundle_word}")
 
     def reclaim(self):

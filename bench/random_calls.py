@@ -118,10 +118,13 @@ class Calls(Steps):
         if coin:
             likely = [block for block in self.spends(coin, challenged) if block <= self.parent_of(coin, exit)]
             spend = self.some(likely or self.spends(coin, challenged), *coin.leaves, self.block(coin))
-            shown = self.shown(coin, spend)
-            answer = self.world(f"call {self.stranger()} respond {coin.number} {exit} {challenged} {spend} {shown}")
+            shown, account = self.shown(coin, spend), self.stranger()
+            if key in open_ones and self.chance(0.3):
+                self.world(f"tick {max(self.world.challenges[key] - self.random.choice([0, 0, 1]), self.world.clock)}")
+            answer = self.world(f"call {account} respond {coin.number} {exit} {challenged} {spend} {shown}")
             if answer == ["responded"]:
                 self.answered.add(key)
+                self.world(f"money {account}")
 
     def finish(self):
         coin, exit = self.exit_of()
@@ -147,6 +150,50 @@ class Calls(Steps):
         else:
             self.start()
 
+    def dropped(self):
+        """Two new accounts challenge an exit, which is finished when its time has come."""
+        coin, exit = self.exit_of(lambda coin, exit: sum(it < self.parent_of(coin, exit) for it in coin.leaves))
+        earlier = [it for it in [coin.block, *coin.leaves] if it < self.parent_of(coin, exit)] if coin else []
+        if len(earlier) < 2:
+            return
+        accounts = [2000 + self.world.last, 3000 + self.world.last]
+        for account, block in zip(accounts, self.random.sample(earlier, 2)):
+            self.world(f"fund {account} 40")
+            self.world(f"call {account} before {coin.number} {exit} {block} {self.shown_or_deposit(coin, block)}")
+        end = self.world.exits.get((coin.number, exit), 0) + EXIT_TIME
+        self.world(f"tick {max(end, self.world.clock)}")
+        self.world(f"call {self.stranger()} finish {coin.number} {exit}")
+        for account in accounts:
+            self.world(f"money {account}")
+
+    def odd_spends(self):
+        """An exit, in blocks before which its parent is spent by another key, another parent is, or nothing."""
+        own = [coin for coin in self.world.coins.values() if coin.owner in self.world.rogues]
+        if not own or len(self.world.rogues) < 2:
+            return
+        coin = self.random.choice(own)
+        giver, parent = coin.owner, coin.tip
+        other = next(name for name in self.world.rogues if name != giver)
+        blocks = [self.laid(coin, other, parent, giver), self.laid(coin, giver, self.world.blocks, giver)]
+        self.empty_block()
+        blocks.append(self.world.blocks)
+        exit = self.laid(coin, giver, parent, giver)
+        self.exit_begun(coin, giver, parent, exit)
+        for block in self.random.sample(blocks, 2):
+            shown = self.shown(coin, block)
+            self.world(f"call {self.stranger()} between {coin.number} {exit} {block} {shown}")
+
+    def penny(self):
+        """A new account challenges an exit with a bond, or with a penny less or more."""
+        coin, exit = self.exit_of(lambda coin, exit: self.parent_of(coin, exit) > coin.block)
+        if coin and self.parent_of(coin, exit) > coin.block:
+            account = 1000 + self.world.last
+            self.world(f"fund {account} {self.random.choice([39, 40, 40, 41])}")
+            earlier = [block for block in [coin.block, *coin.leaves] if block < self.parent_of(coin, exit)]
+            block = self.random.choice(earlier)
+            self.world(f"call {account} before {coin.number} {exit} {block} {self.shown_or_deposit(coin, block)}")
+            self.world(f"money {account}")
+
     def all_challenges(self):
         """Each earlier block challenges an exit, and some are answered."""
         coin, exit = self.exit_of()
@@ -162,21 +209,27 @@ class Calls(Steps):
     def theft(self):
         """A rogue takes a coin that a wallet has, by the wallet's own key where it has it. Deadlines pass, looked at
         or not."""
-        held = [coin for coin in self.world.coins.values() if coin.owner in self.world.wallets]
         name = self.name("rogues")
+        victim = self.world.victims.get(name)
+        if victim and self.chance(0.6):
+            self.money_for(self.world.wallets[victim], 5)
+            self.world(f"deposit {victim} 5")
+        held = [coin for coin in self.world.coins.values() if coin.owner in self.world.wallets]
         if not held or not name:
             return
+        held = held[-1:] if held[-1].owner == victim and self.chance(0.8) else held
+        held = [coin for coin in held if coin.owner == victim] or held
         coin = self.random.choice(held)
-        parent = coin.tip if self.chance(0.6) else self.laid(coin, name, self.some([coin.tip, coin.block]), name)
+        parent = coin.tip if self.chance(0.7) else self.laid(coin, name, self.some([coin.tip, coin.block]), name)
         exit = self.laid(coin, name, parent, name)
         self.exit_begun(coin, name, parent, exit)
         begun = self.world.exits.get((coin.number, exit))
         if begun is None:
             return
         for time in (WINDOW, WINDOW + ANSWER_TIME):
-            if self.chance(0.5):
-                self.look()
-            if self.chance(0.3):
+            if self.chance(0.6):
+                self.look_on()
+            elif self.chance(0.3):
                 self.respond()
             if self.chance(0.8):
                 self.world(f"tick {max(begun + time - self.chance(0.3), self.world.clock)}")
@@ -199,7 +252,7 @@ class Calls(Steps):
             self.open()
 
     def open(self):
-        down = [*self.world.down]
+        down = sorted(self.world.down)
         self.world(f"open {self.some(down, self.node())}")
 
     def cut(self):

@@ -74,7 +74,7 @@ def filled(random, line, known):
     return " ".join(words)
 
 
-def a_line(random, text, world):
+def a_line(random, world):
     """A line behind a schedule, spoiled in one place or two; seldom without its end, or with more behind it."""
     known = [*world.wallets, *world.watchers, *world.rogues] or ["a"]
     made = b""

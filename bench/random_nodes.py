@@ -1,9 +1,9 @@
 """Random runs of nodes over files: the commands of a random schedule, each by a node over files with the log of the
-calls that were accepted. For bench/agree.
+calls that were accepted. The second opinion makes them. For bench/agree.
 """
 import tempfile
 
-from agreeing import Program, Step
+from agreeing import Step
 from plasma_bytes import TAG, hexed, identity, journal, owner, public_key, seed_of, signer, transfer
 from random_schedules import schedule
 
@@ -27,12 +27,12 @@ class Node:
 
 
 class Followed:
-    """A schedule, by nodes over files: the runs that it makes, with what the program answered."""
+    """A schedule, by nodes over files: the runs that it makes."""
 
-    def __init__(self, program, random, lines, answers):
-        self.program, self.random = Program(program), random
+    def __init__(self, second, random, lines, answers):
+        self.second, self.random = second, random
         self.log, self.nodes, self.keys, self.items = [], {}, {}, {}
-        self.steps, self.dids, self.moments = [], [], []
+        self.steps, self.moments = [], []
         self.queue = []
         with tempfile.TemporaryDirectory() as self.folder:
             for number, (line, answer) in enumerate(zip(lines, answers), 1):
@@ -129,9 +129,8 @@ class Followed:
         node, queue, self.queue = self.nodes[self.queue[0][0]], self.queue, []
         text = "\n".join([*self.log, "--", *(it[2] for it in queue), *self.questions(node)]) + "\n"
         step = Step([node.role], text.encode(), node.files)
-        did = self.program.run(self.folder, step)
+        did = self.second.run(self.folder, step)
         self.steps.append(step)
-        self.dids.append(did)
         node.files = did.files
         self.moments.append((node.role, node.account, did.files, [*self.log]))
         lines = did.text.decode("latin-1").split("\n")
@@ -147,7 +146,8 @@ class Followed:
         known = ("0x", "call ", "fund", "tick")
         while lines and lines[0].startswith(known):
             below.append(lines.pop(0))
-        node.offers = below if word in ("watch", "leave", "seal") else []
+        # (what `who` answers, which may come behind the last command, is no offer)
+        node.offers = [it for it in below if it[:2] != "0x"] if word in ("watch", "leave", "seal") else []
         if word in ("send", "again", "bundle", "absences", "prove") and below:
             self.items[number] = bytes.fromhex(below[0][2:])
 
@@ -158,8 +158,8 @@ class Followed:
         return self.random.sample(["who", "state 1", "state 2", "state 0", f"state {2**64 - 1}"], 2)
 
 
-def followed(program, random):
+def followed(second, random):
     """The runs of a random schedule."""
-    text, answers, _ = schedule(program, random, random.choice(FOLLOWED))
+    text, answers = schedule(second, random, random.choice(FOLLOWED))
     lines = text.decode("latin-1").split("\n")
-    return Followed(program, random, lines, answers)
+    return Followed(second, random, lines, answers)

@@ -12,22 +12,24 @@ ROLES = ["wallet", "wallet", "operator", "watcher"]
 MADE = []
 
 
-def moments(program, random):
+def moments(second, random):
     """A followed schedule, mostly one that was there before: it serves for some cases."""
-    if not MADE or random.random() < 0.1:
-        MADE[:] = [*MADE[-5:], followed(program, random)]
+    while not MADE or random.random() < 0.1:
+        made = followed(second, random)
+        MADE[:] = [*MADE[-5:], *([made] if made.moments else [])]
     return random.choice(MADE)
 
 
-def cases_of_moments(program, random, kind):
+def cases_of_moments(second, random, kind):
     """A node of a schedule at some moment, over files or a log that were changed."""
-    made = moments(program, random)
+    made = moments(second, random)
     wallets = [it for it in made.moments if it[0] == "wallet"] or made.moments
-    for _ in range(2 if made.moments else 0):
+    for _ in range(2):
         role, _, files, log = random.choice(wallets if random.random() < 0.6 else made.moments)
         other = random.choice(made.moments)
         if kind == "records":
-            files = changed_files(random, files, other[2])
+            back = taken_back(random, files) if role == "wallet" and random.random() < 0.3 else None
+            files = back or changed_files(random, files, other[2])
             if random.random() < 0.04:
                 role = random.choice(ROLES)
         else:
@@ -84,6 +86,21 @@ def changed_files(random, files, others):
     return files
 
 
+def taken_back(random, files):
+    """The files of a wallet with a note that a transfer was taken back, of a leaf that there is: mostly one that
+    doesn't fit; None where no leaf binds a transfer."""
+    notes, leaves = (records(files.get(name, journal()))[0] for name in ("notes.journal", "leaves.journal"))
+    bodies = [it[4:] if it[4:8] in (b"PCT1", b"PCT2") else it for it in leaves if it != MARKER]
+    if not bodies:
+        return None
+    leaf = random.randrange(len(bodies))
+    coin, tip = bodies[leaf][36:44], bodies[leaf][44:52]
+    coin, tip, leaf = random.choice([
+        (coin, tip, leaf), (u64(int.from_bytes(coin, "big") + 1), tip, leaf), (coin, u64(9), leaf),
+        (coin, tip, leaf + 1), (coin, tip, (leaf + 1) % len(bodies)), (coin, tip, 2**32 - 1)])
+    return {**files, "notes.journal": journal(*notes, b"\x05" + coin + tip + u32(leaf))}
+
+
 def changed_end(random, content):
     """Another byte where the journal ends, or more behind it, or less."""
     return random.choice([content[:-1], content[:-1] + b"\x01", content[:-1] + b"\xa4\xff",
@@ -104,12 +121,25 @@ def changed_records(random, contents):
     elif kind == 2 and len(contents) > 1:
         other = random.randrange(len(contents))
         contents[at], contents[other] = contents[other], contents[at]
+    elif kind == 3 and contents and contents[at][:1] in (b"\x02", b"\x12") and len(contents[at]) > 21:
+        contents.insert(random.choice([at, len(contents)]), fewer_links(random, contents[at]))
     elif kind < 5 or not contents:
         contents.insert(random.randrange(len(contents) + 1) if random.random() < 0.4 else len(contents),
                         a_record(random))
     else:
         contents[at] = with_field(random, contents[at])
     return contents
+
+
+def fewer_links(random, content):
+    """A record of a kept bundle with the same tip and without one of its links, mostly one before the last."""
+    items, at = [], 21
+    while at < len(content):
+        length = int.from_bytes(content[at + 8 : at + 12], "big")
+        items.append(content[at : at + 12 + length])
+        at += 12 + length
+    del items[random.randrange(len(items))]
+    return content[:17] + u32(len(items)) + b"".join(items)
 
 
 def with_field(random, content):
@@ -185,9 +215,20 @@ call 77 commit 0x00
  --""".format(key="00" * 56, root="11" * 32, zeros="00" * 8, tag="00" * 31 + "01").split("\n")
 
 
+def calls_of_exits(random):
+    """Calls of the exits of a coin, in any order: what a contract would have refused has its effect too."""
+    coin = random.choice([1, 1, 2])
+    block = [random.choice([1, 2, 3, 4, 5]) for _ in range(40)].pop
+    forms = ["exit {0} {1} 0x {2} 0x", "exit {0} {1} - {2} 0x", "start {0} {1}", "before {0} {1} {2} -",
+             "before {0} {1} {2} 0x", "respond {0} {1} {2} {3} 0x", "finish {0} {1}", "after {0} {1} {2} 0x"]
+    weights = [5, 1, 1, 3, 3, 3, 1, 1]
+    return [f"call {random.choice([77, 78])} {form}".format(coin, block(), block(), block())
+            for form in random.choices(forms, weights, k=random.choice([1, 2, 4, 8]))]
+
+
 def changed_log(random, log):
     """A log with lines that are missing, twice there, elsewhere or new."""
-    log = [*log]
+    log = [*log, *(calls_of_exits(random) if random.random() < 0.4 else [])]
     for _ in range(random.choice([1, 1, 2, 4])):
         at = random.randrange(len(log))
         kind = random.randrange(10)

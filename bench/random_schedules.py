@@ -1,5 +1,5 @@
-"""Random schedules, by kinds. Each is made by a replay that is given line by line, so that the next line can make use
-of what was answered. For bench/agree.
+"""Random schedules, by kinds. Each grows in a replay by the second opinion, line by line, so that the next line can
+make use of what was answered. For bench/agree.
 """
 from live_schedule import OPERATOR, Ended, World
 from random_bytes import Raw, key_of
@@ -10,18 +10,20 @@ NAMES = ["a", "b", "c", "d", "ann", "bob2", "carol", "zz9", "wallet", "sixteenle
 # How often each step comes, by kind.
 CHAIN = {"fund": 2, "money": 2, "tick": 4}
 TRADE = {"deposit": 4, "pass_on": 10, "send": 3, "offer": 2, "lay": 1, "seal": 2, "take": 4, "again": 1, "leave": 3,
-         "migrate": 1, "watch": 4, "prove": 1, "absences": 1, "reclaim": 3, "release": 1, "empty_block": 1, "enter": 1}
+         "migrate": 1, "taken_back": 2, "watch": 4, "prove": 1, "absences": 1, "reclaim": 3, "release": 1,
+         "empty_block": 1, "enter": 1}
 DISPUTE = {"deposit_of_stranger": 4, "plant": 6, "start": 6, "after": 3, "between": 3, "before": 5, "respond": 4,
-           "finish": 5}
+           "finish": 5, "penny": 1, "dropped": 2}
 KINDS = {
     "life": {**CHAIN, **TRADE, "start": 1, "finish": 2},
-    "dispute": {**CHAIN, **DISPUTE, "deposit_of_stranger": 1, "links": 6, "double_spend": 3, "seal": 1,
+    "dispute": {**CHAIN, **DISPUTE, "deposit_of_stranger": 1, "links": 6, "odd_spends": 2, "double_spend": 3, "seal": 1,
                 "all_challenges": 3},
     "guarded": {**CHAIN, **TRADE, **DISPUTE, "look": 6, "planted_pair": 5, "double_spend": 3, "all_challenges": 2},
     "thief": {**CHAIN, **TRADE, "plant": 3, "planted_pair": 5, "start": 4, "look": 6, "finish": 5, "tick": 4,
               "theft": 6, "before": 2,
               "respond": 3, "double_spend": 2, "all_challenges": 2},
-    "restart": {**CHAIN, "deposit_of_stranger": 1, "links": 4, "double_spend": 2, "planted_pair": 3, "start": 5,
+    "restart": {**CHAIN, "deposit_of_stranger": 1, "links": 4, "dropped": 1, "odd_spends": 1,
+                "double_spend": 2, "planted_pair": 3, "start": 5,
                 "restart": 14, "finish": 1, "look": 2, "take": 3, "all_challenges": 2},
     "crashes": {**CHAIN, **TRADE, "cut": 16, "crash": 5, "open": 2, "start": 2},
     "bytes": {**CHAIN, "deposit": 2, "deposit_of_stranger": 2, "commit": 8, "start": 8, "after": 4, "between": 4,
@@ -42,9 +44,9 @@ def begun(world, kind):
     random, keys = world.random, {}
     most = random.choice([1, 2, 3, 5, 9]) if kind == "full" else random.choice([100, 100, 3000])
     world(f"chain 1 {OPERATOR} {most}")
-    names = random.sample(NAMES, 5)
-    seeds = random.sample(range(1, 9), 5)
-    wallets = {"dispute": 0, "restart": random.choice([0, 1, 2]), "spent": 2}.get(kind, random.choice([1, 2, 2, 3]))
+    wallets = {"dispute": 0, "restart": random.choice([0, 1, 2]), "spent": 2}.get(kind, random.choice([1, 1, 2, 2, 3]))
+    wallets = random.choice([7, 8, 9]) if wallets and random.random() < 0.01 else wallets
+    names, seeds = random.sample(NAMES, max(wallets, 1)), random.sample(range(1, 11), max(wallets, 1))
     for place in range(wallets):
         types = types_of(random, kind)
         keys[names[place]] = key_of(seeds[place], types or (5, 4))
@@ -57,6 +59,7 @@ def begun(world, kind):
             victim = names[random.randrange(wallets)]
             key = keys[victim]
             seed, types = int.from_bytes(key.seed, "big"), (key.lms, key.ots)
+            world.victims[name] = victim
         keys[name] = key_of(seed, types)
         world(f"rogue {name} {21 + place} {seed} {types[0]} {types[1]}")
         world(f"fund {21 + place} {random.choice([0, 100, 400, 10_000])}")
@@ -68,14 +71,14 @@ def begun(world, kind):
 
 def types_of(random, kind):
     """Mostly the types whose keys are made soonest."""
-    if kind in ("lines", "names") or random.random() < 0.97:
+    if kind in ("lines", "names") or random.random() < 0.99:
         return 5, 3
-    return random.choice([(5, 4), (6, 3), None])
+    return random.choice([(5, 4), (5, 4), (6, 3), None])
 
 
-def schedule(program, random, kind):
-    """A schedule of a kind."""
-    world = World(program, random, LONGEST[kind] * random.choice([1, 1, 1, 2]) // random.choice([1, 1, 2]))
+def schedule(second, random, kind):
+    """A schedule of a kind, and the second opinion's answers to it."""
+    world = World(second, random, LONGEST[kind] * random.choice([1, 1, 1, 2]) // random.choice([1, 1, 2]))
     try:
         if kind == "names":
             declarations(world)
@@ -85,10 +88,7 @@ def schedule(program, random, kind):
             walk(world, steps, kind)
     except Ended:
         pass
-    text = world.close()
-    if kind == "lines":
-        text += a_line(random, text, world)
-    return text, world.answers, world.ends
+    return world.text + (a_line(random, world) if kind == "lines" else b""), world.answers
 
 
 def walk(world, steps, kind):
@@ -118,7 +118,8 @@ def spend_key(world, steps):
     for place, coin in enumerate(coins):
         if place == world.random.choice([0, 5, 20, 31]):
             world(f"migrate {name}")
-        world(f"send {name} {coin} {world.random.choice([*world.wallets])}{steps.last_block()}")
+        last = steps.last_block() if steps.chance(0.2) else ""
+        world(f"send {name} {coin} {world.random.choice([*world.wallets])}{last}")
 
 
 def plain(steps):

@@ -239,79 +239,6 @@ class Steps:
         parent = self.laid(coin, name, self.some([coin.tip, coin.block, *coin.leaves], 0), name)
         exit = self.laid(coin, name, parent, name)
         if self.chance(0.85):
-            self.exit_begun(coin, name, parent, exit)
-
-    def offer(self):
-        self.world(f"offer {self.item()}")
-
-    def lay(self):
-        """Bytes at a coin: mostly a transfer of it, new or old."""
-        coin = self.coin()
-        if coin:
-            known = [f"#{it.line}" for it in self.world.transfers if it.coin == coin.number]
-            junk = self.random.choice(["0x", "0x01", hexed(self.random.randbytes(60)), "#0"])
-            self.world(f"lay {coin.number} {self.some(known, junk)}")
-            if self.chance(0.7):
-                self.seal()
-
-    def plant(self):
-        """A transfer that spends any parent, into a block."""
-        made = self.sign()
-        if made:
-            self.world(f"lay {made[1]} {made[0]}")
-            self.seal()
-
-    def laid(self, coin, name, parent, to):
-        """A transfer that a rogue signs and the operator lays, in a block of its own: the block."""
-        leaf = self.world.leaf_of[name] % 32
-        self.world.leaf_of[name] += 1
-        self.world(f"sign {name} {leaf} {coin.number} {parent} {to}")
-        self.world(f"lay {coin.number} #{self.world.last}")
-        self.world("seal")
-        self.world("enter op 1")
-        return self.world.blocks
-
-    def links(self):
-        """A coin of a rogue passes on a few times."""
-        own = [coin for coin in self.world.coins.values() if coin.owner in self.world.rogues]
-        coin = self.random.choice(own) if own else None
-        for _ in range(self.random.choice([1, 2, 2, 3, 4])):
-            if coin and coin.owner in self.world.rogues:
-                to = self.random.choice([*self.world.rogues] * 3 + [*self.world.wallets])
-                self.laid(coin, coin.owner, coin.tip, to)
-
-    def exit_begun(self, coin, name, parent, exit):
-        """The account of a rogue begins the exit of a transfer."""
-        account = self.world.rogues[name]
-        self.money_for(account, 100)
-        shown = "-"
-        if parent != coin.block:
-            self.world(f"prove {coin.number} {parent}")
-            shown = f"#{self.world.last}"
-        self.world(f"prove {coin.number} {exit}")
-        self.world(f"call {account} exit {coin.number} {parent} {shown} {exit} #{self.world.last}")
-
-    def double_spend(self):
-        """An owner spends a coin twice, and the second new owner exits, mostly."""
-        coin = self.coin()
-        if coin and coin.owner in self.world.rogues:
-            giver, parent = coin.owner, coin.tip
-            self.laid(coin, giver, parent, self.some([*self.world.wallets, *self.world.rogues]))
-            if self.chance(0.7):
-                self.take(coin)
-            taker = self.random.choice([*self.world.rogues])
-            exit = self.laid(coin, giver, parent, taker)
-            if self.chance(0.9):
-                self.exit_begun(coin, taker, parent, exit)
-
-    def planted_pair(self):
-        """A parent that spends nothing good, and what spends it; mostly an exit of that is begun."""
-        coin, name = self.coin(), self.name("rogues")
-        if not coin or not name:
-            return
-        parent = self.laid(coin, name, self.some([coin.tip, coin.block, *coin.leaves], 0), name)
-        exit = self.laid(coin, name, parent, name)
-        if self.chance(0.85):
             account = self.world.rogues[name]
             self.money_for(account, 100)
             self.world(f"prove {coin.number} {parent}")
@@ -338,7 +265,7 @@ class Steps:
         bundle = self.last_item()
         names = [*self.world.wallets, *self.world.watchers]
         owner = [coin.owner] if coin.owner in self.world.wallets else names
-        for name in {self.some(owner, *names), self.some([*self.world.watchers], *names)} - {0}:
+        for name in sorted({self.some(owner, *names), self.some([*self.world.watchers], *names)} - {0}):
             self.world(f"{'guard' if name in self.world.watchers else 'accept'} {name} {bundle}")
 
     def last_item(self):
@@ -399,8 +326,44 @@ class Steps:
                 self.world(f"watch {name}")
         if self.chance(0.3):
             self.random.choice([self.fund, self.money, self.again, self.release])()
+        for name in [*self.world.wallets, *self.world.watchers]:
+            if self.chance(0.08):
+                self.world(f"open {name}")
         if self.chance(self.haste):
             self.tick()
+
+    def look_on(self):
+        """Everybody watches until nothing is due, and then maybe does something else, or somebody calls."""
+        names = [*self.world.wallets, *self.world.watchers]
+        for name in names:
+            answer = self.world(f"watch {name}")
+            for number in range(1, int(answer[1]) + 1 if answer[0] == "offers" else 1):
+                self.world(f"enter {name} {number}")
+        for name in names:
+            self.world(f"watch {name}")
+        lines = {"open": [f"open {name}" for name in names], "call": ["fund 50 1"], "nothing": [],
+                 "refused": [f"again {name} 0" if name in self.world.wallets else f"release {name} 0 0"
+                             for name in names]}
+        for line in lines[self.random.choice(["open", "open", "nothing", "nothing", "call", "refused"])]:
+            self.world(line)
+
+    def taken_back(self):
+        """A wallet sends a coin that no block takes, and takes it back when the last block is there."""
+        held = [coin for coin in self.world.coins.values() if coin.owner in self.world.wallets]
+        if not held:
+            return
+        coin = self.random.choice(held)
+        if self.chance(0.6):
+            self.world(f"migrate {coin.owner}")
+        last = self.world.blocks + self.random.choice([1, 1, 2, 3])
+        answer = self.world(f"send {coin.owner} {coin.number} {self.random.choice([*self.world.wallets])} {last}")
+        for _ in range(last - self.world.blocks if answer[0] == "sent" else 0):
+            self.world("seal")
+            self.world("enter op 1")
+        self.world(f"absences {coin.number} {coin.tip} {last}")
+        self.world(f"reclaim {coin.owner} #{self.world.last}")
+        if self.chance(0.5):
+            self.send(coin)
 
     def enter(self):
         name = self.some([*self.world.wallets, *self.world.watchers, "op"])

@@ -51,6 +51,8 @@ class Contract:
         self.blocks = []
         self.coins = {}
         self.exits = {}
+        # Coin, exit and block of each response since the exit was last started, cancelled or finished.
+        self.responses = set()
         self.withdrawn = set()
         self.accepted = 0
 
@@ -161,6 +163,7 @@ class Contract:
 
     def begin_exit(self, call, parent, owner, parent_owner):
         self.pay(call.account, -EXIT_BOND)
+        self.end_exit(call)
         self.exits[call.coin, call.exit] = Exit(call, self.clock, parent, owner, parent_owner)
         return 'started %d' % (self.clock + EXIT_TIME)
 
@@ -215,8 +218,13 @@ class Contract:
                   or not found.parent < call.block < found.block, 'bad-block')
         self.refuse_spend(call, found.parent, found.parent_owner)
 
+    def end_exit(self, call):
+        """Takes out the exit of this name, or gives None; in a log, whose word is taken, a start does so too."""
+        self.responses = {place for place in self.responses if place[:2] != (call.coin, call.exit)}
+        return self.exits.pop((call.coin, call.exit), None)
+
     def effect_after(self, call):
-        found = self.exits.pop((call.coin, call.exit), None)
+        found = self.end_exit(call)
         if found:
             self.pay(call.account, EXIT_BOND)
             self.give_back(found)
@@ -242,9 +250,10 @@ class Contract:
     def effect_before(self, call):
         self.pay(call.account, -CHALLENGE_BOND)
         found = self.exits.get((call.coin, call.exit))
-        if found:
+        if found and found.challenge_at(call.block) is None:
             owner = self.shown_owner(call.coin, call.block, call.shown)
             found.challenges.append(Challenge(call.account, call.block, self.clock, owner))
+            found.challenges[-1].answered = (call.coin, call.exit, call.block) in self.responses
         return 'challenged %d' % (self.clock + ANSWER_TIME)
 
     def refuse_respond(self, call):
@@ -257,6 +266,7 @@ class Contract:
         self.refuse_spend(call, call.challenged, challenge.owner)
 
     def effect_respond(self, call):
+        self.responses.add((call.coin, call.exit, call.challenged))
         found = self.exits.get((call.coin, call.exit))
         challenge = found.challenge_at(call.challenged) if found else None
         if challenge:
@@ -269,7 +279,7 @@ class Contract:
         refuse_if(self.clock < found.start + EXIT_TIME, 'early', found.start + EXIT_TIME)
 
     def effect_finish(self, call):
-        found = self.exits.pop((call.coin, call.exit), None)
+        found = self.end_exit(call)
         if found is None:
             # In a log, whose word is taken: no challenge is open.
             found = Exit(call, 0, None, None, None)

@@ -3,7 +3,7 @@ import replay
 import runs
 import signer
 from grammar import bad_if, read_hex, read_number, read_types
-from journals import EMPTY_LENGTH, file_bytes, LEAVES_FILE, make_file, NOTES_FILE
+from journals import begin_file, file_bytes, FileJournal, is_taken, LEAVES_FILE, NOTES_FILE
 from operator_node import operator_identity
 from refusals import BadLine, Ended
 from wallet import wallet_identity
@@ -12,16 +12,14 @@ USAGE = 'usage: plasma replay | brief | wallet | operator | watcher | init | mak
 MOST_ROUNDS = 10000
 
 def make_node(output, identity, has_leaves):
-    """Makes the files of a node, unless one of them has something in it."""
-    paths = [NOTES_FILE] + ([LEAVES_FILE] if has_leaves else [])
-    for path in paths:
-        # Records take more than five bytes, so the length tells all.
-        length = len(file_bytes(path))
-        if length > EMPTY_LENGTH:
-            raise Ended(10, 'already made %d' % length)
+    """Makes the files of a node, unless one of them has something in it: the leaves first."""
+    for path in [NOTES_FILE] + ([LEAVES_FILE] if has_leaves else []):
+        if is_taken(file_bytes(path)):
+            raise Ended(10, 'already made %d' % len(file_bytes(path)))
     if has_leaves:
-        make_file(LEAVES_FILE, [])
-    make_file(NOTES_FILE, [identity])
+        begin_file(LEAVES_FILE)
+    begin_file(NOTES_FILE)
+    FileJournal(NOTES_FILE).append(identity)
     output.line('made')
     return 0
 

@@ -49,8 +49,8 @@ def handed_bundle(data):
     except BadBundle as bad:
         raise Refused('bad-bundle', bad.place)
 
-# A transfer of a coin that spends the link before it, in its block, with its opening.
-Link = namedtuple('Link', 'block parent owner opening')
+# The opening of a transfer of a coin, which spends the link before it, in its block.
+Link = namedtuple('Link', 'block opening')
 
 class History:
     def __init__(self, bundle, links, owner):
@@ -92,7 +92,7 @@ def read_history(chain, data):
         transfer = spelled_transfer(leaf, chain.tag, bundle.coin, block)
         refuse_if(transfer is None or transfer.parent != tip, 'not-link', block)
         refuse_if(not transfer.signed_by(owner), 'bad-signature', block)
-        links.append(Link(block, tip, transfer.owner, opening))
+        links.append(Link(block, opening))
         tip, owner = block, transfer.owner
     return History(bundle, links, owner)
 
@@ -110,7 +110,7 @@ def kept_links(tag, data):
         transfer = spelled_transfer(parts[0], tag, bundle.coin, block) if parts else None
         if transfer is None:
             return None, None
-        links.append(Link(block, transfer.parent, transfer.owner, opening))
+        links.append(Link(block, opening))
     return (bundle, links) if not links or links[-1].block == bundle.tip else (None, None)
 
 def refuse_present(chain, bundle, after):
@@ -118,9 +118,9 @@ def refuse_present(chain, bundle, after):
     for block, _, leaf in opened_items(chain, bundle, after):
         refuse_if(leaf != b'', 'not-absent', block)
 
-def link_walk(chain, coin_number, leaf_at, last):
+def link_walk(chain, coin_number, leaf_at, last, ends_broken=False):
     """The last link and the first broken leaf of a coin, over the leaves that `leaf_at` knows up to `last`.
-    A broken leaf is neither empty nor the next link; the walk goes on behind one.
+    A broken leaf is neither empty nor the next link; an operator's walk goes on behind one, an archive's ends.
     """
     coin = chain.coins[coin_number]
     tip, owner, broken = coin.block, coin.owner, None
@@ -133,4 +133,6 @@ def link_walk(chain, coin_number, leaf_at, last):
             tip, owner = block, transfer.owner
         elif broken is None:
             broken = block
+            if ends_broken:
+                break
     return tip, owner, broken

@@ -36,10 +36,6 @@ def read_journal(data):
         records.append((at, data[at + 5:at + 5 + length]))
         at += 5 + length
 
-def journal_bytes(records):
-    parts = [bytes((GATE,)) + number_bytes(len(record), 4) + record for record in records]
-    return MARK + b''.join(parts) + b'\x00'
-
 class FileJournal:
     """A journal in a file of the current folder; a file that isn't there has no bytes."""
     def __init__(self, path):
@@ -78,11 +74,22 @@ def file_bytes(path):
     except FileNotFoundError:
         return b''
 
-def make_file(path, records):
+def is_taken(data):
+    """Whether a file has something that an `init` leaves alone."""
+    try:
+        return bool(read_journal(data)[0])
+    except NotJournal:
+        return len(data) > EMPTY_LENGTH
+
+def begin_file(path):
+    """Makes a journal without records, unless that stands there."""
+    data = file_bytes(path)
+    if data[:4] == MARK and len(data) >= EMPTY_LENGTH and data[4] != GATE:
+        return
     descriptor = os.open(path, os.O_RDWR | os.O_CREAT, 0o666)
     try:
         os.ftruncate(descriptor, 0)
-        write_all(descriptor, journal_bytes(records), 0)
+        write_all(descriptor, MARK + b'\x00', 0)
         os.fsync(descriptor)
     finally:
         os.close(descriptor)

@@ -1,6 +1,6 @@
 """LMS and two-level signatures of RFC 8554, with the pages' four pairs of types (FORMATS, "Byte formats")."""
 import hashlib
-from functools import lru_cache
+from functools import cached_property, lru_cache
 PAIRS = ((5, 4), (6, 4), (5, 3), (6, 3))
 HEIGHTS = {5: 5, 6: 10}
 # One-time type: the bits of a digit, the number of strings, the shift of the checksum.
@@ -58,7 +58,6 @@ class Key:
         self.lms_type = lms_type
         self.one_time_type = one_time_type
         self.leaves = 1 << HEIGHTS[lms_type]
-        self.nodes = None
 
     def prefix(self, leaf, index):
         return self.identifier + number_bytes(leaf, 4) + number_bytes(index, 2)
@@ -70,27 +69,27 @@ class Key:
         one_time = sha256(self.identifier + number_bytes(leaf, 4) + ONE_TIME_PUBLIC + b''.join(ends))
         return sha256(self.identifier + number_bytes(self.leaves + leaf, 4) + LEAF + one_time)
 
+    @cached_property
     def tree(self):
-        if self.nodes is None:
-            nodes = {self.leaves + leaf: self.leaf_digest(leaf) for leaf in range(self.leaves)}
-            for node in range(self.leaves - 1, 0, -1):
-                nodes[node] = inner_digest(self.identifier, node, nodes[2 * node], nodes[2 * node + 1])
-            self.nodes = nodes
-        return self.nodes
+        nodes = {self.leaves + leaf: self.leaf_digest(leaf) for leaf in range(self.leaves)}
+        for node in range(self.leaves - 1, 0, -1):
+            nodes[node] = inner_digest(self.identifier, node, nodes[2 * node], nodes[2 * node + 1])
+        return nodes
 
     @property
     def public(self):
         types = number_bytes(self.lms_type, 4) + number_bytes(self.one_time_type, 4)
-        return types + self.identifier + self.tree()[1]
+        return types + self.identifier + self.tree[1]
 
+    @lru_cache(maxsize=5000)
     def sign(self, leaf, message):
         randomizer = derived(self.identifier, leaf, RANDOMIZER_INDEX, self.seed)
         digest = sha256(self.identifier + number_bytes(leaf, 4) + MESSAGE + randomizer + message)
         strings = [run_chain(self.prefix(leaf, index), derived(self.identifier, leaf, index, self.seed), 0, digit)
                    for index, digit in enumerate(digits_of(digest, self.one_time_type))]
-        nodes, node, siblings = self.tree(), self.leaves + leaf, []
+        node, siblings = self.leaves + leaf, []
         while node > 1:
-            siblings.append(nodes[node ^ 1])
+            siblings.append(self.tree[node ^ 1])
             node //= 2
         return (number_bytes(leaf, 4) + number_bytes(self.one_time_type, 4) + randomizer + b''.join(strings)
                 + number_bytes(self.lms_type, 4) + b''.join(siblings))

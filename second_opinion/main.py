@@ -4,9 +4,7 @@ import sys
 from forms import read_form
 from refusals import Ended
 from streams import Output, WriteFault
-WRITE_FAULT = 5
-DEVICE_FAULT = 6
-NO_MEMORY = 7
+WRITE_FAULT, DEVICE_FAULT, NO_MEMORY = 5, 6, 7
 
 def run(words):
     output = Output()

@@ -65,47 +65,42 @@ def refuse_exits(chain, coin):
 def refuse_long_note(note):
     refuse_if(len(note) > LONGEST_RECORD, 'note-too-long', len(note))
 
-def due_calls(chain, account, coin, tip, links):
-    """The calls that are due for a coin at a tip: by rising exit, and then in the order of the challenges.
-    An exit of another block than the tip is cancelled by the spend of it (After) or of its parent
-    (Between), or challenged by what is shown at the tip (Before). Challenges of the exit at the tip
-    are answered (Respond).
+def due_calls(chain, account, coin, links):
+    """The calls that are due for a coin with these links: by standing exit, and then in the order of the challenges.
+    The first rule that speaks of an exit counts, whether its time is over or not.
     """
-    if coin not in chain.coins or coin in chain.withdrawn:
+    if coin not in chain.coins:
         return []
-    spends = {link.parent: link for link in links}
+    blocks = [chain.coins[coin].block] + [link.block for link in links]
+    behind = dict(reversed([*zip(blocks, links)]))
     offers = []
     for standing in chain.exits_of(coin):
-        if standing.block == tip:
-            offers += due_answers(chain, account, standing, spends)
-        elif chain.clock < standing.start + CHALLENGE_TIME:
-            offers += due_challenge(account, standing, tip, links, spends)
+        challenge = due_challenge(account, standing, blocks[-1], links, behind)
+        if challenge is None and standing.block == blocks[-1]:
+            offers += due_answers(chain, account, standing, behind)
+        elif challenge and chain.clock < standing.start + CHALLENGE_TIME:
+            offers.append(challenge)
     return offers
 
-def due_answers(chain, account, standing, spends):
+def due_answers(chain, account, standing, behind):
     offers = []
     for challenge in standing.open_challenges():
-        spend = spends.get(challenge.block)
-        if spend and chain.clock < challenge.time + ANSWER_TIME:
+        link = behind.get(challenge.block)
+        if link and chain.clock < challenge.time + ANSWER_TIME:
             offers.append(Call('respond', account, coin=standing.coin, exit=standing.block,
-                               challenged=challenge.block, block=spend.block, opening=spend.opening))
+                               challenged=challenge.block, block=link.block, opening=link.opening))
     return offers
 
-def due_challenge(account, standing, tip, links, spends):
-    place = {'account': account, 'coin': standing.coin, 'exit': standing.block}
-    if standing.block < tip:
-        spend = spends.get(standing.block)
-        return [Call('after', block=spend.block, opening=spend.opening, **place)] if spend else []
-    if standing.parent is None or standing.parent == tip:
-        # An exit of what the tip's owner has signed; nothing is due.
-        return []
-    if standing.parent < tip:
-        spend = spends.get(standing.parent)
-        return [Call('between', block=spend.block, opening=spend.opening, **place)] if spend else []
-    if standing.challenge_at(tip):
-        return []
-    shown = links[-1].opening if links else None
-    return [Call('before', block=tip, shown=shown, **place)]
+def due_challenge(account, standing, tip, links, behind):
+    place, parent = {'account': account, 'coin': standing.coin, 'exit': standing.block}, standing.parent or 0
+    after, between = behind.get(standing.block), behind.get(parent)
+    if after:
+        return Call('after', block=after.block, opening=after.opening, **place)
+    if standing.block > tip and between:
+        return Call('between', block=between.block, opening=between.opening, **place)
+    if parent > tip and not standing.challenge_at(tip):
+        return Call('before', block=tip, shown=links[-1].opening if links else None, **place)
+    return None
 
 def watch_answer(offers):
     return ' '.join(['offers %d' % len(offers)] + [call.kind for call in offers])

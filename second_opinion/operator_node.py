@@ -7,7 +7,7 @@ from lms import number_bytes
 from nodes import Node, Plan
 from refusals import refuse_if
 from transfers import PROMISE_LENGTH, PROMISE_MARK, promise_bytes, read_transfer
-from trees import Tree
+from trees import tree_of
 OFFER = b'\x22'
 LAID = b'\x23'
 SEAL = b'\x24'
@@ -26,7 +26,8 @@ def read_operator(identity):
 class PromiseLeaves(KeyLeaves):
     """An operator's leaves: each message is a promise, and so none stands before the marker."""
     def take(self, record):
-        if self.marked and (len(record) != 4 + PROMISE_LENGTH or record[4:8] != PROMISE_MARK):
+        binds_promise = self.marked and len(record) == 4 + PROMISE_LENGTH and record[4:8] == PROMISE_MARK
+        if not binds_promise and (self.marked or record != LEAVES_MARKER):
             raise BadRecord
         super().take(record)
 
@@ -46,7 +47,7 @@ class Operator(Node):
         elif kind == LAID and len(rest) >= 8:
             self.lay(int.from_bytes(rest[:8], 'big'), rest[8:])
         elif record == SEAL:
-            tree = Tree(self.pool)
+            tree = self.pool_tree()
             self.trees[tree.root] = tree
             self.pool = {}
         else:
@@ -57,6 +58,9 @@ class Operator(Node):
         self.pool.pop(coin, None)
         if data:
             self.pool[coin] = data
+
+    def pool_tree(self):
+        return tree_of(tuple(sorted(self.pool.items())))
 
     def tree_of(self, chain, block):
         return self.trees.get(chain.root_of(block))
@@ -98,7 +102,7 @@ class Operator(Node):
         return Plan('laid %d' % coin, note=LAID + number_bytes(coin, 8) + data)
 
     def plan_seal(self, chain):
-        commit = Call('commit', self.account, root=Tree(self.pool).root)
+        commit = Call('commit', self.account, root=self.pool_tree().root)
         return Plan('sealed %d' % len(self.pool), note=SEAL, offers=[commit])
 
     def plan_bundle(self, chain, coin, tip):

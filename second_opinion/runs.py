@@ -3,7 +3,7 @@ import lms
 from contract import Contract
 from grammar import bad_if, HexReader, read_call, read_hex, read_most, read_number, read_run_command, words_of
 from grammar import MOST_BLOCKS_OF_A_LOG
-from histories import BadBundle, Bundle, link_walk, opened_items, read_bundle
+from histories import Bundle, handed_bundle, link_walk, opened_items
 from journals import BadRecord, FileJournal, LEAVES_FILE, NotJournal, NOTES_FILE
 from operator_node import read_operator
 from refusals import BadLine, Ended, Refused, refuse_if
@@ -117,19 +117,14 @@ def audit(output, key, receipt):
     return refused_ends(output, lambda: answer_audit(output, key, receipt))
 
 def answer_audit(output, key, receipt):
-    source = Input(output)
+    source, answers = Input(output), []
     chain = source.read_log()
-    answered = False
-    for data in source.each(lambda line: read_one_bundle(line, answered)):
-        output.line(audit_answer(chain, key, receipt, data))
-        answered = True
-    if not answered:
+    for data in source.each(lambda line: bad_if(answers) or read_hex(line.decode('latin-1'))):
+        answers.append(audit_answer(chain, key, receipt, data))
+        output.line(answers[0])
+    if not answers:
         raise source.missing()
     return 0
-
-def read_one_bundle(line, answered):
-    bad_if(answered)
-    return read_hex(line.decode('latin-1'))
 
 def audit_answer(chain, key, receipt, data):
     promise = Promise(receipt)
@@ -137,10 +132,7 @@ def audit_answer(chain, key, receipt, data):
     refuse_if(lms.public_types(key) is None, 'bad-key')
     refuse_if(not lms.verify(key, receipt[:PROMISE_LENGTH], receipt[PROMISE_LENGTH:]), 'not-signed')
     refuse_if(len(chain.blocks) < promise.due, 'not-yet', promise.due)
-    try:
-        bundle = read_bundle(data)
-    except BadBundle as bad:
-        raise Refused('bad-bundle', bad.place)
+    bundle = handed_bundle(data)
     refuse_if(bundle.coin != promise.coin, 'other-coin', bundle.coin)
     refuse_if(bundle.tip != promise.due, 'unknown-block', bundle.tip)
     for block, _, leaf in opened_items(chain, bundle, promise.issued):
@@ -159,8 +151,8 @@ class Archive:
             return opened_leaf(self.chain.root_of(block), coin, opening) if opening else b''
         return leaf
 
-    def walk(self, coin):
-        return link_walk(self.chain, coin, self.leaf_at(coin), len(self.chain.blocks))
+    def walk(self, coin, last):
+        return link_walk(self.chain, coin, self.leaf_at(coin), last, ends_broken=True)
 
     def event(self, call):
         self.chain.follow(call)
@@ -179,16 +171,15 @@ class Archive:
 
     def tip(self, coin):
         refuse_if(coin not in self.chain.coins, 'no-coin')
-        return ['tip %d' % self.walk(coin)[0]]
+        return ['tip %d' % self.walk(coin, len(self.chain.blocks))[0]]
 
     def broken(self, coin):
-        broken = self.walk(coin)[2] if coin in self.chain.coins else None
+        broken = self.walk(coin, len(self.chain.blocks))[2] if coin in self.chain.coins else None
         return ['whole' if broken is None else 'broken %d' % broken]
 
     def bundle(self, coin, tip):
         refuse_if(coin not in self.chain.coins, 'no-coin')
-        is_link = link_walk(self.chain, coin, self.leaf_at(coin), tip)[0] == tip
-        refuse_if(not is_link, 'not-tip', tip)
+        refuse_if(self.walk(coin, tip)[0] != tip, 'not-tip', tip)
         blocks = self.chain.committed_between(self.chain.coins[coin].block, tip)
         bundle = Bundle(coin, tip, [(block, self.kept[coin, block]) for block in blocks])
         return ['bundled %d' % tip, '0x' + bundle.bytes().hex()]

@@ -3,9 +3,7 @@ import lms
 from journals import BadRecord, FileJournal, LEAVES_FILE, LONGEST_MESSAGE, NotJournal, NOTES_FILE
 from lms import number_bytes, PUBLIC_LENGTH
 from refusals import Ended, Refused, refuse_if
-SIGNER = b'\x31'
-BEGUN = b'\x01'
-BOUND = b'\x02'
+SIGNER, BEGUN, BOUND = b'\x31', b'\x01', b'\x02'
 LEAVES = 32
 
 def say_valid(output, valid):
@@ -28,6 +26,8 @@ class Signer:
     def take(self, record):
         kind, number, rest = record[:1], int.from_bytes(record[1:5], 'big'), record[5:]
         if kind == BEGUN and len(rest) == PUBLIC_LENGTH and number == self.begun < LEAVES:
+            if rest != lms.bottom_key(self.seed, number).public:
+                raise BadRecord
             self.begun, self.bound = self.begun + 1, 0
         elif kind == BOUND and 5 <= len(rest) <= 4 + LONGEST_MESSAGE and number == self.begun - 1:
             if int.from_bytes(rest[:4], 'big') != self.bound or self.bound >= LEAVES:

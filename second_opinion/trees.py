@@ -22,7 +22,6 @@ class Tree:
     """The tree of a block: what isn't a default is kept, level by level from the leaves."""
     def __init__(self, leaves):
         self.leaves = {coin: leaf for coin, leaf in leaves.items() if leaf}
-        self.openings = {}
         self.levels = [{coin: leaf_digest(leaf) for coin, leaf in self.leaves.items()}]
         for level in range(DEPTH):
             below = self.levels[level]
@@ -34,12 +33,8 @@ class Tree:
     def root(self):
         return self.levels[DEPTH].get(0, DEFAULTS[DEPTH])
 
+    @lru_cache(maxsize=5000)
     def opening(self, coin):
-        if coin not in self.openings:
-            self.openings[coin] = self.new_opening(coin)
-        return self.openings[coin]
-
-    def new_opening(self, coin):
         leaf = self.leaves.get(coin, b'')
         mask, siblings = 0, []
         for level in range(DEPTH):
@@ -48,6 +43,11 @@ class Tree:
                 mask |= 1 << level
                 siblings.append(sibling)
         return number_bytes(len(leaf), 4) + leaf + number_bytes(mask, 8) + b''.join(siblings)
+
+@lru_cache(maxsize=2000)
+def tree_of(leaves):
+    """The tree of these leaves by coin, pairs in order; the same one as before for the same leaves."""
+    return Tree(dict(leaves))
 
 def read_opening(opening):
     """The leaf, and the siblings by level with None for a default; None where the bytes are no opening."""

@@ -83,8 +83,6 @@ class Tracker:
             if self.parties[holding[0]].account != found.account:
                 self.losses.setdefault(holding, line)
 
-    # Openings, for the exhibit. A collision of SHA-256 can't be written down, so none is looked for.
-
     def see_openings(self, coin, openings, line):
         wallets = self.wallets()
         for block, opening in openings:
@@ -103,7 +101,7 @@ class Tracker:
         return lms.verify(wallet.node.key.public, transfer.body, transfer.signature)
 
     def exhibit(self):
-        """A collision of SHA-256 can't be written down, so none is looked for."""
+        # A collision of SHA-256 can't be written down, so none is looked for.
         return 'no exhibit' if self.forgery is None else 'forgery %d' % self.forgery
 
     def verdict(self, name, coin, block):

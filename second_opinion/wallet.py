@@ -54,7 +54,7 @@ class Wallet(Node):
             bundle, links = kept_links(self.tag, rest)
             if bundle is None:
                 raise BadRecord
-            self.accepted[bundle.coin, bundle.tip] = links
+            self.accepted.setdefault((bundle.coin, bundle.tip), links)
         elif kind == LEAVING and len(rest) == 16:
             self.left.add((int.from_bytes(rest[:8], 'big'), int.from_bytes(rest[8:], 'big')))
         elif kind == TAKEN_BACK and len(rest) == 20:
@@ -98,15 +98,12 @@ class Wallet(Node):
     def state(self, chain, coin):
         """A word, the tip and the leaf, by the greatest tip that the wallet has of the coin."""
         tip = max(self.tips(chain, coin), default=None)
-        if tip is None or coin in chain.withdrawn:
+        if tip is None or coin not in chain.coins or coin in chain.withdrawn:
             return 'nothing', None, None
         leaf = self.binding_leaf(coin, tip)
         if leaf is not None:
             return 'sending', tip, leaf
         return ('leaving' if (coin, tip) in self.left else 'held'), tip, None
-
-    def links(self, coin, tip):
-        return self.accepted.get((coin, tip), [])
 
     def plan_who(self, chain):
         return Plan('0x' + self.owner.hex())
@@ -145,12 +142,14 @@ class Wallet(Node):
     def plan_leave(self, chain, coin):
         word, tip, _ = self.state(chain, coin)
         refuse_if(word in ('nothing', 'sending'), 'not-held')
-        links = self.links(coin, tip)
+        links = self.accepted.get((coin, tip), [])
         if not links:
             start = Call('start', self.account, coin=coin, exit=tip)
         else:
-            shown = links[-2].opening if len(links) > 1 else None
-            start = Call('exit', self.account, coin=coin, parent=links[-1].parent, shown=shown, exit=tip,
+            parent, shown = chain.coins[coin].block, None
+            if len(links) > 1:
+                parent, shown = links[-2].block, links[-2].opening
+            start = Call('exit', self.account, coin=coin, parent=parent, shown=shown, exit=tip,
                          opening=links[-1].opening)
         # Who leaves already is given the start again: the offers are lost with a crash.
         note = None if word == 'leaving' else LEAVING + coin_and_tip(coin, tip)
@@ -181,5 +180,5 @@ class Wallet(Node):
         for coin in sorted(coins):
             word, tip, _ = self.state(chain, coin)
             if word in ('held', 'leaving'):
-                offers += due_calls(chain, self.account, coin, tip, self.links(coin, tip))
+                offers += due_calls(chain, self.account, coin, self.accepted.get((coin, tip), []))
         return Plan(watch_answer(offers), offers=offers)

@@ -27,7 +27,7 @@ class Watcher(Node):
             bundle, links = kept_links(self.tag, rest)
             if bundle is None:
                 raise BadRecord
-            self.guards[bundle.coin, bundle.tip] = links
+            self.guards.setdefault((bundle.coin, bundle.tip), links)
         elif kind == RELEASED and len(rest) == 16:
             self.guards.pop((int.from_bytes(rest[:8], 'big'), int.from_bytes(rest[8:], 'big')), None)
         else:
@@ -49,5 +49,5 @@ class Watcher(Node):
     def plan_watch(self, chain):
         offers = []
         for coin, tip in sorted(self.guards):
-            offers += due_calls(chain, self.account, coin, tip, self.guards[coin, tip])
+            offers += due_calls(chain, self.account, coin, self.guards[coin, tip])
         return Plan(watch_answer(offers), offers=offers)
