@@ -11,7 +11,8 @@ use Rattle.streamed_lines.specs.Streams.{Rules, Stream, with_answer}
 use Rattle.streamed_lines.specs.Reading.{next_text}
 use Rattle.run_endings.specs.declared.status.Status.{Status}
 use Rattle.node_roles.specs.Notes.{NotesAt, with_note}
-use Rattle.node_journal.specs.Parts.{Parts, with_effect}
+use Rattle.node_journal.specs.Parts.{Parts}
+use Rattle.node_roles.specs.Parts.{with_effect}
 use Rattle.node_roles.specs.Nodes.{NodeAt, keeping, Commands, outcome_at, node_does}
 use Rattle.node_sessions.specs.Sessions.{SessionState, begun, calls_of, commanded}
 use Rattle.node_runs.specs.Sessions.{Outside, Begins}
