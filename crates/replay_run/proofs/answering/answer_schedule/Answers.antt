@@ -26,7 +26,7 @@ answer_lines-requires g c κs within =
         within.1.0,
         (
           within.1.1,
-          (⊑_static _, (c.requires.none, (c.new-replayer.ensures.nodes, c.new-replayer.ensures.ran))),
+          (⊑_static _, (c.requires.none, (tt, c.new-replayer.ensures.ran))),
         ),
       ),
     )
