@@ -1,0 +1,4 @@
+mod Log
+mod Entered
+mod Begun
+mod Samples

@@ -1,0 +1,5 @@
+use Rattle.chain_lives.proofs.Log.{events_hold_the_chain}
+use Rattle.chain_lives.proofs.laws.events_hold_the_chain.Goals as goal
+
+pub returns : goal.returns
+returns g c = λ dig rules. events_hold_the_chain g.D.Disk.told g.D.Disk.plan g.D.Disk.faults dig rules

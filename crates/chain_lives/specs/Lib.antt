@@ -1,0 +1,7 @@
+pub mod Steps
+pub mod Acts
+pub mod Chains
+pub mod Log
+pub mod Entered
+pub mod Begun
+pub mod Samples

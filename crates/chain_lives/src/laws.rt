@@ -1,0 +1,33 @@
+ghost use Rattle.std.specs.Prelude.{List, ℕ};
+ghost use Rattle.plasma_tx.specs.Shown.{Rules};
+ghost use Rattle.chain_lives.specs.Begun.{BeginningsAreLegal};
+ghost use Rattle.chain_lives.specs.Entered.{EntriesAreLegal};
+ghost use Rattle.chain_lives.specs.Log.{EventsHoldTheChain};
+ghost use Rattle.chain_lives.specs.Samples.{ReceivedWatchedSent, PowerIsLost, HastyIsWrong};
+
+use crash_disk::Disk;
+
+/// What two worked chains come to: a coin is received, watched through a stranger's exit, and sent; and power is lost
+/// within a send and within an acceptance. A hasty reading, by which what was begun is done and what was said is heard,
+/// gives other answers.
+pub fn chains_are_read()
+    ensures sent { ReceivedWatchedSent }
+    ensures lost { PowerIsLost }
+    ensures hasty { HastyIsWrong }
+{}
+
+/// The calls that the events of a chain with its nodes accepted are those of the chain, in its order, whatever the
+/// nodes did: no command of a node is one.
+pub fn events_hold_the_chain<D: Disk>()
+    ensures { (dig : List ℕ → List ℕ) (rules : Rules) → EventsHoldTheChain D.told D.plan D.faults dig rules }
+{}
+
+/// A call that may be entered is legal after the events so far, whatever the nodes' next runs will find.
+pub fn entries_are_legal<D: Disk>()
+    ensures { (dig : List ℕ → List ℕ) (rules : Rules) → EntriesAreLegal D.told D.plan D.faults dig rules }
+{}
+
+/// Where a wallet was begun, its declaration is legal after the events so far: no event before is one of its.
+pub fn beginnings_are_legal<D: Disk>()
+    ensures { (dig : List ℕ → List ℕ) (rules : Rules) → BeginningsAreLegal D.told D.plan D.faults dig rules }
+{}

@@ -1,0 +1,6 @@
+//! A chain with the lives of its nodes: which events it comes to, and two worked ones. It has no code.
+#![tactic(auto)]
+
+mod laws;
+
+pub use laws::{beginnings_are_legal, chains_are_read, entries_are_legal, events_hold_the_chain};
