@@ -169,7 +169,7 @@ class Typed(Safety):
     def test_exits_that_end_in_one_second(self):
         """Where no law pays the owner's, it is said; a second later it isn't."""
         later = text_of(f"{EXAMPLES}/leave-first/input").rpartition("watch ursula\n")[0] + "tick 604801\n"
-        for schedule, ties in ((later.replace("tick 1\n", ""), 1), (later, 0)):
+        for schedule, ties in ((later.replace("tick 1\n", "tick 0\n"), 1), (later, 0)):
             said = self.safe(self.play(schedule), "ursula")[1]
             self.assertIn("LEAVING: coin 1", said)
             self.assertIn("finish the owner's first, and the other gets its bond alone", said)
