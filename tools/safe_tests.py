@@ -151,12 +151,29 @@ class Typed(Safety):
                 "prove 1 5", "call 21 exit 1 3 #26 4 #27", "call 21 exit 1 3 #26 5 #28"))
         to = self.play(planted)
         _, said = self.safe(to)
-        self.assertIn("due: before, by day 7; takes 40, which come back at finish alone", said)
+        self.assertIn("due: before, by day 7; takes 40, which come back when that exit ends, if nobody answers", said)
         self.assertIn("or instead: between, by day 7; costs nothing, and brings 100", said)
         call = self.safe(to, "bob", "--calls")[1].splitlines()[-1].split(" ")
         played = Played(self.program, planted + f"call 50 {' '.join(call[2:])}\n", Grammar(), f"{self.room}/again")
         self.assertEqual(played.run.lines[-1].answer, ["cancelled"])
         self.assertIn("the account has 0: fund it first", self.safe(to, "wanda")[1])
+
+    def test_bonds_of_which_each_alone_can_be_paid(self):
+        """Two Befores, 80 together, and 79 on the account; with 80 nothing is missing."""
+        schedule = text_of(f"{EXAMPLES}/bonds-run-out/input").partition("watch bob\n")[0]
+        missing = "nobody answers; all that is due takes 80, and the account has 79: fund it first"
+        self.assertEqual(self.safe(self.play(schedule))[1].count(missing), 2)
+        said = self.safe(self.play(schedule.replace("fund 12 79", "fund 12 80")))[1]
+        self.assertEqual((said.count("due: before"), said.count("fund it first")), (2, 0))
+
+    def test_exits_that_end_in_one_second(self):
+        """Where no law pays the owner's, it is said; a second later it isn't."""
+        later = text_of(f"{EXAMPLES}/leave-first/input").rpartition("watch ursula\n")[0] + "tick 604801\n"
+        for schedule, ties in ((later.replace("tick 1\n", "tick 0\n"), 1), (later, 0)):
+            said = self.safe(self.play(schedule), "ursula")[1]
+            self.assertIn("LEAVING: coin 1", said)
+            self.assertIn("finish the owner's first, and the other gets its bond alone", said)
+            self.assertEqual(said.count("in the same second: whichever is finished first is paid"), ties)
 
     def test_an_old_log(self):
         to = self.play(THEFT)

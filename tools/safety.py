@@ -166,7 +166,7 @@ class Judge:
         return not one.open_challenges() and not any(due.exit == one.block for due in self.due_for(one.coin))
 
     def is_first(self, own, other):
-        """The owner's exit can be finished before the other one, or as soon."""
+        """The owner's exit can be finished before the other one; or in the same second, where the first is paid."""
         return own and own.opens <= other.opens and not self.is_missed(own)
 
     def is_missed(self, own):
@@ -189,9 +189,15 @@ class Judge:
         elif own:
             it.word = "LEAVING"
             if lost:
-                it.notes.append("another's exit stands too: finish the owner's first, and the other gets nothing")
+                self.rivals(it, own, lost)
         else:
             self.not_started(it)
+
+    def rivals(self, it, own, lost):
+        """What to say where others' exits stand that nobody stops any more."""
+        it.notes.append("another's exit stands too: finish the owner's first, and the other gets its bond alone")
+        if any(one.opens == own.opens for one in lost):
+            it.notes.append("that one may be finished in the same second: whichever is finished first is paid")
 
     def not_started(self, it):
         """It leaves, and its exit doesn't stand: it was never entered, or it is over."""
@@ -245,6 +251,11 @@ class Judge:
 
 
 # ---- all of it
+
+def costs_of(verdicts):
+    """What all calls take together that are due; each counts once, whichever of two guards asks for it."""
+    return sum({due.call: due.costs for it in verdicts for due in it.due}.values())
+
 
 def whole(verdicts, stale=None, now=0):
     """The word of the node: what is to be told first. Where the log is old and a day has passed, that it is old."""
