@@ -178,6 +178,10 @@ def archives(random):
                 lines.append(f"put {coin} {block} {hexed(shown)}")
             if random.random() < 0.35:
                 lines.append(question(random, chain, coin, sane))
+    if lines and random.random() < 0.25 and not sane:
+        put = random.choice([it for it in lines if it[:3] == "put"] or lines)
+        odd = [put, put.replace("put 1", "put 9", 1).replace("put 2", "put 0", 1), "tip 9"]
+        lines.insert(lines.index(put) + 1, random.choice(odd))
     if random.random() < 0.2 and not sane:
         lines.insert(0, random.choice(["event tick 5", "event call 77 finish 1 1", "event chain 0x00 9 5", "event",
                                        "event  x",

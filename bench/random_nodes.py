@@ -8,7 +8,7 @@ from plasma_bytes import TAG, hexed, identity, journal, owner, public_key, seed_
 from random_schedules import schedule
 
 # The kinds of schedules that are followed: they have no crash and no bad line.
-FOLLOWED = ["life", "life", "guarded", "guarded", "thief", "restart", "full", "numbers"]
+FOLLOWED = ["life", "life", "guarded", "guarded", "guarded", "thief", "thief", "restart", "full", "numbers"]
 ACCEPTED = {"funded", "ticked", "deposited", "committed", "started", "cancelled", "challenged", "responded", "paid",
             "dropped"}
 OPERATORS = {"offer", "lay", "seal", "bundle", "prove", "absences"}
