@@ -41,7 +41,9 @@ fn name_in(line: &Line) -> &[u8]
 }
 
 impl<H: Hash32 + Copy> RunningWorld<H> {
-    // The first line begins the chain.
+    // The first line begins the chain. It stands apart, since its memory would be cleared for each line.
+    #[cold]
+    #[inline(never)]
     #[tactic(auto, unfolding(world_rules::specs::Declarations::keeps_rules, world_rules::specs::Steps::effect_of))]
     fn begin(&mut self, line: &Line) -> Result<LineAnswer, StepRefusal>
         requires none { self.old.scene ≡ None }

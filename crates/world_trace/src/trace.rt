@@ -1,4 +1,4 @@
-ghost use Rattle.std.specs.Prelude.{◌≡◌, ◌+◌, ◌++◌, ◌∷◌, ℕ, List, length, map, IfOk, OnOk};
+ghost use Rattle.std.specs.Prelude.{◌≡◌, ◌+◌, ◌++◌, ◌∷◌, ℕ, List, None, length, map, IfOk, OnOk};
 ghost use Rattle.std.specs.List.{flat_map};
 ghost use Rattle.plasma_tx.specs.Shown.{Tests, Rules};
 ghost use Rattle.plasma_tx.specs.Table.{IsLegal};
@@ -50,6 +50,29 @@ impl Model for Trace {
     } };
 }
 
+// Takes the first line, which makes what finds. It stands apart, since its memory would be cleared for each line.
+#[cold]
+#[inline(never)]
+fn find_first<H: Hash32>(
+    found: &mut Option<Findings>,
+    alloc: Global,
+    h: &H,
+    tag: &[u8; 32],
+    number: u64,
+    line: &ExhibitLine<'_>,
+) -> Result<(), NoMemory>
+    requires { found.old ≡ None }
+    ensures digest { IsOpenTo (H.digest_of h.now) found.new }
+    ensures finds { (events : List Event) → number ≡ length events + 1
+        → FindsIn (H.digest_of h.now) tag.now events found.old
+        → OnOk result (FindsIn (H.digest_of h.now) tag.now (event_of line.now ∷ events) found.new) }
+{
+    let mut findings = Findings::new(alloc, h);
+    findings.pass(h, tag, number, line)?;
+    *found = Some(findings);
+    Ok(())
+}
+
 // Takes the line with this number, the first of which makes what finds.
 fn find_in<H: Hash32>(
     found: &mut Option<Findings>,
@@ -67,12 +90,7 @@ fn find_in<H: Hash32>(
 {
     match found {
         Some(findings) => findings.pass(h, tag, number, line),
-        None => {
-            let mut findings = Findings::new(alloc, h);
-            findings.pass(h, tag, number, line)?;
-            *found = Some(findings);
-            Ok(())
-        }
+        None => find_first(found, alloc, h, tag, number, line),
     }
 }
 
