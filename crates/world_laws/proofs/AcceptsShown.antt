@@ -1,10 +1,11 @@
 -- What a wallet's notes accept is shown by a bundle that events say it accepted: one of the same coin and tip, with the
 -- same links. Each command keeps it so.
-use Rattle.std.proofs.Common.{◌≡◌, ℕ, Bool, true, false, List, [], ◌∷◌, ◌++◌, Option, Some, None, Ok, inl, inr, refl, sym, ap, ◌∙◌, subst}
+use Rattle.std.proofs.Common.{◌≡◌, ℕ, ◌^◌, ◌<◌, Bool, true, false, List, [], ◌∷◌, ◌++◌, Option, Some, None, Ok, inl, inr, refl, sym, ap, ◌∙◌, subst}
 use Rattle.std.specs.Prelude.{Result, IfSome}
 use Rattle.std.proofs.lemmas.Bool.{false≢true, true≢false}
 use Rattle.plasma_tx.specs.declared.links.Links.{Links}
 use Rattle.plasma_tx.specs.declared.call.RootCall.{RootCall}
+use Rattle.plasma_tx.specs.Views.{blocks}
 use Rattle.coin_history.specs.declared.bundle.Bundle.{Bundle}
 use Rattle.schedule_text.specs.declared.command.Command.{Command}
 use Rattle.node_rules.specs.declared.answers.Accepted.{Accepted}
@@ -20,7 +21,7 @@ use Rattle.node_rules.proofs.WalletAdded.{send-note, migrate-note}
 use Rattle.node_rules.proofs.WalletRole.{accepts_add_their_notes, leaves_add_their_notes, reclaims_add_their_notes}
 use Rattle.watch_duty.proofs.Members.{has-cases}
 use Rattle.world_rules.specs.Events.{Event, Accepts}
-use Rattle.world_rules.specs.World.{Node, World, wallet_of, is_wallet_role}
+use Rattle.world_rules.specs.World.{Node, World, Wallet, wallet_of, is_wallet_role}
 use Rattle.world_rules.specs.Deeds.{Deed, as_deed}
 use Rattle.node_replies.specs.declared.order.NodeOrder.{NodeOrder}
 use Rattle.node_replies.specs.declared.order.WalletOrder.{WalletOrder}
@@ -47,22 +48,26 @@ abbrev is_accept : NodeOrder → Bool
 is_accept (NodeOrder.Wallet (WalletOrder.Accept bytes)) = true
 is_accept order = false
 
-module _ (dig : List ℕ → List ℕ) (world : World) (n : ℕ) (node : Node) (s : Said) (feeds : Feeds world)
-    (role : is_wallet_role node.role ≡ true) (kept : KeptWallet dig s world.chain.log (wallet_of node))
-    (tag_is : (who (wallet_of node)).tag ≡ world.chain.tag)
-    (shown : AreShown world.chain.tag s.accepted (accepted_in dig node.notes)) where
-  abbrev wallet : WalletRecords
-  wallet = wallet_of node
+-- a node with a wallet's records
+abbrev pub node_with : WalletRecords → Node
+node_with wallet = record {
+  name = [];
+  account = 0;
+  role = Wallet;
+  is_up = true;
+  notes = wallet.notes;
+  leaves = wallet.leaves;
+  offers = [];
+}
 
-  abbrev log : List RootCall
-  log = world.chain.log
+-- ---- each order of a wallet
 
-  abbrev tag : List ℕ
-  tag = world.chain.tag
-
+module _ (dig : List ℕ → List ℕ) (tag : List ℕ) (log : List RootCall) (few : blocks log < 2 ^ 64) (n : ℕ)
+    (wallet : WalletRecords) (s : Said) (kept : KeptWallet dig s log wallet) (tag_is : (who wallet).tag ≡ tag)
+    (shown : AreShown tag s.accepted (accepted_in dig wallet.notes)) where
   -- what is shown after an event with this note
   abbrev IsAfter : Event → Option (List ℕ) → Type 0
-  IsAfter event note = AreShown tag (told event s).accepted (accepted_in dig (with_record node.notes note))
+  IsAfter event note = AreShown tag (told event s).accepted (accepted_in dig (with_record wallet.notes note))
 
   -- ---- accept
 
@@ -117,17 +122,17 @@ module _ (dig : List ℕ → List ℕ) (world : World) (n : ℕ) (node : Node) (
 
   -- an event that accepts nothing, with a note that accepts nothing
   shown-same : (event : Event) (note : Option (List ℕ)) → (told event s).accepted ≡ s.accepted
-      → IfSome note (λ body. accepted_in dig (node.notes ++ body ∷ []) ≡ accepted_in dig node.notes)
+      → IfSome note (λ body. accepted_in dig (wallet.notes ++ body ∷ []) ≡ accepted_in dig wallet.notes)
       → IsAfter event note
   shown-same event None silent same =
-      subst (λ (bundles : List Bundle). AreShown tag bundles (accepted_in dig node.notes)) (sym silent) shown
+      subst (λ (bundles : List Bundle). AreShown tag bundles (accepted_in dig wallet.notes)) (sym silent) shown
   shown-same event (Some body) silent same =
-      subst (λ (bundles : List Bundle). AreShown tag bundles (accepted_in dig (node.notes ++ body ∷ []))) (sym silent)
+      subst (λ (bundles : List Bundle). AreShown tag bundles (accepted_in dig (wallet.notes ++ body ∷ []))) (sym silent)
       (subst (AreShown tag s.accepted) (sym same) shown)
 
   -- only an accept is an event that accepts
   silent : (order : NodeOrder) (event : Event) (calls : List RootCall) → is_accept order ≡ false
-      → OrderEnds dig log n node order event calls → (told event s).accepted ≡ s.accepted
+      → OrderEnds dig log n (node_with wallet) order event calls → (told event s).accepted ≡ s.accepted
   silent order event calls other (Accepting bytes taken made) = absurd (true≢false other)
   silent order event calls other ends = refl
 
@@ -143,15 +148,16 @@ module _ (dig : List ℕ → List ℕ) (world : World) (n : ℕ) (node : Node) (
 
   other-shown : (order : WalletOrder) → is_accept (NodeOrder.Wallet order) ≡ false
       → IfSome (wallet_does dig log wallet order).note
-      (λ body. accepted_in dig (node.notes ++ body ∷ []) ≡ accepted_in dig node.notes)
+      (λ body. accepted_in dig (wallet.notes ++ body ∷ []) ≡ accepted_in dig wallet.notes)
       → IsAfter (event_of n (NodeOrder.Wallet order) (wallet_does dig log wallet order).response)
       (wallet_does dig log wallet order).note
   other-shown order other same =
       shown-same (event_of n (NodeOrder.Wallet order) (wallet_does dig log wallet order).response)
       (wallet_does dig log wallet order).note
-      (silent (NodeOrder.Wallet order) _ _ other (order-ends dig log n node (NodeOrder.Wallet order))) same
+      (silent (NodeOrder.Wallet order) _ _ other (order-ends dig log n (node_with wallet) (NodeOrder.Wallet order)))
+      same
 
-  wallet-shown : (order : WalletOrder) → IsFitOrder (NodeOrder.Wallet order)
+  pub wallet-shown : (order : WalletOrder) → IsFitOrder (NodeOrder.Wallet order)
       → IsAfter (event_of n (NodeOrder.Wallet order) (wallet_does dig log wallet order).response)
       (wallet_does dig log wallet order).note
   unfolding wallet_does send_effect
@@ -165,26 +171,32 @@ module _ (dig : List ℕ → List ℕ) (world : World) (n : ℕ) (node : Node) (
       (if-some {P = AddsLeaving dig wallet log coin} (leave_effect dig wallet log coin).note
       (λ body adds. ap (λ (notes : List Note). accepted_of notes) adds.2.1
       ∙ accepted-leaves coin adds.0 (notes_of dig wallet.notes))
-      (leaves_add_their_notes dig wallet log coin kept.is (words dig s log wallet kept feeds.few) fit))
+      (leaves_add_their_notes dig wallet log coin kept.is (words dig s log wallet kept few) fit))
   wallet-shown (WalletOrder.Reclaim bytes) fit =
       other-shown (WalletOrder.Reclaim bytes) refl
       (if-some {P = AddsReclaimed dig wallet log bytes} (reclaim_effect dig wallet log bytes).note
       (λ body adds. ap (λ (notes : List Note). accepted_of notes) adds.3.1
       ∙ accepted-reclaims adds.0.coin adds.0.tip adds.0.q (notes_of dig wallet.notes))
-      (reclaims_add_their_notes dig wallet log bytes kept.is fit.are (words dig s log wallet kept feeds.few)))
+      (reclaims_add_their_notes dig wallet log bytes kept.is fit.are (words dig s log wallet kept few)))
   wallet-shown WalletOrder.Migrate fit =
       other-shown WalletOrder.Migrate refl (if-none _ (migrate_effect wallet).note (migrate-note wallet))
   wallet-shown order fit = other-shown order refl tt
 
-  -- ---- each command of a wallet
+-- ---- each command of a wallet
 
+module _ (dig : List ℕ → List ℕ) (world : World) (n : ℕ) (node : Node) (s : Said) (feeds : Feeds world)
+    (role : is_wallet_role node.role ≡ true) (kept : KeptWallet dig s world.chain.log (wallet_of node))
+    (tag_is : (who (wallet_of node)).tag ≡ world.chain.tag)
+    (shown : AreShown world.chain.tag s.accepted (accepted_in dig node.notes)) where
   abbrev ShownAfter : Deed → Type 0
-  ShownAfter deed = IsAfter deed.gives.event deed.note
+  ShownAfter deed =
+      AreShown world.chain.tag (told deed.gives.event s).accepted (accepted_in dig (with_record node.notes deed.note))
 
   order-shown : (order : NodeOrder) → IsOrderAt node.role order → IsFitOrder order
-      → ShownAfter (as_deed n order (node_does dig log node order))
+      → ShownAfter (as_deed n order (node_does dig world.chain.log node order))
   unfolding event_of
-  order-shown (NodeOrder.Wallet order) at fit = wallet-shown order fit
+  order-shown (NodeOrder.Wallet order) at fit =
+      wallet-shown dig world.chain.tag world.chain.log feeds.few n (wallet_of node) s kept tag_is shown order fit
   order-shown (NodeOrder.Watcher order) at fit = absurd (false≢true (sym (wallet-alone node.role role).0 ∙ at))
   order-shown (NodeOrder.Operator order) at fit = absurd (false≢true (sym (wallet-alone node.role role).1 ∙ at))
   order-shown NodeOrder.Open at fit = shown

@@ -1,6 +1,6 @@
 -- What a wallet holds at its top, as events say it, is what its records say that it holds or leaves with; and a bundle
 -- shows it.
-use Rattle.std.proofs.Common.{◌≡◌, ◌≢◌, ◌⊎◌, ℕ, ◌≤◌, ◌==◌, ◌&&◌, ◌||◌, Bool, true, false, if◌then◌else◌, List, [], ◌∷◌, map, filter, find, slice_get, Option, Some, None, inl, inr, refl, sym, ap, ◌∙◌, subst}
+use Rattle.std.proofs.Common.{◌≡◌, ◌≢◌, ◌⊎◌, ℕ, ◌≤◌, ◌==◌, ◌&&◌, ◌||◌, Bool, true, false, if◌then◌else◌, List, [], ◌∷◌, map, filter, find, Option, Some, None, inl, inr, refl, sym, ap, ◌∙◌, subst}
 use Rattle.std.specs.Prelude.{unwrap_or}
 use Rattle.std.specs.List.{All, list_any}
 use Rattle.std.specs.Option.{option_map}
@@ -25,19 +25,16 @@ use Rattle.node_rules.proofs.WalletRole.{held-tip, leaving-tip}
 use Rattle.node_rules.proofs.ExitTips.{accepted-tips}
 use Rattle.watch_duty.proofs.Members.{Has, has-contains, contains-has, has-left, has-right, has-cases, has-filter, has-map, any-has, any-map}
 use Rattle.world_rules.specs.Events.{Event, log_of, accepted, is_bundle}
-use Rattle.world_rules.specs.World.{Node, World, wallet_of, is_wallet_role, owner_of_node}
 use Rattle.world_rules.specs.Safety.{was_deposited, holds}
 use Rattle.world_rules.specs.Laws.{AreKept}
 use Rattle.world_rules.proofs.Said.{Said, said}
 use Rattle.world_rules.proofs.KeptWallet.{KeptWallet, state-me}
-use Rattle.world_rules.proofs.KeptWorld.{KeptWorld}
 use Rattle.world_rules.proofs.HeldSame.{are_kept}
 use Rattle.world_laws.specs.Legal.{is_tip, IsAtTop, ShowsTip, Taken, Bare}
 use Rattle.world_laws.proofs.Lists.{some_same, find-has}
 use Rattle.world_laws.proofs.Bound.{holding}
 use Rattle.world_laws.proofs.GuardsShown.{IsShown, AreShown}
-use Rattle.world_laws.proofs.Accepting.{AcceptsAreShown}
-use Rattle.world_laws.proofs.AcceptsShown.{accepted_in}
+use Rattle.world_laws.proofs.AcceptsShown.{node_with, accepted_in}
 
 -- ---- lists
 
@@ -180,28 +177,22 @@ links-same tag log bundles kept by = λ i.
     }) (coin_at log (by.coin i))
 
 -- a bundle shows the coin at the tip, and has the links of what the wallet keeps
-pub record IsShownAt (dig : List ℕ → List ℕ) (events : List Event) (tag : List ℕ) (n : ℕ) (node : Node) (c e : ℕ)
-    : Type 0 where
+pub record IsShownAt (dig : List ℕ → List ℕ) (events : List Event) (tag : List ℕ) (n : ℕ) (wallet : WalletRecords)
+    (c e : ℕ) : Type 0 where
   pub bundle : Bundle
   pub coin_is : bundle.coin ≡ c
   pub tip_is : bundle.tip ≡ e
-  pub shows : ShowsTip events n (owner_of_node node) bundle
-  pub links : (log : List RootCall)
-      → kept_links tag log bundle ≡ kept_links tag log (kept_at dig (wallet_of node) c e)
+  pub shows : ShowsTip events n (owner_of (who wallet)) bundle
+  pub links : (log : List RootCall) → kept_links tag log bundle ≡ kept_links tag log (kept_at dig wallet c e)
 
-module _ (dig : List ℕ → List ℕ) (events : List Event) (world : World) (kept : KeptWorld dig events world)
-    (n : ℕ) (node : Node) (at : slice_get world.nodes n ≡ Some node) (role : is_wallet_role node.role ≡ true) where
-  abbrev log : List RootCall
-  log = world.chain.log
+module _ (dig : List ℕ → List ℕ) (events : List Event) (tag : List ℕ) (log : List RootCall)
+    (log_is : log ≡ log_of events) (n : ℕ) (wallet : WalletRecords)
+    (own : KeptWallet dig (said events n) log wallet) where
+  abbrev owner : Owner
+  owner = owner_of (who wallet)
 
-  abbrev wallet : WalletRecords
-  wallet = wallet_of node
-
-  own : KeptWallet dig (said events n) log wallet
-  own = (kept.nodes n node at).wallet role
-
-  are : AreKept dig events log n node
-  are = are_kept dig events log n node kept.log_is own
+  are : AreKept dig events log n (node_with wallet)
+  are = are_kept dig events log n (node_with wallet) log_is own
 
   -- what the wallet holds or leaves with
   abbrev pub IsHeldAt : ℕ → ℕ → Type 0
@@ -211,45 +202,45 @@ module _ (dig : List ℕ → List ℕ) (events : List Event) (world : World) (ke
   held-at-tip c e (inl held) = held-tip dig wallet log c e held
   held-at-tip c e (inr leaving) = leaving-tip dig wallet log c e leaving
 
-  came-same : (c e : ℕ) → is_tip events n (owner_of_node node) c e ≡ came dig (said events n) log wallet own c e
+  came-same : (c e : ℕ) → is_tip events n (owner) c e ≡ came dig (said events n) log wallet own c e
   unfolding said
   came-same c e =
-      ap (λ l. was_deposited (owner_of_node node) e (coin_at l c) || list_any (is_bundle c e) (accepted events n))
-      (sym kept.log_is)
+      ap (λ l. was_deposited (owner) e (coin_at l c) || list_any (is_bundle c e) (accepted events n))
+      (sym log_is)
 
-  held-came : (c e : ℕ) → holds events n c e ≡ true → is_tip events n (owner_of_node node) c e ≡ true
+  held-came : (c e : ℕ) → holds events n c e ≡ true → is_tip events n (owner) c e ≡ true
   held-came c e held =
       let h = holding events n c e held in
-      let same : h.me ≡ owner_of_node node = some_same h.me (owner_of_node node) (sym h.me_is ∙ are.owner) in
+      let same : h.me ≡ owner = some_same h.me (owner) (sym h.me_is ∙ are.owner) in
       elim h.source [
         | inl own ↦
-            or_left (was_deposited (owner_of_node node) e (coin_at (log_of events) c))
+            or_left (was_deposited (owner) e (coin_at (log_of events) c))
             (list_any (is_bundle c e) (accepted events n))
             (ap (λ (o : Owner). was_deposited o e (coin_at (log_of events) c)) (sym same) ∙ own)
         | inr among ↦
-            or_right (was_deposited (owner_of_node node) e (coin_at (log_of events) c))
+            or_right (was_deposited (owner) e (coin_at (log_of events) c))
             (list_any (is_bundle c e) (accepted events n)) among
       ]
 
-  top-tip : (c e : ℕ) → IsAtTop events n (owner_of_node node) c e → IsTip (noted dig wallet) log c e
+  top-tip : (c e : ℕ) → IsAtTop events n (owner) c e → IsTip (noted dig wallet) log c e
   top-tip c e top =
       let here : came dig (said events n) log wallet own c e ≡ true = sym (came-same c e) ∙ held-came c e top.held in
       record {
         exists = came-there dig (said events n) log wallet own c e here;
-        not_withdrawn = ap (λ l. is_withdrawn l c) kept.log_is ∙ (holding events n c e top.held).not_withdrawn;
+        not_withdrawn = ap (λ l. is_withdrawn l c) log_is ∙ (holding events n c e top.held).not_withdrawn;
         is_one = has-contains (tips_of (noted dig wallet) log c) e
             (came-tip dig (said events n) log wallet own c e here);
         greatest = all-listed (λ other. other ≤ e) (tips_of (noted dig wallet) log c)
             (λ m has. top.top m (came-same c m ∙ tip-came dig (said events n) log wallet own c m has));
       }
 
-  pub top-held : (c e : ℕ) → IsAtTop events n (owner_of_node node) c e → IsHeldAt c e
+  pub top-held : (c e : ℕ) → IsAtTop events n (owner) c e → IsHeldAt c e
   unfolding coin_state
   top-held c e top =
       held_coins_are_kept (noted dig wallet) (leaves_in wallet.leaves) log c e (top-tip c e top)
       (sym (are.held c e) ∙ top.held)
 
-  pub held-top : (c e : ℕ) → IsHeldAt c e → IsAtTop events n (owner_of_node node) c e
+  pub held-top : (c e : ℕ) → IsHeldAt c e → IsAtTop events n (owner) c e
   unfolding coin_state
   held-top c e is = record {
     held = are.held c e ∙ kept_coins_are_held (noted dig wallet) (leaves_in wallet.leaves) log c e is;
@@ -260,30 +251,27 @@ module _ (dig : List ℕ → List ℕ) (events : List Event) (world : World) (ke
   }
 
   -- what shows a coin at its tip
-  pub shown-at : AcceptsAreShown dig events world.chain.tag world.nodes → (c e : ℕ)
-      → IsTip (noted dig wallet) log c e → IsShownAt dig events world.chain.tag n node c e
+  pub shown-at : AreShown tag (accepted events n) (accepted_in dig wallet.notes) → (c e : ℕ)
+      → IsTip (noted dig wallet) log c e → IsShownAt dig events tag n wallet c e
   unfolding said
-  shown-at accepts c e tip = by (find (is_of c e) (accepted_in dig node.notes)) refl
+  shown-at shown c e tip = by (find (is_of c e) (accepted_in dig wallet.notes)) refl
     where
       bare : Bundle
       bare = record { coin = c; tip = e; openings = [] }
 
-      shown : AreShown world.chain.tag (accepted events n) (accepted_in dig node.notes)
-      shown = accepts n node at role
-
-      by : (found : Option Bundle) → find (is_of c e) (accepted_in dig node.notes) ≡ found
-          → IsShownAt dig events world.chain.tag n node c e
+      by : (found : Option Bundle) → find (is_of c e) (accepted_in dig wallet.notes) ≡ found
+          → IsShownAt dig events tag n wallet c e
       by None none = record {
         bundle = bare;
         coin_is = refl;
         tip_is = refl;
-        shows = Bare (ap (λ l. was_deposited (owner_of_node node) e (coin_at l c)) (sym kept.log_is)
+        shows = Bare (ap (λ l. was_deposited (owner) e (coin_at l c)) (sym log_is)
             ∙ bare-own dig (said events n) log wallet own c e none
             (contains-has (tips_of (noted dig wallet) log c) e tip.is_one)) refl;
-        links = λ l. ap (λ (o : Option Bundle). kept_links world.chain.tag l (unwrap_or o bare)) (sym none);
+        links = λ l. ap (λ (o : Option Bundle). kept_links tag l (unwrap_or o bare)) (sym none);
       }
       by (Some one) some =
-          let in_notes = find-has (is_of c e) (accepted_in dig node.notes) one some in
+          let in_notes = find-has (is_of c e) (accepted_in dig wallet.notes) one some in
           let parts = and_parts (one.coin == c) (one.tip == e) in_notes.1 in
           let is = shown one in_notes.0 in
           record {
@@ -291,6 +279,6 @@ module _ (dig : List ℕ → List ℕ) (events : List Event) (world : World) (ke
             coin_is = is.coin ∙ eqb-true one.coin c parts.0;
             tip_is = is.tip ∙ eqb-true one.tip e parts.1;
             shows = Taken (has-contains (accepted events n) is.bundle is.has);
-            links = λ l. links-same world.chain.tag l (accepted events n) one is
-                ∙ ap (λ (o : Option Bundle). kept_links world.chain.tag l (unwrap_or o bare)) (sym some);
+            links = λ l. links-same tag l (accepted events n) one is
+                ∙ ap (λ (o : Option Bundle). kept_links tag l (unwrap_or o bare)) (sym some);
           }

@@ -7,13 +7,13 @@ use Rattle.plasma_tx.specs.Table.{answer_to, is_accepted}
 use Rattle.schedule_text.specs.declared.line.Line.{Line}
 use Rattle.schedule_text.specs.declared.command.Command.{Command}
 use Rattle.world_rules.specs.Events.{Event, Watches, Leaves, Seals, Joins, Bounces}
-use Rattle.world_rules.specs.World.{Node, World}
+use Rattle.world_rules.specs.World.{Node, World, wallet_of}
 use Rattle.world_rules.specs.Deeds.{Deed}
 use Rattle.node_replies.specs.declared.order.NodeOrder.{NodeOrder}
 use Rattle.world_rules.proofs.OrderEnds.{OrderEnds, Accepting, Binding, TakingBack, IsOrderAt, order-role, ordered, deed-ends}
 use Rattle.world_rules.specs.Steps.{LineEffect, cut, without_offers, Run, events_of}
 use Rattle.world_rules.proofs.KeptNode.{IsFit, IsFitOrder, order-fit}
-use Rattle.world_rules.proofs.KeptWorld.{KeptWorld, world-feeds}
+use Rattle.world_rules.proofs.KeptWorld.{KeptWorld, few-blocks, world-feeds}
 use Rattle.world_rules.proofs.KeptRun.{run-kept}
 use Rattle.world_rules.proofs.Shapes.{IsDone, IsCut, Kept, Lost, is_cut}
 use Rattle.world_rules.proofs.StepLaws.{stepped}
@@ -21,7 +21,7 @@ use Rattle.world_laws.specs.Headline.{IsRun}
 use Rattle.world_laws.specs.Legal.{IsLegal}
 use Rattle.world_laws.proofs.DeedOffers.{done-role}
 use Rattle.world_laws.proofs.LegalCalls.{IsBehind, is-behind}
-use Rattle.world_laws.proofs.LegalEvents.{IsLeft, LeftAreLegal, runs-are-legal}
+use Rattle.world_laws.proofs.LegalEvents.{own-tag, IsLeft, LeftAreLegal, runs-are-legal}
 use Rattle.world_laws.proofs.Origins.{Does, Rests, Enters, AddsWallet, AddsWatcher, AddsRogue, Crashes, Commands, Cuts, does}
 use Rattle.world_laws.proofs.LeftRuns.{AreLeft, runs-left}
 use Rattle.world_laws.proofs.LegalCoins.{legal-accepted, legal-bound, legal-reclaimed}
@@ -35,11 +35,17 @@ module _ (dig : List ℕ → List ℕ) (events : List Event) (world : World) (be
       (calls : List RootCall) → IsOrderAt node.role order → IsFitOrder order
       → OrderEnds dig world.chain.log n node order event calls → P event
   coin-ends n node at order event calls role fit (Accepting bytes taken made) =
-      legal-accepted dig events world behind kept left n node at role bytes taken made
+      legal-accepted dig (rules_of world.chain) events world.chain.log behind.log n (wallet_of node)
+      ((kept.nodes n node at).wallet role) (own-tag events world behind.keeps n node at role) (left.each n node at role).left
+      (few-blocks dig events world kept) bytes taken made
   coin-ends n node at order event calls role fit (Binding coin to last sent made) =
-      legal-bound dig events world behind kept left n node at role coin to last sent fit.0 fit.1.is fit.2 made
+      legal-bound dig (rules_of world.chain) events world.chain.log behind.log n (wallet_of node)
+      ((kept.nodes n node at).wallet role) (own-tag events world behind.keeps n node at role) (left.each n node at role).left
+      (few-blocks dig events world kept) coin to last sent fit.0 fit.1.is fit.2 made
   coin-ends n node at order event calls role fit (TakingBack bytes taken made) =
-      legal-reclaimed dig events world behind kept left n node at role bytes taken made
+      legal-reclaimed dig (rules_of world.chain) events world.chain.log behind.log n (wallet_of node)
+      ((kept.nodes n node at).wallet role) (own-tag events world behind.keeps n node at role) (left.each n node at role).left
+      (few-blocks dig events world kept) bytes taken made
   coin-ends n node at order event calls role fit ends = tt
 
   deed-coins : (command : Command) (n : ℕ) (node : Node) (deed : Deed) → IsFit command

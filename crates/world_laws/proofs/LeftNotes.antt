@@ -50,6 +50,7 @@ use Rattle.world_rules.proofs.WalletSends.{words}
 use Rattle.world_laws.proofs.Lists.{some_same}
 use Rattle.world_laws.proofs.Offers.{StartsAt, start-at}
 use Rattle.world_laws.proofs.Histories.{links-at}
+use Rattle.world_laws.proofs.AcceptsShown.{node_with}
 
 -- ---- one more note
 
@@ -293,78 +294,83 @@ abbrev is_leave : NodeOrder → Bool
 is_leave (NodeOrder.Wallet (WalletOrder.Leave coin)) = true
 is_leave order = false
 
-module _ (dig : List ℕ → List ℕ) (s : Said) (world : World) (feeds : Feeds world) (n : ℕ) (node : Node)
-    (role : is_wallet_role node.role ≡ true) (kept : KeptWallet dig s world.chain.log (wallet_of node))
-    (have : HaveOpenings dig (wallet_of node)) where
-  abbrev log : List RootCall
-  log = world.chain.log
-
-  abbrev wallet : WalletRecords
-  wallet = wallet_of node
-
-  abbrev deed_by : NodeOrder → Deed
-  deed_by order = as_deed n order (node_does dig log node order)
+module _ (dig : List ℕ → List ℕ) (s : Said) (log : List RootCall) (few : blocks log < 2 ^ 64) (n : ℕ)
+    (wallet : WalletRecords) (kept : KeptWallet dig s log wallet) (have : HaveOpenings dig wallet) where
+  abbrev deed_by : WalletOrder → Deed
+  deed_by order = as_deed n (NodeOrder.Wallet order) (wallet_does dig log wallet order)
 
   abbrev IsStillLeft : Deed → Type 0
   IsStillLeft deed = StillLeft dig wallet (after_deed wallet deed) deed.gives.event
 
   -- only a leave is an event that leaves
   no-leave : (order : NodeOrder) (event : Event) (calls : List RootCall) → is_leave order ≡ false
-      → OrderEnds dig log n node order event calls → (m : ℕ) (call : RootCall) → event ≡ Leaves m call → ⊥
+      → OrderEnds dig log n (node_with wallet) order event calls → (m : ℕ) (call : RootCall) → event ≡ Leaves m call → ⊥
   no-leave order event calls other (LeavingEnds coin start made) m call is = true≢false other
   no-leave order event calls other ends m call is = cc is
 
-  other-left : (order : NodeOrder) → is_leave order ≡ false → Noting dig wallet (deed_by order).note
-      → IsStillLeft (deed_by order)
+  other-left : (order : WalletOrder) → is_leave (NodeOrder.Wallet order) ≡ false
+      → Noting dig wallet (deed_by order).note → IsStillLeft (deed_by order)
   other-left order other noting = record {
     still = still-noted dig wallet (deed_by order).note (deed_by order).leaf noting;
-    left = λ m call is. absurd (no-leave order _ _ other (order-ends dig log n node order) m call is);
+    left = λ m call is.
+        absurd (no-leave (NodeOrder.Wallet order) _ _ other
+        (order-ends dig log n (node_with wallet) (NodeOrder.Wallet order)) m call is);
   }
 
-  wallet-left : (order : WalletOrder) → IsFitOrder (NodeOrder.Wallet order)
-      → IsStillLeft (deed_by (NodeOrder.Wallet order))
+  pub wallet-left : (order : WalletOrder) → IsFitOrder (NodeOrder.Wallet order) → IsStillLeft (deed_by order)
   unfolding wallet_does event_of
   wallet-left (WalletOrder.Accept bytes) fit =
-      other-left (NodeOrder.Wallet (WalletOrder.Accept bytes)) refl
-      (accept-noting dig s log wallet kept feeds.few bytes fit)
+      other-left (WalletOrder.Accept bytes) refl (accept-noting dig s log wallet kept few bytes fit)
   wallet-left (WalletOrder.Send coin to last) fit =
-      other-left (NodeOrder.Wallet (WalletOrder.Send coin to last)) refl
-      (send-noting dig s log wallet kept feeds.few coin to last)
+      other-left (WalletOrder.Send coin to last) refl (send-noting dig s log wallet kept few coin to last)
   wallet-left (WalletOrder.Leave coin) fit =
       let effect = leave_effect dig wallet log coin in
       record {
         still = still-noted dig wallet effect.note effect.leaf
-            (leave-noting dig s log wallet kept feeds.few coin fit);
+            (leave-noting dig s log wallet kept few coin fit);
         left = by effect.answer refl;
       }
     where
       by : (result : Result RootCall WalletRefusal) → (leave_effect dig wallet log coin).answer ≡ result
           → (m : ℕ) (call : RootCall) → wallet_told n (WalletOrder.Leave coin) on_leaving result ≡ Leaves m call
           → is_noted (coin_of_call call) (exit_block call)
-          (noted dig (after_deed wallet (deed_by (NodeOrder.Wallet (WalletOrder.Leave coin))))).leaving ≡ true
+          (noted dig (after_deed wallet (deed_by (WalletOrder.Leave coin)))).leaving ≡ true
       by (Err why) answered m call is = absurd (cc is)
       by (Ok start) answered m call is =
           let same : start ≡ call = cc is in
-          leave-left dig s log wallet kept feeds.few coin fit have call
+          leave-left dig s log wallet kept few coin fit have call
           (answered ∙ ap (λ (k : RootCall). Ok k) same)
   wallet-left (WalletOrder.Reclaim bytes) fit =
-      other-left (NodeOrder.Wallet (WalletOrder.Reclaim bytes)) refl
-      (reclaim-noting dig s log wallet kept feeds.few bytes fit)
+      other-left (WalletOrder.Reclaim bytes) refl (reclaim-noting dig s log wallet kept few bytes fit)
   wallet-left WalletOrder.Migrate fit =
-      other-left (NodeOrder.Wallet WalletOrder.Migrate) refl (NoNote (migrate-note wallet))
-  wallet-left order fit = other-left (NodeOrder.Wallet order) refl (NoNote refl)
+      other-left WalletOrder.Migrate refl (NoNote (migrate-note wallet))
+  wallet-left order fit = other-left order refl (NoNote refl)
 
-  order-left : (order : NodeOrder) → IsOrderAt node.role order → IsFitOrder order → IsStillLeft (deed_by order)
-  order-left (NodeOrder.Wallet order) at fit = wallet-left order fit
+-- ---- commands
+
+module _ (dig : List ℕ → List ℕ) (s : Said) (world : World) (feeds : Feeds world) (n : ℕ) (node : Node)
+    (role : is_wallet_role node.role ≡ true) (kept : KeptWallet dig s world.chain.log (wallet_of node))
+    (have : HaveOpenings dig (wallet_of node)) where
+  abbrev IsLeftStill : Deed → Type 0
+  IsLeftStill deed = StillLeft dig (wallet_of node) (after_deed (wallet_of node) deed) deed.gives.event
+
+  order-left : (order : NodeOrder) → IsOrderAt node.role order → IsFitOrder order
+      → IsLeftStill (as_deed n order (node_does dig world.chain.log node order))
+  unfolding event_of
+  order-left (NodeOrder.Wallet order) at fit =
+      wallet-left dig s world.chain.log feeds.few n (wallet_of node) kept have order fit
   order-left (NodeOrder.Watcher order) at fit = absurd (false≢true (sym (wallet-alone node.role role).0 ∙ at))
   order-left (NodeOrder.Operator order) at fit = absurd (false≢true (sym (wallet-alone node.role role).1 ∙ at))
-  order-left NodeOrder.Open at fit = other-left NodeOrder.Open refl (NoNote refl)
+  order-left NodeOrder.Open at fit = record {
+    still = still-noted dig (wallet_of node) None None (NoNote refl);
+    left = λ m call is. absurd (cc is);
+  }
 
   pub deed-left : (command : Command) (deed : Deed) → IsFit command → IsDone dig world command n node deed
-      → IsStillLeft deed
+      → IsLeftStill deed
   deed-left command deed fit done =
       let own = ordered dig world n node command deed done.deed_is in
-      subst IsStillLeft own.deed_is
+      subst IsLeftStill own.deed_is
       (order-left own.order
       (order-role world node.role command own.order (done-role dig world command n node deed done) own.order_is)
       (order-fit world feeds node.role command own.order fit own.order_is))

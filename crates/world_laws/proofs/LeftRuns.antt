@@ -39,14 +39,14 @@ use Rattle.world_laws.proofs.LeftNotes.{StillLeft, after_deed, deed-left as wall
 
 -- ---- what is left by one more event
 
-left-plain : (event : Event) (events : List Event) (n : ℕ) → node_in event ≡ None
+pub left-plain : (event : Event) (events : List Event) (n : ℕ) → node_in event ≡ None
     → left_by (event ∷ events) n ≡ left_by events n
 unfolding left_by
 left-plain (Leaves v call) events n none = absurd (none_some v (sym none))
 left-plain event events n none = refl
 
 -- an event by which another node leaves, or none
-left-other : (event : Event) (events : List Event) (n : ℕ) → ((call : RootCall) → event ≡ Leaves n call → ⊥)
+pub left-other : (event : Event) (events : List Event) (n : ℕ) → ((call : RootCall) → event ≡ Leaves n call → ⊥)
     → left_by (event ∷ events) n ≡ left_by events n
 unfolding left_by
 left-other (Leaves v call) events n other = elim (cases_eq v n) [
@@ -59,7 +59,7 @@ left-other event events n other = refl
 -- what is among the starts is noted, where each start that there is and the one of the event are
 module _ (notes : List CoinTip) (events : List Event) (n c e : ℕ)
     (before : is_left (left_by events n) c e ≡ true → is_noted c e notes ≡ true) where
-  left-more : (event : Event)
+  pub left-more : (event : Event)
       → ((m : ℕ) (call : RootCall) → event ≡ Leaves m call
       → is_noted (coin_of_call call) (exit_block call) notes ≡ true)
       → is_left (left_by (event ∷ events) n) c e ≡ true → is_noted c e notes ≡ true
@@ -84,7 +84,7 @@ module _ (notes : List CoinTip) (events : List Event) (n c e : ℕ)
   left-more event new is = before is
 
 -- a node with no command left with nothing
-unused-left : (events : List Event) (n : ℕ) → list_any (is_command_of n) events ≡ false → left_by events n ≡ []
+pub unused-left : (events : List Event) (n : ℕ) → list_any (is_command_of n) events ≡ false → left_by events n ≡ []
 unfolding left_by
 unused-left [] n none = refl
 unused-left (Leaves v call ∷ events) n none =
@@ -178,7 +178,7 @@ own-leave n command gives (Owns own) m call is = some_same m n (sym (ap node_in 
 own-leave n command gives (Sealing call own command_is event_is offers) m left is = absurd (cc (sym event_is ∙ is))
 
 -- a cut's event is no leave
-cut-other : (n : ℕ) (event : Event) (m : ℕ) (call : RootCall) → without_offers n event ≡ Leaves m call → ⊥
+pub cut-other : (n : ℕ) (event : Event) (m : ℕ) (call : RootCall) → without_offers n event ≡ Leaves m call → ⊥
 cut-other n (Watches v calls) m call is = cc is
 cut-other n (Leaves v start) m call is = cc is
 cut-other n (Seals start) m call is = cc is

@@ -16,7 +16,7 @@ use Rattle.plasma_tx.specs.declared.views.ExitView.{ExitView}
 use Rattle.plasma_tx.specs.Links.{last_owner_of}
 use Rattle.plasma_tx.specs.Spelling.{IsOwner, IsBody, body_text, body_at_start}
 use Rattle.plasma_tx.specs.Views.{blocks, coin_at, exits_of, is_withdrawn}
-use Rattle.plasma_tx.specs.Shown.{tests_by, rules_of}
+use Rattle.plasma_tx.specs.Shown.{Rules, tests_by}
 use Rattle.coin_history.specs.declared.bundle.Bundle.{Bundle}
 use Rattle.coin_history.specs.declared.refusal.HistoryRefusal.{HistoryRefusal}
 use Rattle.coin_history.specs.Bundles.{bundle_in}
@@ -26,7 +26,7 @@ use Rattle.coin_history.proofs.HistoryAbsent.{absences_are_found}
 use Rattle.wallet_core.specs.declared.notes.LeafRecord.{LeafRecord}
 use Rattle.wallet_core.specs.declared.coin_state.CoinState.{CoinState}
 use Rattle.wallet_core.specs.declared.coin_state.CoinState.TheVariants.{Nothing, Sending, Leaving, Held}
-use Rattle.wallet_core.specs.State.{is_owner, spends_tip, sends_by}
+use Rattle.wallet_core.specs.State.{is_noted, is_owner, spends_tip, sends_by}
 use Rattle.wallet_core.proofs.StateLaws.{held_is, sending_is, kept_coins_are_held}
 use Rattle.node_rules.specs.declared.answers.Accepted.{Accepted}
 use Rattle.node_rules.specs.declared.answers.Sent.{Sent}
@@ -40,25 +40,20 @@ use Rattle.node_rules.proofs.WalletGrow.{wallet-parts}
 use Rattle.node_rules.proofs.WalletTips.{tag-long, tip-fits}
 use Rattle.node_rules.proofs.WalletRole.{held-tip}
 use Rattle.world_rules.specs.Events.{Event, log_of, wallet_owner, accepted, bound_by, leaf_at, signed_away_by, is_sent_from, is_bundle}
-use Rattle.world_rules.specs.World.{Node, World, is_wallet_role, owner_of_node, wallet_of}
 use Rattle.world_rules.specs.OrderEvents.{bundle_read}
 use Rattle.world_rules.specs.Safety.{was_deposited, holds_with, holds}
 use Rattle.world_rules.specs.Laws.{AreKept}
 use Rattle.world_rules.proofs.Said.{said}
 use Rattle.world_rules.proofs.HeldSame.{are_kept}
 use Rattle.world_rules.proofs.KeptWallet.{KeptWallet, state-me}
-use Rattle.world_rules.proofs.KeptWorld.{KeptWorld, few-blocks}
 use Rattle.node_replies.proofs.WalletEnds.{SendEnds, Refused, Sends, send_ends}
 use Rattle.world_rules.proofs.WalletSends.{body-signed, words}
 use Rattle.world_rules.proofs.Runs.{push-same, push-other}
 use Rattle.world_laws.specs.Legal.{left_by, is_left, LegalAccept, LegalBinding, LegalReclaim}
 use Rattle.world_laws.proofs.Lists.{some_same, none_some}
 use Rattle.world_laws.proofs.Bound.{owner-is}
-use Rattle.world_laws.proofs.Identities.{wallet-node}
-use Rattle.world_laws.proofs.Keeps.{is-wallet}
 use Rattle.world_laws.proofs.Handed.{read-rising, handed-history}
-use Rattle.world_laws.proofs.LegalCalls.{IsBehind}
-use Rattle.world_laws.proofs.LeftRuns.{AreLeft}
+use Rattle.world_laws.proofs.AcceptsShown.{node_with}
 
 -- ---- causes that don't hold
 
@@ -146,28 +141,17 @@ held-unsent log (Some me) bodies bundles c e is =
 
 -- ---- a wallet's node
 
-module _ (dig : List ℕ → List ℕ) (events : List Event) (world : World) (behind : IsBehind events world)
-    (kept : KeptWorld dig events world) (left : AreLeft dig events world.nodes) (n : ℕ) (node : Node)
-    (node_is : slice_get world.nodes n ≡ Some node) (role : is_wallet_role node.role ≡ true) where
-  abbrev log : List RootCall
-  log = world.chain.log
-
-  abbrev wallet : WalletRecords
-  wallet = wallet_of node
-
+-- what is known of a wallet by its records, behind events: these say what the records are, and what it left with is noted
+module _ (dig : List ℕ → List ℕ) (rules : Rules) (events : List Event) (log : List RootCall)
+    (log_is : log ≡ log_of events) (n : ℕ) (wallet : WalletRecords) (own : KeptWallet dig (said events n) log wallet)
+    (tag_is : (who wallet).tag ≡ rules.tag)
+    (left : (c e : ℕ) → is_left (left_by events n) c e ≡ true → is_noted c e (noted dig wallet).leaving ≡ true)
+    (few : blocks log < 2 ^ 64) where
   abbrev me : Owner
-  me = owner_of_node node
+  me = owner_of (who wallet)
 
-  own : KeptWallet dig (said events n) log wallet
-  own = (kept.nodes n node node_is).wallet role
-
-  are : AreKept dig events log n node
-  are = are_kept dig events log n node kept.log_is own
-
-  tag-is : (who wallet).tag ≡ world.chain.tag
-  tag-is =
-      (wallet-node events world.chain.tag n node
-      (is-wallet events world.chain.tag n node (behind.keeps.nodes.each n node node_is) role)).2
+  are : AreKept dig events log n (node_with wallet)
+  are = are_kept dig events log n (node_with wallet) log_is own
 
   me-noted : (noted dig wallet).me ≡ me
   me-noted = state-me (owner_of (who wallet)) (notes_of dig wallet.notes)
@@ -176,33 +160,33 @@ module _ (dig : List ℕ → List ℕ) (events : List Event) (world : World) (be
 
   accepted-links : (bytes : List ℕ) (links : Links) → links_handed dig (who wallet).tag log bytes ≡ Ok links
       → first_cause (accept_causes (noted dig wallet).me log links) ≡ None
-      → LegalAccept (tests_by dig) (rules_of world.chain) events n (bundle_read bytes)
+      → LegalAccept (tests_by dig) rules events n (bundle_read bytes)
   accepted-links bytes links handed none =
       let clear = accept-cleared links (noted dig wallet).me log none in
-      let history = handed-history dig (rules_of world.chain) log bytes links
-      (ap (λ tag. links_handed dig tag log bytes) (sym tag-is) ∙ handed) in
+      let history = handed-history dig rules log bytes links
+      (ap (λ tag. links_handed dig tag log bytes) (sym tag_is) ∙ handed) in
       let coin : links.coin ≡ (bundle_read bytes).coin = ap (λ (l : Links). l.coin) history.shown in
       record {
         me = me;
         me_is = are.owner;
         links = links;
-        history = subst (λ l. IsHistory (tests_by dig) (rules_of world.chain) l (bundle_read bytes) links) behind.log
+        history = subst (λ l. IsHistory (tests_by dig) rules l (bundle_read bytes) links) log_is
             history;
         mine = owner-is (last_owner_of links) (noted dig wallet).me clear.0 ∙ me-noted;
-        not_withdrawn = ap (λ l. is_withdrawn l (bundle_read bytes).coin) (sym behind.log)
+        not_withdrawn = ap (λ l. is_withdrawn l (bundle_read bytes).coin) (sym log_is)
             ∙ ap (is_withdrawn log) (sym coin) ∙ clear.1;
-        none_stands = ap (λ l. exits_of l (bundle_read bytes).coin) (sym behind.log)
+        none_stands = ap (λ l. exits_of l (bundle_read bytes).coin) (sym log_is)
             ∙ ap (exits_of log) (sym coin) ∙ clear.2;
       }
 
   pub legal-accepted : (bytes : List ℕ) (taken : Accepted) → (accept_effect dig wallet log bytes).answer ≡ Ok taken
-      → LegalAccept (tests_by dig) (rules_of world.chain) events n (bundle_read bytes)
+      → LegalAccept (tests_by dig) rules events n (bundle_read bytes)
   unfolding accept_effect
   legal-accepted bytes taken is = by (links_handed dig (who wallet).tag log bytes) refl is
     where
       by : (handed : Result Links HistoryRefusal) → links_handed dig (who wallet).tag log bytes ≡ handed
           → (accept_by log (noted dig wallet) handed).answer ≡ Ok taken
-          → LegalAccept (tests_by dig) (rules_of world.chain) events n (bundle_read bytes)
+          → LegalAccept (tests_by dig) rules events n (bundle_read bytes)
       by (Err why) handed is = absurd (cc is)
       by (Ok links) handed is =
           accepted-links bytes links handed
@@ -221,7 +205,7 @@ module _ (dig : List ℕ → List ℕ) (events : List Event) (world : World) (be
         (are.held coin tip
         ∙ kept_coins_are_held (noted dig wallet) (leaves_in wallet.leaves) log coin tip (inl held));
     not_left = false_from_ne_true (is_left (left_by events n) coin tip)
-        (λ is. true≢false (sym ((left.each n node node_is role).left coin tip is)
+        (λ is. true≢false (sym (left coin tip is)
         ∙ ((held_is (noted dig wallet) (leaves_in wallet.leaves) log coin tip).0 held).2));
   }
 
@@ -241,7 +225,7 @@ module _ (dig : List ℕ → List ℕ) (events : List Event) (world : World) (be
             tag = tag-long dig wallet.notes (wallet-parts dig wallet own.is).role;
             coin = coin_fits;
             parent = tip-fits dig wallet log coin tip
-                (words dig (said events n) log wallet own (few-blocks dig events world kept))
+                (words dig (said events n) log wallet own few)
                 (held-tip dig wallet log coin tip held);
             to = owner;
             last = last_fits;
@@ -343,10 +327,10 @@ module _ (dig : List ℕ → List ℕ) (events : List Event) (world : World) (be
             coin_is = eqb-true leaf.body.coin bundle.coin parts.0;
             last = last;
             last_is = has;
-            reached = subst (λ l. last ≤ blocks l) behind.log is.reached;
-            absent = subst (λ l. IsAbsent (tests_by dig) l bundle.coin leaf.body.parent last bundle.openings) behind.log
+            reached = subst (λ l. last ≤ blocks l) log_is is.reached;
+            absent = subst (λ l. IsAbsent (tests_by dig) l bundle.coin leaf.body.parent last bundle.openings) log_is
                 (subst (λ (p : ℕ). IsAbsent (tests_by dig) log bundle.coin p last bundle.openings) (sym parent) absent);
-            none_stands = ap (λ l. exits_of l bundle.coin) (sym behind.log) ∙ is.none_stands;
+            none_stands = ap (λ l. exits_of l bundle.coin) (sym log_is) ∙ is.none_stands;
           }
 
   pub legal-reclaimed : (bytes : List ℕ) (taken : Reclaimed) → (reclaim_effect dig wallet log bytes).answer ≡ Ok taken

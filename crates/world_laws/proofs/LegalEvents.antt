@@ -1,6 +1,6 @@
 -- Each event of a run is legal after those before it, but for those that are left: what a wallet does with its coins.
 -- Where these are legal too, all events of every run are.
-use Rattle.std.proofs.Common.{◌≡◌, ℕ, true, List, [], ◌∷◌, Some, Ok, Err, inl, inr, refl, sym, ap, ◌∙◌, subst, slice_get}
+use Rattle.std.proofs.Common.{◌≡◌, ℕ, true, List, [], ◌∷◌, Option, Some, None, Ok, Err, inl, inr, refl, sym, ap, ◌∙◌, subst, slice_get}
 use Rattle.std.specs.Prelude.{Result}
 use Rattle.plasma_tx.specs.declared.links.Links.{Links}
 use Rattle.plasma_tx.specs.declared.call.RootCall.{RootCall}
@@ -12,9 +12,10 @@ use Rattle.schedule_text.specs.declared.command.Command.{Command}
 use Rattle.schedule_text.specs.Grammar.{IsLine}
 use Rattle.node_rules.specs.declared.answers.Accepted.{Accepted}
 use Rattle.node_rules.specs.Kept.{links_handed}
+use Rattle.node_rules.specs.Wallet.{who}
 use Rattle.node_rules.specs.Watcher.{who_is, guards_in, guard_by, guard_effect}
-use Rattle.world_rules.specs.Events.{Event, Accepts, Binds, TakesBack, Watches, Leaves, Seals}
-use Rattle.world_rules.specs.World.{Node, World, is_watcher_role}
+use Rattle.world_rules.specs.Events.{Event, Accepts, Binds, TakesBack, Watches, Leaves, Seals, log_of, wallet_owner, accepted}
+use Rattle.world_rules.specs.World.{Node, World, wallet_of, is_wallet_role, is_watcher_role}
 use Rattle.world_rules.specs.Deeds.{Deed}
 use Rattle.node_replies.specs.declared.order.NodeOrder.{NodeOrder}
 use Rattle.world_rules.proofs.OrderEnds.{OrderEnds, Leaving, Watching, Guarding, GuardWatching, Sealing, IsOrderAt, order-role, ordered, deed-ends}
@@ -26,7 +27,11 @@ use Rattle.world_rules.proofs.Runs.{begun}
 use Rattle.world_laws.specs.Headline.{IsRun}
 use Rattle.world_laws.specs.Legal.{LegalAccept, LegalGuard, LegalBinding, LegalReclaim, IsLegalEvent, IsLegal}
 use Rattle.world_laws.proofs.Origins.{Does, Rests, Enters, AddsWallet, AddsWatcher, AddsRogue, Crashes, Commands, Cuts, does}
-use Rattle.world_laws.proofs.Identities.{IsWatcher}
+use Rattle.world_laws.proofs.Identities.{wallet-node}
+use Rattle.world_laws.proofs.Keeps.{Keeps, is-wallet}
+use Rattle.world_laws.proofs.GuardsShown.{AreShown}
+use Rattle.world_laws.proofs.AcceptsShown.{accepted_in}
+use Rattle.world_rules.proofs.Said.{said}
 use Rattle.world_rules.proofs.KeptWorld.{KeptWorld}
 use Rattle.world_laws.proofs.Guarding.{GuardsAreShown, is-watcher, watcher-tag, kept-world, runs-shown}
 use Rattle.world_laws.proofs.LegalWatches.{legal-watched}
@@ -48,7 +53,37 @@ IsLeft tests rules events event = Unit {0}
 abbrev pub IsLegalWhere : Tests → Rules → List Event → Event → Type 0
 IsLegalWhere tests rules events event = IsLeft tests rules events event → IsLegalEvent tests rules events event
 
--- ---- guards
+-- ---- nodes
+
+-- the tag of a wallet's node is the chain's
+pub own-tag : (events : List Event) (world : World) → Keeps events world → (n : ℕ) (node : Node)
+    → slice_get world.nodes n ≡ Some node → is_wallet_role node.role ≡ true
+    → (who (wallet_of node)).tag ≡ world.chain.tag
+own-tag events world keeps n node at role =
+    (wallet-node events world.chain.tag n node
+    (is-wallet events world.chain.tag n node (keeps.nodes.each n node at) role)).2
+
+-- a bundle that a node takes as a watcher is a history, where it is no wallet
+pub legal-guarded : (dig : List ℕ → List ℕ) (rules : Rules) (events : List Event) (log : List RootCall)
+    → log ≡ log_of events → (n : ℕ) (notes : List (List ℕ)) → wallet_owner events n ≡ None
+    → (who_is notes).tag ≡ rules.tag → (bytes : List ℕ) (taken : Accepted)
+    → (guard_effect dig notes log bytes).answer ≡ Ok taken
+    → LegalGuard (tests_by dig) rules events n (bundle_read bytes)
+unfolding guard_effect
+legal-guarded dig rules events log log_is n notes owner tag_is bytes taken is =
+    by (links_handed dig (who_is notes).tag log bytes) refl is
+  where
+    by : (handed : Result Links HistoryRefusal) → links_handed dig (who_is notes).tag log bytes ≡ handed
+        → (guard_by log (guards_in dig notes) handed).answer ≡ Ok taken
+        → LegalGuard (tests_by dig) rules events n (bundle_read bytes)
+    by (Err why) handed is = absurd (cc is)
+    by (Ok links) handed is = record {
+      no_wallet = owner;
+      links = links;
+      history = subst (λ l. IsHistory (tests_by dig) rules l (bundle_read bytes) links) log_is
+          (handed-history dig rules log bytes links
+          (ap (λ tag. links_handed dig tag log bytes) (sym tag_is) ∙ handed));
+    }
 
 module _ (dig : List ℕ → List ℕ) (events : List Event) (world : World) (behind : IsBehind events world)
     (kept : KeptWorld dig events world) (shown : GuardsAreShown dig events world.chain.tag world.nodes)
@@ -56,34 +91,20 @@ module _ (dig : List ℕ → List ℕ) (events : List Event) (world : World) (be
   abbrev P : Event → Type 0
   P event = IsLegalWhere (tests_by dig) (rules_of world.chain) events event
 
+  own-shown : (n : ℕ) (node : Node) → slice_get world.nodes n ≡ Some node → is_wallet_role node.role ≡ true
+      → AreShown world.chain.tag (accepted events n) (accepted_in dig node.notes)
+  unfolding said
+  own-shown n node at role = accepts n node at role
+
   -- a bundle that a watcher takes is a history
-  legal-guarded : (n : ℕ) (node : Node) (bytes : List ℕ) (taken : Accepted) → slice_get world.nodes n ≡ Some node
+  node-guarded : (n : ℕ) (node : Node) (bytes : List ℕ) (taken : Accepted) → slice_get world.nodes n ≡ Some node
       → is_watcher_role node.role ≡ true
       → (guard_effect dig node.notes world.chain.log bytes).answer ≡ Ok taken
       → LegalGuard (tests_by dig) (rules_of world.chain) events n (bundle_read bytes)
-  unfolding guard_effect
-  legal-guarded n node bytes taken node_is role is =
-      by (links_handed dig (who_is node.notes).tag world.chain.log bytes) refl is
-    where
-      watcher : IsWatcher events world.chain.tag n node
-      watcher = is-watcher events world behind.keeps n node node_is role
-
-      tag_is : (who_is node.notes).tag ≡ world.chain.tag
-      tag_is = watcher-tag events world.chain.tag n node watcher
-
-      by : (handed : Result Links HistoryRefusal)
-          → links_handed dig (who_is node.notes).tag world.chain.log bytes ≡ handed
-          → (guard_by world.chain.log (guards_in dig node.notes) handed).answer ≡ Ok taken
-          → LegalGuard (tests_by dig) (rules_of world.chain) events n (bundle_read bytes)
-      by (Err why) handed is = absurd (cc is)
-      by (Ok links) handed is = record {
-        no_wallet = watcher.owner;
-        links = links;
-        history = subst (λ log. IsHistory (tests_by dig) (rules_of world.chain) log (bundle_read bytes) links)
-            behind.log
-            (handed-history dig (rules_of world.chain) world.chain.log bytes links
-            (ap (λ tag. links_handed dig tag world.chain.log bytes) (sym tag_is) ∙ handed));
-      }
+  node-guarded n node bytes taken node_is role is =
+      let watcher = is-watcher events world behind.keeps n node node_is role in
+      legal-guarded dig (rules_of world.chain) events world.chain.log behind.log n node.notes watcher.owner
+      (watcher-tag events world.chain.tag n node watcher) bytes taken is
 
   -- ---- deeds
 
@@ -92,11 +113,15 @@ module _ (dig : List ℕ → List ℕ) (events : List Event) (world : World) (be
       (calls : List RootCall) → IsOrderAt node.role order → OrderEnds dig world.chain.log n node order event calls
       → P event
   legal-ends n node at order event calls role (Leaving coin call made) = λ left.
-      legal-left dig events world kept behind.keeps accepts n node at role coin call made
+      legal-left dig (rules_of world.chain) events world.chain.log behind.log n (wallet_of node)
+      ((kept.nodes n node at).wallet role) (own-tag events world behind.keeps n node at role)
+      (own-shown n node at role) coin call made
   legal-ends n node at order event calls role Watching = λ left.
-      legal-wallet-watched dig events world kept behind.keeps accepts n node at role
+      legal-wallet-watched dig (rules_of world.chain) events world.chain.log behind.log n (wallet_of node)
+      ((kept.nodes n node at).wallet role) (own-tag events world behind.keeps n node at role)
+      (own-shown n node at role)
   legal-ends n node at order event calls role (Guarding bytes taken made) = λ left.
-      legal-guarded n node bytes taken at role made
+      node-guarded n node bytes taken at role made
   legal-ends n node at order event calls role GuardWatching = λ left.
       legal-watched dig events world kept behind.keeps shown n node at role
   legal-ends n node at order event calls role Sealing = λ left. refl

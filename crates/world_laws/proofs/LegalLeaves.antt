@@ -1,6 +1,6 @@
 -- What a wallet's leave and its watch offer is legal: the start of the exit of a coin at its top, and what is due for
 -- the coins that it holds there.
-use Rattle.std.proofs.Common.{◌≡◌, ◌≢◌, ℕ, zero, suc, ◌+◌, ◌<◌, ◌≤◌, true, List, [], ◌∷◌, slice_get, Option, Some, None, Ok, Err, inl, inr, refl, sym, ap, ◌∙◌, subst, arith}
+use Rattle.std.proofs.Common.{◌≡◌, ◌≢◌, ℕ, zero, suc, ◌+◌, ◌<◌, ◌≤◌, true, List, [], ◌∷◌, Option, Some, None, Ok, Err, inl, inr, refl, sym, ap, ◌∙◌, subst, arith}
 use Rattle.std.specs.Prelude.{Result}
 use Rattle.std.specs.List.{Contains, range_with_len}
 use Rattle.std.specs.Option.{option_map_or}
@@ -12,7 +12,7 @@ use Rattle.plasma_tx.specs.declared.call.RootCall.TheVariants.{Deposit}
 use Rattle.plasma_tx.specs.declared.views.CoinView.{CoinView}
 use Rattle.plasma_tx.specs.Views.{coins, coin_at}
 use Rattle.coin_history.specs.declared.bundle.Bundle.{Bundle}
-use Rattle.plasma_tx.specs.Shown.{rules_of}
+use Rattle.plasma_tx.specs.Shown.{Rules}
 use Rattle.plasma_tx.proofs.Bounds.{coin_at-le}
 use Rattle.watch_duty.specs.Duty.{due_of}
 use Rattle.wallet_core.specs.declared.coin_state.CoinState.{CoinState}
@@ -22,17 +22,18 @@ use Rattle.node_rules.specs.declared.refusal.WalletRefusal.TheVariants.{NotHeld}
 use Rattle.node_rules.specs.Kept.{kept_links}
 use Rattle.node_rules.specs.Watcher.{due_for_kept}
 use Rattle.node_rules.specs.WalletRecords.{owner_of}
-use Rattle.node_rules.specs.Wallet.{WalletRecords, who, coin_state, kept_at, links_at, start_of, exit_start, leave_from, leave_effect, due_at, due_in, watch_answer}
+use Rattle.wallet_core.specs.Laws.{IsTip}
+use Rattle.node_rules.specs.Wallet.{WalletRecords, who, noted, coin_state, kept_at, links_at, start_of, exit_start, leave_from, leave_effect, due_at, due_in, watch_answer}
 use Rattle.node_rules.proofs.WalletRole.{links-some}
 use Rattle.watch_duty.proofs.Members.{Has, has-contains, contains-has, has-flat_map}
-use Rattle.world_rules.specs.Events.{Event, log_of, wallet_owner}
-use Rattle.world_rules.specs.World.{Node, World, wallet_of, is_wallet_role, owner_of_node}
-use Rattle.world_rules.proofs.KeptWorld.{KeptWorld}
+use Rattle.world_rules.specs.Events.{Event, log_of, wallet_owner, accepted}
+use Rattle.world_rules.proofs.Said.{said}
+use Rattle.world_rules.proofs.KeptWallet.{KeptWallet}
+use Rattle.world_rules.proofs.HeldSame.{are_kept}
 use Rattle.world_laws.specs.Legal.{IsAtTop, IsGuarding, ShowsGuard, ShowsTip, LegalWatch, LegalLeave}
-use Rattle.world_laws.proofs.Identities.{wallet-node}
-use Rattle.world_laws.proofs.Keeps.{Keeps, is-wallet}
 use Rattle.world_laws.proofs.LegalWatches.{has-in-flat_map}
-use Rattle.world_laws.proofs.Accepting.{AcceptsAreShown}
+use Rattle.world_laws.proofs.GuardsShown.{AreShown}
+use Rattle.world_laws.proofs.AcceptsShown.{node_with, accepted_in}
 use Rattle.world_laws.proofs.AtTops.{IsShownAt, IsHeldAt, held-at-tip, top-held, held-top, shown-at}
 
 -- ---- the coins of a log
@@ -72,64 +73,67 @@ answer-same one other is = cc is
 
 -- ---- a wallet's node
 
-module _ (dig : List ℕ → List ℕ) (events : List Event) (world : World) (kept : KeptWorld dig events world)
-    (keeps : Keeps events world) (accepts : AcceptsAreShown dig events world.chain.tag world.nodes) (n : ℕ)
-    (node : Node) (at : slice_get world.nodes n ≡ Some node) (role : is_wallet_role node.role ≡ true) where
-  abbrev log : List RootCall
-  log = world.chain.log
-
+-- what is known of a wallet by its records, behind events: these say what the records are, and show what they accept
+module _ (dig : List ℕ → List ℕ) (rules : Rules) (events : List Event) (log : List RootCall)
+    (log_is : log ≡ log_of events) (n : ℕ) (wallet : WalletRecords) (own : KeptWallet dig (said events n) log wallet)
+    (tag_is : (who wallet).tag ≡ rules.tag)
+    (accepts : AreShown rules.tag (accepted events n) (accepted_in dig wallet.notes)) where
   abbrev tag : List ℕ
-  tag = world.chain.tag
-
-  abbrev wallet : WalletRecords
-  wallet = wallet_of node
+  tag = rules.tag
 
   abbrev account : ℕ
   account = (who wallet).account
 
-  own : (wallet_owner events n ≡ Some (owner_of_node node)) × ((owner_of_node node).account ≡ node.account)
-      × ((who wallet).tag ≡ tag)
-  own = wallet-node events tag n node (is-wallet events tag n node (keeps.nodes.each n node at) role)
+  abbrev me : Owner
+  me = owner_of (who wallet)
+
+  abbrev IsHeld : ℕ → ℕ → Type 0
+  IsHeld c e = IsHeldAt dig events tag log log_is n wallet own c e
+
+  me-is : wallet_owner events n ≡ Some me
+  me-is = (are_kept dig events log n (node_with wallet) log_is own).owner
+
+  held-tip-is : (c e : ℕ) → IsHeld c e → IsTip (noted dig wallet) log c e
+  held-tip-is c e held = held-at-tip dig events tag log log_is n wallet own c e held
 
   -- what shows a coin that the wallet holds or leaves with
-  shown : (c e : ℕ) → IsHeldAt dig events world kept n node at role c e → IsShownAt dig events tag n node c e
+  shown : (c e : ℕ) → IsHeld c e → IsShownAt dig events tag n wallet c e
   shown c e held =
-      shown-at dig events world kept n node at role accepts c e
-      (held-at-tip dig events world kept n node at role c e held)
+      shown-at dig events tag log log_is n wallet own accepts c e (held-tip-is c e held)
 
   -- its links are those of what the wallet keeps
-  links-shown : (c e : ℕ) (by : IsShownAt dig events tag n node c e)
+  links-shown : (c e : ℕ) (by : IsShownAt dig events tag n wallet c e)
       → kept_links tag (log_of events) by.bundle ≡ links_at dig wallet log c e
   links-shown c e by =
       by.links (log_of events)
-      ∙ (λ i. kept_links (sym own.2 i) (sym kept.log_is i) (kept_at dig wallet c e))
+      ∙ (λ i. kept_links (sym tag_is i) (sym log_is i) (kept_at dig wallet c e))
 
   -- so is what is due
-  due-shown : (c e : ℕ) (by : IsShownAt dig events tag n node c e)
+  due-shown : (c e : ℕ) (by : IsShownAt dig events tag n wallet c e)
       → due_for_kept tag (log_of events) account by.bundle ≡ due_at dig wallet log c e
   due-shown c e by = λ i.
-      option_map_or (λ (links : Links). due_of (sym kept.log_is i) account (record { links = links }))
+      option_map_or (λ (links : Links). due_of (sym log_is i) account (record { links = links }))
       (links-shown c e by i) []
 
   -- ---- leaves
 
-  leave-at : (c e : ℕ) (call : RootCall) → IsHeldAt dig events world kept n node at role c e
-      → exit_start dig wallet log c e ≡ Ok call → LegalLeave (rules_of world.chain) events n call
+  leave-at : (c e : ℕ) (call : RootCall) → IsHeld c e
+      → exit_start dig wallet log c e ≡ Ok call → LegalLeave rules events n call
   unfolding owner_of as_answer
   leave-at c e call held is =
       let by = shown c e held in
-      let found = links-some dig wallet log c e (held-at-tip dig events world kept n node at role c e held).exists in
-      let top = held-top dig events world kept n node at role c e held in
+      let found = links-some dig wallet log c e (held-tip-is c e held).exists in
+      let top = held-top dig events tag log log_is n wallet own c e held in
       let start : start_of account e found.0 ≡ call = answer-same (start_of account e found.0) call
       (ap (λ (o : Option Links). option_map_or (λ links. as_answer (start_of account e links)) o (Err NotHeld))
       (sym found.1) ∙ is) in
       record {
-        me = owner_of_node node;
-        me_is = own.0;
+        me = me;
+        me_is = me-is;
         bundle = by.bundle;
         shows = by.shows;
-        at_top = subst (λ a. IsAtTop events n (owner_of_node node) a by.bundle.tip) (sym by.coin_is)
-            (subst (IsAtTop events n (owner_of_node node) c) (sym by.tip_is) top);
+        at_top = subst (λ a. IsAtTop events n (me) a by.bundle.tip) (sym by.coin_is)
+            (subst (IsAtTop events n (me) c) (sym by.tip_is) top);
         links = found.0;
         links_are = links-shown c e by ∙ found.1;
         call_is = sym start ∙ ap (λ t. start_of account t found.0) (sym by.tip_is);
@@ -137,12 +141,12 @@ module _ (dig : List ℕ → List ℕ) (events : List Event) (world : World) (ke
 
   -- the start that a leave offers
   pub legal-left : (c : ℕ) (call : RootCall) → (leave_effect dig wallet log c).answer ≡ Ok call
-      → LegalLeave (rules_of world.chain) events n call
+      → LegalLeave rules events n call
   unfolding leave_effect
   legal-left c call is = by (coin_state dig wallet log c) refl is
     where
       by : (state : CoinState) → coin_state dig wallet log c ≡ state
-          → (leave_from dig wallet log c state).answer ≡ Ok call → LegalLeave (rules_of world.chain) events n call
+          → (leave_from dig wallet log c state).answer ≡ Ok call → LegalLeave rules events n call
       by Nothing none is = absurd (cc is)
       by (Sending e q) sends is = absurd (cc is)
       by (Leaving e) leaves is = leave-at c e call (inr leaves) is
@@ -151,15 +155,15 @@ module _ (dig : List ℕ → List ℕ) (events : List Event) (world : World) (ke
   -- ---- watches
 
   -- what is due for a coin at its tip is offered
-  due-offered : (c e : ℕ) → IsHeldAt dig events world kept n node at role c e → (call : RootCall)
+  due-offered : (c e : ℕ) → IsHeld c e → (call : RootCall)
       → Has (due_at dig wallet log c e) call → Has (watch_answer dig wallet log) call
   unfolding watch_answer
   due-offered c e held call due =
       has-in-flat_map (λ coin. due_in dig wallet log coin (coin_state dig wallet log coin))
       (range_with_len 1 (coins log)) c call
-      (coin-among log c (held-at-tip dig events world kept n node at role c e held).exists) (in-state held)
+      (coin-among log c (held-tip-is c e held).exists) (in-state held)
     where
-      in-state : IsHeldAt dig events world kept n node at role c e
+      in-state : IsHeld c e
           → Has (due_in dig wallet log c (coin_state dig wallet log c)) call
       in-state (inl holds) = subst (λ state. Has (due_in dig wallet log c state) call) (sym holds) due
       in-state (inr leaves) = subst (λ state. Has (due_in dig wallet log c state) call) (sym leaves) due
@@ -168,7 +172,7 @@ module _ (dig : List ℕ → List ℕ) (events : List Event) (world : World) (ke
   record IsOfHeld (call : RootCall) : Type 0 where
     c : ℕ
     e : ℕ
-    held : IsHeldAt dig events world kept n node at role c e
+    held : IsHeld c e
     due : Has (due_at dig wallet log c e) call
 
   offered-due : (call : RootCall) → Has (watch_answer dig wallet log) call → IsOfHeld call
@@ -185,17 +189,17 @@ module _ (dig : List ℕ → List ℕ) (events : List Event) (world : World) (ke
       by c (Leaving e) leaves due = record { c = c; e = e; held = inr leaves; due = due }
       by c (Held e) holds due = record { c = c; e = e; held = inl holds; due = due }
 
-  shows-guard : (bundle : Bundle) → ShowsTip events n (owner_of_node node) bundle
+  shows-guard : (bundle : Bundle) → ShowsTip events n (me) bundle
       → ShowsGuard events n (wallet_owner events n) bundle
-  shows-guard bundle shows = subst (λ (o : Option Owner). ShowsGuard events n o bundle) (sym own.0) shows
+  shows-guard bundle shows = subst (λ (o : Option Owner). ShowsGuard events n o bundle) (sym me-is) shows
 
   -- what a wallet's watch offers
-  pub legal-wallet-watched : LegalWatch (rules_of world.chain) events n (watch_answer dig wallet log)
+  pub legal-wallet-watched : LegalWatch rules events n (watch_answer dig wallet log)
   legal-wallet-watched = record {
     account = account;
     all = λ c e guarding.
-        let top = subst (λ (o : Option Owner). IsGuarding events n o c e) own.0 guarding in
-        let held = top-held dig events world kept n node at role c e top in
+        let top = subst (λ (o : Option Owner). IsGuarding events n o c e) me-is guarding in
+        let held = top-held dig events tag log log_is n wallet own c e top in
         let by = shown c e held in
         record {
           bundle = by.bundle;

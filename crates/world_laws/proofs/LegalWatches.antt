@@ -91,7 +91,7 @@ module _ (tag : List ℕ) (log : List RootCall) (account : ℕ) (bundles guards 
       }
 
   -- so the calls are legal of a node that guards the bundles and is no wallet
-  watch-by : (rules : Rules) (events : List Event) (n : ℕ) → rules.tag ≡ tag → log ≡ log_of events
+  pub watch-by : (rules : Rules) (events : List Event) (n : ℕ) → rules.tag ≡ tag → log ≡ log_of events
       → wallet_owner events n ≡ None → guarded_by events n ≡ bundles
       → ((c e : ℕ) → list_any (is_bundle c e) bundles ≡ list_any (is_of c e) guards)
       → LegalWatch rules events n calls
