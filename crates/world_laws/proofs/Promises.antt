@@ -163,20 +163,16 @@ taken_went_unseen dig lines run world verdict is has taken =
     by_exhibit : (exhibit : Exhibit) → exhibit_of dig world.chain.tag (events_of run.entries) ≡ exhibit
         → IsOfHeld dig run world verdict
         → exhibit_of_run dig run ≡ exhibit_of dig world.chain.tag (events_of run.entries)
-        → WentUnseen run world verdict ⊎ (exhibit_of_run dig run ≢ Exhibit.Nothing)
+        → WentUnseen dig run world verdict ⊎ (exhibit_of_run dig run ≢ Exhibit.Nothing)
     by_exhibit Exhibit.Nothing nothing held shown =
         let u = taken_unseen dig (rules_of world.chain) (events_of run.entries) held.number verdict.coin held.tip
         held.owner is.digest (legal dig lines run world is) held.is_owner nothing
         (ap is_taken_kind (sym held.kind) ∙ taken) in
         inl (record {
-          number = held.number;
-          node = held.node;
-          tip = held.tip;
+          held = held;
           later = u.later;
           event = u.event;
           earlier = u.earlier;
-          is_node = held.is_node;
-          name = held.name;
           events_are = u.events_are;
           unseen = u.unseen;
         })

@@ -2,7 +2,7 @@
 -- the coin, and no call was accepted since. To look is less: a guardian watched at some time since the exit began, and
 -- what it then offered for this exit was fulfilled since, by whomever. Calls for other coins, money, ticks and the
 -- guardian's later commands don't matter. What is looked after is safe, and what is attended is looked after.
-use Rattle.std.specs.Prelude.{◌≡◌, ◌≢◌, ◌⊎◌, ℕ, ◌+◌, ◌==◌, ◌&&◌, ◌||◌, not, Bool, true, false, if◌then◌else◌, nat_lt, List, [], ◌∷◌, ◌++◌, slice_get, Some}
+use Rattle.std.specs.Prelude.{◌≡◌, ◌≢◌, ◌⊎◌, ℕ, ◌+◌, ◌==◌, ◌&&◌, ◌||◌, not, Bool, true, false, if◌then◌else◌, nat_lt, List, [], ◌∷◌, ◌++◌, Some}
 use Rattle.std.specs.List.{Contains, list_any, list_all}
 use Rattle.std.specs.Option.{option_map_or}
 use Rattle.plasma_tx.specs.declared.rules.TheConstants.{CHALLENGE_WINDOW, RESPONSE_WINDOW}
@@ -17,9 +17,10 @@ use Rattle.world_rules.specs.declared.verdict.Verdict.{Verdict}
 use Rattle.world_rules.specs.declared.verdict.VerdictKind.{VerdictKind}
 use Rattle.world_rules.specs.declared.verdict.Exhibit.{Exhibit}
 use Rattle.world_rules.specs.Events.{Event, Joins, Watches, log_of, coin_of_call, wallet_owner, is_bundle, guarded_by}
-use Rattle.world_rules.specs.World.{Node, World}
+use Rattle.world_rules.specs.World.{World}
 use Rattle.world_rules.specs.Steps.{Run, events_of}
 use Rattle.world_rules.specs.Exhibits.{collides, is_forged}
+use Rattle.world_rules.specs.Laws.{IsOfHeld}
 use Rattle.world_rules.specs.Safety.{holds, is_met, meets_challenge, is_mine, is_attended, is_safe}
 use Rattle.world_rules.specs.Verdicts.{verdicts_of, exhibit_of_run}
 use Rattle.world_laws.specs.Headline.{IsRun}
@@ -167,21 +168,17 @@ is_taken_kind VerdictKind.Lost = true
 is_taken_kind (VerdictKind.Unattended line) = true
 is_taken_kind kind = false
 
--- a tick of the run at which the coin went unseen, while the wallet with that name held it at some tip
-pub record WentUnseen (run : Run) (world : World) (verdict : Verdict) : Type 0 where
-  pub number : ℕ
-  pub node : Node
-  pub tip : ℕ
+-- a tick of the run at which the coin went unseen, while the wallet held it at the tip that the verdict is of
+pub record WentUnseen (dig : List ℕ → List ℕ) (run : Run) (world : World) (verdict : Verdict) : Type 0 where
+  pub held : IsOfHeld dig run world verdict
   pub later : List Event
   pub event : Event
   pub earlier : List Event
-  pub is_node : slice_get world.nodes number ≡ Some node
-  pub name : verdict.wallet ≡ node.name
   pub events_are : events_of run.entries ≡ later ++ event ∷ earlier
-  pub unseen : goes_unseen earlier number verdict.coin tip event ≡ true
+  pub unseen : goes_unseen earlier held.number verdict.coin held.tip event ≡ true
 
 -- A coin whose verdict is `lost` or `unattended` went unseen at some tick, or the trace exhibits.
 abbrev pub TakenCoinsWentUnseen : Type 0
 TakenCoinsWentUnseen = (dig : List ℕ → List ℕ) (lines : List Line) (run : Run) (world : World) (verdict : Verdict)
     → IsRun dig lines run world → Contains (verdicts_of dig run) verdict → is_taken_kind verdict.kind ≡ true
-    → WentUnseen run world verdict ⊎ (exhibit_of_run dig run ≢ Exhibit.Nothing)
+    → WentUnseen dig run world verdict ⊎ (exhibit_of_run dig run ≢ Exhibit.Nothing)

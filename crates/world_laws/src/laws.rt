@@ -41,7 +41,8 @@ pub fn lost_is_exhibited()
     ensures { LostIsExhibited }
 {}
 
-/// A law: a coin whose verdict is `lost` or `unattended` went unseen at some tick, unless the trace exhibits.
+/// A law: a coin whose verdict is `lost` or `unattended` went unseen at some tick, while its wallet held it at the tip
+/// that the verdict is of, unless the trace exhibits.
 pub fn taken_coins_went_unseen()
     ensures { TakenCoinsWentUnseen }
 {}
