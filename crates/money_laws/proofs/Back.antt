@@ -23,7 +23,7 @@ use Rattle.world_laws.proofs.Lists.{some_same, found-has, passes-has}
 use Rattle.world_laws.proofs.Before.{none-before, forged-parts, legal-before}
 use Rattle.world_laws.proofs.DueCalls.{has-kept}
 use Rattle.world_laws.proofs.DueTaken.{due_calls_are_taken}
-use Rattle.money_laws.specs.MoneyLaws.{LegalBondsComeBack, BondsComeBack, cancels, LegalCancelsNeedNoMoney}
+use Rattle.money_laws.specs.MoneyLaws.{LegalBondsComeBack, BondsComeBack, cancels, LegalCancelsNeedNoMoney, CancelsNeedNoMoney}
 use Rattle.money_laws.proofs.Ends.{ends_pay_bonds}
 use Rattle.money_laws.proofs.Tips.{tips_stay_open, legal-to}
 
@@ -129,3 +129,8 @@ needs-none log call is = absurd (false≢true is)
 pub cancels_need_no_money : LegalCancelsNeedNoMoney
 cancels_need_no_money dig rules events n call digest legal offered is whole =
     due_calls_are_taken dig rules events n call digest legal offered whole (needs-none (log_of events) call is)
+
+pub run_cancels_need_no_money : CancelsNeedNoMoney
+run_cancels_need_no_money dig lines run world later events n call is split =
+    cancels_need_no_money dig (rules_of world.chain) events n call is.digest
+    (legal-to dig lines run world later events is split)

@@ -1,11 +1,12 @@
 -- An exit that has led since it began is paid.
-use Rattle.std.proofs.Common.{◌≡◌, ℕ, ◌+◌, ◌<◌, ◌==◌, ◌&&◌, ◌||◌, not, Bool, true, false, if◌then◌else◌, List, [], ◌∷◌, ◌++◌, Option, Some, None, option_map, inl, inr, refl, sym, ap, ◌∙◌, subst, arith}
+use Rattle.std.proofs.Common.{◌≡◌, ℕ, ◌+◌, ◌<◌, ◌≤◌, ◌==◌, ◌&&◌, ◌||◌, not, Bool, true, false, if◌then◌else◌, List, [], ◌∷◌, ◌++◌, Option, Some, None, option_map, inl, inr, refl, sym, ap, ◌∙◌, subst, arith}
 use Rattle.std.specs.Prelude.{is_some, nat_le}
 use Rattle.std.specs.List.{AllByRecursion, list_any, list_all}
 use Rattle.std.proofs.lemmas.Bool.{cases_Bool, eqb-true, eq-eqb, leb-true, leb-false, le-leb, and_parts, and_from, not-true, not_from_false, true≢false, false≢true, false_from_ne_true}
 use Rattle.plasma_tx.specs.declared.rules.TheConstants.{CHALLENGE_WINDOW, RESPONSE_WINDOW, EXIT_PERIOD}
 use Rattle.plasma_tx.specs.declared.call.RootCall.{RootCall}
-use Rattle.plasma_tx.specs.declared.call.RootCall.TheVariants.{StartDeposit, StartSpend, Before, Respond, Finish}
+use Rattle.plasma_tx.specs.declared.call.RootCall.TheVariants.{Tick, StartDeposit, StartSpend, Before, Respond, Finish}
+use Rattle.plasma_tx.specs.declared.answer.Answer.TheVariants.{Paid}
 use Rattle.plasma_tx.specs.Laws.{is_start, is_end, start_by, last_start, without_challenges}
 use Rattle.plasma_tx.specs.Views.{now, Challenge, Exit, is_exit, exits, exit_at, challenge_at, with_challenge, with_answer, new_challenge, has_no_open_challenge, is_withdrawn}
 use Rattle.plasma_tx.specs.Shown.{Tests, Rules}
@@ -20,9 +21,9 @@ use Rattle.world_laws.proofs.Lists.{some_same, none_some, any-none, and-off, all
 use Rattle.plasma_tx.specs.Shown.{tests_by, rules_of}
 use Rattle.world_rules.specs.Events.{log_of}
 use Rattle.world_laws.proofs.Shown.{legal-log, legal-table}
-use Rattle.money_laws.specs.MoneyLaws.{LeadersOfRunsArePaid}
+use Rattle.money_laws.specs.MoneyLaws.{LeadersOfRunsArePaid, FirstsOfRunsArePaid}
 use Rattle.money_laws.proofs.Tips.{legal-to}
-use Rattle.money_laws.specs.First.{is_ripe, is_missed, ends_lead, leads, has_led, LeadersArePaid, FirstsLead}
+use Rattle.money_laws.specs.First.{is_ripe, is_missed, ends_lead, leads, has_led, ends_first, LeadersArePaid, FirstsLead, FirstsArePaid}
 
 -- ---- challenges are made in their window
 
@@ -128,12 +129,17 @@ start-unwithdrawn tests rules log (StartSpend account k parent exit) c e start i
     (accepted_calls_show tests rules log (StartSpend account k parent exit) is).not_withdrawn
 start-unwithdrawn tests rules log call c e start is = absurd (false≢true start)
 
--- by a later call, where the exit leads before it
+-- no other standing exit is ripe
+abbrev NoOtherRipe : List RootCall → ℕ → ℕ → Type 0
+NoOtherRipe log c e = (x : Exit) → Has (exits log) x → x.coin ≡ c → (x.block == e) ≡ false
+    → is_ripe (now log) x ≡ false
+
+-- by a later call, where before it no other standing exit is ripe
 later-unwithdrawn : (tests : Tests) (rules : Rules) (log : List RootCall) (call : RootCall) (c e : ℕ)
-    → is_end c e call ≡ false → leads log c e ≡ true → is_accepted (answer_to tests rules log call) ≡ true
+    → is_end c e call ≡ false → NoOtherRipe log c e → is_accepted (answer_to tests rules log call) ≡ true
     → is_withdrawn log c ≡ false → is_withdrawn (call ∷ log) c ≡ false
 unfolding is_withdrawn
-later-unwithdrawn tests rules log (Finish account k f) c e goes_on lead is before =
+later-unwithdrawn tests rules log (Finish account k f) c e goes_on none is before =
     ap (λ b. b || is_withdrawn log c)
     (false_from_ne_true ((k == c) && has_no_open_challenge (exit_at log k f)) (λ yes.
     let k_is = eqb-true k c (and_parts (k == c) (has_no_open_challenge (exit_at log k f)) yes).0 in
@@ -143,9 +149,9 @@ later-unwithdrawn tests rules log (Finish account k f) c e goes_on lead is befor
     (sym (and_from (k == c) (f == e) (eq-eqb k c k_is)
     (eq-eqb f e (sym place.2 ∙ eqb-true s.exit.block e at))) ∙ goes_on)) in
     true≢false (sym (le-leb (s.exit.start + EXIT_PERIOD) (now log) s.in_time)
-    ∙ not-ripe log c e lead s.exit place.0 (place.1 ∙ k_is) apart)))
+    ∙ none s.exit place.0 (place.1 ∙ k_is) apart)))
     ∙ before
-later-unwithdrawn tests rules log call c e goes_on lead is before = before
+later-unwithdrawn tests rules log call c e goes_on none is before = before
 
 unwithdrawn : (rules : Rules) (log : List RootCall) (c e : ℕ) (own : Exit) → IsLegal rules log
     → exit_at log c e ≡ Some own → has_led log c e ≡ true → is_withdrawn log c ≡ false
@@ -158,8 +164,8 @@ unwithdrawn rules (call ∷ log) c e own legal found led =
           let before : has_led log c e ≡ true = sym (ap (λ b. b || has_led log c e) other)
           ∙ (and_parts (leads (call ∷ log) c e) (is_start c e call || has_led log c e) led).1 in
           let s = stood call log c e own found other in
-          later-unwithdrawn legal.0.0 rules log call c e s.not_ended (led-leads log c e before) legal.0.1
-          (unwithdrawn rules log c e s.exit legal.1 s.stands before)
+          later-unwithdrawn legal.0.0 rules log call c e s.not_ended (not-ripe log c e (led-leads log c e before))
+          legal.0.1 (unwithdrawn rules log c e s.exit legal.1 s.stands before)
     ]
 
 -- ---- it is paid
@@ -168,10 +174,13 @@ settled : (b : Bool) → (b ≡ false → b ≡ true) → b ≡ true
 settled true f = refl
 settled false f = f refl
 
-pub leaders_are_paid : LeadersArePaid
-leaders_are_paid tests rules log account c e own legal found led over =
+-- an exit at its end, whose challenges were answered in time, of a coin that isn't withdrawn
+ended-paid : (tests : Tests) (rules : Rules) (log : List RootCall) (account c e : ℕ) (own : Exit)
+    → IsLegal rules log → exit_at log c e ≡ Some own → own.start + EXIT_PERIOD ≤ now log
+    → list_any (is_missed (now log)) own.challenges ≡ false → is_withdrawn log c ≡ false
+    → answer_to tests rules log (Finish account c e) ≡ Paid
+ended-paid tests rules log account c e own legal found over none free =
     let place = found-has log c e own found in
-    let none = none-missed log c e (led-leads log c e led) own place.0 place.1 place.2 in
     let inside = all-has InWindow (exits log) own (windows rules log legal) place.0 in
     let answered : list_all (λ (ch : Challenge). ch.answered) own.challenges ≡ true =
     all_answered-from own.challenges (all-from (λ (ch : Challenge). ch.answered ≡ true) own.challenges
@@ -183,8 +192,15 @@ leaders_are_paid tests rules log account c e own legal found led over =
     (paid_exactly tests rules log account c e).1 (
       record { exit = own; stands = found; in_time = over },
       and_from (has_no_open_challenge (Some own)) (not (is_withdrawn log c)) answered
-          (not_from_false (is_withdrawn log c) (unwithdrawn rules log c e own legal found led)),
+          (not_from_false (is_withdrawn log c) free),
     )
+
+pub leaders_are_paid : LeadersArePaid
+leaders_are_paid tests rules log account c e own legal found led over =
+    let place = found-has log c e own found in
+    ended-paid tests rules log account c e own legal found over
+    (none-missed log c e (led-leads log c e led) own place.0 place.1 place.2)
+    (unwithdrawn rules log c e own legal found led)
 
 pub run_leaders_are_paid : LeadersOfRunsArePaid
 run_leaders_are_paid dig lines run world later events account c e own is split =
@@ -231,3 +247,62 @@ firsts_lead log c e own found first none early =
           parts.0) in
           absurd (omega (arith, over, later, early))
     ])))
+
+-- ---- who ends first is paid
+
+-- the clock only rises
+risen : (rules : Rules) (call : RootCall) (log : List RootCall) → IsLegal rules (call ∷ log)
+    → now log ≤ now (call ∷ log)
+unfolding IsLegal now
+risen rules (Tick time) log legal = (accepted_calls_show legal.0.0 rules log (Tick time) legal.0.1).0
+risen rules call log legal = omega arith
+
+-- what is ripe by then
+ahead-kept : (time : ℕ) (log : List RootCall) (c e : ℕ) → ends_first time log c e ≡ true → now log ≤ time
+    → NoOtherRipe log c e
+unfolding ends_first
+ahead-kept time [] c e is by x there c_is apart = absurd (false≢true is)
+ahead-kept time (call ∷ log) c e is by x there c_is apart =
+    let now_is : ℕ = now (call ∷ log) in
+    let never = not-true (list_any (λ (exit : Exit). (exit.coin == c) && not (exit.block == e) && is_ripe time exit)
+    (exits (call ∷ log)))
+    (and_parts (not (list_any (λ (exit : Exit). (exit.coin == c) && not (exit.block == e) && is_ripe time exit)
+    (exits (call ∷ log)))) (is_start c e call || ends_first time log c e) is).0 in
+    let off = any-none (λ (exit : Exit). (exit.coin == c) && not (exit.block == e) && is_ripe time exit)
+    (exits (call ∷ log)) x never there in
+    false_from_ne_true (is_ripe now_is x) (λ ripe.
+    let over = leb-true (x.start + EXIT_PERIOD) now_is ripe in
+    true≢false (sym (and_from ((x.coin == c) && not (x.block == e)) (is_ripe time x)
+    (and_from (x.coin == c) (not (x.block == e)) (eq-eqb x.coin c c_is) (not_from_false (x.block == e) apart))
+    (le-leb (x.start + EXIT_PERIOD) time (omega (arith, over, by))))
+    ∙ off))
+
+unpaid-ahead : (rules : Rules) (time : ℕ) (log : List RootCall) (c e : ℕ) (own : Exit) → IsLegal rules log
+    → now log ≤ time → exit_at log c e ≡ Some own → ends_first time log c e ≡ true → is_withdrawn log c ≡ false
+unfolding IsLegal ends_first is_withdrawn
+unpaid-ahead rules time [] c e own legal by found first = refl
+unpaid-ahead rules time (call ∷ log) c e own legal by found first =
+    elim (cases_Bool (is_start c e call)) [
+      | inl start ↦ start-unwithdrawn legal.0.0 rules log call c e start legal.0.1
+      | inr other ↦
+          let before : ends_first time log c e ≡ true = sym (ap (λ b. b || ends_first time log c e) other)
+          ∙ (and_parts
+          (not (list_any (λ (exit : Exit). (exit.coin == c) && not (exit.block == e) && is_ripe time exit)
+          (exits (call ∷ log))))
+          (is_start c e call || ends_first time log c e) first).1 in
+          let s = stood call log c e own found other in
+          let earlier : now log ≤ time = omega (arith, risen rules call log legal, by) in
+          later-unwithdrawn legal.0.0 rules log call c e s.not_ended (ahead-kept time log c e before earlier)
+          legal.0.1 (unpaid-ahead rules time log c e s.exit legal.1 earlier s.stands before)
+    ]
+
+pub firsts_are_paid : FirstsArePaid
+firsts_are_paid tests rules log account c e own legal found over first none =
+    ended-paid tests rules log account c e own legal found over none
+    (unpaid-ahead rules (now log) log c e own legal (omega arith) found first)
+
+pub run_firsts_are_paid : FirstsOfRunsArePaid
+run_firsts_are_paid dig lines run world later events account c e own is split =
+    firsts_are_paid (tests_by dig) (rules_of world.chain) (log_of events) account c e own
+    (legal-table (tests_by dig) (rules_of world.chain) (log_of events)
+    (legal-log (tests_by dig) (rules_of world.chain) events (legal-to dig lines run world later events is split)))

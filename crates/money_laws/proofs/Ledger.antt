@@ -27,7 +27,7 @@ use Rattle.world_laws.proofs.Lists.{found-has, challenge-has}
 use Rattle.world_laws.proofs.Shown.{legal-log, legal-table}
 use Rattle.money_laws.specs.Bonds.{bonds_at, sum_over, staked, first_or, if_to}
 use Rattle.money_laws.specs.Keepers.{IsKeeper}
-use Rattle.money_laws.specs.MoneyLaws.{stands_first, wins, wins_in, OnlyGuards, OnlyGuarded, LegalGuardingCostsNothing, GuardingCostsNothing, GuardiansHaveTheirMoney}
+use Rattle.money_laws.specs.MoneyLaws.{stands_first, wins, wins_in, OnlyGuards, OnlyGuarded, LegalGuardingCostsNothing, GuardingCostsNothing, LegalGuardiansHaveTheirMoney, GuardiansHaveTheirMoney}
 use Rattle.money_laws.proofs.SumsOver.{begun, ended, changed}
 use Rattle.money_laws.proofs.Ends.{ends_pay_bonds}
 use Rattle.money_laws.proofs.Tips.{tips_are_not_answered, legal-to}
@@ -306,7 +306,7 @@ none-staked account (x ∷ xs) apart =
       none-staked account xs (λ y ch there has. apart y ch (inr there) has),
     )
 
-pub guardians_have_their_money : GuardiansHaveTheirMoney
+pub guardians_have_their_money : LegalGuardiansHaveTheirMoney
 guardians_have_their_money dig rules later earlier account digest legal only none =
     let log : List RootCall = log_of (later ++ earlier) in
     omega (
@@ -315,3 +315,8 @@ guardians_have_their_money dig rules later earlier account digest legal only non
       none-staked account (exits log) (λ x ch there has.
           none x ch (has-contains (exits log) x there) (has-contains x.challenges ch has)),
     )
+
+pub run_guardians_have_their_money : GuardiansHaveTheirMoney
+run_guardians_have_their_money dig lines run world rest later earlier account is split =
+    guardians_have_their_money dig (rules_of world.chain) later earlier account is.digest
+    (legal-to dig lines run world rest (later ++ earlier) is split)

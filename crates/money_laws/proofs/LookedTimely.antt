@@ -6,7 +6,7 @@ use Rattle.std.specs.List.{list_any}
 use Rattle.std.proofs.lemmas.Bool.{cases_Bool, eqb-true, leb-true, and_parts, and_from, not-true, not_from_false, true≢false, false_from_ne_true}
 use Rattle.plasma_tx.specs.declared.rules.TheConstants.{RESPONSE_WINDOW, EXIT_PERIOD}
 use Rattle.plasma_tx.specs.Views.{now, Challenge, Exit, exits, challenge_at}
-use Rattle.plasma_tx.specs.Shown.{Rules, tests_by}
+use Rattle.plasma_tx.specs.Shown.{Rules, tests_by, rules_of}
 use Rattle.watch_duty.proofs.Members.{Has, all-has}
 use Rattle.world_rules.specs.Laws.{IsDigest}
 use Rattle.world_rules.specs.Events.{Event, log_of, wallet_owner}
@@ -20,7 +20,8 @@ use Rattle.world_laws.proofs.Bound.{Holding, holding}
 use Rattle.world_laws.proofs.Before.{none-before, forged-parts, legal-before}
 use Rattle.world_laws.proofs.Safe.{looked-parts, watched}
 use Rattle.money_laws.specs.First.{is_ripe, is_missed}
-use Rattle.money_laws.specs.MoneyLaws.{is_late, goes_late, is_in_time, LookedAfterIsInTime}
+use Rattle.money_laws.specs.MoneyLaws.{is_late, goes_late, is_in_time, LegalLookedAfterIsInTime, LookedAfterIsInTime}
+use Rattle.money_laws.proofs.Tips.{legal-to}
 
 module _ (events : List Event) (w c e : ℕ) (h : Holding events w c e)
     (all : AllWatched c h.me e (now (log_of events)) (exits (log_of events))) where
@@ -87,7 +88,12 @@ module _ (dig : List ℕ → List ℕ) (digest : IsDigest dig) (rules : Rules) (
       (looked-parts event events w c e looked).1 (none-before dig event events c none)
       (forged-parts rules.tag event events w c unforged).1)
 
-pub looked_after_is_in_time : LookedAfterIsInTime
+pub looked_after_is_in_time : LegalLookedAfterIsInTime
 unfolding collides
 looked_after_is_in_time dig rules events w c e digest legal looked none unforged =
     in-time dig digest rules w c e events legal looked none unforged
+
+pub run_looked_after_is_in_time : LookedAfterIsInTime
+run_looked_after_is_in_time dig lines run world later events w c e is split =
+    looked_after_is_in_time dig (rules_of world.chain) events w c e is.digest
+    (legal-to dig lines run world later events is split)

@@ -47,3 +47,20 @@ FirstsLead = (log : List RootCall) (c e : ℕ) (exit : Exit) → exit_at log c e
     → list_any (λ other. (other.coin == c) && nat_le (other.start + 1) exit.start) (exits log) ≡ false
     → list_any (is_missed (now log)) exit.challenges ≡ false → now log + 1 ≤ exit.start + EXIT_PERIOD
     → leads log c e ≡ true
+
+-- The exit at e ends first: at no time since it began another exit of the coin stood whose end is at this time or
+-- before it.
+unfoldable pub ends_first : ℕ → List RootCall → ℕ → ℕ → Bool
+ends_first time [] c e = false
+ends_first time (call ∷ log) c e =
+    not (list_any (λ exit. (exit.coin == c) && not (exit.block == e) && is_ripe time exit) (exits (call ∷ log)))
+    && (is_start c e call || ends_first time log c e)
+
+-- An exit is paid by whoever finishes it at its end, where its own challenges were answered in time, and the clock
+-- hasn't reached the end of any other exit of the coin that stood since it began; so it began no later than each of
+-- these. Whether anybody entered a Before doesn't matter.
+abbrev pub FirstsArePaid : Type 0
+FirstsArePaid = (tests : Tests) (rules : Rules) (log : List RootCall) (account c e : ℕ) (exit : Exit)
+    → IsLegal rules log → exit_at log c e ≡ Some exit → exit.start + EXIT_PERIOD ≤ now log
+    → ends_first (now log) log c e ≡ true → list_any (is_missed (now log)) exit.challenges ≡ false
+    → answer_to tests rules log (Finish account c e) ≡ Paid

@@ -26,7 +26,7 @@ use Rattle.world_laws.specs.LegalLaws.{fresh_offers}
 use Rattle.world_laws.specs.Looked.{is_looked_after}
 use Rattle.money_laws.specs.Bonds.{staked}
 use Rattle.money_laws.specs.Reserve.{Tip, reserve_of, is_at_tip}
-use Rattle.money_laws.specs.First.{is_ripe, is_missed, has_led}
+use Rattle.money_laws.specs.First.{is_ripe, is_missed, has_led, ends_first}
 use Rattle.money_laws.specs.Keepers.{IsKeeper}
 
 -- ---- bonds come back
@@ -72,6 +72,14 @@ LegalCancelsNeedNoMoney = (dig : List ℕ → List ℕ) (rules : Rules) (events 
     → IsDigest dig → IsLegal (tests_by dig) rules events → Contains (fresh_offers events n) call
     → cancels call ≡ true → collides dig events (coin_of_call call) ≡ false
     → is_accepted (answer_to (tests_by dig) rules (log_of events) call) ≡ true
+
+-- at each line of a run
+abbrev pub CancelsNeedNoMoney : Type 0
+CancelsNeedNoMoney = (dig : List ℕ → List ℕ) (lines : List Line) (run : Run) (world : World)
+    (later events : List Event) (n : ℕ) (call : RootCall)
+    → IsRun dig lines run world → events_of run.entries ≡ later ++ events → Contains (fresh_offers events n) call
+    → cancels call ≡ true → collides dig events (coin_of_call call) ≡ false
+    → is_accepted (answer_to (tests_by dig) (rules_of world.chain) (log_of events) call) ≡ true
 
 -- ---- the reserve
 
@@ -157,6 +165,17 @@ LeadersOfRunsArePaid = (dig : List ℕ → List ℕ) (lines : List Line) (run : 
     → exit.start + EXIT_PERIOD ≤ now (log_of events)
     → answer_to (tests_by dig) (rules_of world.chain) (log_of events) (Finish account c e) ≡ Paid
 
+-- An exit that ends first, and whose own challenges were answered in time, is paid by whoever finishes it at its end,
+-- at each line of a run.
+abbrev pub FirstsOfRunsArePaid : Type 0
+FirstsOfRunsArePaid = (dig : List ℕ → List ℕ) (lines : List Line) (run : Run) (world : World)
+    (later events : List Event) (account c e : ℕ) (exit : Exit)
+    → IsRun dig lines run world → events_of run.entries ≡ later ++ events
+    → exit_at (log_of events) c e ≡ Some exit → exit.start + EXIT_PERIOD ≤ now (log_of events)
+    → ends_first (now (log_of events)) (log_of events) c e ≡ true
+    → list_any (is_missed (now (log_of events))) exit.challenges ≡ false
+    → answer_to (tests_by dig) (rules_of world.chain) (log_of events) (Finish account c e) ≡ Paid
+
 -- The exit comes too late for the owner of the coin at e: it is another account's, which nobody challenged at e, and is
 -- ripe; or it is the owner's at e, and a challenge of it wasn't answered in time.
 abbrev pub is_late : Owner → ℕ → ℕ → Exit → Bool
@@ -179,10 +198,18 @@ is_in_time [] w c e = true
 is_in_time (event ∷ events) w c e = not (goes_late (event ∷ events) w c e) && is_in_time events w c e
 
 -- What is looked after comes in time, unless the events exhibit; so it is less to ask that no exit comes too late.
-abbrev pub LookedAfterIsInTime : Type 0
-LookedAfterIsInTime = (dig : List ℕ → List ℕ) (rules : Rules) (events : List Event) (w c e : ℕ)
+abbrev pub LegalLookedAfterIsInTime : Type 0
+LegalLookedAfterIsInTime = (dig : List ℕ → List ℕ) (rules : Rules) (events : List Event) (w c e : ℕ)
     → IsDigest dig → IsLegal (tests_by dig) rules events → is_looked_after events w c e ≡ true
     → collides dig events c ≡ false → is_forged rules.tag events w c ≡ false → is_in_time events w c e ≡ true
+
+-- at each line of a run
+abbrev pub LookedAfterIsInTime : Type 0
+LookedAfterIsInTime = (dig : List ℕ → List ℕ) (lines : List Line) (run : Run) (world : World)
+    (later events : List Event) (w c e : ℕ)
+    → IsRun dig lines run world → events_of run.entries ≡ later ++ events → is_looked_after events w c e ≡ true
+    → collides dig events c ≡ false → is_forged world.chain.tag events w c ≡ false
+    → is_in_time events w c e ≡ true
 
 -- A held coin is safe while no exit comes too late: so also where the own exit is finished before another one is ripe,
 -- though nobody challenged that one.
@@ -243,7 +270,7 @@ OnlyGuarded dig tag (event ∷ later) earlier account =
     OnlyGuards dig tag event (later ++ earlier) account × OnlyGuarded dig tag later earlier account
 
 -- An account that only guarded has, with what it has at stake, at least what it had; and 100 more for each exit that
--- it cancelled, or whose bond went to it.
+-- it cancelled, or that was finished with its open challenge first.
 abbrev pub LegalGuardingCostsNothing : Type 0
 LegalGuardingCostsNothing = (dig : List ℕ → List ℕ) (rules : Rules) (later earlier : List Event) (account : ℕ)
     → IsDigest dig → IsLegal (tests_by dig) rules (later ++ earlier)
@@ -263,10 +290,21 @@ GuardingCostsNothing = (dig : List ℕ → List ℕ) (lines : List Line) (run : 
     ≤ balance_of (log_of (later ++ earlier)) account + staked (log_of (later ++ earlier)) account
 
 -- So where no exit that it challenged stands any more, its balance is at least what it was.
-abbrev pub GuardiansHaveTheirMoney : Type 0
-GuardiansHaveTheirMoney = (dig : List ℕ → List ℕ) (rules : Rules) (later earlier : List Event) (account : ℕ)
+abbrev pub LegalGuardiansHaveTheirMoney : Type 0
+LegalGuardiansHaveTheirMoney = (dig : List ℕ → List ℕ) (rules : Rules) (later earlier : List Event) (account : ℕ)
     → IsDigest dig → IsLegal (tests_by dig) rules (later ++ earlier)
     → OnlyGuarded dig rules.tag later earlier account
+    → ((exit : Exit) (challenge : Challenge) → Contains (exits (log_of (later ++ earlier))) exit
+    → Contains exit.challenges challenge → challenge.by ≢ account)
+    → balance_of (log_of earlier) account + EXIT_BOND * wins_in later earlier account
+    ≤ balance_of (log_of (later ++ earlier)) account
+
+-- between any two lines of a run
+abbrev pub GuardiansHaveTheirMoney : Type 0
+GuardiansHaveTheirMoney = (dig : List ℕ → List ℕ) (lines : List Line) (run : Run) (world : World)
+    (rest later earlier : List Event) (account : ℕ)
+    → IsRun dig lines run world → events_of run.entries ≡ rest ++ (later ++ earlier)
+    → OnlyGuarded dig world.chain.tag later earlier account
     → ((exit : Exit) (challenge : Challenge) → Contains (exits (log_of (later ++ earlier))) exit
     → Contains exit.challenges challenge → challenge.by ≢ account)
     → balance_of (log_of earlier) account + EXIT_BOND * wins_in later earlier account
