@@ -11,3 +11,12 @@ pub mod Reserves
 pub mod InOrder
 pub mod OnOffer
 pub mod MoneySamples
+pub mod Shows
+pub mod Clear
+pub mod Taken
+pub mod Began
+pub mod WorkedGuard
+pub mod WorkedCover
+pub mod WorkedReserve
+pub mod WorkedLeft
+pub mod WorkedAfter

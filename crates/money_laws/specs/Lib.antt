@@ -3,3 +3,5 @@ pub mod First
 pub mod Reserve
 pub mod Keepers
 pub mod MoneyLaws
+pub mod Samples
+pub mod Worked

@@ -3,6 +3,7 @@ ghost use Rattle.money_laws.specs.First.{LeadersArePaid, FirstsLead, FirstsArePa
 ghost use Rattle.money_laws.specs.Keepers.{HoldersKeep, LegalTipsAreNotAnswered, LegalTipsStayOpen, TipsStayOpen};
 ghost use Rattle.money_laws.specs.MoneyLaws.{LegalBondsComeBack, BondsComeBack, LegalCancelsNeedNoMoney, CancelsNeedNoMoney, LegalReserveSuffices, ReserveSuffices, LeadersOfRunsArePaid, FirstsOfRunsArePaid, LegalLookedAfterIsInTime, LookedAfterIsInTime, LegalTimelyCoinsAreSafe, TimelyCoinsAreSafe, LegalGuardingCostsNothing, GuardingCostsNothing, LegalGuardiansHaveTheirMoney, GuardiansHaveTheirMoney};
 ghost use Rattle.money_laws.specs.Reserve.{ReserveIsNeeded};
+ghost use Rattle.money_laws.specs.Worked.{ReserveIsTight, GuardingIsTight, IsGuarded, AttackCostsNothing, LeavingFirstIsTight, AnAfterNeedsNoMoney};
 
 /// A law: no challenge that is due is ever answered. While a wallet keeps a coin at a tip, each challenge at that tip,
 /// of whatever exit of the coin and by whomever, is open as long as its exit stands; unless the events show, at this
@@ -68,4 +69,17 @@ pub fn guarding_costs_nothing()
     ensures run { GuardingCostsNothing }
     ensures legal_ended { LegalGuardiansHaveTheirMoney }
     ensures ended { GuardiansHaveTheirMoney }
+{}
+
+/// The premises of these laws can be met, and their bounds are tight, as worked lists of legal events show. Two Befores
+/// need 80, and with 79 the second is refused. A guardian gets its 40 back and 100, and no more. A stranger whose
+/// friend challenges his exit first loses nothing, and the guardian then gets its 40 alone. Who left a second earlier is
+/// paid with nobody looking, and a second later the coin is lost. And an After brings 100 to an account without money.
+pub fn bounds_are_tight()
+    ensures reserve { ReserveIsTight }
+    ensures guarding { GuardingIsTight }
+    ensures guarded { IsGuarded }
+    ensures attack { AttackCostsNothing }
+    ensures leaving { LeavingFirstIsTight }
+    ensures after { AnAfterNeedsNoMoney }
 {}

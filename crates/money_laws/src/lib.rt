@@ -4,6 +4,6 @@
 mod laws;
 
 pub use laws::{
-    a_reserve_suffices, bonds_come_back, due_challenges_stay_open,
+    a_reserve_suffices, bonds_come_back, bounds_are_tight, due_challenges_stay_open,
     guarding_costs_nothing, leaving_first_needs_no_reserve,
 };

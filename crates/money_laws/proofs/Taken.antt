@@ -1,0 +1,46 @@
+-- Calls that are accepted, by what they show.
+use Rattle.std.proofs.Common.{◌≡◌, ℕ, ◌==◌, Bool, true, false, nat_lt, List, Option, Some, None, refl, sym, ap, ◌∙◌}
+use Rattle.std.specs.Prelude.{is_some}
+use Rattle.plasma_tx.specs.declared.rules.TheConstants.{EXIT_BOND, CHALLENGE_BOND, CHALLENGE_WINDOW}
+use Rattle.plasma_tx.specs.declared.owner.Owner.{Owner}
+use Rattle.plasma_tx.specs.declared.signed_tx.SignedTx.{SignedTx}
+use Rattle.plasma_tx.specs.declared.opening.RawOpening.{RawOpening}
+use Rattle.plasma_tx.specs.declared.call.Shown.{Shown}
+use Rattle.plasma_tx.specs.declared.call.RootCall.{RootCall}
+use Rattle.plasma_tx.specs.declared.call.RootCall.TheVariants.{StartSpend, After, Before}
+use Rattle.plasma_tx.specs.declared.views.CoinView.{CoinView}
+use Rattle.plasma_tx.specs.Views.{block_of, coin_at, Exit, exit_at, challenge_at, is_withdrawn}
+use Rattle.plasma_tx.specs.Shown.{Tests, Rules, shown_owner, shown_tx}
+use Rattle.plasma_tx.specs.Table.{answer_to, is_accepted, is_over, is_committed_after, may_exit_at, is_before_parent}
+use Rattle.plasma_tx.specs.Money.{balance_of}
+
+module _ (tests : Tests) (rules : Rules) (log : List RootCall) (account c : ℕ) where
+  pub start-taken : (parent : Shown) (exit : RawOpening) (coin : CoinView) (owner : Owner) (tx : SignedTx)
+      → coin_at log c ≡ Some coin → shown_owner tests rules log c parent ≡ Some owner
+      → shown_tx tests rules log c exit ≡ Some tx → tests.is_signed tx owner ≡ true
+      → is_withdrawn log c ≡ false → may_exit_at log coin parent exit.block ≡ true
+      → (tx.body.parent == block_of parent) ≡ true → (tx.body.to.account == account) ≡ true
+      → is_some (exit_at log c exit.block) ≡ false → nat_lt (balance_of log account) EXIT_BOND ≡ false
+      → is_accepted (answer_to tests rules log (StartSpend account c parent exit)) ≡ true
+  unfolding answer_to
+  start-taken parent exit coin owner tx there from shown signed free fits child mine none rich =
+      rw (there, from, shown, signed, free, fits, child, mine, none, rich) refl
+
+  pub before-taken : (exit_block : ℕ) (shown : Shown) (exit : Exit) (owner : Owner)
+      → exit_at log c exit_block ≡ Some exit → shown_owner tests rules log c shown ≡ Some owner
+      → is_over log exit.start CHALLENGE_WINDOW ≡ false → is_before_parent log (coin_at log c) exit shown ≡ true
+      → is_some (challenge_at (block_of shown) exit.challenges) ≡ false
+      → nat_lt (balance_of log account) CHALLENGE_BOND ≡ false
+      → is_accepted (answer_to tests rules log (Before account c exit_block shown)) ≡ true
+  unfolding answer_to
+  before-taken exit_block shown exit owner stands from early fits none rich =
+      rw (stands, from, early, fits, none, rich) refl
+
+  pub after-taken : (exit_block : ℕ) (spend : RawOpening) (exit : Exit) (tx : SignedTx)
+      → exit_at log c exit_block ≡ Some exit → shown_tx tests rules log c spend ≡ Some tx
+      → tests.is_signed tx exit.owner ≡ true → is_over log exit.start CHALLENGE_WINDOW ≡ false
+      → is_committed_after log exit.block spend.block ≡ true → (tx.body.parent == exit.block) ≡ true
+      → is_accepted (answer_to tests rules log (After account c exit_block spend)) ≡ true
+  unfolding answer_to
+  after-taken exit_block spend exit tx stands shown signed early fits child =
+      rw (stands, shown, signed, early, fits, child) refl
