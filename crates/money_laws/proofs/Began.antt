@@ -1,7 +1,7 @@
 -- The worked lists up to the stranger's exits are legal, and show neither a clash nor a forgery.
-use Rattle.std.proofs.Common.{◌≡◌, ℕ, zero, suc, ◌+◌, ◌^◌, ◌<◌, ◌==◌, ◌&&◌, ◌||◌, Bool, true, false, if◌then◌else◌, nat_lt, List, [], ◌∷◌, ◌++◌, Option, Some, None, inl, inr, refl, sym, ap, ◌∙◌, subst, arith}
+use Rattle.std.proofs.Common.{◌≡◌, ℕ, zero, suc, ◌+◌, ◌-◌, ◌^◌, ◌<◌, ◌==◌, ◌&&◌, ◌||◌, Bool, true, false, if◌then◌else◌, nat_lt, List, [], ◌∷◌, ◌++◌, Some, None, inl, inr, refl, sym, ap, ◌∙◌, subst, arith}
 use Rattle.std.specs.Prelude.{replicate, length, slice_index_or, is_some, not}
-use Rattle.std.specs.List.{AllByRecursion, flat_map, list_any}
+use Rattle.std.specs.List.{AllByRecursion, list_any}
 use Rattle.std.specs.Option.{option_map}
 use Rattle.std.proofs.lemmas.Bool.{cases_Bool, ltb-true, and_parts, or_parts, eq-eqb, true≢false}
 use Rattle.std.proofs.lemmas.List.Elements.{All-from_recursion}
@@ -13,27 +13,24 @@ use Rattle.plasma_tx.specs.declared.owner.Owner.{Owner}
 use Rattle.plasma_tx.specs.declared.body.Body.{Body}
 use Rattle.plasma_tx.specs.declared.signed_tx.SignedTx.{SignedTx}
 use Rattle.plasma_tx.specs.declared.opening.RawOpening.{RawOpening}
-use Rattle.plasma_tx.specs.declared.opening.Opening.{Opening}
-use Rattle.plasma_tx.specs.declared.opening.OpeningRefusal.{OpeningRefusal}
-use Rattle.plasma_tx.specs.declared.call.Shown.TheVariants.{Deposit as AtDeposit, Spend}
+use Rattle.plasma_tx.specs.declared.call.Shown.TheVariants.{Spend}
 use Rattle.plasma_tx.specs.declared.call.RootCall.{RootCall}
 use Rattle.plasma_tx.specs.declared.call.RootCall.TheVariants.{StartSpend}
 use Rattle.plasma_tx.specs.declared.views.CoinView.{CoinView}
 use Rattle.plasma_tx.specs.Spelling.{AreBytes, IsOwner, IsBody, owner_text, body_text, signed_text}
-use Rattle.plasma_tx.specs.Openings.{opening_in, leaf_in}
-use Rattle.plasma_tx.specs.Transfer.{transfer_in, is_signed_by}
+use Rattle.plasma_tx.specs.Transfer.{is_signed_by}
 use Rattle.plasma_tx.specs.Views.{now, blocks, coins, block_at, coin_at, responses, exits, exit_at, is_withdrawn}
-use Rattle.plasma_tx.specs.Shown.{tests_by, root_at, shown_tx, shown_owner}
+use Rattle.plasma_tx.specs.Shown.{root_at, shown_owner}
 use Rattle.plasma_tx.specs.Table.{answer_to, is_accepted, may_exit_at}
 use Rattle.plasma_tx.specs.Money.{pays, takes, share_of, balance_of, funded}
 use Rattle.sparse_merkle.specs.TreeDigest.{leaf_string}
 use Rattle.world_rules.specs.Laws.{IsDigest}
 use Rattle.world_rules.specs.Events.{Event, Declares, Joins, log_of, wallet_owner, bound_by}
-use Rattle.world_rules.specs.Exhibits.{openings_of, seen, strings_in, strings_up, strings_of, has_clash, collides, is_same_body, forges, forges_transfer, shows_forgery, is_forged}
+use Rattle.world_rules.specs.Exhibits.{openings_of, seen, strings_in, strings_up, strings_of, has_clash, collides, is_same_body, forges, forges_transfer, is_forged}
 use Rattle.watch_duty.proofs.Members.{Has}
-use Rattle.world_laws.specs.Legal.{starts_by, LegalCall, LegalDeclaration, IsLegal}
+use Rattle.world_laws.specs.Legal.{starts_by, LegalCall, IsLegal}
 use Rattle.world_laws.proofs.Lists.{some_same, none_some}
-use Rattle.money_laws.specs.Samples.{me, stranger, tag, rules, transfer, signed, unsigned, byte, print, digest, alone, root_with, shows, planted, hidden, taken, began, exit_one, exit_two, attacked}
+use Rattle.money_laws.specs.Samples.{me, stranger, tag, rules, transfer, signed, unsigned, byte, print, digest, alone, root_with, shows, planted, hidden, taken, began, exit_one, attacked}
 use Rattle.money_laws.specs.Worked.{tests}
 use Rattle.money_laws.proofs.Shows.{key_long, signature_long, signs, signs_not, unsigned_not, IsWorked, read, transfer_shown, shown}
 use Rattle.money_laws.proofs.Clear.{clear}
@@ -68,12 +65,12 @@ unfolding digest
 digests bytes =
     elim (slice_index_or bytes 0 0 == 2) as (λ b. (length (if b
     then print (slice_index_or bytes 1 0 + 1) (slice_index_or bytes 2 0 + slice_index_or bytes 34 0)
-    else print 0 (slice_index_or bytes 52 0)) ≡ 32)
+    else print 0 (slice_index_or bytes 52 0 + slice_index_or bytes 60 0)) ≡ 32)
     × AreBytes (if b
     then print (slice_index_or bytes 1 0 + 1) (slice_index_or bytes 2 0 + slice_index_or bytes 34 0)
-    else print 0 (slice_index_or bytes 52 0))) [
+    else print 0 (slice_index_or bytes 52 0 + slice_index_or bytes 60 0))) [
       | true ↦ printed (slice_index_or bytes 1 0 + 1) (slice_index_or bytes 2 0 + slice_index_or bytes 34 0)
-      | false ↦ printed 0 (slice_index_or bytes 52 0)
+      | false ↦ printed 0 (slice_index_or bytes 52 0 + slice_index_or bytes 60 0)
     ]
 
 -- ---- transfers
@@ -271,39 +268,39 @@ pub strings-are : (block : ℕ) (tx : SignedTx) → IsWorked tx
     ≡ hashed_strings digest tx.body.coin (signed_text tx) (proof_path digest alone)
 strings-are block tx worked = ap (strings_up digest tx.body.coin) (read digest block tx worked)
 
--- the leaves of coin c, by the blocks that their transfers are from
+-- the leaves of coin c, by what the digest keeps of them
 abbrev text : ℕ → ℕ → List ℕ
 text c mark =
-    if mark == 200 then signed_text (planted c)
-    else if mark == 201 then signed_text hidden
-    else signed_text (taken c mark)
+    if mark == 230 then signed_text (planted c)
+    else if mark == 231 then signed_text hidden
+    else signed_text (taken c (mark - 30))
 
-planted-print : (coin : ℕ) → digest (leaf_string (signed_text (planted coin))) ≡ print 0 200
+planted-print : (coin : ℕ) → digest (leaf_string (signed_text (planted coin))) ≡ print 0 230
 unfolding digest unsigned signed_text body_text owner_text
 planted-print coin = refl
 
-hidden-print : digest (leaf_string (signed_text hidden)) ≡ print 0 201
+hidden-print : digest (leaf_string (signed_text hidden)) ≡ print 0 231
 unfolding digest unsigned signed_text body_text owner_text
 hidden-print = refl
 
-taken-print-4 : (coin : ℕ) → digest (leaf_string (signed_text (taken coin 4))) ≡ print 0 4
+taken-print-4 : (coin : ℕ) → digest (leaf_string (signed_text (taken coin 4))) ≡ print 0 34
 unfolding digest signed signed_text body_text owner_text
 taken-print-4 coin = refl
 
-taken-print-6 : (coin : ℕ) → digest (leaf_string (signed_text (taken coin 6))) ≡ print 0 6
+taken-print-6 : (coin : ℕ) → digest (leaf_string (signed_text (taken coin 6))) ≡ print 0 36
 unfolding digest signed signed_text body_text owner_text
 taken-print-6 coin = refl
 
 abbrev Prints : ℕ → ℕ → Type 0
 Prints coin mark = (mark < 256) × (digest (leaf_string (text coin mark)) ≡ print 0 mark)
 
-first-marks : (mark : ℕ) → Has (201 ∷ 200 ∷ 4 ∷ []) mark → Prints 1 mark
+first-marks : (mark : ℕ) → Has (231 ∷ 230 ∷ 34 ∷ []) mark → Prints 1 mark
 first-marks mark (inl is) = subst (Prints 1) is (omega arith, hidden-print)
 first-marks mark (inr (inl is)) = subst (Prints 1) is (omega arith, planted-print 1)
 first-marks mark (inr (inr (inl is))) = subst (Prints 1) is (omega arith, taken-print-4 1)
 first-marks mark (inr (inr (inr none))) = absurd none
 
-second-marks : (mark : ℕ) → Has (200 ∷ 6 ∷ []) mark → Prints 2 mark
+second-marks : (mark : ℕ) → Has (230 ∷ 36 ∷ []) mark → Prints 2 mark
 second-marks mark (inl is) = subst (Prints 2) is (omega arith, planted-print 2)
 second-marks mark (inr (inl is)) = subst (Prints 2) is (omega arith, taken-print-6 2)
 second-marks mark (inr (inr none)) = absurd none
@@ -315,7 +312,7 @@ clear-one =
     ap (has_clash digest)
     (λ i. strings-are 4 (planted 1) (planted-worked 1 (omega arith)) i
     ++ (strings-are 5 (taken 1 4) (taken-worked 1 4 (omega arith) (omega arith)) i ++ []))
-    ∙ clear 1 (text 1) (200 ∷ 4 ∷ []) (λ mark there. first-marks mark (inr there))
+    ∙ clear 1 (text 1) (230 ∷ 34 ∷ []) (λ mark there. first-marks mark (inr there))
 
 pub clear-hidden :
     has_clash digest (strings_of digest 1 (shows 3 hidden ∷ shows 4 (planted 1) ∷ shows 5 (taken 1 4) ∷ [])) ≡ false
@@ -325,7 +322,7 @@ clear-hidden =
     (λ i. strings-are 3 hidden hidden-worked i
     ++ (strings-are 4 (planted 1) (planted-worked 1 (omega arith)) i
     ++ (strings-are 5 (taken 1 4) (taken-worked 1 4 (omega arith) (omega arith)) i ++ [])))
-    ∙ clear 1 (text 1) (201 ∷ 200 ∷ 4 ∷ []) first-marks
+    ∙ clear 1 (text 1) (231 ∷ 230 ∷ 34 ∷ []) first-marks
 
 pub clear-two : has_clash digest (strings_of digest 2 (shows 6 (planted 2) ∷ shows 7 (taken 2 6) ∷ [])) ≡ false
 unfolding strings_of unsigned signed
@@ -333,10 +330,11 @@ clear-two =
     ap (has_clash digest)
     (λ i. strings-are 6 (planted 2) (planted-worked 2 (omega arith)) i
     ++ (strings-are 7 (taken 2 6) (taken-worked 2 6 (omega arith) (omega arith)) i ++ []))
-    ∙ clear 2 (text 2) (200 ∷ 6 ∷ []) second-marks
+    ∙ clear 2 (text 2) (230 ∷ 36 ∷ []) second-marks
 
 -- events of which these are the openings of the coin show no clash
 pub whole-by : (events : List Event) (c : ℕ) (openings : List RawOpening) → seen events c ≡ openings
     → has_clash digest (strings_of digest c openings) ≡ false → collides digest events c ≡ false
 unfolding collides
-whole-by events c openings are none = ap (λ (os : List RawOpening). has_clash digest (strings_of digest c os)) are ∙ none
+whole-by events c openings are none =
+    ap (λ (os : List RawOpening). has_clash digest (strings_of digest c os)) are ∙ none

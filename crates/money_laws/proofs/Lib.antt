@@ -20,3 +20,4 @@ pub mod WorkedCover
 pub mod WorkedReserve
 pub mod WorkedLeft
 pub mod WorkedAfter
+pub mod WorkedBetween

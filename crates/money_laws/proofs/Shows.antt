@@ -1,31 +1,30 @@
 -- The openings and signatures of the worked lists: what they show, and that they are valid.
-use Rattle.std.proofs.Common.{◌≡◌, ℕ, ◌+◌, ◌^◌, ◌<◌, ◌≤◌, ◌==◌, ◌&&◌, Bool, true, false, if◌then◌else◌, nat_lt, List, [], ◌∷◌, ◌++◌, length, Option, Some, None, Ok, refl, sym, ap, ◌∙◌, subst, arith}
+use Rattle.std.proofs.Common.{◌≡◌, ℕ, ◌^◌, ◌<◌, ◌==◌, ◌&&◌, Bool, true, false, if◌then◌else◌, nat_lt, List, length, Option, Some, None, Ok, refl, sym, ap, ◌∙◌, subst, arith}
 use Rattle.std.specs.Option.{option_and_then}
 use Rattle.std.specs.Str.{bytes_eq}
 use Rattle.std.proofs.lemmas.Bool.{and_parts, and_from, eqb-true, eq-eqb}
 use Rattle.std.proofs.lemmas.List.{length-append}
 use Rattle.std.proofs.lemmas.Slice.Eq.{bytes_eq-Decides}
 use Rattle.lms_sign.specs.declared.types.LmsTypes.{LmsTypes}
-use Rattle.lms_sign.specs.Types.{height, chains, u32str, u32_at, is_supported, signature_length, leaf_count}
+use Rattle.lms_sign.specs.Types.{height, chains, u32_at, is_supported, leaf_count}
 use Rattle.lms_sign.specs.Valid.{types_of, id_of, key_root, type_place, is_valid, is_formed, candidate_root}
-use Rattle.lms_sign.specs.Tree.{public_key_of, signature_of, tree_node}
+use Rattle.lms_sign.specs.Tree.{public_key_of, signature_of}
 use Rattle.lms_sign.proofs.Laws.{key-types, signatures_are_valid}
 use Rattle.lms_sign.proofs.Nodes.{length-tree_node}
 use Rattle.lms_sign.proofs.Lists.{length-u32str}
-use Rattle.sparse_merkle.specs.MaskedPath.{IsMaskedPath, set_bits, lowest_default, proof_path}
+use Rattle.sparse_merkle.specs.MaskedPath.{set_bits, lowest_default, proof_path}
 use Rattle.sparse_merkle.specs.Opening.{is_opening, digest_at_level}
 use Rattle.sparse_merkle.proofs.ProofLaws.{length-proof_path}
-use Rattle.plasma_tx.specs.declared.owner.Owner.{Owner}
 use Rattle.plasma_tx.specs.declared.body.Body.{Body}
 use Rattle.plasma_tx.specs.declared.signed_tx.SignedTx.{SignedTx}
 use Rattle.plasma_tx.specs.declared.call.RootCall.{RootCall}
-use Rattle.plasma_tx.specs.Spelling.{IsOwner, IsBody, mark_of, last_text, body_text, signed_text, owner_text, number_text, signed_in}
+use Rattle.plasma_tx.specs.Spelling.{IsBody, mark_of, last_text, body_text, signed_text, signed_in}
 use Rattle.plasma_tx.specs.Openings.{opening_in, leaf_in}
 use Rattle.plasma_tx.specs.Transfer.{transfer_in, is_signed_by, is_transfer, may_stand_in, kept_transfer}
 use Rattle.plasma_tx.specs.Shown.{tests_by, opens_root, root_at, shown_tx}
 use Rattle.plasma_tx.proofs.OpeningTexts.{opening_in-text, leaf-shown}
 use Rattle.plasma_tx.proofs.Spellings.{signed_in-text, length-owner_text}
-use Rattle.money_laws.specs.Samples.{me, secret, stranger, tag, rules, transfer, signed, unsigned, digest, alone, root_with, shows}
+use Rattle.money_laws.specs.Samples.{me, secret, stranger, tag, rules, signed, unsigned, digest, alone, root_with, shows}
 
 -- ---- signatures
 

@@ -1,5 +1,5 @@
 -- Calls that are accepted, by what they show.
-use Rattle.std.proofs.Common.{◌≡◌, ℕ, ◌==◌, Bool, true, false, nat_lt, List, Option, Some, None, refl, sym, ap, ◌∙◌}
+use Rattle.std.proofs.Common.{◌≡◌, ℕ, ◌==◌, true, false, nat_lt, List, Some, refl}
 use Rattle.std.specs.Prelude.{is_some}
 use Rattle.plasma_tx.specs.declared.rules.TheConstants.{EXIT_BOND, CHALLENGE_BOND, CHALLENGE_WINDOW}
 use Rattle.plasma_tx.specs.declared.owner.Owner.{Owner}
@@ -7,11 +7,11 @@ use Rattle.plasma_tx.specs.declared.signed_tx.SignedTx.{SignedTx}
 use Rattle.plasma_tx.specs.declared.opening.RawOpening.{RawOpening}
 use Rattle.plasma_tx.specs.declared.call.Shown.{Shown}
 use Rattle.plasma_tx.specs.declared.call.RootCall.{RootCall}
-use Rattle.plasma_tx.specs.declared.call.RootCall.TheVariants.{StartSpend, After, Before}
+use Rattle.plasma_tx.specs.declared.call.RootCall.TheVariants.{StartSpend, After, Between, Before}
 use Rattle.plasma_tx.specs.declared.views.CoinView.{CoinView}
 use Rattle.plasma_tx.specs.Views.{block_of, coin_at, Exit, exit_at, challenge_at, is_withdrawn}
 use Rattle.plasma_tx.specs.Shown.{Tests, Rules, shown_owner, shown_tx}
-use Rattle.plasma_tx.specs.Table.{answer_to, is_accepted, is_over, is_committed_after, may_exit_at, is_before_parent}
+use Rattle.plasma_tx.specs.Table.{answer_to, is_accepted, is_over, is_committed_after, is_committed_between, may_exit_at, is_before_parent}
 use Rattle.plasma_tx.specs.Money.{balance_of}
 
 module _ (tests : Tests) (rules : Rules) (log : List RootCall) (account c : ℕ) where
@@ -44,3 +44,13 @@ module _ (tests : Tests) (rules : Rules) (log : List RootCall) (account c : ℕ)
   unfolding answer_to
   after-taken exit_block spend exit tx stands shown signed early fits child =
       rw (stands, shown, signed, early, fits, child) refl
+
+  pub between-taken : (exit_block : ℕ) (spend : RawOpening) (exit : Exit) (tx : SignedTx)
+      → exit_at log c exit_block ≡ Some exit → shown_tx tests rules log c spend ≡ Some tx
+      → tests.is_signed tx exit.parent_owner ≡ true → is_over log exit.start CHALLENGE_WINDOW ≡ false
+      → (exit.parent == 0) ≡ false → is_committed_between log exit.parent exit.block spend.block ≡ true
+      → (tx.body.parent == exit.parent) ≡ true
+      → is_accepted (answer_to tests rules log (Between account c exit_block spend)) ≡ true
+  unfolding answer_to
+  between-taken exit_block spend exit tx stands shown signed early some fits child =
+      rw (stands, shown, signed, early, some, fits, child) refl

@@ -1,15 +1,12 @@
 -- The worked list in which an After takes no money.
-use Rattle.std.proofs.Common.{◌≡◌, ◌⊎◌, ℕ, ◌<◌, ◌==◌, ◌||◌, ◌&&◌, not, Bool, true, false, if◌then◌else◌, List, [], ◌∷◌, ◌++◌, Option, Some, None, inl, inr, refl, sym, ap, ◌∙◌, subst, arith}
+use Rattle.std.proofs.Common.{◌≡◌, ℕ, ◌<◌, ◌==◌, ◌||◌, ◌&&◌, Bool, true, false, if◌then◌else◌, List, [], ◌∷◌, ◌++◌, Some, None, inl, inr, refl, sym, ap, ◌∙◌, subst, arith}
 use Rattle.std.specs.Prelude.{is_some}
-use Rattle.std.specs.Option.{option_map_or}
-use Rattle.std.specs.List.{Contains, list_any, filter_map}
+use Rattle.std.specs.List.{Contains, list_any}
 use Rattle.std.proofs.lemmas.Bool.{cases_Bool, eqb-true, and_parts, or_cases, or_right, false≢true}
 use Rattle.std.proofs.lemmas.List.Elements.{All-from_recursion}
 use Rattle.lms_sign.specs.Types.{u32str, u32_at}
 use Rattle.lms_sign.specs.Tree.{public_key_of}
 use Rattle.sparse_merkle.specs.TreeDigest.{leaf_string}
-use Rattle.sparse_merkle.specs.MaskedPath.{proof_path}
-use Rattle.sparse_merkle.specs.Opening.{hashed_strings}
 use Rattle.plasma_tx.specs.declared.owner.Owner.{Owner}
 use Rattle.plasma_tx.specs.declared.signed_tx.SignedTx.{SignedTx}
 use Rattle.plasma_tx.specs.declared.opening.RawOpening.{RawOpening}
@@ -19,26 +16,22 @@ use Rattle.plasma_tx.specs.declared.call.RootCall.{RootCall}
 use Rattle.plasma_tx.specs.declared.views.CoinView.{CoinView}
 use Rattle.plasma_tx.specs.Spelling.{owner_text, body_text, signed_text}
 use Rattle.plasma_tx.specs.Views.{now, blocks, coins, block_at, coin_at, responses, Exit, exits, exit_at, exits_of, is_withdrawn}
-use Rattle.plasma_tx.specs.Shown.{opens_root, root_at}
-use Rattle.plasma_tx.specs.Openings.{opening_in}
-use Rattle.plasma_tx.specs.Transfer.{transfer_in}
 use Rattle.plasma_tx.specs.Table.{answer_to, is_accepted}
 use Rattle.plasma_tx.specs.Money.{pays, takes, share_of, balance_of, funded}
-use Rattle.coin_history.specs.declared.bundle.Bundle.{Bundle}
-use Rattle.coin_history.specs.History.{is_absent, transfer_of, opens_block, link_of, links_in, links_of, committed_blocks, AreLinked, IsHistory}
+use Rattle.coin_history.specs.History.{is_absent, transfer_of, opens_block, links_in, committed_blocks, AreLinked, IsHistory}
 use Rattle.watch_duty.specs.Duty.{next_link}
-use Rattle.watch_duty.proofs.Members.{Has, contains-has, has-contains}
+use Rattle.watch_duty.proofs.Members.{Has, has-contains}
 use Rattle.wallet_core.specs.State.{is_owner}
 use Rattle.node_rules.specs.Watcher.{due_for_kept}
-use Rattle.world_rules.specs.Events.{Event, Joins, Accepts, log_of, wallet_owner, accepted, bound_by, is_bundle}
+use Rattle.world_rules.specs.Events.{Event, Joins, log_of, wallet_owner, accepted, bound_by, is_bundle}
 use Rattle.world_rules.specs.Exhibits.{openings_of, seen, strings_of, has_clash, collides, is_forged}
 use Rattle.world_rules.specs.Safety.{was_deposited}
-use Rattle.world_laws.specs.Legal.{Taken, IsGuarding, ShowsGuard, HasDue, IsDue, LegalAccept, LegalWatch, IsLegal}
+use Rattle.world_laws.specs.Legal.{Taken, HasDue, LegalAccept, LegalWatch, IsLegal}
 use Rattle.world_laws.specs.LegalLaws.{fresh_offers}
 use Rattle.world_laws.proofs.Lists.{some_same}
-use Rattle.world_laws.proofs.Bound.{Holding, holding}
-use Rattle.money_laws.specs.Samples.{me, stranger, tag, rules, transfer, signed, print, digest, alone, root_with, shows, link, bundle, received, old_exit, after, commits}
-use Rattle.money_laws.specs.Worked.{tests, left_behind, ShowsNothing, AnAfterNeedsNoMoney}
+use Rattle.world_laws.proofs.Bound.{holding}
+use Rattle.money_laws.specs.Samples.{me, stranger, tag, rules, transfer, signed, print, digest, shows, link, bundle, received, old_exit, after}
+use Rattle.money_laws.specs.Worked.{tests, left_behind, AnAfterNeedsNoMoney}
 use Rattle.money_laws.proofs.Shows.{signs, signs_not, IsWorked, transfer_shown, opened, shown}
 use Rattle.money_laws.proofs.Clear.{clear}
 use Rattle.money_laws.proofs.Taken.{after-taken}
@@ -46,10 +39,10 @@ use Rattle.money_laws.proofs.Began.{me-owner, signed-worked, IsMine, are_taken, 
 
 -- ---- the coin is handed over
 
-abbrev handed : SignedTx
+abbrev pub handed : SignedTx
 handed = signed (transfer 1 1 me)
 
-handed-worked : IsWorked handed
+pub handed-worked : IsWorked handed
 handed-worked = signed-worked 1 1 me (omega arith) (omega arith) me-owner
 
 -- before it is accepted
@@ -61,17 +54,17 @@ unfolding are_taken log_of public_key_of u32str u32_at answer_to balance_of pays
     block_at coin_at responses exits exit_at is_withdrawn
 given-taken = refl
 
-abbrev coin : CoinView
+abbrev pub coin : CoinView
 coin = record { deposit = 1; amount = 5; owner = stranger }
 
-abbrev the_link : Link
+abbrev pub the_link : Link
 the_link = record { block = 2; tx = handed; opening = link }
 
-abbrev links : Links
+abbrev pub links : Links
 links = record { coin = 1; deposit = 1; owner = stranger; spends = the_link ∷ [] }
 
 -- the opening shows the one link
-links-are : links_in rules 1 (link ∷ []) ≡ the_link ∷ []
+pub links-are : links_in rules 1 (link ∷ []) ≡ the_link ∷ []
 unfolding links_in shows signed
 links-are = rw (transfer_shown 2 handed handed-worked) refl
 
@@ -122,11 +115,11 @@ accepts = record {
   none_stands = refl;
 }
 
-received-legal : IsLegal tests rules received
+pub received-legal : IsLegal tests rules received
 unfolding IsLegal over log_of
 received-legal = (accepts, over-legal committed refl given-taken)
 
-received-mine : IsMine received
+pub received-mine : IsMine received
 unfolding wallet_owner
 received-mine w owner is = mine-by (1 == w) owner is
 
@@ -152,7 +145,8 @@ unfolding log_of next_link exits_of links_in shows now blocks coins block_at coi
 due-after = rw links-are refl
 
 -- the coin is the wallet's at block 2 alone
-where-held : (owner : Owner) (c e : ℕ) → owner ≡ me → was_deposited owner e (if c == 1 then Some coin else None) ≡ false
+pub where-held : (owner : Owner) (c e : ℕ) → owner ≡ me
+    → was_deposited owner e (if c == 1 then Some coin else None) ≡ false
 where-held owner c e is =
     elim (cases_Bool (c == 1)) [
       | inl first ↦
@@ -229,11 +223,11 @@ after-legal =
 
 -- ---- nothing is shown
 
-handed-print : digest (leaf_string (signed_text handed)) ≡ print 0 1
+pub handed-print : digest (leaf_string (signed_text handed)) ≡ print 0 22
 unfolding digest signed signed_text body_text owner_text
 handed-print = refl
 
-one-mark : (mark : ℕ) → Has (1 ∷ []) mark
+one-mark : (mark : ℕ) → Has (22 ∷ []) mark
     → (mark < 256) × (digest (leaf_string (signed_text handed)) ≡ print 0 mark)
 one-mark mark (inl is) =
     subst (λ n. (n < 256) × (digest (leaf_string (signed_text handed)) ≡ print 0 n)) is (omega arith, handed-print)
@@ -243,7 +237,7 @@ clear-link : has_clash digest (strings_of digest 1 (link ∷ [])) ≡ false
 unfolding strings_of signed
 clear-link =
     ap (has_clash digest) (λ i. strings-are 2 handed handed-worked i ++ [])
-    ∙ clear 1 (λ mark. signed_text handed) (1 ∷ []) one-mark
+    ∙ clear 1 (λ mark. signed_text handed) (22 ∷ []) one-mark
 
 left-honest : is_forged tag left_behind 1 1 ≡ false
 unfolding is_forged openings_of wallet_owner bound_by signed

@@ -1,8 +1,6 @@
 -- The worked list in which the stranger's friend challenges the exit first.
-use Rattle.std.proofs.Common.{◌≡◌, ℕ, ◌==◌, ◌||◌, Bool, true, false, List, [], ◌∷◌, ◌++◌, Some, inl, inr, refl, sym, ap, ◌∙◌, subst, arith}
-use Rattle.std.specs.Option.{option_map}
+use Rattle.std.proofs.Common.{◌≡◌, ◌||◌, true, false, List, [], ◌∷◌, ◌++◌, inl, inr, refl, ap, subst, arith}
 use Rattle.std.specs.List.{Contains}
-use Rattle.plasma_tx.specs.declared.signed_tx.SignedTx.{SignedTx}
 use Rattle.plasma_tx.specs.declared.call.RootCall.TheVariants.{Tick}
 use Rattle.plasma_tx.specs.declared.call.Shown.TheVariants.{Spend}
 use Rattle.plasma_tx.specs.declared.answer.Answer.TheVariants.{Dropped}
@@ -15,9 +13,9 @@ use Rattle.world_rules.specs.Exhibits.{openings_of, seen, is_forged}
 use Rattle.world_laws.specs.Legal.{IsLegal}
 use Rattle.money_laws.specs.Keepers.{keeps, IsKeeper}
 use Rattle.money_laws.specs.MoneyLaws.{wins_in, OnlyGuarded}
-use Rattle.money_laws.specs.Samples.{tag, rules, transfer, stranger, unsigned, signed, digest, shows, planted, hidden, taken, began, attacked, exit_one, before_one, before_by_friend}
-use Rattle.money_laws.specs.Worked.{tests, finish, covering, covered, of_strangers, AttackCostsNothing}
-use Rattle.money_laws.proofs.Shows.{unsigned_not, shown}
+use Rattle.money_laws.specs.Samples.{tag, rules, transfer, stranger, unsigned, digest, shows, planted, hidden, taken, began, attacked, before_one, before_by_friend}
+use Rattle.money_laws.specs.Worked.{tests, finish, covering, covered, AttackCostsNothing}
+use Rattle.money_laws.proofs.Shows.{unsigned_not}
 use Rattle.money_laws.proofs.Taken.{before-taken}
 use Rattle.money_laws.proofs.Began.{IsMine, began-mine, began-40, legal-call, attacked-legal, attacked-honest, hidden-worked, forges-not, owner-shown, clear-hidden, whole-by}
 use Rattle.money_laws.proofs.WorkedGuard.{keeper, standing, made, kept-all, kept-at}

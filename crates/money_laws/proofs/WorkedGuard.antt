@@ -1,32 +1,29 @@
 -- The worked lists in which the first exit is guarded.
-use Rattle.std.proofs.Common.{◌≡◌, ◌⊎◌, ℕ, ◌+◌, ◌==◌, ◌&&◌, ◌||◌, Bool, true, false, if◌then◌else◌, nat_lt, List, [], ◌∷◌, ◌++◌, Option, Some, None, inl, inr, refl, sym, ap, ◌∙◌, subst, arith}
+use Rattle.std.proofs.Common.{◌≡◌, ◌⊎◌, ℕ, ◌==◌, true, false, if◌then◌else◌, List, [], ◌∷◌, ◌++◌, Option, Some, None, inl, inr, refl, sym, ap, ◌∙◌, subst}
 use Rattle.std.specs.List.{Contains, list_any}
-use Rattle.std.proofs.lemmas.Bool.{cases_Bool, eqb-true, and_parts, or_parts, true≢false, false≢true}
-use Rattle.lms_sign.specs.Types.{u32_at}
+use Rattle.std.proofs.lemmas.Bool.{cases_Bool, eqb-true, and_parts, false≢true}
 use Rattle.plasma_tx.specs.declared.owner.Owner.{Owner}
 use Rattle.plasma_tx.specs.declared.call.RootCall.{RootCall}
-use Rattle.plasma_tx.specs.declared.call.RootCall.TheVariants.{Tick, Finish}
+use Rattle.plasma_tx.specs.declared.call.RootCall.TheVariants.{Tick}
 use Rattle.plasma_tx.specs.declared.views.CoinView.{CoinView}
 use Rattle.plasma_tx.specs.Views.{now, blocks, coins, block_at, coin_at, responses, owner_of_opening, Challenge, Exit, exits, exit_at, exits_of, is_withdrawn}
-use Rattle.plasma_tx.specs.Shown.{shown_tx}
 use Rattle.plasma_tx.specs.Table.{answer_to, is_accepted}
-use Rattle.plasma_tx.specs.Money.{pays, takes, share_of, balance_of, funded}
+use Rattle.plasma_tx.specs.Money.{pays, takes, share_of, balance_of}
 use Rattle.coin_history.specs.History.{links_in}
 use Rattle.coin_history.specs.declared.bundle.Bundle.{Bundle}
 use Rattle.watch_duty.specs.Duty.{next_link}
 use Rattle.watch_duty.proofs.Members.{Has, contains-has, has-contains}
 use Rattle.node_rules.specs.Watcher.{due_for_kept}
-use Rattle.world_rules.specs.Events.{Event, Joins, Watches, log_of, wallet_owner, accepted, bound_by, taken_back, not_taken, is_bundle, guarded_by}
-use Rattle.world_rules.specs.Exhibits.{openings_of, seen, strings_of, has_clash, collides, is_forged}
+use Rattle.world_rules.specs.Events.{Event, Joins, log_of, wallet_owner, accepted, bound_by, taken_back, not_taken, is_bundle, guarded_by}
+use Rattle.world_rules.specs.Exhibits.{openings_of, seen, collides, is_forged}
 use Rattle.world_rules.specs.Safety.{was_deposited, holds}
 use Rattle.world_laws.specs.Legal.{Bare, IsGuarding, ShowsGuard, HasDue, LegalWatch, IsLegal}
 use Rattle.world_laws.specs.Looked.{has_look, is_looked_after}
-use Rattle.world_laws.proofs.Lists.{some_same}
-use Rattle.world_laws.proofs.Bound.{Holding, holding}
+use Rattle.world_laws.proofs.Bound.{holding}
 use Rattle.money_laws.specs.Keepers.{keeps, IsKeeper}
-use Rattle.money_laws.specs.MoneyLaws.{wins_in, OnlyGuards, OnlyGuarded}
-use Rattle.money_laws.specs.Samples.{me, tag, rules, signed, unsigned, digest, shows, planted, taken, began, exit_one, exit_two, attacked, before_one, before_two}
-use Rattle.money_laws.specs.Worked.{tests, ShowsNothing, guarding_begins, challenged, finish, guarding, GuardingIsTight, IsGuarded}
+use Rattle.money_laws.specs.MoneyLaws.{wins_in, OnlyGuarded}
+use Rattle.money_laws.specs.Samples.{me, tag, rules, digest, shows, planted, taken, attacked, before_one}
+use Rattle.money_laws.specs.Worked.{tests, guarding_begins, challenged, finish, guarding, GuardingIsTight, IsGuarded}
 use Rattle.money_laws.proofs.Began.{IsMine, began-mine, began-40, legal-call, attacked-legal, attacked-honest, clear-one, whole-by}
 
 -- ---- what a wallet guards
@@ -159,7 +156,8 @@ guarded-legal = (
 
 -- ---- the coin is kept, and nothing is shown
 
-pub keeper : (event : Event) (events : List Event) → keeps events 1 1 1 ≡ true → collides digest (event ∷ events) 1 ≡ false
+pub keeper : (event : Event) (events : List Event) → keeps events 1 1 1 ≡ true
+    → collides digest (event ∷ events) 1 ≡ false
     → is_forged tag (event ∷ events) 1 1 ≡ false → IsKeeper digest tag event events 1 1 1
 keeper event events kept whole honest = record { kept = kept; whole = whole; honest = honest }
 

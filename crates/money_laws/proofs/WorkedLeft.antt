@@ -1,5 +1,5 @@
 -- The worked list in which the wallet leaves first.
-use Rattle.std.proofs.Common.{◌≡◌, ℕ, ◌==◌, ◌≤◌, ◌||◌, ◌&&◌, Bool, true, false, if◌then◌else◌, List, [], ◌∷◌, Option, Some, None, inl, inr, refl, sym, ap, ◌∙◌, subst, arith}
+use Rattle.std.proofs.Common.{◌≡◌, ℕ, ◌==◌, ◌≤◌, ◌||◌, Bool, true, false, if◌then◌else◌, List, [], ◌∷◌, Some, None, inl, inr, refl, sym, ap, subst, arith}
 use Rattle.std.specs.List.{Contains}
 use Rattle.std.proofs.lemmas.Bool.{eqb-true, and_parts, or_cases, false≢true}
 use Rattle.plasma_tx.specs.declared.owner.Owner.{Owner}
@@ -21,7 +21,7 @@ use Rattle.world_laws.specs.Looked.{has_look, is_looked_after}
 use Rattle.world_laws.proofs.Lists.{none_some}
 use Rattle.money_laws.specs.First.{has_led, ends_first}
 use Rattle.money_laws.specs.MoneyLaws.{is_in_time}
-use Rattle.money_laws.specs.Samples.{me, tag, rules, transfer, stranger, digest, signed, unsigned, shows, planted, taken, began, exit_one, own_exit}
+use Rattle.money_laws.specs.Samples.{me, tag, rules, transfer, stranger, signed, unsigned, shows, planted, taken, began, exit_one, own_exit}
 use Rattle.money_laws.specs.Worked.{tests, finish, raced, ShowsNothing, LeavingFirstIsTight}
 use Rattle.money_laws.proofs.Shows.{signs_not, unsigned_not}
 use Rattle.money_laws.proofs.Began.{IsMine, began-mine, began-100, began-legal, legal-call, exit-taken, planted-worked, taken-worked, forges-not, clear-one, whole-by}

@@ -1,9 +1,7 @@
 -- The worked list in which two coins are attacked.
-use Rattle.std.proofs.Common.{◌≡◌, ◌⊎◌, ℕ, ◌==◌, ◌<◌, Bool, true, false, if◌then◌else◌, List, [], ◌∷◌, Some, None, inl, inr, refl, sym, ap, ◌∙◌, subst, arith}
+use Rattle.std.proofs.Common.{◌≡◌, ◌⊎◌, ℕ, true, false, List, [], ◌∷◌, inl, inr, refl, sym, subst, arith}
 use Rattle.std.specs.List.{Contains}
 use Rattle.plasma_tx.specs.declared.call.RootCall.{RootCall}
-use Rattle.plasma_tx.specs.declared.answer.Answer.TheVariants.{Refused}
-use Rattle.plasma_tx.specs.declared.answer.Refusal.TheVariants.{NoFunds}
 use Rattle.plasma_tx.specs.Views.{now, blocks, coins, block_at, coin_at, responses, exits, exit_at, exits_of, is_withdrawn}
 use Rattle.plasma_tx.specs.Table.{answer_to, is_accepted}
 use Rattle.plasma_tx.specs.Money.{pays, takes, share_of, balance_of}
@@ -18,9 +16,9 @@ use Rattle.world_laws.specs.LegalLaws.{fresh_offers}
 use Rattle.money_laws.specs.Bonds.{sum_over}
 use Rattle.money_laws.specs.Reserve.{reserve_of, AreApart, AreAccepted, with_calls}
 use Rattle.money_laws.specs.MoneyLaws.{AreOnOffer}
-use Rattle.money_laws.specs.Samples.{tag, rules, digest, signed, unsigned, shows, planted, taken, began, exit_two, attacked, before_one, before_two}
+use Rattle.money_laws.specs.Samples.{tag, rules, digest, shows, planted, taken, began, exit_two, attacked, before_one, before_two}
 use Rattle.money_laws.specs.Worked.{tests, watched, tips, IsAttacked, ReserveIsTight}
-use Rattle.money_laws.proofs.Began.{digests, IsMine, began-mine, began-80, began-79, are_taken, legal-call, exit-taken, attacked-legal, clear-one, clear-two, whole-by}
+use Rattle.money_laws.proofs.Began.{digests, began-mine, began-80, began-79, are_taken, legal-call, exit-taken, attacked-legal, clear-one, clear-two, whole-by}
 use Rattle.money_laws.proofs.WorkedGuard.{two, bare, watch-legal}
 
 two-taken : (left : ℕ) → is_accepted (answer_to tests rules (log_of (attacked left)) exit_two) ≡ true

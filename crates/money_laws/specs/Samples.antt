@@ -11,7 +11,7 @@ use Rattle.plasma_tx.specs.declared.signed_tx.SignedTx.{SignedTx}
 use Rattle.plasma_tx.specs.declared.opening.RawOpening.{RawOpening}
 use Rattle.plasma_tx.specs.declared.call.Shown.TheVariants.{Deposit as AtDeposit, Spend}
 use Rattle.plasma_tx.specs.declared.call.RootCall.{RootCall}
-use Rattle.plasma_tx.specs.declared.call.RootCall.TheVariants.{Fund, Deposit, Commit, StartDeposit, StartSpend, After, Before}
+use Rattle.plasma_tx.specs.declared.call.RootCall.TheVariants.{Fund, Deposit, Commit, StartDeposit, StartSpend, After, Between, Before}
 use Rattle.plasma_tx.specs.Spelling.{body_text, signed_text}
 use Rattle.plasma_tx.specs.Openings.{raw_of}
 use Rattle.plasma_tx.specs.Shown.{Rules}
@@ -56,16 +56,17 @@ unsigned body = record { body = body; signature = [] }
 abbrev pub byte : ℕ → ℕ
 byte number = if nat_lt number 256 then number else 0
 
+-- what the digest keeps, in 32 bytes: a level, and a number for the leaf
 abbrev pub print : ℕ → ℕ → List ℕ
 print level leaf = byte level ∷ byte leaf ∷ replicate 30 0
 
--- The digest. Of a leaf it keeps the lowest byte of the block that the transfer is from, and of a node its level and
--- what its two children keep, together.
+-- The digest. Of a leaf it keeps the lowest bytes of the block that the transfer is from and of the account that it
+-- goes to, together; and of a node its level, and what its two children keep, together.
 unfoldable pub digest : List ℕ → List ℕ
 digest string =
     if slice_index_or string 0 0 == 2
     then print (slice_index_or string 1 0 + 1) (slice_index_or string 2 0 + slice_index_or string 34 0)
-    else print 0 (slice_index_or string 52 0)
+    else print 0 (slice_index_or string 52 0 + slice_index_or string 60 0)
 
 -- the way up from a leaf that is alone in its block: each sibling is the default of its level
 abbrev pub alone : MaskedPath
@@ -95,8 +96,9 @@ hidden = unsigned (transfer 1 201 stranger)
 abbrev pub taken : ℕ → ℕ → SignedTx
 taken coin from = signed (transfer coin from stranger)
 
--- The wallet deposited coin 1 in block 1 and coin 2 in block 2, and has so much left. Block 3 hides a transfer of coin
--- 1; block 4 has a planted one, and block 5 the stranger's from there; so have blocks 6 and 7 for coin 2.
+-- The wallet deposited coin 1 in block 1 and coin 2 in block 2, and has so much left. Block 3 has a planted transfer of
+-- coin 1, which the friend alone is shown; block 4 has another, and block 5 the stranger's from there; so have blocks 6
+-- and 7 for coin 2.
 abbrev pub began : ℕ → List Event
 began left =
     commits 2 (taken 2 6)
@@ -161,3 +163,14 @@ old_exit = StartDeposit 30 1 1
 
 abbrev pub after : RootCall
 after = After 21 1 1 link
+
+-- The old owner's second transfer of the coin, to himself, stands in block 3, and he exits with it; and what shows that
+-- the coin was spent before.
+abbrev pub second : SignedTx
+second = signed (transfer 1 1 stranger)
+
+abbrev pub second_exit : RootCall
+second_exit = StartSpend 30 1 (AtDeposit 1) (shows 3 second)
+
+abbrev pub between : RootCall
+between = Between 21 1 3 link

@@ -20,7 +20,7 @@ use Rattle.money_laws.specs.First.{has_led, ends_first}
 use Rattle.money_laws.specs.Reserve.{Tip, reserve_of, AreApart, AreAccepted, with_calls}
 use Rattle.money_laws.specs.Keepers.{keeps, IsKeeper}
 use Rattle.money_laws.specs.MoneyLaws.{AreOnOffer, is_in_time, wins_in, OnlyGuarded}
-use Rattle.money_laws.specs.Samples.{rules, tag, digest, began, attacked, exit_one, exit_two, before_one, before_two, before_by_friend, own_exit, received, old_exit, after}
+use Rattle.money_laws.specs.Samples.{rules, tag, digest, began, attacked, exit_one, exit_two, before_one, before_two, before_by_friend, own_exit, received, old_exit, after, commits, second, second_exit, between}
 
 abbrev pub tests : Tests
 tests = tests_by digest
@@ -167,3 +167,15 @@ pub record AnAfterNeedsNoMoney : Type 0 where
   pub nothing : ShowsNothing left_behind 1
   pub had : balance_of (log_of left_behind) 21 ≡ 0
   pub has : balance_of (log_of (Joins after ∷ left_behind)) 21 ≡ 100
+
+-- he exits with his second transfer, and the wallet watches
+abbrev pub spent_twice : List Event
+spent_twice = Watches 1 (between ∷ []) ∷ Joins second_exit ∷ commits 1 second ∷ received
+
+-- the Between that it offers is accepted, and brings it 100
+pub record ABetweenNeedsNoMoney : Type 0 where
+  pub legal : IsLegal tests rules (Joins between ∷ spent_twice)
+  pub offered : Contains (fresh_offers spent_twice 1) between
+  pub nothing : ShowsNothing spent_twice 1
+  pub had : balance_of (log_of spent_twice) 21 ≡ 0
+  pub has : balance_of (log_of (Joins between ∷ spent_twice)) 21 ≡ 100

@@ -3,7 +3,7 @@ ghost use Rattle.money_laws.specs.First.{LeadersArePaid, FirstsLead, FirstsArePa
 ghost use Rattle.money_laws.specs.Keepers.{HoldersKeep, LegalTipsAreNotAnswered, LegalTipsStayOpen, TipsStayOpen};
 ghost use Rattle.money_laws.specs.MoneyLaws.{LegalBondsComeBack, BondsComeBack, LegalCancelsNeedNoMoney, CancelsNeedNoMoney, LegalReserveSuffices, ReserveSuffices, LeadersOfRunsArePaid, FirstsOfRunsArePaid, LegalLookedAfterIsInTime, LookedAfterIsInTime, LegalTimelyCoinsAreSafe, TimelyCoinsAreSafe, LegalGuardingCostsNothing, GuardingCostsNothing, LegalGuardiansHaveTheirMoney, GuardiansHaveTheirMoney};
 ghost use Rattle.money_laws.specs.Reserve.{ReserveIsNeeded};
-ghost use Rattle.money_laws.specs.Worked.{ReserveIsTight, GuardingIsTight, IsGuarded, AttackCostsNothing, LeavingFirstIsTight, AnAfterNeedsNoMoney};
+ghost use Rattle.money_laws.specs.Worked.{ReserveIsTight, GuardingIsTight, IsGuarded, AttackCostsNothing, LeavingFirstIsTight, AnAfterNeedsNoMoney, ABetweenNeedsNoMoney};
 
 /// A law: no challenge that is due is ever answered. While a wallet keeps a coin at a tip, each challenge at that tip,
 /// of whatever exit of the coin and by whomever, is open as long as its exit stands; unless the events show, at this
@@ -34,8 +34,8 @@ pub fn bonds_come_back()
 /// A law: a reserve suffices. Where an account has 40 for each standing exit of the coins that it guards whose parent
 /// comes after the tip, which isn't challenged there and whose window is open, each Before on offer is accepted,
 /// entered one after the other in whatever order, whatever is entered between them of an After, a Between or a
-/// Respond of other exits. An account whose Befores are accepted, one after the other with no call between them, until
-/// none is due at the tips any more, had as much. Less can be enough where it enters fewer.
+/// Respond, of an exit that no later one is of. An account whose Befores are accepted, one after the other with no call
+/// between them, until none is due at the tips any more, had as much. Nothing is said of one that enters fewer.
 pub fn a_reserve_suffices()
     ensures legal { LegalReserveSuffices }
     ensures run { ReserveSuffices }
@@ -74,7 +74,8 @@ pub fn guarding_costs_nothing()
 /// The premises of these laws can be met, and their bounds are tight, as worked lists of legal events show. Two Befores
 /// need 80, and with 79 the second is refused. A guardian gets its 40 back and 100, and no more. A stranger whose
 /// friend challenges his exit first loses nothing, and the guardian then gets its 40 alone. Who left a second earlier is
-/// paid with nobody looking, and a second later the coin is lost. And an After brings 100 to an account without money.
+/// paid with nobody looking, and a second later the coin is lost. And an After, or a Between, brings 100 to an account
+/// without money.
 pub fn bounds_are_tight()
     ensures reserve { ReserveIsTight }
     ensures guarding { GuardingIsTight }
@@ -82,4 +83,5 @@ pub fn bounds_are_tight()
     ensures attack { AttackCostsNothing }
     ensures leaving { LeavingFirstIsTight }
     ensures after { AnAfterNeedsNoMoney }
+    ensures between { ABetweenNeedsNoMoney }
 {}

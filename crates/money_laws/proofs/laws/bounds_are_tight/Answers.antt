@@ -1,4 +1,5 @@
 use Rattle.money_laws.proofs.WorkedAfter.{an_after_needs_no_money}
+use Rattle.money_laws.proofs.WorkedBetween.{a_between_needs_no_money}
 use Rattle.money_laws.proofs.WorkedReserve.{reserve_is_tight}
 use Rattle.money_laws.proofs.WorkedLeft.{leaving_first_is_tight}
 use Rattle.money_laws.proofs.WorkedGuard.{guarding_is_tight, is_guarded_so}
@@ -22,3 +23,6 @@ returns-clause-leaving c = leaving_first_is_tight
 
 pub returns-clause-after : goal.returns-clause-after
 returns-clause-after c = an_after_needs_no_money
+
+pub returns-clause-between : goal.returns-clause-between
+returns-clause-between c = a_between_needs_no_money
