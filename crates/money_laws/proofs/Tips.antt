@@ -35,7 +35,7 @@ use Rattle.world_laws.proofs.CoinEvents.{runs-legal}
 use Rattle.world_laws.proofs.Promises.{suffix-legal}
 use Rattle.world_laws.proofs.Steps.{of_held, own-openings}
 use Rattle.world_laws.proofs.Watched.{IsSpend, is_spend}
-use Rattle.money_laws.specs.Keepers.{keeps_with, keeps, HoldersKeep, LegalTipsAreNotAnswered, LegalTipsStayOpen, TipsStayOpen}
+use Rattle.money_laws.specs.Keepers.{keeps_with, keeps, HoldersKeep, LegalTipsAreNotAnswered, LegalTipsStayOpen, TipsStayOpen, TipsAreNotAnswered}
 use Rattle.money_laws.proofs.Keeping.{Keeping, keeping, KeptBefore, kept_before, AtTip, at_tip, keeper-owns, tip-kept}
 
 pub holders_keep : HoldersKeep
@@ -202,3 +202,8 @@ pub run_tips_stay_open : TipsStayOpen
 run_tips_stay_open dig lines run world later events w c e is split =
     tips_stay_open dig (rules_of world.chain) events w c e is.digest
     (legal-to dig lines run world later events is split)
+
+pub run_tips_are_not_answered : TipsAreNotAnswered
+run_tips_are_not_answered dig lines run world later events w c e account block spend is split =
+    tips_are_not_answered dig (rules_of world.chain) events w c e account block spend is.digest
+    (legal-to dig lines run world later (Joins (Respond account c block e spend) ∷ events) is split)

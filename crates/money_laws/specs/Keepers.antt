@@ -51,6 +51,13 @@ LegalTipsAreNotAnswered = (dig : List ℕ → List ℕ) (rules : Rules) (events 
     → IsDigest dig → IsLegal (tests_by dig) rules (Joins (Respond account c block e spend) ∷ events)
     → IsKeeper dig rules.tag (Joins (Respond account c block e spend)) events w c e → ⊥
 
+-- at each line of a run
+abbrev pub TipsAreNotAnswered : Type 0
+TipsAreNotAnswered = (dig : List ℕ → List ℕ) (lines : List Line) (run : Run) (world : World)
+    (later events : List Event) (w c e account block : ℕ) (spend : RawOpening)
+    → IsRun dig lines run world → events_of run.entries ≡ later ++ Joins (Respond account c block e spend) ∷ events
+    → IsKeeper dig world.chain.tag (Joins (Respond account c block e spend)) events w c e → ⊥
+
 -- each challenge at e of a standing exit of the coin is open
 abbrev pub AreOpenAt : List RootCall → ℕ → ℕ → Type 0
 AreOpenAt log c e = (exit : Exit) (challenge : Challenge) → Contains (exits log) exit → exit.coin ≡ c

@@ -1,6 +1,6 @@
 ghost use Rattle.money_laws.specs.Bonds.{EndsPayBonds};
 ghost use Rattle.money_laws.specs.First.{LeadersArePaid, FirstsLead, FirstsArePaid};
-ghost use Rattle.money_laws.specs.Keepers.{HoldersKeep, LegalTipsAreNotAnswered, LegalTipsStayOpen, TipsStayOpen};
+ghost use Rattle.money_laws.specs.Keepers.{HoldersKeep, LegalTipsAreNotAnswered, TipsAreNotAnswered, LegalTipsStayOpen, TipsStayOpen};
 ghost use Rattle.money_laws.specs.MoneyLaws.{LegalBondsComeBack, BondsComeBack, LegalCancelsNeedNoMoney, CancelsNeedNoMoney, LegalReserveSuffices, ReserveSuffices, LeadersOfRunsArePaid, FirstsOfRunsArePaid, LegalLookedAfterIsInTime, LookedAfterIsInTime, LegalTimelyCoinsAreSafe, TimelyCoinsAreSafe, LegalGuardingCostsNothing, GuardingCostsNothing, LegalGuardiansHaveTheirMoney, GuardiansHaveTheirMoney};
 ghost use Rattle.money_laws.specs.Reserve.{ReserveIsNeeded};
 ghost use Rattle.money_laws.specs.Worked.{ReserveIsTight, GuardingIsTight, IsGuarded, AttackCostsNothing, LeavingFirstIsTight, AnAfterNeedsNoMoney, ABetweenNeedsNoMoney};
@@ -13,6 +13,7 @@ ghost use Rattle.money_laws.specs.Worked.{ReserveIsTight, GuardingIsTight, IsGua
 pub fn due_challenges_stay_open()
     ensures keeps { HoldersKeep }
     ensures unanswered { LegalTipsAreNotAnswered }
+    ensures run_unanswered { TipsAreNotAnswered }
     ensures legal { LegalTipsStayOpen }
     ensures run { TipsStayOpen }
 {}
