@@ -77,7 +77,7 @@ watcher_quiet n WatcherOrder.Watch response = record { calls = refl; owners = λ
 
 -- ---- commands
 
-line_quiet : (n : ℕ) (dig : List ℕ → List ℕ) (log : List RootCall) (records : WalletRecords) (line : WalletLine)
+pub line_quiet : (n : ℕ) (dig : List ℕ → List ℕ) (log : List RootCall) (records : WalletRecords) (line : WalletLine)
     → IsQuiet n (line_event n dig log records line)
 unfolding log_of wallet_owner event_of
 line_quiet n dig log records (WalletLine.Order order) =
@@ -85,7 +85,7 @@ line_quiet n dig log records (WalletLine.Order order) =
     unless_quiet n response.reply (wallet_event n order response) (wallet_quiet n order response)
 line_quiet n dig log records line = record { calls = refl; owners = λ w. refl; own = refl }
 
-order_quiet : (n : ℕ) (order : WatcherOrder) (response : Response)
+pub order_quiet : (n : ℕ) (order : WatcherOrder) (response : Response)
     → IsQuiet n (event_of n (NodeOrder.Watcher order) response)
 unfolding event_of
 order_quiet n order response =

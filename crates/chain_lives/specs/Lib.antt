@@ -4,4 +4,5 @@ pub mod Chains
 pub mod Log
 pub mod Entered
 pub mod Begun
+pub mod Keeping
 pub mod Samples

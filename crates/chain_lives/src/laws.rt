@@ -3,6 +3,7 @@ ghost use Rattle.plasma_tx.specs.Shown.{Rules};
 ghost use Rattle.chain_lives.specs.Begun.{BeginningsAreLegal};
 ghost use Rattle.chain_lives.specs.Entered.{EntriesAreLegal};
 ghost use Rattle.chain_lives.specs.Log.{EventsHoldTheChain};
+ghost use Rattle.chain_lives.specs.Keeping.{ChainsAreLegal, LivesKeepTheirCoins, LivesHoldApart, LivesDueCallsAreTaken, LivesStartsAreTaken};
 ghost use Rattle.chain_lives.specs.Samples.{ReceivedWatchedSent, PowerIsLost, HastyIsWrong};
 
 use crash_disk::Disk;
@@ -30,4 +31,20 @@ pub fn entries_are_legal<D: Disk>()
 /// Where a wallet was begun, its declaration is legal after the events so far: no event before is one of its.
 pub fn beginnings_are_legal<D: Disk>()
     ensures { (dig : List ℕ → List ℕ) (rules : Rules) → BeginningsAreLegal D.told D.plan D.faults dig rules }
+{}
+
+/// The events of a chain with its nodes are legal, each after those before it: what nodes did in runs over files, with
+/// any fault in them, cut off anywhere and with crashes between, is what the laws of coins ask of events.
+pub fn chains_are_legal<D: Disk>()
+    ensures { (dig : List ℕ → List ℕ) (rules : Rules) → ChainsAreLegal D.told D.plan D.faults dig rules }
+{}
+
+/// Lives keep their coins: for every chain with its nodes, whatever runs they made, with any fault, want of memory and
+/// loss of power. A coin that a wallet holds and that was looked after is safe at each event, unless the events exhibit;
+/// two wallets don't both hold it; and what a watch and a leave offer is taken.
+pub fn lives_keep_their_coins<D: Disk>()
+    ensures safe { (dig : List ℕ → List ℕ) (rules : Rules) → LivesKeepTheirCoins D.told D.plan D.faults dig rules }
+    ensures one_holder { (dig : List ℕ → List ℕ) (rules : Rules) → LivesHoldApart D.told D.plan D.faults dig rules }
+    ensures due_is_taken { (dig : List ℕ → List ℕ) (rules : Rules) → LivesDueCallsAreTaken D.told D.plan D.faults dig rules }
+    ensures starts_are_taken { (dig : List ℕ → List ℕ) (rules : Rules) → LivesStartsAreTaken D.told D.plan D.faults dig rules }
 {}

@@ -1,0 +1,301 @@
+-- Where the answered lines of a run leave its node: where the commands among them do, one after another, behind the log
+-- that it was handed.
+use Rattle.std.proofs.Common.{◌≡◌, ◌≤◌, ◌<◌, ◌^◌, ℕ, ◌+◌, ◌||◌, ◌&&◌, not, nat_lt, Bool, true, false, if◌then◌else◌, List, [], ◌∷◌, ◌++◌, length, map, take, Option, Some, None, is_some, Result, Ok, Err, refl, sym, ap, ◌∙◌, subst, arith, bytes_eq}
+use Rattle.std.specs.Prelude.{codes, option_map}
+use Rattle.std.specs.List.{filter_map, cons_option}
+use Rattle.std.proofs.lemmas.List.{append-nil}
+use Rattle.std.proofs.lemmas.Bool.{ltb-false}
+use Rattle.std.proofs.lemmas.Slice.Eq.{bytes_eq-Decides}
+use Rattle.std.proofs.Math.Seq.{take-append_seam}
+use Rattle.plasma_tx.specs.declared.call.RootCall.{RootCall}
+use Rattle.plasma_tx.specs.Chain.{Chain, with_log}
+use Rattle.line_forms.specs.Forms.{value_in}
+use Rattle.root_log.specs.Grammar.{chain_in, appended, call_in}
+use Rattle.root_log.specs.EndOfLog.{is_end_of_log}
+use Rattle.streamed_lines.specs.declared.TheConstants.{MOST_LINES}
+use Rattle.streamed_lines.specs.declared.ending.Ending.{Ending}
+use Rattle.streamed_lines.specs.declared.ending.Ending.TheVariants.{ReadFault, TooLong}
+use Rattle.streamed_lines.specs.declared.ending.Stop.{Stop}
+use Rattle.streamed_lines.specs.declared.ending.Stop.TheVariants.{Ends}
+use Rattle.streamed_lines.specs.Lines.{lines_in, is_whole, text_of, is_too_long}
+use Rattle.streamed_lines.specs.Streams.{Rules, Stream, Streamed, no_lines, next_number, with_answer, stream_or, goes_on, line_stream, stream_from, stream_of}
+use Rattle.streamed_lines.specs.Reading.{RunsTo}
+use Rattle.node_rules.specs.Wallet.{WalletRecords}
+use Rattle.node_roles.specs.Notes.{NotesAt}
+use Rattle.node_roles.specs.Nodes.{NodeAt}
+use Rattle.node_sessions.specs.Sessions.{SessionState, OrStop, begun, calls_of, other_chain, first_log, longer_log, joins, done, leaves, command_line, log_line, line_of, next_line, session_rules}
+use Rattle.node_lives.specs.Answered.{kept_at}
+use Rattle.chain_lives.specs.Steps.{Deed, left_by}
+use Rattle.chain_lives.specs.Acts.{deeds_of, behind_log}
+
+some-same : (one other : Chain) → Some one ≡ Some other → one ≡ other
+some-same one other is = cc is
+
+-- ---- a line that was answered
+
+-- a first line doesn't end a log
+end-is-none : chain_in (codes "--") ≡ None
+unfolding chain_in value_in
+end-is-none = refl
+
+first-goes-on : (line : List ℕ) (chain : Chain) → chain_in line ≡ Some chain → is_end_of_log line ≡ false
+first-goes-on line chain is = by (bytes_eq line (codes "--")) refl
+  where
+    by : (b : Bool) → bytes_eq line (codes "--") ≡ b → b ≡ false
+    by false same = refl
+    by true same =
+        let one : line ≡ codes "--" = (bytes_eq-Decides line (codes "--")).0 same in
+        absurd (cc (is, ap chain_in one, end-is-none))
+
+module _ {L : Type 0} (tag : List ℕ) (command_in : List ℕ → Option L)
+    (answers : List RootCall → NodeAt NotesAt → L → Result (NodeAt NotesAt × List ℕ) (List ℕ)) where
+  abbrev Session : Type 0
+  Session = SessionState (NodeAt NotesAt)
+
+  -- what a line comes to that was answered: a log begins, ends or has one more call; or a command was done
+  pub data Came (session : Session) (line : List ℕ) (next : Session) : Type 0 where
+    First : (chain : Chain) → session.log ≡ None → chain_in line ≡ Some chain → chain.tag ≡ tag
+        → next ≡ record session { log = Some chain } → Came session line next
+    Last : (chain : Chain) → session.log ≡ Some chain → session.is_over ≡ false → is_end_of_log line ≡ true
+        → next ≡ record session { is_over = true } → Came session line next
+    More : (chain longer : Chain) → session.log ≡ Some chain → session.is_over ≡ false → is_end_of_log line ≡ false
+        → longer.tag ≡ chain.tag → next ≡ record session { log = Some longer } → Came session line next
+    Command : (chain : Chain) (command : L) (left : NodeAt NotesAt) (text : List ℕ) → session.log ≡ Some chain
+        → session.is_over ≡ true → command_in line ≡ Some command
+        → answers chain.log session.node command ≡ Ok (left, text) → next ≡ record session { node = left }
+        → Came session line next
+
+  module _ (session : Session) (line : List ℕ) (answered : Session × List ℕ) where
+    first-came : session.log ≡ None → (found : Option Chain) → chain_in line ≡ found
+        → joins session (first_log tag found) ≡ Ok answered → Came session line answered.0
+    first-came none None found is = absurd (cc is)
+    first-came none (Some chain) found is = by (bytes_eq chain.tag tag) refl is
+      where
+        by : (same : Bool) → bytes_eq chain.tag tag ≡ same
+            → joins session (if same then Ok chain else Err (Ends other_chain)) ≡ Ok answered
+            → Came session line answered.0
+        by false same is = absurd (cc is)
+        by true same is =
+            (let one : (record session { log = Some chain }, []) ≡ answered = cc is in
+            First chain none found ((bytes_eq-Decides chain.tag tag).0 same)
+            (sym (ap (λ (a : Session × List ℕ). a.0) one)))
+
+    more-came : (chain : Chain) → session.log ≡ Some chain → session.is_over ≡ false → (ends : Bool)
+        → is_end_of_log line ≡ ends → (found : Option RootCall)
+        → (if ends then Ok (record session { is_over = true }, [])
+        else joins session (longer_log (option_map (λ call. with_log chain (call ∷ chain.log)) found))) ≡ Ok answered
+        → Came session line answered.0
+    more-came chain there over true ends found is =
+        (let one : (record session { is_over = true }, []) ≡ answered = cc is in
+        Last chain there over ends (sym (ap (λ (a : Session × List ℕ). a.0) one)))
+    more-came chain there over false ends None is = absurd (cc is)
+    more-came chain there over false ends (Some call) is =
+        (let longer : Chain = with_log chain (call ∷ chain.log) in
+        let one : (record session { log = Some longer }, []) ≡ answered = cc is in
+        More chain longer there over ends refl (sym (ap (λ (a : Session × List ℕ). a.0) one)))
+
+    done-came : (chain : Chain) → session.log ≡ Some chain → session.is_over ≡ true → (command : L)
+        → command_in line ≡ Some command → (outcome : Result (NodeAt NotesAt × List ℕ) (List ℕ))
+        → answers chain.log session.node command ≡ outcome → leaves session (done outcome) ≡ Ok answered
+        → Came session line answered.0
+    done-came chain there over command spells (Err cause) did is = absurd (cc is)
+    done-came chain there over command spells (Ok left) did is =
+        (let one : (record session { node = left.0 }, left.1) ≡ answered = cc is in
+        Command chain command left.0 left.1 there over spells did (sym (ap (λ (a : Session × List ℕ). a.0) one)))
+
+    command-came : (chain : Chain) → session.log ≡ Some chain → session.is_over ≡ true → (spelled : Option L)
+        → command_in line ≡ spelled
+        → leaves session (command_line answers chain.log session.node spelled) ≡ Ok answered
+        → Came session line answered.0
+    command-came chain there over None spells is = absurd (cc is)
+    command-came chain there over (Some command) spells is =
+        done-came chain there over command spells (answers chain.log session.node command) refl is
+
+    later-came : (chain : Chain) → session.log ≡ Some chain → (over : Bool) → session.is_over ≡ over
+        → (if over then leaves session (command_line answers chain.log session.node (command_in line))
+        else log_line session chain line) ≡ Ok answered → Came session line answered.0
+    later-came chain there true over is = command-came chain there over (command_in line) refl is
+    later-came chain there false over is =
+        more-came chain there over (is_end_of_log line) refl (call_in line) is
+
+    log-came : (log : Option Chain) → session.log ≡ log
+        → line_of tag command_in answers session log line ≡ Ok answered → Came session line answered.0
+    log-came None there is = first-came there (chain_in line) refl is
+    log-came (Some chain) there is = later-came chain there session.is_over refl is
+
+    pub line-came : next_line tag command_in answers session line ≡ Ok answered → Came session line answered.0
+    unfolding next_line
+    line-came is = log-came session.log refl is
+
+-- ---- lines, one after another
+
+-- the texts that may spell commands, of those behind a session
+abbrev pub texts_behind : Bool → List (List ℕ) → List (List ℕ)
+texts_behind over texts = if over then texts else behind_log texts
+
+-- Of a node whose command's answer says Ok left behind a log: it has Q still, and its records are those with what the
+-- command adds.
+module _ {L : Type 0} (tag : List ℕ) (command_in : List ℕ → Option L)
+    (answers : List RootCall → NodeAt NotesAt → L → Result (NodeAt NotesAt × List ℕ) (List ℕ))
+    (does : List RootCall → WalletRecords → L → Deed) (Q : NodeAt NotesAt → Type 0)
+    (step : (log : List RootCall) (at : NodeAt NotesAt) (command : L) (left : NodeAt NotesAt) (text : List ℕ) → Q at
+    → answers log at command ≡ Ok (left, text) → Q left × (kept_at left ≡ (does log (kept_at at) command).left)) where
+  abbrev State : Type 0
+  State = SessionState (NodeAt NotesAt)
+
+  -- where the commands that these texts spell leave records
+  abbrev pub left_with : List RootCall → WalletRecords → List (List ℕ) → WalletRecords
+  left_with log records texts = left_by records (deeds_of (does log) records (filter_map command_in texts))
+
+  -- what such texts come to, behind a session
+  pub record Behind (session : State) (texts : List (List ℕ)) (run : State) : Type 0 where
+    pub node : Q run.node
+    pub kept : kept_at run.node
+        ≡ left_with (calls_of run.log) (kept_at session.node) (texts_behind session.is_over texts)
+    pub same : session.is_over ≡ true → (run.log ≡ session.log) × (run.is_over ≡ true)
+    pub none : run.is_over ≡ false → texts_behind session.is_over texts ≡ []
+    pub logged : run.is_over ≡ true → is_some run.log ≡ true
+    pub tagged : (chain : Chain) → run.log ≡ Some chain → chain.tag ≡ tag
+
+  -- a session that goes on so
+  pub record Goes (session : State) : Type 0 where
+    pub node : Q session.node
+    pub logged : session.is_over ≡ true → is_some session.log ≡ true
+    pub tagged : (chain : Chain) → session.log ≡ Some chain → chain.tag ≡ tag
+
+  behind-none : (over : Bool) → texts_behind over [] ≡ []
+  behind-none true = refl
+  behind-none false = refl
+
+  pub came-none : (session : State) → Goes session → Behind session [] session
+  came-none session goes = record {
+    node = goes.node;
+    kept = ap (left_with (calls_of session.log) (kept_at session.node)) (sym (behind-none session.is_over));
+    same = λ over. (refl, over);
+    none = λ over. behind-none session.is_over;
+    logged = goes.logged;
+    tagged = goes.tagged;
+  }
+
+  -- with a line of the log
+  came-logged : (session next run : State) (line : List ℕ) (texts : List (List ℕ)) → session.is_over ≡ false
+      → next.node ≡ session.node → texts_behind next.is_over texts ≡ behind_log (line ∷ texts)
+      → Behind next texts run → Behind session (line ∷ texts) run
+  came-logged session next run line texts over node same came =
+      let texts_are : texts_behind next.is_over texts ≡ texts_behind session.is_over (line ∷ texts) =
+      same ∙ ap (λ (b : Bool). texts_behind b (line ∷ texts)) (sym over) in
+      record {
+        node = came.node;
+        kept =
+            came.kept
+            ∙ ap (λ (at : NodeAt NotesAt). left_with (calls_of run.log) (kept_at at) (texts_behind next.is_over texts)) node
+            ∙ ap (left_with (calls_of run.log) (kept_at session.node)) texts_are;
+        same = λ wrong. absurd (cc (over, wrong));
+        none = λ off. sym texts_are ∙ came.none off;
+        logged = came.logged;
+        tagged = came.tagged;
+      }
+
+  came-first : (session next run : State) (line : List ℕ) (texts : List (List ℕ)) → session.is_over ≡ false
+      → next.node ≡ session.node → next.is_over ≡ false → is_end_of_log line ≡ false → Behind next texts run
+      → Behind session (line ∷ texts) run
+  came-first session next run line texts over node off goes came =
+      came-logged session next run line texts over node
+      (ap (λ (b : Bool). texts_behind b texts) off
+      ∙ ap (λ (b : Bool). if b then texts else behind_log texts) (sym goes)) came
+
+  came-last : (session next run : State) (line : List ℕ) (texts : List (List ℕ)) → session.is_over ≡ false
+      → next.node ≡ session.node → next.is_over ≡ true → is_end_of_log line ≡ true → Behind next texts run
+      → Behind session (line ∷ texts) run
+  came-last session next run line texts over node on ends came =
+      came-logged session next run line texts over node
+      (ap (λ (b : Bool). texts_behind b texts) on
+      ∙ ap (λ (b : Bool). if b then texts else behind_log texts) (sym ends)) came
+
+  -- with a command
+  came-command : (session next run : State) (line : List ℕ) (texts : List (List ℕ)) (command : L)
+      → session.is_over ≡ true → next.is_over ≡ true → next.log ≡ session.log → command_in line ≡ Some command
+      → kept_at next.node ≡ (does (calls_of session.log) (kept_at session.node) command).left
+      → Behind next texts run → Behind session (line ∷ texts) run
+  came-command session next run line texts command over on log spells kept came =
+      let same_log : run.log ≡ session.log = (came.same on).0 ∙ log in
+      let here : left_with (calls_of run.log) (kept_at next.node) (texts_behind next.is_over texts)
+      ≡ left_with (calls_of session.log) (kept_at next.node) texts =
+      ap (λ (b : Bool). left_with (calls_of run.log) (kept_at next.node) (texts_behind b texts)) on
+      ∙ ap (λ (l : Option Chain). left_with (calls_of l) (kept_at next.node) texts) same_log in
+      let does_one : left_with (calls_of session.log) (kept_at next.node) texts
+      ≡ left_by (kept_at session.node)
+      (deeds_of (does (calls_of session.log)) (kept_at session.node) (command ∷ filter_map command_in texts)) =
+      ap (λ (r : WalletRecords). left_with (calls_of session.log) r texts) kept in
+      let spelled : left_by (kept_at session.node)
+      (deeds_of (does (calls_of session.log)) (kept_at session.node) (command ∷ filter_map command_in texts))
+      ≡ left_with (calls_of session.log) (kept_at session.node) (line ∷ texts) =
+      ap (λ (o : Option L). left_by (kept_at session.node)
+      (deeds_of (does (calls_of session.log)) (kept_at session.node) (cons_option o (filter_map command_in texts))))
+      (sym spells) in
+      let there : left_with (calls_of session.log) (kept_at session.node) (line ∷ texts)
+      ≡ left_with (calls_of run.log) (kept_at session.node) (texts_behind session.is_over (line ∷ texts)) =
+      ap (λ (l : Option Chain). left_with (calls_of l) (kept_at session.node) (line ∷ texts)) (sym same_log)
+      ∙ ap (λ (b : Bool). left_with (calls_of run.log) (kept_at session.node) (texts_behind b (line ∷ texts)))
+      (sym over) in
+      record {
+        node = came.node;
+        kept = came.kept ∙ here ∙ does_one ∙ spelled ∙ there;
+        same = λ on_here. (same_log, (came.same on).1);
+        none = λ off. absurd (let known = (came.same on).1 in cc (off, known));
+        logged = came.logged;
+        tagged = came.tagged;
+      }
+
+  -- the session with a line that was answered goes on, and what comes behind it comes behind the line
+  pub record GoesOn (session next : State) (line : List ℕ) : Type 0 where
+    pub goes : Goes next
+    pub behind : (texts : List (List ℕ)) (run : State) → Behind next texts run → Behind session (line ∷ texts) run
+
+  not-over : (session : State) → Goes session → session.log ≡ None → session.is_over ≡ false
+  not-over session goes none = by session.is_over refl
+    where
+      by : (over : Bool) → session.is_over ≡ over → over ≡ false
+      by false is = refl
+      by true is = absurd (let some = goes.logged is in cc (none, some))
+
+  pub goes-by : (session next : State) (line : List ℕ) → Goes session → Came tag command_in answers session line next
+      → GoesOn session next line
+  goes-by session next line goes (First chain none found tag_is is) =
+      let over = not-over session goes none in
+      subst (λ (s : State). GoesOn session s line) (sym is) (record {
+        goes = record {
+          node = goes.node;
+          logged = λ on. refl;
+          tagged = λ other same. ap (λ (c : Chain). c.tag) (sym (some-same chain other same)) ∙ tag_is;
+        };
+        behind = λ texts run came.
+            came-first session (record session { log = Some chain }) run line texts over refl over
+            (first-goes-on line chain found) came;
+      })
+  goes-by session next line goes (Last chain there over ends is) =
+      subst (λ (s : State). GoesOn session s line) (sym is) (record {
+        goes = record { node = goes.node; logged = λ on. ap is_some there; tagged = goes.tagged };
+        behind = λ texts run came.
+            came-last session (record session { is_over = true }) run line texts over refl refl ends came;
+      })
+  goes-by session next line goes (More chain longer there over ends tag_is is) =
+      subst (λ (s : State). GoesOn session s line) (sym is) (record {
+        goes = record {
+          node = goes.node;
+          logged = λ on. refl;
+          tagged = λ other same.
+              ap (λ (c : Chain). c.tag) (sym (some-same longer other same)) ∙ tag_is ∙ goes.tagged chain there;
+        };
+        behind = λ texts run came.
+            came-first session (record session { log = Some longer }) run line texts over refl over ends came;
+      })
+  goes-by session next line goes (Command chain command left text there over spells did is) =
+      let done = step chain.log session.node command left text goes.node did in
+      subst (λ (s : State). GoesOn session s line) (sym is) (record {
+        goes = record { node = done.0; logged = goes.logged; tagged = goes.tagged };
+        behind = λ texts run came.
+            came-command session (record session { node = left }) run line texts command over over refl spells
+            (done.1
+            ∙ ap (λ (l : Option Chain). (does (calls_of l) (kept_at session.node) command).left) (sym there)) came;
+      })
