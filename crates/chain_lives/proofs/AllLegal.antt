@@ -1,43 +1,37 @@
 -- The events of a chain with its nodes are legal: each run finds what the events before it say of its node.
-use Rattle.std.proofs.Common.{◌≡◌, ◌≢◌, ◌⊎◌, ℕ, ◌^◌, ◌<◌, ◌-◌, ◌==◌, Bool, true, false, if◌then◌else◌, List, [], ◌∷◌, ◌++◌, length, Option, Some, None, is_some, refl, sym, ap, ◌∙◌, subst, inl, inr}
-use Rattle.std.specs.Prelude.{option_map}
+use Rattle.std.proofs.Common.{◌≡◌, ◌≢◌, ℕ, ◌==◌, Bool, if◌then◌else◌, List, [], ◌∷◌, ◌++◌, Option, Some, None, refl, sym, ap, ◌∙◌, subst, inl, inr}
 use Rattle.std.proofs.lemmas.Bool.{cases_eq, eq-eqb, ne_eqb}
 use Rattle.crash_disk.specs.Disk.{History, FaultPlan}
 use Rattle.plasma_tx.specs.declared.owner.Owner.{Owner}
 use Rattle.plasma_tx.specs.declared.call.RootCall.{RootCall}
-use Rattle.plasma_tx.specs.Chain.{Chain}
-use Rattle.plasma_tx.specs.Views.{blocks}
-use Rattle.plasma_tx.specs.Shown.{Rules, tests_by, rules_of}
+use Rattle.plasma_tx.specs.Shown.{Rules, tests_by}
 use Rattle.node_rules.specs.declared.identity.WalletIdentity.{WalletIdentity}
-use Rattle.node_rules.specs.WalletRecords.{identity_in, identity_text, owner_of}
+use Rattle.node_rules.specs.WalletRecords.{identity_in, owner_of}
 use Rattle.node_rules.specs.Wallet.{WalletRecords, who}
-use Rattle.node_rules.specs.Watcher.{who_is as watcher_is}
 use Rattle.node_replies.specs.Roles.{Role, Wallet, Watcher, Operator}
 use Rattle.node_lives.specs.Calls.{Begun, Asked, ToBegin, Call}
 use Rattle.node_lives.specs.Lives.{IsLife}
 use Rattle.node_lives.specs.Standing.{identity_alone}
 use Rattle.node_lives.specs.Laws.{begun_of, Begins as BeginsNode}
-use Rattle.world_rules.specs.Events.{Event, Joins, log_of, wallet_owner}
-use Rattle.world_rules.proofs.Said.{Said, said, nothing_said, said-none, said-other}
+use Rattle.world_rules.specs.Events.{Event, Joins, log_of}
+use Rattle.world_rules.proofs.Said.{said, nothing_said, said-none, said-other}
 use Rattle.world_laws.specs.Legal.{left_by, LegalDeclaration, IsLegal}
 use Rattle.world_laws.proofs.LeftRuns.{left-plain}
-use Rattle.chain_lives.specs.Steps.{Deed, Visit, Act, Begins, Runs, Rests, Enters, Does, Found, chain_of, is_found, left_by as records_by, answered_events, run_events, act_events, found_by, none_found, events_behind}
-use Rattle.chain_lives.specs.Acts.{with_outcome, wallet_deed, watcher_deed, begun_by, visit_of, act_of, acts_of}
-use Rattle.chain_lives.specs.Chains.{Steps, calls_by, IsNode, AreNodes, MayDo, IsHanded, KeepsTo, IsChain}
+use Rattle.chain_lives.specs.Steps.{Act, Begins, Runs, Rests, Enters, Does, Found, chain_of, act_events, found_by, none_found, events_behind}
+use Rattle.chain_lives.specs.Acts.{begun_by, act_of, acts_of}
+use Rattle.chain_lives.specs.Chains.{Steps, calls_by, IsNode, MayDo, KeepsTo, IsChain}
 use Rattle.chain_lives.specs.Keeping.{ChainsAreLegal}
-use Rattle.chain_lives.proofs.Log.{IsQuiet, IsQuietVisit, IsQuietAct, line_quiet, order_quiet, quiet_step, by_call, behind}
-use Rattle.chain_lives.proofs.Entered.{late_same, entries_are_legal}
+use Rattle.chain_lives.proofs.Log.{IsQuietAct, quiet_step, by_call, behind}
+use Rattle.chain_lives.proofs.Entered.{entries_are_legal}
 use Rattle.chain_lives.proofs.Begun.{beginnings_are_legal}
 use Rattle.chain_lives.proofs.Sayings.{said-apart, left-apart}
-use Rattle.chain_lives.proofs.WalletDeeds.{TellsWallet, wallet-aside, wallet-joined, wallet-follows}
-use Rattle.chain_lives.proofs.WatcherDeeds.{TellsWatcher, watcher-aside, watcher-follows}
-use Rattle.chain_lives.proofs.Visiting.{IsWalletAt, IsWatcherAt, Comes}
+use Rattle.chain_lives.proofs.WalletDeeds.{TellsWallet, wallet-aside, wallet-joined}
+use Rattle.chain_lives.proofs.WatcherDeeds.{TellsWatcher, watcher-aside}
 use Rattle.chain_lives.proofs.Disks.{notes_alone}
-use Rattle.chain_lives.proofs.SessionDisks.{FoundBehind}
 use Rattle.chain_lives.proofs.NodeLives.{BegunAs, FindsWith, MayFind, IsAct, Rested, WalletRan, WatcherRan, Life, first-act, begun-only, life-goes-on}
 use Rattle.chain_lives.proofs.Running.{RanTo}
 use Rattle.chain_lives.proofs.NodeRuns.{wallet-ran, watcher-ran}
-use Rattle.chain_lives.proofs.Beginning.{Tells, HasBegun, has-begun}
+use Rattle.chain_lives.proofs.Beginning.{Tells, has-begun}
 use Rattle.chain_lives.proofs.Asides.{run-same}
 
 module _ {D : Type 0} (told : D → Option History) (plan : D → Option FaultPlan) (faults : D → ℕ)

@@ -1,29 +1,19 @@
 -- Where the answered lines of a run leave its node: where the commands among them do, one after another, behind the log
 -- that it was handed.
-use Rattle.std.proofs.Common.{◌≡◌, ◌≤◌, ◌<◌, ◌^◌, ℕ, ◌+◌, ◌||◌, ◌&&◌, not, nat_lt, Bool, true, false, if◌then◌else◌, List, [], ◌∷◌, ◌++◌, length, map, take, Option, Some, None, is_some, Result, Ok, Err, refl, sym, ap, ◌∙◌, subst, arith, bytes_eq}
+use Rattle.std.proofs.Common.{◌≡◌, ℕ, Bool, true, false, if◌then◌else◌, List, [], ◌∷◌, Option, Some, None, is_some, Result, Ok, Err, refl, sym, ap, ◌∙◌, subst, bytes_eq}
 use Rattle.std.specs.Prelude.{codes, option_map}
 use Rattle.std.specs.List.{filter_map, cons_option}
-use Rattle.std.proofs.lemmas.List.{append-nil}
-use Rattle.std.proofs.lemmas.Bool.{ltb-false}
 use Rattle.std.proofs.lemmas.Slice.Eq.{bytes_eq-Decides}
-use Rattle.std.proofs.Math.Seq.{take-append_seam}
 use Rattle.plasma_tx.specs.declared.call.RootCall.{RootCall}
 use Rattle.plasma_tx.specs.Chain.{Chain, with_log}
 use Rattle.line_forms.specs.Forms.{value_in}
-use Rattle.root_log.specs.Grammar.{chain_in, appended, call_in}
+use Rattle.root_log.specs.Grammar.{chain_in, call_in}
 use Rattle.root_log.specs.EndOfLog.{is_end_of_log}
-use Rattle.streamed_lines.specs.declared.TheConstants.{MOST_LINES}
-use Rattle.streamed_lines.specs.declared.ending.Ending.{Ending}
-use Rattle.streamed_lines.specs.declared.ending.Ending.TheVariants.{ReadFault, TooLong}
-use Rattle.streamed_lines.specs.declared.ending.Stop.{Stop}
 use Rattle.streamed_lines.specs.declared.ending.Stop.TheVariants.{Ends}
-use Rattle.streamed_lines.specs.Lines.{lines_in, is_whole, text_of, is_too_long}
-use Rattle.streamed_lines.specs.Streams.{Rules, Stream, Streamed, no_lines, next_number, with_answer, stream_or, goes_on, line_stream, stream_from, stream_of}
-use Rattle.streamed_lines.specs.Reading.{RunsTo}
 use Rattle.node_rules.specs.Wallet.{WalletRecords}
 use Rattle.node_roles.specs.Notes.{NotesAt}
 use Rattle.node_roles.specs.Nodes.{NodeAt}
-use Rattle.node_sessions.specs.Sessions.{SessionState, OrStop, begun, calls_of, other_chain, first_log, longer_log, joins, done, leaves, command_line, log_line, line_of, next_line, session_rules}
+use Rattle.node_sessions.specs.Sessions.{SessionState, calls_of, other_chain, first_log, longer_log, joins, done, leaves, command_line, log_line, line_of, next_line}
 use Rattle.node_lives.specs.Answered.{kept_at}
 use Rattle.chain_lives.specs.Steps.{Deed, left_by}
 use Rattle.chain_lives.specs.Acts.{deeds_of, behind_log}

@@ -1,5 +1,5 @@
 -- What events say of a node that was just begun is what its records are: its identity alone.
-use Rattle.std.proofs.Common.{◌≡◌, ℕ, Bool, true, false, if◌then◌else◌, List, [], ◌∷◌, ◌++◌, Option, Some, None, is_some, refl, sym, ap, ◌∙◌, subst}
+use Rattle.std.proofs.Common.{◌≡◌, ℕ, Bool, true, false, if◌then◌else◌, List, [], ◌∷◌, ◌++◌, Option, Some, None, refl, sym, ap, ◌∙◌, subst}
 use Rattle.std.proofs.lemmas.Bool.{eq-eqb, false≢true}
 use Rattle.std.proofs.lemmas.List.Elements.{All-nil}
 use Rattle.plasma_tx.specs.declared.call.RootCall.{RootCall}
@@ -20,9 +20,8 @@ use Rattle.world_rules.specs.Events.{Event, Declares, log_of}
 use Rattle.world_rules.proofs.Said.{Said, said, nothing_said, told, said-own}
 use Rattle.world_rules.proofs.KeptWallet.{KeptWallet}
 use Rattle.world_rules.proofs.KeptWatcher.{KeptWatcher}
-use Rattle.world_rules.proofs.NewNodes.{new_wallet, new-wallet-kept, new-watcher-kept}
+use Rattle.world_rules.proofs.NewNodes.{new-wallet-kept, new-watcher-kept}
 use Rattle.world_laws.specs.Legal.{left_by, is_left}
-use Rattle.world_laws.proofs.GuardsShown.{AreShown}
 use Rattle.world_laws.proofs.AcceptsShown.{accepted_in}
 use Rattle.world_laws.proofs.LeftRuns.{left-plain}
 use Rattle.chain_lives.specs.Steps.{act_events}

@@ -1,6 +1,6 @@
 -- What the images of a node's disks keep that a crash may leave, and no more: what is asked of their records holds from
 -- one call to the next.
-use Rattle.std.proofs.Common.{◌≡◌, ◌⊎◌, ℕ, Bool, true, List, [], ◌∷◌, ◌++◌, Option, Some, None, Result, Ok, Err, refl, sym, ap, ◌∙◌, subst, inl, inr}
+use Rattle.std.proofs.Common.{◌≡◌, ℕ, true, List, [], Option, Some, Ok, sym, ap, ◌∙◌, subst, inl, inr}
 use Rattle.crash_disk.specs.Disk.{History, content, MayLeave, FaultPlan}
 use Rattle.crash_disk.specs.Calls.{WhereTold}
 use Rattle.crash_disk.proofs.Left.{content_may_be_left}
@@ -14,22 +14,21 @@ use Rattle.leaf_journal.specs.Records.{leaf_records_of, leaf_records_read_of, le
 use Rattle.node_rules.specs.Wallet.{WalletRecords}
 use Rattle.node_rules.specs.WalletRecords.{wallet_kinds, is_body}
 use Rattle.node_rules.specs.WalletOpening.{leaves_of}
-use Rattle.node_rules.proofs.WalletGrow.{AreWallet, wallet-parts}
-use Rattle.wallet_node.specs.State.{WalletState, notes_part, leaves_part}
+use Rattle.node_rules.proofs.WalletGrow.{wallet-parts}
+use Rattle.wallet_node.specs.State.{WalletState}
 use Rattle.wallet_node.specs.Opening.{OpensWallet, RefusesWallet}
 use Rattle.node_replies.specs.Roles.{Role, Wallet, Watcher, Operator}
 use Rattle.run_endings.specs.declared.status.Status.{Status}
-use Rattle.run_endings.specs.declared.status.Status.TheVariants.{Done}
 use Rattle.node_runs.specs.Sessions.{Outside}
 use Rattle.node_lives.specs.Disks.{Pair, BothLie, BothTell}
-use Rattle.node_lives.specs.Calls.{Begun, Asked, ToBegin, ToRun, DoesAsked}
-use Rattle.node_lives.specs.Standing.{KeepWallet, WalletStays, Stand, kinds_of}
+use Rattle.node_lives.specs.Calls.{Asked, ToRun, DoesAsked}
+use Rattle.node_lives.specs.Standing.{KeepWallet, Stand, kinds_of}
 use Rattle.node_lives.proofs.Quiet.{Quietly, quiet-same}
 use Rattle.node_lives.proofs.Taken.{AllRecorded}
 use Rattle.node_lives.proofs.Stays.{keeps-same}
 use Rattle.node_lives.proofs.Roles.{ok-of, role-recorded, role-read, none-other, none-signer}
 use Rattle.node_lives.proofs.Opens.{tells-some, refused-quiet, opened-quiet}
-use Rattle.node_lives.proofs.Foreign.{QuietBoth, asked-quiet}
+use Rattle.node_lives.proofs.Foreign.{asked-quiet}
 use Rattle.node_lives.proofs.Life.{lies-no-more}
 
 -- the images keep records of which this holds

@@ -1,7 +1,6 @@
 -- A node's calls of the program, as acts: which they are, and which records its next run may find.
-use Rattle.std.proofs.Common.{◌≡◌, ◌⊎◌, ℕ, Bool, true, List, [], ◌∷◌, ◌++◌, Option, Some, None, is_some, refl, sym, ap, ◌∙◌, subst, inl, inr}
+use Rattle.std.proofs.Common.{◌≡◌, ◌⊎◌, ℕ, List, [], ◌∷◌, ◌++◌, Option, Some, None, refl, sym, ap, subst, inl, inr}
 use Rattle.std.specs.Prelude.{option_map}
-use Rattle.std.specs.List.{All}
 use Rattle.std.proofs.lemmas.List.Elements.{All-head}
 use Rattle.crash_disk.specs.Disk.{History, FaultPlan}
 use Rattle.node_journal.specs.Parts.{alone, both}
@@ -16,7 +15,7 @@ use Rattle.node_roles.specs.Notes.{NotesAt}
 use Rattle.node_roles.specs.Nodes.{NodeAt}
 use Rattle.node_roles.specs.Roles.{watcher_commands, wallet_commands, wallet_parts}
 use Rattle.run_endings.specs.declared.status.Status.{Status}
-use Rattle.run_endings.specs.declared.status.Status.TheVariants.{Done, NoMemory}
+use Rattle.run_endings.specs.declared.status.Status.TheVariants.{Done}
 use Rattle.node_runs.specs.Sessions.{Outside}
 use Rattle.node_runs.specs.Runs.{RunsWatcher, RunsWallet}
 use Rattle.node_lives.specs.Disks.{Pair, BothTell}
@@ -27,7 +26,7 @@ use Rattle.node_lives.specs.Answered.{Lines, lines_answered}
 use Rattle.node_lives.specs.Laws.{begun_of, Begins as BeginsNode, FindsTheNode}
 use Rattle.node_lives.proofs.Begun.{answered-ok, ok-holds}
 use Rattle.node_lives.proofs.Life.{begun_nodes_stay}
-use Rattle.chain_lives.specs.Steps.{Deed, Visit, Act, Begins, Runs, Rests, left_by}
+use Rattle.chain_lives.specs.Steps.{Act, Begins, Runs, Rests, left_by}
 use Rattle.chain_lives.specs.Acts.{wallet_deed, watcher_deed, next_in, log_in, visit_of, begun_by, ran_or, wallet_visit, watcher_visit, act_by, act_of}
 use Rattle.chain_lives.proofs.Visiting.{IsWalletAt, IsWatcherAt, wallet-step, watcher-step, Comes, session-came}
 use Rattle.chain_lives.proofs.Disks.{notes_alone, BothOnly, NotesOnly, Only, only-weaker, only-lies, notes-quiet, none-opened, foreign-only, wallet-found, wallet-refused, watcher-found}

@@ -1,6 +1,6 @@
 -- A run of a node whose records are what events say: its events are legal behind them, and what its next run finds is
 -- what they say then.
-use Rattle.std.proofs.Common.{◌≡◌, ◌⊎◌, ℕ, ◌^◌, ◌<◌, ◌+◌, ◌++◌, Bool, true, false, ltb, if◌then◌else◌, List, [], ◌∷◌, length, map, take, Option, Some, None, is_some, refl, sym, ap, ◌∙◌, subst, inl, inr, arith, length-append}
+use Rattle.std.proofs.Common.{◌≡◌, ◌⊎◌, ℕ, ◌^◌, ◌<◌, ◌+◌, Bool, true, false, if◌then◌else◌, List, [], ◌∷◌, length, Option, Some, None, refl, sym, ap, ◌∙◌, subst, inl, inr, arith, length-append}
 use Rattle.std.specs.Prelude.{option_map, nat_lt}
 use Rattle.std.specs.Option.{option_map_or}
 use Rattle.std.specs.List.{AllByRecursion, filter_map, cons_option}
@@ -14,16 +14,15 @@ use Rattle.node_replies.specs.Orders.{with_record}
 use Rattle.node_answers.specs.Answers.{Outcome}
 use Rattle.node_roles.specs.Notes.{NotesAt}
 use Rattle.node_roles.specs.Nodes.{NodeAt}
-use Rattle.node_sessions.specs.Sessions.{calls_of, commanded}
-use Rattle.streamed_lines.specs.Lines.{lines_in, text_of}
+use Rattle.node_sessions.specs.Sessions.{calls_of}
 use Rattle.streamed_lines.specs.Reading.{next_text}
 use Rattle.node_runs.specs.Sessions.{Outside}
 use Rattle.node_lives.specs.Answered.{Lines}
 use Rattle.world_rules.specs.Events.{Event, log_of}
 use Rattle.world_rules.specs.Steps.{without_offers}
 use Rattle.world_laws.specs.Legal.{IsLegal}
-use Rattle.chain_lives.specs.Steps.{Deed, Visit, left_by, answered_events, is_found, late_events, run_events}
-use Rattle.chain_lives.specs.Acts.{with_outcome, deeds_of, behind_log, commands_in, next_in, log_in, ended_log, written_in, visit_of}
+use Rattle.chain_lives.specs.Steps.{Deed, Visit, left_by, answered_events, is_found, run_events}
+use Rattle.chain_lives.specs.Acts.{with_outcome, deeds_of, commands_in, next_in, log_in, ended_log, visit_of}
 use Rattle.chain_lives.proofs.Log.{IsQuiet}
 use Rattle.chain_lives.proofs.Following.{Follows, Behind, answered-behind, late-behind}
 use Rattle.chain_lives.proofs.Visiting.{Comes}

@@ -1,10 +1,9 @@
 -- What the event of a node's command says of that node, and of others.
-use Rattle.std.proofs.Common.{◌≡◌, ◌≢◌, ℕ, ◌==◌, true, false, List, ◌∷◌, Option, Some, None, refl, sym, ap, ◌∙◌}
+use Rattle.std.proofs.Common.{◌≡◌, ◌≢◌, ℕ, ◌==◌, true, false, List, ◌∷◌, Some, refl, sym, ap, ◌∙◌}
 use Rattle.std.proofs.lemmas.Bool.{eq-eqb, ne_eqb}
-use Rattle.plasma_tx.specs.declared.call.RootCall.{RootCall}
 use Rattle.world_rules.specs.Events.{Event, Declares, Joins, Bounces, Accepts, Guards, Releases, Binds, TakesBack, Watches, Leaves, Seals, Other, Idle, node_in}
 use Rattle.world_rules.specs.Steps.{without_offers}
-use Rattle.world_rules.proofs.Said.{said, told, is_said_of, said-own, said-other, cut-told}
+use Rattle.world_rules.proofs.Said.{said, told, said-own, said-other, cut-told}
 use Rattle.world_laws.specs.Legal.{left_by}
 use Rattle.world_laws.proofs.Lists.{some_same}
 use Rattle.world_laws.proofs.LeftRuns.{left-other}

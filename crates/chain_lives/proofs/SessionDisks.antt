@@ -1,10 +1,9 @@
 -- What the disks of a node keep behind its run: what its answered commands left, or with what the next one adds, which it
 -- may have begun.
-use Rattle.std.proofs.Common.{◌≡◌, ◌⊎◌, ℕ, Bool, true, List, [], ◌∷◌, ◌++◌, Option, Some, None, is_some, refl, sym, ap, ◌∙◌, subst, inl, inr}
+use Rattle.std.proofs.Common.{◌≡◌, ◌⊎◌, ℕ, Bool, List, [], ◌∷◌, ◌++◌, Option, Some, None, refl, sym, ap, ◌∙◌, subst, inl, inr}
 use Rattle.std.specs.Prelude.{option_map}
-use Rattle.crash_disk.specs.Disk.{History, MayLeave, FaultPlan}
+use Rattle.crash_disk.specs.Disk.{History, FaultPlan}
 use Rattle.plasma_tx.specs.declared.call.RootCall.{RootCall}
-use Rattle.gate_journal.specs.Journal.{Keeps as KeepsRecords}
 use Rattle.node_journal.specs.Notes.{NotesState}
 use Rattle.node_journal.specs.Parts.{Parts, alone, both, OfLeaves}
 use Rattle.node_rules.specs.Wallet.{WalletRecords}
@@ -32,8 +31,8 @@ use Rattle.node_lives.proofs.Own.{noted, records_with}
 use Rattle.node_lives.proofs.Stays.{fault-images}
 use Rattle.chain_lives.specs.Steps.{Deed}
 use Rattle.chain_lives.specs.Acts.{with_outcome, wallet_deed, watcher_deed, next_in, log_in}
-use Rattle.chain_lives.proofs.Visiting.{IsWalletAt, IsWatcherAt, wallet-left, watcher-left}
-use Rattle.chain_lives.proofs.Disks.{Keep, KeepNotes, notes_alone, BothOnly, NotesOnly}
+use Rattle.chain_lives.proofs.Visiting.{IsWalletAt, IsWatcherAt, wallet-left}
+use Rattle.chain_lives.proofs.Disks.{notes_alone, BothOnly, NotesOnly}
 
 -- the records are these, or with what a command adds that was begun
 abbrev pub FoundBehind : WalletRecords → Option Deed → WalletRecords → Type 0

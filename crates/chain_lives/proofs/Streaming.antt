@@ -1,7 +1,6 @@
 -- Where the session of an input leaves its node: where the commands of its answered lines do.
-use Rattle.std.proofs.Common.{◌≡◌, ◌≤◌, ◌<◌, ◌^◌, ℕ, ◌+◌, ◌||◌, ◌&&◌, not, Bool, true, false, ltb, if◌then◌else◌, List, [], ◌∷◌, ◌++◌, length, map, take, Option, Some, None, is_some, Result, Ok, Err, refl, sym, ap, ◌∙◌, subst, arith}
+use Rattle.std.proofs.Common.{◌≡◌, ◌≤◌, ℕ, ◌+◌, ◌||◌, ◌&&◌, not, Bool, true, false, ltb, if◌then◌else◌, List, [], ◌∷◌, ◌++◌, length, map, take, Option, Result, Ok, Err, refl, sym, ap, ◌∙◌, subst, arith}
 use Rattle.std.proofs.lemmas.Bool.Decides.{nat_tests}
-use Rattle.std.proofs.lemmas.List.{append-nil}
 use Rattle.std.proofs.Math.Seq.{take-append_seam}
 use Rattle.plasma_tx.specs.declared.call.RootCall.{RootCall}
 use Rattle.streamed_lines.specs.declared.TheConstants.{MOST_LINES}
@@ -17,7 +16,7 @@ use Rattle.node_roles.specs.Nodes.{NodeAt}
 use Rattle.node_sessions.specs.Sessions.{SessionState, begun, next_line, session_rules}
 use Rattle.node_lives.specs.Answered.{kept_at}
 use Rattle.chain_lives.specs.Steps.{Deed}
-use Rattle.chain_lives.proofs.Answering.{line-came, Behind, Goes, GoesOn, came-none, goes-by}
+use Rattle.chain_lives.proofs.Answering.{line-came, Behind, Goes, came-none, goes-by}
 
 or-left : (a b : Bool) → (a || b) ≡ false → a ≡ false
 or-left true b is = absurd (cc is)

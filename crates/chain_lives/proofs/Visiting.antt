@@ -1,5 +1,5 @@
 -- The session of a run, as the commands that it answered: where they leave the node, and what its log is.
-use Rattle.std.proofs.Common.{◌≡◌, ◌≤◌, ◌<◌, ◌^◌, ℕ, Bool, true, false, if◌then◌else◌, List, [], ◌∷◌, map, take, Option, Some, None, is_some, Result, Ok, Err, refl, sym, ap, ◌∙◌, subst, arith, inl, inr}
+use Rattle.std.proofs.Common.{◌≡◌, ◌≤◌, ◌<◌, ◌^◌, ℕ, true, false, List, [], Option, Some, None, is_some, Ok, refl, sym, ap, ◌∙◌, subst, arith, inl, inr}
 use Rattle.std.specs.Prelude.{option_map}
 use Rattle.std.specs.List.{filter_map}
 use Rattle.crash_disk.specs.Disk.{History, FaultPlan}
@@ -9,18 +9,16 @@ use Rattle.plasma_tx.specs.Views.{blocks}
 use Rattle.node_journal.specs.Notes.{NotesState}
 use Rattle.node_journal.specs.Parts.{Parts}
 use Rattle.streamed_lines.specs.declared.TheConstants.{MOST_LINES}
-use Rattle.streamed_lines.specs.Lines.{lines_in, text_of}
-use Rattle.streamed_lines.specs.Streams.{Stream, stream_of}
+use Rattle.streamed_lines.specs.Streams.{Stream}
 use Rattle.streamed_lines.specs.Reading.{RunsTo}
 use Rattle.node_rules.specs.Wallet.{WalletRecords}
-use Rattle.node_rules.specs.WalletRecords.{who_is as wallet_is}
 use Rattle.node_lines.specs.declared.wallet_line.WalletLine.{WalletLine}
 use Rattle.node_replies.specs.declared.order.WatcherOrder.{WatcherOrder}
 use Rattle.node_answers.specs.Answers.{Outcome, watcher_outcome}
 use Rattle.node_deeds.proofs.WatcherOrderLaws.{orders_add_no_leaf}
 use Rattle.node_roles.specs.Notes.{NotesAt, with_note}
 use Rattle.node_roles.specs.Parts.{with_effect}
-use Rattle.node_roles.specs.Nodes.{NodeAt, keeping, records_at, Commands, left_with, outcome_at, node_does}
+use Rattle.node_roles.specs.Nodes.{NodeAt, keeping, records_at, Commands, outcome_at, node_does}
 use Rattle.node_roles.specs.Roles.{wallet_records, watcher_commands, wallet_commands}
 use Rattle.node_sessions.specs.Sessions.{SessionState, begun, calls_of, session_rules}
 use Rattle.run_endings.specs.declared.status.Status.{Status}
@@ -30,8 +28,7 @@ use Rattle.node_lives.specs.Answered.{Lines, kept_at, lines_answered}
 use Rattle.node_lives.proofs.Own.{with-added, left-is}
 use Rattle.node_lives.proofs.Sessions.{session-holds, run-holds}
 use Rattle.chain_lives.specs.Steps.{Deed, left_by}
-use Rattle.chain_lives.specs.Acts.{with_outcome, wallet_deed, watcher_deed, deeds_of, behind_log, commands_in, log_in, ended_log}
-use Rattle.chain_lives.proofs.Answering.{Behind, left_with as records_behind}
+use Rattle.chain_lives.specs.Acts.{with_outcome, wallet_deed, watcher_deed, deeds_of, commands_in, log_in}
 use Rattle.chain_lives.proofs.Streaming.{Finally, session-comes, run-comes}
 
 -- ---- one command

@@ -1,5 +1,5 @@
 -- What a wallet's command is, where events say what its records are: a legal event; and with it they say so still.
-use Rattle.std.proofs.Common.{◌≡◌, ℕ, ◌^◌, ◌<◌, Bool, true, false, List, [], ◌∷◌, ◌++◌, Option, Some, None, Ok, Err, refl, sym, ap, ◌∙◌, subst}
+use Rattle.std.proofs.Common.{◌≡◌, ℕ, ◌^◌, ◌<◌, true, List, [], ◌∷◌, Option, Some, None, refl, sym, ap, ◌∙◌, subst}
 use Rattle.std.proofs.lemmas.Bool.{false≢true}
 use Rattle.std.specs.Prelude.{IfSome}
 use Rattle.line_forms.specs.Tokens.{optional_number}
@@ -24,7 +24,7 @@ use Rattle.world_rules.specs.World.{Wallet}
 use Rattle.world_rules.specs.OrderEvents.{event_of}
 use Rattle.world_rules.specs.Steps.{without_offers}
 use Rattle.world_rules.proofs.OrderEnds.{OrderEnds, Others, Accepting, Binding, Leaving, TakingBack, Watching, Guarding, Releasing, GuardWatching, Sealing, IsOrderAt, each-answer, order-ends}
-use Rattle.world_rules.proofs.Said.{Said, said, told, cut-told}
+use Rattle.world_rules.proofs.Said.{Said, said, told}
 use Rattle.world_rules.proofs.KeptWallet.{KeptWallet, wallet-longer}
 use Rattle.world_rules.proofs.KeptNode.{IsFitOrder}
 use Rattle.world_rules.proofs.WalletAccepts.{accepts-kept}

@@ -1,8 +1,7 @@
 -- What a watcher's order is, where events say what its records are: a legal event; and with it they say so still.
-use Rattle.std.proofs.Common.{◌≡◌, ℕ, ◌^◌, ◌<◌, Bool, true, false, List, [], ◌∷◌, ◌++◌, Option, Some, None, Ok, Err, refl, sym, ap, ◌∙◌, subst}
+use Rattle.std.proofs.Common.{◌≡◌, ℕ, true, List, [], ◌∷◌, Option, Some, None, refl, sym, ap, ◌∙◌, subst}
 use Rattle.std.proofs.lemmas.Bool.{false≢true}
 use Rattle.node_journal.specs.Role.{Kinds, are_of}
-use Rattle.plasma_tx.specs.declared.owner.Owner.{Owner}
 use Rattle.plasma_tx.specs.declared.call.RootCall.{RootCall}
 use Rattle.plasma_tx.specs.Shown.{Rules, tests_by}
 use Rattle.node_rules.specs.Watcher.{watcher_kinds, who_is, guards_in, watch_answer}
@@ -24,9 +23,8 @@ use Rattle.world_laws.specs.Legal.{IsLegalEvent, LegalWatch}
 use Rattle.world_laws.proofs.GuardsShown.{AreShown, guard-shown, release-shown}
 use Rattle.world_laws.proofs.LegalWatches.{watch-by}
 use Rattle.world_laws.proofs.LegalEvents.{legal-guarded}
-use Rattle.chain_lives.specs.Steps.{Deed}
 use Rattle.chain_lives.specs.Acts.{watcher_deed}
-use Rattle.chain_lives.proofs.Log.{order_quiet, quiet_step, without_quiet}
+use Rattle.chain_lives.proofs.Log.{order_quiet}
 use Rattle.chain_lives.proofs.Sayings.{said-near, said-cut}
 use Rattle.chain_lives.proofs.Following.{Follows}
 

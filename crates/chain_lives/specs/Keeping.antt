@@ -7,7 +7,7 @@ use Rattle.plasma_tx.specs.declared.call.RootCall.{RootCall}
 use Rattle.plasma_tx.specs.Shown.{Rules, tests_by}
 use Rattle.plasma_tx.specs.Table.{answer_to, is_accepted}
 use Rattle.node_replies.specs.Orders.{exit_block}
-use Rattle.world_rules.specs.Events.{Event, coin_of_call, log_of, offers_of}
+use Rattle.world_rules.specs.Events.{Event, coin_of_call, offers_of}
 use Rattle.world_rules.specs.Exhibits.{collides, is_forged}
 use Rattle.world_rules.specs.Safety.{holds, is_safe}
 use Rattle.world_laws.specs.Headline.{lacks_bond, starter, IsTaken}
