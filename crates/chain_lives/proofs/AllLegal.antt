@@ -247,7 +247,8 @@ module _ {D : Type 0} (told : D → Option History) (plan : D → Option FaultPl
           found_is = λ r is.
               begun-alone call.asked (begun_of node.role begins.identity) begins.identity r begins.asked
               (finds-alone (identity_in begins.identity) call.asked (MayFind told plan faults dig m []) r
-              (subst (λ (act : Act). FindsWith act call.asked (MayFind told plan faults dig m []) r) act_is (fits r is)));
+              (subst (λ (act : Act). FindsWith act call.asked (MayFind told plan faults dig m []) r) act_is
+              (fits r is)));
           tells = begun.tells;
         };
       })
@@ -257,7 +258,8 @@ module _ {D : Type 0} (told : D → Option History) (plan : D → Option FaultPl
   some-is : (m : ℕ) (one other : WalletRecords) (rest : Option WalletRecords)
       → (if m == m then Some one else rest) ≡ Some other → other ≡ one
   some-is m one other rest is =
-      (let same : Some one ≡ Some other = ap (λ (b : Bool). if b then Some one else rest) (sym (eq-eqb m m refl)) ∙ is in
+      (let same : Some one ≡ Some other =
+      ap (λ (b : Bool). if b then Some one else rest) (sym (eq-eqb m m refl)) ∙ is in
       cc same)
 
   own-is : (m : ℕ) (one : WalletRecords) (rest : Option WalletRecords) → (if m == m then Some one else rest) ≡ Some one
@@ -276,7 +278,8 @@ module _ {D : Type 0} (told : D → Option History) (plan : D → Option FaultPl
 
   act-ran : (role : Role) (tag : List ℕ) (m : ℕ) (before : WalletRecords → Type 0) (asked : Asked) (act : Act)
       (steps : TheSteps) (start : List Event) (found : Found) (records : WalletRecords)
-      → IsAct told plan faults dig role m before act → IsLegal (tests_by dig) rules start → log_of start ≡ chain_of steps
+      → IsAct told plan faults dig role m before act → IsLegal (tests_by dig) rules start
+      → log_of start ≡ chain_of steps
       → ((r : WalletRecords) → found_by m act found m ≡ Some r → r ≡ records) → Tells dig role tag m start records
       → MayDo told plan faults dig rules steps act
       → ((r : WalletRecords) → found m ≡ Some r → FindsWith act asked before r)
@@ -304,7 +307,8 @@ module _ {D : Type 0} (told : D → Option History) (plan : D → Option FaultPl
 
   later-step : (m : ℕ) (call last : TheCall) (calls : List TheCall) (steps : TheSteps) (start : List Event)
       (found : Found) → IsLife told plan faults dig (call ∷ last ∷ calls) → IsLegal (tests_by dig) rules start
-      → log_of start ≡ chain_of steps → Held (found_by m (act_of told plan faults dig m call) found m) start m last calls
+      → log_of start ≡ chain_of steps
+      → Held (found_by m (act_of told plan faults dig m call) found m) start m last calls
       → MayDo told plan faults dig rules steps (act_of told plan faults dig m call)
       → ((r : WalletRecords) → found m ≡ Some r → MayFind told plan faults dig m (call ∷ last ∷ calls) r)
       → OwnStep m call (last ∷ calls) (found m) (act_events m (found m) (act_of told plan faults dig m call) start)
@@ -423,8 +427,8 @@ module _ {D : Type 0} (told : D → Option History) (plan : D → Option FaultPl
         legal = own.legal;
         nodes = λ n. elim (cases_eq m n) [
           | inl same ↦
-              subst (λ (k : ℕ). Holds (found k) (act_events m (found m) act start) k (by_node k (Does m call ∷ steps))) same
-              (subst (Holds (found m) (act_events m (found m) act start) m) (sym all) own.held)
+              subst (λ (k : ℕ). Holds (found k) (act_events m (found m) act start) k (by_node k (Does m call ∷ steps)))
+              same (subst (Holds (found m) (act_events m (found m) act start) m) (sym all) own.held)
           | inr other ↦
               let aside = act-aside m n (found m) act start quiet other in
               subst (Holds (found n) (act_events m (found m) act start) n) (sym (calls-other m n call steps other))
@@ -449,11 +453,11 @@ module _ {D : Type 0} (told : D → Option History) (plan : D → Option FaultPl
       record {
         legal = (entries_are_legal told plan faults dig rules steps found call chain.keeps.0, rest.legal);
         nodes = λ n.
-            holds-more (found n) events (Joins call ∷ events) n (by_node n steps) (said-other (Joins call) events n refl)
-            refl
+            holds-more (found n) events (Joins call ∷ events) n (by_node n steps)
+            (said-other (Joins call) events n refl) refl
             (λ role tag records tells.
-            tells-joined role tag n events (Joins call ∷ events) records call refl (said-other (Joins call) events n refl)
-            refl tells)
+            tells-joined role tag n events (Joins call ∷ events) records call refl
+            (said-other (Joins call) events n refl) refl tells)
             (rest.nodes n);
       }
   holds (Does m call ∷ steps) chain found fits =

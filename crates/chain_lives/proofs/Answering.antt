@@ -178,7 +178,8 @@ module _ {L : Type 0} (tag : List ℕ) (command_in : List ℕ → Option L)
         node = came.node;
         kept =
             came.kept
-            ∙ ap (λ (at : NodeAt NotesAt). left_with (calls_of run.log) (kept_at at) (texts_behind next.is_over texts)) node
+            ∙ ap (λ (at : NodeAt NotesAt).
+            left_with (calls_of run.log) (kept_at at) (texts_behind next.is_over texts)) node
             ∙ ap (left_with (calls_of run.log) (kept_at session.node)) texts_are;
         same = λ wrong. absurd (cc (over, wrong));
         none = λ off. sym texts_are ∙ came.none off;

@@ -48,8 +48,8 @@ pub record KeepNotes (P : WalletRecords → Type 0) (image : List ℕ) : Type 0 
   pub is : P (notes_alone kept)
 
 module _ {D : Type 0} (told : D → Option History) where
-  -- Each image that a crash now may leave of the notes keeps records of which this holds; of a wallet each two images of
-  -- both disks do. Of an operator nothing is asked.
+  -- Each image that a crash now may leave of the notes keeps records of which this holds; of a wallet each two images
+  -- of both disks do. Of an operator nothing is asked.
   abbrev pub BothOnly : (WalletRecords → Type 0) → D → D → Type 0
   BothOnly P notes leaves =
       WhereTold (told notes) (λ n. WhereTold (told leaves)
@@ -243,10 +243,11 @@ module _ {D : Type 0} (told : D → Option History) (plan : D → Option FaultPl
     refused-quiet told plan (leaf_records_in_of is_body (leaves_of opened.records)) leaves new_leaves why
         refuses.refused,
   )
-  refused-both notes leaves new_notes new_leaves why (inr (opened, opens, (same, inr (behind, opening, one, unbound)))) = (
-    opened-quiet told plan faults _ notes opened new_notes opens same,
-    opened-quiet told plan faults _ leaves behind new_leaves opening one,
-  )
+  refused-both notes leaves new_notes new_leaves why
+      (inr (opened, opens, (same, inr (behind, opening, one, unbound)))) = (
+        opened-quiet told plan faults _ notes opened new_notes opens same,
+        opened-quiet told plan faults _ leaves behind new_leaves opening one,
+      )
 
   pub wallet-refused : (P : WalletRecords → Type 0) (old new : Pair D) → BothTell told old → (why : JournalRefusal)
       → RefusesWallet told plan faults dig old.notes old.leaves why new.notes new.leaves

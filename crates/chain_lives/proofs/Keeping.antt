@@ -51,6 +51,7 @@ module _ {D : Type 0} (told : D → Option History) (plan : D → Option FaultPl
 
   pub lives_starts_are_taken : LivesStartsAreTaken told plan faults dig rules
   lives_starts_are_taken steps w account call chain offered starts held =
-      subst (λ (log : List RootCall). IsTaken log account call (answer_to (tests_by dig) rules log call)) (log-same steps)
+      subst (λ (log : List RootCall). IsTaken log account call (answer_to (tests_by dig) rules log call))
+      (log-same steps)
       (starts_are_taken dig rules (happened told plan faults dig rules steps) w account call
       (chains_are_legal told plan faults dig rules steps chain) offered starts held)

@@ -95,7 +95,8 @@ module _ {D : Type 0} (told : D → Option History) (plan : D → Option FaultPl
     -- a wallet's run
     wallet-acts : Stand dig told Wallet first old → Only told Wallet before old
         → (did : RunsWallet told plan faults dig old.notes old.leaves new.notes new.leaves outside (Unit {0}) status)
-        → Acts Wallet n before (ToRun Wallet) new (ran_or (wallet_visit told plan faults dig n old new outside status did))
+        → Acts Wallet n before (ToRun Wallet) new
+        (ran_or (wallet_visit told plan faults dig n old new outside status did))
     unfolding RunsWallet wallet_visit
     wallet-acts stand only (inl (opened, opens, session)) =
         let came = session-came told plan faults dig wallet_commands (wallet_parts opened)
@@ -110,8 +111,8 @@ module _ {D : Type 0} (told : D → Option History) (plan : D → Option FaultPl
               subst (λ (left : WalletRecords). BothOnly told
               (FoundBehind left (option_map (wallet_deed n dig (log_in lines) left) (next_in wallet_line_in lines)))
               new.notes new.leaves) came.kept
-              (wallet-session told plan faults dig n (wallet_parts opened) new.notes new.leaves outside (Unit {0}) status
-              session came.node);
+              (wallet-session told plan faults dig n (wallet_parts opened) new.notes new.leaves outside (Unit {0})
+              status session came.node);
         }
     wallet-acts stand only (inr (why, refuses, refused)) =
         record { is = Rested; only = wallet-refused told plan faults dig before old new tells why refuses only }
@@ -166,7 +167,8 @@ module _ {D : Type 0} (told : D → Option History) (plan : D → Option FaultPl
     -- any call but a first one
     abbrev ActsAs : Role → (asked : Asked)
         → DoesAsked told plan faults dig asked old new outside status ⊎ Starves old new status → Type 0
-    ActsAs role asked did = Acts role n before asked new (act_by told plan faults dig n asked old new outside status did)
+    ActsAs role asked did =
+        Acts role n before asked new (act_by told plan faults dig n asked old new outside status did)
 
     foreign : (role : Role) → Stand dig told role first old → Only told role before old → (asked : Asked)
         → (asked ≡ ToRun role → ⊥) → (did : DoesAsked told plan faults dig asked old new outside status)
@@ -315,7 +317,8 @@ module _ {D : Type 0} (told : D → Option History) (plan : D → Option FaultPl
       (subst (IsLife told plan faults dig) all (tells, lie, behind)) life.begins) in
       let acts = asked-acts n (MayFind n (last ∷ calls)) (identity_alone life.begins.identity) call.old call.new
       call.outside call.status tells role finds.handed
-      (only-lies told plan faults dig role (MayFind n (last ∷ calls)) last.new call.old lie life.only) call.asked finds.begins call.did in
+      (only-lies told plan faults dig role (MayFind n (last ∷ calls)) last.new call.old lie life.only) call.asked
+      finds.begins call.did in
       record {
         life = record {
           later = call ∷ life.later;

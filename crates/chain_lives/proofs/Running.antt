@@ -188,8 +188,8 @@ module _ (dig : List ℕ → List ℕ) (rules : Rules) (n : ℕ) {L : Type 0} (c
         where
           Late : Bool → Option L → Type 0
           Late b option = RanTo dig rules Tells (Some r) (if b then option_map_or
-              (λ (deed : Deed). without_offers n deed.event ∷ after) (option_map (does (log_in lines) left) option) after
-              else after)
+              (λ (deed : Deed). without_offers n deed.event ∷ after) (option_map (does (log_in lines) left) option)
+              after else after)
 
           none-late : (option : Option L) → r ≡ left → Late false option
           none-late option same = record {

@@ -1,5 +1,5 @@
--- What the disks of a node keep behind its run: what its answered commands left, or with what the next one adds, which it
--- may have begun.
+-- What the disks of a node keep behind its run: what its answered commands left, or with what the next one adds, which
+-- it may have begun.
 use Rattle.std.proofs.Common.{◌≡◌, ◌⊎◌, ℕ, Bool, List, [], ◌∷◌, ◌++◌, Option, Some, None, refl, sym, ap, ◌∙◌, subst, inl, inr}
 use Rattle.std.specs.Prelude.{option_map}
 use Rattle.crash_disk.specs.Disk.{History, FaultPlan}

@@ -84,8 +84,8 @@ module _ {L : Type 0} (tag : List ℕ) (command_in : List ℕ → Option L)
       → line_stream rules ended start stream line ≡ Ok next → OneLine stream next line
   unfolding line_stream
   line-one ended start stream next line is =
-      tested start stream next line (is_too_long (next_number stream) start line) (not ended && not (is_whole line)) refl
-      is
+      tested start stream next line (is_too_long (next_number stream) start line) (not ended && not (is_whole line))
+      refl is
 
   lines-none : (stream : Stream State) (lines : List (List ℕ)) → IsOn stream.run → stream.count ≤ MOST_LINES
       → Streams stream lines stream

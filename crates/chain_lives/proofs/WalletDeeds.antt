@@ -45,8 +45,8 @@ use Rattle.chain_lives.proofs.Following.{Follows}
 
 -- ---- what events say of a wallet
 
--- What events say of wallet n, whose chain has this tag, is what its records are; bundles that it accepted show what they
--- accept; and what it left with is noted.
+-- What events say of wallet n, whose chain has this tag, is what its records are; bundles that it accepted show what
+-- they accept; and what it left with is noted.
 pub record TellsWallet (dig : List ℕ → List ℕ) (tag : List ℕ) (n : ℕ) (events : List Event) (wallet : WalletRecords)
     : Type 0 where
   pub kept : KeptWallet dig (said events n) (log_of events) wallet

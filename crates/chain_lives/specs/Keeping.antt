@@ -32,9 +32,9 @@ module _ {D : Type 0} (told : D → Option History) (plan : D → Option FaultPl
   ChainsAreLegal = (steps : Steps told plan faults dig rules) → Chained steps
       → IsLegal (tests_by dig) rules (happened steps)
 
-  -- A coin that a wallet holds is safe at each event of a chain with its nodes, where it was looked after before: unless
-  -- the events up to it show, at this coin, two byte strings with one digest, or a signature that is valid under the
-  -- wallet's key and that the wallet never made.
+  -- A coin that a wallet holds is safe at each event of a chain with its nodes, where it was looked after before:
+  -- unless the events up to it show, at this coin, two byte strings with one digest, or a signature that is valid under
+  -- the wallet's key and that the wallet never made.
   abbrev pub LivesKeepTheirCoins : Type 0
   LivesKeepTheirCoins = (steps : Steps told plan faults dig rules) (later events : List Event) (event : Event)
       (w c e : ℕ) → Chained steps → happened steps ≡ later ++ event ∷ events

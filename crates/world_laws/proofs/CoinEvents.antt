@@ -36,16 +36,16 @@ module _ (dig : List ℕ → List ℕ) (events : List Event) (world : World) (be
       → OrderEnds dig world.chain.log n node order event calls → P event
   coin-ends n node at order event calls role fit (Accepting bytes taken made) =
       legal-accepted dig (rules_of world.chain) events world.chain.log behind.log n (wallet_of node)
-      ((kept.nodes n node at).wallet role) (own-tag events world behind.keeps n node at role) (left.each n node at role).left
-      (few-blocks dig events world kept) bytes taken made
+      ((kept.nodes n node at).wallet role) (own-tag events world behind.keeps n node at role)
+      (left.each n node at role).left (few-blocks dig events world kept) bytes taken made
   coin-ends n node at order event calls role fit (Binding coin to last sent made) =
       legal-bound dig (rules_of world.chain) events world.chain.log behind.log n (wallet_of node)
-      ((kept.nodes n node at).wallet role) (own-tag events world behind.keeps n node at role) (left.each n node at role).left
-      (few-blocks dig events world kept) coin to last sent fit.0 fit.1.is fit.2 made
+      ((kept.nodes n node at).wallet role) (own-tag events world behind.keeps n node at role)
+      (left.each n node at role).left (few-blocks dig events world kept) coin to last sent fit.0 fit.1.is fit.2 made
   coin-ends n node at order event calls role fit (TakingBack bytes taken made) =
       legal-reclaimed dig (rules_of world.chain) events world.chain.log behind.log n (wallet_of node)
-      ((kept.nodes n node at).wallet role) (own-tag events world behind.keeps n node at role) (left.each n node at role).left
-      (few-blocks dig events world kept) bytes taken made
+      ((kept.nodes n node at).wallet role) (own-tag events world behind.keeps n node at role)
+      (left.each n node at role).left (few-blocks dig events world kept) bytes taken made
   coin-ends n node at order event calls role fit ends = tt
 
   deed-coins : (command : Command) (n : ℕ) (node : Node) (deed : Deed) → IsFit command

@@ -1,4 +1,4 @@
--- What a wallet's accepts, sends and reclaims are: each is legal after the events behind its world.
+-- What a wallet's accepts, sends and reclaims are: each is legal after the events that say what its records are.
 use Rattle.std.proofs.Common.{◌≡◌, ℕ, zero, suc, ◌^◌, ◌<◌, ◌≤◌, ◌==◌, ◌&&◌, ◌||◌, not, nat_lt, Bool, true, false, if◌then◌else◌, List, [], ◌∷◌, ◌++◌, length, map, Option, Some, None, Ok, Err, inl, inr, refl, sym, ap, ◌∙◌, subst, slice_get}
 use Rattle.std.specs.Prelude.{Result, IfSome, reverse, unwrap_or}
 use Rattle.std.specs.List.{list_any}
@@ -141,7 +141,8 @@ held-unsent log (Some me) bodies bundles c e is =
 
 -- ---- a wallet's node
 
--- what is known of a wallet by its records, behind events: these say what the records are, and what it left with is noted
+-- What is known of a wallet by its records, behind events: these say what the records are, and what it left with is
+-- noted.
 module _ (dig : List ℕ → List ℕ) (rules : Rules) (events : List Event) (log : List RootCall)
     (log_is : log ≡ log_of events) (n : ℕ) (wallet : WalletRecords) (own : KeptWallet dig (said events n) log wallet)
     (tag_is : (who wallet).tag ≡ rules.tag)
