@@ -1,0 +1,11 @@
+use Rattle.world_acts.proofs.Acting.{acts_keep_the_rules, effects_are_of_acts, steps_are_of_acts}
+use Rattle.world_acts.proofs.laws.acts_are_steps.Goals as goal
+
+pub returns-clause-rules : goal.returns-clause-rules
+returns-clause-rules c = acts_keep_the_rules
+
+pub returns-clause-effect : goal.returns-clause-effect
+returns-clause-effect c = effects_are_of_acts
+
+pub returns-clause-step : goal.returns-clause-step
+returns-clause-step c = steps_are_of_acts
