@@ -1,1 +1,4 @@
-pub mod Acting
+pub mod Lookups
+pub mod Rules
+pub mod Known
+pub mod Effects

@@ -1,5 +1,5 @@
 -- The step of a line is what its act does.
-use Rattle.std.specs.Prelude.{◌≡◌, ℕ, List, Option, Some, is_some, option_map}
+use Rattle.std.specs.Prelude.{◌≡◌, ℕ, List, Some, is_some, option_map}
 use Rattle.schedule_text.specs.declared.line.Line.{Line}
 use Rattle.world_rules.specs.World.{World}
 use Rattle.world_rules.specs.Declarations.{keeps_rules}

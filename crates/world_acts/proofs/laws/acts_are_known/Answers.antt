@@ -1,4 +1,4 @@
-use Rattle.world_acts.proofs.Acting.{acts_are_known}
+use Rattle.world_acts.proofs.Known.{acts_are_known}
 use Rattle.world_acts.proofs.laws.acts_are_known.Goals as goal
 
 pub returns : goal.returns

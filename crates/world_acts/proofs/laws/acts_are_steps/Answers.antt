@@ -1,4 +1,5 @@
-use Rattle.world_acts.proofs.Acting.{acts_keep_the_rules, effects_are_of_acts, steps_are_of_acts}
+use Rattle.world_acts.proofs.Effects.{effects_are_of_acts, steps_are_of_acts}
+use Rattle.world_acts.proofs.Rules.{acts_keep_the_rules}
 use Rattle.world_acts.proofs.laws.acts_are_steps.Goals as goal
 
 pub returns-clause-rules : goal.returns-clause-rules

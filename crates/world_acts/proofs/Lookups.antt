@@ -1,0 +1,166 @@
+-- What the act of a line shows of the names, places and tokens in it.
+use Rattle.std.proofs.Common.{◌≡◌, ℕ, ◌&&◌, Bool, true, false, List, Option, Some, None, is_some, refl, sym, ap, ◌∙◌, subst}
+use Rattle.std.specs.Prelude.{slice_get, option_map, option_and_then, nat_lt}
+use Rattle.std.specs.Option.{option_or}
+use Rattle.std.proofs.lemmas.Bool.{and_parts}
+use Rattle.std.proofs.lemmas.List.Folds.{find_at}
+use Rattle.line_forms.specs.declared.tokens.HexOrName.{HexOrName}
+use Rattle.line_forms.proofs.FormLaws.{and_then_some, option_map_some}
+use Rattle.lms_sign.specs.Types.{leaf_count}
+use Rattle.plasma_tx.specs.declared.owner.Owner.{Owner}
+use Rattle.plasma_tx.proofs.Names.{some_same}
+use Rattle.schedule_text.specs.declared.line.Line.{Line}
+use Rattle.schedule_text.specs.declared.command.Command.{Command}
+use Rattle.schedule_text.specs.declared.command.WalletCommand.{WalletCommand}
+use Rattle.schedule_text.specs.Grammar.{node_of}
+use Rattle.node_replies.specs.declared.order.WalletOrder.{WalletOrder}
+use Rattle.node_replies.specs.declared.order.NodeOrder.{NodeOrder}
+use Rattle.world_rules.specs.World.{Role, Wallet, Watcher, Operator, Node, Rogue, World, is_named, is_wallet_role, number_of, rogue_named, owner_of_node, owner_of_rogue, owner_named, new_owner_of}
+use Rattle.world_rules.specs.Declarations.{plays, is_declared, is_sendable, has_declared_names}
+use Rattle.world_rules.specs.Orders.{wallet_order, order_of}
+use Rattle.world_rules.specs.Steps.{cut, signed_body}
+use Rattle.world_rules.proofs.Existence.{position-is, position-parts}
+use Rattle.world_acts.specs.Acts.{Place, Cut, Act, Signs, only_where, place_at, place_named, signer_named, given, command_act, act_of}
+use Rattle.world_acts.specs.Evidence.{IsThere}
+
+-- ---- options
+
+pub where-some : {A : Type 0} (b : Bool) (found : Option A) (x : A) → only_where b found ≡ Some x
+    → (b ≡ true) × (found ≡ Some x)
+where-some true found x is = (refl, is)
+where-some false found x is = absurd (cc is)
+
+pub is_some-where : {A : Type 0} (b : Bool) (found : Option A) → is_some (only_where b found) ≡ (b && is_some found)
+is_some-where true found = refl
+is_some-where false found = refl
+
+pub is_some-rule : {A : Type 0} (b : Bool) (x : A) → is_some (only_where b (Some x)) ≡ b
+is_some-rule true x = refl
+is_some-rule false x = refl
+
+pub is_some-map : {A B : Type 0} (f : A → B) (o : Option A) → is_some (option_map f o) ≡ is_some o
+is_some-map f None = refl
+is_some-map f (Some x) = refl
+
+module _ (world : World) where
+  -- ---- names
+
+  -- the node there has the name, and a role that passes
+  pub record IsFound (may : Role → Bool) (name : List ℕ) (place : Place) : Type 0 where
+    pub number : number_of may world name ≡ Some place.number
+    pub there : IsThere world place
+    pub role : may place.node.role ≡ true
+
+  -- a number that is found is that of a place
+  placed : (may : Role → Bool) (name : List ℕ) (n : ℕ) → number_of may world name ≡ Some n
+      → (place : Place) × (place_named may world name ≡ Some place) × IsFound may name place
+  placed may name n number =
+      let at = position-is (is_named may name) world.nodes n number in
+      let place : Place = record { number = n; node = at.0 } in (
+        place,
+        ap (option_and_then (place_at world)) number
+            ∙ ap (option_map (λ (node : Node). let found : Place = record { number = n; node = node } in found)) at.1,
+        record { number = number; there = at.1; role = (and_parts _ (may at.0.role) at.2).1 },
+      )
+
+  pub found : (may : Role → Bool) (name : List ℕ) (place : Place) → place_named may world name ≡ Some place
+      → IsFound may name place
+  found may name place is =
+      let number = and_then_some (place_at world) (number_of may world name) place is in
+      let at = placed may name number.0 number.1 in
+      subst (IsFound may name) (some_same at.0 place (sym at.1 ∙ is)) at.2
+
+  -- a wallet's name stands for the owner there
+  pub owner-is : (name : List ℕ) (place : Place) → IsFound is_wallet_role name place
+      → owner_named world name ≡ Some (owner_of_node place.node)
+  owner-is name place at =
+      let named = is_named is_wallet_role name in
+      ap (λ (o : Option Node). option_or (option_map owner_of_node o) (option_map owner_of_rogue (rogue_named world name)))
+      (find_at named world.nodes
+      ∙ ap (slice_get world.nodes) (position-parts named world.nodes place.number at.number).0 ∙ at.there)
+
+  -- a name is declared where it has a place
+  pub is_some-named : (may : Role → Bool) (name : List ℕ)
+      → is_some (place_named may world name) ≡ is_declared may world name
+  is_some-named may name = by (number_of may world name) refl
+    where
+      by : (o : Option ℕ) → number_of may world name ≡ o
+          → is_some (place_named may world name) ≡ is_declared may world name
+      by None none = ap (λ o. is_some (option_and_then (place_at world) o)) none ∙ sym (ap is_some none)
+      by (Some n) some = ap is_some (placed may name n some).1 ∙ sym (ap is_some some)
+
+  -- ---- orders
+
+  is_some-wallet : (own : WalletCommand) → is_some (wallet_order world own) ≡ is_sendable world own
+  is_some-wallet (WalletCommand.Send coin to last) =
+      is_some-map (λ (owner : Owner). WalletOrder.Send coin owner last) (new_owner_of world to)
+  is_some-wallet own = refl
+
+  -- a node with the role has an order exactly where what the command names is declared
+  pub is_some-order : (role : Role) (command : Command) → plays command role ≡ true
+      → is_some (order_of world role command) ≡ has_declared_names world command
+  unfolding order_of
+  is_some-order role (Command.Wallet name own) may =
+      is_some-map NodeOrder.Wallet (wallet_order world own) ∙ is_some-wallet own
+  is_some-order Wallet (Command.Watch name) may = refl
+  is_some-order Watcher (Command.Watch name) may = refl
+  is_some-order Operator (Command.Watch name) may = absurd (cc may)
+  is_some-order role command may = refl
+
+  -- what a command's act shows: its place, and its order there
+  pub record IsUnderstood (cut : Option Cut) (command : Command) (act : Act) : Type 0 where
+    pub place : Place
+    pub at : IsFound (plays command) (node_of command) place
+    pub order : NodeOrder
+    pub order_is : order_of world place.node.role command ≡ Some order
+    pub act_is : given cut place order ≡ act
+
+  pub understood : (cut : Option Cut) (command : Command) (act : Act) → command_act world cut command ≡ Some act
+      → IsUnderstood cut command act
+  understood cut command act is =
+      let place = and_then_some
+      (λ (place : Place). option_map (given cut place) (order_of world place.node.role command))
+      (place_named (plays command) world (node_of command)) act is in
+      let order = option_map_some (given cut place.0) (order_of world place.0.node.role command) act place.2 in
+      record {
+        place = place.0;
+        at = found (plays command) (node_of command) place.0 place.1;
+        order = order.0;
+        order_is = order.1;
+        act_is = order.2;
+      }
+
+  -- what the act of a line that signs shows
+  pub record IsSigned (rogue : List ℕ) (leaf coin parent : ℕ) (to : HexOrName) (last : Option ℕ) (act : Act)
+      : Type 0 where
+    pub signer : Rogue
+    pub signer_is : rogue_named world rogue ≡ Some signer
+    pub leaf_is : nat_lt leaf (leaf_count signer.secret.types) ≡ true
+    pub owner : Owner
+    pub owner_is : new_owner_of world to ≡ Some owner
+    pub act_is : Signs leaf (signed_body world coin parent last owner) signer ≡ act
+
+  pub signed : (rogue : List ℕ) (leaf coin parent : ℕ) (to : HexOrName) (last : Option ℕ) (act : Act)
+      → act_of world (Line.Sign rogue leaf coin parent to last) ≡ Some act → IsSigned rogue leaf coin parent to last act
+  unfolding act_of
+  signed rogue leaf coin parent to last act is =
+      let signer = and_then_some
+      (λ (signer : Rogue). option_map
+      (λ (owner : Owner). Signs leaf (signed_body world coin parent last owner) signer) (new_owner_of world to))
+      (signer_named world rogue leaf) act is in
+      let one = and_then_some
+      (λ (one : Rogue). only_where (nat_lt leaf (leaf_count one.secret.types)) (Some one)) (rogue_named world rogue)
+      signer.0 signer.1 in
+      let held = where-some (nat_lt leaf (leaf_count one.0.secret.types)) (Some one.0) signer.0 one.2 in
+      let same : one.0 ≡ signer.0 = some_same one.0 signer.0 held.1 in
+      let owner = option_map_some
+      (λ (owner : Owner). Signs leaf (signed_body world coin parent last owner) signer.0) (new_owner_of world to) act
+      signer.2 in
+      record {
+        signer = signer.0;
+        signer_is = one.1 ∙ ap Some same;
+        leaf_is = subst (λ (r : Rogue). nat_lt leaf (leaf_count r.secret.types) ≡ true) same held.0;
+        owner = owner.0;
+        owner_is = owner.1;
+        act_is = owner.2;
+      }
