@@ -12,6 +12,7 @@ use Rattle.plasma_tx.proofs.Names.{some_same}
 use Rattle.schedule_text.specs.declared.line.Line.{Line}
 use Rattle.schedule_text.specs.declared.command.Command.{Command}
 use Rattle.schedule_text.specs.Grammar.{node_of}
+use Rattle.node_rules.specs.declared.identity.WalletIdentity.{WalletIdentity}
 use Rattle.node_replies.specs.declared.reply.Reply.{Reply}
 use Rattle.node_replies.specs.declared.order.NodeOrder.{NodeOrder}
 use Rattle.world_rules.specs.World.{Role, Wallet, Watcher, Operator, Node, World, is_wallet_role, any_role, rogue_named, owner_of_node, call_of}
@@ -21,7 +22,7 @@ use Rattle.world_rules.specs.Deeds.{Deed, as_deed, adds_record, deed_of}
 use Rattle.world_rules.specs.Steps.{LineEffect, called, raw_called, deposit_by, offer_numbered, entered, is_opening, answers_down, commanded, down, crashed, outcome_of, finished, cut, act_at, act_on, command_effect, cut_effect, signed_by, signed_body, effect_in, effect_of, with_mail, step}
 use Rattle.world_acts.specs.Acts.{Place, NewWallet, NewWatcher, NewRogue, Deposits, Raw, Offered, Cut, Act, Rests, Adds, Enters, Orders, Crashes, place_named, opens, is_down_for, given, command_act, offer_act, act_of, Crashed, Kept, Lost, needs_more, end_of, ended, deed_at, done}
 use Rattle.world_acts.specs.Laws.{EffectsAreOfActs, StepsAreOfActs}
-use Rattle.world_acts.proofs.Lookups.{where-some, IsFound, found, owner-is, understood, signed}
+use Rattle.world_acts.proofs.Lookups.{where-some, ruled, IsFound, found, owner-is, understood, signed}
 use Rattle.world_acts.proofs.Rules.{rule}
 
 module _ (world : World) where
@@ -66,7 +67,8 @@ module _ (world : World) where
           (opening node.role command order order_is)
           ∙ ap (λ (o : Option NodeOrder). if is_down_for order node then Some (down world)
           else option_map end
-          (option_map (λ (one : NodeOrder). as_deed place.number one (node_does dig world.chain.log node one)) o)) order_is
+          (option_map (λ (one : NodeOrder). as_deed place.number one (node_does dig world.chain.log node one)) o))
+          order_is
 
       command-done : command_effect dig world command place.number node ≡ Some (done dig world (given None place order))
       unfolding done
@@ -140,14 +142,14 @@ module _ (world : World) where
     unfolding act_of effect_in done
     effect (Line.Chain tag operator most) act is = absurd (cc is)
     effect (Line.Wallet name account seed types) act is =
-        ap (option_map (done dig world))
-        (where-some (keeps_rules_in world (Line.Wallet name account seed types)) (Some (Adds name (NewWallet (declared_wallet world account seed types)))) act is).1
+        let who : WalletIdentity = declared_wallet world account seed types in
+        ap Gives
+        (ruled (keeps_rules_in world (Line.Wallet name account seed types)) (Adds name (NewWallet who)) act is).1
     effect (Line.Watcher name account) act is =
-        ap (option_map (done dig world))
-        (where-some (keeps_rules_in world (Line.Watcher name account)) (Some (Adds name (NewWatcher account))) act is).1
+        ap Gives (ruled (keeps_rules_in world (Line.Watcher name account)) (Adds name (NewWatcher account)) act is).1
     effect (Line.Rogue name account seed types) act is =
-        ap (option_map (done dig world))
-        (where-some (keeps_rules_in world (Line.Rogue name account seed types)) (Some (Adds name (NewRogue (declared_wallet world account seed types)))) act is).1
+        let who : WalletIdentity = declared_wallet world account seed types in
+        ap Gives (ruled (keeps_rules_in world (Line.Rogue name account seed types)) (Adds name (NewRogue who)) act is).1
     effect (Line.Fund account amount) act is = ap (option_map (done dig world)) is
     effect (Line.Tick time) act is = ap (option_map (done dig world)) is
     effect (Line.Money account) act is = ap (option_map (done dig world)) is
@@ -156,7 +158,8 @@ module _ (world : World) where
         (λ (place : Place). Enters (Deposits place) (deposit_by amount (owner_of_node place.node)))
         (place_named is_wallet_role world wallet) act is in
         let at = found world is_wallet_role wallet place.0 place.1 in
-        ap (option_map (λ (owner : Owner). called dig world (deposit_by amount owner))) (owner-is world wallet place.0 at)
+        ap (option_map (λ (owner : Owner). called dig world (deposit_by amount owner)))
+        (owner-is world wallet place.0 at)
         ∙ ap Gives place.2
     effect (Line.Call account form) act is =
         let may = where-some (not (is_wallet_account world account))
@@ -174,8 +177,9 @@ module _ (world : World) where
         ∙ command-done command one.place one.order one.order_is ∙ ap Gives one.act_is
     effect (Line.Sign rogue leaf coin parent to last) act is =
         let one = signed world rogue leaf coin parent to last act is in
-        ap (option_and_then (λ (owner : Owner). option_map (signed_by world leaf (signed_body world coin parent last owner)) (rogue_named world rogue))) one.owner_is
-        ∙ ap (option_map (signed_by world leaf (signed_body world coin parent last one.owner))) one.signer_is
+        let signs = λ (owner : Owner). signed_by world leaf (signed_body world coin parent last owner) in
+        ap (option_and_then (λ (owner : Owner). option_map (signs owner) (rogue_named world rogue))) one.owner_is
+        ∙ ap (option_map (signs one.owner)) one.signer_is
         ∙ ap Gives one.act_is
     effect (Line.Crash node outcome) act is =
         let place = option_map_some Crashes (place_named any_role world node) act is in

@@ -21,7 +21,7 @@ use Rattle.world_rules.proofs.OrderEnds.{IsOrderAt, order-role}
 use Rattle.world_acts.specs.Acts.{Place, NewWallet, NewWatcher, NewRogue, Deposits, Raw, Offered, Cut, Act, Rests, Adds, Enters, Orders, Crashes, place_named, is_down_for, command_act, offer_act, act_of}
 use Rattle.world_acts.specs.Evidence.{IsThere, has_order, IsActIn}
 use Rattle.world_acts.specs.Laws.{ActsAreKnown}
-use Rattle.world_acts.proofs.Lookups.{where-some, found, IsUnderstood, understood, signed}
+use Rattle.world_acts.proofs.Lookups.{where-some, ruled, found, IsUnderstood, understood, signed}
 
 module _ (world : World) where
   -- ---- what is known
@@ -32,7 +32,8 @@ module _ (world : World) where
   has-order role (NodeOrder.Operator order) at = at
   has-order role NodeOrder.Open at = refl
 
-  command-known : (cut : Option Cut) (command : Command) (act : Act) → IsUnderstood world cut command act → IsActIn world act
+  command-known : (cut : Option Cut) (command : Command) (act : Act) → IsUnderstood world cut command act
+      → IsActIn world act
   command-known cut command act is = subst (IsActIn world) is.act_is (by (is_down_for is.order is.place.node) refl)
     where
       by : (b : Bool) → is_down_for is.order is.place.node ≡ b
@@ -58,20 +59,15 @@ module _ (world : World) where
   known (Line.Chain tag operator most) act is = absurd (cc is)
   known (Line.Wallet name account seed types) act is =
       let who : WalletIdentity = declared_wallet world account seed types in
-      let may = where-some (keeps_rules_in world (Line.Wallet name account seed types)) (Some (Adds name (NewWallet who)))
-      act is in
-      subst (IsActIn world) (some_same (Adds name (NewWallet who)) act may.1)
-      (record { tag = refl; seed = seed; is_seed = refl }, may.0)
+      let may = ruled (keeps_rules_in world (Line.Wallet name account seed types)) (Adds name (NewWallet who)) act is in
+      subst (IsActIn world) may.1 (record { tag = refl; seed = seed; is_seed = refl }, may.0)
   known (Line.Watcher name account) act is =
-      let may = where-some (keeps_rules_in world (Line.Watcher name account)) (Some (Adds name (NewWatcher account)))
-      act is in
-      subst (IsActIn world) (some_same (Adds name (NewWatcher account)) act may.1) may.0
+      let may = ruled (keeps_rules_in world (Line.Watcher name account)) (Adds name (NewWatcher account)) act is in
+      subst (IsActIn world) may.1 may.0
   known (Line.Rogue name account seed types) act is =
       let who : WalletIdentity = declared_wallet world account seed types in
-      let may = where-some (keeps_rules_in world (Line.Rogue name account seed types)) (Some (Adds name (NewRogue who)))
-      act is in
-      subst (IsActIn world) (some_same (Adds name (NewRogue who)) act may.1)
-      (record { tag = refl; seed = seed; is_seed = refl }, may.0)
+      let may = ruled (keeps_rules_in world (Line.Rogue name account seed types)) (Adds name (NewRogue who)) act is in
+      subst (IsActIn world) may.1 (record { tag = refl; seed = seed; is_seed = refl }, may.0)
   known (Line.Fund account amount) act is = subst (IsActIn world) (some_same _ act is) refl
   known (Line.Tick time) act is = subst (IsActIn world) (some_same _ act is) refl
   known (Line.Money account) act is = subst (IsActIn world) (some_same _ act is) tt

@@ -2,3 +2,5 @@ pub mod Lookups
 pub mod Rules
 pub mod Known
 pub mod Effects
+pub mod Nodes
+pub mod Lives

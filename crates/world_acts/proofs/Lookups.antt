@@ -30,6 +30,10 @@ pub where-some : {A : Type 0} (b : Bool) (found : Option A) (x : A) → only_whe
 where-some true found x is = (refl, is)
 where-some false found x is = absurd (cc is)
 
+-- what a rule of declarations lets through
+pub ruled : (b : Bool) (one act : Act) → only_where b (Some one) ≡ Some act → (b ≡ true) × (one ≡ act)
+ruled b one act is = let may = where-some b (Some one) act is in (may.0, some_same one act may.1)
+
 pub is_some-where : {A : Type 0} (b : Bool) (found : Option A) → is_some (only_where b found) ≡ (b && is_some found)
 is_some-where true found = refl
 is_some-where false found = refl
@@ -75,7 +79,8 @@ module _ (world : World) where
       → owner_named world name ≡ Some (owner_of_node place.node)
   owner-is name place at =
       let named = is_named is_wallet_role name in
-      ap (λ (o : Option Node). option_or (option_map owner_of_node o) (option_map owner_of_rogue (rogue_named world name)))
+      ap (λ (o : Option Node). option_or (option_map owner_of_node o)
+      (option_map owner_of_rogue (rogue_named world name)))
       (find_at named world.nodes
       ∙ ap (slice_get world.nodes) (position-parts named world.nodes place.number at.number).0 ∙ at.there)
 

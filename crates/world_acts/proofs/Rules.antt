@@ -54,7 +54,8 @@ module _ (world : World) where
   pub rule : (line : Line) → is_some (act_of world line) ≡ keeps_rules_in world line
   unfolding act_of
   rule (Line.Chain tag operator most) = refl
-  rule (Line.Wallet name account seed types) = is_some-rule (keeps_rules_in world (Line.Wallet name account seed types)) _
+  rule (Line.Wallet name account seed types) =
+      is_some-rule (keeps_rules_in world (Line.Wallet name account seed types)) _
   rule (Line.Watcher name account) = is_some-rule (keeps_rules_in world (Line.Watcher name account)) _
   rule (Line.Rogue name account seed types) =
       is_some-rule (keeps_rules_in world (Line.Rogue name account seed types)) _
@@ -64,7 +65,8 @@ module _ (world : World) where
   rule (Line.Deposit wallet amount) =
       is_some-map _ (place_named is_wallet_role world wallet) ∙ is_some-named world is_wallet_role wallet
   rule (Line.Call account form) =
-      is_some-where (not (is_wallet_account world account)) (option_map (Enters (Raw account)) (call_of world account form))
+      is_some-where (not (is_wallet_account world account))
+      (option_map (Enters (Raw account)) (call_of world account form))
       ∙ ap (λ b. not (is_wallet_account world account) && b)
       (is_some-map (Enters (Raw account)) (call_of world account form))
   rule (Line.Enter node number) =

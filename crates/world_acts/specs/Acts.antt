@@ -1,6 +1,6 @@
 -- What a line of a schedule is, once everything that it names is looked up: an act, or none, where it breaks a rule of
 -- declarations. And what each act does to the world.
-use Rattle.std.specs.Prelude.{ℕ, ◌&&◌, not, Bool, true, false, nat_lt, if◌then◌else◌, List, ◌∷◌, slice_get, Option, Some, None, option_map, option_and_then}
+use Rattle.std.specs.Prelude.{ℕ, ◌&&◌, not, Bool, true, false, nat_lt, if◌then◌else◌, List, [], ◌∷◌, slice_get, Option, Some, None, option_map, option_and_then}
 use Rattle.std.specs.Option.{option_map_or}
 use Rattle.std.specs.Str.{bytes_eq}
 use Rattle.crash_disk.specs.declared.outcome.Outcome.{Outcome}
@@ -15,12 +15,12 @@ use Rattle.schedule_text.specs.Grammar.{node_of}
 use Rattle.node_rules.specs.declared.identity.WalletIdentity.{WalletIdentity}
 use Rattle.node_replies.specs.declared.reply.Reply.{Reply}
 use Rattle.node_replies.specs.declared.order.NodeOrder.{NodeOrder}
-use Rattle.world_rules.specs.Events.{Other, Idle}
+use Rattle.world_rules.specs.Events.{Event, Other, Idle}
 use Rattle.world_rules.specs.World.{Role, Node, Rogue, World, is_wallet_role, any_role, with_node, number_of, rogue_named, owner_of_node, new_owner_of, call_of}
 use Rattle.world_rules.specs.Declarations.{plays, declared_wallet, may_be_wallet, may_be_other, is_wallet_account}
 use Rattle.world_rules.specs.Orders.{order_of, node_does}
 use Rattle.world_rules.specs.Deeds.{Deed, as_deed, adds_record}
-use Rattle.world_rules.specs.Steps.{LineEffect, says, declares_wallet, declares_watcher, declares_rogue, log_in, called, deposit_by, offer_numbered, with_records, after_crash, commanded, crashed, outcome_of, without_offers, finished, signed_by, signed_body}
+use Rattle.world_rules.specs.Steps.{LineEffect, says, declares_wallet, declares_watcher, declares_rogue, log_in, called, deposit_by, offer_numbered, with_records, after_command, after_crash, crashed, outcome_of, without_offers, signed_by, signed_body}
 
 -- ---- what there is to do
 
@@ -151,9 +151,9 @@ added world name (NewWatcher account) = declares_watcher world name account
 added world name (NewRogue who) = declares_rogue world name who
 
 -- a stranger's account is known once its call is entered
-abbrev pub with_caller : World → Origin → World
-with_caller world (Raw account) = record world { raw_callers = account ∷ world.raw_callers }
-with_caller world origin = world
+abbrev pub callers_after : List ℕ → Origin → List ℕ
+callers_after callers (Raw account) = account ∷ callers
+callers_after callers origin = callers
 
 -- How an order ends: it is done, and the node goes on; or it is done, and the node crashes behind it; or it is stopped
 -- where it needs more calls than pass, and its record is kept or lost.
@@ -176,15 +176,38 @@ end_of (Some cut) node order deed =
     then (if not (opens order) && is_added cut.calls cut.outcome then Kept else Lost)
     else Crashed
 
--- an order that ended so; a node that is down offers nothing, and a record that is lost is no event but of its node
+-- it was stopped
+abbrev pub is_stopped : End → Bool
+is_stopped Kept = true
+is_stopped Lost = true
+is_stopped end = false
+
+-- it was in a cut, and ended before the crash
+abbrev pub ends_first : End → Bool
+ends_first Crashed = true
+ends_first end = false
+
+-- the node after an order that ended so
+abbrev pub node_after : Node → Deed → End → Node
+node_after node deed Whole = after_command node deed
+node_after node deed Lost = after_crash node
+node_after node deed end = after_crash (with_records node deed)
+
+-- what it is as an event: a node that is down offers nothing, and a record that is lost tells nothing
+abbrev pub event_after : ℕ → Deed → End → Event
+event_after n deed Whole = deed.gives.event
+event_after n deed Lost = Other n
+event_after n deed end = without_offers n deed.gives.event
+
+-- an order that ended so
 abbrev pub ended : World → Place → Deed → End → LineEffect
-ended world place deed Whole = commanded world place.number place.node deed
-ended world place deed Crashed = finished world place.number place.node deed
-ended world place deed Kept =
-    says Reply.Stopped (without_offers place.number deed.gives.event)
-    (with_node world place.number (after_crash (with_records place.node deed)))
-ended world place deed Lost =
-    says Reply.Stopped (Other place.number) (with_node world place.number (after_crash place.node))
+ended world place deed end = record {
+  done = ends_first end;
+  reply = if is_stopped end then Reply.Stopped else deed.gives.reply;
+  made = if is_stopped end then [] else deed.gives.made;
+  event = event_after place.number deed end;
+  world = with_node world place.number (node_after place.node deed end);
+}
 
 -- what the node there does for an order
 abbrev pub deed_at : (List ℕ → List ℕ) → World → Place → NodeOrder → Deed
@@ -195,7 +218,8 @@ unfoldable pub done : (List ℕ → List ℕ) → World → Act → LineEffect
 done dig world (Rests reply) = says reply Idle world
 done dig world (Signs leaf body rogue) = signed_by world leaf body rogue
 done dig world (Adds name newcomer) = added world name newcomer
-done dig world (Enters origin call) = called dig (with_caller world origin) call
+done dig world (Enters origin call) =
+    called dig (record world { raw_callers = callers_after world.raw_callers origin }) call
 done dig world (Orders place order cut) =
     let deed = deed_at dig world place order in ended world place deed (end_of cut place.node order deed)
 done dig world (Crashes place) = crashed world place.number place.node

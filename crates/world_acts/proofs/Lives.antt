@@ -1,0 +1,80 @@
+-- Induction over the lines of a run, once: each line that it did was an act.
+use Rattle.std.proofs.Common.{◌≡◌, ℕ, List, [], ◌∷◌, Option, Some, None, refl, sym, ◌∙◌, subst}
+use Rattle.std.specs.List.{All}
+use Rattle.std.proofs.lemmas.List.Elements.{All-head, All-tail}
+use Rattle.line_forms.proofs.FormLaws.{and_then_some, option_map_some}
+use Rattle.plasma_tx.proofs.Names.{some_same}
+use Rattle.schedule_text.specs.declared.line.Line.{Line}
+use Rattle.world_rules.specs.World.{World}
+use Rattle.world_rules.specs.Declarations.{keeps_rules}
+use Rattle.world_rules.specs.Steps.{LineEffect, effect_of, with_mail, step, TraceEntry, entry_of, Run, no_lines, with_line, step_run, run_of}
+use Rattle.world_rules.proofs.Runs.{begun}
+use Rattle.world_acts.specs.Acts.{Act, act_of, done}
+use Rattle.world_acts.specs.Evidence.{IsActIn}
+use Rattle.world_acts.proofs.Known.{acts_are_known}
+use Rattle.world_acts.proofs.Effects.{steps_are_of_acts}
+
+-- what is done by an act, with the mail item of its line
+abbrev pub mailed : (List ℕ → List ℕ) → World → Act → LineEffect
+mailed dig world act = with_mail (done dig world act)
+
+-- the run of lines that are all so has come to this world
+pub record HasCome (dig : List ℕ → List ℕ) (IsGood : Line → Type 0) (lines : List Line) (run : Run) (world : World)
+    : Type 0 where
+  pub lines_are : All IsGood lines
+  pub run_is : run_of dig lines ≡ Some run
+  pub world_is : run.world ≡ Some world
+
+module _ (dig : List ℕ → List ℕ) (IsGood : Line → Type 0) (P : List TraceEntry → World → Type 0)
+    (first : (tag operator most : ℕ)
+    → P (entry_of (Line.Chain tag operator most) (begun tag operator most) ∷ []) (begun tag operator most).world)
+    (next : (lines : List Line) (run : Run) (world : World) (line : Line) (act : Act)
+    → HasCome dig IsGood lines run world → IsGood line → act_of world line ≡ Some act → IsActIn world act
+    → P run.entries world → P (entry_of line (mailed dig world act) ∷ run.entries) (mailed dig world act).world) where
+  -- what holds of a run so far: before the first line nothing is there
+  abbrev Holds : List TraceEntry → Option World → Type 0
+  Holds entries None = entries ≡ []
+  Holds entries (Some world) = P entries world
+
+  abbrev After : List TraceEntry → Line → LineEffect → Type 0
+  After entries line effect = P (entry_of line effect ∷ entries) effect.world
+
+  begins : (line : Line) (effect : LineEffect) → step dig None line ≡ Some effect → After [] line effect
+  unfolding step effect_of keeps_rules
+  begins (Line.Chain tag operator most) effect is =
+      subst (After [] (Line.Chain tag operator most)) (some_same (begun tag operator most) effect is)
+      (first tag operator most)
+  begins line effect is = absurd (cc is)
+
+  steps : (lines : List Line) (run : Run) (line : Line) (effect : LineEffect) → All IsGood lines
+      → run_of dig lines ≡ Some run → IsGood line → Holds run.entries run.world → step dig run.world line ≡ Some effect
+      → After run.entries line effect
+  steps lines run line effect all run_is good holds is = by run.world refl holds is
+    where
+      by : (o : Option World) → run.world ≡ o → Holds run.entries o → step dig o line ≡ Some effect
+          → After run.entries line effect
+      by None none empty is = subst (λ es. After es line effect) (sym empty) (begins line effect is)
+      by (Some world) some holds is =
+          let act = option_map_some (mailed dig world) (act_of world line) effect
+          (sym (steps_are_of_acts dig world line) ∙ is) in
+          subst (After run.entries line) act.2
+          (next lines run world line act.0 (record { lines_are = all; run_is = run_is; world_is = some }) good act.1
+          (acts_are_known world line act.0 act.1) holds)
+
+  each : (lines : List Line) (run : Run) → All IsGood lines → run_of dig lines ≡ Some run
+      → Holds run.entries run.world
+  unfolding run_of
+  each [] run all is = subst (λ (r : Run). Holds r.entries r.world) (some_same no_lines run is) refl
+  each (line ∷ lines) run all is =
+      let earlier = and_then_some (step_run dig line) (run_of dig lines) run is in
+      let made = option_map_some (with_line earlier.0 line) (step dig earlier.0.world line) run earlier.2 in
+      let rest = All-tail IsGood line lines all in
+      subst (λ (r : Run). Holds r.entries r.world) made.2
+      (steps lines earlier.0 line made.0 rest earlier.1 (All-head IsGood line lines all)
+      (each lines earlier.0 rest earlier.1) made.1)
+
+  -- it holds of every run that has begun
+  pub runs_keep : (lines : List Line) (run : Run) (world : World) → HasCome dig IsGood lines run world
+      → P run.entries world
+  runs_keep lines run world come =
+      subst (Holds run.entries) come.world_is (each lines run come.lines_are come.run_is)

@@ -1,0 +1,112 @@
+-- What an act does to the nodes, and the one theorem of what holds of each: its own node keeps it, the others stay, and
+-- a new one has it.
+use Rattle.std.proofs.Common.{◌≡◌, ◌≢◌, ℕ, List, [], ◌∷◌, ◌++◌, length, Option, Some, None, inl, inr, refl, sym, subst, le_refl}
+use Rattle.std.specs.Prelude.{set, slice_get}
+use Rattle.std.proofs.lemmas.Bool.{cases_eq}
+use Rattle.std.proofs.lemmas.Option.{slice_get_past}
+use Rattle.node_rules.specs.Watcher.{identity_text as watcher_text}
+use Rattle.node_rules.specs.WalletRecords.{identity_text as wallet_text}
+use Rattle.world_rules.specs.World.{Wallet, Watcher, Node, World}
+use Rattle.world_rules.specs.Steps.{new_node, after_crash}
+use Rattle.world_rules.proofs.Runs.{set-same, set-other, push-same, push-other}
+use Rattle.world_acts.specs.Acts.{Place, NewWallet, NewWatcher, NewRogue, Act, Rests, Signs, Adds, Enters, Orders, Crashes, end_of, node_after, deed_at, done}
+use Rattle.world_acts.specs.Evidence.{IsActIn}
+
+-- ---- what changes
+
+-- no node changes; or the one there becomes this one; or one is new
+pub data Change : Type 0 where
+  NoNode : Change
+  OneNode : Place → Node → Change
+  NewNode : Node → Change
+
+abbrev pub change_of : (List ℕ → List ℕ) → World → Act → Change
+change_of dig world (Adds name (NewWallet who)) = NewNode (new_node Wallet name who.account (wallet_text who))
+change_of dig world (Adds name (NewWatcher account)) =
+    NewNode (new_node Watcher name account (watcher_text (record { tag = world.chain.tag; account = account })))
+change_of dig world (Orders place order cut) =
+    let deed = deed_at dig world place order in
+    OneNode place (node_after place.node deed (end_of cut place.node order deed))
+change_of dig world (Crashes place) = OneNode place (after_crash place.node)
+change_of dig world act = NoNode
+
+abbrev pub changed : Change → List Node → List Node
+changed NoNode nodes = nodes
+changed (OneNode place after) nodes = set nodes place.number after
+changed (NewNode node) nodes = nodes ++ node ∷ []
+
+-- the nodes after an act
+pub nodes-done : (dig : List ℕ → List ℕ) (world : World) (act : Act)
+    → (done dig world act).world.nodes ≡ changed (change_of dig world act) world.nodes
+unfolding done
+nodes-done dig world (Rests reply) = refl
+nodes-done dig world (Signs leaf body rogue) = refl
+nodes-done dig world (Adds name (NewWallet who)) = refl
+nodes-done dig world (Adds name (NewWatcher account)) = refl
+nodes-done dig world (Adds name (NewRogue who)) = refl
+nodes-done dig world (Enters origin call) = refl
+nodes-done dig world (Orders place order cut) = refl
+nodes-done dig world (Crashes place) = refl
+
+-- the node that changes is there
+abbrev pub IsOld : List Node → Change → Type 0
+IsOld nodes (OneNode place after) = slice_get nodes place.number ≡ Some place.node
+IsOld nodes change = Unit {0}
+
+pub is-old : (dig : List ℕ → List ℕ) (world : World) (act : Act) → IsActIn world act
+    → IsOld world.nodes (change_of dig world act)
+is-old dig world (Rests reply) known = tt
+is-old dig world (Signs leaf body rogue) known = tt
+is-old dig world (Adds name (NewWallet who)) known = tt
+is-old dig world (Adds name (NewWatcher account)) known = tt
+is-old dig world (Adds name (NewRogue who)) known = tt
+is-old dig world (Enters origin call) known = tt
+is-old dig world (Orders place order cut) known = known.there
+is-old dig world (Crashes place) known = known
+
+-- ---- what each node keeps
+
+-- what holds of each number, and of the node that has it, where there is one
+abbrev pub EachNode : (ℕ → Option Node → Type 0) → List Node → Type 0
+EachNode P nodes = (n : ℕ) → P n (slice_get nodes n)
+
+-- what held of each node holds of the others still
+abbrev pub OthersStay : (ℕ → Option Node → Type 0) → (ℕ → Option Node → Type 0) → ℕ → Type 0
+OthersStay P Q n = (m : ℕ) (found : Option Node) → n ≢ m → P m found → Q m found
+
+-- a change keeps it
+abbrev pub IsKeptBy : (ℕ → Option Node → Type 0) → (ℕ → Option Node → Type 0) → List Node → Change → Type 0
+IsKeptBy P Q nodes NoNode = (m : ℕ) (found : Option Node) → P m found → Q m found
+IsKeptBy P Q nodes (OneNode place after) =
+    OthersStay P Q place.number × (P place.number (Some place.node) → Q place.number (Some after))
+IsKeptBy P Q nodes (NewNode node) =
+    OthersStay P Q (length nodes) × (P (length nodes) None → Q (length nodes) (Some node))
+
+module _ (P Q : ℕ → Option Node → Type 0) (nodes : List Node) (each : EachNode P nodes) where
+  change-keeps : (change : Change) → IsOld nodes change → IsKeptBy P Q nodes change → EachNode Q (changed change nodes)
+  change-keeps NoNode old keeps n = keeps n (slice_get nodes n) (each n)
+  change-keeps (OneNode place after) old keeps n = elim (cases_eq place.number n) [
+    | inl here ↦
+        subst (λ k. Q k (slice_get (set nodes place.number after) k)) here
+        (subst (Q place.number) (sym (set-same nodes place.number place.node after old))
+        (keeps.1 (subst (P place.number) old (each place.number))))
+    | inr apart ↦
+        subst (Q n) (sym (set-other nodes place.number n after apart)) (keeps.0 n (slice_get nodes n) apart (each n))
+  ]
+  change-keeps (NewNode node) old keeps n = elim (cases_eq (length nodes) n) [
+    | inl here ↦
+        subst (λ k. Q k (slice_get (nodes ++ node ∷ []) k)) here
+        (subst (Q (length nodes)) (sym (push-same nodes node))
+        (keeps.1 (subst (P (length nodes)) (slice_get_past nodes (length nodes) (le_refl (length nodes)))
+        (each (length nodes)))))
+    | inr apart ↦
+        subst (Q n) (sym (push-other nodes node n apart)) (keeps.0 n (slice_get nodes n) apart (each n))
+  ]
+
+-- what holds of each node holds of each after an act that keeps it
+pub each_node_keeps : (P Q : ℕ → Option Node → Type 0) (dig : List ℕ → List ℕ) (world : World) (act : Act)
+    → IsActIn world act → EachNode P world.nodes → IsKeptBy P Q world.nodes (change_of dig world act)
+    → EachNode Q (done dig world act).world.nodes
+each_node_keeps P Q dig world act known each keeps =
+    subst (EachNode Q) (sym (nodes-done dig world act))
+    (change-keeps P Q world.nodes each (change_of dig world act) (is-old dig world act known) keeps)
