@@ -4,3 +4,4 @@ pub mod Known
 pub mod Effects
 pub mod Nodes
 pub mod Lives
+pub mod Offers
