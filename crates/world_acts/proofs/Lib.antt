@@ -1,7 +1,9 @@
 pub mod Lookups
 pub mod Rules
 pub mod Known
+pub mod Fitting
 pub mod Effects
 pub mod Nodes
+pub mod Told
 pub mod Lives
 pub mod Offers

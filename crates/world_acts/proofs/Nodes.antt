@@ -70,37 +70,43 @@ is-old dig world (Crashes place) known = known
 abbrev pub EachNode : (ℕ → Option Node → Type 0) → List Node → Type 0
 EachNode P nodes = (n : ℕ) → P n (slice_get nodes n)
 
--- what held of each node holds of the others still
-abbrev pub OthersStay : (ℕ → Option Node → Type 0) → (ℕ → Option Node → Type 0) → ℕ → Type 0
-OthersStay P Q n = (m : ℕ) (found : Option Node) → n ≢ m → P m found → Q m found
+-- the number isn't that of the node which changes, or is new
+abbrev pub IsOther : List Node → Change → ℕ → Type 0
+IsOther nodes NoNode m = Unit {0}
+IsOther nodes (OneNode place after) m = place.number ≢ m
+IsOther nodes (NewNode node) m = length nodes ≢ m
+
+-- the node which changes has what it had, and a new one has it
+abbrev pub IsKeptOwn : (ℕ → Option Node → Type 0) → (ℕ → Option Node → Type 0) → List Node → Change → Type 0
+IsKeptOwn P Q nodes NoNode = Unit {0}
+IsKeptOwn P Q nodes (OneNode place after) = P place.number (Some place.node) → Q place.number (Some after)
+IsKeptOwn P Q nodes (NewNode node) = P (length nodes) None → Q (length nodes) (Some node)
 
 -- a change keeps it
-abbrev pub IsKeptBy : (ℕ → Option Node → Type 0) → (ℕ → Option Node → Type 0) → List Node → Change → Type 0
-IsKeptBy P Q nodes NoNode = (m : ℕ) (found : Option Node) → P m found → Q m found
-IsKeptBy P Q nodes (OneNode place after) =
-    OthersStay P Q place.number × (P place.number (Some place.node) → Q place.number (Some after))
-IsKeptBy P Q nodes (NewNode node) =
-    OthersStay P Q (length nodes) × (P (length nodes) None → Q (length nodes) (Some node))
+pub record IsKeptBy (P Q : ℕ → Option Node → Type 0) (nodes : List Node) (change : Change) : Type 0 where
+  pub others : (m : ℕ) → IsOther nodes change m → (found : Option Node) → P m found → Q m found
+  pub own : IsKeptOwn P Q nodes change
 
 module _ (P Q : ℕ → Option Node → Type 0) (nodes : List Node) (each : EachNode P nodes) where
   change-keeps : (change : Change) → IsOld nodes change → IsKeptBy P Q nodes change → EachNode Q (changed change nodes)
-  change-keeps NoNode old keeps n = keeps n (slice_get nodes n) (each n)
+  change-keeps NoNode old keeps n = keeps.others n tt (slice_get nodes n) (each n)
   change-keeps (OneNode place after) old keeps n = elim (cases_eq place.number n) [
     | inl here ↦
         subst (λ k. Q k (slice_get (set nodes place.number after) k)) here
         (subst (Q place.number) (sym (set-same nodes place.number place.node after old))
-        (keeps.1 (subst (P place.number) old (each place.number))))
+        (keeps.own (subst (P place.number) old (each place.number))))
     | inr apart ↦
-        subst (Q n) (sym (set-other nodes place.number n after apart)) (keeps.0 n (slice_get nodes n) apart (each n))
+        subst (Q n) (sym (set-other nodes place.number n after apart))
+        (keeps.others n apart (slice_get nodes n) (each n))
   ]
   change-keeps (NewNode node) old keeps n = elim (cases_eq (length nodes) n) [
     | inl here ↦
         subst (λ k. Q k (slice_get (nodes ++ node ∷ []) k)) here
         (subst (Q (length nodes)) (sym (push-same nodes node))
-        (keeps.1 (subst (P (length nodes)) (slice_get_past nodes (length nodes) (le_refl (length nodes)))
+        (keeps.own (subst (P (length nodes)) (slice_get_past nodes (length nodes) (le_refl (length nodes)))
         (each (length nodes)))))
     | inr apart ↦
-        subst (Q n) (sym (push-other nodes node n apart)) (keeps.0 n (slice_get nodes n) apart (each n))
+        subst (Q n) (sym (push-other nodes node n apart)) (keeps.others n apart (slice_get nodes n) (each n))
   ]
 
 -- what holds of each node holds of each after an act that keeps it

@@ -1,0 +1,122 @@
+-- The event of an act is of the node that it changes, so it says nothing of the others.
+use Rattle.std.proofs.Common.{◌≡◌, ◌≢◌, ℕ, ◌==◌, Bool, true, false, if◌then◌else◌, List, [], length, Option, Some, None, refl, sym, ap, ◌∙◌}
+use Rattle.std.specs.Prelude.{slice_get}
+use Rattle.std.specs.Option.{option_map_or}
+use Rattle.std.proofs.lemmas.Bool.{ne_eqb}
+use Rattle.plasma_tx.specs.declared.call.RootCall.{RootCall}
+use Rattle.plasma_tx.specs.Shown.{tests_by, rules_of}
+use Rattle.plasma_tx.specs.Table.{answer_to, is_accepted}
+use Rattle.plasma_tx.proofs.Names.{some_same}
+use Rattle.node_replies.specs.declared.order.NodeOrder.{NodeOrder}
+use Rattle.world_rules.specs.Events.{Event, Declares, Joins, Bounces, Accepts, Guards, Releases, Binds, TakesBack, Watches, Leaves, Seals, node_in, is_command_of}
+use Rattle.world_rules.specs.World.{Node, World, is_operator_role}
+use Rattle.world_rules.specs.Deeds.{Deed}
+use Rattle.world_rules.specs.Steps.{without_offers}
+use Rattle.world_rules.proofs.OrderEnds.{OrderEnds, Sealing, order-ends}
+use Rattle.world_rules.proofs.OwnEvents.{IsBy}
+use Rattle.world_rules.proofs.Said.{is_said_of}
+use Rattle.world_acts.specs.Acts.{Place, NewWallet, NewWatcher, NewRogue, Act, Rests, Signs, Adds, Enters, Orders, Crashes, End, Whole, Crashed, Kept, Lost, end_of, node_after, event_after, deed_at, done}
+use Rattle.world_acts.specs.Evidence.{has_order, MayOrder, IsActIn}
+use Rattle.world_acts.proofs.Nodes.{Change, NoNode, OneNode, NewNode, change_of, IsOther}
+
+-- a cut command is by its node too, which offers nothing then
+cut-by : (n : ℕ) (event : Event) → node_in event ≡ Some n → IsBy n (without_offers n event) []
+cut-by n (Watches m calls) by = record { node = refl; calls_are = refl }
+cut-by n (Leaves m call) by = record { node = refl; calls_are = refl }
+cut-by n (Seals call) by = record { node = refl; calls_are = refl }
+cut-by n event by = record { node = by; calls_are = refl }
+
+-- an event by one node says nothing of another
+said-apart : (event : Event) (n m : ℕ) → node_in event ≡ Some n → n ≢ m → is_said_of m event ≡ false
+said-apart (Declares v me) n m by apart = absurd (cc by)
+said-apart (Accepts v bundle) n m by apart = ne_eqb v m (λ same. apart (sym (some_same v n by) ∙ same))
+said-apart (Guards v bundle) n m by apart = ne_eqb v m (λ same. apart (sym (some_same v n by) ∙ same))
+said-apart (Releases v c e) n m by apart = ne_eqb v m (λ same. apart (sym (some_same v n by) ∙ same))
+said-apart (Binds v body) n m by apart = ne_eqb v m (λ same. apart (sym (some_same v n by) ∙ same))
+said-apart (TakesBack v q bundle) n m by apart = ne_eqb v m (λ same. apart (sym (some_same v n by) ∙ same))
+said-apart event n m by apart = refl
+
+-- the first node alone is the operator
+abbrev pub OperatorIsFirst : World → Type 0
+OperatorIsFirst world = (n : ℕ) (node : Node) → slice_get world.nodes n ≡ Some node
+    → is_operator_role node.role ≡ true → n ≡ 0
+
+-- the number of the node that changes
+abbrev pub number_of : Change → Option ℕ
+number_of (OneNode place after) = Some place.number
+number_of change = None
+
+module _ (dig : List ℕ → List ℕ) (world : World) (first : OperatorIsFirst world) where
+  module _ (place : Place) (order : NodeOrder) (may : MayOrder world place order) where
+    abbrev deed : Deed
+    deed = deed_at dig world place order
+
+    -- an order's event is by its node, and offers what the node offers then
+    pub by-order : IsBy place.number deed.gives.event deed.gives.offers
+    by-order = by order may.role (order-ends dig world.chain.log place.number place.node order)
+      where
+        by : (one : NodeOrder) → has_order one place.node.role ≡ true → {event : Event} → {calls : List RootCall}
+            → OrderEnds dig world.chain.log place.number place.node one event calls → IsBy place.number event calls
+        by one role Sealing =
+            record { node = ap Some (sym (first place.number place.node may.there role)); calls_are = refl }
+        by one role ends = record { node = refl; calls_are = refl }
+
+    -- however it ends
+    pub by-end : (end : End)
+        → IsBy place.number (event_after place.number deed end) (node_after place.node deed end).offers
+    by-end Whole = by-order
+    by-end Crashed = cut-by place.number deed.gives.event by-order.node
+    by-end Kept = cut-by place.number deed.gives.event by-order.node
+    by-end Lost = record { node = refl; calls_are = refl }
+
+  -- the event is by the node that changes, or by none
+  pub event-by : (act : Act) → IsActIn world act
+      → node_in (done dig world act).event ≡ number_of (change_of dig world act)
+  unfolding done
+  event-by (Rests reply) known = refl
+  event-by (Signs leaf body rogue) known = refl
+  event-by (Adds name (NewWallet who)) known = refl
+  event-by (Adds name (NewWatcher account)) known = refl
+  event-by (Adds name (NewRogue who)) known = refl
+  event-by (Enters origin call) known =
+      by (is_accepted (answer_to (tests_by dig) (rules_of world.chain) world.chain.log call))
+    where
+      by : (b : Bool) → node_in (if b then Joins call else Bounces call) ≡ None
+      by true = refl
+      by false = refl
+  event-by (Orders place order cut) known =
+      (by-end place order known (end_of cut place.node order (deed_at dig world place order))).node
+  event-by (Crashes place) known = refl
+
+  -- so it is no command of the others
+  pub commands-others : (act : Act) → IsActIn world act → (m : ℕ) → IsOther world.nodes (change_of dig world act) m
+      → is_command_of m (done dig world act).event ≡ false
+  commands-others act known m other =
+      ap (λ (o : Option ℕ). option_map_or (λ n. n == m) o false) (event-by act known)
+      ∙ by (change_of dig world act) other
+    where
+      by : (change : Change) → IsOther world.nodes change m
+          → option_map_or (λ n. n == m) (number_of change) false ≡ false
+      by NoNode other = refl
+      by (OneNode place after) other = ne_eqb place.number m other
+      by (NewNode node) other = refl
+
+  -- and says nothing of the others
+  pub said-others : (act : Act) → IsActIn world act → (m : ℕ) → IsOther world.nodes (change_of dig world act) m
+      → is_said_of m (done dig world act).event ≡ false
+  unfolding done
+  said-others (Rests reply) known m other = refl
+  said-others (Signs leaf body rogue) known m other = refl
+  said-others (Adds name (NewWallet who)) known m other = ne_eqb (length world.nodes) m other
+  said-others (Adds name (NewWatcher account)) known m other = refl
+  said-others (Adds name (NewRogue who)) known m other = refl
+  said-others (Enters origin call) known m other =
+      by (is_accepted (answer_to (tests_by dig) (rules_of world.chain) world.chain.log call))
+    where
+      by : (b : Bool) → is_said_of m (if b then Joins call else Bounces call) ≡ false
+      by true = refl
+      by false = refl
+  said-others (Orders place order cut) known m other =
+      said-apart _ place.number m
+      (by-end place order known (end_of cut place.node order (deed_at dig world place order))).node other
+  said-others (Crashes place) known m other = refl
