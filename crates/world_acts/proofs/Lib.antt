@@ -6,4 +6,5 @@ pub mod Effects
 pub mod Nodes
 pub mod Told
 pub mod Lives
+pub mod Operators
 pub mod Offers
