@@ -20,7 +20,7 @@ use Rattle.world_rules.specs.Declarations.{plays, declared_wallet, is_wallet_acc
 use Rattle.world_rules.specs.Orders.{wallet_order, order_of, node_does}
 use Rattle.world_rules.specs.Deeds.{Deed, as_deed, adds_record, deed_of}
 use Rattle.world_rules.specs.Steps.{LineEffect, called, raw_called, deposit_by, offer_numbered, entered, is_opening, answers_down, commanded, down, crashed, outcome_of, finished, cut, act_at, act_on, command_effect, cut_effect, signed_by, signed_body, effect_in, effect_of, with_mail, step}
-use Rattle.world_acts.specs.Acts.{Place, NewWallet, NewWatcher, NewRogue, Deposits, Raw, Offered, Cut, Act, Rests, Adds, Enters, Orders, Crashes, place_named, opens, is_down_for, given, command_act, offer_act, act_of, Crashed, Kept, Lost, needs_more, end_of, ended, deed_at, done}
+use Rattle.world_acts.specs.Acts.{Place, NewWallet, NewWatcher, NewRogue, Deposits, Raw, Offered, Cut, Act, Rests, Adds, Enters, Orders, Crashes, place_named, opens, is_down_for, order_act, command_act, offer_act, act_of, Crashed, Kept, Lost, needs_more, end_of, end_effect, deed_at, done}
 use Rattle.world_acts.specs.Laws.{EffectsAreOfActs, StepsAreOfActs}
 use Rattle.world_acts.proofs.Lookups.{where-some, ruled, IsFound, found, owner-is, understood, signed}
 use Rattle.world_acts.proofs.Rules.{rule}
@@ -70,7 +70,8 @@ module _ (world : World) where
           (option_map (λ (one : NodeOrder). as_deed place.number one (node_does dig world.chain.log node one)) o))
           order_is
 
-      command-done : command_effect dig world command place.number node ≡ Some (done dig world (given None place order))
+      command-done : command_effect dig world command place.number node
+          ≡ Some (done dig world (order_act None place order))
       unfolding done
       command-done = given-effect (commanded world place.number node) ∙ by (is_down_for order node)
         where
@@ -85,10 +86,10 @@ module _ (world : World) where
         the_cut = record { calls = calls; outcome = outcome_of outcome }
 
         abbrev kept : LineEffect
-        kept = ended world place deed Kept
+        kept = end_effect world place deed Kept
 
         abbrev lost : LineEffect
-        lost = ended world place deed Lost
+        lost = end_effect world place deed Lost
 
         -- a cut, by whether its command opens the node
         abbrev cut_by : Bool → LineEffect
@@ -98,19 +99,19 @@ module _ (world : World) where
             else finished world place.number node deed
 
         cut-ends : cut world place.number node calls outcome command deed
-            ≡ ended world place deed (end_of (Some the_cut) node order deed)
+            ≡ end_effect world place deed (end_of (Some the_cut) node order deed)
         cut-ends = ap cut_by (opening node.role command order order_is)
             ∙ by (needs_more the_cut node order deed) (not (opens order) && is_added calls (outcome_of outcome))
           where
             by : (more keeps : Bool)
                 → (if more then (if keeps then kept else lost) else finished world place.number node deed)
-                ≡ ended world place deed (if more then (if keeps then Kept else Lost) else Crashed)
+                ≡ end_effect world place deed (if more then (if keeps then Kept else Lost) else Crashed)
             by true true = refl
             by true false = refl
             by false keeps = refl
 
         cut-done : cut_effect dig world calls outcome command place.number node
-            ≡ Some (done dig world (given (Some the_cut) place order))
+            ≡ Some (done dig world (order_act (Some the_cut) place order))
         unfolding done
         cut-done =
             given-effect (cut world place.number node calls outcome command)
@@ -119,7 +120,7 @@ module _ (world : World) where
           where
             by : (b : Bool)
                 → (if b then Some (down world)
-                else Some (ended world place deed (end_of (Some the_cut) node order deed)))
+                else Some (end_effect world place deed (end_of (Some the_cut) node order deed)))
                 ≡ Some (done dig world (if b then Rests Reply.Down else Orders place order (Some the_cut)))
             by true = refl
             by false = refl

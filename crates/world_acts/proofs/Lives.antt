@@ -15,8 +15,8 @@ use Rattle.world_acts.proofs.Known.{acts_are_known}
 use Rattle.world_acts.proofs.Effects.{steps_are_of_acts}
 
 -- what is done by an act, with the mail item of its line
-abbrev pub mailed : (List ℕ → List ℕ) → World → Act → LineEffect
-mailed dig world act = with_mail (done dig world act)
+abbrev pub line_effect : (List ℕ → List ℕ) → World → Act → LineEffect
+line_effect dig world act = with_mail (done dig world act)
 
 -- the run of lines that are all so has come to this world
 pub record HasCome (dig : List ℕ → List ℕ) (IsGood : Line → Type 0) (lines : List Line) (run : Run) (world : World)
@@ -30,7 +30,8 @@ module _ (dig : List ℕ → List ℕ) (IsGood : Line → Type 0) (P : List Trac
     → P (entry_of (Line.Chain tag operator most) (begun tag operator most) ∷ []) (begun tag operator most).world)
     (next : (lines : List Line) (run : Run) (world : World) (line : Line) (act : Act)
     → HasCome dig IsGood lines run world → IsGood line → act_of world line ≡ Some act → IsActIn world act
-    → P run.entries world → P (entry_of line (mailed dig world act) ∷ run.entries) (mailed dig world act).world) where
+    → P run.entries world
+    → P (entry_of line (line_effect dig world act) ∷ run.entries) (line_effect dig world act).world) where
   -- what holds of a run so far: before the first line nothing is there
   abbrev Holds : List TraceEntry → Option World → Type 0
   Holds entries None = entries ≡ []
@@ -55,7 +56,7 @@ module _ (dig : List ℕ → List ℕ) (IsGood : Line → Type 0) (P : List Trac
           → After run.entries line effect
       by None none empty is = subst (λ es. After es line effect) (sym empty) (begins line effect is)
       by (Some world) some holds is =
-          let act = option_map_some (mailed dig world) (act_of world line) effect
+          let act = option_map_some (line_effect dig world) (act_of world line) effect
           (sym (steps_are_of_acts dig world line) ∙ is) in
           subst (After run.entries line) act.2
           (next lines run world line act.0 (record { lines_are = all; run_is = run_is; world_is = some }) good act.1

@@ -20,7 +20,7 @@ use Rattle.world_rules.specs.Declarations.{plays, is_declared, is_sendable, has_
 use Rattle.world_rules.specs.Orders.{wallet_order, order_of}
 use Rattle.world_rules.specs.Steps.{cut, signed_body}
 use Rattle.world_rules.proofs.Existence.{position-is, position-parts}
-use Rattle.world_acts.specs.Acts.{Place, Cut, Act, Signs, only_where, place_at, place_named, signer_named, given, command_act, act_of}
+use Rattle.world_acts.specs.Acts.{Place, Cut, Act, Signs, only_where, place_at, place_named, signer_named, order_act, command_act, act_of}
 use Rattle.world_acts.specs.Evidence.{IsThere}
 
 -- ---- options
@@ -118,15 +118,15 @@ module _ (world : World) where
     pub at : IsFound (plays command) (node_of command) place
     pub order : NodeOrder
     pub order_is : order_of world place.node.role command ≡ Some order
-    pub act_is : given cut place order ≡ act
+    pub act_is : order_act cut place order ≡ act
 
   pub understood : (cut : Option Cut) (command : Command) (act : Act) → command_act world cut command ≡ Some act
       → IsUnderstood cut command act
   understood cut command act is =
       let place = and_then_some
-      (λ (place : Place). option_map (given cut place) (order_of world place.node.role command))
+      (λ (place : Place). option_map (order_act cut place) (order_of world place.node.role command))
       (place_named (plays command) world (node_of command)) act is in
-      let order = option_map_some (given cut place.0) (order_of world place.0.node.role command) act place.2 in
+      let order = option_map_some (order_act cut place.0) (order_of world place.0.node.role command) act place.2 in
       record {
         place = place.0;
         at = found (plays command) (node_of command) place.0 place.1;

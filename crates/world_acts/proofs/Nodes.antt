@@ -30,14 +30,14 @@ change_of dig world (Orders place order cut) =
 change_of dig world (Crashes place) = OneNode place (after_crash place.node)
 change_of dig world act = NoNode
 
-abbrev pub changed : Change → List Node → List Node
-changed NoNode nodes = nodes
-changed (OneNode place after) nodes = set nodes place.number after
-changed (NewNode node) nodes = nodes ++ node ∷ []
+abbrev pub nodes_after : Change → List Node → List Node
+nodes_after NoNode nodes = nodes
+nodes_after (OneNode place after) nodes = set nodes place.number after
+nodes_after (NewNode node) nodes = nodes ++ node ∷ []
 
 -- the nodes after an act
 pub nodes-done : (dig : List ℕ → List ℕ) (world : World) (act : Act)
-    → (done dig world act).world.nodes ≡ changed (change_of dig world act) world.nodes
+    → (done dig world act).world.nodes ≡ nodes_after (change_of dig world act) world.nodes
 unfolding done
 nodes-done dig world (Rests reply) = refl
 nodes-done dig world (Signs leaf body rogue) = refl
@@ -88,7 +88,8 @@ pub record IsKeptBy (P Q : ℕ → Option Node → Type 0) (nodes : List Node) (
   pub own : IsKeptOwn P Q nodes change
 
 module _ (P Q : ℕ → Option Node → Type 0) (nodes : List Node) (each : EachNode P nodes) where
-  change-keeps : (change : Change) → IsOld nodes change → IsKeptBy P Q nodes change → EachNode Q (changed change nodes)
+  change-keeps : (change : Change) → IsOld nodes change → IsKeptBy P Q nodes change
+      → EachNode Q (nodes_after change nodes)
   change-keeps NoNode old keeps n = keeps.others n tt (slice_get nodes n) (each n)
   change-keeps (OneNode place after) old keeps n = elim (cases_eq place.number n) [
     | inl here ↦

@@ -80,7 +80,8 @@ module _ (dig : List ℕ → List ℕ) (world : World) (first : OperatorIsFirst 
   own-kept (Orders place order cut) known =
       let deed = deed_at dig world place order in
       let end = end_of cut place.node order deed in
-      λ held. own events place.number _ _ (by-end dig world first place order known end) (down-after place.node deed end)
+      λ held.
+      own events place.number _ _ (by-end dig world first place order known end) (down-after place.node deed end)
   own-kept (Crashes place) known =
       λ held. own events place.number _ _ (record { node = refl; calls_are = refl }) (λ low. refl)
   own-kept act known = tt

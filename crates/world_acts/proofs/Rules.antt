@@ -11,7 +11,7 @@ use Rattle.world_rules.specs.World.{Rogue, World, is_wallet_role, any_role, rogu
 use Rattle.world_rules.specs.Declarations.{plays, is_declared, has_declared_names, has_leaf_number, is_wallet_account, keeps_rules, keeps_rules_in}
 use Rattle.world_rules.specs.Orders.{order_of}
 use Rattle.world_rules.specs.Steps.{outcome_of, cut, signed_body}
-use Rattle.world_acts.specs.Acts.{Place, Raw, Cut, Signs, Enters, Crashes, only_where, place_named, given, command_act, offer_act, act_of}
+use Rattle.world_acts.specs.Acts.{Place, Raw, Cut, Signs, Enters, Crashes, only_where, place_named, order_act, command_act, offer_act, act_of}
 use Rattle.world_acts.specs.Laws.{ActsKeepTheRules}
 use Rattle.world_acts.proofs.Lookups.{is_some-where, is_some-rule, is_some-map, found, is_some-named, is_some-order}
 
@@ -25,13 +25,13 @@ module _ (world : World) where
     where
       by : (o : Option Place) → place_named (plays command) world (node_of command) ≡ o
           → is_some (option_and_then
-          (λ (place : Place). option_map (given cut place) (order_of world place.node.role command)) o)
+          (λ (place : Place). option_map (order_act cut place) (order_of world place.node.role command)) o)
           ≡ (is_declared (plays command) world (node_of command) && has_declared_names world command)
       by None none =
           ap (λ b. b && has_declared_names world command)
           (sym (ap is_some none) ∙ is_some-named world (plays command) (node_of command))
       by (Some place) some =
-          is_some-map (given cut place) (order_of world place.node.role command)
+          is_some-map (order_act cut place) (order_of world place.node.role command)
           ∙ is_some-order world place.node.role command (found world (plays command) (node_of command) place some).role
           ∙ ap (λ b. b && has_declared_names world command)
           (sym (ap is_some some) ∙ is_some-named world (plays command) (node_of command))

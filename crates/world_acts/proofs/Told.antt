@@ -42,9 +42,9 @@ OperatorIsFirst world = (n : ℕ) (node : Node) → slice_get world.nodes n ≡ 
     → is_operator_role node.role ≡ true → n ≡ 0
 
 -- the number of the node that changes
-abbrev pub number_of : Change → Option ℕ
-number_of (OneNode place after) = Some place.number
-number_of change = None
+abbrev pub number_changed : Change → Option ℕ
+number_changed (OneNode place after) = Some place.number
+number_changed change = None
 
 module _ (dig : List ℕ → List ℕ) (world : World) (first : OperatorIsFirst world) where
   module _ (place : Place) (order : NodeOrder) (may : MayOrder world place order) where
@@ -71,7 +71,7 @@ module _ (dig : List ℕ → List ℕ) (world : World) (first : OperatorIsFirst 
 
   -- the event is by the node that changes, or by none
   pub event-by : (act : Act) → IsActIn world act
-      → node_in (done dig world act).event ≡ number_of (change_of dig world act)
+      → node_in (done dig world act).event ≡ number_changed (change_of dig world act)
   unfolding done
   event-by (Rests reply) known = refl
   event-by (Signs leaf body rogue) known = refl
@@ -96,7 +96,7 @@ module _ (dig : List ℕ → List ℕ) (world : World) (first : OperatorIsFirst 
       ∙ by (change_of dig world act) other
     where
       by : (change : Change) → IsOther world.nodes change m
-          → option_map_or (λ n. n == m) (number_of change) false ≡ false
+          → option_map_or (λ n. n == m) (number_changed change) false ≡ false
       by NoNode other = refl
       by (OneNode place after) other = ne_eqb place.number m other
       by (NewNode node) other = refl

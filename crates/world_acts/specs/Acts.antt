@@ -96,13 +96,13 @@ abbrev pub is_down_for : NodeOrder → Node → Bool
 is_down_for order node = not node.is_up && not (opens order)
 
 -- an order of the node there: one that is down for it does nothing, and says so
-abbrev pub given : Option Cut → Place → NodeOrder → Act
-given cut place order = if is_down_for order place.node then Rests Reply.Down else Orders place order cut
+abbrev pub order_act : Option Cut → Place → NodeOrder → Act
+order_act cut place order = if is_down_for order place.node then Rests Reply.Down else Orders place order cut
 
 -- a command, and perhaps its cut
 abbrev pub command_act : World → Option Cut → Command → Option Act
 command_act world cut command =
-    option_and_then (λ place. option_map (given cut place) (order_of world place.node.role command))
+    option_and_then (λ place. option_map (order_act cut place) (order_of world place.node.role command))
     (place_named (plays command) world (node_of command))
 
 -- the offer with a number
@@ -145,10 +145,10 @@ act_of world (Line.Cut node calls outcome command) =
 -- ---- what an act does
 
 -- a name is declared
-abbrev pub added : World → List ℕ → Newcomer → LineEffect
-added world name (NewWallet who) = declares_wallet world name who
-added world name (NewWatcher account) = declares_watcher world name account
-added world name (NewRogue who) = declares_rogue world name who
+abbrev pub newcomer_effect : World → List ℕ → Newcomer → LineEffect
+newcomer_effect world name (NewWallet who) = declares_wallet world name who
+newcomer_effect world name (NewWatcher account) = declares_watcher world name account
+newcomer_effect world name (NewRogue who) = declares_rogue world name who
 
 -- a stranger's account is known once its call is entered
 abbrev pub callers_after : List ℕ → Origin → List ℕ
@@ -200,8 +200,8 @@ event_after n deed Lost = Other n
 event_after n deed end = without_offers n deed.gives.event
 
 -- an order that ended so
-abbrev pub ended : World → Place → Deed → End → LineEffect
-ended world place deed end = record {
+abbrev pub end_effect : World → Place → Deed → End → LineEffect
+end_effect world place deed end = record {
   done = ends_first end;
   reply = if is_stopped end then Reply.Stopped else deed.gives.reply;
   made = if is_stopped end then [] else deed.gives.made;
@@ -217,9 +217,9 @@ deed_at dig world place order = as_deed place.number order (node_does dig world.
 unfoldable pub done : (List ℕ → List ℕ) → World → Act → LineEffect
 done dig world (Rests reply) = says reply Idle world
 done dig world (Signs leaf body rogue) = signed_by world leaf body rogue
-done dig world (Adds name newcomer) = added world name newcomer
+done dig world (Adds name newcomer) = newcomer_effect world name newcomer
 done dig world (Enters origin call) =
     called dig (record world { raw_callers = callers_after world.raw_callers origin }) call
 done dig world (Orders place order cut) =
-    let deed = deed_at dig world place order in ended world place deed (end_of cut place.node order deed)
+    let deed = deed_at dig world place order in end_effect world place deed (end_of cut place.node order deed)
 done dig world (Crashes place) = crashed world place.number place.node
