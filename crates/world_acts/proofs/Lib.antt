@@ -4,6 +4,7 @@ pub mod Known
 pub mod Fitting
 pub mod Effects
 pub mod Nodes
+pub mod Same
 pub mod Told
 pub mod Lives
 pub mod Operators

@@ -3,24 +3,17 @@ use Rattle.std.proofs.Common.{◌≡◌, ℕ, zero, suc, true, List, [], ◌∷�
 use Rattle.std.proofs.lemmas.Bool.{false≢true}
 use Rattle.schedule_text.specs.declared.line.Line.{Line}
 use Rattle.world_rules.specs.World.{Node, World, is_operator_role}
-use Rattle.world_rules.specs.Deeds.{Deed}
 use Rattle.world_rules.specs.Steps.{TraceEntry, Run, entry_of}
 use Rattle.world_rules.proofs.Runs.{begun}
-use Rattle.world_acts.specs.Acts.{NewWallet, NewWatcher, NewRogue, Act, Adds, Orders, Crashes, End, Whole, Crashed, Kept, Lost, end_of, node_after, deed_at}
+use Rattle.world_acts.specs.Acts.{NewWallet, NewWatcher, NewRogue, Act, Adds, Orders, Crashes, end_of, deed_at}
 use Rattle.world_acts.proofs.Nodes.{change_of, EachNode, IsKeptOwn, each_node_keeps}
+use Rattle.world_acts.proofs.Same.{same-after}
 use Rattle.world_acts.proofs.Told.{OperatorIsFirst}
 use Rattle.world_acts.proofs.Lives.{HasCome, runs_keep}
 
 abbrev IsFirst : ℕ → Option Node → Type 0
 IsFirst n None = Unit {0}
 IsFirst n (Some node) = is_operator_role node.role ≡ true → n ≡ 0
-
--- a node keeps its role, however an order ends
-pub role-after : (node : Node) (deed : Deed) (end : End) → (node_after node deed end).role ≡ node.role
-role-after node deed Whole = refl
-role-after node deed Crashed = refl
-role-after node deed Kept = refl
-role-after node deed Lost = refl
 
 own-first : (dig : List ℕ → List ℕ) (world : World) (act : Act)
     → IsKeptOwn IsFirst IsFirst world.nodes (change_of dig world act)
@@ -30,7 +23,7 @@ own-first dig world (Adds name (NewRogue who)) = tt
 own-first dig world (Orders place order cut) =
     let deed = deed_at dig world place order in
     λ held is.
-    held (ap is_operator_role (sym (role-after place.node deed (end_of cut place.node order deed))) ∙ is)
+    held (ap is_operator_role (sym (same-after place.node deed (end_of cut place.node order deed)).role) ∙ is)
 own-first dig world (Crashes place) = λ held. held
 own-first dig world act = tt
 
