@@ -2,3 +2,4 @@ mod GrowLaws
 pub mod RunLaws
 mod SessionLaws
 mod GrammarLaws
+pub mod CompleteLaws

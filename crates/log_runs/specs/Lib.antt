@@ -7,3 +7,4 @@ pub mod Archiving
 pub mod Holds
 pub mod Auditing
 pub mod Audits
+pub mod Complete

@@ -1,12 +1,12 @@
 -- What a run over a log does to its source and its sink, and how it ends.
-use Rattle.std.specs.Prelude.{ℕ, Bool, List, [], Option, Result, Ok, Err}
+use Rattle.std.specs.Prelude.{ℕ, Bool, List, Option, Result, Ok, Err}
 use Rattle.plasma_outside.specs.declared.sink.SinkRefusal.{SinkRefusal}
 use Rattle.streamed_lines.specs.declared.ending.Ending.{Ending}
 use Rattle.streamed_lines.specs.Streams.{Streamed, stream_of}
 use Rattle.streamed_lines.specs.Bounds.{TakesFew}
 use Rattle.streamed_lines.specs.Outside.{Gave}
 use Rattle.run_endings.specs.declared.status.Status.{Status}
-use Rattle.run_endings.specs.declared.status.Status.TheVariants.{Done, Refused, BadLine as BadLineStatus, ReadFault as ReadFaultStatus, TooLong as TooLongStatus}
+use Rattle.run_endings.specs.declared.status.Status.TheVariants.{Refused, BadLine as BadLineStatus, TooLong as TooLongStatus}
 use Rattle.run_endings.specs.Statuses.{status_of_refusal}
 use Rattle.run_endings.specs.Outputs.{EndsAs}
 use Rattle.run_endings.specs.Endings.{status_of, session_output}

@@ -6,6 +6,7 @@ ghost use Rattle.run_endings.specs.Statuses.{is_write_fault, ReadsBy};
 ghost use Rattle.log_runs.specs.Following.{begun, log_rules};
 ghost use Rattle.log_runs.specs.Archiving.{archiving};
 ghost use Rattle.log_runs.specs.Runs.{RunsLog};
+ghost use Rattle.log_runs.specs.Complete.{LogComplete};
 
 use super::archive_asks::answer_ask;
 use super::archive_line::{ArchiveLine, read_archive_line};
@@ -95,6 +96,7 @@ pub fn run_archive<H: Hash32 + Copy, S: Source, K: Sink>(
         (ReadsToFault (S.faults source.old) (S.faults source.new) (S.failed_last source.new) true) result }
     ensures prompt { AnswersPromptly (answers_so_far (log_rules (archiving (H.digest_of h))) begun)
         (S.left source.old) (S.left source.new) (S.failed_last source.new) (K.taken sink.old) (K.taken sink.new) }
+    ensures complete { LogComplete (archiving (H.digest_of h)) (S.left source.old) result }
     ensures source_faults { ReadsBy result
         (ReadsToFault (S.faults source.old) (S.faults source.new) (S.failed_last source.new)) }
     ensures sink_faults { K.faults sink.new ≡ faults_after (K.faults sink.old) (is_write_fault result) }

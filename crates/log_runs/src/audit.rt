@@ -7,6 +7,7 @@ ghost use Rattle.run_endings.specs.Statuses.{is_write_fault, ReadsBy};
 ghost use Rattle.log_runs.specs.Following.{begun, log_rules};
 ghost use Rattle.log_runs.specs.Auditing.{auditing, convicted_text};
 ghost use Rattle.log_runs.specs.Runs.{RunsLog};
+ghost use Rattle.log_runs.specs.Complete.{LogComplete};
 
 use super::causes::audit_halt;
 use super::follower::Follower;
@@ -126,6 +127,7 @@ pub fn run_audit<H: Hash32 + Drop, S: Source, K: Sink>(
         (ReadsToFault (S.faults source.old) (S.faults source.new) (S.failed_last source.new) true) result }
     ensures prompt { AnswersPromptly (answers_so_far (log_rules (auditing (H.digest_of h) key receipt)) begun)
         (S.left source.old) (S.left source.new) (S.failed_last source.new) (K.taken sink.old) (K.taken sink.new) }
+    ensures complete { LogComplete (auditing (H.digest_of h) key receipt) (S.left source.old) result }
     ensures source_faults { ReadsBy result
         (ReadsToFault (S.faults source.old) (S.faults source.new) (S.failed_last source.new)) }
     ensures sink_faults { K.faults sink.new ≡ faults_after (K.faults sink.old) (is_write_fault result) }

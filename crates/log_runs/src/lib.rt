@@ -16,4 +16,4 @@ mod run;
 
 pub use archive::run_archive;
 pub use audit::run_audit;
-pub use laws::an_archive_line_has_one_spelling;
+pub use laws::{an_archive_line_has_one_spelling, lines_that_keep_the_rules_are_answered};

@@ -6,6 +6,7 @@ ghost use Rattle.streamed_lines.specs.Prompt.{AnswersPromptly, answers_so_far};
 ghost use Rattle.run_endings.specs.Statuses.{is_write_fault, ReadsBy};
 ghost use Rattle.log_runs.specs.Following.{begun, log_rules};
 ghost use Rattle.log_runs.specs.Runs.{RunsLog, status_of_run};
+ghost use Rattle.log_runs.specs.Complete.{LogComplete};
 
 use super::follower::Follower;
 use super::log_session::LogSession;
@@ -61,6 +62,7 @@ pub fn run_log<F: Follower + Drop, S: Source, K: Sink>(
         (ReadsToFault (S.faults source.old) (S.faults source.new) (S.failed_last source.new) true) result }
     ensures prompt { AnswersPromptly (answers_so_far (log_rules (F.following follower)) begun)
         (S.left source.old) (S.left source.new) (S.failed_last source.new) (K.taken sink.old) (K.taken sink.new) }
+    ensures complete { LogComplete (F.following follower) (S.left source.old) result }
     ensures source_faults { ReadsBy result
         (ReadsToFault (S.faults source.old) (S.faults source.new) (S.failed_last source.new)) }
     ensures sink_faults { K.faults sink.new ≡ faults_after (K.faults sink.old) (is_write_fault result) }
