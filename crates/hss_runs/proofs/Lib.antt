@@ -4,3 +4,4 @@ mod Leaves
 mod Adding
 mod Calls
 pub mod FaultLaws
+pub mod CompleteLaws

@@ -3,3 +3,4 @@ pub mod Signing
 pub mod Runs
 pub mod Verdict
 pub mod Inside
+pub mod Complete

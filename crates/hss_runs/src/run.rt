@@ -5,6 +5,7 @@ ghost use Rattle.node_runs.specs.Faults.{CountsEither};
 ghost use Rattle.hss_keys.specs.Entries.{entries_of};
 ghost use Rattle.hss_runs.specs.Signing.{is_signable, next_leaf, signing, signs};
 ghost use Rattle.hss_runs.specs.Runs.{RunsSigner, Signs};
+ghost use Rattle.hss_runs.specs.Complete.{SigningComplete};
 
 use super::answer::Answer;
 use super::ending::put_refused;
@@ -107,6 +108,7 @@ pub fn run_signer<D: Disk, K: Sink>(
 ) -> (D, D, Status)
     ensures runs { RunsSigner D.told D.plan D.faults (K.taken sink.old) (K.taken sink.new) result.2
         message.now notes leaves result.0 result.1 }
+    ensures complete { SigningComplete D.told result.2 message.now notes leaves }
     ensures disk_faults { FaultsBy result.2 (CountsEither D.faults notes leaves result.0 result.1) }
     ensures no_read_fault { result.2 ≢ Status.ReadFault }
     ensures sink_faults { K.faults sink.new ≡ faults_after (K.faults sink.old) (is_write_fault result.2) }

@@ -1,5 +1,6 @@
-use Rattle.std.proofs.Common.{inl}
+use Rattle.std.proofs.Common.{inl, inr}
 use Rattle.hss_runs.proofs.FaultLaws.{signer-counts}
+use Rattle.hss_runs.proofs.CompleteLaws.{signing-complete}
 use Rattle.hss_runs.proofs.run.run_signer.Goals as goal
 
 pub returns-in-Ok-clause-runs : goal.returns-in-Ok-clause-runs
@@ -17,3 +18,17 @@ pub returns-in-Ok-clause-disk_faults : goal.returns-in-Ok-clause-disk_faults
 returns-in-Ok-clause-disk_faults g c =
     signer-counts g.D.Disk.told g.D.Disk.plan g.D.Disk.faults _ _ _ _ _ _ _ c.args.message.now
     (returns-in-Ok-clause-runs g c)
+
+pub returns-in-Ok-clause-complete : goal.returns-in-Ok-clause-complete
+returns-in-Ok-clause-complete g c =
+    signing-complete g.D.Disk.told g.D.Disk.plan g.D.Disk.faults _ _ _ c.args.message.now _ _ _ _
+    (returns-in-Ok-clause-runs g c)
+
+pub returns-in-Err-clause-complete : goal.returns-in-Err-clause-complete
+returns-in-Err-clause-complete g c =
+    signing-complete g.D.Disk.told g.D.Disk.plan g.D.Disk.faults _ _ _ c.args.message.now _ _ _ _
+    (inr (record {
+      why = c.in-Err.returned.why;
+      refuses = c.in-Err.ensures.refused;
+      ends = c.put_opening_refusal-status.ensures.ends;
+    }))
