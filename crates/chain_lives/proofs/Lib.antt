@@ -18,3 +18,5 @@ mod Beginning
 mod AllLegal
 mod Keeping
 mod Samples
+mod SampleRun
+mod SmallChain

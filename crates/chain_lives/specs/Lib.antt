@@ -6,3 +6,4 @@ pub mod Entered
 pub mod Begun
 pub mod Keeping
 pub mod Samples
+pub mod SmallChain

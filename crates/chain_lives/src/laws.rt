@@ -4,6 +4,8 @@ ghost use Rattle.chain_lives.specs.Begun.{BeginningsAreLegal};
 ghost use Rattle.chain_lives.specs.Entered.{EntriesAreLegal};
 ghost use Rattle.chain_lives.specs.Log.{EventsHoldTheChain};
 ghost use Rattle.chain_lives.specs.Keeping.{ChainsAreLegal, LivesKeepTheirCoins, LivesHoldApart, LivesDueCallsAreTaken, LivesStartsAreTaken};
+ghost use Rattle.world_rules.specs.Laws.{IsDigest};
+ghost use Rattle.chain_lives.specs.SmallChain.{SmallChain};
 ghost use Rattle.chain_lives.specs.Samples.{ReceivedWatchedSent, PowerIsLost, HastyIsWrong};
 
 use crash_disk::Disk;
@@ -47,4 +49,10 @@ pub fn lives_keep_their_coins<D: Disk>()
     ensures one_holder { (dig : List ℕ → List ℕ) (rules : Rules) → LivesHoldApart D.told D.plan D.faults dig rules }
     ensures due_is_taken { (dig : List ℕ → List ℕ) (rules : Rules) → LivesDueCallsAreTaken D.told D.plan D.faults dig rules }
     ensures starts_are_taken { (dig : List ℕ → List ℕ) (rules : Rules) → LivesStartsAreTaken D.told D.plan D.faults dig rules }
+{}
+
+/// A small chain with a wallet is one: the wallet is begun, a run of it reads the log and watches, and it deposits a
+/// coin, which it holds, and which is looked after. So the laws above speak of some.
+pub fn a_small_chain_is_one()
+    ensures { (dig : List ℕ → List ℕ) → IsDigest dig → SmallChain dig }
 {}

@@ -4,6 +4,6 @@
 mod laws;
 
 pub use laws::{
-    beginnings_are_legal, chains_are_legal, chains_are_read, entries_are_legal,
-    events_hold_the_chain, lives_keep_their_coins,
+    a_small_chain_is_one, beginnings_are_legal, chains_are_legal, chains_are_read,
+    entries_are_legal, events_hold_the_chain, lives_keep_their_coins,
 };
