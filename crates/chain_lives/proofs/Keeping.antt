@@ -1,12 +1,13 @@
 -- What holds of legal events holds of the events of a chain with its nodes.
-use Rattle.std.proofs.Common.{◌≡◌, ℕ, List, [], ◌∷◌, ◌++◌, Option, sym, ap, ◌∙◌, subst}
+use Rattle.std.proofs.Common.{◌≡◌, ℕ, List, ◌∷◌, Option, sym, ap, ◌∙◌, subst}
 use Rattle.crash_disk.specs.Disk.{History, FaultPlan}
 use Rattle.plasma_tx.specs.declared.call.RootCall.{RootCall}
-use Rattle.plasma_tx.specs.Shown.{Tests, Rules, tests_by}
+use Rattle.plasma_tx.specs.Shown.{Rules, tests_by}
 use Rattle.plasma_tx.specs.Table.{answer_to, is_accepted}
-use Rattle.world_rules.specs.Events.{Event, log_of}
+use Rattle.world_rules.specs.Events.{log_of}
 use Rattle.world_laws.specs.Headline.{lacks_bond, IsTaken}
 use Rattle.world_laws.specs.Legal.{IsLegal}
+use Rattle.world_laws.proofs.Promises.{suffix-legal}
 use Rattle.world_laws.proofs.Safe.{legal_coins_are_safe}
 use Rattle.world_laws.proofs.OneHolder.{one_wallet_holds}
 use Rattle.world_laws.proofs.DueTaken.{due_calls_are_taken}
@@ -17,19 +18,12 @@ use Rattle.chain_lives.specs.Keeping.{happened, LivesKeepTheirCoins, LivesHoldAp
 use Rattle.chain_lives.proofs.Log.{events_hold_the_chain}
 use Rattle.chain_lives.proofs.AllLegal.{chains_are_legal}
 
--- the events before one are legal
-legal-before : (tests : Tests) (rules : Rules) (later events : List Event) → IsLegal tests rules (later ++ events)
-    → IsLegal tests rules events
-unfolding IsLegal
-legal-before tests rules [] events legal = legal
-legal-before tests rules (event ∷ later) events legal = legal-before tests rules later events legal.1
-
 module _ {D : Type 0} (told : D → Option History) (plan : D → Option FaultPlan) (faults : D → ℕ)
     (dig : List ℕ → List ℕ) (rules : Rules) where
   pub lives_keep_their_coins : LivesKeepTheirCoins told plan faults dig rules
   lives_keep_their_coins steps later events event w c e chain are looked apart unforged =
       legal_coins_are_safe dig rules event events w c e chain.digest
-      (legal-before (tests_by dig) rules later (event ∷ events)
+      (suffix-legal (tests_by dig) rules later (event ∷ events)
       (subst (IsLegal (tests_by dig) rules) are (chains_are_legal told plan faults dig rules steps chain))) looked apart
       unforged
 
