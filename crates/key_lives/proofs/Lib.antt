@@ -7,4 +7,6 @@ mod Given
 mod DeskTexts
 mod DeskRuns
 mod DeskLife
+mod CutLaws
 mod SignerSample
+mod Moments

@@ -210,7 +210,7 @@ moments old records body settled fits =
     (λ now. LeavesOnly old.history now (KeepsWithOrWithout records body))
     (course_leaves old.history records body (settled_rests old.history records settled) fits passed))
 
-adds : (old : Drive) (records : List (List ℕ)) (body : List ℕ) → IsSettled old.history records → length body ≤ most
+pub adds : (old : Drive) (records : List (List ℕ)) (body : List ℕ) → IsSettled old.history records → length body ≤ most
     → Added told foretold met body (record { disk = old; closed = false; records = records })
     (record {
       disk = after passed (note_steps records body) false old;

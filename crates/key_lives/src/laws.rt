@@ -1,5 +1,7 @@
 ghost use Rattle.std.specs.Prelude.{List, ℕ};
 ghost use Rattle.key_lives.specs.DeskLaws.{DesksPromiseOnce};
+ghost use Rattle.key_lives.specs.CutLaws.{KeysThroughCuts};
+ghost use Rattle.key_lives.specs.Moments.{SigningsMayBeCut};
 ghost use Rattle.key_lives.specs.SignerSample.{SmallSignerLife};
 ghost use Rattle.key_lives.specs.SignerLaws.{BegunSignersStay, SignedRecordsStand, SignersSignOnce, SigningsWriteTheirAnswers};
 
@@ -35,6 +37,18 @@ pub fn signings_write_their_answers<D: Disk>()
 /// no leaf signs two promises.
 pub fn desks_promise_once<D: Disk>()
     ensures { (dig : List ℕ → List ℕ) → DesksPromiseOnce D.told D.plan D.faults dig }
+{}
+
+/// The laws of keys hold where calls were cut off: a signer that was begun is found, what was signed stands, and each
+/// leaf of a signer and of an operator signs once, in calls that ended and in those that were cut off.
+pub fn keys_hold_through_cuts<D: Disk>()
+    ensures { (dig : List ℕ → List ℕ) → KeysThroughCuts D.told D.plan D.faults dig }
+{}
+
+/// A signing that opened its disks may be cut off at each moment, told without a fault: as its records are appended, and
+/// behind them.
+pub fn signings_may_be_cut()
+    ensures { (dig : List ℕ → List ℕ) → SigningsMayBeCut dig }
 {}
 
 /// A small life of a signer is a life, so the laws above speak of some: after an init a device fault stops a signing as

@@ -18,12 +18,18 @@ pub mod DeskOrders
 pub mod OwnRuns
 pub mod Begun
 pub mod Life
+pub mod Cuts
 mod Answered
 pub mod LeafTexts
 mod GivenOut
 pub mod Leaves
+pub mod CutLaws
 pub mod Drives
 mod SampleLines
+pub mod Moments
+mod CutRuns
+mod CutOpenings
 mod Samples
+mod CutSample
 pub mod Identities
 pub mod Written

@@ -68,7 +68,7 @@ passes_init steps drive free = record {
   count = refl;
 }
 
-init_passes : InitsPair told foretold met (Some []) (Some (codes "made" ++ 10 ∷ [])) Done identity stopped_notes blank
+pub init_passes : InitsPair told foretold met (Some []) (Some (codes "made" ++ 10 ∷ [])) Done identity stopped_notes blank
     begun_notes begun_leaves
 init_passes = record {
   answer = Ok tt;
@@ -106,7 +106,7 @@ module _ (dig : List ℕ → List ℕ) where
   abbrev count : ℕ
   count = leaves_of (identity ∷ [])
 
-  opens : (notes leaves : Drive) (records : List (List ℕ)) → IsSettled notes.history (identity ∷ [])
+  pub opens : (notes leaves : Drive) (records : List (List ℕ)) → IsSettled notes.history (identity ∷ [])
       → IsSettled leaves.history records → leaf_records_of is_body count records ≡ Ok records
       → OpensWallet told foretold met dig notes leaves (wallet_with dig notes leaves records)
   unfolding notes_of
@@ -123,11 +123,11 @@ module _ (dig : List ℕ → List ℕ) where
 
   -- ---- the runs
 
-  abbrev outside : List ℕ → Outside
+  abbrev pub outside : List ℕ → Outside
   outside text = record { left = Some input; later = Some []; taken = Some []; after = Some text }
 
   -- the disks of a wallet that was opened, as its session finds them
-  found-keeps : (drive : Drive) (records : List (List ℕ)) → IsSettled drive.history records
+  pub found-keeps : (drive : Drive) (records : List (List ℕ)) → IsSettled drive.history records
       → Keeps told met (record { records = records; told = Some drive.history; faults = drive.met }) drive
   found-keeps drive records settled = record {
     told_is = refl;
@@ -135,17 +135,17 @@ module _ (dig : List ℕ → List ℕ) where
     settled = telling drive (λ now. IsSettled now records) settled;
   }
 
-  notes_first : IsSettled (opened begun_notes).history (identity ∷ [])
+  pub notes_first : IsSettled (opened begun_notes).history (identity ∷ [])
   notes_first = opened_settled begun_notes (identity ∷ []) begun_notes_settled
 
   leaves_first : IsSettled (opened begun_leaves).history []
   leaves_first = opened_settled begun_leaves [] begun_leaves_settled
 
-  notes_second : IsSettled (opened crashed_notes).history (identity ∷ [])
+  pub notes_second : IsSettled (opened crashed_notes).history (identity ∷ [])
   notes_second = opened_settled crashed_notes (identity ∷ []) crashed_notes_settled
 
   -- the marker met a fault
-  marker_fails : MayKeep told met marker
+  pub marker_fails : MayKeep told met marker
       (opened_at told met (leaves_part (wallet_with dig begun_notes begun_leaves []))) faulted_leaves
   marker_fails = record {
     passed = 2;
@@ -161,7 +161,7 @@ module _ (dig : List ℕ → List ℕ) where
     faults_are = refl;
   }
 
-  abbrev Session : Drive → Drive → List (List ℕ) → Drive → Drive → List ℕ → Status → Type 0
+  abbrev pub Session : Drive → Drive → List (List ℕ) → Drive → Drive → List ℕ → Status → Type 0
   Session notes leaves records new_notes new_leaves text status =
       NodeSession told foretold met dig wallet_commands (wallet_parts (wallet_with dig notes leaves records))
       (both new_notes new_leaves) (outside text) (Unit {0}) status
@@ -194,7 +194,7 @@ module _ (dig : List ℕ → List ℕ) where
   -- a session that comes to this
   module _ (notes leaves : Drive) (records : List (List ℕ)) (new_notes new_leaves : Drive) (text : List ℕ)
       (status : Status) where
-    comes : (streamed : Streamed (SessionState (NodeAt NotesAt)) (List ℕ))
+    pub comes : (streamed : Streamed (SessionState (NodeAt NotesAt)) (List ℕ))
         → stream_of (rules dig notes leaves records) (begun (found dig notes leaves records)) input true ≡ streamed
         → EndsAs (session_output streamed) status (Some []) (Some text) (Unit {0})
         → TakesFew input streamed.ending
@@ -239,10 +239,10 @@ module _ (dig : List ℕ → List ℕ) where
 
   -- ---- the life
 
-  abbrev pair : Drive → Drive → Pair Drive
+  abbrev pub pair : Drive → Drive → Pair Drive
   pair notes leaves = record { notes = notes; leaves = leaves }
 
-  abbrev call_of : (asked : Asked) (old new : Pair Drive) (text : List ℕ) (status : Status)
+  abbrev pub call_of : (asked : Asked) (old new : Pair Drive) (text : List ℕ) (status : Status)
       → DoesAsked told foretold met dig asked old new (outside text) status → DriveCall dig
   call_of asked old new text status did = record {
     asked = asked;
@@ -253,7 +253,7 @@ module _ (dig : List ℕ → List ℕ) where
     did = inl did;
   }
 
-  abbrev run_of : (notes leaves : Drive) (records : List (List ℕ)) (new_notes new_leaves : Drive) (text : List ℕ)
+  abbrev pub run_of : (notes leaves : Drive) (records : List (List ℕ)) (new_notes new_leaves : Drive) (text : List ℕ)
       (status : Status) → OpensWallet told foretold met dig notes leaves (wallet_with dig notes leaves records)
       → Session notes leaves records new_notes new_leaves text status
       → RunsWallet told foretold met dig notes leaves new_notes new_leaves (outside text) (Unit {0}) status
@@ -268,7 +268,7 @@ module _ (dig : List ℕ → List ℕ) where
       run_of begun_notes begun_leaves [] (opened begun_notes) faulted_leaves device_fault_text DeviceFault
       (opens begun_notes begun_leaves [] begun_notes_settled begun_leaves_settled refl) faults
 
-  run_answers : RunsWallet told foretold met dig crashed_notes crashed_leaves (opened crashed_notes) marked_leaves
+  pub run_answers : RunsWallet told foretold met dig crashed_notes crashed_leaves (opened crashed_notes) marked_leaves
       (outside (codes "migrated" ++ 10 ∷ [])) (Unit {0}) Done
   unfolding records_behind_of
   run_answers =

@@ -1,7 +1,11 @@
 pub mod Disks
 pub mod Calls
 pub mod Lives
+pub mod Cuts
 pub mod Standing
 pub mod Answered
 pub mod Laws
+pub mod CutLaws
 pub mod Samples
+pub mod Moments
+pub mod CutSample

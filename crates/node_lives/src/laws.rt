@@ -1,5 +1,9 @@
 ghost use Rattle.std.specs.Prelude.{List, ℕ};
+ghost use Rattle.node_lives.specs.Cuts.{CutsAreFaults};
+ghost use Rattle.node_lives.specs.CutLaws.{LawsThroughCuts};
+ghost use Rattle.node_lives.specs.Moments.{OpeningsMayBeCut, SessionsMayBeCut};
 ghost use Rattle.node_lives.specs.Samples.{SmallLife};
+ghost use Rattle.node_lives.specs.CutSample.{SmallLifeWithCut};
 ghost use Rattle.node_lives.specs.Laws.{IdentitiesAreOfTheirRoles, BegunNodesStay, RunsWriteTheirAnswers, AnsweredRecordsStand, LeavesGiveOutOneMessage};
 
 use crash_disk::Disk;
@@ -42,4 +46,33 @@ pub fn identities_are_of_their_roles()
 /// and is answered, and a last one finds it.
 pub fn a_small_life_is_one()
     ensures { (dig : List ℕ → List ℕ) → SmallLife dig }
+{}
+
+/// What a crash leaves at the moment of a cut is among what a crash leaves of a call that faults broke off there. So a
+/// life with calls that were cut off is a life of calls that ended, and all laws of lives hold of it.
+pub fn cuts_are_faults<D: Disk>()
+    ensures { (dig : List ℕ → List ℕ) → CutsAreFaults D.told D.plan D.faults dig }
+{}
+
+/// The laws of lives hold where calls were cut off: a node that was begun is found, answered records stand, and a leaf
+/// of a wallet's key gives out one message, in calls that ended and in those that were cut off.
+pub fn laws_hold_through_cuts<D: Disk>()
+    ensures { (dig : List ℕ → List ℕ) → LawsThroughCuts D.told D.plan D.faults dig }
+{}
+
+/// A run of a node may be cut off within the opening of its notes, and within that of its leaves.
+pub fn openings_may_be_cut()
+    ensures { (dig : List ℕ → List ℕ) → OpeningsMayBeCut dig }
+{}
+
+/// Behind an opening that went through a run of a node may be cut off at each moment of its session, told without a
+/// fault: behind lines that it answered, within the appends of the next command, or behind these.
+pub fn sessions_may_be_cut()
+    ensures { (dig : List ℕ → List ℕ) → SessionsMayBeCut dig }
+{}
+
+/// A small life of a wallet with a cut is one: power is lost as the gate of a record is written, and the next run finds
+/// the record or not.
+pub fn a_small_life_with_a_cut_is_one()
+    ensures { (dig : List ℕ → List ℕ) → SmallLifeWithCut dig }
 {}

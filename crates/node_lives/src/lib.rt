@@ -5,6 +5,8 @@
 mod laws;
 
 pub use laws::{
-    a_small_life_is_one, answered_records_stand, begun_nodes_stay, identities_are_of_their_roles,
-    leaves_give_out_one_message, runs_write_their_answers,
+    a_small_life_is_one, a_small_life_with_a_cut_is_one, answered_records_stand, begun_nodes_stay,
+    cuts_are_faults, identities_are_of_their_roles, laws_hold_through_cuts,
+    leaves_give_out_one_message, openings_may_be_cut, runs_write_their_answers,
+    sessions_may_be_cut,
 };
