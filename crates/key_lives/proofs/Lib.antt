@@ -10,3 +10,5 @@ mod DeskLife
 mod CutLaws
 mod SignerSample
 mod Moments
+mod DeskLines
+mod DeskSample

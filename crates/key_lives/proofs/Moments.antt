@@ -1,7 +1,7 @@
 -- At each moment of a signing's appends, and behind them, it may be cut off.
 use Rattle.std.proofs.Common.{◌≡◌, ◌≤◌, ℕ, suc, Bool, true, false, List, [], ◌∷◌, ◌++◌, length, map, take, Option, Some, Result, Ok, Err, refl, sym, ap, ◌∙◌, subst, inl, inr, append_assoc, append-nil}
 use Rattle.std.specs.List.{All}
-use Rattle.crash_disk.specs.Disk.{History, MayLeave, LeavesOnly}
+use Rattle.crash_disk.specs.Disk.{Step, History, MayLeave, LeavesOnly}
 use Rattle.crash_disk.specs.Calls.{WhereTold, passed, failed_after, stopped_after, after_course}
 use Rattle.gate_journal.specs.Image.{most, spelled}
 use Rattle.gate_journal.specs.Journal.{Keeps, IsSettled, KeepsWithOrWithout}
@@ -106,7 +106,7 @@ module _ (entry : Entry) (entries : List Entry) (disk : Drive) (records : List (
   texts = map entry_text entries
 
   module _ (appending : Appending body (at disk records) history) where
-    abbrev steps : List _
+    abbrev steps : List Step
     steps = append_steps (length (spelled records)) body
 
     abbrev failing : Drive

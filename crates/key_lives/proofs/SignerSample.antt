@@ -119,7 +119,7 @@ signed_leaves_settled =
 
 -- ---- the init
 
-passes_init : (steps : List ℕ → List Step) (drive : Drive) → is_taken (content drive.history) ≡ false
+pub passes_init : (steps : List ℕ → List Step) (drive : Drive) → is_taken (content drive.history) ≡ false
     → PassesInit told foretold met steps drive (after passed steps false drive)
 passes_init steps drive free = record {
   inits =
@@ -156,7 +156,7 @@ seed_is : seed_of (sid ∷ []) ≡ key
 unfolding seed_of seed_in
 seed_is = refl
 
-opens_part : (read : List ℕ → Result (List (List ℕ)) ℕ) (drive : Drive) (records : List (List ℕ))
+pub opens_part : (read : List ℕ → Result (List (List ℕ)) ℕ) (drive : Drive) (records : List (List ℕ))
     → IsSettled drive.history records → read (content drive.history) ≡ Ok records
     → Opened told foretold met read drive (record { disk = opened drive; closed = false; records = records })
 opens_part read drive records settled reads = record {

@@ -5,3 +5,4 @@ pub mod DeskLaws
 pub mod CutLaws
 pub mod SignerSample
 pub mod Moments
+pub mod DeskSample

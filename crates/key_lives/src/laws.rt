@@ -1,6 +1,7 @@
 ghost use Rattle.std.specs.Prelude.{List, ℕ};
 ghost use Rattle.key_lives.specs.DeskLaws.{DesksPromiseOnce};
 ghost use Rattle.key_lives.specs.CutLaws.{KeysThroughCuts};
+ghost use Rattle.key_lives.specs.DeskSample.{SmallDeskLifeIsOne};
 ghost use Rattle.key_lives.specs.Moments.{SigningsMayBeCut};
 ghost use Rattle.key_lives.specs.SignerSample.{SmallSignerLife};
 ghost use Rattle.key_lives.specs.SignerLaws.{BegunSignersStay, SignedRecordsStand, SignersSignOnce, SigningsWriteTheirAnswers};
@@ -55,4 +56,10 @@ pub fn signings_may_be_cut()
 /// it opens a bottom key, and a crash follows; the next signing opens the key, and signs by its first leaf.
 pub fn a_small_signers_life_is_one()
     ensures { (dig : List ℕ → List ℕ) → SmallSignerLife dig }
+{}
+
+/// A small life of an operator with a key is a life, so the law of desks speaks of some: after an init a run reads a log
+/// with a deposit, prepares the key's leaves, and gives a receipt for a transfer that the coin's owner signed.
+pub fn a_small_desks_life_is_one()
+    ensures { SmallDeskLifeIsOne }
 {}

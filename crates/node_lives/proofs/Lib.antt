@@ -25,7 +25,7 @@ mod GivenOut
 pub mod Leaves
 pub mod CutLaws
 pub mod Drives
-mod SampleLines
+pub mod SampleLines
 pub mod Moments
 mod CutRuns
 mod CutOpenings

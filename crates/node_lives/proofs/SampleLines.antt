@@ -68,7 +68,7 @@ line-answered {R} {C} rules ended start stream line lines answered fits whole is
 abbrev pub chain : Chain
 chain = record { tag = replicate 32 0; operator = 0; most_blocks = 1; log = [] }
 
-chain-read : chain_in first_line ≡ Some chain
+pub chain-read : chain_in first_line ≡ Some chain
 unfolding chain_in value_in hex_of_in hex_in digits_in number_in number_within_in
 chain-read = refl
 
