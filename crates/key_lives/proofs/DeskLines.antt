@@ -1,27 +1,25 @@
 -- The lines of the sample operator's run, and what they come to.
-use Rattle.std.proofs.Common.{◌≡◌, ◌≢◌, ◌≤◌, ◌<◌, ◌+◌, ◌-◌, ◌*◌, ◌/◌, ◌%◌, ◌^◌, ◌==◌, ◌&&◌, ◌||◌, not, ℕ, zero, suc, Bool, true, false, if◌then◌else◌, List, [], ◌∷◌, ◌++◌, length, take, replicate, codes, slice_index, Option, Some, None, Result, Ok, Err, refl, sym, ap, ◌∙◌, subst, arith, length-append, append_assoc, lit<}
-use Rattle.std.specs.List.{All, list_all}
+use Rattle.std.proofs.Common.{◌≡◌, ◌≢◌, ◌≤◌, ◌<◌, ◌+◌, ◌-◌, ◌*◌, ◌/◌, ◌%◌, ◌^◌, ◌==◌, ◌&&◌, not, ℕ, zero, suc, Bool, true, false, if◌then◌else◌, List, [], ◌∷◌, ◌++◌, length, take, replicate, codes, slice_index, Some, Result, Ok, Err, refl, sym, ap, ◌∙◌, subst, arith, length-append, lit<}
+use Rattle.std.specs.List.{list_all}
 use Rattle.std.proofs.lemmas.Bool.{and_parts, and_from, le-ltb}
 use Rattle.std.proofs.lemmas.List.Elements.{All-nil, All-cons}
 use Rattle.std.proofs.lemmas.List.Folds.{list_all-append}
 use Rattle.hex.specs.Hex.{encode_with, lower_digits}
-use Rattle.plasma_base.specs.HexText.{hex_text, hex_in, digits_in}
-use Rattle.line_forms.specs.Forms.{text_of, value_in}
+use Rattle.plasma_base.specs.HexText.{hex_text}
+use Rattle.line_forms.specs.Forms.{text_of}
 use Rattle.line_forms.specs.Tokens.{number_text, number_in}
 use Rattle.line_forms.proofs.NumberLaws.{number_text-in}
-use Rattle.lms_sign.specs.Tree.{public_key_of, signature_of}
+use Rattle.lms_sign.specs.Tree.{signature_of}
 use Rattle.lms_sign.specs.declared.types.LmsTypes.{LmsTypes}
 use Rattle.lms_sign.specs.Types.{height, is_supported}
 use Rattle.lms_sign.specs.Valid.{is_valid}
 use Rattle.lms_sign.proofs.Laws.{signatures_are_valid, key-types}
-use Rattle.plasma_tx.specs.Chain.{Chain}
 use Rattle.plasma_tx.specs.declared.call.RootCall.{RootCall}
-use Rattle.plasma_tx.specs.declared.owner.Owner.{Owner}
 use Rattle.plasma_tx.specs.declared.signed_tx.SignedTx.{SignedTx}
 use Rattle.plasma_tx.specs.Spelling.{AreBytes, IsOwner, IsBody, body_text, signed_text, signed_in}
 use Rattle.plasma_tx.specs.Transfer.{is_signed_by}
 use Rattle.plasma_tx.proofs.Spellings.{signed_in-text, signed_in-ok}
-use Rattle.root_log.specs.Grammar.{call_text, call_in, chain_in}
+use Rattle.root_log.specs.Grammar.{call_text, call_in}
 use Rattle.root_log.specs.EndOfLog.{is_end_of_log}
 use Rattle.root_log.proofs.GrammarLaws.{call_in-call_text}
 use Rattle.schedule_text.specs.Grammar.{line_text}
@@ -33,7 +31,7 @@ use Rattle.node_replies.proofs.ByteTexts.{small-append, small-body, small-signat
 use Rattle.streamed_lines.specs.declared.ending.Ending.{Ending}
 use Rattle.streamed_lines.specs.declared.ending.Ending.TheVariants.{ReadFault, TooLong}
 use Rattle.streamed_lines.specs.declared.TheConstants.{MOST_LINES, MOST_LINE_BYTES, MOST_INPUT_BYTES}
-use Rattle.streamed_lines.specs.Lines.{is_whole, is_too_long, HasNoFeed, EndsWithItsFeed, text_of as line_text_of}
+use Rattle.streamed_lines.specs.Lines.{is_whole, is_too_long, HasNoFeed, text_of as line_text_of}
 use Rattle.streamed_lines.specs.Streams.{Rules, Stream, next_number, with_answer, line_stream, stream_or}
 use Rattle.streamed_lines.specs.Reading.{RunsTo, DoesLine}
 use Rattle.streamed_lines.proofs.StreamLaws.{runs-on}

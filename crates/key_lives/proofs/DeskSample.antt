@@ -1,17 +1,17 @@
 -- A small life of an operator with a key is one: its run gives a receipt by the key's first leaf.
-use Rattle.std.proofs.Common.{◌≡◌, ◌≤◌, ◌+◌, ◌-◌, ◌==◌, not, ℕ, zero, suc, Bool, true, false, if◌then◌else◌, List, [], ◌∷◌, ◌++◌, length, replicate, codes, slice_index_or, Option, Some, None, Result, Ok, refl, sym, ap, ◌∙◌, subst, inl, inr, arith, append-nil, length-append, lit<, lit≤}
+use Rattle.std.proofs.Common.{◌≡◌, ◌≤◌, ◌==◌, not, ℕ, Bool, true, false, if◌then◌else◌, List, [], ◌∷◌, ◌++◌, length, replicate, codes, slice_index_or, Option, Some, None, Ok, refl, sym, ap, ◌∙◌, subst, inl, arith, append-nil, length-append, lit<, lit≤}
 use Rattle.std.specs.Option.{option_map}
 use Rattle.std.proofs.lemmas.Bool.{and_parts, not-true}
-use Rattle.crash_disk.specs.Disk.{content, synced_content}
+use Rattle.crash_disk.specs.Disk.{content}
 use Rattle.crash_disk.specs.Calls.{passed}
-use Rattle.gate_journal.specs.Image.{most, journal_in}
+use Rattle.gate_journal.specs.Image.{journal_in}
 use Rattle.gate_journal.specs.Journal.{IsSettled}
 use Rattle.gate_journal.proofs.Rest.{appends_settle}
 use Rattle.node_journal.specs.Begin.{journal_steps, init_steps}
 use Rattle.node_journal.specs.Notes.{NotesState, note_steps, Opened}
 use Rattle.node_journal.specs.Parts.{Parts, both}
 use Rattle.node_journal.specs.Role.{are_of, role_in}
-use Rattle.leaf_journal.specs.Records.{marker, messages_of, leaf_records_read_of, records_behind_of}
+use Rattle.leaf_journal.specs.Records.{marker, leaf_records_read_of, records_behind_of}
 use Rattle.plasma_tx.specs.Chain.{Chain, with_log}
 use Rattle.plasma_tx.specs.declared.call.RootCall.{RootCall}
 use Rattle.plasma_tx.specs.Views.{blocks}
@@ -33,7 +33,6 @@ use Rattle.node_roles.specs.Roles.{desk_commands}
 use Rattle.node_sessions.specs.Sessions.{SessionState, begun, joins, first_log, longer_log, leaves, done, command_line, next_line}
 use Rattle.run_endings.specs.Endings.{session_output, last_text}
 use Rattle.run_endings.specs.Outputs.{EndsAs}
-use Rattle.run_endings.specs.declared.status.Status.{Status}
 use Rattle.run_endings.specs.declared.status.Status.TheVariants.{Done}
 use Rattle.streamed_lines.specs.declared.ending.Ending.TheVariants.{Complete}
 use Rattle.streamed_lines.specs.Bounds.{TakesFew}
@@ -41,22 +40,21 @@ use Rattle.streamed_lines.specs.Lines.{lines_in, text_of}
 use Rattle.streamed_lines.specs.Streams.{Rules, Stream, Streamed, no_lines, with_answer, stream_from, stream_of}
 use Rattle.streamed_lines.specs.Reading.{RunsTo, next_text}
 use Rattle.streamed_lines.proofs.StreamLaws.{runs-none}
-use Rattle.node_runs.specs.Disks.{Keeps, KeepsNode}
+use Rattle.node_runs.specs.Disks.{KeepsNode}
 use Rattle.node_runs.specs.Inits.{InitsPair}
 use Rattle.node_runs.specs.Sessions.{Outside}
 use Rattle.node_runs.specs.Runs.{node_rules, node_found, NodeSession}
-use Rattle.node_runs.specs.Operators.{desk_records_in, RunsBehind, RunsOperator}
-use Rattle.node_lives.specs.Disks.{Pair, Stays}
-use Rattle.node_lives.specs.Calls.{Asked, BothDisks, ToBegin, ToRun, DoesAsked}
+use Rattle.node_runs.specs.Operators.{desk_records_in, RunsOperator}
+use Rattle.node_lives.specs.Disks.{Stays}
+use Rattle.node_lives.specs.Calls.{BothDisks, ToBegin, ToRun}
 use Rattle.node_lives.specs.Lives.{IsLife}
 use Rattle.node_lives.specs.Standing.{IsIdentityOf, desk_leaves}
-use Rattle.node_lives.specs.Answered.{lines_answered}
-use Rattle.node_lives.specs.Samples.{Drive, told, foretold, met, first_line, DriveCall}
+use Rattle.node_lives.specs.Samples.{Drive, told, foretold, met, first_line}
 use Rattle.node_lives.proofs.Roles.{ok-of, role-found}
 use Rattle.node_lives.proofs.Drives.{after, asked, telling, blank, opened, opened_settled, made_settled, begun_leaves, begun_leaves_settled}
 use Rattle.node_lives.proofs.SampleLines.{chain, chain-read}
-use Rattle.key_lives.specs.Desks.{DeskRan, desk_ran_behind, desk_ran, desk_ran_by}
-use Rattle.key_lives.specs.DeskSample.{identity, owner, transfer, deposit_line, receipt_line, SmallDeskLife, SmallDeskLifeIsOne}
+use Rattle.key_lives.specs.Desks.{desk_ran_behind, desk_ran, desk_ran_by}
+use Rattle.key_lives.specs.DeskSample.{identity, transfer, deposit_line, receipt_line, SmallDeskLife, SmallDeskLifeIsOne}
 use Rattle.key_lives.proofs.SignerSample.{passes_init, opens_part}
 use Rattle.key_lives.proofs.DeskLines.{plain, answered-line, fits-limits, line-text, deposit-read, receipt-read, not-end, deposit-plain, receipt-plain, deposit-short, receipt-short, log, receipt, note, leaf, issue, issue-is, note-fits, leaf-fits}
 

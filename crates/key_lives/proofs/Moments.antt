@@ -11,7 +11,7 @@ use Rattle.node_journal.specs.Notes.{NotesState, note_steps, AddFailed}
 use Rattle.node_roles.specs.Notes.{NotesAt, with_note}
 use Rattle.run_endings.specs.Texts.{device_fault_text}
 use Rattle.run_endings.specs.Outputs.{EndsAs}
-use Rattle.run_endings.specs.declared.status.Status.TheVariants.{Done, Refused, ReadFault, WriteFault}
+use Rattle.run_endings.specs.declared.status.Status.TheVariants.{WriteFault}
 use Rattle.streamed_lines.specs.Outside.{WroteFront}
 use Rattle.node_runs.specs.Disks.{opened_at}
 use Rattle.node_runs.specs.Sessions.{Outside}
@@ -19,7 +19,7 @@ use Rattle.hss_keys.specs.declared.entry.Entry.{Entry}
 use Rattle.hss_keys.specs.Entries.{entry_text}
 use Rattle.hss_runs.specs.Identity.{seed_of}
 use Rattle.hss_runs.specs.Signing.{Signing, signing, said_output}
-use Rattle.hss_runs.specs.Runs.{KeepsAFront, OpensSigner, AddsAll, FailsToAdd, Signs}
+use Rattle.hss_runs.specs.Runs.{KeepsAFront, OpensSigner, AddsAll, FailsToAdd}
 use Rattle.node_lives.specs.Disks.{Pair}
 use Rattle.node_lives.specs.Calls.{ToSign}
 use Rattle.node_lives.specs.Cuts.{FailsSince}

@@ -1,6 +1,6 @@
 -- A small life of an operator with a key: an init, and a run that reads a log with a deposit, prepares the key's leaves
 -- and gives a receipt for a transfer of the coin. So the law of desks doesn't hold for want of one.
-use Rattle.std.specs.Prelude.{◌≡◌, ℕ, List, [], ◌∷◌, ◌++◌, length, replicate, codes, None}
+use Rattle.std.specs.Prelude.{◌≡◌, ℕ, List, [], ◌∷◌, length, replicate, None}
 use Rattle.lms_sign.specs.declared.secret.Secret.{Secret}
 use Rattle.lms_sign.specs.Tree.{public_key_of, signature_of}
 use Rattle.plasma_tx.specs.declared.owner.Owner.{Owner}
@@ -15,7 +15,7 @@ use Rattle.run_endings.specs.declared.status.Status.TheVariants.{Done}
 use Rattle.node_lives.specs.Calls.{ToRun}
 use Rattle.node_lives.specs.Lives.{IsLife}
 use Rattle.node_lives.specs.Laws.{Begins}
-use Rattle.node_lives.specs.Samples.{told, foretold, met, first_line, DriveCall}
+use Rattle.node_lives.specs.Samples.{told, foretold, met, DriveCall}
 use Rattle.key_lives.specs.Desks.{GivesReceipt}
 
 -- an operator's identity with a key: its mark, a tag of zeros, the account 0 and a seed of zeros

@@ -1,6 +1,6 @@
 -- The moments of a signing that opened its disks, told without a fault: as its records are appended, and behind them. At
 -- each of them it may be cut off. Over drives, whose faults to come are any.
-use Rattle.std.specs.Prelude.{◌≡◌, ◌⊎◌, ℕ, true, false, List, [], ◌∷◌, ◌++◌, map, Option, Some}
+use Rattle.std.specs.Prelude.{◌≡◌, ◌⊎◌, ℕ, true, false, List, [], ◌∷◌, map, Some}
 use Rattle.crash_disk.specs.Disk.{History}
 use Rattle.node_journal.specs.Notes.{NotesState}
 use Rattle.node_roles.specs.Notes.{NotesAt, with_note}
@@ -9,7 +9,7 @@ use Rattle.node_runs.specs.Disks.{opened_at}
 use Rattle.node_runs.specs.Sessions.{Outside}
 use Rattle.hss_keys.specs.Entries.{entry_text}
 use Rattle.hss_runs.specs.Identity.{seed_of}
-use Rattle.hss_runs.specs.Signing.{Signing, signing, said_output}
+use Rattle.hss_runs.specs.Signing.{signing, said_output}
 use Rattle.hss_runs.specs.Runs.{OpensSigner}
 use Rattle.node_lives.specs.Disks.{Pair}
 use Rattle.node_lives.specs.Calls.{ToSign}

@@ -1,5 +1,5 @@
 -- What holds of lives holds of lives with cuts.
-use Rattle.std.proofs.Common.{◌≡◌, ℕ, List, ◌∷◌, ◌++◌, Option, subst}
+use Rattle.std.proofs.Common.{ℕ, List, ◌∷◌, ◌++◌, Option, subst}
 use Rattle.std.proofs.lemmas.List.{map-append}
 use Rattle.crash_disk.specs.Disk.{History, FaultPlan}
 use Rattle.node_lives.specs.Calls.{Call}

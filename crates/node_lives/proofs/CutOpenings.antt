@@ -1,7 +1,6 @@
 -- A run may be cut off within the opening of its notes, and within that of its leaves behind it.
-use Rattle.std.proofs.Common.{◌≡◌, ◌<◌, ℕ, zero, suc, true, List, [], ◌∷◌, length, take, Option, Some, None, Result, refl, sym, ap, ◌∙◌, subst, inl, inr, arith}
+use Rattle.std.proofs.Common.{◌≡◌, ◌<◌, ℕ, zero, suc, true, List, [], take, Option, Some, None, Result, refl, ◌∙◌, inl, inr, arith}
 use Rattle.std.specs.List.{All}
-use Rattle.std.proofs.lemmas.List.Elements.{All-nil, All-cons}
 use Rattle.crash_disk.specs.Disk.{DeviceCall, History, content, before_last}
 use Rattle.crash_disk.specs.Calls.{failed_after, stopped_after, after_course}
 use Rattle.gate_journal.specs.Steps.{open_steps}
@@ -12,14 +11,12 @@ use Rattle.operator_rules.specs.Records.{operator_kinds, who_is}
 use Rattle.wallet_node.specs.Opening.{OpensNotes}
 use Rattle.node_replies.specs.Roles.{Role, Wallet, Watcher, Operator}
 use Rattle.run_endings.specs.Texts.{device_fault_text}
-use Rattle.run_endings.specs.Outputs.{EndsAs}
 use Rattle.run_endings.specs.declared.status.Status.TheVariants.{WriteFault}
-use Rattle.node_runs.specs.Endings.{refused_output}
 use Rattle.node_runs.specs.Sessions.{Outside}
 use Rattle.node_runs.specs.Runs.{RefusedRun, RunsWatcher, RunsWallet}
 use Rattle.node_runs.specs.Operators.{desk_records_in, RunsBehind, RunsOperator}
 use Rattle.node_lives.specs.Disks.{Pair}
-use Rattle.node_lives.specs.Calls.{RunsAs, ToRun}
+use Rattle.node_lives.specs.Calls.{ToRun}
 use Rattle.node_lives.specs.Cuts.{FailsSince}
 use Rattle.node_lives.specs.Answered.{watcher_ran, behind_ran, operator_ran, wallet_ran, ran_as, ran_by}
 use Rattle.node_lives.specs.Samples.{Drive, told, foretold, met}

@@ -1,5 +1,5 @@
 -- Behind an opening that went through a run may be cut off at each moment of its session.
-use Rattle.std.proofs.Common.{◌≡◌, ℕ, Bool, List, Option, Some, None, refl, sym, ap, subst, inl}
+use Rattle.std.proofs.Common.{◌≡◌, ℕ, List, Option, Some, None, refl, ap, subst, inl}
 use Rattle.crash_disk.specs.Disk.{History}
 use Rattle.node_journal.specs.Notes.{NotesState, Opened}
 use Rattle.node_journal.specs.Parts.{Parts, alone, both, OfLeaves}
@@ -22,8 +22,8 @@ use Rattle.node_lives.specs.Calls.{ToRun}
 use Rattle.node_lives.specs.Cuts.{FailsSince}
 use Rattle.node_lives.specs.Answered.{Lines, lines_answered, Ran, ran_with, watcher_ran, behind_ran, operator_ran, wallet_ran, ran_as, ran_by}
 use Rattle.node_lives.specs.Samples.{Drive, told, foretold, met}
-use Rattle.node_lives.specs.Moments.{Moment, lines_by, IsCutAt, SessionsMayBeCut}
-use Rattle.node_lives.proofs.Moments.{Rests, RestEach, none-since, opened-rests, cut-at, Broken, broken-session}
+use Rattle.node_lives.specs.Moments.{lines_by, IsCutAt, SessionsMayBeCut}
+use Rattle.node_lives.proofs.Moments.{Rests, RestEach, none-since, opened-rests, cut-at, broken-session}
 
 -- notes alone that were opened, and leaves with them
 alone-rests : (dig : List ℕ → List ℕ) (notes : NotesState Drive) → Rests (opened_at told met notes)

@@ -1,5 +1,5 @@
 -- A small life with a cut is one: power is lost as the gate of a record is written.
-use Rattle.std.proofs.Common.{◌≡◌, ◌≤◌, ◌++◌, ℕ, true, List, [], ◌∷◌, length, codes, Some, refl, sym, ap, ◌∙◌, subst, inl, inr, lit<, lit≤}
+use Rattle.std.proofs.Common.{◌≤◌, ◌++◌, ℕ, true, List, [], ◌∷◌, length, codes, refl, sym, ap, ◌∙◌, subst, inl, inr, lit<, lit≤}
 use Rattle.std.proofs.lemmas.List.Elements.{All-nil, All-cons}
 use Rattle.crash_disk.specs.Disk.{fresh_history, content, synced_content}
 use Rattle.crash_disk.specs.declared.outcome.Outcome.TheVariants.{Old, New}

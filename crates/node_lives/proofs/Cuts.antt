@@ -1,15 +1,13 @@
 -- What a crash leaves at the moment of a cut is among what it leaves behind device calls that all failed since: so a life
 -- with cuts is a life.
-use Rattle.std.proofs.Common.{◌≡◌, ◌≤◌, ℕ, zero, suc, Bool, true, false, ◌||◌, List, [], ◌∷◌, ◌++◌, length, take, drop, map, Option, Some, refl, sym, ap, ◌∙◌, subst, arith}
+use Rattle.std.proofs.Common.{◌≡◌, ℕ, zero, suc, Bool, true, false, List, [], ◌∷◌, ◌++◌, length, take, drop, Option, sym, ap, subst, arith}
 use Rattle.std.specs.List.{All}
-use Rattle.std.proofs.lemmas.List.{append-nil, map-append}
+use Rattle.std.proofs.lemmas.List.{map-append}
 use Rattle.std.proofs.lemmas.List.Elements.{All-head, All-tail}
 use Rattle.std.proofs.lemmas.List.Folds.{list_any-append}
-use Rattle.std.specs.List.{list_any}
-use Rattle.crash_disk.specs.Disk.{Step, asks_length, reads, writes, syncs, DeviceCall, History, content_after, synced_content_after, unsynced_ranges_after, is_within, is_touched, MayLeave, before_last, FaultPlan}
+use Rattle.crash_disk.specs.Disk.{Step, asks_length, reads, writes, syncs, DeviceCall, History, content_after, synced_content_after, unsynced_ranges_after, is_touched, MayLeave, FaultPlan}
 use Rattle.crash_disk.proofs.Images.{length-with_write}
-use Rattle.node_lives.specs.Disks.{Pair, Lies, Stays, Crashed, BothLie}
-use Rattle.node_lives.specs.Calls.{Call}
+use Rattle.node_lives.specs.Disks.{Pair, Lies, Crashed, BothLie}
 use Rattle.node_lives.specs.Lives.{IsLife, LieBehind}
 use Rattle.node_lives.specs.Cuts.{FailsSince, CrashedAt, Cut, LifeStep, Ended, CutOff, call_in, calls_in, LieBehindStep, LieBehindSteps, IsLifeWithCuts, CutsAreFaults}
 

@@ -22,7 +22,7 @@ use Rattle.run_endings.specs.Texts.{device_fault_text}
 use Rattle.run_endings.specs.declared.status.Status.{Status}
 use Rattle.run_endings.specs.declared.status.Status.TheVariants.{WriteFault, NoMemory}
 use Rattle.node_answers.specs.Answers.{Outcome}
-use Rattle.node_roles.specs.Notes.{NotesAt, told_after, with_note}
+use Rattle.node_roles.specs.Notes.{NotesAt, with_note}
 use Rattle.node_roles.specs.Parts.{with_effect, PartFails, EachFails}
 use Rattle.node_roles.specs.Nodes.{NodeAt, keeping, Commands, outcome_at, node_does}
 use Rattle.node_sessions.specs.Sessions.{SessionState, begun, calls_of}

@@ -1,6 +1,6 @@
 -- A small life of a wallet: two inits, three runs, a fault in two of them and a crash. So the laws don't hold for want
 -- of a life.
-use Rattle.std.specs.Prelude.{◌≡◌, ◌≢◌, ◌+◌, ℕ, List, [], ◌∷◌, ◌++◌, replicate, codes, Option, Some, None, option_map}
+use Rattle.std.specs.Prelude.{◌≡◌, ◌≢◌, ℕ, List, [], ◌∷◌, ◌++◌, replicate, codes, Option, Some, None, option_map}
 use Rattle.crash_disk.specs.Disk.{History, fresh_history, content, FaultPlan}
 use Rattle.leaf_journal.specs.Records.{marker}
 use Rattle.node_replies.specs.Roles.{Wallet}
