@@ -28,7 +28,8 @@ pub mod Drives
 pub mod SampleLines
 pub mod Moments
 mod CutRuns
-mod CutOpenings
+pub mod CutOpenings
+mod CutInits
 mod Samples
 mod CutSample
 pub mod Identities

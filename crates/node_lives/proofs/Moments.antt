@@ -1,11 +1,11 @@
 -- At each moment of a session a call may be cut off: what its disks told then, they tell in front of a device call that
 -- fails, or of none.
-use Rattle.std.proofs.Common.{◌≡◌, ◌⊎◌, ◌<◌, ◌≤◌, ℕ, zero, suc, Bool, true, List, [], ◌∷◌, ◌++◌, length, take, Option, Some, None, Ok, refl, sym, ap, ◌∙◌, subst, inl, inr, arith, append_assoc}
+use Rattle.std.proofs.Common.{◌≡◌, ◌⊎◌, ◌<◌, ◌≤◌, ℕ, zero, suc, Bool, true, false, List, [], ◌∷◌, ◌++◌, length, take, drop, Option, Some, None, Ok, refl, sym, ap, ◌∙◌, subst, inl, inr, arith, append_assoc}
 use Rattle.std.specs.Option.{option_map}
 use Rattle.std.specs.List.{All}
 use Rattle.std.proofs.lemmas.List.Elements.{All-nil, All-cons, All-head, All-tail}
-use Rattle.crash_disk.specs.Disk.{DeviceCall, History, before_last, LeavesOnly}
-use Rattle.crash_disk.specs.Calls.{WhereTold, passed, failed_after, stopped_after, after_course}
+use Rattle.crash_disk.specs.Disk.{Step, DeviceCall, History, LeavesOnly}
+use Rattle.crash_disk.specs.Calls.{WhereTold, passed, failed_after, stopped_after, made_of, after_course}
 use Rattle.gate_journal.specs.Image.{most, spelled}
 use Rattle.gate_journal.specs.Journal.{IsSettled, KeepsWithOrWithout}
 use Rattle.gate_journal.specs.Steps.{append_steps}
@@ -58,23 +58,39 @@ some-of make (Some one) new is = (one, refl, cc is)
 
 -- ---- the last device call failed
 
-pub record FailsLast (gate : ℕ) (body : List ℕ) (made : ℕ) (history : History) : Type 0 where
-  pub before : after_course (stopped_after made) (append_steps gate body) history
-      ≡ before_last 1 (after_course (failed_after made) (append_steps gate body) history)
-  pub failed : All (λ (call : DeviceCall). call.failed ≡ true)
-      (take 1 (after_course (failed_after made) (append_steps gate body) history).calls)
-
 pub one-failed : (call : DeviceCall) → call.failed ≡ true
     → All (λ (one : DeviceCall). one.failed ≡ true) (call ∷ [])
 one-failed call is =
     All-cons (λ (one : DeviceCall). one.failed ≡ true) call [] is (All-nil (λ (one : DeviceCall). one.failed ≡ true))
 
-pub fails-last : (gate : ℕ) (body : List ℕ) (made : ℕ) (history : History) → made < 4 → FailsLast gate body made history
-fails-last gate body zero history few = record { before = refl; failed = one-failed _ refl }
-fails-last gate body (suc zero) history few = record { before = refl; failed = one-failed _ refl }
-fails-last gate body (suc (suc zero)) history few = record { before = refl; failed = one-failed _ refl }
-fails-last gate body (suc (suc (suc zero))) history few = record { before = refl; failed = one-failed _ refl }
-fails-last gate body (suc (suc (suc (suc more)))) history few = absurd (omega (arith, few))
+stopped-calls : (count : ℕ) (steps : List Step) (calls : List DeviceCall) → count < length steps
+    → made_of count (take count steps) calls ≡ drop 1 (made_of count steps calls)
+stopped-calls count [] calls few = absurd (omega (arith, few))
+stopped-calls zero (step ∷ steps) calls few = refl
+stopped-calls (suc count) (step ∷ steps) calls few =
+    stopped-calls count steps (record { step = step; failed = false } ∷ calls) (omega (arith, few))
+
+last-failed : (count : ℕ) (steps : List Step) (calls : List DeviceCall) → count < length steps
+    → All (λ (call : DeviceCall). call.failed ≡ true) (take 1 (made_of count steps calls))
+last-failed count [] calls few = absurd (omega (arith, few))
+last-failed zero (step ∷ steps) calls few = one-failed _ refl
+last-failed (suc count) (step ∷ steps) calls few =
+    last-failed count steps (record { step = step; failed = false } ∷ calls) (omega (arith, few))
+
+-- a disk whose next device call fails
+pub next-fails : (count : ℕ) (steps : List Step) (before moment : History) (disk : Drive) → count < length steps
+    → moment ≡ after_course (stopped_after count) steps before
+    → disk.history ≡ after_course (failed_after count) steps before → FailsSince told moment disk
+next-fails count steps before moment disk few is fails = record {
+  now = after_course (failed_after count) steps before;
+  told_is = ap (λ (h : History). Some h) fails;
+  count = 1;
+  before =
+      is
+      ∙ ap (λ (calls : List DeviceCall). record { began = before.began; calls = calls })
+      (stopped-calls count steps before.calls few);
+  failed = last-failed count steps before.calls few;
+}
 
 pub none-since : (disk : Drive) → FailsSince told disk.history disk
 none-since disk = record {
@@ -176,7 +192,6 @@ fails-part body at history rests appending =
     let there = some-of (after_course (stopped_after appending.made) (append_steps gate body)) at.told history
     appending.told_is in
     let now = after_course (failed_after appending.made) (append_steps gate body) there.0 in
-    let last = fails-last gate body appending.made there.0 appending.few in
     let settled = rests there.0 (record { told_is = there.1; fit = appending.all_fit }) in
     let base : LeavesOnly there.0 now (KeepsWithOrWithout at.records body) =
     course_leaves there.0 at.records body (settled_rests there.0 at.records settled) appending.fits
@@ -195,13 +210,9 @@ fails-part body at history rests appending =
             (subst (λ (h : History). LeavesOnly there.0 h (KeepsWithOrWithout at.records body)) two base));
         faults_are = refl;
       };
-      since = record {
-        now = now;
-        told_is = refl;
-        count = 1;
-        before = sym there.2 ∙ last.before;
-        failed = last.failed;
-      };
+      since =
+          next-fails appending.made (append_steps gate body) there.0 history
+          (drive now (faults_after at.faults true)) appending.few (sym there.2) refl;
     }
 
 -- the note's append, and the leaf's record's

@@ -1,12 +1,13 @@
--- The moments of a run, told without a fault: within the openings of its disks; and of its session behind lines that it
--- answered, within the appends of the next command, or behind these. At each of them a call may be cut off. Over drives,
--- whose faults to come are any.
+-- The moments of a call, told without a fault: of an init before each of its device calls; of a run within the openings
+-- of its disks, and in its session behind lines that it answered, within the appends of the next command, or behind
+-- these; and at the end. At each of them a call may be cut off. Over drives, whose faults to come are any.
 use Rattle.std.specs.Prelude.{◌≡◌, ◌⊎◌, ◌≤◌, ◌<◌, ℕ, Bool, false, List, [], length, Option, Some, None}
 use Rattle.std.specs.List.{All}
-use Rattle.crash_disk.specs.Disk.{History, content}
+use Rattle.crash_disk.specs.Disk.{Step, History, content}
 use Rattle.crash_disk.specs.Calls.{stopped_after, after_course}
 use Rattle.gate_journal.specs.Image.{most}
 use Rattle.gate_journal.specs.Steps.{open_steps}
+use Rattle.node_journal.specs.Begin.{is_taken, journal_steps, init_steps, IsAsked, PassesInit, IsLong, IsShort}
 use Rattle.node_journal.specs.Notes.{NotesState, Opened}
 use Rattle.node_journal.specs.Role.{role_in}
 use Rattle.node_journal.specs.Parts.{Parts, alone, both, OfEach}
@@ -26,10 +27,10 @@ use Rattle.node_runs.specs.Sessions.{Outside, Begins, AtNext}
 use Rattle.node_runs.specs.Runs.{node_rules, node_found}
 use Rattle.node_runs.specs.Operators.{desk_records_in}
 use Rattle.node_lives.specs.Disks.{Pair}
-use Rattle.node_lives.specs.Calls.{Asked, ToRun}
+use Rattle.node_lives.specs.Calls.{Asked, NotesAlone, BothDisks, ToBegin, ToRun}
 use Rattle.node_lives.specs.Cuts.{Cut}
 use Rattle.node_lives.specs.Answered.{Lines, Ran, ran_with, ran_in}
-use Rattle.node_lives.specs.Samples.{Drive, told, foretold, met}
+use Rattle.node_lives.specs.Samples.{Drive, told, foretold, met, DriveCall}
 
 -- A part's disk tells this. Each record has a length that an append takes.
 pub record Tells (at : NotesAt) (history : History) : Type 0 where
@@ -44,11 +45,11 @@ pub record Appending (body : List ℕ) (at : NotesAt) (history : History) : Type
   pub few : made < 4
   pub told_is : told_after (stopped_after made) at body ≡ Some history
 
--- of the three device calls of an opening so many were made, and not all
-pub record Opening (old : Drive) (history : History) : Type 0 where
+-- of these device calls, over what the disk held, so many were made, and not all
+pub record Making (steps : List ℕ → List Step) (old : Drive) (history : History) : Type 0 where
   pub made : ℕ
-  pub few : made < 3
-  pub told_is : history ≡ after_course (stopped_after made) (open_steps (content old.history)) old.history
+  pub few : made < length (steps (content old.history))
+  pub told_is : history ≡ after_course (stopped_after made) (steps (content old.history)) old.history
 
 -- nothing was read or written
 pub record DoesNothing (outside : Outside) : Type 0 where
@@ -93,16 +94,55 @@ module _ (dig : List ℕ → List ℕ) where
     pub notes_is : cut.notes ≡ notes
     pub leaves_is : cut.leaves ≡ leaves
 
+  -- A call that ended may be cut off at its end.
+  abbrev pub EndsMayBeCut : Type 0
+  EndsMayBeCut = (call : DriveCall dig)
+      → IsCutAt call.asked call.old call.outside (ran_in told foretold met dig call) call.new.notes.history
+      call.new.leaves.history
+
+  -- An init may be cut off before each of its device calls. Of one of both disks: before the notes are asked for their
+  -- length; behind that, where they are long, as their journal is opened, as that of the leaves is made or opened, and as
+  -- the identity is appended to the notes; and where they are short, as the leaves' journal is made or opened, and as the
+  -- notes' one is, with the identity.
+  pub record InitsMayBeCut : Type 0 where
+    pub alone : (identity : List ℕ) (old : Pair Drive) (outside : Outside) (notes : History) → DoesNothing outside
+        → Making (init_steps identity) old.notes notes
+        → IsCutAt (ToBegin NotesAlone identity) old outside None notes old.leaves.history
+    pub unasked : (identity : List ℕ) (old : Pair Drive) (outside : Outside) → DoesNothing outside
+        → IsCutAt (ToBegin BothDisks identity) old outside None old.notes.history old.leaves.history
+    pub long_notes : (identity : List ℕ) (old : Pair Drive) (asked : Drive) (outside : Outside) (notes : History)
+        → DoesNothing outside → IsAsked told foretold met old.notes asked → IsLong (told asked)
+        → Making journal_steps asked notes
+        → IsCutAt (ToBegin BothDisks identity) old outside None notes old.leaves.history
+    pub leaves_behind : (identity : List ℕ) (old : Pair Drive) (asked opened : Drive) (outside : Outside)
+        (leaves : History) → DoesNothing outside → IsAsked told foretold met old.notes asked → IsLong (told asked)
+        → PassesInit told foretold met journal_steps asked opened → Making journal_steps old.leaves leaves
+        → IsCutAt (ToBegin BothDisks identity) old outside None opened.history leaves
+    pub identity_behind : (identity : List ℕ) (old : Pair Drive) (asked leaves : Drive) (outside : Outside)
+        (notes : History) → DoesNothing outside → IsAsked told foretold met old.notes asked → IsLong (told asked)
+        → is_taken (content asked.history) ≡ false → PassesInit told foretold met journal_steps old.leaves leaves
+        → (making : Making (init_steps identity) asked notes)
+        → length (journal_steps (content asked.history)) ≤ making.made
+        → IsCutAt (ToBegin BothDisks identity) old outside None notes leaves.history
+    pub leaves_first : (identity : List ℕ) (old : Pair Drive) (asked : Drive) (outside : Outside) (leaves : History)
+        → DoesNothing outside → IsAsked told foretold met old.notes asked → IsShort (told asked)
+        → Making journal_steps old.leaves leaves
+        → IsCutAt (ToBegin BothDisks identity) old outside None asked.history leaves
+    pub notes_behind : (identity : List ℕ) (old : Pair Drive) (asked leaves : Drive) (outside : Outside)
+        (notes : History) → DoesNothing outside → IsAsked told foretold met old.notes asked → IsShort (told asked)
+        → PassesInit told foretold met journal_steps old.leaves leaves → Making (init_steps identity) asked notes
+        → IsCutAt (ToBegin BothDisks identity) old outside None notes leaves.history
+
   -- A run of each role may be cut off within the opening of its notes, and within that of its leaves behind it.
   pub record OpeningsMayBeCut : Type 0 where
     pub notes : (role : Role) (old : Pair Drive) (outside : Outside) (notes : History) → DoesNothing outside
-        → Opening old.notes notes → IsCutAt (ToRun role) old outside None notes old.leaves.history
+        → Making open_steps old.notes notes → IsCutAt (ToRun role) old outside None notes old.leaves.history
     pub wallet : (old : Pair Drive) (opened : NotesState Drive) (outside : Outside) (leaves : History)
-        → OpensNotes told foretold met dig old.notes opened → DoesNothing outside → Opening old.leaves leaves
+        → OpensNotes told foretold met dig old.notes opened → DoesNothing outside → Making open_steps old.leaves leaves
         → IsCutAt (ToRun Wallet) old outside None opened.disk.history leaves
     pub desk : (old : Pair Drive) (opened : NotesState Drive) (seed : List ℕ) (outside : Outside) (leaves : History)
         → Opened told foretold met (role_in operator_kinds) old.notes opened
-        → (who_is opened.records).key_seed ≡ Some seed → DoesNothing outside → Opening old.leaves leaves
+        → (who_is opened.records).key_seed ≡ Some seed → DoesNothing outside → Making open_steps old.leaves leaves
         → IsCutAt (ToRun Operator) old outside None opened.disk.history leaves
 
   -- Behind an opening that went through a run may be cut off at each moment of its session.

@@ -1,7 +1,7 @@
 ghost use Rattle.std.specs.Prelude.{List, ℕ};
 ghost use Rattle.node_lives.specs.Cuts.{CutsAreFaults};
 ghost use Rattle.node_lives.specs.CutLaws.{LawsThroughCuts};
-ghost use Rattle.node_lives.specs.Moments.{OpeningsMayBeCut, SessionsMayBeCut};
+ghost use Rattle.node_lives.specs.Moments.{EndsMayBeCut, InitsMayBeCut, OpeningsMayBeCut, SessionsMayBeCut};
 ghost use Rattle.node_lives.specs.Samples.{SmallLife};
 ghost use Rattle.node_lives.specs.CutSample.{SmallLifeWithCut};
 ghost use Rattle.node_lives.specs.Laws.{IdentitiesAreOfTheirRoles, BegunNodesStay, RunsWriteTheirAnswers, AnsweredRecordsStand, LeavesGiveOutOneMessage};
@@ -58,6 +58,16 @@ pub fn cuts_are_faults<D: Disk>()
 /// of a wallet's key gives out one message, in calls that ended and in those that were cut off.
 pub fn laws_hold_through_cuts<D: Disk>()
     ensures { (dig : List ℕ → List ℕ) → LawsThroughCuts D.told D.plan D.faults dig }
+{}
+
+/// A call that ended may be cut off at its end.
+pub fn ends_may_be_cut()
+    ensures { (dig : List ℕ → List ℕ) → EndsMayBeCut dig }
+{}
+
+/// An init, of the notes alone or of both disks, may be cut off before each of its device calls.
+pub fn inits_may_be_cut()
+    ensures { (dig : List ℕ → List ℕ) → InitsMayBeCut dig }
 {}
 
 /// A run of a node may be cut off within the opening of its notes, and within that of its leaves.
