@@ -137,7 +137,8 @@ module _ {R C : Type 0} (rules : Rules R C) (first : R) where
       ∙ ap (λ (waits : Bool). if waits then Err ReadFault else next) (whole-waits ended)
       ∙ ap (stream_or stream) (ap (rules.next stream.run) (line-text text) ∙ does)
 
-  pub answered-line : (front text : List ℕ) (stream : Stream R) (answered : R × List ℕ) → RunsTo rules first front stream
+  pub answered-line : (front text : List ℕ) (stream : Stream R) (answered : R × List ℕ)
+      → RunsTo rules first front stream
       → plain text ≡ true → is_too_long (next_number stream) (length front) (text ++ 10 ∷ []) ≡ false
       → rules.next stream.run text ≡ Ok answered
       → RunsTo rules first (front ++ (text ++ 10 ∷ [])) (with_answer stream answered)

@@ -196,9 +196,10 @@ module _ (dig : List ℕ → List ℕ) (long : (bytes : List ℕ) → length (di
   unfolding next_line
   deposits =
       ap (λ (b : Bool). if b then Ok (record named { is_over = true }, [])
-      else joins named (longer_log (option_map (λ call. with_log chain (call ∷ chain.log)) (call_in deposit_line)))) not-end
-      ∙ ap (λ (c : Option RootCall). joins named (longer_log (option_map (λ call. with_log chain (call ∷ chain.log)) c)))
-      deposit-read
+      else joins named (longer_log (option_map (λ call. with_log chain (call ∷ chain.log)) (call_in deposit_line))))
+      not-end
+      ∙ ap (λ (c : Option RootCall). joins named
+      (longer_log (option_map (λ call. with_log chain (call ∷ chain.log)) c))) deposit-read
 
   ends-log : rules.next deposited (codes "--") ≡ Ok (over, [])
   unfolding next_line
@@ -218,8 +219,8 @@ module _ (dig : List ℕ → List ℕ) (long : (bytes : List ℕ) → length (di
   gives-receipt : rules.next ready receipt_line ≡ Ok (last, answer)
   unfolding next_line
   gives-receipt =
-      ap (λ (c : Option OperatorLine). leaves ready (command_line (node_does desk_commands) (log dig long) ready.node c))
-      receipt-read
+      ap (λ (c : Option OperatorLine). leaves ready
+      (command_line (node_does desk_commands) (log dig long) ready.node c)) receipt-read
       ∙ ap (λ (o : Outcome). leaves ready (done (node_with with_note ready.node o))) outcome-is
 
   -- the streams behind them

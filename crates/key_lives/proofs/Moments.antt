@@ -200,8 +200,8 @@ says-ends (Err cause) taken after' wrote = record { front = wrote; fault = λ is
 
 module _ (dig : List ℕ → List ℕ) (message : List ℕ) (old : Pair Drive) (outside : Outside) where
   cut-at : (new : Pair Drive) (run : Option SignerRun) (notes leaves : History)
-      → (did : RunsSigner told foretold met outside.taken outside.after WriteFault message old.notes old.leaves new.notes
-      new.leaves)
+      → (did : RunsSigner told foretold met outside.taken outside.after WriteFault message old.notes old.leaves
+      new.notes new.leaves)
       → signer_run told foretold met dig message old new outside WriteFault did ≡ run
       → FailsSince told notes new.notes → FailsSince told leaves new.leaves
       → IsSigningCutAt dig message old outside run notes leaves

@@ -11,9 +11,9 @@ use Rattle.key_lives.specs.Signers.{SignerRun, left_by, signer_run_in, SignsBy}
 use Rattle.key_lives.specs.SignerLaws.{BeginsSigner, FindsTheSigner, SignedStandIn}
 use Rattle.key_lives.specs.Desks.{GivesReceipt}
 
--- Over disks that tell their history, foretell their faults and count them, and under a digest: once a signer was begun,
--- each later step finds it; the records of what a step signed stand in every later one; no leaf of either level signs
--- two messages; and no leaf of an operator's key two promises.
+-- Over disks that tell their history, foretell their faults and count them, and under a digest: once a signer was
+-- begun, each later step finds it; the records of what a step signed stand in every later one; no leaf of either level
+-- signs two messages; and no leaf of an operator's key two promises.
 pub record KeysThroughCuts {D : Type 0} (told : D → Option History) (plan : D → Option FaultPlan) (faults : D → ℕ)
     (dig : List ℕ → List ℕ) : Type 0 where
   pub begun : (later earlier : List (LifeStep told plan faults dig)) (first : LifeStep told plan faults dig)

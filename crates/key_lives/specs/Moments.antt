@@ -45,8 +45,8 @@ module _ (dig : List ℕ → List ℕ) where
     pub notes_is : cut.notes ≡ notes
     pub leaves_is : cut.leaves ≡ leaves
 
-  -- A signing may be cut off within the opening of its notes, and within that of its leaves behind it; behind both within
-  -- each of its appends, before it wrote anything; and behind these, where it wrote a beginning of its answer.
+  -- A signing may be cut off within the opening of its notes, and within that of its leaves behind it; behind both
+  -- within each of its appends, before it wrote anything; and behind these, where it wrote a beginning of its answer.
   pub record SigningsMayBeCut : Type 0 where
     pub notes : (message : List ℕ) (old : Pair Drive) (outside : Outside) (notes : History)
         → WroteFront outside.taken outside.after [] → Making open_steps old.notes notes

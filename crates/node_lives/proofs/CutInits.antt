@@ -120,7 +120,8 @@ module _ (dig : List ℕ → List ℕ) (identity : List ℕ) (old : Pair Drive) 
         → PassesInit told foretold met journal_steps asked opened → Making journal_steps old.leaves leaves
         → IsCutAt dig (ToBegin BothDisks identity) old outside None opened.history leaves
     leaves-behind opened leaves long passes making =
-        pair-cut (record { notes = opened; leaves = failing journal_steps making.made old.leaves }) opened.history leaves
+        pair-cut (record { notes = opened; leaves = failing journal_steps making.made old.leaves }) opened.history
+        leaves
         (inl (long, inr (inl (passes, empty-stops old.leaves leaves making))))
         (none-since opened) (making-fails journal_steps old.leaves leaves making)
 

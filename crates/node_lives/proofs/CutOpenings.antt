@@ -100,8 +100,8 @@ module _ (dig : List ℕ → List ℕ) (old : Pair Drive) (outside : Outside) (n
     record Refused (seed : Option (List ℕ)) : Type 0 where
       runs : RunsBehind told foretold met dig seed opened old.leaves opened.disk
           (failing open_steps opening.made old.leaves) outside (Unit {0}) WriteFault
-      is : behind_ran told foretold met dig seed opened old.leaves opened.disk (failing open_steps opening.made old.leaves)
-          outside WriteFault runs ≡ None
+      is : behind_ran told foretold met dig seed opened old.leaves opened.disk
+          (failing open_steps opening.made old.leaves) outside WriteFault runs ≡ None
 
     refused : (seed : List ℕ) (other : Option (List ℕ)) → other ≡ Some seed → Refused other
     unfolding behind_ran

@@ -151,10 +151,11 @@ module _ (dig : List ℕ → List ℕ) (old : Pair Drive) (outside : Outside) wh
         old.leaves.history
     operator-cut is new_notes (Some new_leaves) status session same fails none = absurd none
     operator-cut is new_notes None status session same fails none =
-        behind-cut opened opens lines notes old.leaves.history (record { notes = new_notes; leaves = old.leaves }) status
+        behind-cut opened opens lines notes old.leaves.history (record { notes = new_notes; leaves = old.leaves })
+        status
         (ran_with (alone opened) lines)
-        (keyless opened opens lines notes old.leaves.history (who_is opened.records).key_seed is new_notes status session
-        same)
+        (keyless opened opens lines notes old.leaves.history (who_is opened.records).key_seed is new_notes status
+        session same)
         fails (none-since old.leaves)
 
 module _ (dig : List ℕ → List ℕ) where

@@ -1,5 +1,5 @@
--- What a crash leaves at the moment of a cut is among what it leaves behind device calls that all failed since: so a life
--- with cuts is a life.
+-- What a crash leaves at the moment of a cut is among what it leaves behind device calls that all failed since: so a
+-- life with cuts is a life.
 use Rattle.std.proofs.Common.{◌≡◌, ℕ, zero, suc, Bool, true, false, List, [], ◌∷◌, ◌++◌, length, take, drop, Option, sym, ap, subst, arith}
 use Rattle.std.specs.List.{All}
 use Rattle.std.proofs.lemmas.List.{map-append}

@@ -9,11 +9,12 @@ use Rattle.node_lives.specs.Answered.{Ran, ran_in, GivesOut}
 use Rattle.node_lives.specs.Laws.{Begins, FindsTheNode, StandIn}
 
 -- Over disks that tell their history, foretell their faults and count them, and under a digest: once a node was begun,
--- each later step finds it; the records of the lines that a step answered stand in every later one; and what a leaf of a
--- wallet's key gave out is one message.
+-- each later step finds it; the records of the lines that a step answered stand in every later one; and what a leaf of
+-- a wallet's key gave out is one message.
 pub record LawsThroughCuts {D : Type 0} (told : D → Option History) (plan : D → Option FaultPlan) (faults : D → ℕ)
     (dig : List ℕ → List ℕ) : Type 0 where
-  pub begun : (role : Role) (later earlier : List (LifeStep told plan faults dig)) (first : LifeStep told plan faults dig)
+  pub begun : (role : Role) (later earlier : List (LifeStep told plan faults dig))
+      (first : LifeStep told plan faults dig)
       → IsLifeWithCuts told plan faults dig (later ++ first ∷ earlier)
       → (begins : Begins told plan faults dig role (call_in told plan faults dig first))
       → All (FindsTheNode told plan faults dig role begins.identity) (calls_in told plan faults dig later)

@@ -8,8 +8,8 @@ use Rattle.node_lives.specs.Calls.{BothDisks, ToBegin, ToRun}
 use Rattle.node_lives.specs.Cuts.{Cut, Ended, CutOff, IsLifeWithCuts}
 use Rattle.node_lives.specs.Samples.{told, foretold, met, identity, DriveCall, Went}
 
--- Under a digest: the cut run answered no command and wrote nothing. Behind it the same command is done once more, where
--- the crash took its record, and refused, where the crash left it.
+-- Under a digest: the cut run answered no command and wrote nothing. Behind it the same command is done once more,
+-- where the crash took its record, and refused, where the crash left it.
 pub record SmallLifeWithCut (dig : List ℕ → List ℕ) : Type 0 where
   pub begun : DriveCall dig
   pub cut : Cut told foretold met dig

@@ -26,8 +26,8 @@ module _ {D : Type 0} (told : D → Option History) where
 module _ {D : Type 0} (told : D → Option History) (plan : D → Option FaultPlan) (faults : D → ℕ)
     (dig : List ℕ → List ℕ) where
   -- A call that was cut off: what its disks told at that moment, and the call that it is where from that moment on no
-  -- device call passes and the sink takes nothing. Up to the moment the two are one, since a program knows what comes by
-  -- the answers that it gets. So the cut call wrote what that one wrote.
+  -- device call passes and the sink takes nothing. Up to the moment the two are one, since a program knows what comes
+  -- by the answers that it gets. So the cut call wrote what that one wrote.
   pub record Cut : Type 0 where
     pub call : Call told plan faults dig
     pub notes : History
@@ -63,9 +63,9 @@ module _ {D : Type 0} (told : D → Option History) (plan : D → Option FaultPl
   IsLifeWithCuts (step ∷ steps) =
       BothTell told (call_in step).old × LieBehindSteps steps (call_in step).old × IsLifeWithCuts steps
 
-  -- What a crash leaves at the moment of a cut is among what a crash leaves of the call that faults broke off there. So
-  -- a life with cuts is a life, and what holds of lives holds of it: of the calls that ended, and of those that were cut
-  -- off as of calls that faults broke off.
+  -- What a crash leaves at the moment of a cut is among what a crash leaves of the call that faults broke off there.
+  -- So a life with cuts is a life, and what holds of lives holds of it: of the calls that ended, and of those that
+  -- were cut off as of calls that faults broke off.
   pub record CutsAreFaults : Type 0 where
     pub images : (cut : Cut) (next : Pair D) → LieBehindStep (CutOff cut) next → BothLie told cut.call.new next
     pub lives : (later earlier : List LifeStep) (first : LifeStep) → IsLifeWithCuts (later ++ first ∷ earlier)

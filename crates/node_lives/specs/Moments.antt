@@ -82,8 +82,8 @@ module _ (dig : List ℕ → List ℕ) where
         → Moment outside bytes ended disks → Lines (NodeAt NotesAt)
     lines_by {bytes = bytes} moment = record { bytes = bytes; stream = moment.before }
 
-  -- a call that was asked for this on these disks, did this outside, answered these lines, if it was opened, and was cut
-  -- off as its disks told this
+  -- a call that was asked for this on these disks, did this outside, answered these lines, if it was opened, and was
+  -- cut off as its disks told this
   pub record IsCutAt (asked : Asked) (old : Pair Drive) (outside : Outside) (ran : Option Ran) (notes leaves : History)
       : Type 0 where
     pub cut : Cut told foretold met dig
@@ -101,9 +101,9 @@ module _ (dig : List ℕ → List ℕ) where
       call.new.leaves.history
 
   -- An init may be cut off before each of its device calls. Of one of both disks: before the notes are asked for their
-  -- length; behind that, where they are long, as their journal is opened, as that of the leaves is made or opened, and as
-  -- the identity is appended to the notes; and where they are short, as the leaves' journal is made or opened, and as the
-  -- notes' one is, with the identity.
+  -- length; behind that, where they are long, as their journal is opened, as that of the leaves is made or opened, and
+  -- as the identity is appended to the notes; and where they are short, as the leaves' journal is made or opened, and
+  -- as the notes' one is, with the identity.
   pub record InitsMayBeCut : Type 0 where
     pub alone : (identity : List ℕ) (old : Pair Drive) (outside : Outside) (notes : History) → DoesNothing outside
         → Making (init_steps identity) old.notes notes
