@@ -22,6 +22,7 @@ use Rattle.money_laws.specs.Keepers.{keeps, IsKeeper}
 use Rattle.money_laws.specs.MoneyLaws.{AreOnOffer, is_in_time, wins_in, OnlyGuarded}
 use Rattle.money_laws.specs.Samples.{rules, tag, digest, began, attacked, exit_one, exit_two, before_one, before_two, before_by_friend, own_exit, received, old_exit, after, commits, second, second_exit, between}
 
+-- openings are judged by the digest of these samples
 abbrev pub tests : Tests
 tests = tests_by digest
 
