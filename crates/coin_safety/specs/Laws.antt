@@ -1,0 +1,146 @@
+-- What holds of the calls and the words.
+use Rattle.std.specs.Prelude.{◌≡◌, ◌≢◌, ◌⊎◌, ℕ, ◌+◌, ◌-◌, ◌<◌, ◌≤◌, ◌==◌, ◌&&◌, Bool, true, false, List, [], ◌∷◌, ◌++◌, length, Option, Some, None}
+use Rattle.std.specs.List.{Contains, flat_map, sum_by}
+use Rattle.plasma_tx.specs.declared.call.RootCall.{RootCall}
+use Rattle.plasma_tx.specs.declared.call.RootCall.TheVariants.{After, Between, Before, Finish}
+use Rattle.plasma_tx.specs.declared.views.ExitView.{ExitView}
+use Rattle.plasma_tx.specs.declared.rules.TheConstants.{CHALLENGE_WINDOW, RESPONSE_WINDOW, EXIT_PERIOD}
+use Rattle.plasma_tx.specs.Money.{balance_of}
+use Rattle.plasma_tx.specs.Shown.{Tests, Rules}
+use Rattle.plasma_tx.specs.Table.{answer_to, is_accepted}
+use Rattle.plasma_tx.specs.Views.{now, exit_at, has_no_open_challenge, is_withdrawn}
+use Rattle.coin_history.specs.declared.bundle.Bundle.{Bundle}
+use Rattle.coin_history.specs.History.{IsHistory}
+use Rattle.watch_duty.specs.Duty.{due_for, due_of}
+use Rattle.watch_duty.specs.Laws.{IsLegalBy, HaveOneLeaf, openings_of_call, is_poor_before}
+use Rattle.coin_safety.specs.declared.kept.Kept.{Kept}
+use Rattle.coin_safety.specs.declared.word.Word.{Word}
+use Rattle.coin_safety.specs.declared.word.Word.TheVariants.{Safe, Act, Sent, Leaving, Paid, Gone, Late, Frozen, Stale}
+use Rattle.coin_safety.specs.Numbers.{later}
+use Rattle.coin_safety.specs.Advice.{standing, tip, due, calls_of, takes, missing}
+use Rattle.coin_safety.specs.Words.{next_line, starter, holder, ends_of, end_of_call, word_of}
+
+-- ---- the calls
+
+-- the call cancels the exit of coin c at block e
+abbrev pub is_cancel : ℕ → ℕ → RootCall → Bool
+is_cancel c e (After account coin exit spend) = (coin == c) && (exit == e)
+is_cancel c e (Between account coin exit spend) = (coin == c) && (exit == e)
+is_cancel c e call = false
+
+-- The call is among these. In place of a Before there may be one that cancels its exit.
+abbrev pub IsMet : List RootCall → RootCall → Type 0
+IsMet calls (Before account c e shown) =
+    Contains calls (Before account c e shown)
+    ⊎ ((other : RootCall) × Contains calls other × (is_cancel c e other ≡ true))
+IsMet calls call = Contains calls call
+
+-- Each call that is due for a coin that wasn't signed away is among those that are advised, or one of these does better.
+abbrev pub NothingDueIsLeftOut : Type 0
+NothingDueIsLeftOut = (log : List RootCall) (account : ℕ) (kept : Kept) (call : RootCall) → kept.sent ≡ None
+    → Contains (due_of log account (record { links = kept.links })) call → IsMet (calls_of log account kept) call
+
+-- Each call that is advised for the history of a coin is accepted, unless it is a Before for which there is no money,
+-- in a log of calls that were accepted under these tests, where no two openings of that history and of the log's calls
+-- of the coin show two leaves of one root.
+abbrev pub ActsAreAccepted : Type 0
+ActsAreAccepted = (tests : Tests) (rules : Rules) (log : List RootCall) (account : ℕ) (bundle : Bundle) (kept : Kept)
+    (call : RootCall)
+    → IsLegalBy tests rules log → IsHistory tests rules log bundle kept.links
+    → HaveOneLeaf tests log bundle.coin (flat_map (openings_of_call bundle.coin) log ++ bundle.openings)
+    → Contains (calls_of log account kept) call
+    → is_poor_before log account call ≡ false → is_accepted (answer_to tests rules log call) ≡ true
+
+-- ---- money
+
+-- the log with these calls entered, one after the other
+unfoldable pub with_calls : List RootCall → List RootCall → List RootCall
+with_calls log [] = log
+with_calls log (call ∷ calls) = with_calls (call ∷ log) calls
+
+-- Who has what calls take together has what each takes, when its turn comes: what the others do meanwhile takes no more.
+abbrev pub EnoughIsEnough : Type 0
+EnoughIsEnough = (log : List RootCall) (account : ℕ) (earlier : List RootCall) (call : RootCall)
+    (after : List RootCall)
+    → sum_by takes (earlier ++ call ∷ after) ≤ balance_of log account
+    → takes call ≤ balance_of (with_calls log earlier) account
+
+-- So where no money is missing, none is when the turn of a call comes.
+abbrev pub NoneIsPoor : Type 0
+NoneIsPoor = (log : List RootCall) (account : ℕ) (calls earlier : List RootCall) (call : RootCall)
+    (after : List RootCall)
+    → missing log account calls ≡ 0 → calls ≡ earlier ++ call ∷ after
+    → is_poor_before (with_calls log earlier) account call ≡ false
+
+-- ---- the words
+
+-- the coin wasn't signed away, and isn't paid out
+abbrev pub IsHere : List RootCall → Kept → Type 0
+IsHere log kept = (kept.sent ≡ None) × (is_withdrawn log kept.links.coin ≡ false)
+
+-- the ends of the windows of the coin's exits
+abbrev pub ends : List RootCall → Kept → List ℕ
+ends log kept = flat_map (ends_of (tip kept)) (standing log kept)
+
+-- none of them has come by that clock
+abbrev pub AreAhead : List RootCall → ℕ → Kept → Type 0
+AreAhead log clock kept = (end : ℕ) → Contains (ends log kept) end → clock < end
+
+-- nothing is due for any exit of the coin
+abbrev pub NothingIsDue : List RootCall → ℕ → Kept → Type 0
+NothingIsDue log account kept =
+    (exit : ExitView) → Contains (standing log kept) exit → due_for log account kept.links exit ≡ []
+
+-- The coin is here, the log is fresh by the clock, and no window ended unseen.
+pub record IsFresh (log : List RootCall) (clock : ℕ) (kept : Kept) : Type 0 where
+  pub here : IsHere log kept
+  pub in_time : AreAhead log (now log) kept
+  pub by_clock : AreAhead log clock kept
+  pub young : clock ≤ now log + RESPONSE_WINDOW
+
+-- A Finish that paid the coin stands in this line, of an exit that the account started: no challenge of it was open,
+-- and the coin wasn't paid out before.
+pub record IsPaidOut (log : List RootCall) (c account line : ℕ) : Type 0 where
+  pub newer : List RootCall
+  pub older : List RootCall
+  pub by : ℕ
+  pub exit : ℕ
+  pub stands : log ≡ newer ++ Finish by c exit ∷ older
+  pub unpaid : is_withdrawn older c ≡ false
+  pub unchallenged : has_no_open_challenge (exit_at older c exit) ≡ true
+  pub whose : starter (exit_at older c exit) ≡ account
+  pub place : line ≡ next_line older
+
+-- what each word tells
+abbrev pub Tells : List RootCall → ℕ → ℕ → Kept → Word → Type 0
+Tells log account clock kept (Sent leaf) =
+    (kept.sent ≡ Some leaf)
+    × ((exit : ExitView) → Contains (standing log kept) exit → exit.parent ≡ tip kept)
+Tells log account clock kept Frozen =
+    (kept.sent ≢ None) × ((exit : ExitView) × Contains (standing log kept) exit × (exit.parent ≢ tip kept))
+Tells log account clock kept Paid = (kept.sent ≡ None) × ((line : ℕ) × IsPaidOut log kept.links.coin (holder kept) line)
+Tells log account clock kept (Gone whose line) =
+    (kept.sent ≡ None) × (whose ≢ holder kept) × IsPaidOut log kept.links.coin whose line
+Tells log account clock kept (Late since) =
+    IsHere log kept × Contains (ends log kept) since × (since ≤ now log)
+    × ((end : ℕ) → Contains (ends log kept) end → since ≤ end)
+Tells log account clock kept Stale =
+    IsHere log kept × AreAhead log (now log) kept
+    × ((now log + RESPONSE_WINDOW < clock) ⊎ ((end : ℕ) × Contains (ends log kept) end × (end ≤ clock)))
+Tells log account clock kept (Act by money) =
+    IsFresh log clock kept × (due log account kept ≢ [])
+    × ((call : RootCall) → Contains (due log account kept) call → by < end_of_call (standing log kept) call)
+    × (money ≡ missing log account (calls_of log account kept))
+Tells log account clock kept (Leaving opens) =
+    IsFresh log clock kept × NothingIsDue log account kept
+    × ((exit : ExitView) × Contains (standing log kept) exit × (exit.block ≡ tip kept)
+    × (opens ≡ later exit.start EXIT_PERIOD))
+Tells log account clock kept (Safe until) =
+    IsFresh log clock kept × NothingIsDue log account kept
+    × ((exit : ExitView) → Contains (standing log kept) exit → exit.block ≢ tip kept)
+    × (until ≡ later (now log) (CHALLENGE_WINDOW - 1))
+
+-- each word tells what it says
+abbrev pub WordsTell : Type 0
+WordsTell = (log : List RootCall) (account clock : ℕ) (kept : Kept)
+    → Tells log account clock kept (word_of log account clock kept)

@@ -1,0 +1,4 @@
+pub mod Numbers
+pub mod Advice
+pub mod Words
+pub mod Laws

@@ -1,0 +1,31 @@
+use plasma_tx::RootCall;
+
+/// What is said of a coin.
+#[derive(Clone, Copy, PartialEq, Eq)]
+pub enum Word {
+    /// It is held, and nothing is due; so it stays till then without another look.
+    Safe { until: u64 },
+    /// Calls are due: the first at the latest by then, and so much money is missing to enter them all.
+    Act { by: u64, missing: u64 },
+    /// This leaf signed it away.
+    Sent { leaf: u32 },
+    /// The holder's exit stands, and may be finished from then on.
+    Leaving { opens: u64 },
+    /// It was paid out to its holder.
+    Paid,
+    /// It was paid out by an exit of this account, in this line of the log's file.
+    Gone { account: u64, line: u64 },
+    /// A window ended then, and nobody had done what was due.
+    Late { since: u64 },
+    /// It was signed away, and an exit keeps it from being accepted.
+    Frozen,
+    /// The log is too old to tell.
+    Stale,
+}
+
+/// The word, and the calls to enter, in their order.
+#[derive(Drop)]
+pub struct Judgement {
+    pub word: Word,
+    pub calls: Vec<RootCall>,
+}
