@@ -48,13 +48,14 @@ earlier_spend log c exit =
     option_and_then (λ block. if nat_lt block exit.block then start_shown log c block else None)
     (lowest (exits_of log c) exit.parent)
 
--- The call to enter for one that is due: where another standing exit shows an earlier spend of the same parent, a
--- Between, which takes nothing and wins the exit's bond, in place of a Before, which takes a bond and may be answered.
-abbrev pub instead : List RootCall → RootCall → RootCall
-instead log (Before account c block shown) =
-    option_map_or (λ spend. Between account c block spend)
-    (option_and_then (earlier_spend log c) (exit_in (exits_of log c) block)) (Before account c block shown)
-instead log call = call
+-- The call to enter for one that is due for coin c: where another standing exit shows an earlier spend of the same
+-- parent, a Between, which takes nothing and wins the exit's bond, in place of a Before, which takes a bond and may be
+-- answered.
+abbrev pub instead : List RootCall → ℕ → RootCall → RootCall
+instead log c (Before account coin block shown) =
+    option_map_or (λ spend. Between account coin block spend)
+    (option_and_then (earlier_spend log c) (exit_in (exits_of log c) block)) (Before account coin block shown)
+instead log c call = call
 
 -- ---- ends
 
@@ -86,7 +87,7 @@ due log account kept = if is_some kept.sent then [] else due_of log account (rec
 
 -- the calls to enter, in their order
 abbrev pub calls_of : List RootCall → ℕ → Kept → List RootCall
-calls_of log account kept = map (instead log) (due log account kept) ++ finishes log account kept
+calls_of log account kept = map (instead log kept.links.coin) (due log account kept) ++ finishes log account kept
 
 -- what the call takes of the account that enters it
 abbrev pub takes : RootCall → ℕ

@@ -1,11 +1,18 @@
-ghost use Rattle.std.specs.Prelude.{◌≡◌, IfOk};
-ghost use Rattle.coin_safety.specs.Advice.{calls_of};
-ghost use Rattle.coin_safety.specs.Words.{word_of};
+ghost use Rattle.std.specs.Prelude.{◌≡◌, map, Some, None, IfOk, if◌then◌else◌};
+ghost use Rattle.std.specs.List.{list_any};
+ghost use Rattle.coin_safety.specs.Advice.{calls_of, missing, due, standing};
+ghost use Rattle.coin_safety.specs.Numbers.{least};
+ghost use Rattle.coin_safety.specs.Words.{end_of_call, is_strange, sent_word, holder, paid_word, first_end, late_word, stale_word, act_word, leaving_word, safe_word, word_of};
 
+use super::advice::Advice;
 use super::kept::Kept;
-use super::word::Judgement;
+use super::look::Look;
+use super::money::missing;
+use super::payment::payment_of;
+use super::windows::{come, first_exit_end, later};
+use super::word::{Judgement, Word};
 use plasma_base::NoMemory;
-use plasma_tx::RootLog;
+use plasma_tx::{CHALLENGE_WINDOW, EXIT_PERIOD, RESPONSE_WINDOW, RootLog};
 use std::alloc::Global;
 
 /// Whether the coin is safe by this log, and what the account is to enter, where the caller's clock shows that
@@ -20,5 +27,156 @@ pub fn judge(
     ensures word { IfOk result (λ judged. judged.word ≡ word_of log.now.log account clock kept.now) }
     ensures calls { IfOk result (λ judged. judged.calls.items ≡ calls_of log.now.log account kept.now) }
 {
-    Err(NoMemory)
+    let look = Look { log, account, kept };
+    let advice = look.advice(alloc)?;
+    let word = look.word(alloc, clock, &advice)?;
+    Ok(Judgement {
+        word,
+        calls: advice.calls,
+    })
+}
+
+impl Look<'_> {
+    /// The word of the first rule that speaks.
+    fn word(&self, alloc: Global, clock: u64, advice: &Advice) -> Result<Word, NoMemory>
+        requires calls { advice.now.calls.items
+            ≡ calls_of self.now.log.now.log self.now.account self.now.kept.now }
+        requires end { advice.now.end
+            ≡ least (map (end_of_call (standing self.now.log.now.log self.now.kept.now))
+            (due self.now.log.now.log self.now.account self.now.kept.now)) }
+        ensures { IfOk result (λ word. word
+            ≡ word_of self.now.log.now.log self.now.account clock self.now.kept.now) }
+    {
+        if let Some(word) = self.sent_word() {
+            return Ok(word);
+        }
+        if let Some(word) = self.paid_word(alloc)? {
+            return Ok(word);
+        }
+        let end = self.first_end();
+        if let Some(word) = self.late_word(end) {
+            return Ok(word);
+        }
+        if self.is_stale(clock, end) {
+            return Ok(Word::Stale);
+        }
+        if let Some(word) = self.act_word(alloc, advice)? {
+            return Ok(word);
+        }
+        Ok(match self.leaving_word() {
+            Some(word) => word,
+            None => self.safe_word(),
+        })
+    }
+
+    /// The coin was signed away.
+    fn sent_word(&self) -> Option<Word>
+        ensures { result ≡ sent_word self.now.log.now.log self.now.kept.now }
+    {
+        let leaf = self.kept.sent?;
+        if self.has_strange() {
+            return Some(Word::Frozen);
+        }
+        Some(Word::Sent { leaf })
+    }
+
+    /// Whether an exit stands that isn't of the transfer by which the coin was signed away.
+    fn has_strange(&self) -> bool
+        ensures { result ≡ list_any (is_strange self.now.kept.now) (standing self.now.log.now.log self.now.kept.now) }
+    {
+        let tip = self.tip();
+        self.exits().iter().any(|exit| exit.parent != tip)
+    }
+
+    /// The coin was paid out.
+    fn paid_word(&self, alloc: Global) -> Result<Option<Word>, NoMemory>
+        ensures { IfOk result (λ word. word ≡ paid_word self.now.log.now.log self.now.kept.now) }
+    {
+        let Some(paid) = payment_of(alloc, self.log, self.coin())? else {
+            return Ok(None);
+        };
+        if paid.account == self.holder() {
+            return Ok(Some(Word::Paid));
+        }
+        Ok(Some(Word::Gone {
+            account: paid.account,
+            line: paid.line,
+        }))
+    }
+
+    /// The account of the owner at the tip.
+    fn holder(&self) -> u64
+        ensures { result ≡ holder self.now.kept.now }
+    {
+        self.kept.links.last_owner().account
+    }
+
+    /// The first end of a window of the coin's exits.
+    fn first_end(&self) -> Option<u64>
+        ensures { result ≡ first_end self.now.log.now.log self.now.kept.now }
+    {
+        let tip = self.tip();
+        let mut first = None;
+        for exit in self.exits() {
+            first = first_exit_end(first, tip, exit);
+        }
+        first
+    }
+
+    /// A window ended unseen.
+    fn late_word(&self, end: Option<u64>) -> Option<Word>
+        requires { end ≡ first_end self.now.log.now.log self.now.kept.now }
+        ensures { result ≡ late_word self.now.log.now.log self.now.kept.now }
+    {
+        Some(Word::Late {
+            since: come(self.log.now(), end)?,
+        })
+    }
+
+    /// Whether the log is old by the caller's clock.
+    fn is_stale(&self, clock: u64, end: Option<u64>) -> bool
+        requires { end ≡ first_end self.now.log.now.log self.now.kept.now }
+        ensures { (if result then Some Word.Stale else None)
+            ≡ stale_word self.now.log.now.log clock self.now.kept.now }
+    {
+        clock > later(self.log.now(), RESPONSE_WINDOW) || come(clock, end).is_some()
+    }
+
+    /// Calls are due.
+    fn act_word(&self, alloc: Global, advice: &Advice) -> Result<Option<Word>, NoMemory>
+        requires calls { advice.now.calls.items
+            ≡ calls_of self.now.log.now.log self.now.account self.now.kept.now }
+        requires end { advice.now.end
+            ≡ least (map (end_of_call (standing self.now.log.now.log self.now.kept.now))
+            (due self.now.log.now.log self.now.account self.now.kept.now)) }
+        ensures { IfOk result (λ word. word
+            ≡ act_word self.now.log.now.log self.now.account self.now.kept.now) }
+    {
+        let Some(end) = advice.end else {
+            return Ok(None);
+        };
+        let missing = missing(alloc, self.log, self.account, advice.calls.as_slice())?;
+        Ok(Some(Word::Act {
+            by: end.saturating_sub(1),
+            missing,
+        }))
+    }
+
+    /// The holder's exit stands.
+    fn leaving_word(&self) -> Option<Word>
+        ensures { result ≡ leaving_word self.now.log.now.log self.now.kept.now }
+    {
+        Some(Word::Leaving {
+            opens: later(self.tip_exit()?.start, EXIT_PERIOD),
+        })
+    }
+
+    /// Nothing is to be done.
+    fn safe_word(&self) -> Word
+        ensures { result ≡ safe_word self.now.log.now.log }
+    {
+        Word::Safe {
+            until: later(self.log.now(), CHALLENGE_WINDOW - 1),
+        }
+    }
 }

@@ -1,10 +1,13 @@
 //! Is a coin safe, what has to be entered, by when, and with how much money: the answer of one look at a log.
 #![tactic(auto)]
 
-mod calls;
+mod advice;
+mod index;
 mod judging;
 mod kept;
 mod laws;
+mod lean;
+mod look;
 mod money;
 mod payment;
 mod windows;

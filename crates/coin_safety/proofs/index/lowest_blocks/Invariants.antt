@@ -1,0 +1,6 @@
+use Rattle.std.proofs.Common.{take}
+use Rattle.coin_safety.specs.Index.{AreLowest}
+use Rattle.coin_safety.proofs.index.lowest_blocks.Given as goal
+
+abbrev pub invariant-loop-exit : goal.invariant-loop-exit
+invariant-loop-exit l = AreLowest (take l.exit-index l.exits) l.blocks

@@ -1,0 +1,14 @@
+use Rattle.std.proofs.Common.{◌≡◌, ℕ, take, reverse}
+use Rattle.std.specs.Prelude.{slice_get}
+use Rattle.std.specs.Option.{option_and_then}
+use Rattle.std.specs.Ordering.{nat_cmp}
+use Rattle.std.specs.BTreeMap.{get}
+use Rattle.coin_safety.specs.Advice.{start_shown}
+use Rattle.coin_safety.specs.Index.{spend_in}
+use Rattle.coin_safety.proofs.index.starts.Given as goal
+
+abbrev pub invariant-loop-place : goal.invariant-loop-place
+invariant-loop-place l = (block : ℕ)
+    → option_and_then (λ place. option_and_then (spend_in l.coin) (slice_get l.call-items place))
+    (get nat_cmp l.places block)
+    ≡ start_shown (reverse (take l.call-index l.call-items)) l.coin block

@@ -1,0 +1,7 @@
+use Rattle.std.proofs.Common.{◌≡◌, take}
+use Rattle.std.specs.List.{sum_by}
+use Rattle.coin_safety.specs.Advice.{takes}
+use Rattle.coin_safety.proofs.money.missing.Given as goal
+
+abbrev pub invariant-loop-call : goal.invariant-loop-call
+invariant-loop-call l = l.needed ≡ sum_by takes (take l.call-index l.calls)

@@ -1,0 +1,6 @@
+use Rattle.std.proofs.Common.{◌≡◌, take}
+use Rattle.coin_safety.specs.Lean.{own_bonds}
+use Rattle.coin_safety.proofs.money.own_bonds.Given as goal
+
+abbrev pub invariant-loop-challenge : goal.invariant-loop-challenge
+invariant-loop-challenge l = l.money ≡ own_bonds l.account (take l.challenge-index l.challenges)

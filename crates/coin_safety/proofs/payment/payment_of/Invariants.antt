@@ -1,0 +1,10 @@
+use Rattle.std.proofs.Common.{◌≡◌, take, reverse}
+use Rattle.coin_safety.specs.Lean.{Follows}
+use Rattle.coin_safety.specs.Words.{payment}
+use Rattle.coin_safety.proofs.payment.payment_of.Given as goal
+
+abbrev pub invariant-loop-place : goal.invariant-loop-place
+invariant-loop-place l = record {
+  found : l.found ≡ payment (reverse (take l.call-index l.call-items)) l.coin;
+  beside : Follows (reverse (take l.call-index l.call-items)) l.beside.log l.coin;
+}
