@@ -1,2 +1,9 @@
 pub mod Numbers
 pub mod Lists
+pub mod Ends
+pub mod Indexes
+pub mod Followed
+pub mod Viewed
+pub mod Advised
+pub mod Telling
+pub mod Accepting

@@ -1,5 +1,5 @@
 -- The least of some numbers, as loops find it.
-use Rattle.std.proofs.Common.{◌≡◌, ℕ, min, List, [], ◌∷◌, ◌++◌, Option, Some, None, refl, sym, ap, ◌∙◌, arith}
+use Rattle.std.proofs.Common.{◌≡◌, ℕ, min, List, [], ◌∷◌, ◌++◌, length, map, Option, Some, None, refl, sym, ap, ◌∙◌, arith}
 use Rattle.std.specs.Option.{option_map_or, option_to_list}
 use Rattle.coin_safety.specs.Numbers.{least}
 
@@ -56,3 +56,9 @@ least-same (Some n) = refl
 pub least-next : (o : Option ℕ) (n : ℕ) → Some (option_map_or (min n) o n) ≡ least (option_to_list o ++ n ∷ [])
 unfolding least
 least-next o n = sym (least-from o (n ∷ []) ∙ joined-one o n)
+
+-- of nothing there is none
+pub least-empty : {X : Type 0} (f : X → ℕ) (xs : List X) → length xs ≡ 0 → None ≡ least (map f xs)
+unfolding least
+least-empty f [] none = refl
+least-empty f (x ∷ xs) none = absurd (omega arith)

@@ -1,5 +1,5 @@
 -- What holds of the calls and the words.
-use Rattle.std.specs.Prelude.{◌≡◌, ◌≢◌, ◌⊎◌, ℕ, ◌+◌, ◌-◌, ◌<◌, ◌≤◌, ◌==◌, ◌&&◌, Bool, true, false, List, [], ◌∷◌, ◌++◌, length, Option, Some, None}
+use Rattle.std.specs.Prelude.{◌≡◌, ◌≢◌, ◌⊎◌, ℕ, ◌+◌, ◌-◌, ◌<◌, ◌≤◌, ◌==◌, ◌&&◌, Bool, true, false, List, [], ◌∷◌, ◌++◌, map, Some, None}
 use Rattle.std.specs.List.{Contains, flat_map, sum_by}
 use Rattle.plasma_tx.specs.declared.call.RootCall.{RootCall}
 use Rattle.plasma_tx.specs.declared.call.RootCall.TheVariants.{After, Between, Before, Finish}
@@ -86,6 +86,11 @@ ends log kept = flat_map (ends_of (tip kept)) (standing log kept)
 abbrev pub AreAhead : List RootCall → ℕ → Kept → Type 0
 AreAhead log clock kept = (end : ℕ) → Contains (ends log kept) end → clock < end
 
+-- the number is among these, and none of them is less
+pub record IsFirst (numbers : List ℕ) (first : ℕ) : Type 0 where
+  pub among : Contains numbers first
+  pub no_less : (n : ℕ) → Contains numbers n → first ≤ n
+
 -- nothing is due for any exit of the coin
 abbrev pub NothingIsDue : List RootCall → ℕ → Kept → Type 0
 NothingIsDue log account kept =
@@ -122,14 +127,13 @@ Tells log account clock kept Paid = (kept.sent ≡ None) × ((line : ℕ) × IsP
 Tells log account clock kept (Gone whose line) =
     (kept.sent ≡ None) × (whose ≢ holder kept) × IsPaidOut log kept.links.coin whose line
 Tells log account clock kept (Late since) =
-    IsHere log kept × Contains (ends log kept) since × (since ≤ now log)
-    × ((end : ℕ) → Contains (ends log kept) end → since ≤ end)
+    IsHere log kept × IsFirst (ends log kept) since × (since ≤ now log)
 Tells log account clock kept Stale =
     IsHere log kept × AreAhead log (now log) kept
     × ((now log + RESPONSE_WINDOW < clock) ⊎ ((end : ℕ) × Contains (ends log kept) end × (end ≤ clock)))
 Tells log account clock kept (Act by money) =
-    IsFresh log clock kept × (due log account kept ≢ [])
-    × ((call : RootCall) → Contains (due log account kept) call → by < end_of_call (standing log kept) call)
+    IsFresh log clock kept
+    × ((end : ℕ) × IsFirst (map (end_of_call (standing log kept)) (due log account kept)) end × (by ≡ end - 1))
     × (money ≡ missing log account (calls_of log account kept))
 Tells log account clock kept (Leaving opens) =
     IsFresh log clock kept × NothingIsDue log account kept

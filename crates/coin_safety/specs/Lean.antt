@@ -1,12 +1,11 @@
 -- A lean log is one without the bytes that its calls show. It says the same of the exits, and is followed beside a log
 -- to know what stood at each of the log's calls.
-use Rattle.std.specs.Prelude.{◌≡◌, ℕ, ◌+◌, ◌==◌, ◌&&◌, ◌||◌, not, Bool, true, false, if◌then◌else◌, List, [], ◌∷◌, Option, Some, None, find, filter, map}
+use Rattle.std.specs.Prelude.{◌≡◌, ℕ, ◌+◌, ◌==◌, ◌&&◌, not, Bool, true, false, if◌then◌else◌, List, [], Option, Some, None, find, filter, map}
 use Rattle.std.specs.Option.{option_map_or}
 use Rattle.plasma_tx.specs.declared.opening.RawOpening.{RawOpening}
-use Rattle.plasma_tx.specs.declared.movement.Movement.{Movement}
 use Rattle.plasma_tx.specs.declared.call.Shown.TheVariants.{Deposit as AtDeposit}
 use Rattle.plasma_tx.specs.declared.call.RootCall.{RootCall}
-use Rattle.plasma_tx.specs.declared.call.RootCall.TheVariants.{Fund, Tick, Deposit, Commit, StartDeposit, StartSpend, After, Between, Before, Respond, Finish}
+use Rattle.plasma_tx.specs.declared.call.RootCall.TheVariants.{Fund, Tick, Deposit, StartDeposit, StartSpend, After, Between, Before, Respond, Finish}
 use Rattle.plasma_tx.specs.declared.rules.TheConstants.{CHALLENGE_BOND, EXIT_BOND}
 use Rattle.plasma_tx.specs.declared.views.ChallengeView.{ChallengeView}
 use Rattle.plasma_tx.specs.declared.views.ExitView.{ExitView}

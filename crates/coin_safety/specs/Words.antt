@@ -1,6 +1,6 @@
 -- Whether a coin is safe, in a word: by the log, the account that would enter calls, the caller's clock, and what is
 -- kept of the coin. The rules are tried in the order in which they stand here, and the first that speaks gives it.
-use Rattle.std.specs.Prelude.{ℕ, ◌+◌, ◌-◌, ◌==◌, ◌&&◌, ◌||◌, not, Bool, true, false, if◌then◌else◌, nat_lt, nat_le, List, [], ◌∷◌, length, Option, Some, None, unwrap_or, find, filter, map}
+use Rattle.std.specs.Prelude.{ℕ, ◌+◌, ◌-◌, ◌==◌, not, Bool, if◌then◌else◌, nat_lt, nat_le, List, [], ◌∷◌, length, Option, Some, None, unwrap_or, find, filter, map}
 use Rattle.std.specs.List.{list_any, flat_map}
 use Rattle.std.specs.Option.{option_and_then, option_map, option_map_or, option_or}
 use Rattle.plasma_tx.specs.declared.call.RootCall.{RootCall}

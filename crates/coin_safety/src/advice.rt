@@ -1,4 +1,4 @@
-ghost use Rattle.std.specs.Prelude.{◌≡◌, ◌++◌, map, IfOk, OnOk, unwrap_or};
+ghost use Rattle.std.specs.Prelude.{◌≡◌, ◌==◌, ◌++◌, find, map, IfOk, OnOk, unwrap_or};
 ghost use Rattle.std.specs.Option.{option_and_then, option_copied};
 ghost use Rattle.plasma_tx.specs.Views.{exits_of};
 ghost use Rattle.coin_safety.specs.Advice.{standing, exit_in, earlier_spend, instead, has_challenged, is_own, is_to_finish, finishes, due, calls_of};
@@ -116,7 +116,7 @@ fn advise(
     ensures end { IfOk result (λ end. end
         ≡ least (map (end_of_call (exits_of log.now.log coin)) calls.old.items)) }
 {
-    if calls.is_empty() {
+    if calls.as_slice().is_empty() {
         return Ok(None);
     }
     let index = Index::new(alloc, log, coin)?;
@@ -172,10 +172,17 @@ fn window_end(exit: Option<&ExitView>) -> u64
 fn answer_end(challenges: &[ChallengeView], block: u64) -> u64
     ensures { result ≡ answer_end challenges.now block }
 {
-    match challenges.iter().find(|challenge| challenge.block == block) {
+    match challenge_in(challenges, block) {
         None => 0,
         Some(challenge) => later(challenge.at, RESPONSE_WINDOW),
     }
+}
+
+/// The challenge at the block.
+fn challenge_in(challenges: &[ChallengeView], block: u64) -> Option<&ChallengeView>
+    ensures { option_copied result ≡ find (λ challenge. challenge.block == block) challenges.now }
+{
+    challenges.iter().find(|challenge| challenge.block == block)
 }
 
 /// Puts a Between in place of each Before where it cancels the exit.
@@ -189,9 +196,18 @@ fn replace(
     ensures { OnOk result (calls.new.items ≡ map (instead log.now.log coin) calls.old.items) }
 {
     for call in calls.iter_mut() {
-        if let Some(between) = better(log, coin, index, call)? {
-            *call = between;
-        }
+        replace_one(log, coin, index, call)?;
+    }
+    Ok(())
+}
+
+/// Puts a Between in place of a Before where it cancels the exit.
+fn replace_one(log: &RootLog, coin: u64, index: &Index, call: &mut RootCall) -> Result<(), NoMemory>
+    requires { IsIndex log.now.log coin index.now }
+    ensures { OnOk result (call.new ≡ instead log.now.log coin call.old) }
+{
+    if let Some(between) = better(log, coin, index, call)? {
+        *call = between;
     }
     Ok(())
 }

@@ -110,8 +110,9 @@ fn lower(blocks: &mut BTreeMap<u64, u64>, parent: u64, block: u64) -> Result<(),
 fn starts(alloc: Global, log: &RootLog, coin: u64) -> Result<BTreeMap<u64, usize>, NoMemory>
     ensures { IfOk result (AreStarts log.now.log coin) }
 {
+    let events = log.events();
     let mut places = BTreeMap::new(alloc);
-    for (place, call) in log.events().iter().enumerate() {
+    for (place, call) in events.iter().enumerate() {
         if let Some(exit) = spend_in(coin, call) {
             places.insert(exit.block, place)?;
         }

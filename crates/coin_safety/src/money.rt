@@ -59,9 +59,10 @@ fn sum(one: u64, other: u64) -> Result<u64, NoMemory>
 pub fn balance(alloc: Global, log: &RootLog, account: u64) -> Result<u64, NoMemory>
     ensures { IfOk result (λ money. money ≡ balance_of log.now.log account) }
 {
+    let events = log.events();
     let mut beside = empty_beside(alloc, log);
     let mut money = 0;
-    for call in log.events() {
+    for call in events {
         let paid = paid_to(account, &beside, call)?;
         money = sum(money, paid)?.saturating_sub(taken_of(account, call));
         push_lean(alloc, &mut beside, call)?;

@@ -1,10 +1,10 @@
-ghost use Rattle.std.specs.Prelude.{◌≡◌, IfOk, Some, None, if◌then◌else◌};
+ghost use Rattle.std.specs.Prelude.{◌≡◌, ◌∷◌, IfOk, OnOk, Some, None, if◌then◌else◌};
 ghost use Rattle.std.specs.List.{list_all};
-ghost use Rattle.std.specs.Option.{option_copied, option_map_or};
+ghost use Rattle.std.specs.Option.{option_copied, option_map_or, option_or};
 ghost use Rattle.plasma_tx.specs.Standing.{has_no_open_view};
 ghost use Rattle.plasma_tx.specs.Views.{exits_of};
 ghost use Rattle.coin_safety.specs.Advice.{exit_in};
-ghost use Rattle.coin_safety.specs.Lean.{payment_by};
+ghost use Rattle.coin_safety.specs.Lean.{lean, concerns, payment_by};
 ghost use Rattle.coin_safety.specs.Words.{payment};
 
 use super::lean::{concerns, empty_beside, push_lean};
@@ -30,18 +30,35 @@ pub(crate) fn payment_of(
     if !log.withdrawn(coin) {
         return Ok(None);
     }
+    let events = log.events();
     let mut beside = empty_beside(alloc, log);
     let mut found = None;
-    for (place, call) in log.events().iter().enumerate() {
-        if !concerns(coin, call) {
-            continue;
-        }
-        if found.is_none() {
-            found = payment_by(coin, place as u64 + 2, beside.exits(coin), call);
-        }
-        push_lean(alloc, &mut beside, call)?;
+    for (place, call) in events.iter().enumerate() {
+        found = next_payment(alloc, coin, place as u64 + 2, &mut beside, call, found)?;
     }
     Ok(found)
+}
+
+/// What was found of the coin's payment, and by the call in this line; the lean log is followed.
+fn next_payment(
+    alloc: Global,
+    coin: u64,
+    line: u64,
+    beside: &mut RootLog,
+    call: &RootCall,
+    found: Option<Payment>,
+) -> Result<Option<Payment>, NoMemory>
+    ensures found { IfOk result (λ next. next
+        ≡ option_or found (payment_by coin line (exits_of beside.old.log coin) call.now)) }
+    ensures beside { OnOk result (beside.new.log
+        ≡ (if concerns coin call.now then lean call.now ∷ beside.old.log else beside.old.log)) }
+{
+    if !concerns(coin, call) {
+        return Ok(found);
+    }
+    let next = found.or(payment_by(coin, line, beside.exits(coin), call));
+    push_lean(alloc, beside, call)?;
+    Ok(next)
 }
 
 /// The payment of the coin by the call in this line, where these exits stand.

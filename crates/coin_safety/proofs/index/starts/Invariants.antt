@@ -9,6 +9,6 @@ use Rattle.coin_safety.proofs.index.starts.Given as goal
 
 abbrev pub invariant-loop-place : goal.invariant-loop-place
 invariant-loop-place l = (block : ℕ)
-    → option_and_then (λ place. option_and_then (spend_in l.coin) (slice_get l.call-items place))
+    → option_and_then (λ place. option_and_then (spend_in l.coin) (slice_get l.events place))
     (get nat_cmp l.places block)
-    ≡ start_shown (reverse (take l.call-index l.call-items)) l.coin block
+    ≡ start_shown (reverse (take l.place l.events)) l.coin block

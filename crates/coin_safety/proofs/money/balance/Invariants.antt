@@ -5,6 +5,6 @@ use Rattle.coin_safety.proofs.money.balance.Given as goal
 
 abbrev pub invariant-loop-call : goal.invariant-loop-call
 invariant-loop-call l = record {
-  money : l.money ≡ balance_of (reverse (take l.call-index l.call-items)) l.account;
-  beside : FollowsAll (reverse (take l.call-index l.call-items)) l.beside.log;
+  money : l.money ≡ balance_of (reverse (take l.call-index l.events)) l.account;
+  beside : FollowsAll (reverse (take l.call-index l.events)) l.beside.log;
 }

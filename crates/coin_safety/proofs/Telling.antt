@@ -1,0 +1,408 @@
+-- Each word tells what it says.
+use Rattle.std.proofs.Common.{◌≡◌, ◌⊎◌, ℕ, ◌+◌, ◌-◌, ◌<◌, ◌≤◌, ◌==◌, ◌||◌, min, not, Bool, true, false, if◌then◌else◌, List, [], ◌∷◌, ◌++◌, map, find, Option, Some, None, inl, inr, refl, sym, ap, ◌∙◌, subst, arith}
+use Rattle.std.specs.Prelude.{is_some, nat_lt, nat_le, unwrap_or}
+use Rattle.std.specs.List.{flat_map, list_any}
+use Rattle.std.specs.Option.{option_map, option_map_or, option_or}
+use Rattle.std.proofs.lemmas.Bool.{eqb-true, eq-eqb, ltb-true, ltb-false, leb-true, leb-false, true≢false, not-true}
+use Rattle.plasma_tx.specs.declared.call.RootCall.{RootCall}
+use Rattle.plasma_tx.specs.declared.call.RootCall.TheVariants.{Finish}
+use Rattle.plasma_tx.specs.declared.views.ExitView.{ExitView}
+use Rattle.plasma_tx.specs.declared.rules.TheConstants.{RESPONSE_WINDOW, EXIT_PERIOD}
+use Rattle.plasma_tx.specs.Views.{now, Exit, exit_at, has_no_open_challenge}
+use Rattle.plasma_tx.proofs.Names.{some_same}
+use Rattle.watch_duty.specs.Duty.{due_for}
+use Rattle.watch_duty.proofs.Members.{Has, has-contains, contains-has}
+use Rattle.coin_safety.specs.declared.kept.Kept.{Kept}
+use Rattle.coin_safety.specs.declared.payment.Payment.{Payment}
+use Rattle.coin_safety.specs.declared.word.Word.{Word}
+use Rattle.coin_safety.specs.declared.word.Word.TheVariants.{Act, Sent, Leaving, Paid, Gone, Late, Frozen, Stale}
+use Rattle.coin_safety.specs.Numbers.{later, least}
+use Rattle.coin_safety.specs.Advice.{standing, tip, exit_in, due, calls_of, missing}
+use Rattle.coin_safety.specs.Words.{is_strange, sent_word, next_line, starter, paid_by, payment, holder, paid_word, first_end, come, late_word, stale_word, end_of_call, act_word, leaving_word, safe_word}
+use Rattle.coin_safety.specs.Laws.{IsHere, ends, AreAhead, NothingIsDue, IsFresh, IsPaidOut, IsFirst, Tells, WordsTell}
+use Rattle.coin_safety.proofs.Advised.{due-unsent}
+use Rattle.coin_safety.proofs.Viewed.{paid-withdrawn}
+
+-- ---- lists
+
+any-found : {X : Type 0} (p : X → Bool) (xs : List X) → list_any p xs ≡ true → (x : X) × Has xs x × (p x ≡ true)
+any-found p [] is = absurd (true≢false (sym is))
+any-found p (x ∷ xs) is =
+    (elim (p x) as (λ b. p x ≡ b → (b || list_any p xs) ≡ true → (y : _) × Has (x ∷ xs) y × (p y ≡ true)) [
+      | true ↦ λ own _. (x, inl refl, own)
+      | false ↦ λ other rest. let found = any-found p xs rest in (found.0, inr found.1, found.2)
+    ]) refl is
+
+none-any : {X : Type 0} (p : X → Bool) (xs : List X) (x : X) → list_any p xs ≡ false → Has xs x → p x ≡ false
+none-any p [] x none h = absurd h
+none-any p (y ∷ ys) x none h =
+    (elim (p y) as (λ b. p y ≡ b → (b || list_any p ys) ≡ false → (y ≡ x) ⊎ Has ys x → p x ≡ false) [
+      | true ↦ λ own wrong _. absurd (true≢false wrong)
+      | false ↦ λ other rest it. elim it [
+        | inl same ↦ ap p (sym same) ∙ other
+        | inr deeper ↦ none-any p ys x rest deeper
+      ]
+    ]) refl none h
+
+found-has : {X : Type 0} (p : X → Bool) (xs : List X) (x : X) → find p xs ≡ Some x → Has xs x × (p x ≡ true)
+found-has p [] x is = absurd (cc is)
+found-has p (y ∷ ys) x is =
+    (elim (p y) as (λ b. p y ≡ b → (if b then Some y else find p ys) ≡ Some x → Has (y ∷ ys) x × (p x ≡ true)) [
+      | true ↦ λ own same. let e = some_same y x same in (inl e, ap p (sym e) ∙ own)
+      | false ↦ λ other rest. let found = found-has p ys x rest in (inr found.0, found.1)
+    ]) refl is
+
+missed : {X : Type 0} (p : X → Bool) (xs : List X) (x : X) → find p xs ≡ None → Has xs x → p x ≡ false
+missed p [] x is h = absurd h
+missed p (y ∷ ys) x is h =
+    (elim (p y) as (λ b. p y ≡ b → (if b then Some y else find p ys) ≡ None → (y ≡ x) ⊎ Has ys x → p x ≡ false) [
+      | true ↦ λ own wrong _. absurd (cc wrong)
+      | false ↦ λ other rest it. elim it [
+        | inl same ↦ ap p (sym same) ∙ other
+        | inr deeper ↦ missed p ys x rest deeper
+      ]
+    ]) refl is h
+
+-- where nothing comes of the elements, nothing comes of each
+each-none : {X Y : Type 0} (f : X → List Y) (xs : List X) (x : X) → flat_map f xs ≡ [] → Has xs x → f x ≡ []
+each-none f [] x is h = absurd h
+each-none f (y ∷ ys) x is (inl same) = ap f (sym same) ∙ front (f y) (flat_map f ys) is
+  where
+    front : {Y : Type 0} (a b : List Y) → a ++ b ≡ [] → a ≡ []
+    front [] b e = refl
+    front (z ∷ a) b e = absurd (cc e)
+each-none f (y ∷ ys) x is (inr h) = each-none f ys x (back (f y) (flat_map f ys) is) h
+  where
+    back : {Y : Type 0} (a b : List Y) → a ++ b ≡ [] → b ≡ []
+    back [] b e = e
+    back (z ∷ a) b e = absurd (cc e)
+
+-- ---- the least
+
+least-none : (ns : List ℕ) → least ns ≡ None → ns ≡ []
+unfolding least
+least-none [] is = refl
+least-none (n ∷ ns) is = absurd (cc is)
+
+-- the less of one and of what the others have
+less-has : (n k m : ℕ) (ns : List ℕ) → Has ns k → min n k ≡ m → Has (n ∷ ns) m
+less-has n k m ns h same =
+    (elim (nat_le n k) as (λ b. nat_le n k ≡ b → Has (n ∷ ns) m) [
+      | true ↦ λ le. let e : n ≡ m = omega (arith, leb-true n k le, same) in inl e
+      | false ↦ λ gt. let e : k ≡ m = omega (arith, leb-false n k gt, same) in inr (subst (λ j. Has ns j) e h)
+    ]) refl
+
+pub least-has : (ns : List ℕ) (m : ℕ) → least ns ≡ Some m → Has ns m
+unfolding least
+least-has [] m is = absurd (cc is)
+least-has (n ∷ ns) m is =
+    (elim (least ns) as (λ o. least ns ≡ o → Some (option_map_or (min n) o n) ≡ Some m → Has (n ∷ ns) m) [
+      | None ↦ λ none same. inl (some_same n m same)
+      | Some k ↦ λ some same. less-has n k m ns (least-has ns k some) (some_same (min n k) m same)
+    ]) refl is
+
+least-le : (ns : List ℕ) (m n : ℕ) → least ns ≡ Some m → Has ns n → m ≤ n
+unfolding least
+least-le [] m n is h = absurd h
+least-le (k ∷ ns) m n is h =
+    (elim (least ns) as (λ o. least ns ≡ o → Some (option_map_or (min k) o k) ≡ Some m → m ≤ n) [
+      | None ↦ λ none same. elim h [
+        | inl own ↦ omega (arith, some_same k m same, own)
+        | inr deeper ↦ absurd (subst (λ l. Has l n) (least-none ns none) deeper)
+      ]
+      | Some j ↦ λ some same. elim h [
+        | inl own ↦ omega (arith, some_same (min k j) m same, own)
+        | inr deeper ↦ omega (arith, some_same (min k j) m same, least-le ns j n some deeper)
+      ]
+    ]) refl is
+
+-- ---- rules in order
+
+-- what holds of the word of the first rule that speaks
+first-rule : (one rest : Option Word) (last : Word) (P : Word → Type 0) → ((w : Word) → one ≡ Some w → P w)
+    → (one ≡ None → P (unwrap_or rest last)) → P (unwrap_or (option_or one rest) last)
+first-rule None rest last P speaks silent = silent refl
+first-rule (Some w) rest last P speaks silent = speaks w refl
+
+-- a mapped value
+mapped : {X : Type 0} (f : X → Word) (o : Option X) (w : Word) → option_map f o ≡ Some w → (x : X) × (o ≡ Some x) × (f x ≡ w)
+mapped f None w is = absurd (cc is)
+mapped f (Some x) w is = (x, refl, some_same (f x) w is)
+
+unmapped : {X : Type 0} (f : X → Word) (o : Option X) → option_map f o ≡ None → o ≡ None
+unmapped f None is = refl
+unmapped f (Some x) is = absurd (cc is)
+
+-- an end that has come, and one that hasn't
+come-is : (clock : ℕ) (end : Option ℕ) (time : ℕ) → come clock end ≡ Some time → (end ≡ Some time) × (time ≤ clock)
+come-is clock None time is = absurd (cc is)
+come-is clock (Some t) time is =
+    (elim (nat_le t clock) as (λ b. nat_le t clock ≡ b → (if b then Some t else None) ≡ Some time
+    → (Some t ≡ Some time) × (time ≤ clock)) [
+      | true ↦ λ le same. (same, omega (arith, leb-true t clock le, some_same t time same))
+      | false ↦ λ gt wrong. absurd (cc wrong)
+    ]) refl is
+
+module _ (log : List RootCall) (account clock : ℕ) (kept : Kept) where
+  abbrev c : ℕ
+  c = kept.links.coin
+
+  -- where no end has come, each is ahead
+  ahead : (time : ℕ) → come time (first_end log kept) ≡ None → AreAhead log time kept
+  ahead time none end is =
+      let h : Has (ends log kept) end = contains-has (ends log kept) end is in
+      (elim (first_end log kept) as (λ o. first_end log kept ≡ o → come time o ≡ None → time < end) [
+        | None ↦ λ empty _. absurd (subst (λ l. Has l end) (least-none (ends log kept) empty) h)
+        | Some first ↦ λ some not_come. (elim (nat_le first time) as (λ b. nat_le first time ≡ b
+            → (if b then Some first else None) ≡ None → time < end) [
+              | true ↦ λ le wrong. absurd (cc wrong)
+              | false ↦ λ gt _. omega (arith, leb-false first time gt, least-le (ends log kept) first end some h)
+            ]) refl not_come
+      ]) refl none
+
+  sent-tells : (w : Word) → sent_word log kept ≡ Some w → Tells log account clock kept w
+  sent-tells w is =
+      (elim kept.sent as (λ o. kept.sent ≡ o
+      → option_map (λ leaf. if list_any (is_strange kept) (standing log kept) then Frozen else Sent leaf) o ≡ Some w
+      → Tells log account clock kept w) [
+        | None ↦ λ none wrong. absurd (cc wrong)
+        | Some leaf ↦ λ some same. subst (Tells log account clock kept) (some_same _ w same)
+            ((elim (list_any (is_strange kept) (standing log kept)) as (λ b.
+            list_any (is_strange kept) (standing log kept) ≡ b
+            → Tells log account clock kept (if b then Frozen else Sent leaf)) [
+              | true ↦ λ strange.
+                  let found = any-found (is_strange kept) (standing log kept) strange in (
+                    λ e. absurd (cc (sym some ∙ e)),
+                    (
+                      found.0,
+                      has-contains (standing log kept) found.0 found.1,
+                      λ e. true≢false (sym (eq-eqb found.0.parent (tip kept) e) ∙ not-true _ found.2),
+                    ),
+                  )
+              | false ↦ λ none. (
+                some,
+                λ exit there.
+                    eqb-true exit.parent (tip kept)
+                    (not-false (exit.parent == tip kept) (none-any (is_strange kept) (standing log kept) exit none
+                    (contains-has (standing log kept) exit there))),
+              )
+            ]) refl)
+      ]) refl is
+    where
+      not-false : (b : Bool) → not b ≡ false → b ≡ true
+      not-false true e = refl
+      not-false false e = absurd (true≢false e)
+
+  -- ---- paid out
+
+  deeper : (call : RootCall) (rest : List RootCall) (p : Payment) → IsPaidOut rest c p.account p.line
+      → IsPaidOut (call ∷ rest) c p.account p.line
+  deeper call rest p was = record {
+    newer = call ∷ was.newer;
+    older = was.older;
+    by = was.by;
+    exit = was.exit;
+    stands = ap (λ l. call ∷ l) was.stands;
+    unpaid = was.unpaid;
+    unchallenged = was.unchallenged;
+    whose = was.whose;
+    place = was.place;
+  }
+
+  paid-now : (by coin m : ℕ) (rest : List RootCall) (p : Payment) → payment rest c ≡ None
+      → (if coin == c then paid_by rest (exit_at rest coin m) else None) ≡ Some p
+      → IsPaidOut (Finish by coin m ∷ rest) c p.account p.line
+  paid-now by coin m rest p none same =
+      (elim (coin == c) as (λ b. (coin == c) ≡ b
+      → (if b then paid_by rest (exit_at rest coin m) else None) ≡ Some p
+      → IsPaidOut (Finish by coin m ∷ rest) c p.account p.line) [
+        | false ↦ λ other wrong. absurd (cc wrong)
+        | true ↦ λ own it.
+            let e : coin ≡ c = eqb-true coin c own in
+            let exit : Option Exit = exit_at rest c m in
+            let q : Payment = record { account = starter exit; line = next_line rest } in
+            (elim (has_no_open_challenge exit) as (λ b. has_no_open_challenge exit ≡ b
+            → (if b then Some q else None) ≡ Some p
+            → IsPaidOut (Finish by coin m ∷ rest) c p.account p.line) [
+              | false ↦ λ challenged wrong. absurd (cc wrong)
+              | true ↦ λ unchallenged paid.
+                  let is_p : q ≡ p = some_same q p paid in
+                  record {
+                    newer = [];
+                    older = rest;
+                    by = by;
+                    exit = m;
+                    stands = ap (λ k. Finish by k m ∷ rest) e;
+                    unpaid = sym (paid-withdrawn rest c) ∙ ap is_some none;
+                    unchallenged = unchallenged;
+                    whose = ap (λ (x : Payment). x.account) is_p;
+                    place = ap (λ (x : Payment). x.line) (sym is_p);
+                  }
+            ]) refl (subst (λ k. paid_by rest (exit_at rest k m) ≡ Some p) e it)
+      ]) refl same
+
+  paid-out : (older : List RootCall) (paid : Payment) → payment older c ≡ Some paid
+      → IsPaidOut older c paid.account paid.line
+  unfolding payment
+  paid-out [] paid is = absurd (cc is)
+  paid-out (Finish by coin m ∷ older) paid is =
+      (elim (payment older c) as (λ o. payment older c ≡ o
+      → option_or o (if coin == c then paid_by older (exit_at older coin m) else None) ≡ Some paid
+      → IsPaidOut (Finish by coin m ∷ older) c paid.account paid.line) [
+        | Some first ↦ λ some same.
+            let e = some_same first paid same in
+            deeper (Finish by coin m) older paid (paid-out older paid (some ∙ ap (λ (p : Payment). Some p) e))
+        | None ↦ λ none same. paid-now by coin m older paid none same
+      ]) refl is
+  paid-out (call ∷ older) paid is = deeper call older paid (paid-out older paid is)
+
+  -- ---- the rules
+
+  paid-tells : kept.sent ≡ None → (w : Word) → paid_word log kept ≡ Some w → Tells log account clock kept w
+  paid-tells unsent w is =
+      let paid = mapped (λ (p : Payment). if p.account == holder kept then Paid else Gone p.account p.line)
+      (payment log c) w is in
+      let p : Payment = paid.0 in
+      let out : IsPaidOut log c p.account p.line = paid-out log p paid.1 in
+      subst (Tells log account clock kept) paid.2
+      ((elim (p.account == holder kept) as (λ b. (p.account == holder kept) ≡ b
+      → Tells log account clock kept (if b then Paid else Gone p.account p.line)) [
+        | true ↦ λ own. (
+          unsent,
+          (
+            p.line,
+            subst (λ a. IsPaidOut log c a p.line)
+                (eqb-true p.account (holder kept) own) out,
+          ),
+        )
+        | false ↦ λ other. (unsent, λ e. true≢false (sym (eq-eqb p.account (holder kept) e) ∙ other), out)
+      ]) refl)
+
+  here : kept.sent ≡ None → paid_word log kept ≡ None → IsHere log kept
+  here unsent unpaid = (
+    unsent,
+    sym (paid-withdrawn log c)
+        ∙ ap is_some (unmapped (λ (p : Payment). if p.account == holder kept then Paid else Gone p.account p.line)
+        (payment log c) unpaid),
+  )
+
+  first-of : (numbers : List ℕ) (first : ℕ) → least numbers ≡ Some first → IsFirst numbers first
+  first-of numbers first is = record {
+    among = has-contains numbers first (least-has numbers first is);
+    no_less = λ n there. least-le numbers first n is (contains-has numbers n there);
+  }
+
+  late-tells : IsHere log kept → (w : Word) → late_word log kept ≡ Some w → Tells log account clock kept w
+  late-tells at w is =
+      let late = mapped Late (come (now log) (first_end log kept)) w is in
+      let end = come-is (now log) (first_end log kept) late.0 late.1 in
+      subst (Tells log account clock kept) late.2 (at, first-of (ends log kept) late.0 end.0, end.1)
+
+  stale-tells : IsHere log kept → AreAhead log (now log) kept → (w : Word) → stale_word log clock kept ≡ Some w
+      → Tells log account clock kept w
+  stale-tells at in_time w is =
+      (elim (nat_lt (now log + RESPONSE_WINDOW) clock) as (λ b. nat_lt (now log + RESPONSE_WINDOW) clock ≡ b
+      → (if b then Some Stale else option_map (λ end. Stale) (come clock (first_end log kept))) ≡ Some w
+      → Tells log account clock kept w) [
+        | true ↦ λ old same. subst (Tells log account clock kept) (some_same Stale w same)
+            (at, in_time, inl (ltb-true (now log + RESPONSE_WINDOW) clock old))
+        | false ↦ λ young same.
+            let passed = mapped (λ (end : ℕ). Stale) (come clock (first_end log kept)) w same in
+            let end = come-is clock (first_end log kept) passed.0 passed.1 in
+            subst (Tells log account clock kept) passed.2 (
+              at,
+              in_time,
+              inr (
+                passed.0,
+                has-contains (ends log kept) passed.0 (least-has (ends log kept) passed.0 end.0),
+                end.1,
+              ),
+            )
+      ]) refl is
+
+  fresh : IsHere log kept → AreAhead log (now log) kept → stale_word log clock kept ≡ None → IsFresh log clock kept
+  fresh at in_time is =
+      (elim (nat_lt (now log + RESPONSE_WINDOW) clock) as (λ b. nat_lt (now log + RESPONSE_WINDOW) clock ≡ b
+      → (if b then Some Stale else option_map (λ end. Stale) (come clock (first_end log kept))) ≡ None
+      → IsFresh log clock kept) [
+        | true ↦ λ old wrong. absurd (cc wrong)
+        | false ↦ λ young none. record {
+          here = at;
+          in_time = in_time;
+          by_clock = ahead clock (unmapped (λ (end : ℕ). Stale) (come clock (first_end log kept)) none);
+          young = ltb-false (now log + RESPONSE_WINDOW) clock young;
+        }
+      ]) refl is
+
+  abbrev due_ends : List ℕ
+  due_ends = map (end_of_call (standing log kept)) (due log account kept)
+
+  act-tells : IsFresh log clock kept → (w : Word) → act_word log account kept ≡ Some w
+      → Tells log account clock kept w
+  act-tells at w is =
+      let act = mapped (λ (end : ℕ). Act (end - 1) (missing log account (calls_of log account kept)))
+      (least due_ends) w is in
+      subst (Tells log account clock kept) act.2
+      (at, (act.0, first-of due_ends act.0 act.1, refl), refl)
+
+  nothing-due : kept.sent ≡ None → act_word log account kept ≡ None → NothingIsDue log account kept
+  nothing-due unsent is exit there =
+      let none : due_ends ≡ [] =
+      least-none due_ends (unmapped (λ (end : ℕ). Act (end - 1) (missing log account (calls_of log account kept)))
+      (least due_ends) is) in
+      each-none (due_for log account kept.links) (standing log kept) exit
+      (sym (due-unsent log account kept unsent) ∙ unmapped-none (end_of_call (standing log kept))
+      (due log account kept) none) (contains-has (standing log kept) exit there)
+    where
+      unmapped-none : {X Y : Type 0} (f : X → Y) (xs : List X) → map f xs ≡ [] → xs ≡ []
+      unmapped-none f [] e = refl
+      unmapped-none f (x ∷ xs) e = absurd (cc e)
+
+  last-tells : IsFresh log clock kept → NothingIsDue log account kept
+      → Tells log account clock kept (unwrap_or (leaving_word log kept) (safe_word log))
+  last-tells at none =
+      (elim (exit_in (standing log kept) (tip kept)) as (λ o. exit_in (standing log kept) (tip kept) ≡ o
+      → Tells log account clock kept
+      (unwrap_or (option_map (λ exit. Leaving (later exit.start EXIT_PERIOD)) o) (safe_word log))) [
+        | None ↦ λ no_own. (
+          at,
+          none,
+          λ exit there e. true≢false
+              (sym (eq-eqb exit.block (tip kept) e)
+              ∙ missed (λ (it : ExitView). it.block == tip kept) (standing log kept) exit no_own
+              (contains-has (standing log kept) exit there)),
+          refl,
+        )
+        | Some exit ↦ λ own.
+            let found = found-has (λ (it : ExitView). it.block == tip kept) (standing log kept) exit own in (
+              at,
+              none,
+              (
+                exit,
+                has-contains (standing log kept) exit found.0,
+                eqb-true exit.block (tip kept) found.1,
+                refl,
+              ),
+            )
+      ]) refl
+
+pub words_tell : WordsTell
+words_tell log account clock kept =
+    let last : Word = safe_word log in
+    let leaving : Option Word = leaving_word log kept in
+    let acting : Option Word = option_or (act_word log account kept) leaving in
+    let aging : Option Word = option_or (stale_word log clock kept) acting in
+    let ending : Option Word = option_or (late_word log kept) aging in
+    let paying : Option Word = option_or (paid_word log kept) ending in
+    let P : Word → Type 0 = Tells log account clock kept in
+    first-rule (sent_word log kept) paying last P (sent-tells log account clock kept) (λ no_sent.
+    let unsent = unmapped (λ (leaf : ℕ). if list_any (is_strange kept) (standing log kept) then Frozen else Sent leaf)
+    kept.sent no_sent in
+    first-rule (paid_word log kept) ending last P (paid-tells log account clock kept unsent) (λ no_paid.
+    let at = here log account clock kept unsent no_paid in
+    first-rule (late_word log kept) aging last P (late-tells log account clock kept at) (λ no_late.
+    let in_time = ahead log account clock kept (now log) (unmapped Late (come (now log) (first_end log kept)) no_late) in
+    first-rule (stale_word log clock kept) acting last P (stale-tells log account clock kept at in_time) (λ no_stale.
+    let good = fresh log account clock kept at in_time no_stale in
+    first-rule (act_word log account kept) leaving last P (act-tells log account clock kept good) (λ no_act.
+    last-tells log account clock kept good (nothing-due log account clock kept unsent no_act))))))

@@ -1,0 +1,12 @@
+use Rattle.std.proofs.Common.{length, sym, ap, ◌∙◌}
+use Rattle.std.proofs.lemmas.Bool.{eqb-true}
+use Rattle.plasma_tx.specs.Views.{exits_of}
+use Rattle.coin_safety.specs.Words.{end_of_call}
+use Rattle.coin_safety.proofs.Numbers.{least-empty}
+use Rattle.coin_safety.proofs.advice.advise.Goals as goal
+
+pub returns-then-is_empty-clause-end : goal.returns-then-is_empty-clause-end
+returns-then-is_empty-clause-end c =
+    least-empty (end_of_call (exits_of c.args.log.now.log c.args.coin)) c.args.calls.now.items
+    (ap length (sym c.as_slice.ensures.value)
+    ∙ eqb-true (length c.as_slice.result.now) 0 (sym c.is_empty.ensures ∙ c.if-is_empty.true))
