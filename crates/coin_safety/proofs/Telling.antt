@@ -125,7 +125,8 @@ first-rule None rest last P speaks silent = silent refl
 first-rule (Some w) rest last P speaks silent = speaks w refl
 
 -- a mapped value
-mapped : {X : Type 0} (f : X → Word) (o : Option X) (w : Word) → option_map f o ≡ Some w → (x : X) × (o ≡ Some x) × (f x ≡ w)
+mapped : {X : Type 0} (f : X → Word) (o : Option X) (w : Word) → option_map f o ≡ Some w
+    → (x : X) × (o ≡ Some x) × (f x ≡ w)
 mapped f None w is = absurd (cc is)
 mapped f (Some x) w is = (x, refl, some_same (f x) w is)
 
@@ -401,7 +402,8 @@ words_tell log account clock kept =
     first-rule (paid_word log kept) ending last P (paid-tells log account clock kept unsent) (λ no_paid.
     let at = here log account clock kept unsent no_paid in
     first-rule (late_word log kept) aging last P (late-tells log account clock kept at) (λ no_late.
-    let in_time = ahead log account clock kept (now log) (unmapped Late (come (now log) (first_end log kept)) no_late) in
+    let in_time = ahead log account clock kept (now log)
+    (unmapped Late (come (now log) (first_end log kept)) no_late) in
     first-rule (stale_word log clock kept) acting last P (stale-tells log account clock kept at in_time) (λ no_stale.
     let good = fresh log account clock kept at in_time no_stale in
     first-rule (act_word log account kept) leaving last P (act-tells log account clock kept good) (λ no_act.

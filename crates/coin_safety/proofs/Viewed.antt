@@ -20,7 +20,7 @@ use Rattle.plasma_tx.proofs.CoinExits.{views}
 use Rattle.plasma_tx.proofs.Names.{option_or-none}
 use Rattle.coin_safety.specs.declared.payment.Payment.{Payment}
 use Rattle.coin_safety.specs.Advice.{exit_in}
-use Rattle.coin_safety.specs.Lean.{Follows, FollowsAll, concerns, payment_by, share, own_bonds, cancel_share, payout_share, finish_share, paid_to, taken_of}
+use Rattle.coin_safety.specs.Lean.{Follows, FollowsAll, payment_by, share, own_bonds, cancel_share, payout_share, finish_share, paid_to, taken_of}
 use Rattle.coin_safety.specs.Words.{next_line, starter, paid_by, payment}
 
 -- ---- the exit at a block
@@ -156,23 +156,6 @@ none-some (Some x) is = absurd (true≢false is)
 
 pub unpaid : (log : List RootCall) (c : ℕ) → is_withdrawn log c ≡ false → payment log c ≡ None
 unpaid log c is = none-some (payment log c) (paid-withdrawn log c ∙ is)
-
--- a call that doesn't concern the coin pays it not
-pub unconcerned-none : (c line : ℕ) (all : List ExitView) (call : RootCall) → concerns c call ≡ false
-    → payment_by c line all call ≡ None
-unconcerned-none c line all (Finish account coin m) apart =
-    ap (λ b. if b && has_no_open_view (exit_in all m)
-    then Some (record { account = option_map_or (λ it. it.account) (exit_in all m) 0; line = line }) else None) apart
-unconcerned-none c line all (Fund account amount) apart = refl
-unconcerned-none c line all (Tick time) apart = refl
-unconcerned-none c line all (Deposit account amount key) apart = refl
-unconcerned-none c line all (Commit account root) apart = refl
-unconcerned-none c line all (StartDeposit account coin block) apart = refl
-unconcerned-none c line all (StartSpend account coin parent exit) apart = refl
-unconcerned-none c line all (After account coin exit spend) apart = refl
-unconcerned-none c line all (Between account coin exit spend) apart = refl
-unconcerned-none c line all (Before account coin exit shown) apart = refl
-unconcerned-none c line all (Respond account coin exit challenged spend) apart = refl
 
 -- ---- money
 

@@ -35,7 +35,8 @@ IsMet calls (Before account c e shown) =
     ⊎ ((other : RootCall) × Contains calls other × (is_cancel c e other ≡ true))
 IsMet calls call = Contains calls call
 
--- Each call that is due for a coin that wasn't signed away is among those that are advised, or one of these does better.
+-- Each call that is due for a coin that wasn't signed away is among those that are advised, or one of these does
+-- better.
 abbrev pub NothingDueIsLeftOut : Type 0
 NothingDueIsLeftOut = (log : List RootCall) (account : ℕ) (kept : Kept) (call : RootCall) → kept.sent ≡ None
     → Contains (due_of log account (record { links = kept.links })) call → IsMet (calls_of log account kept) call
@@ -58,7 +59,8 @@ unfoldable pub with_calls : List RootCall → List RootCall → List RootCall
 with_calls log [] = log
 with_calls log (call ∷ calls) = with_calls (call ∷ log) calls
 
--- Who has what calls take together has what each takes, when its turn comes: what the others do meanwhile takes no more.
+-- Who has what calls take together has what each takes, when its turn comes: what the others do meanwhile takes no
+-- more.
 abbrev pub EnoughIsEnough : Type 0
 EnoughIsEnough = (log : List RootCall) (account : ℕ) (earlier : List RootCall) (call : RootCall)
     (after : List RootCall)

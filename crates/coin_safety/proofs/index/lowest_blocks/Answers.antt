@@ -5,7 +5,8 @@ use Rattle.coin_safety.proofs.Indexes.{lowest-more, lowest-none}
 use Rattle.coin_safety.proofs.index.lowest_blocks.Goals as goal
 
 pub loop-exit-init : goal.loop-exit-init
-loop-exit-init c parent = lowest-none (get nat_cmp c.new-blocks.result parent) parent (search (rules, c.new-blocks.ensures.empty))
+loop-exit-init c parent =
+    lowest-none (get nat_cmp c.new-blocks.result parent) parent (search (rules, c.new-blocks.ensures.empty))
 
 pub loop-exit-preserved : goal.loop-exit-preserved
 loop-exit-preserved c parent =
