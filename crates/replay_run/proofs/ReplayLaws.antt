@@ -10,18 +10,21 @@ use Rattle.world_core.specs.Lines.{is_full, IsStep}
 use Rattle.streamed_lines.specs.declared.ending.Stop.TheVariants.{BadLine, TooLong, Ends}
 use Rattle.streamed_lines.specs.declared.ending.Halt.{Halt}
 use Rattle.streamed_lines.specs.declared.ending.Halt.TheVariants.{Stops, Failed, NoMemory}
-use Rattle.streamed_lines.specs.Reading.{HaltsAt}
+use Rattle.streamed_lines.specs.Reading.{HaltsAt, IsAnswered}
 use Rattle.replay_run.specs.declared.ending.NoCause.{NoCause}
 use Rattle.replay_run.specs.Replays.{JudgedRun, newest_text, fitting, run_or, text_run, replay_rules}
 use Rattle.replay_run.specs.Text.{told_text}
-use Rattle.replay_run.specs.Reading.{Ran, GoesOn, HasNoStep}
+use Rattle.replay_run.specs.Reading.{Ran, GoesOn, IsToldStep, IsTaken, HasNoStep}
 
 -- ---- what holds where a result is Ok, or Err, in other words
 
-pub if-ok-on : {T E : Type 0} (A : Type 0) (P Q : T → Type 0) (result : Result T E) → (A → (x : T) → P x → Q x)
-    → OnOk result A → IfOk result P → IfOk result Q
-if-ok-on A P Q (Ok x) more on is = more on x is
-if-ok-on A P Q (Err e) more on is = tt
+pub ok-given : {T E : Type 0} (P : T → Type 0) (result : Result T E) (x : T) → result ≡ Ok x → IfOk result P → P x
+ok-given P result x is holds = subst (λ r. IfOk r P) is holds
+
+pub on-ok-both : {T E : Type 0} (A P Q : Type 0) (result : Result T E) → (A → P → Q) → OnOk result A → OnOk result P
+    → OnOk result Q
+on-ok-both A P Q (Ok x) more on is = more on is
+on-ok-both A P Q (Err e) more on is = tt
 
 pub if-err : {T E : Type 0} (P Q : E → Type 0) (result : Result T E) → ((e : E) → P e → Q e) → IfErr result P
     → IfErr result Q
@@ -104,3 +107,21 @@ module _ {H : Type 0} (digest_of : H → List ℕ → List ℕ) (world : Running
               step.after.ran;
         };
       }
+
+  pub step-taken : (old text : List ℕ) (new : RunningState H) → new.hash ≡ world.hash
+      → IsToldStep dig ran.lines line old text new → IsTaken digest_of judged bytes old text new
+  step-taken old text new same (told, step, is) = (told, step-goes told new same step, is)
+
+-- so the answerer of a replay has answered the line
+pub taken-answered : {H W : Type 0} (digest_of : H → List ℕ → List ℕ) (ran_of : W → JudgedRun → Type 0)
+    (judged : JudgedRun) (bytes old text : List ℕ) (replayer : W) (world : RunningState H)
+    → ((next : JudgedRun) → Ran digest_of world next → ran_of replayer next)
+    → IsTaken digest_of judged bytes old text world
+    → IsAnswered replay_rules ran_of judged bytes old text replayer
+taken-answered digest_of ran_of judged bytes old text replayer world is (told, goes, put) = record {
+  next = goes.next;
+  answer = told_text told;
+  is = goes.is;
+  ran = is goes.next goes.ran;
+  told = put;
+}

@@ -2,10 +2,11 @@
 use Rattle.std.specs.Prelude.{◌≡◌, ℕ, Bool, List, ◌∷◌, ◌++◌, Option, Some, None, Ok}
 use Rattle.schedule_text.specs.declared.line.Line.{Line}
 use Rattle.schedule_text.specs.Grammar.{line_in}
+use Rattle.world_rules.specs.declared.trace.TraceLine.{TraceLine}
 use Rattle.world_rules.specs.Steps.{Run, run_of}
 use Rattle.world_rules.specs.Texts.{entries_text}
 use Rattle.world_core.specs.Worlds.{RunningState, IsAfter}
-use Rattle.world_core.specs.Lines.{WouldFill}
+use Rattle.world_core.specs.Lines.{IsStep, WouldFill}
 use Rattle.streamed_lines.specs.declared.ending.Ending.{Ending}
 use Rattle.streamed_lines.specs.declared.ending.Ending.TheVariants.{Complete}
 use Rattle.streamed_lines.specs.declared.ending.Stop.TheVariants.{BadLine, TooLong}
@@ -15,7 +16,7 @@ use Rattle.streamed_lines.specs.Bounds.{TakesFew}
 use Rattle.streamed_lines.specs.Outside.{Gave, Wrote, WroteFront}
 use Rattle.replay_run.specs.declared.ending.NoCause.{NoCause}
 use Rattle.replay_run.specs.Replays.{JudgedRun, replay_rules, replay_of}
-use Rattle.replay_run.specs.Text.{answers_text}
+use Rattle.replay_run.specs.Text.{answers_text, told_text}
 
 -- ---- one line
 
@@ -24,6 +25,12 @@ abbrev pub SpellsNone : List ℕ → Halt NoCause → Type 0
 SpellsNone text (Stops BadLine) = line_in text ≡ None
 SpellsNone text NoMemory = Unit {0}
 SpellsNone text halt = ⊥
+
+-- one more line was run, and its answer is behind the text
+abbrev pub IsToldStep : {H : Type 0} → (List ℕ → List ℕ) → List Line → Line → (old new : List ℕ) → RunningState H
+    → Type 0
+IsToldStep dig lines line old new world =
+    (told : TraceLine) × IsStep dig lines line told world × (new ≡ old ++ told_text told)
 
 -- why one more line isn't run: it has no step, or would fill the mail, or memory ran out
 abbrev pub HasNoStep : (List ℕ → List ℕ) → List Line → Line → Halt NoCause → Type 0
@@ -51,6 +58,11 @@ module _ {H : Type 0} (digest_of : H → List ℕ → List ℕ) where
     pub next : JudgedRun
     pub is : replay_rules.next judged line ≡ Ok (next, text)
     pub ran : Ran world next
+
+  -- so it was, and its answer is behind the text
+  abbrev pub IsTaken : (judged : JudgedRun) (line old new : List ℕ) (world : RunningState H) → Type 0
+  IsTaken judged line old new world =
+      (told : TraceLine) × GoesOn judged line (told_text told) world × (new ≡ old ++ told_text told)
 
 -- ---- an input
 

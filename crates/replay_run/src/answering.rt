@@ -4,14 +4,12 @@ ghost use Rattle.plasma_outside.specs.Outside.{is_failed};
 ghost use Rattle.schedule_text.specs.declared.line.Line.{Line};
 ghost use Rattle.schedule_text.specs.Grammar.{IsLine, line_in};
 ghost use Rattle.world_core.specs.Worlds.{IsAfter};
-ghost use Rattle.world_core.specs.Lines.{IsStep};
 ghost use Rattle.streamed_lines.specs.Outside.{ReadsToFault};
 ghost use Rattle.streamed_lines.specs.Reading.{HaltsAt, is_read_fault};
 ghost use Rattle.streamed_lines.specs.Prompt.{AnswersPromptly};
 ghost use Rattle.replay_run.specs.Prompt.{replay_answers};
 ghost use Rattle.replay_run.specs.Replays.{JudgedRun, begun, replay_rules};
-ghost use Rattle.replay_run.specs.Text.{told_text};
-ghost use Rattle.replay_run.specs.Reading.{Ran, GoesOn, SpellsNone, HasNoStep, NeverFails, Answers, StopsEarly};
+ghost use Rattle.replay_run.specs.Reading.{Ran, IsToldStep, IsTaken, SpellsNone, HasNoStep, NeverFails, Answers, StopsEarly};
 
 use super::ending::NoCause;
 use plasma_base::Hash32;
@@ -58,21 +56,29 @@ fn read_line(alloc: Global, text: &[u8]) -> Result<Line, Halt<NoCause>>
     }
 }
 
-// Takes the step of a line.
+// Takes the step of a line, and adds its answer to the text. What was told is lent, since to move it takes longer than
+// the step of a short line.
 fn step_line<H: Hash32 + Copy>(
     world: &mut World<H>,
     line: &Line,
-) -> Result<TraceLine, Halt<NoCause>>
+    text: &mut Vec<u8>,
+) -> Result<(), Halt<NoCause>>
     requires grammar { IsLine line.now }
     ensures told { (lines : List Line) → IsAfter (H.digest_of world.old.running.hash) lines world.old.running
-        → IfOk result (λ told. IsStep (H.digest_of world.old.running.hash) lines line.now told world.new.running) }
+        → OnOk result (IsToldStep (H.digest_of world.old.running.hash) lines line.now text.old.items text.new.items
+        world.new.running) }
     ensures stops { (lines : List Line) → IsAfter (H.digest_of world.old.running.hash) lines world.old.running
         → IfErr result (HasNoStep (H.digest_of world.old.running.hash) lines line.now) }
     ensures no_failure { IfErr result NeverFails }
     ensures hash { OnOk result (world.new.running.hash ≡ world.old.running.hash) }
+    ensures untold { OnErr result (text.new.items ≡ text.old.items) }
 {
-    match world.step(line) {
-        Ok(told) => Ok(told),
+    let stepped = world.step(line);
+    match &stepped {
+        Ok(told) => {
+            print_line(told, text)?;
+            Ok(())
+        }
         Err(StepRefusal::BadLine) => Err(Halt::Stops {
             stop: Stop::BadLine,
         }),
@@ -83,20 +89,22 @@ fn step_line<H: Hash32 + Copy>(
     }
 }
 
-// Reads a line, and takes its step.
+// Reads a line, takes its step, and adds its answer to the text.
 fn take_line<H: Hash32 + Copy>(
     alloc: Global,
     world: &mut World<H>,
     line: &[u8],
-) -> Result<TraceLine, Halt<NoCause>>
-    ensures told { (run : JudgedRun) → Ran H.digest_of world.old.running run
-        → IfOk result (λ told. GoesOn H.digest_of run line.now (told_text told) world.new.running) }
+    text: &mut Vec<u8>,
+) -> Result<(), Halt<NoCause>>
+    ensures answered { (run : JudgedRun) → Ran H.digest_of world.old.running run
+        → OnOk result (IsTaken H.digest_of run line.now text.old.items text.new.items world.new.running) }
     ensures halts { (run : JudgedRun) → Ran H.digest_of world.old.running run
         → IfErr result (HaltsAt replay_rules run line.now) }
     ensures no_failure { IfErr result NeverFails }
+    ensures untold { OnErr result (text.new.items ≡ text.old.items) }
 {
     let read = read_line(alloc, line)?;
-    step_line(world, &read)
+    step_line(world, &read, text)
 }
 
 impl<H: Hash32 + Copy> Answerer for Replayer<H> {
@@ -116,9 +124,7 @@ impl<H: Hash32 + Copy> Answerer for Replayer<H> {
     ghost ready = { λ _. Unit {0} };
 
     fn answer(&mut self, line: &[u8], text: &mut Vec<u8>) -> Result<(), Halt<NoCause>> {
-        let told = take_line(self.alloc, &mut self.world, line)?;
-        print_line(&told, text)?;
-        Ok(())
+        take_line(self.alloc, &mut self.world, line, text)
     }
 
     fn may_end(&self) -> bool {
