@@ -1,0 +1,184 @@
+-- Small lists of calls, the newest first, on which the words and the calls are computed: each premise of the laws can
+-- be met, and the times are tight. Every call of the lists is accepted after those before it, where each opening and
+-- each signature passes.
+use Rattle.std.proofs.Common.{◌≡◌, ℕ, ◌+◌, ◌&&◌, Bool, true, List, [], ◌∷◌, None, refl}
+use Rattle.lms_sign.specs.Types.{u32_at}
+use Rattle.plasma_tx.specs.declared.opening.RawOpening.{RawOpening}
+use Rattle.plasma_tx.specs.declared.call.Shown.TheVariants.{Deposit as AtDeposit, Spend}
+use Rattle.plasma_tx.specs.declared.call.RootCall.{RootCall}
+use Rattle.plasma_tx.specs.declared.call.RootCall.TheVariants.{Fund, Tick, Deposit, Commit, StartDeposit, StartSpend, Between, Before, Finish}
+use Rattle.plasma_tx.specs.Openings.{leaf_in}
+use Rattle.plasma_tx.specs.Spelling.{body_text, signed_in, body_in, owner_text, owner_in}
+use Rattle.plasma_tx.specs.Transfer.{transfer_in}
+use Rattle.plasma_tx.specs.Views.{now, blocks, coins, block_at, coin_at, responses, exits, exit_at, exits_of, is_withdrawn}
+use Rattle.plasma_tx.specs.Shown.{shown_tx}
+use Rattle.plasma_tx.specs.Table.{answer_to, is_accepted}
+use Rattle.plasma_tx.specs.Money.{pays, takes, share_of, balance_of, funded}
+use Rattle.coin_history.specs.History.{links_in}
+use Rattle.watch_duty.specs.Duty.{next_link}
+use Rattle.world_rules.specs.Events.{log_of, wallet_owner, accepted, bound_by, taken_back, not_taken}
+use Rattle.world_rules.specs.Exhibits.{openings_of, seen, strings_of, has_clash, collides, is_forged}
+use Rattle.world_rules.specs.Safety.{holds}
+use Rattle.world_laws.specs.Legal.{Bare}
+use Rattle.world_laws.proofs.Samples.{key, me, stranger, tag, rules, lax, deposited}
+use Rattle.coin_safety.specs.declared.kept.Kept.{Kept}
+use Rattle.coin_safety.specs.declared.word.Word.{Word}
+use Rattle.coin_safety.specs.declared.word.Word.TheVariants.{Safe, Act, Leaving, Paid, Gone, Late}
+use Rattle.coin_safety.specs.Numbers.{least}
+use Rattle.coin_safety.specs.Advice.{start_shown, due, calls_of}
+use Rattle.coin_safety.specs.Words.{payment, word_of}
+use Rattle.safety_laws.specs.Look.{IsLook, are_met}
+
+-- each call was accepted after those before it
+unfoldable pub are_taken : List RootCall → Bool
+are_taken [] = true
+are_taken (call ∷ log) = is_accepted (answer_to lax rules log call) && are_taken log
+
+-- a block's opening of a transfer of coin 1 from a block to the stranger
+abbrev planted : ℕ → ℕ → RawOpening
+planted block parent = record {
+  block = block;
+  bytes = 0 ∷ 0 ∷ 0 ∷ 116
+      ∷ body_text (record { tag = tag; coin = 1; parent = parent; to = stranger; last = None });
+}
+
+-- Account 21 deposited coin 1 in block 1, and has so much left. The operator planted blocks 2 to 4: 3 and 4 spend 2.
+abbrev began : ℕ → List RootCall
+began left =
+    Commit 9 []
+    ∷ Commit 9 []
+    ∷ Commit 9 []
+    ∷ Deposit 21 5 (key 7)
+    ∷ Fund 30 200
+    ∷ Fund 21 (left + 5)
+    ∷ []
+
+-- what its wallet keeps
+abbrev kept : Kept
+kept = record { links = record { coin = 1; deposit = 1; owner = me; spends = [] }; sent = None }
+
+abbrev word : List RootCall → Word
+word log = word_of log 21 0 kept
+
+-- ---- a look's premises can be met
+
+-- it is a look at the coin that the wallet holds
+pub deposited-look : (dig : List ℕ → List ℕ) → IsLook dig rules deposited 1 1 1 1 kept
+unfolding holds log_of wallet_owner accepted bound_by taken_back not_taken now blocks coins coin_at exits exit_at
+    is_withdrawn links_in openings_of seen strings_of has_clash collides is_forged
+deposited-look dig = record {
+  keeps = record {
+    bundle = record { coin = 1; tip = 1; openings = [] };
+    shows = Bare refl refl;
+    links_are = refl;
+  };
+  coin_is = refl;
+  tip_is = refl;
+  held = refl;
+  whole = refl;
+  honest = refl;
+}
+
+-- ---- the words
+
+pub began-safe : word (began 100) ≡ Safe 604799
+unfolding least payment start_shown next_link balance_of pays takes share_of now blocks coins block_at coin_at
+    responses exits exit_at exits_of is_withdrawn
+began-safe = refl
+
+-- the stranger's exits of blocks 3 and 4 stand: two spends of block 2
+abbrev attacked : ℕ → List RootCall
+attacked left =
+    StartSpend 30 1 (Spend (planted 2 1000)) (planted 4 2)
+    ∷ StartSpend 30 1 (Spend (planted 2 1000)) (planted 3 2)
+    ∷ began left
+
+-- against the earlier one a Before, against the later one what the start of the earlier one has shown
+pub attacked-calls : calls_of (attacked 40) 21 kept
+    ≡ Before 21 1 3 (AtDeposit 1) ∷ Between 21 1 4 (planted 3 2) ∷ []
+unfolding least payment start_shown next_link balance_of pays takes share_of now blocks coins block_at coin_at
+    responses exits exit_at exits_of is_withdrawn
+attacked-calls = refl
+
+-- it takes 40, until a second before the window ends
+pub attacked-act : word (attacked 40) ≡ Act 604799 0
+unfolding least payment start_shown next_link balance_of pays takes share_of now blocks coins block_at coin_at
+    responses exits exit_at exits_of is_withdrawn
+attacked-act = refl
+
+pub attacked-missing : word (attacked 39) ≡ Act 604799 1
+unfolding least payment start_shown next_link balance_of pays takes share_of now blocks coins block_at coin_at
+    responses exits exit_at exits_of is_withdrawn
+attacked-missing = refl
+
+-- so what begins just after a look is met by the next one until then, and a second later it is late
+pub attacked-late : word (Tick 604800 ∷ attacked 40) ≡ Late 604800
+unfolding least payment start_shown next_link balance_of pays takes share_of now blocks coins block_at coin_at
+    responses exits exit_at exits_of is_withdrawn
+attacked-late = refl
+
+-- with the calls entered nothing is due
+abbrev guarded : List RootCall
+guarded = Between 21 1 4 (planted 3 2) ∷ Before 21 1 3 (AtDeposit 1) ∷ attacked 40
+
+pub guarded-taken : are_taken guarded ≡ true
+unfolding are_taken answer_to shown_tx transfer_in signed_in body_in leaf_in body_text owner_text owner_in u32_at
+    balance_of pays takes share_of funded now blocks coins block_at coin_at responses exits exit_at is_withdrawn
+guarded-taken = refl
+
+-- so what was due was met: a call that ends the exit does as well as a Before
+pub guarded-met :
+    are_met (Between 21 1 4 (planted 3 2) ∷ Before 21 1 3 (AtDeposit 1) ∷ []) (due (attacked 40) 21 kept) ≡ true
+unfolding least payment start_shown next_link balance_of pays takes share_of now blocks coins block_at coin_at
+    responses exits exit_at exits_of is_withdrawn
+guarded-met = refl
+
+pub guarded-safe : word guarded ≡ Safe 604799
+unfolding least payment start_shown next_link balance_of pays takes share_of now blocks coins block_at coin_at
+    responses exits exit_at exits_of is_withdrawn
+guarded-safe = refl
+
+-- at the end of the challenged exit a Finish gives the bond back
+pub ended-calls : calls_of (Tick 907200 ∷ guarded) 21 kept ≡ Finish 21 1 3 ∷ []
+unfolding least payment start_shown next_link balance_of pays takes share_of now blocks coins block_at coin_at
+    responses exits exit_at exits_of is_withdrawn
+ended-calls = refl
+
+-- ---- leaving, and paid
+
+abbrev left : List RootCall
+left = StartDeposit 21 1 1 ∷ began 100
+
+pub left-leaving : word left ≡ Leaving 907200
+unfolding least payment start_shown next_link balance_of pays takes share_of now blocks coins block_at coin_at
+    responses exits exit_at exits_of is_withdrawn
+left-leaving = refl
+
+abbrev paid : List RootCall
+paid = Finish 21 1 1 ∷ Tick 907200 ∷ left
+
+pub paid-taken : are_taken paid ≡ true
+unfolding are_taken answer_to shown_tx transfer_in signed_in body_in leaf_in body_text owner_text owner_in u32_at
+    balance_of pays takes share_of funded now blocks coins block_at coin_at responses exits exit_at is_withdrawn
+paid-taken = refl
+
+pub paid-paid : word paid ≡ Paid
+unfolding least payment start_shown next_link balance_of pays takes share_of now blocks coins block_at coin_at
+    responses exits exit_at exits_of is_withdrawn
+paid-paid = refl
+
+-- ---- gone
+
+-- nobody challenged the stranger's exits, and one was finished, in line 11
+abbrev taken : List RootCall
+taken = Finish 50 1 3 ∷ Tick 907200 ∷ attacked 40
+
+pub taken-taken : are_taken taken ≡ true
+unfolding are_taken answer_to shown_tx transfer_in signed_in body_in leaf_in body_text owner_text owner_in u32_at
+    balance_of pays takes share_of funded now blocks coins block_at coin_at responses exits exit_at is_withdrawn
+taken-taken = refl
+
+pub taken-gone : word taken ≡ Gone 30 11
+unfolding least payment start_shown next_link balance_of pays takes share_of now blocks coins block_at coin_at
+    responses exits exit_at exits_of is_withdrawn
+taken-gone = refl

@@ -1,0 +1,324 @@
+-- Each of the calls that are advised leaves the later ones what they are.
+use Rattle.std.proofs.Common.{◌≡◌, ℕ, ◌+◌, ◌==◌, ◌&&◌, ◌||◌, not, Bool, true, false, if◌then◌else◌, List, [], ◌∷◌, map, filter, Option, Some, None, inl, inr, refl, sym, ap, ◌∙◌, subst, arith}
+use Rattle.std.specs.Prelude.{is_some, nat_lt, unwrap_or}
+use Rattle.std.specs.Option.{option_and_then, option_map, option_map_or, option_or}
+use Rattle.std.specs.List.{flat_map}
+use Rattle.std.proofs.lemmas.Bool.{cases_eq, ne_eqb, eqb-true, eq-eqb, leb-true, and_parts, and_from, not_from_false, false≢true, false_from_ne_true}
+use Rattle.plasma_tx.specs.declared.opening.RawOpening.{RawOpening}
+use Rattle.plasma_tx.specs.declared.links.Link.{Link}
+use Rattle.plasma_tx.specs.declared.call.RootCall.{RootCall}
+use Rattle.plasma_tx.specs.declared.call.RootCall.TheVariants.{After, Between, Before, Respond, Finish}
+use Rattle.plasma_tx.specs.declared.views.ChallengeView.{ChallengeView}
+use Rattle.plasma_tx.specs.declared.views.ExitView.{ExitView}
+use Rattle.plasma_tx.specs.declared.rules.TheConstants.{CHALLENGE_WINDOW, RESPONSE_WINDOW, EXIT_PERIOD}
+use Rattle.plasma_tx.specs.ChallengeLists.{is_challenged}
+use Rattle.plasma_tx.specs.Links.{tip_of}
+use Rattle.plasma_tx.specs.RuleLaws.{is_of_exit}
+use Rattle.plasma_tx.specs.Table.{is_over}
+use Rattle.plasma_tx.specs.Views.{now, Challenge, Exit, is_exit, exits, exit_at, challenge_view, exit_view, exits_of}
+use Rattle.plasma_tx.proofs.RuleNames.{exits-distinct, is_at, challenged-once}
+use Rattle.watch_duty.specs.Duty.{link_after, tip_shown, within, old_owner, second_spend, planted_parent, answer, answers, due_for, due_of}
+use Rattle.watch_duty.proofs.Members.{Has, has-cases, has-filter, has-map, has-flat_map, only-found}
+use Rattle.watch_duty.proofs.Dues.{IsDue, DueAfter, DueBetween, DueBefore, DueRespond, due_for-due}
+use Rattle.coin_safety.specs.declared.kept.Kept.{Kept}
+use Rattle.coin_safety.specs.Advice.{standing, exit_in, earlier_spend, instead, is_to_finish, has_challenged, is_own, finishes, due, calls_of}
+use Rattle.safety_laws.proofs.StillTaken.{is_move, IsBy, is_answer, Apart}
+use Rattle.safety_laws.proofs.Pairs.{Pairs, pairs-append, pairs-filter, pairs-once, pairs-same, pairs-map, pairs-flat}
+
+-- ---- the exit of a call
+
+abbrev pub block_on : RootCall → ℕ
+block_on (After account c f spend) = f
+block_on (Between account c f spend) = f
+block_on (Before account c f shown) = f
+block_on (Respond account c f n spend) = f
+block_on (Finish account c f) = f
+block_on call = 0
+
+-- the call is on the exit at the block, by the account
+pub record MovesAt (account block : ℕ) (call : RootCall) : Type 0 where
+  pub move : is_move call ≡ true
+  pub at : block_on call ≡ block
+  pub by : IsBy account call
+
+other-exit : (k f c g : ℕ) → (f ≡ g → ⊥) → ((k == c) && (f == g)) ≡ false
+other-exit k f c g apart =
+    false_from_ne_true ((k == c) && (f == g)) (λ is. apart (eqb-true f g (and_parts (k == c) (f == g) is).1))
+
+of-other : (new : RootCall) (c g : ℕ) → is_move new ≡ true → (block_on new ≡ g → ⊥) → is_of_exit c g new ≡ false
+of-other (After account k f spend) c g move apart = other-exit k f c g apart
+of-other (Between account k f spend) c g move apart = other-exit k f c g apart
+of-other (Before account k f shown) c g move apart = other-exit k f c g apart
+of-other (Respond account k f n spend) c g move apart = other-exit k f c g apart
+of-other (Finish account k f) c g move apart = other-exit k f c g apart
+of-other new c g move apart = absurd (false≢true move)
+
+apart-exits : (new call : RootCall) → is_move new ≡ true → is_move call ≡ true → (block_on new ≡ block_on call → ⊥)
+    → Apart new call
+apart-exits new (After account c g spend) move too apart = of-other new c g move apart
+apart-exits new (Between account c g spend) move too apart = of-other new c g move apart
+apart-exits new (Before account c g shown) move too apart = of-other new c g move apart
+apart-exits new (Respond account c g n spend) move too apart = inl (of-other new c g move apart)
+apart-exits new (Finish account c g) move too apart = inl (of-other new c g move apart)
+apart-exits new call move too apart = absurd (false≢true too)
+
+apart-at : (account one other : ℕ) (new call : RootCall) → MovesAt account one new → MovesAt account other call
+    → (one ≡ other → ⊥) → Apart new call
+apart-at account one other new call a b apart =
+    apart-exits new call a.move b.move (λ same. apart (sym a.at ∙ same ∙ b.at))
+
+module _ (log : List RootCall) (account : ℕ) (kept : Kept) where
+  abbrev C : ℕ
+  C = kept.links.coin
+
+  -- ---- each call is on its exit
+
+  due-moves : (v : ExitView) (call : RootCall) → IsDue log account kept.links v call → MovesAt account v.block call
+  due-moves v call (DueAfter link next early same) =
+      subst (MovesAt account v.block) same (record { move = refl; at = refl; by = tt })
+  due-moves v call (DueBetween link above next early same) =
+      subst (MovesAt account v.block) same (record { move = refl; at = refl; by = tt })
+  due-moves v call (DueBefore above free early same) =
+      subst (MovesAt account v.block) same (record { move = refl; at = refl; by = refl })
+  due-moves v call (DueRespond ch link at_tip has still next early same) =
+      subst (MovesAt account v.block) same (record { move = refl; at = refl; by = tt })
+
+  instead-moves : (block : ℕ) (call : RootCall) → MovesAt account block call
+      → MovesAt account block (instead log C call)
+  instead-moves block (Before by c f shown) m =
+      elim (option_and_then (earlier_spend log C) (exit_in (exits_of log C) f)) as (λ o. MovesAt account block
+      (option_map_or (λ (spend : RawOpening). Between by c f spend) o (Before by c f shown))) [
+        | Some spend ↦ record { move = refl; at = m.at; by = tt }
+        | None ↦ m
+      ]
+  instead-moves block call m = m
+
+  entered-moves : (v : ExitView) (call : RootCall) → Has (due_for log account kept.links v) call
+      → MovesAt account v.block (instead log C call)
+  entered-moves v call h =
+      instead-moves v.block call (due-moves v call (due_for-due log account kept.links v call h))
+
+  -- ---- the exits
+
+  blocks-apart : Pairs (λ (v u : ExitView). v.block ≡ u.block → ⊥) (standing log kept)
+  unfolding exits_of
+  blocks-apart =
+      pairs-map (λ (x y : Exit). is_exit x.coin x.block y ≡ true → ⊥) (λ (v u : ExitView). v.block ≡ u.block → ⊥)
+      exit_view (filter (λ (x : Exit). x.coin == C) (exits log))
+      (λ x y h k never same. never (and_from (y.coin == x.coin) (y.block == x.block)
+      (eq-eqb y.coin x.coin (eqb-true y.coin C (has-filter (λ (z : Exit). z.coin == C) (exits log) y k).1
+      ∙ sym (eqb-true x.coin C (has-filter (λ (z : Exit). z.coin == C) (exits log) x h).1)))
+      (eq-eqb y.block x.block (sym same))))
+      (pairs-filter (λ (x y : Exit). is_exit x.coin x.block y ≡ true → ⊥) (λ (x : Exit). x.coin == C) (exits log)
+      (pairs-once (λ (x y : Exit). is_exit x.coin x.block y)
+      (λ x. and_from (x.coin == x.coin) (x.block == x.block) (eq-eqb x.coin x.coin refl) (eq-eqb x.block x.block refl))
+      (exits log) (λ x. exits-distinct log x.coin x.block)))
+
+  challenges-apart : (v : ExitView) → Has (standing log kept) v
+      → Pairs (λ (a b : ChallengeView). a.block ≡ b.block → ⊥) v.challenges
+  unfolding exits_of exit_at
+  challenges-apart v h =
+      let r = has-map exit_view (filter (λ (x : Exit). x.coin == C) (exits log)) v h in
+      let k = has-filter (λ (x : Exit). x.coin == C) (exits log) r.0 r.1 in
+      subst (λ (u : ExitView). Pairs (λ (a b : ChallengeView). a.block ≡ b.block → ⊥) u.challenges) r.2
+      (pairs-map (λ (a b : Challenge). is_at a.block b ≡ true → ⊥) (λ (a b : ChallengeView). a.block ≡ b.block → ⊥)
+      challenge_view r.0.challenges
+      (λ a b ha hb never same. never (eq-eqb b.block a.block (sym same)))
+      (pairs-once (λ (a b : Challenge). is_at a.block b) (λ a. eq-eqb a.block a.block refl) r.0.challenges
+      (λ a. challenged-once log C r.0.block r.0
+      (only-found (is_exit C r.0.block) (exits log) r.0 (exits-distinct log C r.0.block) k.0
+      (and_from (r.0.coin == C) (r.0.block == r.0.block) k.1 (eq-eqb r.0.block r.0.block refl))) a.block)))
+
+  -- ---- the calls of one exit
+
+  abbrev Leaves : RootCall → RootCall → Type 0
+  Leaves a b = Apart (instead log C a) (instead log C b)
+
+  within-pairs : (time window : ℕ) (call : RootCall) → Pairs Leaves (within log time window call)
+  within-pairs time window call =
+      elim (is_over log time window) as (λ (b : Bool). Pairs Leaves (if b then [] else call ∷ [])) [
+        | true ↦ tt
+        | false ↦ (λ y h. absurd h, tt)
+      ]
+
+  link-pairs : (o : Option Link) (time window : ℕ) (make : Link → RootCall)
+      → Pairs Leaves (option_map_or (λ (link : Link). within log time window (make link)) o [])
+  link-pairs None time window make = tt
+  link-pairs (Some link) time window make = within-pairs time window (make link)
+
+  answer-pairs : (v : ExitView) (ch : ChallengeView) → Pairs Leaves (answer log account kept.links v ch)
+  answer-pairs v ch =
+      elim ch.answered as (λ (b : Bool). Pairs Leaves (if b then [] else option_map_or
+      (λ (link : Link). within log ch.at RESPONSE_WINDOW (Respond account C v.block ch.block link.opening))
+      (link_after kept.links ch.block) [])) [
+        | true ↦ tt
+        | false ↦ link-pairs (link_after kept.links ch.block) ch.at RESPONSE_WINDOW
+            (λ link. Respond account C v.block ch.block link.opening)
+      ]
+
+  within-is : (time window : ℕ) (one call : RootCall) → Has (within log time window one) call → one ≡ call
+  within-is time window one call =
+      elim (is_over log time window) as (λ (b : Bool). Has (if b then [] else one ∷ []) call → one ≡ call) [
+        | true ↦ λ none. absurd none
+        | false ↦ λ there. elim there [ inl same ↦ same | inr none ↦ absurd none ]
+      ]
+
+  -- an answer is of its challenge
+  answer-is : (v : ExitView) (ch : ChallengeView) (call : RootCall) → Has (answer log account kept.links v ch) call
+      → (spend : RawOpening) × (Respond account C v.block ch.block spend ≡ call)
+  answer-is v ch call =
+      elim ch.answered as (λ (b : Bool). Has (if b then [] else option_map_or
+      (λ (link : Link). within log ch.at RESPONSE_WINDOW (Respond account C v.block ch.block link.opening))
+      (link_after kept.links ch.block) []) call → (spend : RawOpening)
+      × (Respond account C v.block ch.block spend ≡ call)) [
+        | true ↦ λ none. absurd none
+        | false ↦ by_link (link_after kept.links ch.block)
+      ]
+    where
+      by_link : (o : Option Link) → Has (option_map_or
+          (λ (link : Link). within log ch.at RESPONSE_WINDOW (Respond account C v.block ch.block link.opening)) o [])
+          call → (spend : RawOpening) × (Respond account C v.block ch.block spend ≡ call)
+      by_link None none = absurd none
+      by_link (Some link) h =
+          (link.opening, within-is ch.at RESPONSE_WINDOW (Respond account C v.block ch.block link.opening) call h)
+
+  answers-pairs : (v : ExitView) → Has (standing log kept) v
+      → Pairs Leaves (flat_map (answer log account kept.links v) v.challenges)
+  answers-pairs v there =
+      pairs-flat (λ (a b : ChallengeView). a.block ≡ b.block → ⊥) Leaves (answer log account kept.links v) v.challenges
+      (λ ch h. answer-pairs v ch)
+      (λ x y hx hy apart a b ha hb.
+      let p = answer-is v x a ha in
+      let q = answer-is v y b hb in
+      subst (λ (z : RootCall). Leaves z b) p.1 (subst (λ (z : RootCall). Leaves
+      (Respond account C v.block x.block p.0) z) q.1
+      (inr (not_from_false (x.block == y.block) (ne_eqb x.block y.block apart)))))
+      (challenges-apart v there)
+
+  first : (o rest : Option (List RootCall)) → Pairs Leaves (unwrap_or o []) → Pairs Leaves (unwrap_or rest [])
+      → Pairs Leaves (unwrap_or (option_or o rest) [])
+  first None rest one others = others
+  first (Some calls) rest one others = one
+
+  mapped-pairs : (o : Option Link) (time window : ℕ) (make : Link → RootCall)
+      → Pairs Leaves (unwrap_or (option_map (λ (link : Link). within log time window (make link)) o) [])
+  mapped-pairs None time window make = tt
+  mapped-pairs (Some link) time window make = within-pairs time window (make link)
+
+  due-pairs : (v : ExitView) → Has (standing log kept) v → Pairs Leaves (due_for log account kept.links v)
+  due-pairs v there =
+      first (old_owner log account kept.links v)
+      (option_or (second_spend log account kept.links v)
+      (option_or (planted_parent log account kept.links v) (answers log account kept.links v)))
+      (mapped-pairs (link_after kept.links v.block) v.start CHALLENGE_WINDOW
+      (λ link. After account C v.block link.opening))
+      (first (second_spend log account kept.links v)
+      (option_or (planted_parent log account kept.links v) (answers log account kept.links v))
+      (elim (nat_lt (tip_of kept.links) v.block) as (λ (b : Bool). Pairs Leaves (unwrap_or (if b then option_map
+      (λ (link : Link). within log v.start CHALLENGE_WINDOW (Between account C v.block link.opening))
+      (link_after kept.links v.parent) else None) [])) [
+        | true ↦ mapped-pairs (link_after kept.links v.parent) v.start CHALLENGE_WINDOW
+            (λ link. Between account C v.block link.opening)
+        | false ↦ tt
+      ])
+      (first (planted_parent log account kept.links v) (answers log account kept.links v)
+      (elim (nat_lt (tip_of kept.links) v.parent && not (is_challenged (tip_of kept.links) v.challenges)) as
+      (λ (b : Bool). Pairs Leaves (unwrap_or (if b then Some (within log v.start CHALLENGE_WINDOW
+      (Before account C v.block (tip_shown kept.links))) else None) [])) [
+        | true ↦ within-pairs v.start CHALLENGE_WINDOW (Before account C v.block (tip_shown kept.links))
+        | false ↦ tt
+      ])
+      (elim (v.block == tip_of kept.links) as (λ (b : Bool). Pairs Leaves (unwrap_or (if b then Some
+      (flat_map (answer log account kept.links v) v.challenges) else None) [])) [
+        | true ↦ answers-pairs v there
+        | false ↦ tt
+      ])))
+
+  -- ---- all of them
+
+  dues-pairs : Pairs Leaves (due log account kept)
+  dues-pairs =
+      elim (is_some kept.sent) as (λ (b : Bool). Pairs Leaves (if b then [] else
+      due_of log account (record { links = kept.links }))) [
+        | true ↦ tt
+        | false ↦ pairs-flat (λ (v u : ExitView). v.block ≡ u.block → ⊥) Leaves (due_for log account kept.links)
+            (standing log kept) (λ v h. due-pairs v h)
+            (λ v u hv hu apart a b ha hb. apart-at account v.block u.block (instead log C a) (instead log C b)
+            (entered-moves v a ha) (entered-moves u b hb) apart) blocks-apart
+      ]
+
+  pub due-in : (call : RootCall) → Has (due log account kept) call
+      → (v : ExitView) × Has (standing log kept) v × Has (due_for log account kept.links v) call
+  due-in call =
+      elim (is_some kept.sent) as (λ (b : Bool). Has (if b then [] else
+      due_of log account (record { links = kept.links })) call
+      → (v : ExitView) × Has (standing log kept) v × Has (due_for log account kept.links v) call) [
+        | true ↦ λ none. absurd none
+        | false ↦ λ h. has-flat_map (due_for log account kept.links) (standing log kept) call h
+      ]
+
+  pub finish-in : (call : RootCall) → Has (finishes log account kept) call
+      → (v : ExitView) × Has (standing log kept) v × (is_to_finish log account kept v ≡ true)
+      × (Finish account C v.block ≡ call)
+  finish-in call h =
+      let r = has-map (λ (v : ExitView). Finish account C v.block)
+      (filter (is_to_finish log account kept) (standing log kept)) call h in
+      let k = has-filter (is_to_finish log account kept) (standing log kept) r.0 r.1 in
+      (r.0, k.0, k.1, r.2)
+
+  finish-pairs : Pairs Apart (finishes log account kept)
+  finish-pairs =
+      pairs-map (λ (v u : ExitView). v.block ≡ u.block → ⊥) Apart (λ (v : ExitView). Finish account C v.block)
+      (filter (is_to_finish log account kept) (standing log kept))
+      (λ v u hv hu apart. inl (other-exit C v.block C u.block apart))
+      (pairs-filter (λ (v u : ExitView). v.block ≡ u.block → ⊥) (is_to_finish log account kept) (standing log kept)
+      blocks-apart)
+
+  -- what is due for an exit that is to be finished is an answer
+  ended-answer : (v : ExitView) (call : RootCall) → IsDue log account kept.links v call
+      → is_over log v.start EXIT_PERIOD ≡ true → is_answer (instead log C call) ≡ true
+  ended-answer v call (DueAfter link next early same) over =
+      absurd (omega (arith, early, leb-true (v.start + EXIT_PERIOD) (now log) over))
+  ended-answer v call (DueBetween link above next early same) over =
+      absurd (omega (arith, early, leb-true (v.start + EXIT_PERIOD) (now log) over))
+  ended-answer v call (DueBefore above free early same) over =
+      absurd (omega (arith, early, leb-true (v.start + EXIT_PERIOD) (now log) over))
+  ended-answer v call (DueRespond ch link at_tip has still next early same) over =
+      subst (λ (z : RootCall). is_answer (instead log C z) ≡ true) same refl
+
+  across : (a b : RootCall) → Has (map (instead log C) (due log account kept)) a
+      → Has (finishes log account kept) b → Apart a b
+  across a b ha hb =
+      let m = has-map (instead log C) (due log account kept) a ha in
+      let d = due-in m.0 m.1 in
+      let f = finish-in b hb in
+      subst (λ (z : RootCall). Apart z b) m.2 (subst (Apart (instead log C m.0)) f.3
+      (elim (cases_eq d.0.block f.0.block) [
+        | inr apart ↦ apart-at account d.0.block f.0.block (instead log C m.0) (Finish account C f.0.block)
+            (entered-moves d.0 m.0 d.2) (record { move = refl; at = refl; by = tt }) apart
+        | inl same ↦
+            let one = pairs-same (λ (v : ExitView). v.block) (standing log kept) blocks-apart d.0 f.0 d.1 f.1 same in
+            inr (ended-answer d.0 m.0 (due_for-due log account kept.links d.0 m.0 d.2)
+            (ap (λ (v : ExitView). is_over log v.start EXIT_PERIOD) one
+            ∙ (and_parts (is_over log f.0.start EXIT_PERIOD)
+            (has_challenged account f.0 || is_own kept f.0) f.2).0))
+      ]))
+
+  pub calls-pairs : Pairs Apart (calls_of log account kept)
+  calls-pairs =
+      pairs-append Apart (map (instead log C) (due log account kept)) (finishes log account kept)
+      (pairs-map Leaves Apart (instead log C) (due log account kept) (λ x y hx hy leaves. leaves) dues-pairs)
+      finish-pairs across
+
+  pub calls-move : (call : RootCall) → Has (calls_of log account kept) call
+      → (block : ℕ) × MovesAt account block call
+  calls-move call h =
+      elim (has-cases (map (instead log C) (due log account kept)) (finishes log account kept) call h) [
+        | inl here ↦
+            let m = has-map (instead log C) (due log account kept) call here in
+            let d = due-in m.0 m.1 in
+            (d.0.block, subst (MovesAt account d.0.block) m.2 (entered-moves d.0 m.0 d.2))
+        | inr there ↦
+            let f = finish-in call there in
+            (f.0.block, subst (MovesAt account f.0.block) f.3 (record { move = refl; at = refl; by = tt }))
+      ]

@@ -1,0 +1,112 @@
+-- A wallet's own exit of a coin that it holds is at the tip.
+use Rattle.std.proofs.Common.{◌≡◌, ◌⊎◌, ℕ, ◌==◌, Bool, true, false, if◌then◌else◌, List, [], ◌∷◌, Some, inl, inr, refl, sym, ap, ◌∙◌, arith}
+use Rattle.std.specs.List.{list_any}
+use Rattle.std.proofs.lemmas.Bool.{or_cases, or_left, or_right}
+use Rattle.plasma_tx.specs.declared.owner.Owner.{Owner}
+use Rattle.plasma_tx.specs.declared.call.RootCall.{RootCall}
+use Rattle.plasma_tx.specs.Views.{coin_at, Exit, exits}
+use Rattle.plasma_tx.specs.Shown.{Tests, Rules}
+use Rattle.watch_duty.proofs.Members.{Has, all-has, contains-has}
+use Rattle.node_replies.specs.Orders.{exit_block}
+use Rattle.world_rules.specs.Events.{Event, Declares, Joins, Leaves, log_of, coin_of_call, wallet_owner, accepted, is_bundle}
+use Rattle.world_rules.specs.Exhibits.{seen, is_forged}
+use Rattle.world_rules.specs.Safety.{was_deposited, is_mine}
+use Rattle.world_laws.specs.Legal.{starts_by, left_by, is_left, is_tip, IsLegal}
+use Rattle.world_laws.proofs.Lists.{some_same}
+use Rattle.world_laws.proofs.Clash.{HasOneLeaf}
+use Rattle.world_laws.proofs.Bound.{SignsBy, Holding}
+use Rattle.world_laws.proofs.Held.{held_top}
+use Rattle.world_laws.proofs.Offers.{left_start}
+use Rattle.world_laws.proofs.OwnExits.{IsOwnAt, IfOwn, came-from, undeclared-none, left-is, left-stands}
+
+-- a start that the wallet left
+record WasLeft (events : List Event) (w c e : ℕ) : Type 0 where
+  call : RootCall
+  has : Has (left_by events w) call
+  coin_is : coin_of_call call ≡ c
+  block_is : exit_block call ≡ e
+
+left-has : (event : Event) (events : List Event) (w : ℕ) (call : RootCall) → Has (left_by events w) call
+    → Has (left_by (event ∷ events) w) call
+unfolding left_by
+left-has (Leaves v made) events w call h = either (v == w)
+  where
+    either : (b : Bool) → Has (if b then made ∷ left_by events w else left_by events w) call
+    either true = inr h
+    either false = h
+left-has event events w call h = h
+
+left-on : (event : Event) (events : List Event) (w c e : ℕ) → WasLeft events w c e → WasLeft (event ∷ events) w c e
+left-on event events w c e l = record {
+  call = l.call;
+  has = left-has event events w l.call l.has;
+  coin_is = l.coin_is;
+  block_is = l.block_is;
+}
+
+module _ (tests : Tests) (rules : Rules) (w c e : ℕ) where
+  -- the wallet left with each own exit
+  was-left : (events : List Event) → IsLegal tests rules events → (me : Owner) → wallet_owner events w ≡ Some me
+      → (x : Exit) → Has (exits (log_of events)) x → IsOwnAt me c e x → WasLeft events w c e
+  unfolding IsLegal log_of exits wallet_owner
+  was-left [] legal me me_is x there own = absurd there
+  was-left (Declares v other ∷ events) legal me me_is x there own =
+      (elim (v == w) as (λ b. (v == w) ≡ b → (if b then Some other else wallet_owner events w) ≡ Some me
+      → WasLeft (Declares v other ∷ events) w c e) [
+        | true ↦ λ same mine.
+            let owner = some_same other me mine in
+            absurd (undeclared-none tests rules w c e events me x
+            (ap (λ (o : Owner). list_any (starts_by o.account) (log_of events)) (sym owner) ∙ legal.0.no_start)
+            there own.1)
+        | false ↦ λ apart mine. left-on (Declares v other) events w c e
+            (was-left events legal.1 me mine x there own)
+      ]) refl me_is
+  was-left (Joins call ∷ events) legal me me_is x there own =
+      left-on (Joins call) events w c e
+      (elim (all-has (IfOwn (log_of events) me c e call) (exits (call ∷ log_of events)) x
+      (came-from tests rules (log_of events) me c e call legal.0.accepted) there own) [
+        | inl r ↦ was-left events legal.1 me me_is r.0 r.1 r.2
+        | inr s ↦ record {
+          call = call;
+          has = contains-has (left_by events w) call (legal.0.offered w me me_is s.start);
+          coin_is = s.coin_is;
+          block_is = s.block_is;
+        }
+      ])
+  was-left (event ∷ events) legal me me_is x there own =
+      left-on event events w c e (was-left events legal.1 me me_is x there own)
+
+source-tip : (events : List Event) (w c e : ℕ) (h : Holding events w c e) → is_tip events w h.me c e ≡ true
+source-tip events w c e h = either h.source
+  where
+    either : (was_deposited h.me e (coin_at (log_of events) c) ≡ true)
+        ⊎ (list_any (is_bundle c e) (accepted events w) ≡ true) → is_tip events w h.me c e ≡ true
+    either (inl l) = or_left _ _ l
+    either (inr r) = or_right _ _ r
+
+-- so it is at the tip at which the wallet holds the coin
+pub own-at-tip : (tests : Tests) (rules : Rules) → SignsBy tests → (events : List Event) (w c e : ℕ)
+    → IsLegal tests rules events → HasOneLeaf tests (log_of events) c (seen events c)
+    → is_forged rules.tag events w c ≡ false → (h : Holding events w c e) → (x : Exit)
+    → Has (exits (log_of events)) x → x.coin ≡ c → is_mine h.me x ≡ true → x.block ≡ e
+own-at-tip tests rules signs events w c e legal one unforged h x there c_is mine =
+    let block : ℕ = x.block in
+    let l = was-left tests rules w c block events legal h.me h.me_is x there (c_is, mine, refl) in
+    let k = left_start tests rules events w l.call legal l.has in
+    let same : k.me ≡ h.me = some_same k.me h.me (sym k.me_is ∙ h.me_is) in
+    let tip : is_tip events w h.me c block ≡ true =
+    (λ i. is_tip events w (sym same i) (sym l.coin_is i) (sym l.block_is i)) ∙ k.tip in
+    let left : is_left (left_by events w) c block ≡ true =
+    (λ i. is_left (left_by events w) (sym l.coin_is i) (sym l.block_is i)) ∙ left-is (left_by events w) l.call l.has in
+    let other : Holding events w c block = record {
+      me = h.me;
+      me_is = h.me_is;
+      source = or_cases (was_deposited h.me block (coin_at (log_of events) c))
+          (list_any (is_bundle c block) (accepted events w)) tip;
+      not_away = left-stands tests rules events w c block legal left;
+      not_withdrawn = h.not_withdrawn;
+    } in
+    let low = held_top tests rules signs events w c e legal one h unforged block tip in
+    let high = held_top tests rules signs events w c block legal one other unforged e
+    (source-tip events w c e h) in
+    omega (arith, low, high)

@@ -1,0 +1,137 @@
+-- While what a look says goes, no exit of the coin comes too late.
+use Rattle.std.proofs.Common.{◌≡◌, ◌⊎◌, ℕ, ◌+◌, ◌<◌, ◌≤◌, ◌==◌, ◌&&◌, not, true, false, if◌then◌else◌, List, [], ◌∷◌, ◌++◌, Some, inl, inr, sym, ap, ◌∙◌, arith}
+use Rattle.std.specs.Prelude.{is_none, nat_le}
+use Rattle.std.specs.Option.{option_map_or}
+use Rattle.std.specs.List.{list_any}
+use Rattle.std.proofs.lemmas.Bool.{cases_Bool, eqb-true, leb-true, and_parts, and_from, or_parts, not-true, not_from_false, true≢false, false_from_ne_true}
+use Rattle.plasma_tx.specs.declared.owner.Owner.{Owner}
+use Rattle.plasma_tx.specs.declared.rules.TheConstants.{CHALLENGE_WINDOW, RESPONSE_WINDOW, EXIT_PERIOD}
+use Rattle.plasma_tx.specs.Views.{now, Challenge, Exit, exits, challenge_at}
+use Rattle.plasma_tx.specs.Shown.{Tests, Rules}
+use Rattle.watch_duty.proofs.Members.{Has}
+use Rattle.world_rules.specs.Events.{Event, log_of, wallet_owner}
+use Rattle.world_rules.specs.Safety.{holds, is_mine}
+use Rattle.world_laws.specs.Legal.{IsLegal}
+use Rattle.world_laws.proofs.Lists.{any-some}
+use Rattle.money_laws.specs.First.{is_ripe, is_missed}
+use Rattle.money_laws.specs.MoneyLaws.{is_late, goes_late, is_in_time}
+use Rattle.safety_laws.specs.Look.{begins_own}
+use Rattle.safety_laws.proofs.AtLook.{StandsTill}
+use Rattle.safety_laws.proofs.Since.{IsShut, clock-since, from-look, owner-since, own-shut}
+
+-- Till that time it goes: for less than the time of an answer; or for less than that of a challenge, where the owner's
+-- exit couldn't be challenged any more and he began none.
+abbrev pub GoesTill : List Event → List Event → Owner → ℕ → ℕ → ℕ → Type 0
+GoesTill later events me c e end =
+    (end < now (log_of events) + RESPONSE_WINDOW)
+    ⊎ ((end < now (log_of events) + CHALLENGE_WINDOW) × IsShut events me c e
+    × (list_any (begins_own (Some me) c e) later ≡ false))
+
+-- it was so at each event since
+goes-before : (event : Event) (later events : List Event) (me : Owner) (c e end : ℕ)
+    → GoesTill (event ∷ later) events me c e end → GoesTill later events me c e end
+goes-before event later events me c e end (inl less) = inl less
+goes-before event later events me c e end (inr r) =
+    inr (r.0, r.1, (or_parts (begins_own (Some me) c e event) (list_any (begins_own (Some me) c e) later) r.2).1)
+
+module _ (tests : Tests) (rules : Rules) (events : List Event) (w c e : ℕ) (me : Owner)
+    (me_is : wallet_owner events w ≡ Some me) (end : ℕ) (stands : StandsTill events c e me end) where
+  -- an open challenge of the own exit isn't missed
+  pub own-answers : (later : List Event) → IsLegal tests rules (later ++ events) → GoesTill later events me c e end
+      → (x : Exit) → Has (exits (log_of (later ++ events))) x → x.coin ≡ c → x.block ≡ e → is_mine me x ≡ true
+      → (ch : Challenge) → Has x.challenges ch → ch.answered ≡ false → end < ch.at + RESPONSE_WINDOW
+  own-answers later legal (inl less) x there c_is at_tip mine ch has still =
+      elim (from-look tests rules events later legal x there) [
+        | inl o ↦ elim (o.opened ch has still) [
+          | inl since ↦ omega (arith, since, less)
+          | inr old ↦
+              let inside = stands.tips o.y o.there (o.coin ∙ c_is) (o.block ∙ at_tip)
+              ((λ i. (o.account i) == me.account) ∙ mine) old.old old.there old.still in
+              omega (arith, inside, old.at)
+        ]
+        | inr b ↦ omega (arith, b.opened ch has still, less)
+      ]
+  own-answers later legal (inr r) x there c_is at_tip mine ch has still =
+      let s = own-shut tests rules events later me c e legal r.2 r.1 x there (c_is, mine, at_tip) ch has still in
+      let inside = stands.tips s.0.y s.0.there (s.0.coin ∙ c_is) (s.0.block ∙ at_tip)
+      ((λ i. (s.0.account i) == me.account) ∙ mine) s.1.old s.1.there s.1.still in
+      omega (arith, inside, s.1.at)
+
+  -- another's exit is challenged at the tip, or its window is open still
+  pub others-open : (later : List Event) → IsLegal tests rules (later ++ events) → GoesTill later events me c e end
+      → (x : Exit) → Has (exits (log_of (later ++ events))) x → x.coin ≡ c → is_mine me x ≡ false
+      → (is_none (challenge_at e x.challenges) ≡ false) ⊎ (end < x.start + CHALLENGE_WINDOW)
+  others-open later legal goes x there c_is other =
+      elim (from-look tests rules events later legal x there) [
+        | inl o ↦ elim (stands.others o.y o.there (o.coin ∙ c_is) ((λ i. (o.account i) == me.account) ∙ other)) [
+          | inl challenged ↦ inl (o.challenged e challenged)
+          | inr less ↦ inr (omega (arith, less, o.start))
+        ]
+        | inr b ↦ inr (omega (arith, b.start, bound goes))
+      ]
+    where
+      bound : GoesTill later events me c e end → end < now (log_of events) + CHALLENGE_WINDOW
+      bound (inl less) = omega (arith, less)
+      bound (inr r) = r.0
+
+  not-late : (later : List Event) → IsLegal tests rules (later ++ events) → GoesTill later events me c e end
+      → now (log_of (later ++ events)) ≤ end → (x : Exit) → Has (exits (log_of (later ++ events))) x → x.coin ≡ c
+      → is_late me e (now (log_of (later ++ events))) x ≡ true → ⊥
+  not-late later legal goes early x there c_is late =
+      let time : ℕ = now (log_of (later ++ events)) in
+      elim (cases_Bool (is_mine me x)) [
+        | inl own ↦
+            let parts = and_parts (x.block == e) (list_any (is_missed time) x.challenges)
+            (sym (ap (λ b. if b then (x.block == e) && list_any (is_missed time) x.challenges
+            else is_none (challenge_at e x.challenges) && is_ripe time x) own) ∙ late) in
+            let m = any-some (is_missed time) x.challenges parts.1 in
+            let missed = and_parts (not m.0.answered) (nat_le (m.0.at + RESPONSE_WINDOW) time) m.2 in
+            let inside = own-answers later legal goes x there c_is (eqb-true x.block e parts.0) own m.0 m.1
+            (not-true m.0.answered missed.0) in
+            let over = leb-true (m.0.at + RESPONSE_WINDOW) time missed.1 in
+            absurd (omega (arith, inside, over, early))
+        | inr other ↦
+            let parts = and_parts (is_none (challenge_at e x.challenges)) (is_ripe time x)
+            (sym (ap (λ b. if b then (x.block == e) && list_any (is_missed time) x.challenges
+            else is_none (challenge_at e x.challenges) && is_ripe time x) other) ∙ late) in
+            let over = leb-true (x.start + EXIT_PERIOD) time parts.1 in
+            elim (others-open later legal goes x there c_is other) [
+              | inl challenged ↦ true≢false (sym parts.0 ∙ challenged)
+              | inr less ↦ absurd (omega (arith, over, less, early))
+            ]
+      ]
+
+  pub none-goes : (later : List Event) → IsLegal tests rules (later ++ events) → GoesTill later events me c e end
+      → now (log_of (later ++ events)) ≤ end → goes_late (later ++ events) w c e ≡ false
+  none-goes later legal goes early =
+      let all : List Event = later ++ events in
+      false_from_ne_true (goes_late all w c e) (λ yes.
+      let some = (and_parts (holds all w c e) (option_map_or
+      (λ me. list_any (λ exit. (exit.coin == c) && is_late me e (now (log_of all)) exit) (exits (log_of all)))
+      (wallet_owner all w) false) yes).1 in
+      let mine : list_any (λ exit. (exit.coin == c) && is_late me e (now (log_of all)) exit)
+      (exits (log_of all)) ≡ true =
+      sym (ap (λ o. option_map_or
+      (λ me. list_any (λ exit. (exit.coin == c) && is_late me e (now (log_of all)) exit) (exits (log_of all)))
+      o false) (owner-since tests rules events later w me legal me_is)) ∙ some in
+      let r = any-some (λ (exit : Exit). (exit.coin == c) && is_late me e (now (log_of all)) exit)
+      (exits (log_of all)) mine in
+      let parts = and_parts (r.0.coin == c) (is_late me e (now (log_of all)) r.0) r.2 in
+      not-late later legal goes early r.0 r.1 (eqb-true r.0.coin c parts.0) parts.1)
+
+  -- so none comes too late
+  pub stays-in-time : (later : List Event) → IsLegal tests rules (later ++ events) → GoesTill later events me c e end
+      → now (log_of (later ++ events)) ≤ end → is_in_time events w c e ≡ true
+      → is_in_time (later ++ events) w c e ≡ true
+  unfolding is_in_time IsLegal log_of
+  stays-in-time [] legal goes early so_far = so_far
+  stays-in-time (event ∷ later) legal goes early so_far =
+      let before = clock-one event later legal in
+      and_from (not (goes_late (event ∷ (later ++ events)) w c e)) (is_in_time (later ++ events) w c e)
+      (not_from_false (goes_late (event ∷ (later ++ events)) w c e) (none-goes (event ∷ later) legal goes early))
+      (stays-in-time later legal.1 (goes-before event later events me c e end goes) (omega (arith, before, early))
+      so_far)
+    where
+      clock-one : (event : Event) (later : List Event) → IsLegal tests rules (event ∷ (later ++ events))
+          → now (log_of (later ++ events)) ≤ now (log_of (event ∷ (later ++ events)))
+      clock-one event later legal = clock-since tests rules (later ++ events) (event ∷ []) legal

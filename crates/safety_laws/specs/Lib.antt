@@ -1,0 +1,4 @@
+pub mod Look
+pub mod Safe
+pub mod Gone
+pub mod Calls
