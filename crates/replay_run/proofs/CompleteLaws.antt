@@ -16,6 +16,10 @@ use Rattle.run_endings.specs.Statuses.{IsDoneUnlessFailed}
 use Rattle.run_endings.proofs.EndingLaws.{ends-done}
 use Rattle.node_runs.specs.Sessions.{Outside}
 use Rattle.hss_runs.specs.Verdict.{is_hss_verified, verdict_output}
+use Rattle.hss_runs.proofs.CompleteLaws.{signing-complete}
+use Rattle.log_runs.specs.Auditing.{auditing}
+use Rattle.log_runs.specs.Archiving.{archiving}
+use Rattle.log_runs.proofs.CompleteLaws.{log-complete}
 use Rattle.node_runs.proofs.CompleteLaws.{watcher-complete, operator-complete, wallet-complete, init-complete, init-both-complete}
 use Rattle.replay_run.specs.declared.ending.NoCause.{NoCause}
 use Rattle.replay_run.specs.Replays.{begun, replay_rules, replay_of}
@@ -115,11 +119,15 @@ module _ {D : Type 0} (told : D → Option History) (plan : D → Option FaultPl
   does-complete (Some (HssInit seed)) does =
       init-both-complete told plan faults dig outside.left outside.taken outside.after status _ notes leaves new_notes
       new_leaves does
-  does-complete (Some (HssSign message)) does = tt
+  does-complete (Some (HssSign message)) does =
+      signing-complete told plan faults outside.taken outside.after status message notes leaves new_notes new_leaves
+      does
   does-complete (Some (HssVerify key message signature)) does =
       ends-done (verdict_output (is_hss_verified key message signature)) status _ _ _ tt does
-  does-complete (Some (Audit key receipt)) does = tt
-  does-complete (Some Archive) does = tt
+  does-complete (Some (Audit key receipt)) does =
+      log-complete (auditing dig key receipt) outside.left outside.later outside.taken outside.after failed status does
+  does-complete (Some Archive) does =
+      log-complete (archiving dig) outside.left outside.later outside.taken outside.after failed status does
 
 -- a run for whose words memory ran out
 module _ {D : Type 0} (told : D → Option History) (dig : List ℕ → List ℕ) (notes leaves : D)
@@ -140,7 +148,8 @@ module _ {D : Type 0} (told : D → Option History) (dig : List ℕ → List ℕ
   no-words (Some (InitOperator tag account (Some seed))) = λ of_notes of_leaves notes_told leaves_told free bare. tt
   no-words (Some (InitWatcher tag account)) = λ history is free. tt
   no-words (Some (HssInit seed)) = λ of_notes of_leaves notes_told leaves_told free bare. tt
-  no-words (Some (HssSign message)) = tt
+  no-words (Some (HssSign message)) =
+      λ of_notes of_leaves records levels next notes_told leaves_told notes_are leaves_are signable is. tt
   no-words (Some (HssVerify key message signature)) = tt
-  no-words (Some (Audit key receipt)) = tt
-  no-words (Some Archive) = tt
+  no-words (Some (Audit key receipt)) = λ input is keep. tt
+  no-words (Some Archive) = λ input is keep. tt

@@ -1,4 +1,5 @@
--- Good inputs are answered to their end: schedules whose lines keep the rules, and logs with commands that a node does.
+-- Good inputs are answered to their end: schedules whose lines keep the rules, logs with commands that a node does or
+-- with lines that an audit or an archive answers, and messages that a signer signs.
 use Rattle.std.specs.Prelude.{◌≡◌, ℕ, true, false, List, [], ◌++◌, length, Option, Some, None}
 use Rattle.crash_disk.specs.Disk.{History}
 use Rattle.run_words.specs.declared.form.Form.{Form}
@@ -8,6 +9,10 @@ use Rattle.streamed_lines.specs.Lines.{lines_in}
 use Rattle.run_endings.specs.declared.status.Status.{Status}
 use Rattle.run_endings.specs.Statuses.{IsDoneUnlessFailed}
 use Rattle.node_runs.specs.Complete.{WatcherComplete, OperatorComplete, WalletComplete, InitComplete, InitBothComplete}
+use Rattle.hss_runs.specs.Complete.{SigningComplete}
+use Rattle.log_runs.specs.Auditing.{auditing}
+use Rattle.log_runs.specs.Archiving.{archiving}
+use Rattle.log_runs.specs.Complete.{LogComplete}
 use Rattle.replay_run.specs.Replays.{replay_of}
 use Rattle.replay_run.specs.Output.{replay_output, brief_output}
 use Rattle.replay_run.specs.Endings.{KeepTheRules}
@@ -44,8 +49,8 @@ module _ {D : Type 0} (told : D → Option History) (dig : List ℕ → List ℕ
   ScheduleComplete = (input : List ℕ) → left ≡ Some input → KeepTheRules dig [] 1 0 (lines_in input)
       → IsDoneUnlessFailed status
 
-  -- So it is of a replay and a node's session, and of what begins a node or a signer; and a form that needs nothing
-  -- but its words is done. Of a signing, an audit and an archive nothing is said.
+  -- So it is of a replay and a node's session, of what begins a node or a signer, of a signing, and of an audit and an
+  -- archive; and a form that needs nothing but its words is done.
   abbrev pub CompletesByForm : Option Form → Type 0
   CompletesByForm (Some Replay) = ScheduleComplete
   CompletesByForm (Some Brief) = ScheduleComplete
@@ -60,8 +65,8 @@ module _ {D : Type 0} (told : D → Option History) (dig : List ℕ → List ℕ
   CompletesByForm (Some (Make seed count)) = IsDoneUnlessFailed status
   CompletesByForm (Some (Verify key message signature)) = IsDoneUnlessFailed status
   CompletesByForm (Some (HssInit seed)) = InitBothComplete told dig left status notes leaves
-  CompletesByForm (Some (HssSign message)) = Unit {0}
+  CompletesByForm (Some (HssSign message)) = SigningComplete told status message notes leaves
   CompletesByForm (Some (HssVerify key message signature)) = IsDoneUnlessFailed status
-  CompletesByForm (Some (Audit key receipt)) = Unit {0}
-  CompletesByForm (Some Archive) = Unit {0}
+  CompletesByForm (Some (Audit key receipt)) = LogComplete (auditing dig key receipt) left status
+  CompletesByForm (Some Archive) = LogComplete (archiving dig) left status
   CompletesByForm None = Unit {0}

@@ -135,7 +135,8 @@ pub fn run<S: Source, K: Sink, D: Disk>(
 
     // What is good is done, unless the source, the sink, a disk or memory fails: a schedule whose lines keep the rules;
     // over the disks of a node a log of its chain, the line `--` and commands that it does; an init of disks that
-    // aren't taken; and `make`, `verify` and `hss verify`.
+    // aren't taken; over the disks of a signer with a leaf left a message of 1 to 128 bytes; a log, the line `--` and
+    // the bundle that convicts, or lines that an archive answers; and `make`, `verify` and `hss verify`.
     ensures complete { CompletesByForm D.told sha256 notes leaves (S.left source.old) result.status
         (form_of (map string_bytes words.now)) }
 
