@@ -5,6 +5,7 @@ use Rattle.crash_disk.specs.Disk.{History, FaultPlan}
 use Rattle.plasma_tx.specs.declared.owner.Owner.{Owner}
 use Rattle.plasma_tx.specs.declared.call.RootCall.{RootCall}
 use Rattle.plasma_tx.specs.Shown.{Rules, tests_by}
+use Rattle.plasma_tx.specs.Table.{answer_to, is_accepted}
 use Rattle.node_rules.specs.declared.identity.WalletIdentity.{WalletIdentity}
 use Rattle.node_rules.specs.WalletRecords.{identity_in, owner_of}
 use Rattle.node_rules.specs.Wallet.{WalletRecords, who}
@@ -13,11 +14,11 @@ use Rattle.node_lives.specs.Calls.{Begun, Asked, ToBegin, Call}
 use Rattle.node_lives.specs.Lives.{IsLife}
 use Rattle.node_lives.specs.Standing.{identity_alone}
 use Rattle.node_lives.specs.Laws.{begun_of, Begins as BeginsNode}
-use Rattle.world_rules.specs.Events.{Event, Joins, log_of}
+use Rattle.world_rules.specs.Events.{Event, Joins, Bounces, log_of}
 use Rattle.world_rules.proofs.Said.{said, nothing_said, said-none, said-other}
 use Rattle.world_laws.specs.Legal.{left_by, LegalDeclaration, IsLegal}
 use Rattle.world_laws.proofs.LeftRuns.{left-plain}
-use Rattle.chain_lives.specs.Steps.{Act, Begins, Runs, Rests, Enters, Does, Found, chain_of, act_events, found_by, none_found, events_behind}
+use Rattle.chain_lives.specs.Steps.{Act, Begins, Runs, Rests, Enters, Refuses, Does, Found, chain_of, act_events, found_by, none_found, events_behind}
 use Rattle.chain_lives.specs.Acts.{begun_by, act_of, acts_of}
 use Rattle.chain_lives.specs.Chains.{Steps, calls_by, IsNode, MayDo, KeepsTo, IsChain}
 use Rattle.chain_lives.specs.Keeping.{ChainsAreLegal}
@@ -458,6 +459,25 @@ module _ {D : Type 0} (told : D → Option History) (plan : D → Option FaultPl
             (λ role tag records tells.
             tells-joined role tag n events (Joins call ∷ events) records call refl
             (said-other (Joins call) events n refl) refl tells)
+            (rest.nodes n);
+      }
+  holds (Refuses call ∷ steps) chain found fits =
+      let events = events_behind found (acts_of told plan faults dig steps) in
+      let before : IsChain told plan faults dig rules steps =
+      record { digest = chain.digest; nodes = λ n. chain.nodes n; keeps = chain.keeps.1 } in
+      let rest = holds steps before found fits in
+      record {
+        legal = (
+          ap (λ log. is_accepted (answer_to (tests_by dig) rules log call)) (behind told plan faults dig found steps)
+              ∙ chain.keeps.0,
+          rest.legal,
+        );
+        nodes = λ n.
+            holds-more (found n) events (Bounces call ∷ events) n (by_node n steps)
+            (said-other (Bounces call) events n refl) refl
+            (λ role tag records tells.
+            tells-aside role tag n events (Bounces call ∷ events) records refl
+            (said-other (Bounces call) events n refl) refl tells)
             (rest.nodes n);
       }
   holds (Does m call ∷ steps) chain found fits =

@@ -19,7 +19,7 @@ use Rattle.node_lives.proofs.Life.{begun_nodes_stay}
 use Rattle.world_rules.specs.Events.{Event, wallet_owner, is_command_of}
 use Rattle.world_rules.specs.Steps.{without_offers}
 use Rattle.world_laws.specs.Legal.{starts_by, deposits_by}
-use Rattle.chain_lives.specs.Steps.{Deed, Visit, Act, Begins, Runs, Rests, Enters, Does, Found, event_where, answered_events, act_events, found_by, none_found, events_behind}
+use Rattle.chain_lives.specs.Steps.{Deed, Visit, Act, Begins, Runs, Rests, Enters, Refuses, Does, Found, event_where, answered_events, act_events, found_by, none_found, events_behind}
 use Rattle.chain_lives.specs.Acts.{ran_or, act_by, act_of, acts_of}
 use Rattle.chain_lives.specs.Chains.{Steps, calls_by, KeepsTo, IsFresh, MayDo}
 use Rattle.chain_lives.specs.Begun.{BeginningsAreLegal}
@@ -113,6 +113,7 @@ module _ {D : Type 0} (told : D → Option History) (plan : D → Option FaultPl
   unfolding calls_by
   calls_at [] earlier n call = simp (eq-eqb n n refl) refl
   calls_at (Enters entry ∷ later) earlier n call = calls_at later earlier n call
+  calls_at (Refuses entry ∷ later) earlier n call = calls_at later earlier n call
   calls_at (Does m one ∷ later) earlier n call =
       by (m == n) (calls_by told plan faults dig rules n (later ++ Does n call ∷ earlier))
       (calls_by told plan faults dig rules n later) (call ∷ calls_by told plan faults dig rules n earlier)
@@ -129,6 +130,7 @@ module _ {D : Type 0} (told : D → Option History) (plan : D → Option FaultPl
   unfolding KeepsTo
   keeps_at [] earlier n call keeps = keeps.0
   keeps_at (Enters entry ∷ later) earlier n call keeps = keeps_at later earlier n call keeps.1
+  keeps_at (Refuses entry ∷ later) earlier n call keeps = keeps_at later earlier n call keeps.1
   keeps_at (Does m one ∷ later) earlier n call keeps = keeps_at later earlier n call keeps.1
 
   -- a node that made no call did nothing
@@ -142,6 +144,8 @@ module _ {D : Type 0} (told : D → Option History) (plan : D → Option FaultPl
   unfolding calls_by events_behind acts_of wallet_owner
   nothing w found [] none = record { owner = refl; commands = refl }
   nothing w found (Enters call ∷ steps) none =
+      let so = nothing w found steps none in record { owner = so.owner; commands = so.commands }
+  nothing w found (Refuses call ∷ steps) none =
       let so = nothing w found steps none in record { owner = so.owner; commands = so.commands }
   nothing w found (Does n call ∷ steps) none =
       by (cases_eq n w) (nothing w (found_by n (act_of told plan faults dig n call) found) steps)

@@ -12,7 +12,7 @@ use Rattle.node_lives.specs.Calls.{Call}
 use Rattle.world_rules.specs.Events.{Event, Declares, Watches, Leaves, Seals, wallet_owner}
 use Rattle.world_rules.specs.Steps.{without_offers}
 use Rattle.world_laws.specs.Legal.{left_by}
-use Rattle.chain_lives.specs.Steps.{Deed, Visit, Act, Begins, Runs, Rests, Step, Enters, Does, Found, left_by as records_by, event_where, answered_events, late_events, act_events, found_by, none_found, events_behind, is_found}
+use Rattle.chain_lives.specs.Steps.{Deed, Visit, Act, Begins, Runs, Rests, Step, Enters, Refuses, Does, Found, left_by as records_by, event_where, answered_events, late_events, act_events, found_by, none_found, events_behind, is_found}
 use Rattle.chain_lives.specs.Acts.{act_of, acts_of}
 use Rattle.chain_lives.specs.Entered.{EntriesAreLegal}
 use Rattle.chain_lives.proofs.Log.{IsQuiet, AreQuiet, MayBeQuiet, IsQuietVisit, IsQuietAct, where_quiet, without_quiet, by_call, behind}
@@ -74,6 +74,7 @@ left_behind : (w : ℕ) (f g : Found) (steps : List (Step Act))
 unfolding left_by events_behind
 left_behind w f g [] = refl
 left_behind w f g (Enters call ∷ steps) = left_behind w f g steps
+left_behind w f g (Refuses call ∷ steps) = left_behind w f g steps
 left_behind w f g (Does n act ∷ steps) =
     left_act w n (f n) (g n) act (events_behind (found_by n act f) steps) (events_behind (found_by n act g) steps)
     (left_behind w (found_by n act f) (found_by n act g) steps)
@@ -127,6 +128,7 @@ module _ {D : Type 0} (told : D → Option History) (plan : D → Option FaultPl
   unfolding wallet_owner events_behind acts_of
   owner_behind w f g [] = refl
   owner_behind w f g (Enters call ∷ steps) = owner_behind w f g steps
+  owner_behind w f g (Refuses call ∷ steps) = owner_behind w f g steps
   owner_behind w f g (Does n call ∷ steps) =
       let act = act_of told plan faults dig n call in
       owner_act w n (f n) (g n) act (events_behind (found_by n act f) (acts_of told plan faults dig steps))

@@ -14,9 +14,12 @@ mod NodeLives
 mod Running
 mod NodeRuns
 mod Asides
+mod Entries
 mod Beginning
 mod AllLegal
 mod Keeping
+mod CutChains
 mod Samples
 mod SampleRun
 mod SmallChain
+mod SmallCutChain

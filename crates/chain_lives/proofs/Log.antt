@@ -28,7 +28,7 @@ use Rattle.node_lives.specs.Answered.{Lines, lines_answered}
 use Rattle.world_rules.specs.Events.{Event, Joins, Watches, Leaves, Seals, log_of, wallet_owner, node_in}
 use Rattle.world_rules.specs.OrderEvents.{unless_refused, of_offer, wallet_event, watcher_event, event_of}
 use Rattle.world_rules.specs.Steps.{without_offers}
-use Rattle.chain_lives.specs.Steps.{Deed, Visit, Act, Begins, Runs, Rests, Step, Enters, Does, Found, chain_of, left_by, event_where, answered_events, late_events, act_events, found_by, none_found, events_behind, is_found}
+use Rattle.chain_lives.specs.Steps.{Deed, Visit, Act, Begins, Runs, Rests, Step, Enters, Refuses, Does, Found, chain_of, left_by, event_where, answered_events, late_events, act_events, found_by, none_found, events_behind, is_found}
 use Rattle.chain_lives.specs.Acts.{line_event, wallet_deed, watcher_deed, deeds_of, commands_in, next_in, log_in, visit_of, begun_by, ran_or, wallet_visit, watcher_visit, act_by, act_of, acts_of}
 use Rattle.chain_lives.specs.Log.{EventsHoldTheChain}
 
@@ -210,6 +210,7 @@ module _ {D : Type 0} (told : D → Option History) (plan : D → Option FaultPl
   unfolding log_of events_behind acts_of chain_of
   behind found [] = refl
   behind found (Enters call ∷ steps) = ap (λ calls. call ∷ calls) (behind found steps)
+  behind found (Refuses call ∷ steps) = behind found steps
   behind found (Does n call ∷ steps) =
       act_log n (found n) (act_of told plan faults dig n call)
       (events_behind (found_by n (act_of told plan faults dig n call) found) (acts_of told plan faults dig steps))

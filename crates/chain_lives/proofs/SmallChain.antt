@@ -64,7 +64,7 @@ identity-read : identity_in identity ≡ Some begun_as
 unfolding identity_in
 identity-read = refl
 
-abbrev me : Owner
+abbrev pub me : Owner
 me = owner_of begun_as
 
 account-is : me.account ≡ 0
@@ -75,10 +75,10 @@ is-me : is_owner me me ≡ true
 is-me =
     and_from (me.account == me.account) _ (eq-eqb me.account me.account refl) ((bytes_eq-Decides me.key me.key).1 refl)
 
-abbrev funds : RootCall
+abbrev pub funds : RootCall
 funds = RootCall.Fund me.account 5
 
-abbrev deposits : RootCall
+abbrev pub deposits : RootCall
 deposits = RootCall.Deposit me.account 5 me.key
 
 -- ---- the calls
@@ -87,10 +87,10 @@ abbrev pair : Drive → Drive → Pair Drive
 pair notes leaves = record { notes = notes; leaves = leaves }
 
 module _ (dig : List ℕ → List ℕ) where
-  abbrev TheCall : Type 0
+  abbrev pub TheCall : Type 0
   TheCall = Call told foretold met dig
 
-  abbrev begins : TheCall
+  abbrev pub begins : TheCall
   begins = record {
     asked = ToBegin BothDisks identity;
     old = pair stopped_notes blank;
@@ -100,7 +100,7 @@ module _ (dig : List ℕ → List ℕ) where
     did = inl init_passes;
   }
 
-  abbrev runs : TheCall
+  abbrev pub runs : TheCall
   runs = record {
     asked = ToRun Wallet;
     old = pair begun_notes begun_leaves;
@@ -110,7 +110,7 @@ module _ (dig : List ℕ → List ℕ) where
     did = inl (run dig);
   }
 
-  abbrev rules : Rules
+  abbrev pub rules : Rules
   rules = rules_of chain
 
   abbrev TheSteps : Type 0
@@ -125,7 +125,7 @@ module _ (dig : List ℕ → List ℕ) where
   abbrev funded_steps : TheSteps
   funded_steps = Enters funds ∷ watched
 
-  abbrev steps : TheSteps
+  abbrev pub steps : TheSteps
   steps = Enters deposits ∷ funded_steps
 
   -- ---- their acts
@@ -163,7 +163,7 @@ module _ (dig : List ℕ → List ℕ) where
       (act_events 1 (found_by 1 (act-runs i) none_found 1) (act-begins i) []))
       ∙ watch-events (Declares 1 me ∷ [])
 
-  all-events : events_in told foretold met dig rules steps
+  pub all-events : events_in told foretold met dig rules steps
       ≡ Joins deposits ∷ Joins funds ∷ Watches 1 [] ∷ Declares 1 me ∷ []
   unfolding events_behind acts_of
   all-events = ap (λ (events : List Event). Joins deposits ∷ Joins funds ∷ events) watched-events
@@ -201,11 +201,11 @@ module _ (dig : List ℕ → List ℕ) where
       subst (MayDo told foretold met dig rules []) (sym act-begins)
       (record { no_deposit = refl; no_start = refl; own_account = λ v other is. absurd (cc is) })
 
-  keeps : KeepsTo told foretold met dig rules steps
+  pub keeps : KeepsTo told foretold met dig rules steps
   unfolding KeepsTo
   keeps = (may-deposit, (may-fund, (handed, (fresh, tt))))
 
-  is-identity : IsIdentityOf dig Wallet identity
+  pub is-identity : IsIdentityOf dig Wallet identity
   unfolding identity_in
   is-identity = record { is = refl; bytes = (small-cons 1 (lit< tt) (small-zeros 72)).are; digests = tt }
 
@@ -235,19 +235,19 @@ module _ (dig : List ℕ → List ℕ) where
   is-chain : IsDigest dig → IsChain told foretold met dig rules steps
   is-chain digest = record { digest = digest; nodes = nodes; keeps = keeps }
 
-  is-held : holds (Joins deposits ∷ Joins funds ∷ Watches 1 [] ∷ Declares 1 me ∷ []) 1 1 1 ≡ true
+  pub is-held : holds (Joins deposits ∷ Joins funds ∷ Watches 1 [] ∷ Declares 1 me ∷ []) 1 1 1 ≡ true
   unfolding holds log_of wallet_owner accepted bound_by taken_back not_taken coins coin_at blocks is_withdrawn
   is-held = simp is-me refl
 
-  is-looked : is_looked_after (Joins deposits ∷ Joins funds ∷ Watches 1 [] ∷ Declares 1 me ∷ []) 1 1 1 ≡ true
+  pub is-looked : is_looked_after (Joins deposits ∷ Joins funds ∷ Watches 1 [] ∷ Declares 1 me ∷ []) 1 1 1 ≡ true
   unfolding is_looked_after
   is-looked = refl
 
-  is-apart : collides dig (Joins deposits ∷ Joins funds ∷ Watches 1 [] ∷ Declares 1 me ∷ []) 1 ≡ false
+  pub is-apart : collides dig (Joins deposits ∷ Joins funds ∷ Watches 1 [] ∷ Declares 1 me ∷ []) 1 ≡ false
   unfolding collides seen has_clash strings_of openings_of
   is-apart = refl
 
-  is-unforged : is_forged rules.tag (Joins deposits ∷ Joins funds ∷ Watches 1 [] ∷ Declares 1 me ∷ []) 1 1 ≡ false
+  pub is-unforged : is_forged rules.tag (Joins deposits ∷ Joins funds ∷ Watches 1 [] ∷ Declares 1 me ∷ []) 1 1 ≡ false
   unfolding is_forged wallet_owner openings_of
   is-unforged = refl
 

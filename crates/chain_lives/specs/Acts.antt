@@ -31,7 +31,7 @@ use Rattle.node_lives.specs.Calls.{Asked, ToBegin, ToRun, DoesAsked, Starves, Ca
 use Rattle.node_lives.specs.Answered.{Lines, lines_answered}
 use Rattle.world_rules.specs.Events.{Event, Other}
 use Rattle.world_rules.specs.OrderEvents.{event_of}
-use Rattle.chain_lives.specs.Steps.{Deed, Visit, Act, Begins, Runs, Rests, Step, Enters, Does, left_by}
+use Rattle.chain_lives.specs.Steps.{Deed, Visit, Act, Begins, Runs, Rests, Step, Enters, Refuses, Does, left_by}
 
 -- ---- commands
 
@@ -165,4 +165,5 @@ module _ {D : Type 0} (told : D → Option History) (plan : D → Option FaultPl
   unfoldable pub acts_of : List (Step (Call told plan faults dig)) → List (Step Act)
   acts_of [] = []
   acts_of (Enters call ∷ steps) = Enters call ∷ acts_of steps
+  acts_of (Refuses call ∷ steps) = Refuses call ∷ acts_of steps
   acts_of (Does n call ∷ steps) = Does n (act_of n call) ∷ acts_of steps

@@ -15,7 +15,7 @@ use Rattle.node_lives.specs.Laws.{Begins as BeginsNode}
 use Rattle.world_rules.specs.Events.{Event, wallet_owner}
 use Rattle.world_rules.specs.Laws.{IsDigest}
 use Rattle.world_laws.specs.Legal.{starts_by, deposits_by, left_by}
-use Rattle.chain_lives.specs.Steps.{Visit, Act, Begins, Runs, Step, Enters, Does, chain_of, events_of}
+use Rattle.chain_lives.specs.Steps.{Visit, Act, Begins, Runs, Step, Enters, Refuses, Does, chain_of, events_of}
 use Rattle.chain_lives.specs.Acts.{acts_of, act_of}
 
 -- over disks that tell their history, foretell their faults and count them, under a digest, and of a contract with
@@ -34,6 +34,7 @@ module _ {D : Type 0} (told : D → Option History) (plan : D → Option FaultPl
   unfoldable pub calls_by : ℕ → Steps → List (Call told plan faults dig)
   calls_by n [] = []
   calls_by n (Enters call ∷ steps) = calls_by n steps
+  calls_by n (Refuses call ∷ steps) = calls_by n steps
   calls_by n (Does m call ∷ steps) = if m == n then call ∷ calls_by n steps else calls_by n steps
 
   -- the calls of the program are a node's life, from the init that began it
@@ -58,6 +59,10 @@ module _ {D : Type 0} (told : D → Option History) (plan : D → Option FaultPl
     pub offered : (w : ℕ) (me : Owner) → wallet_owner (events_in steps) w ≡ Some me
         → starts_by me.account call ≡ true → Contains (left_by (events_in steps) w) call
 
+  -- A call that was refused: its contract refuses it there. Anybody may have entered it.
+  abbrev pub IsRefused : Steps → RootCall → Type 0
+  IsRefused steps call = is_accepted (answer_to (tests_by dig) rules (chain_of steps) call) ≡ false
+
   -- A wallet that is begun: its account made no deposit and started no exit, and no other wallet has it.
   pub record IsFresh (steps : Steps) (me : Owner) : Type 0 where
     pub no_deposit : list_any (deposits_by me.account) (chain_of steps) ≡ false
@@ -80,6 +85,7 @@ module _ {D : Type 0} (told : D → Option History) (plan : D → Option FaultPl
   unfoldable pub KeepsTo : Steps → Type 0
   KeepsTo [] = Unit {0}
   KeepsTo (Enters call ∷ steps) = MayEnter steps call × KeepsTo steps
+  KeepsTo (Refuses call ∷ steps) = IsRefused steps call × KeepsTo steps
   KeepsTo (Does n call ∷ steps) = MayDo steps (act_of told plan faults dig n call) × KeepsTo steps
 
   -- a chain with its nodes

@@ -21,9 +21,11 @@ use Rattle.chain_lives.specs.Chains.{Steps, IsChain, events_in}
 -- these rules
 module _ {D : Type 0} (told : D → Option History) (plan : D → Option FaultPlan) (faults : D → ℕ)
     (dig : List ℕ → List ℕ) (rules : Rules) where
+  -- these steps are a chain with its nodes
   abbrev pub Chained : Steps told plan faults dig rules → Type 0
   Chained steps = IsChain told plan faults dig rules steps
 
+  -- what happened, as events
   abbrev pub happened : Steps told plan faults dig rules → List Event
   happened steps = events_in told plan faults dig rules steps
 

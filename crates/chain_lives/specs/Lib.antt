@@ -5,5 +5,7 @@ pub mod Log
 pub mod Entered
 pub mod Begun
 pub mod Keeping
+pub mod CutChains
 pub mod Samples
 pub mod SmallChain
+pub mod SmallCutChain

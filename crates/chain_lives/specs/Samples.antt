@@ -9,10 +9,10 @@ use Rattle.plasma_tx.specs.declared.call.Shown.TheVariants.{Spend}
 use Rattle.plasma_tx.specs.declared.call.RootCall.{RootCall}
 use Rattle.coin_history.specs.declared.bundle.Bundle.{Bundle}
 use Rattle.node_rules.specs.Wallet.{WalletRecords}
-use Rattle.world_rules.specs.Events.{Declares, Joins, Accepts, Binds, Watches, Other}
+use Rattle.world_rules.specs.Events.{Declares, Joins, Bounces, Accepts, Binds, Watches, Other}
 use Rattle.world_rules.specs.Safety.{holds}
 use Rattle.world_laws.specs.Looked.{is_looked_after}
-use Rattle.chain_lives.specs.Steps.{Deed, Visit, Act, Begins, Runs, Step, Enters, Does, events_of}
+use Rattle.chain_lives.specs.Steps.{Deed, Visit, Act, Begins, Runs, Step, Enters, Refuses, Does, events_of}
 
 -- ---- who, and what its commands do
 
@@ -91,8 +91,9 @@ begun =
 abbrev pub received : List (Step Act)
 received = Does 1 (read (records 1 0) (accepts ∷ [])) ∷ begun
 
+-- it is entered once more, and refused, since it stands
 abbrev pub exited : List (Step Act)
-exited = Enters exit ∷ received
+exited = Refuses exit ∷ Enters exit ∷ received
 
 abbrev pub watched : List (Step Act)
 watched = Does 1 (read (records 2 0) (watches (challenge ∷ []) ∷ [])) ∷ exited
@@ -129,6 +130,7 @@ pub record ReceivedWatchedSent : Type 0 where
       ∷ Joins (RootCall.Tick 604800)
       ∷ Joins challenge
       ∷ Watches 1 (challenge ∷ [])
+      ∷ Bounces exit
       ∷ Joins exit
       ∷ Accepts 1 bundle
       ∷ Joins (RootCall.Commit 9 (replicate 32 1))
@@ -195,6 +197,7 @@ hasty_act act = act
 abbrev pub hastily : List (Step Act) → List (Step Act)
 hastily [] = []
 hastily (Enters call ∷ steps) = Enters call ∷ hastily steps
+hastily (Refuses call ∷ steps) = Refuses call ∷ hastily steps
 hastily (Does n act ∷ steps) = Does n (hasty_act act) ∷ hastily steps
 
 -- by it a coin is held whose acceptance was lost, one was sent that wasn't, and one was looked after that nobody looked

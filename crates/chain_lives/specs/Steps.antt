@@ -1,13 +1,13 @@
--- A chain with its nodes: the calls that its contract accepted, and between them what nodes did, the newest first. What
--- a node did stands where its log stood: a run is handed the calls behind it. And what that comes to as events, over
--- which the laws of coins are.
+-- A chain with its nodes: the calls that were entered, which its contract accepted or refused, and between them what
+-- nodes did, the newest first. What a node did stands where its log stood: a run is handed the accepted calls behind
+-- it. And what that comes to as events, over which the laws of coins are.
 use Rattle.std.specs.Prelude.{ℕ, ◌+◌, ◌-◌, ◌==◌, Bool, false, nat_lt, nat_le, if◌then◌else◌, List, [], ◌∷◌, length, Option, Some, None}
 use Rattle.std.specs.Option.{option_map_or}
 use Rattle.plasma_tx.specs.declared.owner.Owner.{Owner}
 use Rattle.plasma_tx.specs.declared.call.RootCall.{RootCall}
 use Rattle.plasma_tx.specs.Chain.{Chain}
 use Rattle.node_rules.specs.Wallet.{WalletRecords}
-use Rattle.world_rules.specs.Events.{Event, Declares, Joins}
+use Rattle.world_rules.specs.Events.{Event, Declares, Joins, Bounces}
 use Rattle.world_rules.specs.Steps.{without_offers}
 
 -- a command of a node: the text of its answer, the event that it is, and the node's records with what it adds
@@ -32,15 +32,17 @@ pub data Act : Type 0 where
   Runs : Visit → Act
   Rests : Act
 
--- a call that was entered and accepted; or what node n did
+-- a call that was entered and accepted; one that was entered and refused; or what node n did
 pub data Step (A : Type 0) : Type 0 where
   Enters : RootCall → Step A
+  Refuses : RootCall → Step A
   Does : ℕ → A → Step A
 
--- the calls of the chain
+-- the calls of the chain: a refused one is none
 unfoldable pub chain_of : {A : Type 0} → List (Step A) → List RootCall
 chain_of [] = []
 chain_of (Enters call ∷ steps) = call ∷ chain_of steps
+chain_of (Refuses call ∷ steps) = chain_of steps
 chain_of (Does n act ∷ steps) = chain_of steps
 
 -- ---- the events of a run
@@ -100,6 +102,7 @@ act_events n found act events = events
 unfoldable pub events_behind : Found → List (Step Act) → List Event
 events_behind found [] = []
 events_behind found (Enters call ∷ steps) = Joins call ∷ events_behind found steps
+events_behind found (Refuses call ∷ steps) = Bounces call ∷ events_behind found steps
 events_behind found (Does n act ∷ steps) =
     act_events n (found n) act (events_behind (found_by n act found) steps)
 

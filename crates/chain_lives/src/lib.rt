@@ -4,6 +4,7 @@
 mod laws;
 
 pub use laws::{
-    a_small_chain_is_one, beginnings_are_legal, chains_are_legal, chains_are_read,
-    entries_are_legal, events_hold_the_chain, lives_keep_their_coins,
+    a_small_chain_is_one, a_small_chain_with_a_cut_is_one, beginnings_are_legal, chains_are_legal,
+    chains_are_read, chains_with_cuts_are_chains, entries_are_legal, events_hold_the_chain,
+    lives_keep_their_coins,
 };
