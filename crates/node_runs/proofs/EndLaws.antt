@@ -5,7 +5,7 @@ use Rattle.streamed_lines.specs.declared.ending.Ending.{Ending}
 use Rattle.streamed_lines.specs.declared.ending.Ending.TheVariants.{Complete, BadLine, ReadFault, TooLong, Ended}
 use Rattle.streamed_lines.specs.Outside.{Wrote, WroteFront}
 use Rattle.streamed_lines.specs.Reading.{is_read_fault}
-use Rattle.streamed_lines.proofs.OutsideLaws.{wrote-none, wrote-more}
+use Rattle.streamed_lines.proofs.OutsideLaws.{wrote-none, wrote-more, front-whole}
 use Rattle.run_endings.specs.declared.status.Status.{Status}
 use Rattle.run_endings.specs.declared.status.Status.TheVariants.{Done, Refused, Usage, BadLine as BadLineStatus, ReadFault as ReadFaultStatus, WriteFault, DeviceFault, NoMemory, TooLong as TooLongStatus, NotJournal, AlreadyMade}
 use Rattle.run_endings.specs.Outputs.{Output, Stops, EndsAs}
@@ -56,20 +56,21 @@ module _ (a b c : Option (List ℕ)) (put text last : List ℕ) (failed : Type 0
   ends-more output NotJournal why ends = (ends.0, whole-more ends.1)
   ends-more output AlreadyMade why ends = (ends.0, whole-more ends.1)
 
--- whatever a run ends as, it wrote something behind what was there
-pub ends-wrote : (output : Output) (status : Status) (before after : Option (List ℕ)) (failed : Type 0)
-    → EndsAs output status before after failed → (more : List ℕ) × Wrote before after more
-ends-wrote output WriteFault before after failed ends = (ends.front.front, ends.front.wrote)
-ends-wrote output NoMemory before after failed ends = (ends.front.front, ends.front.wrote)
-ends-wrote output ReadFaultStatus before after failed ends = (output.answers ++ output.last, ends.0.1)
-ends-wrote output Done before after failed ends = (output.answers ++ output.last, ends.1)
-ends-wrote output Refused before after failed ends = (output.answers ++ output.last, ends.1)
-ends-wrote output Usage before after failed ends = (output.answers ++ output.last, ends.1)
-ends-wrote output BadLineStatus before after failed ends = (output.answers ++ output.last, ends.1)
-ends-wrote output DeviceFault before after failed ends = (output.answers ++ output.last, ends.1)
-ends-wrote output TooLongStatus before after failed ends = (output.answers ++ output.last, ends.1)
-ends-wrote output NotJournal before after failed ends = (output.answers ++ output.last, ends.1)
-ends-wrote output AlreadyMade before after failed ends = (output.answers ++ output.last, ends.1)
+-- whatever a run ends as, it wrote a beginning of its text behind what was there
+module _ (output : Output) (before after : Option (List ℕ)) (failed : Type 0) where
+  pub ends-front : (status : Status) → EndsAs output status before after failed
+      → WroteFront before after (output.answers ++ output.last)
+  ends-front WriteFault ends = ends.front
+  ends-front NoMemory ends = ends.front
+  ends-front ReadFaultStatus ends = front-whole before after (output.answers ++ output.last) ends.0.1
+  ends-front Done ends = front-whole before after (output.answers ++ output.last) ends.1
+  ends-front Refused ends = front-whole before after (output.answers ++ output.last) ends.1
+  ends-front Usage ends = front-whole before after (output.answers ++ output.last) ends.1
+  ends-front BadLineStatus ends = front-whole before after (output.answers ++ output.last) ends.1
+  ends-front DeviceFault ends = front-whole before after (output.answers ++ output.last) ends.1
+  ends-front TooLongStatus ends = front-whole before after (output.answers ++ output.last) ends.1
+  ends-front NotJournal ends = front-whole before after (output.answers ++ output.last) ends.1
+  ends-front AlreadyMade ends = front-whole before after (output.answers ++ output.last) ends.1
 
 -- the reading of a session, by what ended it
 module _ (Reads : Bool → Type 0) where

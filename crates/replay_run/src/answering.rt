@@ -4,6 +4,7 @@ ghost use Rattle.plasma_outside.specs.Outside.{is_failed};
 ghost use Rattle.schedule_text.specs.declared.line.Line.{Line};
 ghost use Rattle.schedule_text.specs.Grammar.{IsLine, line_in};
 ghost use Rattle.world_core.specs.Worlds.{IsAfter};
+ghost use Rattle.streamed_lines.specs.declared.ending.Ending.{Ending};
 ghost use Rattle.streamed_lines.specs.Outside.{ReadsToFault};
 ghost use Rattle.streamed_lines.specs.Reading.{HaltsAt, is_read_fault};
 ghost use Rattle.streamed_lines.specs.Prompt.{AnswersPromptly};
@@ -153,6 +154,8 @@ pub fn answer_schedule<H: Hash32 + Copy, S: Source, K: Sink>(
         (S.failed_last source.new) (is_read_fault (Ok done.1))) }
     ensures no_fault { OnErr result (ReadsToFault (S.faults source.old) (S.faults source.new)
         (S.failed_last source.new) false) }
+    ensures last { IfOk result (λ done. S.failed_last source.new ≡ is_read_fault (Ok done.1)) }
+    ensures put { IfOk result (λ done. done.1 ≡ Ending.ReadFault → text.new.items ≡ []) }
     ensures cause { K.faults sink.new ≡ faults_after (K.faults sink.old) (is_failed result) }
 {
     let mut replayer = Replayer::new(alloc, h);

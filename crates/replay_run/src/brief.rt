@@ -3,12 +3,14 @@ ghost use Rattle.plasma_base.specs.Causes.{faults_after};
 ghost use Rattle.plasma_outside.specs.Outside.{is_failed};
 ghost use Rattle.streamed_lines.specs.declared.ending.Ending.{Ending};
 ghost use Rattle.streamed_lines.specs.Outside.{ReadsToFault};
+ghost use Rattle.streamed_lines.specs.Prompt.{AnswersPromptly};
 ghost use Rattle.run_endings.specs.Statuses.{ReadsBy};
 ghost use Rattle.replay_run.specs.Replays.{JudgedRun};
 ghost use Rattle.replay_run.specs.Text.{brief_text, last_text};
 ghost use Rattle.replay_run.specs.Output.{brief_output, status_of_replay};
 ghost use Rattle.replay_run.specs.Bounds.{FewBy};
 ghost use Rattle.replay_run.specs.Runs.{RanOver};
+ghost use Rattle.replay_run.specs.Prompt.{no_answers};
 ghost use Rattle.replay_run.specs.Reading.{Ran};
 
 use super::answering::answer_schedule;
@@ -73,6 +75,8 @@ pub fn brief<H: Hash32 + Copy, S: Source, K: Sink>(
         (S.left source.old) (S.left source.new) (K.taken sink.old) (K.taken sink.new)
         (ReadsToFault (S.faults source.old) (S.faults source.new) (S.failed_last source.new) true)
         (status_of_replay result) }
+    ensures prompt { AnswersPromptly no_answers (S.left source.old) (S.left source.new)
+        (S.failed_last source.new) (K.taken sink.old) (K.taken sink.new) }
     ensures reads { ReadsBy (status_of_replay result)
         (ReadsToFault (S.faults source.old) (S.faults source.new) (S.failed_last source.new)) }
     ensures cause { K.faults sink.new ≡ faults_after (K.faults sink.old) (is_failed result) }

@@ -13,7 +13,7 @@ ghost use Rattle.replay_run.specs.Headline.{KeepsByForm};
 ghost use Rattle.replay_run.specs.Runs.{RanOver};
 ghost use Rattle.replay_run.specs.Does.{Does, DoesForm};
 ghost use Rattle.streamed_lines.specs.Prompt.{AnswersPromptly};
-ghost use Rattle.replay_run.specs.Prompt.{replay_answers, AnswersByForm};
+ghost use Rattle.replay_run.specs.Prompt.{replay_answers, no_answers, AnswersByForm};
 ghost use Rattle.replay_run.specs.Complete.{CompletesByForm};
 
 use super::brief::brief;
@@ -123,7 +123,8 @@ pub fn run<S: Source, K: Sink, D: Disk>(
         (form_of (map string_bytes words.now)) }
 
     // Each line is answered before more is read: at the last take, whatever it gave, the answers to all lines before it
-    // were written. A source may fail at any take, so it is so at each.
+    // were written. Where it failed, nothing was put behind them but the line that says so, or a beginning of it. A
+    // source may fail at any take, so it is so at each, and behind a put that failed nothing is taken.
     ensures prompt { AnswersByForm D.told D.plan D.faults sha256 notes leaves
         (record {
           left = S.left source.old;
@@ -384,6 +385,8 @@ fn run_brief<H: Hash32, S: Source, K: Sink>(
     ensures output { RanOver (brief_output (H.digest_of h.now)) (FewBy (H.digest_of h.now))
         (S.left source.old) (S.left source.new) (K.taken sink.old) (K.taken sink.new)
         (ReadsToFault (S.faults source.old) (S.faults source.new) (S.failed_last source.new) true) result }
+    ensures prompt { AnswersPromptly no_answers (S.left source.old) (S.left source.new)
+        (S.failed_last source.new) (K.taken sink.old) (K.taken sink.new) }
     ensures source_faults { ReadsBy result
         (ReadsToFault (S.faults source.old) (S.faults source.new) (S.failed_last source.new)) }
     ensures sink_faults { K.faults sink.new ≡ faults_after (K.faults sink.old) (is_write_fault result) }

@@ -55,6 +55,12 @@ front-put (Some taken) after bytes T E e puts =
       wrote = puts.1;
     }
 
+-- all of a text was written
+pub front-whole : (before after : Option (List ℕ)) (text : List ℕ) → Wrote before after text
+    → WroteFront before after text
+front-whole before after text wrote =
+    record { front = text; back = []; whole = append-nil text; wrote = wrote }
+
 -- whatever an error says of a result holds where it holds at all
 pub part-err : {T E : Type 0} (result : Result T E) (P : Type 0) → P → OnErr result P
 part-err (Ok x) P p = tt

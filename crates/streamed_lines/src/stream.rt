@@ -150,6 +150,8 @@ pub fn answer_lines<A: Answerer, S: Source, K: Sink>(
         (S.failed_last source.new) (K.taken sink.old) (K.taken sink.new) }
     ensures reads { ReadsToFault (S.faults source.old) (S.faults source.new) (S.failed_last source.new)
         (is_read_fault result) }
+    ensures last { S.failed_last source.new ≡ is_read_fault result }
+    ensures put { IfOk result (λ ending. ending ≡ Ending.ReadFault → text.new.items ≡ []) }
     ensures cause { K.faults sink.new ≡ faults_after (K.faults sink.old) (is_write_fault result) }
     ensures rules { A.rules answerer.new ≡ A.rules answerer.old }
     ensures ready { result ≡ Ok Ending.Complete → A.ready answerer.new }

@@ -1,7 +1,8 @@
 use contract.BorrowLft.{⊑_meet, ⊑_static}
 use Rattle.std.proofs.Common.{subst}
 use Rattle.streamed_lines.specs.Outside.{Wrote, WroteFront, ReadsToFault}
-use Rattle.streamed_lines.proofs.PromptLaws.{prompt-more}
+use Rattle.streamed_lines.proofs.OutsideLaws.{front-whole}
+use Rattle.run_endings.proofs.PromptLaws.{prompt-last}
 use Rattle.plasma_outside.specs.declared.sink.SinkRefusal.TheVariants.{Failed, NoMemory}
 use Rattle.log_runs.proofs.RunLaws.{by-error, front-none, ran-early, ran-part, ran-whole}
 use Rattle.log_runs.proofs.run.answer_log.Goals as goal
@@ -68,9 +69,15 @@ returns-in-Err-NoMemory-clause-runs g c =
 pub returns-in-Ok-clause-prompt : goal.returns-in-Ok-clause-prompt
 returns-in-Ok-clause-prompt g c =
     rw (← c.new-session.ensures.follower)
-    (prompt-more _ _ _ _ _ _ _ _ c.in-Ok.ensures.prompt c.in_ok-put_text-in-Ok.ensures.ok)
+    (prompt-last _ _ _ _ _ _ _ _ _ _ _ c.in-Ok.ending _ c.in-Ok.ensures.last c.in-Ok.ensures.put
+    c.in-Ok.ensures.answered c.in-Ok.ensures.prompt
+    (front-whole _ _ _ (subst (Wrote (g.K.Sink.taken c.answer_lines.new.sink) (g.K.Sink.taken c.put_text.new.sink))
+    c.in_ok-push_last-in-Ok.ensures c.in_ok-put_text-in-Ok.ensures.ok)))
 
 pub returns-in_err-put_text-in-Ok-clause-prompt : goal.returns-in_err-put_text-in-Ok-clause-prompt
 returns-in_err-put_text-in-Ok-clause-prompt g c =
     rw (← c.new-session.ensures.follower)
-    (prompt-more _ _ _ _ _ _ _ _ c.in-Ok.ensures.prompt c.in_err-put_text-in-Ok.ensures.err.wrote)
+    (prompt-last _ _ _ _ _ _ _ _ _ _ _ c.in-Ok.ending _ c.in-Ok.ensures.last c.in-Ok.ensures.put
+    c.in-Ok.ensures.answered c.in-Ok.ensures.prompt
+    (subst (WroteFront (g.K.Sink.taken c.answer_lines.new.sink) (g.K.Sink.taken c.put_text.new.sink))
+    c.in_ok-push_last-in-Ok.ensures c.in_err-put_text-in-Ok.ensures.err))

@@ -2,7 +2,8 @@ use Rattle.node_sessions.specs.Commands.{IsSession, IsHaltedSession}
 use Rattle.streamed_lines.specs.Outside.{ReadsToFault}
 use Rattle.streamed_lines.proofs.PromptLaws.{prompt-more}
 use Rattle.run_endings.specs.Endings.{status_of, last_text, fault_output}
-use Rattle.node_runs.proofs.EndLaws.{ends-wrote}
+use Rattle.run_endings.proofs.PromptLaws.{prompt-last}
+use Rattle.node_runs.proofs.EndLaws.{ends-front}
 use Rattle.node_runs.proofs.SessionLaws.{answered-runs, faulted-runs, refused-runs, starved-runs}
 use Rattle.node_runs.proofs.session.run_session.Goals as goal
 
@@ -52,19 +53,21 @@ returns-clause-runs g c =
 
 pub returns-in-Ok-clause-prompt : goal.returns-in-Ok-clause-prompt
 returns-in-Ok-clause-prompt g c =
-    let wrote =
-    ends-wrote (record {
+    rw (← c.new-session.ensures.rules)
+    (prompt-last _ _ _ _ _ _ _ _ _ _ _ c.in-Ok.ending _ c.in-Ok.ensures.last c.in-Ok.ensures.put
+    c.in-Ok.ensures.answered c.in-Ok.ensures.prompt
+    (ends-front (record {
       status = status_of c.in-Ok.ending;
       answers = c.answer_lines.new.text.items;
       last = last_text c.in-Ok.ending;
-    }) _ _ _ (Unit {0}) c.put_ending-status.ensures.ends in
-    rw (← c.new-session.ensures.rules) (prompt-more _ _ _ _ _ _ _ wrote.0 c.in-Ok.ensures.prompt wrote.1)
+    }) _ _ (Unit {0}) _ c.put_ending-status.ensures.ends))
 
 pub returns-in-Err-Failed-clause-prompt : goal.returns-in-Err-Failed-clause-prompt
 returns-in-Err-Failed-clause-prompt g c =
-    let wrote =
-    ends-wrote (fault_output c.answer_lines.new.text.items) _ _ _ (Unit {0}) c.put_fault-status.ensures.ends in
-    rw (← c.new-session.ensures.rules) (prompt-more _ _ _ _ _ _ _ wrote.0 c.in-Err-Failed.ensures.prompt wrote.1)
+    let front =
+    ends-front (fault_output c.answer_lines.new.text.items) _ _ (Unit {0}) _ c.put_fault-status.ensures.ends in
+    rw (← c.new-session.ensures.rules)
+    (prompt-more _ _ _ _ _ _ _ front.front c.in-Err-Failed.ensures.prompt front.wrote c.in-Err-Failed.ensures.last)
 
 pub returns-in-Err-WriteFault-clause-prompt : goal.returns-in-Err-WriteFault-clause-prompt
 returns-in-Err-WriteFault-clause-prompt g c = rw (← c.new-session.ensures.rules) c.in-Err-WriteFault.ensures.prompt

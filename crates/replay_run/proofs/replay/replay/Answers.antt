@@ -1,6 +1,7 @@
 use Rattle.std.proofs.Common.{subst, true}
 use Rattle.streamed_lines.specs.Outside.{Wrote, WroteFront, ReadsToFault}
-use Rattle.streamed_lines.proofs.PromptLaws.{prompt-more}
+use Rattle.replay_run.proofs.PromptLaws.{replay-last}
+use Rattle.streamed_lines.proofs.OutsideLaws.{front-whole}
 use Rattle.replay_run.proofs.OutsideLaws.{front-none}
 use Rattle.replay_run.proofs.RunLaws.{ran-early, ran-part, ran-whole, told-last, by-error, read-before, read-by}
 use Rattle.replay_run.proofs.replay.replay.Goals as goal
@@ -55,9 +56,23 @@ returns-clause-reads g c =
 
 pub returns-in_err-put_text-clause-prompt : goal.returns-in_err-put_text-clause-prompt
 returns-in_err-put_text-clause-prompt g c =
-    let front = c.in_err-put_text.ensures.err in
-    prompt-more _ _ _ _ _ _ _ front.front c.in_ok-world.ensures.prompt front.wrote
+    let Faults = ReadsToFault (g.S.Source.faults c.args.source.now) (g.S.Source.faults c.answer_schedule.new.source)
+    (g.S.Source.failed_last c.answer_schedule.new.source) in
+    let told = told-last _ _ _ _ g.H.Hash32.digest_of _ _ _ _ Faults c.in_ok-world.ensures.answered
+    c.in_ok-world.ensures.reads c.push_last.new.text.items c.in_ok-push_last.ensures in
+    replay-last _ _ _ _ _ _ _ g.H.Hash32.digest_of _ _ c.in_ok-world.ensures.prompt _ _ c.in_ok-world.ensures.last
+    c.in_ok-world.ensures.put c.in_ok-world.ensures.answered
+    (subst (WroteFront (g.K.Sink.taken c.answer_schedule.new.sink) (g.K.Sink.taken c.put_text.new.sink)) told
+    c.in_err-put_text.ensures.err)
 
 pub returns-clause-prompt : goal.returns-clause-prompt
 returns-clause-prompt g c =
-    prompt-more _ _ _ _ _ _ _ c.push_last.new.text.items c.in_ok-world.ensures.prompt c.in_ok-put_text.ensures.ok
+    let Faults = ReadsToFault (g.S.Source.faults c.args.source.now) (g.S.Source.faults c.answer_schedule.new.source)
+    (g.S.Source.failed_last c.answer_schedule.new.source) in
+    let told = told-last _ _ _ _ g.H.Hash32.digest_of _ _ _ _ Faults c.in_ok-world.ensures.answered
+    c.in_ok-world.ensures.reads c.push_last.new.text.items c.in_ok-push_last.ensures in
+    replay-last _ _ _ _ _ _ _ g.H.Hash32.digest_of _ _ c.in_ok-world.ensures.prompt _ _ c.in_ok-world.ensures.last
+    c.in_ok-world.ensures.put c.in_ok-world.ensures.answered
+    (front-whole _ _ _
+    (subst (Wrote (g.K.Sink.taken c.answer_schedule.new.sink) (g.K.Sink.taken c.put_text.new.sink)) told
+    c.in_ok-put_text.ensures.ok))

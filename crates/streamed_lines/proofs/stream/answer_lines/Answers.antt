@@ -75,13 +75,13 @@ returns-in-Err-answer_taken-clause-broken g c =
 pub returns-in-Err-clause-prompt : goal.returns-in-Err-clause-prompt
 returns-in-Err-clause-prompt g c =
     promptly _ _ _ _ _ _ _ _ _ _ _ _ c.loop-answerer.invariant.going _ _ [] [] _ c.in-Err.ensures.err
-    (omega arith) (λ failed. refl) (wrote-none _)
+    (omega arith) (λ failed. refl) (λ failed. refl) (wrote-none _)
 
 pub returns-in-Ok-eq0-clause-prompt : goal.returns-in-Ok-eq0-clause-prompt
 returns-in-Ok-eq0-clause-prompt g c =
     promptly _ _ _ _ _ _ _ _ _ _ _ _ c.loop-answerer.invariant.going _ _ _ [] _
     (gave-part _ _ _ c.in-Ok-eq0.ensures.ok) (took-few _ _ _ c.in-Ok-eq0.ensures.bound c.size_to_lend-size.ensures.most)
-    (unfailed _ _ c.in-Ok-eq0.ensures.last) (wrote-none _)
+    (unfailed _ _ c.in-Ok-eq0.ensures.last) (λ failed. refl) (wrote-none _)
 
 pub returns-in_err-put_text-in-Ok-answer_taken-clause-prompt :
     goal.returns-in_err-put_text-in-Ok-answer_taken-clause-prompt
@@ -89,10 +89,10 @@ returns-in_err-put_text-in-Ok-answer_taken-clause-prompt g c =
     let front = c.in_err-put_text-in-Ok-answer_taken.ensures.err in
     promptly _ _ _ _ _ _ _ _ _ _ _ _ c.loop-answerer.invariant.going _ _ _ front.front _
     (gave-part _ _ _ c.in-Ok.ensures.ok) (took-few _ _ _ c.in-Ok.ensures.bound c.size_to_lend-size.ensures.most)
-    (unfailed _ _ c.in-Ok.ensures.last) front.wrote
+    (unfailed _ _ c.in-Ok.ensures.last) (unfailed _ _ c.in-Ok.ensures.last) front.wrote
 
 pub returns-in-Err-answer_taken-clause-prompt : goal.returns-in-Err-answer_taken-clause-prompt
 returns-in-Err-answer_taken-clause-prompt g c =
     promptly _ _ _ _ _ _ _ _ _ _ _ _ c.loop-answerer.invariant.going _ _ _ [] _
     (gave-part _ _ _ c.in-Ok.ensures.ok) (took-few _ _ _ c.in-Ok.ensures.bound c.size_to_lend-size.ensures.most)
-    (unfailed _ _ c.in-Ok.ensures.last) (wrote-none _)
+    (unfailed _ _ c.in-Ok.ensures.last) (λ failed. refl) (wrote-none _)
