@@ -25,9 +25,11 @@ pub fn chains_are_read()
 /// taken: so each law of chains is one of chains with cuts. One whose calls all ended is a chain with cuts. And a coin
 /// that a wallet holds and that was looked after is safe at each event of a chain with cuts, unless the events exhibit.
 pub fn chains_with_cuts_are_chains<D: Disk>()
-    ensures chains { (dig : List ℕ → List ℕ) (rules : Rules) → ChainsWithCutsAreChains D.told D.plan D.faults dig rules }
+    ensures chains { (dig : List ℕ → List ℕ) (rules : Rules)
+        → ChainsWithCutsAreChains D.told D.plan D.faults dig rules }
     ensures ended { (dig : List ℕ → List ℕ) (rules : Rules) → ChainsAreChainsWithCuts D.told D.plan D.faults dig rules }
-    ensures safe { (dig : List ℕ → List ℕ) (rules : Rules) → LivesWithCutsKeepTheirCoins D.told D.plan D.faults dig rules }
+    ensures safe { (dig : List ℕ → List ℕ) (rules : Rules)
+        → LivesWithCutsKeepTheirCoins D.told D.plan D.faults dig rules }
 {}
 
 /// The calls that the events of a chain with its nodes accepted are those of the chain, in its order, whatever the
@@ -54,13 +56,15 @@ pub fn chains_are_legal<D: Disk>()
 {}
 
 /// Lives keep their coins: for every chain with its nodes, whatever runs they made, with any fault, want of memory and
-/// loss of power. A coin that a wallet holds and that was looked after is safe at each event, unless the events exhibit;
-/// two wallets don't both hold it; and what a watch and a leave offer is taken.
+/// loss of power. A coin that a wallet holds and that was looked after is safe at each event, unless the events
+/// exhibit; two wallets don't both hold it; and what a watch and a leave offer is taken.
 pub fn lives_keep_their_coins<D: Disk>()
     ensures safe { (dig : List ℕ → List ℕ) (rules : Rules) → LivesKeepTheirCoins D.told D.plan D.faults dig rules }
     ensures one_holder { (dig : List ℕ → List ℕ) (rules : Rules) → LivesHoldApart D.told D.plan D.faults dig rules }
-    ensures due_is_taken { (dig : List ℕ → List ℕ) (rules : Rules) → LivesDueCallsAreTaken D.told D.plan D.faults dig rules }
-    ensures starts_are_taken { (dig : List ℕ → List ℕ) (rules : Rules) → LivesStartsAreTaken D.told D.plan D.faults dig rules }
+    ensures due_is_taken { (dig : List ℕ → List ℕ) (rules : Rules)
+        → LivesDueCallsAreTaken D.told D.plan D.faults dig rules }
+    ensures starts_are_taken { (dig : List ℕ → List ℕ) (rules : Rules)
+        → LivesStartsAreTaken D.told D.plan D.faults dig rules }
 {}
 
 /// A small chain with a wallet is one: the wallet is begun, a run of it reads the log and watches, and it deposits a
@@ -69,8 +73,8 @@ pub fn a_small_chain_is_one()
     ensures { (dig : List ℕ → List ℕ) → IsDigest dig → SmallChain dig }
 {}
 
-/// A small chain with a wallet and a cut is one: power is lost as a run of the wallet ends, whose watch was answered. So
-/// the laws of chains with cuts speak of some.
+/// A small chain with a wallet and a cut is one: power is lost as a run of the wallet ends, whose watch was answered.
+/// So the laws of chains with cuts speak of some.
 pub fn a_small_chain_with_a_cut_is_one()
     ensures { (dig : List ℕ → List ℕ) → IsDigest dig → SmallChainWithCut dig }
 {}

@@ -34,8 +34,8 @@ pub fn signings_write_their_answers<D: Disk>()
     ensures { (dig : List ℕ → List ℕ) → SigningsWriteTheirAnswers D.told D.plan D.faults dig }
 {}
 
-/// All that a leaf of an operator's key gave out since the operator was begun, in one run or in several, is one receipt:
-/// no leaf signs two promises.
+/// All that a leaf of an operator's key gave out since the operator was begun, in one run or in several, is one
+/// receipt: no leaf signs two promises.
 pub fn desks_promise_once<D: Disk>()
     ensures { (dig : List ℕ → List ℕ) → DesksPromiseOnce D.told D.plan D.faults dig }
 {}
@@ -46,8 +46,8 @@ pub fn keys_hold_through_cuts<D: Disk>()
     ensures { (dig : List ℕ → List ℕ) → KeysThroughCuts D.told D.plan D.faults dig }
 {}
 
-/// A signing that opened its disks may be cut off at each moment, told without a fault: as its records are appended, and
-/// behind them.
+/// A signing that opened its disks may be cut off at each moment, told without a fault: as its records are appended,
+/// and behind them.
 pub fn signings_may_be_cut()
     ensures { (dig : List ℕ → List ℕ) → SigningsMayBeCut dig }
 {}
@@ -58,8 +58,8 @@ pub fn a_small_signers_life_is_one()
     ensures { (dig : List ℕ → List ℕ) → SmallSignerLife dig }
 {}
 
-/// A small life of an operator with a key is a life, so the law of desks speaks of some: after an init a run reads a log
-/// with a deposit, prepares the key's leaves, and gives a receipt for a transfer that the coin's owner signed.
+/// A small life of an operator with a key is a life, so the law of desks speaks of some: after an init a run reads a
+/// log with a deposit, prepares the key's leaves, and gives a receipt for a transfer that the coin's owner signed.
 pub fn a_small_desks_life_is_one()
     ensures { SmallDeskLifeIsOne }
 {}

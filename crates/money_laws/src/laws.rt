@@ -72,11 +72,11 @@ pub fn guarding_costs_nothing()
     ensures ended { GuardiansHaveTheirMoney }
 {}
 
-/// The premises of these laws can be met, and their bounds are tight, as worked lists of legal events show. Two Befores
-/// need 80, and with 79 the second is refused. A guardian gets its 40 back and 100, and no more. A stranger whose
-/// friend challenges his exit first loses nothing, and the guardian then gets its 40 alone. Who left a second earlier is
-/// paid with nobody looking, and a second later the coin is lost. And an After, or a Between, brings 100 to an account
-/// without money.
+/// The premises of these laws can be met, and their bounds are tight, as worked lists of legal events show. Two
+/// Befores need 80, and with 79 the second is refused. A guardian gets its 40 back and 100, and no more. A stranger
+/// whose friend challenges his exit first loses nothing, and the guardian then gets its 40 alone. Who left a second
+/// earlier is paid with nobody looking, and a second later the coin is lost. And an After, or a Between, brings 100 to
+/// an account without money.
 pub fn bounds_are_tight()
     ensures reserve { ReserveIsTight }
     ensures guarding { GuardingIsTight }
