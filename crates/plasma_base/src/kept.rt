@@ -12,7 +12,7 @@ use std::mem;
 // The length of the strings that are remembered: those of the inner nodes of a tree, a byte and two digests.
 const STRING_BYTES: usize = 65;
 
-// The slots of the smallest table and of the largest, which are powers of two.
+// The slots of the smallest table and of the largest, which are powers of two. No clause bounds memory.
 const FIRST_SLOTS: usize = 256;
 
 const MOST_SLOTS: usize = 131_072;

@@ -11,7 +11,7 @@ use std::alloc::Global;
 use std::cell::RefCell;
 use std::cmp::Ordering;
 
-// The most tests that are remembered.
+// The most tests that are remembered. No clause bounds memory.
 const MOST_KNOWN: usize = 2_048;
 
 // The bytes of the longest opening that is remembered: a leaf with the longest signature that any key may have, and

@@ -7,7 +7,7 @@ use std::alloc::Global;
 use std::cell::RefCell;
 use std::cmp::Ordering;
 
-// The most tests that are remembered.
+// The most tests that are remembered. No clause bounds memory.
 const MOST_KNOWN: usize = 4_096;
 
 // The bytes of the longest signature that any key may have. A longer one is refused by its length, so that

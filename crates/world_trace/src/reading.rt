@@ -41,19 +41,19 @@ pub fn body_found(bytes: &[u8]) -> Option<Body>
 }
 
 /// The message of a leaf's record: all of it, or what follows its number.
-pub fn message_in(record: &[u8]) -> &[u8]
-    ensures { result.now ≡ message_in record.now }
+pub fn message_in(bytes: &[u8]) -> &[u8]
+    ensures { result.now ≡ message_in bytes.now }
 {
-    if record.len() == FIRST_LENGTH {
-        record
+    if bytes.len() == FIRST_LENGTH {
+        bytes
     } else {
-        &record[record.len().min(4)..]
+        &bytes[bytes.len().min(4)..]
     }
 }
 
 /// The leaf that a wallet's note says was taken back: the four bytes behind its mark, its coin and its tip.
-pub fn leaf_at_end(record: &[u8]) -> u32
-    ensures { result ≡ leaf_at_end record.now }
+pub fn leaf_at_end(bytes: &[u8]) -> u32
+    ensures { result ≡ leaf_at_end bytes.now }
 {
-    get_u32(record, 17).unwrap_or(0)
+    get_u32(bytes, 17).unwrap_or(0)
 }
