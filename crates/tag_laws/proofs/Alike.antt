@@ -1,12 +1,12 @@
 -- No command of a wallet asks for the tag of what its leaves bind.
-use Rattle.std.proofs.Common.{◌≡◌, ℕ, ◌==◌, ◌&&◌, ◌||◌, not, Bool, true, false, if◌then◌else◌, List, [], ◌∷◌, ◌++◌, length, map, Option, Some, None, Ok, Err, refl, sym, ap, ◌∙◌}
+use Rattle.std.proofs.Common.{◌≡◌, ℕ, ◌==◌, ◌&&◌, ◌||◌, not, Bool, false, if◌then◌else◌, List, [], ◌∷◌, length, map, Option, Some, None, Ok, Err, refl, sym, ap, ◌∙◌}
 use Rattle.std.specs.Prelude.{Result, find, reverse, slice_get, nat_le, is_none}
 use Rattle.std.specs.List.{flat_map, list_any, range_with_len}
 use Rattle.std.specs.Option.{option_map, option_map_or}
 use Rattle.std.proofs.lemmas.List.{length-map}
 use Rattle.std.proofs.lemmas.Option.{slice_get-map}
 use Rattle.lms_sign.specs.Types.{leaf_count}
-use Rattle.leaf_journal.specs.Records.{is_marked, marker, messages_of, with_number}
+use Rattle.leaf_journal.specs.Records.{marker, messages_of, with_number}
 use Rattle.node_journal.specs.Effect.{first_cause}
 use Rattle.plasma_tx.specs.declared.owner.Owner.{Owner}
 use Rattle.plasma_tx.specs.declared.body.Body.{Body}
@@ -27,7 +27,7 @@ use Rattle.node_rules.specs.declared.refusal.WalletRefusal.{WalletRefusal}
 use Rattle.node_rules.specs.declared.refusal.WalletRefusal.TheVariants.{KeySpent, BadLast, OldJournal, AlreadyNew}
 use Rattle.node_rules.specs.Kept.{links_handed}
 use Rattle.node_rules.specs.WalletRecords.{owner_of, who_is, notes_of, state_notes, leaves_in}
-use Rattle.node_rules.specs.Wallet.{WalletRecords, WalletEffect, answers, binds_it, unless, noted, coin_state, used, sent_by, accept_by, accept_effect, send_from, send_effect, names_coin, last_leaf, last_of, leave_from, leave_effect, due_in, watch_answer, reclaim_last, reclaim_from, reclaim_by, reclaim_effect, migrate_effect}
+use Rattle.node_rules.specs.Wallet.{WalletRecords, WalletEffect, answers, binds_it, unless, noted, coin_state, used, sent_by, accept_by, accept_effect, send_from, send_effect, last_leaf, last_of, leave_from, leave_effect, due_in, watch_answer, reclaim_last, reclaim_from, reclaim_by, reclaim_effect, migrate_effect}
 use Rattle.tag_laws.specs.Wallets.{without_tag, AreAlike, TagsAreNotAsked}
 
 -- ---- leaves without their tags

@@ -1,9 +1,9 @@
 -- What the contract accepts shows transfers of its tag.
-use Rattle.std.proofs.Common.{◌≡◌, ℕ, ◌==◌, Bool, true, false, if◌then◌else◌, List, [], ◌∷◌, ◌++◌, Option, Some, None, refl, sym, ap, ◌∙◌, subst}
-use Rattle.std.specs.List.{All, AllByRecursion}
+use Rattle.std.proofs.Common.{◌≡◌, ℕ, ◌==◌, true, false, if◌then◌else◌, List, [], ◌∷◌, ◌++◌, Some, None, refl, subst}
+use Rattle.std.specs.List.{All}
 use Rattle.std.specs.Option.{option_map}
 use Rattle.std.proofs.lemmas.Bool.{eqb-true}
-use Rattle.std.proofs.lemmas.List.Elements.{All-nil, All-cons, All-append, All-from_recursion}
+use Rattle.std.proofs.lemmas.List.Elements.{All-nil, All-cons, All-append}
 use Rattle.plasma_tx.specs.declared.owner.Owner.{Owner}
 use Rattle.plasma_tx.specs.declared.opening.RawOpening.{RawOpening}
 use Rattle.plasma_tx.specs.declared.signed_tx.SignedTx.{SignedTx}
@@ -12,12 +12,12 @@ use Rattle.plasma_tx.specs.declared.call.Shown.TheVariants.{Deposit as AtDeposit
 use Rattle.plasma_tx.specs.declared.call.RootCall.{RootCall}
 use Rattle.plasma_tx.specs.declared.call.RootCall.TheVariants.{Fund, Tick, Deposit, Commit, StartDeposit, StartSpend, After, Between, Before, Respond, Finish}
 use Rattle.plasma_tx.specs.Shown.{Tests, Rules, shown_tx, shown_owner}
-use Rattle.plasma_tx.specs.Table.{answer_to, is_accepted, IsLegal}
+use Rattle.plasma_tx.specs.Table.{IsLegal}
 use Rattle.plasma_tx.specs.Accepted.{ShowsTx}
 use Rattle.plasma_tx.specs.RuleLaws.{Shows}
 use Rattle.plasma_tx.proofs.Accepted.{openings_show, accepted_calls_show}
 use Rattle.coin_history.specs.History.{leaf_of_opening}
-use Rattle.watch_duty.specs.Laws.{shown_openings, openings_of_call}
+use Rattle.watch_duty.specs.Laws.{shown_openings}
 use Rattle.tag_laws.specs.Tags.{ShowsOwn}
 use Rattle.tag_laws.specs.Calls.{CallShowsOwn, AcceptedCallsAreOfTheChain, LogsAreOfTheChain}
 use Rattle.tag_laws.proofs.Tags.{transfer-own}

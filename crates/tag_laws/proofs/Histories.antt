@@ -1,14 +1,12 @@
 -- The links of a history are of the chain, and so is all that nodes take and keep.
-use Rattle.std.proofs.Common.{◌≡◌, ◌⊎◌, inl, inr, ℕ, ◌==◌, ◌&&◌, ◌||◌, not, Bool, true, false, if◌then◌else◌, List, [], ◌∷◌, ◌++◌, length, drop, filter, Option, Some, None, is_some, is_ok, Ok, Err, refl, sym, ap, ◌∙◌, subst}
+use Rattle.std.proofs.Common.{◌≡◌, ◌⊎◌, inl, inr, ℕ, ◌==◌, ◌&&◌, ◌||◌, not, Bool, true, false, if◌then◌else◌, List, [], ◌∷◌, ◌++◌, length, drop, filter, Option, Some, None, is_some, is_ok, Ok, Err, refl, sym, ap, subst}
 use Rattle.std.specs.Prelude.{Result, reverse}
 use Rattle.std.specs.List.{All, AllByRecursion, Contains, cons_option, filter_map, list_all, list_any}
 use Rattle.std.specs.Option.{option_map}
 use Rattle.std.proofs.lemmas.Bool.{and_parts, or_cases}
-use Rattle.std.proofs.lemmas.List.Elements.{All-nil, All-cons, All-append, All-filter, All-from_recursion, All-contains_itself, All-contains, All-weaker, Contains-append_right, recursion_from_All}
+use Rattle.std.proofs.lemmas.List.Elements.{All-nil, All-cons, All-append, All-filter, All-from_recursion, All-contains_itself, All-weaker, recursion_from_All}
 use Rattle.node_journal.specs.Effect.{first_cause, unless as unless_effect}
 use Rattle.plasma_tx.specs.declared.opening.RawOpening.{RawOpening}
-use Rattle.plasma_tx.specs.declared.signed_tx.SignedTx.{SignedTx}
-use Rattle.plasma_tx.specs.declared.links.Link.{Link}
 use Rattle.plasma_tx.specs.declared.links.Links.{Links}
 use Rattle.plasma_tx.specs.declared.call.RootCall.{RootCall}
 use Rattle.plasma_tx.specs.Links.{tip_of}
@@ -19,8 +17,7 @@ use Rattle.plasma_tx.specs.Shown.{Rules, tests_by}
 use Rattle.coin_history.specs.declared.bundle.Bundle.{Bundle}
 use Rattle.coin_history.specs.declared.refusal.HistoryRefusal.{HistoryRefusal}
 use Rattle.coin_history.specs.Bundles.{bundle_in}
-use Rattle.coin_history.specs.History.{is_absent, leaf_of_opening, transfer_of, links_in, IsHistory}
-use Rattle.coin_history.specs.Checking.{history_of}
+use Rattle.coin_history.specs.History.{is_absent, leaf_of_opening, transfer_of, links_in}
 use Rattle.coin_history.proofs.BundleLaws.{text-bundle_in}
 use Rattle.coin_history.proofs.HistoryFound.{histories_are_found}
 use Rattle.coin_history.proofs.HistoryLinks.{with_tx}
@@ -28,14 +25,14 @@ use Rattle.wallet_core.specs.declared.notes.Notes.{Notes}
 use Rattle.node_rules.specs.declared.answers.Accepted.{Accepted}
 use Rattle.node_rules.specs.declared.refusal.WalletRefusal.{WalletRefusal}
 use Rattle.node_rules.specs.declared.refusal.WatcherRefusal.{WatcherRefusal}
-use Rattle.node_rules.specs.Kept.{chain_of, kept_of, shows_link, ends_at, is_kept, kept_in, checked_by, links_handed}
+use Rattle.node_rules.specs.Kept.{chain_of, kept_of, shows_link, ends_at, kept_in, checked_by, links_handed}
 use Rattle.node_rules.specs.WalletRecords.{Note as WalletNote, Accepts, LeavesWith, Reclaims, note_text as wallet_text, note_in as wallet_note, accepts, accepted_of, short_at, notes_of as wallet_notes}
-use Rattle.node_rules.specs.Wallet.{WalletRecords, WalletEffect, answers, notes_it, unless, who, noted, accept_causes, accept_taken, accept_by, accept_effect, is_known}
-use Rattle.node_rules.specs.Watcher.{Note, Guarded, Released, note_text, note_in, guarded, who_is as watcher_who, notes_of, is_of, is_before, with_guard, guards_of, guards_in, guard_causes, guard_taken, guard_by, guard_effect}
+use Rattle.node_rules.specs.Wallet.{answers, notes_it, unless, who, noted, accept_causes, accept_by, accept_effect, is_known}
+use Rattle.node_rules.specs.Watcher.{Note, Guarded, Released, note_in, guarded, who_is as watcher_who, notes_of, is_of, is_before, with_guard, guards_of, guards_in, guard_causes, guard_taken, guard_by, guard_effect}
 use Rattle.node_rules.proofs.KeptTexts.{only_kept-ok}
 use Rattle.node_rules.proofs.OneMore.{All-reverse}
-use Rattle.tag_laws.specs.Tags.{IsOfChain, ShowsOwn}
-use Rattle.tag_laws.specs.Histories.{IsLinkOf, AreOfChain, HistoriesAreOfTheChain, TakesOwn, AcceptedAreOfTheChain, GuardedAreOfTheChain, KeepsOwn, KeptAreOfTheChain}
+use Rattle.tag_laws.specs.Tags.{ShowsOwn}
+use Rattle.tag_laws.specs.Histories.{IsLinkOf, AreOfChain, HistoriesAreOfTheChain, AcceptedAreOfTheChain, GuardedAreOfTheChain, KeepsOwn, KeptAreOfTheChain}
 use Rattle.tag_laws.proofs.Tags.{transfer-own}
 
 -- ---- histories
@@ -52,13 +49,13 @@ links-own rules bundle (opening ∷ openings) all =
     (cons_option (option_map (with_tx opening) t) (links_in rules bundle.coin openings))) [
       | None ↦ λ is. links-own rules bundle openings all.1
       | Some tx ↦ λ is. (
-          record {
-            shown = all.0;
-            block = refl;
-            of_chain = transfer-own rules.tag (leaf_of_opening opening) bundle.coin opening.block tx is;
-          },
-          links-own rules bundle openings all.1,
-        )
+        record {
+          shown = all.0;
+          block = refl;
+          of_chain = transfer-own rules.tag (leaf_of_opening opening) bundle.coin opening.block tx is;
+        },
+        links-own rules bundle openings all.1,
+      )
     ]) refl
 
 -- an opening that shows a transfer shows one of the chain

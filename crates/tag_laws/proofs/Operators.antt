@@ -1,17 +1,15 @@
 -- What an operator takes, walks by and promises is of its chain, and so is what convicts.
-use Rattle.std.proofs.Common.{◌≡◌, ◌≢◌, ◌⊎◌, inl, inr, ℕ, zero, suc, ◌==◌, ◌&&◌, not, Bool, true, false, if◌then◌else◌, List, [], ◌∷◌, ◌++◌, length, drop, Option, Some, None, option_and_then, Ok, Err, refl, sym, ap, ◌∙◌, subst}
-use Rattle.std.specs.Prelude.{Result, nat_lt, nat_le, reverse}
-use Rattle.std.specs.List.{AllByRecursion, Contains, cons_option, filter_map}
-use Rattle.std.specs.Str.{bytes_eq}
-use Rattle.std.proofs.lemmas.Bool.{and_parts, false_from_ne_true}
+use Rattle.std.proofs.Common.{◌≡◌, ◌⊎◌, inl, inr, ℕ, zero, suc, ◌==◌, ◌&&◌, not, Bool, true, false, if◌then◌else◌, List, [], ◌∷◌, ◌++◌, length, drop, Option, Some, None, option_and_then, Ok, Err, refl, ap, ◌∙◌, subst}
+use Rattle.std.specs.Prelude.{Result, nat_lt, nat_le}
+use Rattle.std.specs.List.{filter_map}
+use Rattle.std.proofs.lemmas.Bool.{and_parts}
 use Rattle.std.proofs.lemmas.List.Elements.{All-contains, All-from_recursion}
-use Rattle.std.proofs.lemmas.Slice.Eq.{bytes_eq-Decides}
 use Rattle.lms_sign.specs.declared.secret.Secret.{Secret}
 use Rattle.lms_sign.specs.Types.{is_supported, leaf_count}
 use Rattle.lms_sign.specs.Valid.{types_of, is_valid}
 use Rattle.lms_sign.specs.Tree.{signature_of}
-use Rattle.leaf_journal.specs.Records.{binding_record, is_marked, messages_of, with_number}
-use Rattle.node_journal.specs.Effect.{Effect, first_cause, only, unless}
+use Rattle.leaf_journal.specs.Records.{with_number}
+use Rattle.node_journal.specs.Effect.{first_cause, only, unless}
 use Rattle.sparse_merkle.specs.declared.tree.Entry.{Entry}
 use Rattle.sparse_merkle.specs.TreeDigest.{leaf_of}
 use Rattle.plasma_tx.specs.declared.signed_tx.SignedTx.{SignedTx}
@@ -28,7 +26,7 @@ use Rattle.coin_history.specs.declared.bundle.Bundle.{Bundle}
 use Rattle.coin_history.specs.declared.refusal.HistoryRefusal.{HistoryRefusal}
 use Rattle.coin_history.specs.Bundles.{bundle_in}
 use Rattle.operator_rules.specs.declared.refusal.OfferRefusal.{OfferRefusal}
-use Rattle.operator_rules.specs.declared.refusal.OfferRefusal.TheVariants.{NotTransfer, NoCoin}
+use Rattle.operator_rules.specs.declared.refusal.OfferRefusal.TheVariants.{NotTransfer}
 use Rattle.operator_rules.specs.Records.{Note, Offered, Laid, Sealed, is_read, spells_transfer, note_in, who_is, notes_of}
 use Rattle.operator_rules.specs.Trees.{Forest, is_waiting, tree_at}
 use Rattle.operator_rules.specs.Walk.{Place, start_of, moved_by, transfer_at, place_at, present}
@@ -42,12 +40,12 @@ use Rattle.receipt_audit.specs.declared.refusal.AuditRefusal.{AuditRefusal}
 use Rattle.receipt_audit.specs.declared.refusal.AuditRefusal.TheVariants.{BadReceipt, BadKey, NotSigned, NotYet, OtherCoin}
 use Rattle.receipt_audit.specs.declared.refusal.IssueRefusal.{IssueRefusal}
 use Rattle.receipt_audit.specs.declared.refusal.IssueRefusal.TheVariants.{BadDue, OldJournal, KeySpent}
-use Rattle.receipt_audit.specs.Promises.{promise_at_start, promise_in, promise_text, promised_part, signature_part}
+use Rattle.receipt_audit.specs.Promises.{promise_in, promise_text, promised_part, signature_part}
 use Rattle.receipt_audit.specs.Audit.{breach_of, conviction_of, convicted, shown_by, audited, conviction_answer}
 use Rattle.receipt_audit.specs.Desk.{IssueEffect, promise_for, issue_causes, receipt_or, record_or, issue_or, issue_effect}
 use Rattle.receipt_audit.proofs.PromiseTexts.{promise-read}
 use Rattle.receipt_audit.proofs.Given.{issues_give_receipts}
-use Rattle.tag_laws.specs.Tags.{tag_named, IsOfChain}
+use Rattle.tag_laws.specs.Tags.{IsOfChain}
 use Rattle.tag_laws.specs.Operators.{OffersAreOfTheChain, OthersAreNotOffered, OfferedAreOfTheChain, IsMovedTo, WalksAreOfTheChain, HonestBundlesAreOfTheChain, OthersAreNoReceipts, ConvictionsAreOfTheChain, ReceiptsAreOfTheChain, DesksCountLeavesAlone}
 use Rattle.tag_laws.proofs.Tags.{read_transfers_have_the_tag, transfer-own}
 use Rattle.tag_laws.proofs.Histories.{histories_are_of_the_chain, back-each, read-each}
@@ -74,9 +72,11 @@ module _ (dig : List ℕ → List ℕ) (tag : List ℕ) (log : List RootCall) (f
   offered-by : (r : Result SignedTx TxRefusal) → signed_in tag bytes ≡ r → (coin : ℕ)
       → (offer_of dig tag log forest bytes r).answer ≡ Ok coin → (tx : SignedTx) × IsOfChain tag coin bytes tx
   offered-by (Err why) read coin is = absurd (cc is)
-  offered-by (Ok tx) read coin is =
-      (tx, subst (λ (c : ℕ). IsOfChain tag c bytes tx) (offered-at tx (coin_at log tx.body.coin) coin is)
-      (read_transfers_have_the_tag tag bytes tx read))
+  offered-by (Ok tx) read coin is = (
+    tx,
+    subst (λ (c : ℕ). IsOfChain tag c bytes tx) (offered-at tx (coin_at log tx.body.coin) coin is)
+        (read_transfers_have_the_tag tag bytes tx read),
+  )
 
 pub offers_are_of_the_chain : OffersAreOfTheChain
 unfolding offer_effect
@@ -159,12 +159,12 @@ module _ (dig : List ℕ → List ℕ) (tag : List ℕ) (log : List RootCall) (s
       → IsMovedTo dig tag log sealed coin (record { block = n; owner = tx.body.to })) [
         | None ↦ λ none wrong. absurd (cc wrong)
         | Some tree ↦ λ some same. record {
-            tree = tree;
-            tree_is = some;
-            tx = tx;
-            of_chain = transfer-own tag (leaf_of tree coin) coin n tx same;
-            owner = refl;
-          }
+          tree = tree;
+          tree_is = some;
+          tx = tx;
+          of_chain = transfer-own tag (leaf_of tree coin) coin n tx same;
+          owner = refl;
+        }
       ]) refl is
 
   moved-own : (n : ℕ) (last : Place) (t : Option SignedTx) → transfer_at dig tag log sealed coin n ≡ t
@@ -252,9 +252,12 @@ convictions_are_of_the_chain dig chain key receipt bundle conviction is =
         let supported = passes (not (is_supported (types_of key))) BadKey _ conviction same in
         let signed = passes (not (is_valid key (promised_part receipt) (signature_part receipt))) NotSigned _ conviction
         supported in
-        let due = passes (nat_lt (blocks chain.log) promise.due) (NotYet promise.due) _ conviction signed in
-        (promise, found, ap (λ (p : Promise). p.tag) known.is ∙ known.tagged,
-        shown-convicts dig chain.log promise (bundle_in bundle) conviction due)
+        let due = passes (nat_lt (blocks chain.log) promise.due) (NotYet promise.due) _ conviction signed in (
+          promise,
+          found,
+          ap (λ (p : Promise). p.tag) known.is ∙ known.tagged,
+          shown-convicts dig chain.log promise (bundle_in bundle) conviction due,
+        )
 
 -- ---- the desk
 
@@ -281,13 +284,15 @@ receipts_are_of_the_chain dig judge secret notes records log bytes due receipt m
         (promise_text (promise_for dig (who_is notes).tag (blocks log) bytes due))
         (offer_effect judge notes log bytes).answer
         (passed (first_cause (issue_causes (leaf_count secret.types) records (blocks log) due)) _ is) in
-        let own = offers_are_of_the_chain judge notes log bytes coin.0 coin.1 in
-        (own.0, record {
-          read = own.1.read;
-          tag_is = own.1.tag_is;
-          coin_is = ap (λ (t : SignedTx). t.body.coin) (signed_in-ok (who_is notes).tag bytes own.0 own.1.read).1;
-          named = own.1.named;
-        })
+        let own = offers_are_of_the_chain judge notes log bytes coin.0 coin.1 in (
+          own.0,
+          record {
+            read = own.1.read;
+            tag_is = own.1.tag_is;
+            coin_is = ap (λ (t : SignedTx). t.body.coin) (signed_in-ok (who_is notes).tag bytes own.0 own.1.read).1;
+            named = own.1.named;
+          },
+        )
 
 -- a receipt of these bytes
 abbrev receipt_by : List ℕ → Result Receipt IssueRefusal

@@ -1,5 +1,5 @@
 -- The samples, computed.
-use Rattle.std.proofs.Common.{◌≡◌, ℕ, List, refl}
+use Rattle.std.proofs.Common.{refl}
 use Rattle.gate_journal.specs.Image.{records_from}
 use Rattle.lms_sign.specs.Types.{height, u32_at}
 use Rattle.leaf_journal.specs.Records.{records_behind_of}

@@ -1,5 +1,5 @@
 -- What a wallet sends, and sends again, and what its leaves then are.
-use Rattle.std.proofs.Common.{◌≡◌, ◌≢◌, ℕ, zero, suc, ◌+◌, ◌<◌, ◌≤◌, ◌==◌, ◌&&◌, ◌||◌, Bool, true, false, if◌then◌else◌, List, [], ◌∷◌, ◌++◌, length, drop, map, Option, Some, None, is_ok, Ok, Err, refl, sym, ap, ◌∙◌, subst, arith}
+use Rattle.std.proofs.Common.{◌≡◌, ℕ, zero, suc, ◌≤◌, ◌==◌, ◌||◌, Bool, true, false, if◌then◌else◌, List, [], ◌∷◌, ◌++◌, length, drop, map, Option, Some, None, is_ok, Ok, Err, refl, sym, ap, ◌∙◌, subst, arith}
 use Rattle.std.specs.Prelude.{Result, find, reverse, unwrap_or, slice_get, IfSome}
 use Rattle.std.specs.List.{All, AllByRecursion, range_with_len, slice_range}
 use Rattle.std.specs.Option.{option_map_or}
@@ -17,7 +17,7 @@ use Rattle.plasma_tx.specs.declared.body.Body.{Body}
 use Rattle.plasma_tx.specs.declared.signed_tx.SignedTx.{SignedTx}
 use Rattle.plasma_tx.specs.declared.signed_tx.TxRefusal.{TxRefusal}
 use Rattle.plasma_tx.specs.declared.call.RootCall.{RootCall}
-use Rattle.plasma_tx.specs.Spelling.{IsBody, body_at_start, body_in, body_length, body_text, has_first_mark, has_second_mark, number_at, signed_in, signed_text}
+use Rattle.plasma_tx.specs.Spelling.{IsBody, body_at_start, body_in, body_length, body_text, has_first_mark, has_second_mark, signed_in, signed_text}
 use Rattle.plasma_tx.proofs.Parts.{range-front}
 use Rattle.plasma_tx.proofs.Spellings.{Fits, body_in-ok, signed_in-fits, signed_in-text}
 use Rattle.coin_history.specs.Bundles.{bundle_in}
@@ -34,9 +34,9 @@ use Rattle.node_rules.specs.WalletCommandLaws.{with_more, sent_body, AddsSent, A
 use Rattle.node_rules.proofs.WalletGrow.{who-same, wallet-parts}
 use Rattle.node_rules.proofs.WalletTips.{tag-long, tip-fits}
 use Rattle.node_rules.proofs.WalletRole.{held-tip, sends_add_their_leaves, migrations_add_the_marker}
-use Rattle.node_rules.proofs.WalletAdded.{accept-leaf, send-note, leave-leaf, reclaim-leaf, migrate-note}
+use Rattle.node_rules.proofs.WalletAdded.{accept-leaf, leave-leaf, reclaim-leaf}
 use Rattle.tag_laws.specs.Tags.{tag_named, IsOfChain}
-use Rattle.tag_laws.specs.Wallets.{MaySend, SentAreOfTheChain, OwnLeaves, StayOwn, NewWalletsAreOwn, WalletsStayOwn, GivesLeaf, AgainGivesItsLeaf, OwnAgainIsOfTheChain, OtherAgainIsRefused}
+use Rattle.tag_laws.specs.Wallets.{SentAreOfTheChain, OwnLeaves, NewWalletsAreOwn, WalletsStayOwn, GivesLeaf, AgainGivesItsLeaf, OwnAgainIsOfTheChain, OtherAgainIsRefused}
 use Rattle.tag_laws.proofs.Tags.{read_transfers_have_the_tag, others_are_refused}
 
 -- ---- send

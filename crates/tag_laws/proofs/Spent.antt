@@ -1,5 +1,5 @@
 -- Leaves of whatever tag only take away.
-use Rattle.std.proofs.Common.{◌≡◌, ◌⊎◌, inl, inr, ℕ, zero, suc, ◌+◌, ◌<◌, ◌≤◌, ◌==◌, ◌&&◌, not, Bool, true, false, if◌then◌else◌, List, [], ◌∷◌, ◌++◌, length, Option, Some, None, is_some, Ok, Err, refl, sym, ap, ◌∙◌, subst, arith}
+use Rattle.std.proofs.Common.{◌≡◌, inl, inr, ℕ, zero, suc, ◌+◌, ◌<◌, ◌≤◌, ◌==◌, ◌&&◌, not, Bool, true, false, if◌then◌else◌, List, [], ◌∷◌, ◌++◌, length, Option, Some, None, is_some, Ok, Err, refl, sym, ap, ◌∙◌, subst, arith}
 use Rattle.std.specs.Prelude.{find, slice_get}
 use Rattle.std.specs.List.{Contains, list_any, range_with_len}
 use Rattle.std.specs.Option.{option_map_or}
@@ -16,12 +16,12 @@ use Rattle.wallet_core.specs.declared.notes.Notes.{Notes}
 use Rattle.wallet_core.specs.declared.coin_state.CoinState.{CoinState}
 use Rattle.wallet_core.specs.declared.coin_state.CoinState.TheVariants.{Nothing, Sending, Leaving, Held}
 use Rattle.wallet_core.specs.State.{tips_of, spends_tip, sends_by, sending_leaf, is_signed_away, state_of, holds}
-use Rattle.wallet_core.specs.Laws.{IsTip, IsLowestLeaf, NoLeaf}
+use Rattle.wallet_core.specs.Laws.{IsTip, NoLeaf}
 use Rattle.wallet_core.proofs.StateLaws.{sending_is, leaving_is, held_is, nothing_is, sending_none}
 use Rattle.node_rules.specs.declared.refusal.WalletRefusal.TheVariants.{NotHeld, NoLast}
 use Rattle.node_rules.specs.Wallet.{WalletRecords, answers, noted, coin_state, last_of, send_from, send_effect, leave_from, leave_effect, due_in, reclaim_last, reclaim_from, reclaim_by, reclaim_effect}
 use Rattle.node_rules.specs.WalletRecords.{leaves_in}
-use Rattle.tag_laws.specs.Wallets.{MoreLeavesTakeAway, IsSpent, NamedTipsAreSpent}
+use Rattle.tag_laws.specs.Wallets.{MoreLeavesTakeAway, NamedTipsAreSpent}
 
 -- ---- more leaves
 
@@ -157,13 +157,16 @@ sending-by notes leaves log coin tip q is sends = at (state_of notes leaves log 
         ∙ subst (λ (t : ℕ). sends_by notes.reclaimed leaves coin t q ≡ false) (sym same) (known.1 q)))
     at (Sending other by) found =
         let known = (sending_is notes leaves log coin other by).0 found in
-        let same = one-tip notes log coin tip other is known.0 in
-        (by, elim (cases_lt q by) [
-          | inl before ↦ absurd (true≢false (sym sends
-              ∙ subst (λ (t : ℕ). sends_by notes.reclaimed leaves coin t q ≡ false) (sym same)
-              (known.1.lowest q before)))
-          | inr up ↦ up
-        ], found ∙ ap (λ (t : ℕ). Sending t by) (sym same))
+        let same = one-tip notes log coin tip other is known.0 in (
+          by,
+          elim (cases_lt q by) [
+            | inl before ↦ absurd (true≢false (sym sends
+                ∙ subst (λ (t : ℕ). sends_by notes.reclaimed leaves coin t q ≡ false) (sym same)
+                (known.1.lowest q before)))
+            | inr up ↦ up
+          ],
+          found ∙ ap (λ (t : ℕ). Sending t by) (sym same),
+        )
 
 module _ (dig : List ℕ → List ℕ) (wallet : WalletRecords) (log : List RootCall) (coin tip by : ℕ)
     (state : coin_state dig wallet log coin ≡ Sending tip by) where

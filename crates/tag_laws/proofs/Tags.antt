@@ -1,23 +1,18 @@
 -- Bytes of another tag are read as no transfer of the chain.
-use Rattle.std.proofs.Common.{◌≡◌, ◌≢◌, ℕ, ◌||◌, not, Bool, true, false, if◌then◌else◌, List, length, Option, Some, None, Ok, Err, refl, sym, ap, ◌∙◌, subst, option_and_then}
-use Rattle.std.specs.Prelude.{Result, nat_lt}
+use Rattle.std.proofs.Common.{◌≡◌, ℕ, false, List, length, Some, None, refl, ap, ◌∙◌}
 use Rattle.std.specs.List.{slice_range}
 use Rattle.std.specs.Str.{bytes_eq}
 use Rattle.std.proofs.lemmas.Bool.{le-ltb, false_from_ne_true}
 use Rattle.std.proofs.lemmas.Slice.Eq.{bytes_eq-Decides}
-use Rattle.plasma_tx.specs.declared.body.Body.{Body}
-use Rattle.plasma_tx.specs.declared.opening.RawOpening.{RawOpening}
 use Rattle.plasma_tx.specs.declared.signed_tx.SignedTx.{SignedTx}
-use Rattle.plasma_tx.specs.declared.signed_tx.TxRefusal.{TxRefusal}
-use Rattle.plasma_tx.specs.declared.signed_tx.TxRefusal.TheVariants.{BadTag}
-use Rattle.plasma_tx.specs.Spelling.{body_in, body_at_start, body_length, has_first_mark, has_second_mark, signed_in, with_signature}
+use Rattle.plasma_tx.specs.Spelling.{body_in, body_length, signed_in}
 use Rattle.plasma_tx.specs.Transfer.{transfer_in}
 use Rattle.plasma_tx.specs.Shown.{shown_tx}
 use Rattle.plasma_tx.proofs.Spellings.{signed_in-ok}
 use Rattle.plasma_tx.proofs.Leaves.{transfer-read}
 use Rattle.plasma_tx.proofs.Accepted.{openings_show}
 use Rattle.coin_history.specs.History.{leaf_of_opening}
-use Rattle.tag_laws.specs.Tags.{tag_named, IsOfChain, ShowsOwn, ReadTransfersHaveTheTag, OthersAreRefused, OthersAreNoTransfers, OthersAreNotShown}
+use Rattle.tag_laws.specs.Tags.{tag_named, IsOfChain, ReadTransfersHaveTheTag, OthersAreRefused, OthersAreNoTransfers, OthersAreNotShown}
 
 pub read_transfers_have_the_tag : ReadTransfersHaveTheTag
 read_transfers_have_the_tag tag bytes tx is =

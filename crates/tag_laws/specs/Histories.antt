@@ -1,5 +1,5 @@
 -- What wallets accept and watchers guard is of the chain's tag, link by link; and so is all that they keep.
-use Rattle.std.specs.Prelude.{◌≡◌, ◌⊎◌, ℕ, true, List, Result, Ok}
+use Rattle.std.specs.Prelude.{◌≡◌, ◌⊎◌, ℕ, true, List, Ok}
 use Rattle.std.specs.List.{All, Contains}
 use Rattle.plasma_tx.specs.declared.links.Link.{Link}
 use Rattle.plasma_tx.specs.declared.links.Links.{Links}
@@ -12,7 +12,6 @@ use Rattle.coin_history.specs.Bundles.{AreRising, bundle_in}
 use Rattle.coin_history.specs.History.{is_absent, leaf_of_opening}
 use Rattle.coin_history.specs.Checking.{history_of}
 use Rattle.node_rules.specs.declared.answers.Accepted.{Accepted}
-use Rattle.node_rules.specs.Kept.{kept_in, links_handed}
 use Rattle.node_rules.specs.WalletRecords.{accepted_of, notes_of as wallet_notes}
 use Rattle.node_rules.specs.Wallet.{WalletRecords, who, accept_effect}
 use Rattle.node_rules.specs.Watcher.{who_is as watcher_who, guards_in, guard_effect}

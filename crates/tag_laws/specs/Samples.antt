@@ -1,5 +1,5 @@
 -- Small journals, logs and bundles with transfers and promises of another tag: what the laws suppose is there.
-use Rattle.std.specs.Prelude.{◌≡◌, ℕ, Bool, true, false, List, [], ◌∷◌, ◌++◌, length, replicate, None, Ok, Err, is_ok}
+use Rattle.std.specs.Prelude.{◌≡◌, ℕ, true, false, List, [], ◌∷◌, ◌++◌, length, replicate, None, Ok, Err, is_ok}
 use Rattle.std.specs.Str.{bytes_eq}
 use Rattle.gate_journal.specs.Image.{spelled}
 use Rattle.node_journal.specs.Role.{are_of}
@@ -26,7 +26,7 @@ use Rattle.node_rules.specs.declared.identity.WalletIdentity.{WalletIdentity}
 use Rattle.node_rules.specs.WalletRecords.{identity_text, is_body, leaves_in, secret_of}
 use Rattle.node_rules.specs.Wallet.{WalletRecords, again_answer}
 use Rattle.node_rules.specs.WalletOpening.{is_wallet}
-use Rattle.operator_rules.specs.Records.{Identity, Offered, note_text, notes_of, operator_kinds, identity_text as operator_text}
+use Rattle.operator_rules.specs.Records.{Offered, note_text, notes_of, operator_kinds, identity_text as operator_text}
 use Rattle.receipt_audit.specs.declared.promise.Promise.{Promise}
 use Rattle.receipt_audit.specs.Promises.{is_promise, promise_at_start, promise_text}
 use Rattle.tag_laws.specs.Tags.{tag_named}
