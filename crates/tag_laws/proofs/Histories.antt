@@ -13,11 +13,11 @@ use Rattle.plasma_tx.specs.Links.{tip_of}
 use Rattle.plasma_tx.specs.Openings.{opening_in}
 use Rattle.plasma_tx.specs.Spelling.{AreBytes, number_at}
 use Rattle.plasma_tx.proofs.Names.{some_same}
-use Rattle.plasma_tx.specs.Shown.{Rules, tests_by}
+use Rattle.plasma_tx.specs.Shown.{Tests, Rules, tests_by}
 use Rattle.coin_history.specs.declared.bundle.Bundle.{Bundle}
 use Rattle.coin_history.specs.declared.refusal.HistoryRefusal.{HistoryRefusal}
 use Rattle.coin_history.specs.Bundles.{bundle_in}
-use Rattle.coin_history.specs.History.{is_absent, leaf_of_opening, transfer_of, links_in}
+use Rattle.coin_history.specs.History.{is_absent, leaf_of_opening, transfer_of, links_in, IsHistory}
 use Rattle.coin_history.proofs.BundleLaws.{text-bundle_in}
 use Rattle.coin_history.proofs.HistoryFound.{histories_are_found}
 use Rattle.coin_history.proofs.HistoryLinks.{with_tx}
@@ -32,7 +32,7 @@ use Rattle.node_rules.specs.Watcher.{Note, Guarded, Released, note_in, guarded, 
 use Rattle.node_rules.proofs.KeptTexts.{only_kept-ok}
 use Rattle.node_rules.proofs.OneMore.{All-reverse}
 use Rattle.tag_laws.specs.Tags.{ShowsOwn}
-use Rattle.tag_laws.specs.Histories.{IsLinkOf, AreOfChain, HistoriesAreOfTheChain, AcceptedAreOfTheChain, GuardedAreOfTheChain, KeepsOwn, KeptAreOfTheChain}
+use Rattle.tag_laws.specs.Histories.{IsLinkOf, ShowsOnlyOwn, AreOfChain, HistoriesAreOfTheChain, AcceptedAreOfTheChain, GuardedAreOfTheChain, KeepsOwn, KeptAreOfTheChain}
 use Rattle.tag_laws.proofs.Tags.{transfer-own}
 
 -- ---- histories
@@ -78,6 +78,11 @@ opening-own rules coin opening is =
       | inr shows ↦ inr (shown-own rules.tag rules coin opening refl shows)
     ]
 
+pub history-own : (tests : Tests) (rules : Rules) (log : List RootCall) (bundle : Bundle) (links : Links)
+    → IsHistory tests rules log bundle links → ShowsOnlyOwn rules.tag bundle
+history-own tests rules log bundle links history =
+    All-weaker _ _ (opening-own rules bundle.coin) bundle.openings history.leaves
+
 pub histories_are_of_the_chain : HistoriesAreOfTheChain
 histories_are_of_the_chain tests rules log bundle links rising is =
     let history = histories_are_found tests rules log bundle links rising is in
@@ -87,7 +92,7 @@ histories_are_of_the_chain tests rules log bundle links rising is =
           (All-from_recursion (IsLinkOf rules.tag bundle) (links_in rules bundle.coin bundle.openings)
           (links-own rules bundle bundle.openings
           (recursion_from_All (Contains bundle.openings) bundle.openings (All-contains_itself bundle.openings))));
-      openings_are = All-weaker _ _ (opening-own rules bundle.coin) bundle.openings history.leaves;
+      openings_are = history-own tests rules log bundle links history;
     }
 
 -- ---- what is handed in

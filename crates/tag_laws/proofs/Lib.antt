@@ -6,3 +6,4 @@ pub mod Alike
 pub mod Sent
 pub mod Spent
 pub mod Samples
+pub mod Worlds

@@ -23,11 +23,16 @@ pub record IsLinkOf (tag : List ℕ) (bundle : Bundle) (link : Link) : Type 0 wh
   pub block : link.opening.block ≡ link.block
   pub of_chain : IsOfChain tag bundle.coin (leaf_of_opening link.opening) link.tx
 
--- each link is one, and no opening shows anything but these: its leaf is empty, or a transfer of the chain
+-- a bundle's openings show nothing else: a leaf is empty, or a transfer of the chain
+abbrev pub ShowsOnlyOwn : List ℕ → Bundle → Type 0
+ShowsOnlyOwn tag bundle =
+    All (λ opening. (is_absent opening ≡ true) ⊎ ShowsOwn tag bundle.coin opening) bundle.openings
+
+-- each link is one, and the openings show nothing else
 pub record AreOfChain (tag : List ℕ) (bundle : Bundle) (links : Links) : Type 0 where
   pub coin : links.coin ≡ bundle.coin
   pub links_are : All (IsLinkOf tag bundle) links.spends
-  pub openings_are : All (λ opening. (is_absent opening ≡ true) ⊎ ShowsOwn tag bundle.coin opening) bundle.openings
+  pub openings_are : ShowsOnlyOwn tag bundle
 
 -- so is a history
 abbrev pub HistoriesAreOfTheChain : Type 0

@@ -4,3 +4,4 @@ pub mod Calls
 pub mod Operators
 pub mod Wallets
 pub mod Samples
+pub mod Worlds

@@ -3,6 +3,7 @@ ghost use Rattle.tag_laws.specs.Histories.{HistoriesAreOfTheChain, AcceptedAreOf
 ghost use Rattle.tag_laws.specs.Calls.{AcceptedCallsAreOfTheChain, LogsAreOfTheChain};
 ghost use Rattle.tag_laws.specs.Operators.{OffersAreOfTheChain, OthersAreNotOffered, OfferedAreOfTheChain, WalksAreOfTheChain, HonestBundlesAreOfTheChain, OthersAreNoReceipts, ConvictionsAreOfTheChain, ReceiptsAreOfTheChain, DesksCountLeavesAlone};
 ghost use Rattle.tag_laws.specs.Wallets.{SentAreOfTheChain, NewWalletsAreOwn, WalletsStayOwn, AgainGivesItsLeaf, OwnAgainIsOfTheChain, OtherAgainIsRefused, TagsAreNotAsked, MoreLeavesTakeAway, NamedTipsAreSpent};
+ghost use Rattle.tag_laws.specs.Worlds.{RunsAreOfTheChain, BoundAreOfTheChain};
 ghost use Rattle.tag_laws.specs.Samples.{OthersAreOpened, OthersCount, OthersAreTold};
 
 /// A law: bytes that are read as a transfer name its tag, and a transfer of another tag is refused for its tag. A leaf
@@ -81,6 +82,14 @@ pub fn leaves_of_other_tags_only_take_away()
     ensures alike { TagsAreNotAsked }
     ensures fewer { MoreLeavesTakeAway }
     ensures spent { NamedTipsAreSpent }
+{}
+
+/// A law: in every run of a world each call that joined the log shows transfers of the world's tag, each bundle that
+/// was accepted or is guarded shows nothing else, and what each leaf of a wallet binds has that tag; so what the
+/// promise counts as sent.
+pub fn worlds_have_one_tag()
+    ensures events { RunsAreOfTheChain }
+    ensures bound { BoundAreOfTheChain }
 {}
 
 /// The premises of these laws can be met, as small samples compute. A journal of leaves with one body of another tag
