@@ -7,3 +7,6 @@ pub mod Log
 pub mod Undo
 pub mod Inside
 pub mod Files
+pub mod FileCalls
+pub mod FileNotes
+pub mod FileSteps
