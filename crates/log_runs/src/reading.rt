@@ -1,4 +1,4 @@
-ghost use Rattle.std.specs.Prelude.{◌≡◌, Some, IfOk, IfErr};
+ghost use Rattle.std.specs.Prelude.{◌≡◌, Some, Err, IfOk, IfErr, IsSome};
 ghost use Rattle.plasma_base.specs.HexText.{hex_in};
 ghost use Rattle.root_log.specs.Grammar.{chain_in, call_in};
 ghost use Rattle.log_runs.specs.Kept.{SpellsNone};
@@ -38,10 +38,11 @@ pub fn read_call(alloc: Global, line: &[u8]) -> Result<RootCall, Halt<Bytes>>
     root_log::read_call(alloc, line).map_err(halt_of)
 }
 
-/// The bytes that a line spells as a hex.
+/// The bytes that a line spells as a hex. Memory is taken only where it does.
 pub fn read_hex(alloc: Global, line: &[u8]) -> Result<Bytes, Halt<Bytes>>
     ensures found { IfOk result (λ bytes. hex_in line.now ≡ Some bytes) }
     ensures bad { IfErr result (SpellsNone (hex_in line.now)) }
+    ensures memory { result ≡ Err Halt.NoMemory → IsSome (hex_in line.now) }
 {
     match take_hex(alloc, line) {
         Ok(bytes) => Ok(Bytes::from_vec(bytes)),

@@ -1,8 +1,8 @@
 -- What is held after every list of calls and openings: what is kept of a coin is of its first committed blocks.
-use Rattle.std.proofs.Common.{◌≡◌, ℕ, zero, suc, ◌+◌, ◌-◌, ◌<◌, ◌≤◌, ◌==◌, ◌&&◌, not, Bool, true, false, if◌then◌else◌, List, [], ◌∷◌, ◌++◌, map, reverse, filter, find, Option, Some, None, Result, Ok, Err, inl, inr, refl, sym, ap, ◌∙◌, subst, arith}
+use Rattle.std.proofs.Common.{◌≡◌, ℕ, zero, suc, ◌+◌, ◌-◌, ◌<◌, ◌≤◌, ◌^◌, ◌==◌, ◌&&◌, not, Bool, true, false, if◌then◌else◌, List, [], ◌∷◌, ◌++◌, length, map, reverse, filter, find, Option, Some, None, Result, Ok, Err, inl, inr, refl, sym, ap, ◌∙◌, subst, arith}
 use Rattle.std.specs.Prelude.{nat_lt, nat_le, ◌||◌}
 use Rattle.std.specs.List.{list_any, range_with_len}
-use Rattle.std.proofs.lemmas.Bool.{cases_eq, cases_lt, eq-eqb, ne_eqb, true≢false, false_from_ne_true, and_from, le-leb}
+use Rattle.std.proofs.lemmas.Bool.{cases_eq, cases_lt, eq-eqb, ne_eqb, true≢false, false_from_ne_true, and_from, and_parts, le-leb, ltb-true}
 use Rattle.std.proofs.lemmas.List.{reverse-append, reverse-reverse}
 use Rattle.plasma_tx.specs.declared.opening.RawOpening.{RawOpening}
 use Rattle.plasma_tx.specs.declared.call.RootCall.{RootCall}
@@ -19,7 +19,7 @@ use Rattle.proof_archive.specs.declared.refusal.ArchiveRefusal.{ArchiveRefusal}
 use Rattle.proof_archive.specs.declared.refusal.ArchiveRefusal.TheVariants.{NoCoin, UnknownBlock, HaveBlock}
 use Rattle.proof_archive.specs.declared.coin.LinkEnd.{LinkEnd}
 use Rattle.proof_archive.specs.Scan.{newest_block}
-use Rattle.proof_archive.specs.Archives.{has_block, first_gap, placed_behind, place_at, opened_at, put_at, put_answer, after_put, tip_answer, openings_up_to, bundle_answer}
+use Rattle.proof_archive.specs.Archives.{fits, has_block, first_gap, placed_behind, place_at, opened_at, put_at, put_answer, after_put, tip_answer, openings_up_to, bundle_answer}
 use Rattle.proof_archive.specs.Carried.{Carried, carried_by, AreKept, CoinCell, end_of, IsCell, IsNextPlace}
 use Rattle.proof_archive.specs.Laws.{StaysAHistory, Given, Follow, Put, Holding, held_with, held_after, BundlesAreHistories, TipsHaveBundles}
 use Rattle.proof_archive.proofs.Kept.{kept-deposit, kept-has, kept-lacks, kept-more, kept-grown, kept-nothing}
@@ -73,15 +73,17 @@ module _ (tests : Tests) (log : List RootCall) (coin : ℕ) (made : CoinView) (k
       → IsNextPlace log made.deposit (newest_block made.deposit (reverse kept)) n
   unfolding committed_blocks
   next-placed n m is =
-      let parts = placed-parts (is_committed log n && nat_lt made.deposit n) (has_block kept n)
+      let parts = placed-parts (is_committed log n && nat_lt made.deposit n && fits n) (has_block kept n)
       (first_gap log made.deposit kept n) n m is in
+      let known = and_parts (is_committed log n && nat_lt made.deposit n) (fits n) parts.0 in
       let asked : is_asked log made.deposit n n ≡ true =
-      and_from (is_committed log n && nat_lt made.deposit n) (nat_le n n) parts.0 (le-leb n n (omega arith)) in
+      and_from (is_committed log n && nat_lt made.deposit n) (nat_le n n) known.0 (le-leb n n (omega arith)) in
       let own = asked-parts log made.deposit n n asked in
       let low : made.deposit ≤ newest_block made.deposit (reverse kept) =
       kept-deposit tests log coin made (reverse kept) are in
       record {
         asked = asked;
+        narrow = ltb-true n (2 ^ 32) known.1;
         past = elim (cases_lt (newest_block made.deposit (reverse kept)) n) [
           | inl less ↦ less
           | inr within ↦ absurd (true≢false (sym (kept-has tests log coin made kept are (reverse-reverse kept) n own.0
@@ -97,14 +99,16 @@ module _ (tests : Tests) (log : List RootCall) (coin : ℕ) (made : CoinView) (k
 
   -- what is kept after a put
   kept-put : (o : RawOpening) (n : ℕ)
-      → opened_at (opens_block tests log coin o) (place_at log made.deposit kept o.block) ≡ Ok n
+      → put_at tests log coin kept o (Some made) ≡ Ok n
       → AreKept tests log coin made (reverse (kept ++ o ∷ []))
   kept-put o n is =
-      let parts = opened-parts (opens_block tests log coin o) (place_at log made.deposit kept o.block) n is in
+      let parts = opened-parts (fits (length o.bytes) && opens_block tests log coin o)
+      (place_at log made.deposit kept o.block) n is in
+      let opens = and_parts (fits (length o.bytes)) (opens_block tests log coin o) parts.0 in
       let next = next-placed o.block parts.1.0 parts.1.1 in
       let own = asked-parts log made.deposit o.block o.block next.asked in
       subst (AreKept tests log coin made) (sym (reverse-append kept (o ∷ [])))
-      (kept-more tests log coin made kept are (reverse-reverse kept) o own.0 next.past next.none parts.0)
+      (kept-more tests log coin made kept are (reverse-reverse kept) o own.0 next.past next.none opens.1)
 
 -- ---- every list
 

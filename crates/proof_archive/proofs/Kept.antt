@@ -1,5 +1,5 @@
 -- Openings that are kept, the newest first: their blocks, and one more of them.
-use Rattle.std.proofs.Common.{◌≡◌, ℕ, zero, suc, ◌+◌, ◌-◌, ◌<◌, ◌≤◌, ◌==◌, not, Bool, true, false, if◌then◌else◌, List, [], ◌∷◌, ◌++◌, reverse, filter, find, Option, Some, None, inl, inr, refl, sym, ap, ◌∙◌, subst, arith}
+use Rattle.std.proofs.Common.{◌≡◌, ℕ, zero, suc, ◌+◌, ◌-◌, ◌<◌, ◌≤◌, ◌==◌, not, Bool, true, false, if◌then◌else◌, List, [], ◌∷◌, ◌++◌, length, reverse, filter, find, Option, Some, None, inl, inr, refl, sym, ap, ◌∙◌, subst, arith}
 use Rattle.std.specs.Prelude.{is_some}
 use Rattle.std.specs.List.{AllByRecursion, range_with_len}
 use Rattle.std.specs.Option.{option_or}
@@ -44,6 +44,13 @@ module _ (tests : Tests) (log : List RootCall) (coin : ℕ) (made : CoinView) wh
   unfolding AreKept
   kept-deposit [] kept = omega arith
   kept-deposit (o ∷ older) kept = omega (arith, kept-deposit older kept.3, kept.0)
+
+  -- there are at most as many as the newest one's block says
+  pub kept-count : (rev : List RawOpening) → AreKept tests log coin made rev
+      → length rev ≤ newest_block made.deposit rev
+  unfolding AreKept
+  kept-count [] kept = omega arith
+  kept-count (o ∷ older) kept = omega (arith, kept-count older kept.3, kept.0)
 
   pub kept-below : (rev : List RawOpening) → AreKept tests log coin made rev
       → AllByRecursion (λ x. x.block ≤ newest_block made.deposit rev) (reverse rev)

@@ -1,5 +1,5 @@
 -- What callers see of an archive, by its cells.
-use Rattle.std.proofs.Common.{◌≡◌, ℕ, ◌==◌, Bool, true, false, if◌then◌else◌, List, [], ◌∷◌, ◌++◌, map, Some, None, Result, Ok, Err, inl, inr, sym, ap, ◌∙◌, subst}
+use Rattle.std.proofs.Common.{◌≡◌, ◌≢◌, ℕ, ◌==◌, Bool, true, false, if◌then◌else◌, List, [], ◌∷◌, ◌++◌, map, Some, None, Result, Ok, Err, is_ok, inl, inr, refl, sym, ap, ◌∙◌, subst}
 use Rattle.std.specs.Prelude.{◌||◌}
 use Rattle.std.specs.List.{list_any}
 use Rattle.std.specs.Map.{lookup}
@@ -18,7 +18,7 @@ use Rattle.proof_archive.specs.declared.coin.LinkEnd.{LinkEnd}
 use Rattle.proof_archive.specs.declared.coin.Move.{Move}
 use Rattle.proof_archive.specs.declared.refusal.ArchiveRefusal.{ArchiveRefusal}
 use Rattle.proof_archive.specs.declared.refusal.ArchiveRefusal.TheVariants.{NoCoin, NotTip}
-use Rattle.proof_archive.specs.Archives.{put_at, put_answer, tip_answer, broken_answer, openings_up_to, bundle_answer}
+use Rattle.proof_archive.specs.Archives.{place_in, put_at, put_answer, tip_answer, broken_answer, openings_up_to, bundle_answer}
 use Rattle.proof_archive.specs.Carried.{CoinCell, tip_in, with_opening, IsCell, cell_in, openings_of, IsWhole}
 use Rattle.proof_archive.specs.Laws.{StaysAHistory}
 use Rattle.proof_archive.proofs.CellLaws.{opened-with, cell-made, kept-cell}
@@ -65,7 +65,24 @@ put-seen dig chain cells coin o answer is =
     sym is ∙ ap (λ (os : List RawOpening). put_at (tests_by dig) chain.log coin os o (coin_at chain.log coin))
     (sym (kept-cell cells coin))
 
+-- and so is its place
+pub placed-seen : (chain : Chain) (cells : BTreeMap ℕ CoinCell) (coin n : ℕ) (answer : Result ℕ ArchiveRefusal)
+    → place_in chain.log (cell_in cells coin).openings n (coin_at chain.log coin) ≡ answer
+    → place_in chain.log (seen cells coin) n (coin_at chain.log coin) ≡ answer
+placed-seen chain cells coin n answer is =
+    ap (λ (os : List RawOpening). place_in chain.log os n (coin_at chain.log coin)) (kept-cell cells coin) ∙ is
+
+pub refusal-same : (one other : ArchiveRefusal) → ◌≡◌ {A = Result ℕ ArchiveRefusal} (Err one) (Err other)
+    → one ≡ other
+refusal-same one other same = cc same
+
 -- ---- answers
+
+-- openings up to a tip that a cell has are seen
+pub some-seen : (cells : BTreeMap ℕ CoinCell) (coin tip : ℕ)
+    → openings_up_to tip (cell_in cells coin).openings ≢ [] → openings_up_to tip (seen cells coin) ≢ []
+some-seen cells coin tip some =
+    subst (λ (os : List RawOpening). openings_up_to tip os ≢ []) (sym (kept-cell cells coin)) some
 
 module _ (dig : List ℕ → List ℕ) (chain : Chain) (defaults : List (List ℕ)) (cells : BTreeMap ℕ CoinCell)
     (whole : IsWhole dig chain defaults cells) (coin : ℕ) where
@@ -122,3 +139,8 @@ module _ (dig : List ℕ → List ℕ) (chain : Chain) (defaults : List (List �
         pub rises-seen : AreRising openings
         rises-seen = subst AreRising (sym are)
             (bundle-rises dig chain coin made (cell_in cells coin) some is_cell tip (sym tested ∙ met))
+
+      pub bundle-made : b ≡ true → is_ok (bundle_answer dig chain (seen cells coin) coin tip) ≡ true
+      bundle-made met =
+          ap (λ (r : Result Bundle ArchiveRefusal). is_ok r)
+          (sym (bundle-seen met (openings_up_to tip (cell_in cells coin).openings) refl))

@@ -1,6 +1,6 @@
 -- An archive: a chain's log, and the openings that were kept of its coins. Each answer on a coin is a function of the
 -- log and of the coin's openings alone.
-use Rattle.std.specs.Prelude.{ℕ, ◌-◌, ◌==◌, ◌&&◌, ◌||◌, not, Bool, nat_lt, nat_le, if◌then◌else◌, List, [], ◌∷◌, ◌++◌, filter, find, is_some, Option, Some, None, Result, Ok, Err}
+use Rattle.std.specs.Prelude.{ℕ, ◌-◌, ◌^◌, ◌==◌, ◌&&◌, ◌||◌, not, Bool, nat_lt, nat_le, if◌then◌else◌, List, [], ◌∷◌, ◌++◌, length, filter, find, is_some, Option, Some, None, Result, Ok, Err}
 use Rattle.std.specs.List.{list_any}
 use Rattle.std.specs.Map.{lookup}
 use Rattle.std.specs.Option.{option_and_then, option_map_or, unwrap_or}
@@ -33,6 +33,10 @@ kept_in state coin = unwrap_or (lookup (is_at (nat_cmp coin)) state.kept) []
 
 -- ---- put
 
+-- a log has fewer blocks, and a bundle fewer openings of fewer bytes: each of these numbers has four bytes
+abbrev pub fits : ℕ → Bool
+fits number = nat_lt number (2 ^ 32)
+
 -- an opening of the block is among these
 abbrev pub has_block : List RawOpening → ℕ → Bool
 has_block kept n = is_some (opening_at kept n)
@@ -46,11 +50,11 @@ abbrev pub placed_behind : Option ℕ → ℕ → Result ℕ ArchiveRefusal
 placed_behind None n = Ok n
 placed_behind (Some gap) n = Err (Gap gap)
 
--- whether block n is the next one of a coin of which these are kept: a committed one after the deposit, which isn't
--- kept, without a gap before it
+-- whether block n is the next one of a coin of which these are kept: a committed one after the deposit, within the
+-- limit of a log's blocks, which isn't kept, without a gap before it
 abbrev pub place_at : List RootCall → ℕ → List RawOpening → ℕ → Result ℕ ArchiveRefusal
 place_at log deposit kept n =
-    if not (is_committed log n && nat_lt deposit n) then Err (UnknownBlock n)
+    if not (is_committed log n && nat_lt deposit n && fits n) then Err (UnknownBlock n)
     else if has_block kept n then Err (HaveBlock n)
     else placed_behind (first_gap log deposit kept n) n
 
@@ -59,16 +63,25 @@ abbrev pub opened_at : Bool → Result ℕ ArchiveRefusal → Result ℕ Archive
 opened_at opens (Err why) = Err why
 opened_at opens (Ok n) = if opens then Ok n else Err (BadOpening n)
 
--- the answer to an opening of a coin of which these are kept
+-- the answer to an opening of a coin of which these are kept; its bytes have to fit a bundle too
 abbrev pub put_at : Tests → List RootCall → ℕ → List RawOpening → RawOpening → Option CoinView → Result ℕ ArchiveRefusal
 put_at tests log coin kept opening None = Err NoCoin
 put_at tests log coin kept opening (Some made) =
-    opened_at (opens_block tests log coin opening) (place_at log made.deposit kept opening.block)
+    opened_at (fits (length opening.bytes) && opens_block tests log coin opening)
+    (place_at log made.deposit kept opening.block)
 
 -- the answer to an opening that is put
 unfoldable pub put_answer : (List ℕ → List ℕ) → Chain → List RawOpening → ℕ → RawOpening → Result ℕ ArchiveRefusal
 put_answer dig chain kept coin opening =
     put_at (tests_by dig) chain.log coin kept opening (coin_at chain.log coin)
+
+-- the answer to an opening of block n, before it is looked at
+abbrev pub place_in : List RootCall → List RawOpening → ℕ → Option CoinView → Result ℕ ArchiveRefusal
+place_in log kept n None = Err NoCoin
+place_in log kept n (Some made) = place_at log made.deposit kept n
+
+abbrev pub place_answer : Chain → List RawOpening → ℕ → ℕ → Result ℕ ArchiveRefusal
+place_answer chain kept coin n = place_in chain.log kept n (coin_at chain.log coin)
 
 -- what is kept of the coin after a put that was answered so: a refused one changes nothing
 abbrev pub after_put : List RawOpening → RawOpening → Result ℕ ArchiveRefusal → List RawOpening

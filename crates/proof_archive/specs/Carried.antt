@@ -1,5 +1,5 @@
 -- Inside: what an archive carries forward of a coin, so that it looks at no kept opening again.
-use Rattle.std.specs.Prelude.{◌≡◌, ℕ, ◌-◌, ◌<◌, ◌^◌, ◌&&◌, ◌||◌, true, if◌then◌else◌, List, [], ◌∷◌, ◌++◌, length, map, reverse, slice_get, Option, Some, None, is_some}
+use Rattle.std.specs.Prelude.{◌≡◌, ℕ, ◌+◌, ◌-◌, ◌<◌, ◌^◌, ◌&&◌, ◌||◌, true, if◌then◌else◌, List, [], ◌∷◌, ◌++◌, length, map, reverse, slice_get, Option, Some, None, is_some}
 use Rattle.std.specs.List.{All}
 use Rattle.std.specs.Option.{option_map_or, unwrap_or}
 use Rattle.std.specs.Ordering.{nat_cmp}
@@ -65,9 +65,11 @@ AreKept tests log coin made (opening ∷ older) =
     × (blocks_of (reverse (opening ∷ older)) ≡ committed_blocks log made.deposit opening.block)
     × (opens_block tests log coin opening ≡ true) × AreKept tests log coin made older
 
--- block n is the next one to be kept behind the newest: a committed one after the deposit, with none between
+-- block n is the next one to be kept behind the newest: a committed one after the deposit, within the limit of a log's
+-- blocks, with none between
 pub record IsNextPlace (log : List RootCall) (deposit newest n : ℕ) : Type 0 where
   pub asked : is_asked log deposit n n ≡ true
+  pub narrow : n < 2 ^ 32
   pub past : newest < n
   pub none : NoneIsAsked (is_asked log newest n) 0 n
 
@@ -131,6 +133,11 @@ with_opening cell opening change = record {
 pub record AreSpellable (openings : List RawOpening) : Type 0 where
   pub count : length openings < 2 ^ 32
   pub lengths : All (λ opening. length opening.bytes < 2 ^ 32) openings
+
+-- a bundle has bytes for one more opening
+pub record HasRoom (cell : CoinCell) (opening : RawOpening) : Type 0 where
+  pub count : length cell.openings + 1 < 2 ^ 32
+  pub bytes : length opening.bytes < 2 ^ 32
 
 -- the cell has what is carried of its openings
 pub record IsCell (tests : Tests) (rules : Rules) (log : List RootCall) (coin : ℕ) (made : CoinView)

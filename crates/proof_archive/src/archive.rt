@@ -1,8 +1,8 @@
-ghost use Rattle.std.specs.Prelude.{◌≡◌, ◌≢◌, ◌<◌, ◌^◌, ◌==◌, ◌∷◌, [], ℕ, length, Err, OnOk, OnErr, IfOk, if◌then◌else◌};
+ghost use Rattle.std.specs.Prelude.{◌≡◌, ◌≢◌, ◌<◌, ◌^◌, ◌==◌, ◌∷◌, [], ℕ, length, Ok, Err, OnOk, OnErr, IfOk, IsOk, if◌then◌else◌};
 ghost use Rattle.std.specs.List.{All};
 ghost use Rattle.plasma_tx.specs.Chain.{with_log};
 ghost use Rattle.coin_history.specs.Bundles.{AreRising};
-ghost use Rattle.proof_archive.specs.Archives.{kept_in, put_answer, after_put, tip_answer, broken_answer, bundle_answer};
+ghost use Rattle.proof_archive.specs.Archives.{kept_in, openings_up_to, place_answer, put_answer, after_put, tip_answer, broken_answer, bundle_answer};
 ghost use Rattle.proof_archive.specs.Laws.{StaysAHistory};
 
 use super::cells::{broken_in, is_tip_in, judged_in, keep_in, openings_in, tip_in};
@@ -81,15 +81,19 @@ impl<H: Hash32> Archive<H> {
     }
 
     /// Keeps an opening of the coin, and gives its block. In this order: `NoCoin` where the log has no such
-    /// coin; `UnknownBlock` where the block isn't a committed one after the deposit; `HaveBlock` where it is
-    /// kept; `Gap` with the lowest committed block after the deposit and before this one that isn't kept;
-    /// `BadOpening` where the opening doesn't read or doesn't open the block's root at the coin. A refusal
-    /// changes nothing. `NoMemory` comes last, and also of an opening that no bundle could have: of 2^32 bytes
-    /// or more, or the coin's 2^32nd. It makes the digests of one opening, at most 65, and tests at most one
+    /// coin; `UnknownBlock` where the block isn't a committed one after the deposit, or is past the limit of a
+    /// log's blocks, the 2^32nd or a later one; `HaveBlock` where it is kept; `Gap` with the lowest committed
+    /// block after the deposit and before this one that isn't kept; `BadOpening` where the opening has 2^32
+    /// bytes or more, which no bundle has, doesn't read, or doesn't open the block's root at the coin. A refusal
+    /// changes nothing. `NoMemory` comes only of an opening that is looked at: its block is the next one of the
+    /// coin, and it is short enough. It makes the digests of one opening, at most 65, and tests at most one
     /// signature, whatever is kept.
     pub fn put(&mut self, coin: u64, opening: RawOpening) -> Result<u64, ArchiveRefusal>
         ensures answer { result ≢ Err ArchiveRefusal.NoMemory
             → result ≡ put_answer (H.digest_of self.old.hash) self.old.chain (kept_in self.old coin) coin opening }
+        ensures memory { result ≡ Err ArchiveRefusal.NoMemory
+            → place_answer self.old.chain (kept_in self.old coin) coin opening.block ≡ Ok opening.block }
+        ensures short { result ≡ Err ArchiveRefusal.NoMemory → length opening.bytes < 2 ^ 32 }
         ensures kept { (c : ℕ) → kept_in self.new c
             ≡ (if c == coin then after_put (kept_in self.old coin) opening result else kept_in self.old c) }
         ensures chain { self.new.chain ≡ self.old.chain }
@@ -130,10 +134,14 @@ impl<H: Hash32> Archive<H> {
 
     /// The bundle of the coin's kept openings up to a tip, which has bytes, and is a history by the log and
     /// by each that extends it. `NoCoin` where the log has no such coin; `NotTip` where the tip is neither
-    /// the deposit block nor the block of a link.
+    /// the deposit block nor the block of a link. `NoMemory` comes only where there is a bundle to make, with an
+    /// opening.
     pub fn bundle(&self, coin: u64, tip: u64) -> Result<Bundle, ArchiveRefusal>
         ensures value { result ≢ Err ArchiveRefusal.NoMemory
             → result ≡ bundle_answer (H.digest_of self.now.hash) self.now.chain (kept_in self.now coin) coin tip }
+        ensures memory { result ≡ Err ArchiveRefusal.NoMemory
+            → IsOk (bundle_answer (H.digest_of self.now.hash) self.now.chain (kept_in self.now coin) coin tip) }
+        ensures some { result ≡ Err ArchiveRefusal.NoMemory → openings_up_to tip (kept_in self.now coin) ≢ [] }
         ensures history { IfOk result (StaysAHistory (H.digest_of self.now.hash) self.now.chain
             (kept_in self.now coin) coin tip) }
         ensures rising { IfOk result (λ bundle. AreRising bundle.openings) }

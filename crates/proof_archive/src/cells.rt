@@ -1,11 +1,11 @@
-ghost use Rattle.std.specs.Prelude.{◌≡◌, ◌≢◌, ◌==◌, ◌||◌, ℕ, Ok, Err, OnOk, OnErr, IfOk, IfErr, IsSome, if◌then◌else◌};
+ghost use Rattle.std.specs.Prelude.{◌≡◌, ◌≢◌, ◌==◌, ◌||◌, ◌<◌, ◌^◌, [], ℕ, length, Ok, Err, OnOk, OnErr, IfOk, IfErr, IsSome, if◌then◌else◌};
 ghost use Rattle.std.specs.List.{list_any};
 ghost use Rattle.std.specs.Ordering.{nat_cmp};
 ghost use Rattle.std.specs.BTreeMap.{get};
 ghost use Rattle.plasma_tx.specs.Shown.{tests_by, rules_of};
 ghost use Rattle.plasma_tx.specs.Views.{coin_at};
-ghost use Rattle.proof_archive.specs.Archives.{openings_up_to, put_at};
-ghost use Rattle.proof_archive.specs.Carried.{cell_in, tip_in, with_opening, AreSpellable, IsCellOf, IsWhole};
+ghost use Rattle.proof_archive.specs.Archives.{openings_up_to, place_in, put_at};
+ghost use Rattle.proof_archive.specs.Carried.{cell_in, tip_in, with_opening, AreSpellable, HasRoom, IsCellOf, IsWhole};
 
 use super::coin::{CoinArchive, Move};
 use super::putting::judged;
@@ -31,8 +31,12 @@ pub fn judged_in<H: Hash32>(
         (cell_in cells.now coin).openings opening.now (coin_at log.now.log coin) ≡ Ok opening.now.block)
         × IsCellOf (tests_by (H.digest_of h.now)) (rules_of log.now) log.now.log coin
         (with_opening (cell_in cells.now coin) opening.now change) (coin_at log.now.log coin)) }
+    ensures room { OnOk result (HasRoom (cell_in cells.now coin) opening.now) }
     ensures err { IfErr result (λ why. why ≢ ArchiveRefusal.NoMemory → put_at (tests_by (H.digest_of h.now)) log.now.log
         coin (cell_in cells.now coin).openings opening.now (coin_at log.now.log coin) ≡ Err why) }
+    ensures memory { result ≡ Err ArchiveRefusal.NoMemory → place_in log.now.log (cell_in cells.now coin).openings
+        opening.now.block (coin_at log.now.log coin) ≡ Ok opening.now.block }
+    ensures short { result ≡ Err ArchiveRefusal.NoMemory → length opening.now.bytes < 2 ^ 32 }
 {
     match cells.get(&coin) {
         Some(cell) => judged(alloc, h, defaults, log, cell, coin, opening),
@@ -48,7 +52,8 @@ pub fn judged_in<H: Hash32>(
     }
 }
 
-/// Keeps one more opening of the coin, which moves its links so. `NoMemory` changes nothing that is kept.
+/// Keeps one more opening of the coin, which moves its links so; a bundle has to have bytes for it. `NoMemory`
+/// changes nothing that is kept.
 pub fn keep_in(
     alloc: Global,
     cells: &mut BTreeMap<u64, CoinArchive>,
@@ -56,6 +61,7 @@ pub fn keep_in(
     opening: RawOpening,
     change: Move,
 ) -> Result<(), NoMemory>
+    requires { HasRoom (cell_in cells.old coin) opening }
     ensures ok { OnOk result ((c : ℕ) → cell_in cells.new c
         ≡ (if c == coin then with_opening (cell_in cells.old coin) opening change else cell_in cells.old c)) }
     ensures err { OnErr result ((c : ℕ) → cell_in cells.new c ≡ cell_in cells.old c) }
@@ -119,6 +125,7 @@ pub fn openings_in(
     ensures openings { IfOk result
         (λ openings. openings ≡ openings_up_to tip (cell_in cells.now coin).openings) }
     ensures spellable { IfOk result (λ openings. AreSpellable openings) }
+    ensures some { OnErr result (openings_up_to tip (cell_in cells.now coin).openings ≢ []) }
 {
     match cells.get(&coin) {
         Some(cell) => cell.up_to(alloc, tip),

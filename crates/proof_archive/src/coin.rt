@@ -1,8 +1,8 @@
-ghost use Rattle.std.specs.Prelude.{◌≡◌, ◌==◌, ◌||◌, ◌+◌, ◌<◌, ◌^◌, true, reverse, length, is_some, vec_len, vec_capacity, OnOk, OnErr, IfOk};
+ghost use Rattle.std.specs.Prelude.{◌≡◌, ◌≢◌, [], ◌==◌, ◌||◌, ◌+◌, ◌<◌, ◌^◌, true, reverse, length, is_some, vec_len, vec_capacity, OnOk, OnErr, IfOk};
 ghost use Rattle.std.specs.List.{list_any};
 ghost use Rattle.proof_archive.specs.Scan.{newest_block};
 ghost use Rattle.proof_archive.specs.Archives.{openings_up_to};
-ghost use Rattle.proof_archive.specs.Carried.{no_cell, tip_in, owner_in, ends_with, broken_with, with_opening, AreSpellable};
+ghost use Rattle.proof_archive.specs.Carried.{no_cell, tip_in, owner_in, ends_with, broken_with, with_opening, AreSpellable, HasRoom};
 
 use coin_history::Openings;
 use plasma_base::NoMemory;
@@ -110,24 +110,22 @@ impl CoinArchive {
         deposit == tip || leads_to(self.ends.as_slice(), tip)
     }
 
-    /// The openings up to a block, as copies.
+    /// The openings up to a block, as copies. Memory is taken only where there is one.
     pub fn up_to(&self, alloc: Global, tip: u64) -> Result<Openings, NoMemory>
         ensures openings { IfOk result (λ openings. openings ≡ openings_up_to tip self.now.openings) }
         ensures spellable { IfOk result (λ openings. AreSpellable openings) }
+        ensures some { OnErr result (openings_up_to tip self.now.openings ≢ []) }
     {
         copies_up_to(alloc, self.openings.as_slice(), tip)
     }
 
-    /// Keeps one more opening, which moves the links so. It takes its memory first: `NoMemory` changes
-    /// nothing, and comes also where a bundle of the openings would have no bytes, since it holds fewer than
-    /// 2^32 openings of fewer than 2^32 bytes each.
+    /// Keeps one more opening, which moves the links so; a bundle has to have bytes for it. It takes its memory
+    /// first: `NoMemory` changes nothing.
     pub fn keep(&mut self, opening: RawOpening, change: Move) -> Result<(), NoMemory>
+        requires { HasRoom self.old opening }
         ensures ok { OnOk result (self.new ≡ with_opening self.old opening change) }
         ensures err { OnErr result (self.new ≡ self.old) }
     {
-        if !has_room(self.openings.as_slice(), &opening) {
-            return Err(NoMemory);
-        }
         self.openings.reserve(1)?;
         self.ends.reserve(1)?;
         self.broken = moved(&mut self.ends, self.broken, opening.block, change);
@@ -159,16 +157,10 @@ fn moved(ends: &mut Vec<LinkEnd>, broken: Option<u64>, block: u64, change: Move)
     }
 }
 
-// Whether one more opening, and each one's length, can be counted in 32 bits.
-fn has_room(openings: &[RawOpening], opening: &RawOpening) -> bool
-    ensures { result ≡ true → (length openings.now + 1 < 2 ^ 32) × (length opening.now.bytes < 2 ^ 32) }
-{
-    openings.len() < u32::MAX as usize && opening.bytes.len() <= u32::MAX as usize
-}
-
 // The openings up to a block, as copies.
 fn copies_up_to(alloc: Global, openings: &[RawOpening], tip: u64) -> Result<Openings, NoMemory>
-    ensures { IfOk result (λ copied. copied ≡ openings_up_to tip openings.now) }
+    ensures copied { IfOk result (λ copied. copied ≡ openings_up_to tip openings.now) }
+    ensures some { OnErr result (openings_up_to tip openings.now ≢ []) }
 {
     let mut copied = Vec::new(alloc);
     for opening in openings {

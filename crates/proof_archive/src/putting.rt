@@ -1,12 +1,12 @@
-ghost use Rattle.std.specs.Prelude.{◌≡◌, ◌≢◌, ℕ, List, true, false, Ok, Err, reverse, IfOk, IfErr, OnOk};
+ghost use Rattle.std.specs.Prelude.{◌≡◌, ◌≢◌, ◌<◌, ◌^◌, ℕ, List, true, false, length, Ok, Err, reverse, IfOk, IfErr, OnOk};
 ghost use Rattle.sparse_merkle.specs.TreeDigest.{AreDefaults};
 ghost use Rattle.plasma_tx.specs.Shown.{Tests, tests_by, rules_of};
 ghost use Rattle.plasma_tx.specs.Views.{coin_at};
 ghost use Rattle.coin_history.specs.History.{leaf_of_opening, opens_block};
 ghost use Rattle.coin_history.specs.Checking.{is_asked};
 ghost use Rattle.proof_archive.specs.Scan.{newest_block};
-ghost use Rattle.proof_archive.specs.Archives.{place_at, put_at};
-ghost use Rattle.proof_archive.specs.Carried.{AreKept, IsNextPlace, IsCellOf, move_of, with_opening};
+ghost use Rattle.proof_archive.specs.Archives.{fits, place_at, place_in, put_at};
+ghost use Rattle.proof_archive.specs.Carried.{AreKept, HasRoom, IsNextPlace, IsCellOf, move_of, with_opening};
 
 use super::coin::{CoinArchive, LinkEnd, Move};
 use super::refusal::ArchiveRefusal;
@@ -16,9 +16,9 @@ use plasma_tx::{CoinView, RawOpening, RootLog, leaf_tx};
 use std::alloc::Global;
 
 /// What an opening does to the links of its coin once it is kept, or what it is refused for: `NoCoin`
-/// where the log has no such coin, `UnknownBlock` where its block isn't a committed one after the deposit,
-/// `HaveBlock` where that is kept, `Gap` with the lowest committed block between that isn't, `BadOpening`
-/// where it doesn't open the block's root. It makes the digests of one opening, and tests at most one
+/// where the log has no such coin, `UnknownBlock` where its block isn't a committed one after the deposit, or
+/// is the 2^32nd or a later one, `HaveBlock` where that is kept, `Gap` with the lowest committed block between
+/// that isn't, `BadOpening` where it doesn't open the block's root, or has 2^32 bytes or more. It makes the digests of one opening, and tests at most one
 /// signature, whatever is kept.
 pub fn judged<H: Hash32>(
     alloc: Global,
@@ -37,17 +37,31 @@ pub fn judged<H: Hash32>(
         ≡ Ok opening.now.block)
         × IsCellOf (tests_by (H.digest_of h.now)) (rules_of log.now) log.now.log coin
         (with_opening cell.now opening.now change) (coin_at log.now.log coin)) }
+    ensures room { OnOk result (HasRoom cell.now opening.now) }
     ensures err { IfErr result (λ why. why ≢ ArchiveRefusal.NoMemory
         → put_at (tests_by (H.digest_of h.now)) log.now.log coin cell.now.openings opening.now
         (coin_at log.now.log coin)
         ≡ Err why) }
+    ensures memory { result ≡ Err ArchiveRefusal.NoMemory
+        → place_in log.now.log cell.now.openings opening.now.block (coin_at log.now.log coin) ≡ Ok opening.now.block }
+    ensures short { result ≡ Err ArchiveRefusal.NoMemory → length opening.now.bytes < 2 ^ 32 }
 {
     let Some(made) = log.coin(coin) else {
         return Err(ArchiveRefusal::NoCoin);
     };
     place_of(log, &made, cell, coin, opening.block)?;
+    if !fits(opening.bytes.len() as u64) {
+        return Err(ArchiveRefusal::BadOpening { n: opening.block });
+    }
     let leaf = opened_leaf(alloc, h, defaults, log, &made, coin, opening)?;
     Ok(move_of(alloc, log, &made, cell, coin, opening, leaf.as_slice())?)
+}
+
+// Whether a number has four bytes.
+fn fits(number: u64) -> bool
+    ensures { result ≡ fits number }
+{
+    number <= u32::MAX as u64
 }
 
 // Whether an opening of block n is the next one of those that are kept. It looks at no block before these.
@@ -69,6 +83,9 @@ fn place_of(
         high: n,
     };
     if !is_asked(log, span, n) {
+        return Err(ArchiveRefusal::UnknownBlock { n });
+    }
+    if !fits(n) {
         return Err(ArchiveRefusal::UnknownBlock { n });
     }
     if n <= newest {

@@ -3,7 +3,8 @@ pub mod CheckBreaches
 pub mod Breaches
 pub mod Convictions
 pub mod AuditTests
-pub mod Audits
+pub mod Items
 pub mod Refusals
+pub mod Audits
 pub mod Issues
 pub mod Given

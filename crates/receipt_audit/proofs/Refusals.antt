@@ -62,7 +62,7 @@ unless-fine : (failure : Option HistoryRefusal) → IsFine failure → (why : Hi
 unless-fine None fine why is = absurd (cc is)
 unless-fine (Some other) fine why is = (let e : other ≡ why = cc is in fine why (ap Some e))
 
-breach-refusals : (tests : Tests) (dig : List ℕ → List ℕ) (log : List RootCall) (promise : Promise) (bundle : Bundle)
+pub breach-refusals : (tests : Tests) (dig : List ℕ → List ℕ) (log : List RootCall) (promise : Promise) (bundle : Bundle)
     (why : HistoryRefusal) → breach_of tests dig log promise bundle ≡ Err why → is_of_absence why ≡ true
 unfolding breach_of
 breach-refusals tests dig log promise bundle why is =

@@ -17,7 +17,7 @@ use Rattle.plasma_tx.specs.Views.{blocks}
 use Rattle.plasma_tx.specs.Shown.{Tests, tests_by, root_at}
 use Rattle.coin_history.specs.declared.bundle.Bundle.{Bundle}
 use Rattle.coin_history.specs.declared.refusal.HistoryRefusal.{HistoryRefusal}
-use Rattle.coin_history.specs.declared.refusal.HistoryRefusal.TheVariants.{BadBundle as BadBytes, UnknownBlock as Unknown, MissingBlock as Missing, BadOpening as Unopened, NotAbsent}
+use Rattle.coin_history.specs.declared.refusal.HistoryRefusal.TheVariants.{BadBundle as BadBytes, UnknownBlock as Unknown, MissingBlock as Missing, BadOpening as Unopened, NotAbsent, NoCoin, NotLink, BadSignature}
 use Rattle.coin_history.specs.Bundles.{bundle_in}
 use Rattle.coin_history.specs.History.{blocks_of, committed_blocks, is_absent, leaf_of_opening, opens_block}
 use Rattle.coin_history.specs.Checking.{above, first_cause, is_asked, lowest_failure, missing, opening_at, opening_causes, unless_failed}
@@ -61,7 +61,14 @@ breach_of tests dig log promise bundle =
     tt
     else Err (Unknown bundle.tip)
 
--- the same as an auditor's refusal; a bundle that is read or shows a breach is refused for none of the others
+-- a bundle that is read or shows a breach is refused for none of these three
+abbrev pub is_of_audit : HistoryRefusal → Bool
+is_of_audit NoCoin = false
+is_of_audit (NotLink n) = false
+is_of_audit (BadSignature n) = false
+is_of_audit why = true
+
+-- the others as an auditor's refusal
 abbrev pub audit_refusal : HistoryRefusal → AuditRefusal
 audit_refusal (BadBytes place) = BadBundle place
 audit_refusal (Unknown n) = UnknownBlock n
@@ -102,6 +109,15 @@ audited dig log key receipt bundle (Some promise) =
 unfoldable pub conviction_answer : (List ℕ → List ℕ) → Chain → List ℕ → List ℕ → List ℕ → Result Conviction AuditRefusal
 conviction_answer dig chain key receipt bundle =
     audited dig chain.log key receipt bundle (promise_in chain.tag receipt)
+
+-- A receipt is due: it begins with a promise of the chain, which the owner of the key signed, and the due block is
+-- there.
+pub record IsDue (chain : Chain) (key receipt : List ℕ) : Type 0 where
+  pub promise : Promise
+  pub is_promise : promise_in chain.tag receipt ≡ Some promise
+  pub supported : is_supported (types_of key) ≡ true
+  pub signed : IsValid key (promised_part receipt) (signature_part receipt)
+  pub there : promise.due ≤ blocks chain.log
 
 -- ---- what it means
 

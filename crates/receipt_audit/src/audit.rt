@@ -1,10 +1,10 @@
-ghost use Rattle.std.specs.Prelude.{◌≡◌, ◌≢◌, ◌≤◌, Err, OnOk};
+ghost use Rattle.std.specs.Prelude.{◌≡◌, ◌≢◌, ◌≤◌, [], true, Err, OnOk};
 ghost use Rattle.plasma_tx.specs.Views.{blocks};
 ghost use Rattle.plasma_tx.specs.Shown.{tests_by};
-ghost use Rattle.coin_history.specs.Bundles.{AreRising, bundle_in};
+ghost use Rattle.coin_history.specs.Bundles.{AreRising, HasFirstItem, bundle_in};
 ghost use Rattle.coin_history.specs.Checking.{above, lowest_failure, opening_at, unless_failed};
 ghost use Rattle.coin_history.specs.History.{leaf_of_opening};
-ghost use Rattle.receipt_audit.specs.Audit.{audit_refusal, breach_of, conviction_answer, conviction_of, failure_of_breach, is_kept, IsBroken, shown_by};
+ghost use Rattle.receipt_audit.specs.Audit.{audit_refusal, breach_of, conviction_answer, conviction_of, failure_of_breach, is_kept, is_of_audit, IsBroken, IsDue, shown_by};
 
 use super::promise::{PROMISE_LENGTH, Promise, promise_in};
 use super::refusal::AuditRefusal;
@@ -37,7 +37,7 @@ pub struct Conviction {
 /// is wrong is refused: `MissingBlock` where it has to be opened and isn't, `UnknownBlock` where it is
 /// opened and doesn't have to be, `BadOpening` where the opening doesn't read or doesn't open the root,
 /// `Honoured` where its leaf isn't empty and has the promise's digest. `NoMemory` may come in place of any
-/// from `BadBundle` on.
+/// from `BadBundle` on, where the bundle's bytes have an item, and of none before.
 pub fn convict<H: Hash32>(
     alloc: Global,
     h: &H,
@@ -48,6 +48,8 @@ pub fn convict<H: Hash32>(
 ) -> Result<Conviction, AuditRefusal>
     ensures value { result ≢ Err AuditRefusal.NoMemory
         → result ≡ conviction_answer (H.digest_of h.now) log.now key.now receipt.now bundle.now }
+    ensures memory { result ≡ Err AuditRefusal.NoMemory → IsDue log.now key.now receipt.now }
+    ensures item { result ≡ Err AuditRefusal.NoMemory → HasFirstItem bundle.now }
     ensures broken { OnOk result (IsBroken (H.digest_of h.now) log.now key.now receipt.now bundle.now) }
 {
     audited(alloc, h, log, key, receipt, bundle)
@@ -63,8 +65,10 @@ fn audited<H: Hash32>(
     receipt: &[u8],
     bundle: &[u8],
 ) -> Result<Conviction, AuditRefusal>
-    ensures { result ≢ Err AuditRefusal.NoMemory
+    ensures value { result ≢ Err AuditRefusal.NoMemory
         → result ≡ conviction_answer (H.digest_of h.now) log.now key.now receipt.now bundle.now }
+    ensures memory { result ≡ Err AuditRefusal.NoMemory → IsDue log.now key.now receipt.now }
+    ensures item { result ≡ Err AuditRefusal.NoMemory → HasFirstItem bundle.now }
 {
     let Some(promise) = promise_in(&log.tag(), receipt) else {
         return Err(AuditRefusal::BadReceipt);
@@ -90,8 +94,9 @@ fn shown_by<H: Hash32>(
     bytes: &[u8],
 ) -> Result<Conviction, AuditRefusal>
     requires { promise.now.due ≤ blocks log.now.log }
-    ensures { result ≢ Err AuditRefusal.NoMemory
+    ensures value { result ≢ Err AuditRefusal.NoMemory
         → result ≡ shown_by (H.digest_of h.now) log.now.log promise.now (bundle_in bytes.now) }
+    ensures item { result ≡ Err AuditRefusal.NoMemory → HasFirstItem bytes.now }
 {
     let bundle = match Bundle::read(alloc, bytes) {
         Ok(bundle) => bundle,
@@ -127,8 +132,9 @@ fn breach_of<H: Hash32>(
 ) -> Result<(), HistoryRefusal>
     requires rising { AreRising bundle.now.openings }
     requires made { promise.now.due ≤ blocks log.now.log }
-    ensures { result ≢ Err HistoryRefusal.NoMemory → result
+    ensures value { result ≢ Err HistoryRefusal.NoMemory → result
         ≡ breach_of (tests_by (H.digest_of h.now)) (H.digest_of h.now) log.now.log promise.now bundle.now }
+    ensures some { result ≡ Err HistoryRefusal.NoMemory → bundle.now.openings ≢ [] }
 {
     if bundle.tip != promise.due {
         return Err(HistoryRefusal::UnknownBlock { n: bundle.tip });
@@ -146,11 +152,12 @@ fn are_unkept<H: Hash32>(
 ) -> Result<(), HistoryRefusal>
     requires rising { AreRising bundle.now.openings }
     requires made { promise.now.due ≤ blocks log.now.log }
-    ensures { result ≢ Err HistoryRefusal.NoMemory → result ≡ unless_failed
+    ensures value { result ≢ Err HistoryRefusal.NoMemory → result ≡ unless_failed
         (lowest_failure (λ n. failure_of_breach (tests_by (H.digest_of h.now)) (H.digest_of h.now) log.now.log
         promise.now n (opening_at bundle.now.openings n))
         (above promise.now.due bundle.now.openings))
         tt }
+    ensures some { result ≡ Err HistoryRefusal.NoMemory → bundle.now.openings ≢ [] }
 {
     let defaults = defaults(h);
     let span = Span {
@@ -183,8 +190,9 @@ fn is_kept<H: Hash32>(h: &H, promise: &Promise, opening: &RawOpening, leaf: &[u8
     !leaf.is_empty() && h.digest(leaf) == promise.digest
 }
 
-// The same refusal, as an auditor's.
+// The same refusal, as an auditor's. A bundle that is read or shows a breach is refused for none of the last three.
 fn audit_refusal(why: HistoryRefusal) -> AuditRefusal
+    requires { is_of_audit why ≡ true }
     ensures { result ≡ audit_refusal why }
 {
     match why {
@@ -193,9 +201,9 @@ fn audit_refusal(why: HistoryRefusal) -> AuditRefusal
         HistoryRefusal::MissingBlock { n } => AuditRefusal::MissingBlock { n },
         HistoryRefusal::BadOpening { n } => AuditRefusal::BadOpening { n },
         HistoryRefusal::NotAbsent { n } => AuditRefusal::Honoured { n },
+        HistoryRefusal::NoMemory => AuditRefusal::NoMemory,
         HistoryRefusal::NoCoin
         | HistoryRefusal::NotLink { n: _ }
-        | HistoryRefusal::BadSignature { n: _ }
-        | HistoryRefusal::NoMemory => AuditRefusal::NoMemory,
+        | HistoryRefusal::BadSignature { n: _ } => unreachable!(),
     }
 }

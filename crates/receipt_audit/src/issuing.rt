@@ -34,9 +34,7 @@ pub struct Receipt {
 fn room_for(alloc: Global, key: &SecretKey) -> Result<Vec<u8>, NoMemory>
     ensures { IfOk result (λ bytes. length bytes.items ≡ 100 + signature_length key.now.types) }
 {
-    let Some(length) = PROMISE_LENGTH.checked_add(key.signature_len()) else {
-        return Err(NoMemory);
-    };
+    let length = PROMISE_LENGTH + key.signature_len();
     let bytes = vec![in alloc; 0u8; length]?;
     Ok(bytes)
 }

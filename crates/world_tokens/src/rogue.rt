@@ -47,6 +47,13 @@ impl MadeKey {
         })
     }
 
+    // The key, lent.
+    fn key(&self) -> &SecretKey
+        ensures { result.now ≡ secret_of self.now }
+    {
+        &self.key
+    }
+
     // The key, lent, where it is this identity's.
     fn key_of(&self, who: &WalletIdentity) -> Option<&SecretKey>
         ensures { IfSome result (λ key. key.now ≡ secret_of who.now) }
@@ -57,6 +64,20 @@ impl MadeKey {
             None
         }
     }
+}
+
+// The body and its signature by this leaf of the key.
+fn signed(alloc: Global, key: &SecretKey, leaf: u32, body: &Body) -> Result<Bytes, NoMemory>
+    requires { leaf < leaf_count key.now.types }
+    ensures { IfOk result (λ bytes. bytes
+        ≡ body_text body.now ++ signature_of key.now leaf (body_text body.now)) }
+{
+    let message = body.write();
+    let mut signature = vec![in alloc; 0u8; key.signature_len()]?;
+    sign(key, leaf, message.as_slice(), &mut signature);
+    let mut bytes = Vec::from_slice(alloc, message.as_slice())?;
+    bytes.extend_from_slice(&signature)?;
+    Ok(Bytes::from_vec(bytes))
 }
 
 /// A stranger's account and key, which a schedule gives a name. Contracts see it as the rogue of a world. The key is
@@ -115,9 +136,13 @@ impl Rogue {
     pub fn owner(&self) -> Result<Owner, NoMemory>
         ensures { IfOk result (λ owner. owner ≡ owner_of_rogue self.now) }
     {
+        let key = match self.kept()? {
+            Some(key) => key.public(),
+            None => self.make()?.key().public(),
+        };
         Ok(Owner {
             account: self.account(),
-            key: self.key()?.public(),
+            key,
         })
     }
 
@@ -125,7 +150,10 @@ impl Rogue {
     pub fn leaves(&self) -> Result<u32, NoMemory>
         ensures { IfOk result (λ leaves. leaves ≡ leaf_count self.now.secret.types) }
     {
-        Ok(self.key()?.leaves())
+        match self.kept()? {
+            Some(key) => Ok(key.leaves()),
+            None => Ok(self.make()?.key().leaves()),
+        }
     }
 
     /// The body and its signature by this leaf, which has to be one of the key's. It keeps no count of the leaves that
@@ -135,26 +163,31 @@ impl Rogue {
         ensures { IfOk result (λ bytes. bytes
             ≡ body_text body.now ++ signature_of self.now.secret leaf (body_text body.now)) }
     {
-        let key = self.key()?;
-        let message = body.write();
-        let mut signature = vec![in alloc; 0u8; key.signature_len()]?;
-        sign(key, leaf, message.as_slice(), &mut signature);
-        let mut bytes = Vec::from_slice(alloc, message.as_slice())?;
-        bytes.extend_from_slice(&signature)?;
-        Ok(Bytes::from_vec(bytes))
+        match self.kept()? {
+            Some(key) => signed(alloc, key, leaf, body),
+            None => signed(alloc, self.make()?.key(), leaf, body),
+        }
     }
 
-    // The key, lent. The first call makes it.
-    fn key(&self) -> Result<&SecretKey, NoMemory>
-        ensures { IfOk result (λ key. key.now ≡ self.now.secret) }
+    // The key, made anew.
+    fn make(&self) -> Result<MadeKey, NoMemory>
+        ensures { IfOk result (λ made. secret_of made ≡ self.now.secret) }
+    {
+        MadeKey::make(self.alloc, &self.who)
+    }
+
+    // The key that is kept, lent. The first call makes it. No clause knows what a cell has, so there may be none, or one
+    // of another identity; whoever asks then makes the key anew.
+    fn kept(&self) -> Result<Option<&SecretKey>, NoMemory>
+        ensures { IfOk result (λ found. IfSome found (λ key. key.now ≡ self.now.secret)) }
     {
         if self.made.get().is_none() {
-            let made = MadeKey::make(self.alloc, &self.who)?;
+            let made = self.make()?;
             let _ = self.made.set(Box::new(self.alloc, made)?);
         }
         match self.made.get() {
-            Some(made) => made.key_of(&self.who).ok_or(NoMemory),
-            None => Err(NoMemory),
+            Some(made) => Ok(made.key_of(&self.who)),
+            None => Ok(None),
         }
     }
 }

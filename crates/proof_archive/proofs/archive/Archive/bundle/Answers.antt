@@ -1,5 +1,5 @@
 use Rattle.std.proofs.Common.{sym, ◌∙◌}
-use Rattle.proof_archive.proofs.Whole.{bundle-unseen, bundle-not_seen, bundle-seen, stays-seen, rises-seen}
+use Rattle.proof_archive.proofs.Whole.{bundle-unseen, bundle-not_seen, bundle-seen, bundle-made, some-seen, stays-seen, rises-seen}
 use Rattle.proof_archive.proofs.archive.Archive.bundle.Goals as goal
 
 pub returns-in_default-clause-value : goal.returns-in_default-clause-value
@@ -39,3 +39,13 @@ returns-clause-count g c = c.in_ok-openings_in.ensures.spellable.count
 
 pub returns-clause-lengths : goal.returns-clause-lengths
 returns-clause-lengths g c = c.in_ok-openings_in.ensures.spellable.lengths
+
+pub returns-in_err-openings_in-clause-memory : goal.returns-in_err-openings_in-clause-memory
+returns-in_err-openings_in-clause-memory g c given =
+    rw (← c.self.view_is) (bundle-made (g.H.Hash32.digest_of c.self.inside.hash) c.self.inside.log
+    c.self.inside.defaults c.self.inside.coins c.self.invariant c.args.coin c.in-Some.made
+    (sym c.coin.ensures ∙ c.in-Some.is) c.args.tip c.is_tip_in.result c.is_tip_in.ensures c.if-not-is_tip_in.false)
+
+pub returns-in_err-openings_in-clause-some : goal.returns-in_err-openings_in-clause-some
+returns-in_err-openings_in-clause-some g c given =
+    rw (← c.self.view_is) (some-seen c.self.inside.coins c.args.coin c.args.tip c.in_err-openings_in.ensures.some)

@@ -1,10 +1,13 @@
-use Rattle.std.proofs.Common.{◌≡◌, Ok, Err, refl, ap, ◌∙◌}
+use Rattle.std.proofs.Common.{◌≡◌, Ok, Err, refl, sym, ap, ◌∙◌}
 use Rattle.std.proofs.lemmas.Result.{err_from_is_err_and}
 use Rattle.proof_archive.specs.declared.refusal.ArchiveRefusal.{ArchiveRefusal}
 use Rattle.proof_archive.specs.declared.refusal.ArchiveRefusal.TheVariants.{NoMemory}
 use Rattle.proof_archive.specs.Carried.{cell_in, with_opening}
+use Rattle.plasma_tx.specs.Views.{coin_at}
+use Rattle.plasma_tx.specs.Shown.{tests_by}
+use Rattle.proof_archive.proofs.Places.{put-found}
 use Rattle.proof_archive.proofs.CellLaws.{whole-put, whole-same}
-use Rattle.proof_archive.proofs.Whole.{seen-more, seen-same, put-seen}
+use Rattle.proof_archive.proofs.Whole.{seen-more, seen-same, put-seen, placed-seen, refusal-same}
 use Rattle.proof_archive.proofs.archive.Archive.put.Goals as goal
 
 pub returns-in_err-change-clause-answer : goal.returns-in_err-change-clause-answer
@@ -49,3 +52,19 @@ pub returns-clause-kept : goal.returns-clause-kept
 returns-clause-kept g c =
     rw (← c.self.view_is) (seen-more c.self.inside.coins c.keep_in.new.cells c.args.coin c.args.opening
     c.in_ok-change.change c.in_ok-keep_in.ensures.ok)
+
+pub returns-in_err-change-clause-memory : goal.returns-in_err-change-clause-memory
+returns-in_err-change-clause-memory g c given =
+    let p = err_from_is_err_and c.from_residual.result c.from_residual.ensures.1 in
+    let is : c.from_residual.result ≡ Err c.in_err-change.field-0.0 = p.1 ∙ ap Err p.2 in
+    rw (← c.self.view_is) (placed-seen c.self.inside.log c.self.inside.coins c.args.coin c.args.opening.block
+    (Ok c.args.opening.block)
+    (c.in_err-change.ensures.memory (ap Err (refusal-same c.in_err-change.field-0.0 NoMemory (sym is ∙ given)))))
+
+pub returns-in_err-keep_in-clause-memory : goal.returns-in_err-keep_in-clause-memory
+returns-in_err-keep_in-clause-memory g c given =
+    rw (← c.self.view_is) (placed-seen c.self.inside.log c.self.inside.coins c.args.coin c.args.opening.block
+    (Ok c.args.opening.block)
+    (put-found (tests_by (g.H.Hash32.digest_of c.self.inside.hash)) c.self.inside.log.log c.args.coin
+    (cell_in c.self.inside.coins c.args.coin).openings c.args.opening (coin_at c.self.inside.log.log c.args.coin)
+    c.args.opening.block c.in_ok-change.ensures.ok.0))
