@@ -15,7 +15,7 @@ use Rattle.receipt_audit.specs.declared.promise.Promise.{Promise}
 use Rattle.receipt_audit.specs.declared.audit.Conviction.{Conviction}
 use Rattle.receipt_audit.specs.declared.refusal.AuditRefusal.{AuditRefusal}
 use Rattle.receipt_audit.specs.declared.refusal.AuditRefusal.TheVariants.{NoMemory as NoRoom}
-use Rattle.receipt_audit.specs.Audit.{audit_refusal, breach_of, is_of_audit, shown_by, conviction_answer, IsBroken}
+use Rattle.receipt_audit.specs.Audit.{audit_refusal, breach_of, convicted, is_of_audit, shown_by, conviction_answer, IsBroken}
 use Rattle.receipt_audit.proofs.Refusals.{breach-refusals}
 use Rattle.receipt_audit.proofs.Convictions.{convictions_show_broken_promises}
 
@@ -43,6 +43,14 @@ pub unread-answer : (dig : List ℕ → List ℕ) (log : List RootCall) (promise
 unread-answer dig log promise read why said is value given =
     let own : Err why ≡ read = value (λ e. named why said is given (cc e)) in
     ap Err is ∙ ap (shown_by dig log promise) own
+
+pub breach-answer : (promise : Promise) (breach : Result Unit HistoryRefusal) (why : HistoryRefusal)
+    (said : AuditRefusal) → said ≡ audit_refusal why
+    → (◌≢◌ {A = Result Unit HistoryRefusal} (Err why) (Err NoMemory) → Err why ≡ breach)
+    → ◌≢◌ {A = Result Conviction AuditRefusal} (Err said) (Err NoRoom)
+    → Err said ≡ convicted promise breach
+breach-answer promise breach why said is value given =
+    ap Err is ∙ ap (convicted promise) (value (λ e. named why said is given (cc e)))
 
 -- ---- causes that an auditor has a word for
 
@@ -91,3 +99,12 @@ memory-of (NotLink n) own is = absurd (true≢false (sym own))
 memory-of (BadSignature n) own is = absurd (true≢false (sym own))
 memory-of (NotAbsent n) own is = absurd (cc is)
 memory-of NoMemory own is = refl
+
+pub memory-told : {A : Type 0} (why : HistoryRefusal) (said : AuditRefusal) → said ≡ audit_refusal why
+    → is_of_audit why ≡ true → ◌≡◌ {A = Result Conviction AuditRefusal} (Err said) (Err NoRoom)
+    → ◌≡◌ {A = Result A HistoryRefusal} (Err why) (Err NoMemory)
+memory-told why said is own given = ap Err (memory-of why own (sym is ∙ said-same given))
+  where
+    said-same : {one : AuditRefusal} → ◌≡◌ {A = Result Conviction AuditRefusal} (Err one) (Err NoRoom)
+        → one ≡ NoRoom
+    said-same same = cc same

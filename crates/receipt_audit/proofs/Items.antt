@@ -47,7 +47,8 @@ unfolding items_in
 counted-items bytes zero items is some =
     absurd (some (ok-openings is))
   where
-    ok-openings : {one : Items} → Ok {E = HistoryRefusal} (record { openings = []; place = 20 }) ≡ Ok one
+    ok-openings : {one : Items}
+        → ◌≡◌ {A = Result Items HistoryRefusal} (Ok (record { openings = []; place = 20 })) (Ok one)
         → one.openings ≡ []
     ok-openings e = cc e
 counted-items bytes (suc count) items is some = (omega arith, first-whole bytes 20 0 count items is)

@@ -4,6 +4,7 @@ pub mod Breaches
 pub mod Convictions
 pub mod AuditTests
 pub mod Items
+pub mod Rooms
 pub mod Refusals
 pub mod Audits
 pub mod Issues

@@ -4,7 +4,7 @@ ghost use Rattle.plasma_tx.specs.Shown.{tests_by};
 ghost use Rattle.coin_history.specs.Bundles.{AreRising, HasFirstItem, bundle_in};
 ghost use Rattle.coin_history.specs.Checking.{above, lowest_failure, opening_at, unless_failed};
 ghost use Rattle.coin_history.specs.History.{leaf_of_opening};
-ghost use Rattle.receipt_audit.specs.Audit.{audit_refusal, breach_of, conviction_answer, conviction_of, failure_of_breach, is_kept, is_of_audit, IsBroken, IsDue, shown_by};
+ghost use Rattle.receipt_audit.specs.Audit.{audit_refusal, breach_of, conviction_answer, conviction_of, convicted, failure_of_breach, is_kept, is_of_audit, IsBroken, IsDue, shown_by};
 
 use super::promise::{PROMISE_LENGTH, Promise, promise_in};
 use super::refusal::AuditRefusal;
@@ -105,7 +105,24 @@ fn shown_by<H: Hash32>(
     if bundle.coin != promise.coin {
         return Err(AuditRefusal::OtherCoin { coin: bundle.coin });
     }
-    match breach_of(alloc, h, log, promise, &bundle) {
+    judged(alloc, h, log, promise, &bundle)
+}
+
+// What a bundle of the promise's coin shows of it.
+fn judged<H: Hash32>(
+    alloc: Global,
+    h: &H,
+    log: &RootLog,
+    promise: &Promise,
+    bundle: &Bundle,
+) -> Result<Conviction, AuditRefusal>
+    requires rising { AreRising bundle.now.openings }
+    requires made { promise.now.due ≤ blocks log.now.log }
+    ensures value { result ≢ Err AuditRefusal.NoMemory → result ≡ convicted promise.now
+        (breach_of (tests_by (H.digest_of h.now)) (H.digest_of h.now) log.now.log promise.now bundle.now) }
+    ensures some { result ≡ Err AuditRefusal.NoMemory → bundle.now.openings ≢ [] }
+{
+    match breach_of(alloc, h, log, promise, bundle) {
         Ok(()) => Ok(conviction_of(promise)),
         Err(why) => Err(audit_refusal(why)),
     }

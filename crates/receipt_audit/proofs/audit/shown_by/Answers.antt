@@ -1,7 +1,8 @@
-use Rattle.std.proofs.Common.{◌≡◌, Ok, Err, sym, ap, ◌∙◌}
+use Rattle.std.proofs.Common.{sym, ap, ◌∙◌}
+use Rattle.coin_history.specs.declared.refusal.HistoryRefusal.{HistoryRefusal}
+use Rattle.coin_history.specs.declared.refusal.HistoryRefusal.TheVariants.{NoMemory}
 use Rattle.coin_history.specs.Bundles.{bundle_in}
-use Rattle.coin_history.proofs.HistoryRefusals.{readers_refusals}
-use Rattle.receipt_audit.proofs.Audits.{unread-answer, read-cause, breach-cause, memory-of}
+use Rattle.receipt_audit.proofs.Audits.{unread-answer, read-cause, memory-told}
 use Rattle.receipt_audit.proofs.Items.{has-first_item}
 use Rattle.receipt_audit.proofs.audit.shown_by.Goals as goal
 
@@ -13,7 +14,12 @@ returns-in-Err-clause-value g c given =
     unread-answer (g.H.Hash32.digest_of c.args.h.now) c.args.log.now.log c.args.promise.now (bundle_in c.args.bytes.now)
     c.in-Err.why c.audit_refusal.result c.audit_refusal.ensures c.in-Err.ensures.value given
 
-pub audit_refusal-requires-2 : goal.audit_refusal-requires-2
-audit_refusal-requires-2 g c = breach-cause (tests_by (g.H.Hash32.digest_of c.args.h.now))
-    (g.H.Hash32.digest_of c.args.h.now) c.args.log.now.log c.args.promise.now c.in-Ok.bundle c.in-Err-breach_of.why
-    c.in-Err-breach_of.ensures.value
+pub returns-in-Err-clause-item : goal.returns-in-Err-clause-item
+returns-in-Err-clause-item g c given =
+    c.in-Err.ensures.memory (memory-told c.in-Err.why c.audit_refusal.result c.audit_refusal.ensures
+    (read-cause c.args.bytes.now c.in-Err.why c.in-Err.ensures.value) given)
+
+pub returns-clause-item : goal.returns-clause-item
+returns-clause-item g c given =
+    has-first_item c.args.bytes.now c.in-Ok.bundle (sym (c.in-Ok.ensures.value (λ e. cc e)))
+    (c.judged.ensures.some given)
