@@ -1,5 +1,5 @@
 -- A signature of whatever types is short.
-use Rattle.std.proofs.Common.{ℕ, ◌≤◌, true, false, if◌then◌else◌, arith}
+use Rattle.std.proofs.Common.{◌≤◌, true, false, if◌then◌else◌, arith}
 use Rattle.std.specs.Prelude.{◌==◌}
 use Rattle.lms_sign.specs.declared.types.LmsTypes.{LmsTypes}
 use Rattle.lms_sign.specs.Types.{chains, height, signature_length}

@@ -1,6 +1,4 @@
-use Rattle.std.proofs.Common.{sym, ap, ◌∙◌}
-use Rattle.coin_history.specs.declared.refusal.HistoryRefusal.{HistoryRefusal}
-use Rattle.coin_history.specs.declared.refusal.HistoryRefusal.TheVariants.{NoMemory}
+use Rattle.std.proofs.Common.{sym}
 use Rattle.coin_history.specs.Bundles.{bundle_in}
 use Rattle.receipt_audit.proofs.Audits.{unread-answer, read-cause, memory-told}
 use Rattle.receipt_audit.proofs.Items.{has-first_item}
