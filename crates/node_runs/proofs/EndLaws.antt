@@ -6,10 +6,14 @@ use Rattle.streamed_lines.specs.declared.ending.Ending.TheVariants.{Complete, Ba
 use Rattle.streamed_lines.specs.Outside.{Wrote, WroteFront}
 use Rattle.streamed_lines.specs.Reading.{is_read_fault}
 use Rattle.streamed_lines.proofs.OutsideLaws.{wrote-none, wrote-more, front-whole}
+use Rattle.plasma_outside.specs.declared.sink.SinkRefusal.{SinkRefusal}
 use Rattle.run_endings.specs.declared.status.Status.{Status}
 use Rattle.run_endings.specs.declared.status.Status.TheVariants.{Done, Refused, Usage, BadLine as BadLineStatus, ReadFault as ReadFaultStatus, WriteFault, DeviceFault, NoMemory, TooLong as TooLongStatus, NotJournal, AlreadyMade}
 use Rattle.run_endings.specs.Outputs.{Output, Stops, EndsAs}
-use Rattle.run_endings.specs.Endings.{status_of}
+use Rattle.run_endings.specs.Statuses.{status_of_refusal}
+use Rattle.run_endings.specs.Endings.{status_of, fault_output}
+use Rattle.run_endings.specs.Texts.{device_fault_text}
+use Rattle.run_endings.proofs.EndingLaws.{ends-stopped}
 
 -- nothing was written of a text
 pub front-none : (before : Option (List ℕ)) (text : List ℕ) → WroteFront before before text
@@ -55,6 +59,48 @@ module _ (a b c : Option (List ℕ)) (put text last : List ℕ) (failed : Type 0
   ends-more output TooLongStatus why ends = (ends.0, whole-more ends.1)
   ends-more output NotJournal why ends = (ends.0, whole-more ends.1)
   ends-more output AlreadyMade why ends = (ends.0, whole-more ends.1)
+
+-- a run that met a device fault and wrote a beginning of its answers
+pub fault-stopped : (refusal : SinkRefusal) (answers : List ℕ) (before after : Option (List ℕ)) (failed : Type 0)
+    → WroteFront before after answers → EndsAs (fault_output answers) (status_of_refusal refusal) before after failed
+fault-stopped refusal answers before after failed front =
+    ends-stopped refusal (fault_output answers) before after failed
+    (record {
+      front = record {
+        front = front.front;
+        back = front.back ++ device_fault_text;
+        whole =
+            sym (append_assoc front.front front.back device_fault_text)
+            ∙ ap (λ (text : List ℕ). text ++ device_fault_text) front.whole;
+        wrote = front.wrote;
+      };
+      fault = λ wrong. absurd (cc);
+    })
+
+-- or its answers, and then the last line or a beginning of it
+pub fault-behind : (a b c : Option (List ℕ)) (answers : List ℕ) (failed : Type 0) (status : Status)
+    → Wrote a b answers → EndsAs (fault_output []) status b c ⊥ → EndsAs (fault_output answers) status a c failed
+fault-behind a b c answers failed WriteFault first ends =
+    record { front = front-more a b c answers device_fault_text first ends.front; fault = λ wrong. absurd (cc) }
+fault-behind a b c answers failed NoMemory first ends =
+    record { front = front-more a b c answers device_fault_text first ends.front; fault = λ wrong. absurd (cc) }
+fault-behind a b c answers failed ReadFaultStatus first ends = absurd ends.1
+fault-behind a b c answers failed Done first ends =
+    (ends.0, wrote-more a b c answers device_fault_text first ends.1)
+fault-behind a b c answers failed Refused first ends =
+    (ends.0, wrote-more a b c answers device_fault_text first ends.1)
+fault-behind a b c answers failed Usage first ends =
+    (ends.0, wrote-more a b c answers device_fault_text first ends.1)
+fault-behind a b c answers failed BadLineStatus first ends =
+    (ends.0, wrote-more a b c answers device_fault_text first ends.1)
+fault-behind a b c answers failed DeviceFault first ends =
+    (ends.0, wrote-more a b c answers device_fault_text first ends.1)
+fault-behind a b c answers failed TooLongStatus first ends =
+    (ends.0, wrote-more a b c answers device_fault_text first ends.1)
+fault-behind a b c answers failed NotJournal first ends =
+    (ends.0, wrote-more a b c answers device_fault_text first ends.1)
+fault-behind a b c answers failed AlreadyMade first ends =
+    (ends.0, wrote-more a b c answers device_fault_text first ends.1)
 
 -- whatever a run ends as, it wrote a beginning of its text behind what was there
 module _ (output : Output) (before after : Option (List ℕ)) (failed : Type 0) where

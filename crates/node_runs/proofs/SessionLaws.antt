@@ -29,13 +29,17 @@ module _ {N A L W : Type 0} (rules : Rules (SessionState A) (List ℕ)) (command
     (ran : (run : SessionState A) → Ran session run → IsAt node run.node)
     (halted : (run : SessionState A) (line : List ℕ) (halt : Halt (List ℕ)) → Halted session run line halt
     → IsHaltedNode IsAt IsStopped node (calls_of run.log) run.node (commanded command_in run line) halt) where
+  -- what a run of it did, where this holds behind a device fault
+  abbrev RunsBy : (List RootCall → A → L → Type 0) → Outside → Type 0 → Status → Type 0
+  RunsBy Faulted outside failed status =
+      RunsSession rules command_in found (λ at. IsAt node at) Faulted
+      (λ log at command. IsStopped node log at command NodeMemory)
+      outside failed status
+
   -- what a run of it did
   abbrev Runs : Outside → Type 0 → Status → Type 0
   Runs outside failed status =
-      RunsSession rules command_in found (λ at. IsAt node at)
-      (λ log at command. IsStopped node log at command NodeFault)
-      (λ log at command. IsStopped node log at command NodeMemory)
-      outside failed status
+      RunsBy (λ log at command. IsStopped node log at command NodeFault) outside failed status
 
   -- the node is where the answered lines left it
   left-at : (run : SessionState A) (line : List ℕ) (ending : Ending (List ℕ))
@@ -49,13 +53,14 @@ module _ {N A L W : Type 0} (rules : Rules (SessionState A) (List ℕ)) (command
   left-at run line (Ended n cause) is = halted run line (Stops (Ends cause)) is
 
   -- a session that was answered to its end, whose last text was put
-  pub answered-runs : (left later taken put_then after : Option (List ℕ)) (text : List ℕ) (ending : Ending (List ℕ))
+  pub answered-runs : {Faulted : List RootCall → A → L → Type 0}
+      (left later taken put_then after : Option (List ℕ)) (text : List ℕ) (ending : Ending (List ℕ))
       (Reads : Bool → Type 0) (status : Status)
       → Answers rules (begun found) Ran Halted left later taken put_then text ending session
       → Reads (is_read_fault (Ok ending))
       → EndsAs (record { status = status_of ending; answers = text; last = last_text ending }) status put_then after
       (Unit {0})
-      → Runs (record { left = left; later = later; taken = taken; after = after }) (Reads true) status
+      → RunsBy Faulted (record { left = left; later = later; taken = taken; after = after }) (Reads true) status
   answered-runs left later taken put_then after text ending Reads status answers reads ends =
       let is = answers.ends in
       inl
@@ -103,12 +108,13 @@ module _ {N A L W : Type 0} (rules : Rules (SessionState A) (List ℕ)) (command
       }))
 
   -- one that was broken off for this, behind which the node is there
-  broken-runs : (left later taken after : Option (List ℕ)) (text : List ℕ) (failed : Type 0) (why : Break)
+  broken-runs : {Faulted : List RootCall → A → L → Type 0}
+      (left later taken after : Option (List ℕ)) (text : List ℕ) (failed : Type 0) (why : Break)
       (status : Status) (broke : BrokeOff rules (begun found) Ran Halted left later taken after text why session)
       → (rest : List ℕ) × (broke.put ++ rest ≡ broke.breaks.stream.text)
       → BrokenAt command_in (λ at. IsAt node at) (λ log at command. IsStopped node log at command NodeMemory) status
       broke.ended broke.bytes broke.breaks.stream
-      → Runs (record { left = left; later = later; taken = taken; after = after }) failed status
+      → RunsBy Faulted (record { left = left; later = later; taken = taken; after = after }) failed status
   broken-runs left later taken after text failed why status broke rest there =
       let is = broke.breaks in
       inr
@@ -146,10 +152,11 @@ module _ {N A L W : Type 0} (rules : Rules (SessionState A) (List ℕ)) (command
       ]
 
   -- one for which memory ran out
-  pub starved-runs : (left later taken after : Option (List ℕ)) (text : List ℕ) (failed : Type 0)
+  pub starved-runs : {Faulted : List RootCall → A → L → Type 0}
+      (left later taken after : Option (List ℕ)) (text : List ℕ) (failed : Type 0)
       (why : Break) → why ≡ NoMemoryBreak
       → BrokeOff rules (begun found) Ran Halted left later taken after text why session
-      → Runs (record { left = left; later = later; taken = taken; after = after }) failed NoMemory
+      → RunsBy Faulted (record { left = left; later = later; taken = taken; after = after }) failed NoMemory
   starved-runs left later taken after text failed why same broken =
       let broke =
       subst (λ why. BrokeOff rules (begun found) Ran Halted left later taken after text why session) same broken in

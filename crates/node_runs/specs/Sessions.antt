@@ -87,3 +87,9 @@ module _ {A L : Type 0} (rules : Rules (SessionState A) (List ℕ)) (command_in 
     -- what a session with this status did
     abbrev pub RunsSession : Type 0
     RunsSession = Answered ⊎ Faults ⊎ BreaksOff
+
+-- the same of a session in which no command met a device fault
+abbrev pub RunsUnfailed : {A L : Type 0} → Rules (SessionState A) (List ℕ) → (List ℕ → Option L) → A → (A → Type 0)
+    → (List RootCall → A → L → Type 0) → Outside → Type 0 → Status → Type 0
+RunsUnfailed rules command_in found Left Unanswered outside failed status =
+    RunsSession rules command_in found Left (λ log at command. ⊥) Unanswered outside failed status

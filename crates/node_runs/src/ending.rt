@@ -1,4 +1,4 @@
-ghost use Rattle.std.specs.Prelude.{◌≡◌, ◌++◌, ℕ, List, false, OnOk};
+ghost use Rattle.std.specs.Prelude.{◌≡◌, ◌++◌, ℕ, List, true, false};
 ghost use Rattle.plasma_base.specs.Causes.{faults_after};
 ghost use Rattle.run_endings.specs.Statuses.{is_write_fault};
 ghost use Rattle.run_endings.specs.Outputs.{EndsAs};
@@ -6,16 +6,8 @@ ghost use Rattle.run_endings.specs.Endings.{status_of, last_text, fault_output};
 
 use plasma_base::{Bytes, NoMemory};
 use plasma_outside::Sink;
-use run_endings::{Status, push_last, status_of};
+use run_endings::{Status, push_last, put_line, status_of};
 use streamed_lines::{Ending, put_text};
-
-// Puts words at the end.
-fn push_words(out: &mut Vec<u8>, words: &[u8]) -> Result<(), NoMemory>
-    ensures { OnOk result (out.new.items ≡ out.old.items ++ words.now) }
-{
-    out.extend_from_slice(words)?;
-    Ok(())
-}
 
 // Puts the gathered text, with which a run ends that has this status.
 fn put_whole<K: Sink>(sink: &mut K, text: &mut Vec<u8>, status: Status) -> Status
@@ -44,13 +36,15 @@ pub fn put_ending<K: Sink>(sink: &mut K, text: &mut Vec<u8>, ending: &Ending<Byt
     }
 }
 
-/// Ends a run that met a device fault: puts the text that is gathered, and the last line behind it.
+/// Ends a run that met a device fault: puts the text that is gathered, and behind it the last line. It takes no memory
+/// of its own, so a disk's fault isn't told as want of memory unless the sink wants some.
 pub fn put_fault<K: Sink>(sink: &mut K, text: &mut Vec<u8>) -> Status
     ensures ends { EndsAs (fault_output text.old.items) result (K.taken sink.old) (K.taken sink.new) (Unit {0}) }
+    ensures memory { result ≡ Status.NoMemory → K.takes_memory ≡ true }
     ensures sink_faults { K.faults sink.new ≡ faults_after (K.faults sink.old) (is_write_fault result) }
 {
-    match push_words(text, b"device fault\n") {
-        Ok(()) => put_whole(sink, text, Status::DeviceFault),
-        Err(NoMemory) => Status::NoMemory,
+    match put_text(sink, text) {
+        Ok(()) => put_line(sink, b"device fault\n", Status::DeviceFault),
+        Err(refusal) => Status::of_refusal(refusal),
     }
 }

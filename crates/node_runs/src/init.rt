@@ -1,5 +1,6 @@
-ghost use Rattle.std.specs.Prelude.{◌≡◌, ◌≢◌, true, [], None, Some};
+ghost use Rattle.std.specs.Prelude.{◌≡◌, ◌≢◌, true, [], None, Some, Err};
 ghost use Rattle.plasma_base.specs.Causes.{faults_after};
+ghost use Rattle.gate_journal.specs.declared.refusal.InitRefusal.{InitRefusal};
 ghost use Rattle.lms_sign.specs.Types.{is_supported};
 ghost use Rattle.node_rules.specs.Watcher.{identity_text as watcher_text};
 ghost use Rattle.node_rules.specs.WalletRecords.{identity_text as wallet_text};
@@ -37,6 +38,7 @@ fn put_already_made<K: Sink>(alloc: Global, sink: &mut K, length: u64) -> Status
 // Puts why an init was refused; for want of memory it says nothing.
 fn put_refusal<K: Sink>(alloc: Global, sink: &mut K, why: InitRefusal) -> Status
     ensures ends { EndsAs (refused_init why) result (K.taken sink.old) (K.taken sink.new) ⊥ }
+    ensures memory { why ≡ InitRefusal.DeviceFault → result ≡ Status.NoMemory → K.takes_memory ≡ true }
     ensures no_read_fault { result ≢ Status.ReadFault }
     ensures sink_faults { K.faults sink.new ≡ faults_after (K.faults sink.old) (is_write_fault result) }
 {
@@ -54,6 +56,7 @@ pub fn put_init_answer<K: Sink>(
     answer: Result<(), InitRefusal>,
 ) -> Status
     ensures ends { EndsAs (init_output answer) result (K.taken sink.old) (K.taken sink.new) ⊥ }
+    ensures memory { answer ≡ Err InitRefusal.DeviceFault → result ≡ Status.NoMemory → K.takes_memory ≡ true }
     ensures no_read_fault { result ≢ Status.ReadFault }
     ensures sink_faults { K.faults sink.new ≡ faults_after (K.faults sink.old) (is_write_fault result) }
 {

@@ -1,4 +1,4 @@
-ghost use Rattle.std.specs.Prelude.{◌≡◌, ◌≢◌, OnOk};
+ghost use Rattle.std.specs.Prelude.{◌≡◌, ◌≢◌, true, OnOk};
 ghost use Rattle.plasma_base.specs.Causes.{faults_after};
 ghost use Rattle.gate_journal.specs.declared.refusal.JournalRefusal.{JournalRefusal};
 ghost use Rattle.run_endings.specs.Statuses.{is_write_fault};
@@ -28,6 +28,7 @@ fn put_not_journal<K: Sink>(alloc: Global, sink: &mut K, place: u64) -> Status
 /// refused for another cause than these three.
 pub fn put_opening_refusal<K: Sink>(alloc: Global, sink: &mut K, why: JournalRefusal) -> Status
     ensures ends { EndsAs (refused_output why) result (K.taken sink.old) (K.taken sink.new) ⊥ }
+    ensures memory { why ≡ JournalRefusal.DeviceFault → result ≡ Status.NoMemory → K.takes_memory ≡ true }
     ensures no_read_fault { result ≢ Status.ReadFault }
     ensures sink_faults { K.faults sink.new ≡ faults_after (K.faults sink.old) (is_write_fault result) }
 {

@@ -1,11 +1,11 @@
-ghost use Rattle.std.specs.Prelude.{◌≡◌, true, List, ℕ};
+ghost use Rattle.std.specs.Prelude.{◌≡◌, true, false, List, ℕ};
 ghost use Rattle.plasma_base.specs.Causes.{faults_after};
 ghost use Rattle.node_journal.specs.declared.stop.Stop.{Stop};
 ghost use Rattle.streamed_lines.specs.Outside.{ReadsToFault};
 ghost use Rattle.streamed_lines.specs.Prompt.{AnswersPromptly, answers_so_far};
 ghost use Rattle.node_sessions.specs.Sessions.{begun, session_rules};
 ghost use Rattle.run_endings.specs.Statuses.{is_write_fault, ReadsBy};
-ghost use Rattle.node_runs.specs.Sessions.{RunsSession};
+ghost use Rattle.node_runs.specs.Sessions.{RunsSession, RunsUnfailed};
 
 use super::ending::{put_ending, put_fault};
 use node_sessions::{Commanded, Session};
@@ -29,6 +29,17 @@ pub fn run_session<N: Commanded, S: Source, K: Sink>(
         found
         (λ at. N.is_at result.0 at)
         (λ log at command. N.is_stopped result.0 log at command Stop.DeviceFault)
+        (λ log at command. N.is_stopped result.0 log at command Stop.NoMemory)
+        (record {
+          left = S.left source.old;
+          later = S.left source.new;
+          taken = K.taken sink.old;
+          after = K.taken sink.new;
+        })
+        (ReadsToFault (S.faults source.old) (S.faults source.new) (S.failed_last source.new) true) result.1 }
+    ensures memory { K.takes_memory ≡ false → result.1 ≡ Status.NoMemory
+        → RunsUnfailed (session_rules (N.tag node) (N.command_in node) (N.does node)) (N.command_in result.0) found
+        (λ at. N.is_at result.0 at)
         (λ log at command. N.is_stopped result.0 log at command Stop.NoMemory)
         (record {
           left = S.left source.old;

@@ -1,5 +1,6 @@
-ghost use Rattle.std.specs.Prelude.{◌≡◌, ℕ, List, Option};
+ghost use Rattle.std.specs.Prelude.{◌≡◌, ℕ, Bool, true, List, Option, Err};
 ghost use Rattle.plasma_base.specs.Causes.{faults_after};
+ghost use Rattle.plasma_outside.specs.declared.sink.SinkRefusal.{SinkRefusal};
 ghost use Rattle.plasma_outside.specs.Outside.{Puts, is_failed};
 
 use plasma_base::NoMemory;
@@ -47,9 +48,13 @@ pub trait Sink {
     /// How often the sink has failed; it stops at `u64::MAX`.
     ghost faults: { Self → ℕ };
 
+    /// Whether it takes memory, so that it may answer `NoMemory`.
+    ghost takes_memory: { Bool } = { true };
+
     /// Puts all bytes at the end, or stops after a beginning of them. `Failed` counts one fault, and
-    /// at any other answer the count stays.
+    /// at any other answer the count stays. A sink that takes no memory never answers `NoMemory`.
     fn put_all(&mut self, bytes: &[u8]) -> Result<(), SinkRefusal>
         ensures bytes { Puts (taken self.old) (taken self.new) result bytes.now }
-        ensures cause { faults self.new ≡ faults_after (faults self.old) (is_failed result) };
+        ensures cause { faults self.new ≡ faults_after (faults self.old) (is_failed result) }
+        ensures memory { result ≡ Err SinkRefusal.NoMemory → takes_memory ≡ true };
 }

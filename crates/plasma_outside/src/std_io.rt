@@ -100,6 +100,8 @@ impl<W: Write> Sink for StdSink<W> {
 
     ghost faults = { λ output. output.faults };
 
+    ghost takes_memory = { false };
+
     /// Writes all bytes and then flushes. A write that takes none of the bytes that are left has
     /// failed, and so has one that was interrupted; after it nothing is written. It never answers
     /// `NoMemory`.

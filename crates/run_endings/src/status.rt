@@ -1,4 +1,5 @@
 ghost use Rattle.std.specs.Prelude.{◌≡◌, ◌≢◌};
+ghost use Rattle.plasma_outside.specs.declared.sink.SinkRefusal.{SinkRefusal};
 ghost use Rattle.plasma_outside.specs.Outside.{is_sink_fault};
 ghost use Rattle.run_endings.specs.Statuses.{code_of, status_of_refusal, is_write_fault};
 
@@ -55,6 +56,7 @@ impl Status {
     pub fn of_refusal(refusal: SinkRefusal) -> Status
         ensures status { result ≡ status_of_refusal refusal }
         ensures no_read_fault { result ≢ Status.ReadFault }
+        ensures memory { result ≡ Status.NoMemory → refusal ≡ SinkRefusal.NoMemory }
         ensures write_fault { is_write_fault result ≡ is_sink_fault refusal }
     {
         match refusal {

@@ -1,4 +1,4 @@
-ghost use Rattle.std.specs.Prelude.{◌≡◌, ◌≢◌, ◌++◌, [], false, OnOk};
+ghost use Rattle.std.specs.Prelude.{◌≡◌, ◌≢◌, ◌⊎◌, ◌++◌, [], true, false, OnOk};
 ghost use Rattle.plasma_base.specs.Causes.{faults_after};
 ghost use Rattle.run_endings.specs.Statuses.{is_write_fault};
 ghost use Rattle.run_endings.specs.Outputs.{EndsAs};
@@ -64,6 +64,7 @@ pub fn put_line<K: Sink>(sink: &mut K, line: &[u8], status: Status) -> Status
     requires no_write_fault { is_write_fault status ≡ false }
     ensures output { EndsAs (record { status = status; answers = []; last = line.now }) result
         (K.taken sink.old) (K.taken sink.new) ⊥ }
+    ensures memory { result ≡ Status.NoMemory → (status ≡ Status.NoMemory) ⊎ (K.takes_memory ≡ true) }
     ensures no_read_fault { result ≢ Status.ReadFault }
     ensures sink_faults { K.faults sink.new ≡ faults_after (K.faults sink.old) (is_write_fault result) }
 {

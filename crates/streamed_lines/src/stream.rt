@@ -1,5 +1,6 @@
 ghost use Rattle.std.specs.Prelude.{◌≡◌, ◌≤◌, ◌<◌, ◌+◌, ◌++◌, ℕ, List, [], length, take, Ok, Err, true, false, is_err, IfOk, OnOk, OnErr, IfErr};
 ghost use Rattle.plasma_base.specs.Causes.{faults_after};
+ghost use Rattle.plasma_outside.specs.declared.sink.SinkRefusal.{SinkRefusal};
 ghost use Rattle.plasma_outside.specs.Outside.{is_failed};
 ghost use Rattle.streamed_lines.specs.declared.ending.Ending.{Ending};
 ghost use Rattle.streamed_lines.specs.Lines.{limit_of};
@@ -23,6 +24,7 @@ pub fn put_text<K: Sink>(sink: &mut K, text: &mut Vec<u8>) -> Result<(), SinkRef
     ensures none_left { OnOk result (text.new.items ≡ []) }
     ensures err { OnErr result (WroteFront (K.taken sink.old) (K.taken sink.new) text.old.items) }
     ensures cause { K.faults sink.new ≡ faults_after (K.faults sink.old) (is_failed result) }
+    ensures memory { result ≡ Err SinkRefusal.NoMemory → K.takes_memory ≡ true }
 {
     if text.is_empty() {
         return Ok(());

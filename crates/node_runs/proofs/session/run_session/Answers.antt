@@ -1,3 +1,5 @@
+use Rattle.std.proofs.Common.{sym, ◌∙◌}
+use Rattle.std.proofs.lemmas.Bool.{false≢true}
 use Rattle.node_sessions.specs.Commands.{IsSession, IsHaltedSession}
 use Rattle.streamed_lines.specs.Outside.{ReadsToFault}
 use Rattle.streamed_lines.proofs.PromptLaws.{prompt-more}
@@ -41,6 +43,37 @@ returns-in-Err-WriteFault-clause-runs g c =
 
 pub returns-clause-runs : goal.returns-clause-runs
 returns-clause-runs g c =
+    rw (← c.new-session.ensures.rules)
+    (starved-runs _ _ g.found (IsSession g.N.Commanded.is_at g.N.Commanded.is_stopped)
+    (λ session. IsHaltedSession g.N.Commanded.is_at g.N.Commanded.is_stopped (g.N.Commanded.command_in session.node)
+    session)
+    g.N.Commanded.is_at g.N.Commanded.is_stopped
+    _ _ c.take_node-in-Err-NoMemory.ensures.ran c.take_node-in-Err-NoMemory.ensures.halted _ _ _ _ _ _ _
+    c.in-Err-NoMemory.field-0-is c.in-Err-NoMemory.ensures.broken)
+
+-- ---- a run that ends for want of memory over a sink that takes none met no device fault
+
+pub returns-in-Ok-clause-memory : goal.returns-in-Ok-clause-memory
+returns-in-Ok-clause-memory g c = λ none is.
+    rw (← c.new-session.ensures.rules)
+    (answered-runs _ _ g.found (IsSession g.N.Commanded.is_at g.N.Commanded.is_stopped)
+    (λ session. IsHaltedSession g.N.Commanded.is_at g.N.Commanded.is_stopped (g.N.Commanded.command_in session.node)
+    session)
+    g.N.Commanded.is_at g.N.Commanded.is_stopped
+    _ _ c.take_node.ensures.ran c.take_node.ensures.halted _ _ _ _ _ _ c.in-Ok.ending
+    (ReadsToFault (g.S.Source.faults c.args.source.now) (g.S.Source.faults c.answer_lines.new.source)
+    (g.S.Source.failed_last c.answer_lines.new.source))
+    _ c.in-Ok.ensures.answered c.in-Ok.ensures.reads c.put_ending-status.ensures.ends)
+
+pub returns-in-Err-Failed-clause-memory : goal.returns-in-Err-Failed-clause-memory
+returns-in-Err-Failed-clause-memory g c = λ none is.
+    absurd (false≢true (sym none ∙ c.put_fault-status.ensures.memory is))
+
+pub returns-in-Err-WriteFault-clause-memory : goal.returns-in-Err-WriteFault-clause-memory
+returns-in-Err-WriteFault-clause-memory g c = λ none is. absurd (cc (is))
+
+pub returns-clause-memory : goal.returns-clause-memory
+returns-clause-memory g c = λ none is.
     rw (← c.new-session.ensures.rules)
     (starved-runs _ _ g.found (IsSession g.N.Commanded.is_at g.N.Commanded.is_stopped)
     (λ session. IsHaltedSession g.N.Commanded.is_at g.N.Commanded.is_stopped (g.N.Commanded.command_in session.node)
