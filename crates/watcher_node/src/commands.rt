@@ -1,4 +1,4 @@
-ghost use Rattle.std.specs.Prelude.{◌≡◌, ◌≢◌, ◌≤◌, false, length, Some, None, Ok, Err, IfOk, IfSome};
+ghost use Rattle.std.specs.Prelude.{◌≡◌, ◌≢◌, ◌≤◌, false, true, length, Some, None, Ok, Err, IfOk, IfSome};
 ghost use Rattle.std.specs.Option.{option_map};
 ghost use Rattle.std.specs.List.{list_any};
 ghost use Rattle.gate_journal.specs.Image.{most};
@@ -202,6 +202,8 @@ impl<D: Disk, H: Hash32 + Copy> WatcherNode<D, H> {
         ensures did { Did D.told D.plan D.faults
             (release_effect (H.digest_of self.old.hash) self.old.notes.records coin tip).note
             self.old.notes (watcher_stop result) self.new.notes }
+        ensures memory { result ≡ Err WatcherRefusal.NoMemory
+            → list_any (is_of coin tip) (guards_in (H.digest_of self.old.hash) self.old.notes.records) ≡ true }
         ensures hash { self.new.hash ≡ self.old.hash }
     {
         if self.notes.is_closed() {
