@@ -1,10 +1,10 @@
 -- Nodes that are declared.
-use Rattle.std.proofs.Common.{◌≡◌, ◌∷◌, [], ℕ, true, List, length, Option, Some, None, Result, Ok, refl, sym, ◌∙◌, ap, subst}
+use Rattle.std.proofs.Common.{◌≡◌, ◌∷◌, [], ℕ, true, List, length, Option, Some, None, Result, Ok, Err, refl, sym, ◌∙◌, ap, subst}
 use Rattle.std.specs.Option.{ForSome, option_map, option_map_or, unwrap_or}
 use Rattle.std.specs.List.{slice_get}
-use Rattle.std.specs.Result.{OnOk}
+use Rattle.std.specs.Result.{OnOk, IfOk}
 use Rattle.std.proofs.lemmas.Result.{IfOk-at_ok}
-use Rattle.crash_disk.specs.Disk.{Step, content, after_calls}
+use Rattle.crash_disk.specs.Disk.{Step, asks_length, content, with_call, after_calls}
 use Rattle.crash_disk.specs.Calls.{WhereTold}
 use Rattle.crash_disk.specs.Memory.{MemState}
 use Rattle.crash_disk.proofs.Plans.{none_listed}
@@ -22,10 +22,10 @@ use Rattle.world_nodes.specs.declared.down.DownNode.TheVariants.{Wallet as Walle
 use Rattle.world_nodes.specs.declared.up.UpNode.{UpNode}
 use Rattle.world_nodes.specs.declared.entry.Site.TheVariants.{Up, Down}
 use Rattle.world_nodes.specs.declared.entry.Member.{Member}
-use Rattle.world_nodes.specs.Nodes.{EachKeeps, Spells, role_of}
-use Rattle.world_nodes.specs.Inside.{mem_told, mem_plan, mem_faults, NoneListed, Half, kept_half, leaves_of, down_kind, down_halves, up_halves, up_hash, Opens, empty_disk, member_kind, view_of, IsOf, IsWho, IsWhole, IsBegun, AreBegun, first_note, IsIdentityOf, IsDeclared, NoFuses}
+use Rattle.world_nodes.specs.Nodes.{NodeView, EachKeeps, Spells, role_of, with_opening, with_beginning, begun_alone, begun_beside_leaves, begun_leaves, DiskBegan, DisksBegan}
+use Rattle.world_nodes.specs.Inside.{mem_told, mem_plan, mem_faults, NoneListed, Half, kept_half, leaves_of, down_kind, down_halves, up_halves, up_hash, Opens, empty_disk, member_kind, view_of, IsOf, IsWho, IsWhole, IsBegun, AreBegun, notes_told, leaves_told, first_note, IsIdentityOf, IsDeclared, NoFuses}
 use Rattle.world_nodes.proofs.Halves.{planned_listed}
-use Rattle.world_nodes.proofs.Runs.{KeepsAll, up_has, keeps_view, up_opened, opened_keeps, opened_same, whole_opened}
+use Rattle.world_nodes.proofs.Runs.{KeepsAll, up_has, keeps_view, up_opened, opened_told, opened_keeps, opened_same, whole_opened}
 
 -- a disk that is settled with these records
 pub begun_half : (records : List (List ℕ)) (disk : MemState) → IsSettled disk.history records → NoneListed disk
@@ -183,3 +183,67 @@ pub owner_is : (who : WalletIdentity) (key : List ℕ) → key ≡ public_key_of
     → record { account = who.account; key = key } ≡ owner_of who
 unfolding owner_of
 owner_is who key is = ap (λ (k : List ℕ). record { account = who.account; key = k }) is
+
+-- what the disks tell that were opened
+pub declared_told : {H : Type 0} (digest : H → List ℕ → List ℕ) (hash : H) (member : Member) (down : DownNode)
+    (up : UpNode H) → IsDeclared member down → Opens (digest hash) down up
+    → ((up_halves up).notes.disk.history ≡ with_opening (notes_told down))
+    × (option_map (λ (half : Half). half.disk.history) (up_halves up).leaves
+    ≡ option_map with_opening (leaves_told down))
+declared_told digest hash member down up is opens =
+    let opened = up_opened (digest hash) down up opens (begun_keeps (first_note down) down is.begun) in
+    (opened.notes.told, opened_told (down_halves down).leaves (up_halves up).leaves opened.leaves)
+
+-- what a disk tells that was begun
+pub alone_told : (steps : List ℕ → List Step) (old new : MemState) (result : Result Unit InitRefusal) (done : Unit {0})
+    → result ≡ Ok done → Inits mem_told mem_plan steps old result new
+    → new.history ≡ with_beginning steps old.history
+alone_told steps old new result done ok inits =
+    let over = subst (λ (r : Result Unit InitRefusal).
+    InitsOver mem_told mem_plan steps (content old.history) old r new) ok (inits old.history refl) in
+    cc over.1.calls
+
+-- and that was asked for its length before
+pub asked_told : (old new : MemState) → IsAsked mem_told mem_plan mem_faults old new
+    → new.history ≡ with_call asks_length false old.history
+asked_told old new asked = cc asked.called.history
+
+pub pair_told : (identity : List ℕ) (notes leaves new_notes new_leaves : MemState) (result : Result Unit InitRefusal)
+    (done : Unit {0}) → result ≡ Ok done
+    → BeginsPair mem_told mem_plan mem_faults mem_told mem_plan mem_faults identity notes leaves result
+    new_notes new_leaves
+    → notes ≡ empty_disk → leaves ≡ empty_disk
+    → (new_notes.history ≡ begun_beside_leaves identity) × (new_leaves.history ≡ begun_leaves)
+pair_told identity notes leaves new_notes new_leaves result done ok begins empty empty' =
+    let both = subst (λ (r : Result Unit InitRefusal). BeginsPair mem_told mem_plan mem_faults mem_told
+    mem_plan mem_faults identity notes leaves r new_notes new_leaves) ok begins in (
+      alone_told (init_steps identity) both.0 new_notes (Ok tt) tt refl both.2.0.inits
+          ∙ ap (with_beginning (init_steps identity))
+          (asked_told notes both.0 both.1 ∙ ap (λ (d : MemState). with_call asks_length false d.history) empty),
+      alone_told journal_steps leaves new_leaves (Ok tt) tt refl both.2.1.inits
+          ∙ ap (λ (d : MemState). with_beginning journal_steps d.history) empty',
+    )
+
+-- a node that is declared, over disks that were begun and opened
+module _ {H E : Type 0} (identity : List ℕ) (down : DownNode) where
+  pub declared_alone : (result : Result (NodeView H) E) → notes_told down ≡ begun_alone identity
+      → leaves_told down ≡ None
+      → IfOk result (λ entry. entry.notes_disk ≡ with_opening (notes_told down))
+      → IfOk result (λ entry. entry.leaves_disk ≡ option_map with_opening (leaves_told down))
+      → IfOk result (DiskBegan identity)
+  declared_alone (Err why) notes leaves of_notes of_leaves = tt
+  declared_alone (Ok entry) notes leaves of_notes of_leaves = record {
+    notes = of_notes ∙ ap with_opening notes;
+    leaves = of_leaves ∙ ap (option_map with_opening) leaves;
+  }
+
+  pub declared_both : (result : Result (NodeView H) E) → notes_told down ≡ begun_beside_leaves identity
+      → leaves_told down ≡ Some begun_leaves
+      → IfOk result (λ entry. entry.notes_disk ≡ with_opening (notes_told down))
+      → IfOk result (λ entry. entry.leaves_disk ≡ option_map with_opening (leaves_told down))
+      → IfOk result (DisksBegan identity)
+  declared_both (Err why) notes leaves of_notes of_leaves = tt
+  declared_both (Ok entry) notes leaves of_notes of_leaves = record {
+    notes = of_notes ∙ ap with_opening notes;
+    leaves = of_leaves ∙ ap (option_map with_opening) leaves;
+  }

@@ -384,6 +384,13 @@ pub record AreBegun (identity : List ℕ) (down : DownNode) : Type 0 where
   pub notes : IsBegun (identity ∷ []) (down_halves down).notes
   pub leaves : ForSome (down_halves down).leaves (IsBegun [])
 
+-- what the disks of a node that is down tell: of its notes, and of the leaves that it has
+abbrev pub notes_told : DownNode → History
+notes_told down = (down_halves down).notes.disk.history
+
+abbrev pub leaves_told : DownNode → Option History
+leaves_told down = option_map (λ half. half.disk.history) (down_halves down).leaves
+
 -- the first note that the disks keep
 abbrev pub first_note : DownNode → List ℕ
 first_note down = unwrap_or (slice_get (down_halves down).notes.records 0) []

@@ -1,14 +1,15 @@
 -- A node of a world over disks in memory, and what may be said of it: what its disks leave, and what an order, a crash
 -- and a declaration do.
-use Rattle.std.specs.Prelude.{◌≡◌, ℕ, Bool, true, false, ◌&&◌, not, List, length, codes, Option, Some, None, option_map, MatchBool}
+use Rattle.std.specs.Prelude.{◌≡◌, ℕ, Bool, true, false, ◌&&◌, not, List, [], length, codes, Option, Some, None, option_map, MatchBool}
 use Rattle.std.specs.Option.{ForSome, is_some}
-use Rattle.crash_disk.specs.Disk.{History, fresh_history, content, MayLeave}
-use Rattle.crash_disk.specs.Calls.{with_made}
+use Rattle.crash_disk.specs.Disk.{Step, asks_length, History, fresh_history, content, with_call, MayLeave}
+use Rattle.crash_disk.specs.Calls.{with_made, passed, after_course}
 use Rattle.crash_disk.specs.Outcomes.{image_after}
 use Rattle.crash_disk.specs.declared.outcome.Outcome.{Outcome}
 use Rattle.gate_journal.specs.Image.{spelled}
 use Rattle.gate_journal.specs.Steps.{append_steps, open_steps}
 use Rattle.gate_journal.specs.Journal.{Keeps}
+use Rattle.node_journal.specs.Begin.{init_steps, journal_steps}
 use Rattle.node_journal.specs.Role.{are_of}
 use Rattle.plasma_tx.specs.declared.call.RootCall.{RootCall}
 use Rattle.node_rules.specs.declared.identity.WalletIdentity.{WalletIdentity}
@@ -78,6 +79,41 @@ abbrev pub new_operator : List ℕ → ℕ → Node
 new_operator tag account =
     new_node Operator (codes "op") account (operator_text (record { tag = tag; account = account; key_seed = None }))
 
+-- what a disk tells that held nothing
+abbrev pub empty_history : History
+empty_history = fresh_history []
+
+-- what a disk tells after the device calls of an init or of the beginning of leaves, all of which passed
+abbrev pub with_beginning : (List ℕ → List Step) → History → History
+with_beginning steps disk = after_course passed (steps (content disk)) disk
+
+-- what the notes' disk of a watcher or an operator tells that was begun with this identity
+abbrev pub begun_alone : List ℕ → History
+begun_alone identity = with_beginning (init_steps identity) empty_history
+
+-- what that of a wallet tells: it was asked for its length first, to see where to begin
+abbrev pub begun_beside_leaves : List ℕ → History
+begun_beside_leaves identity = with_beginning (init_steps identity) (with_call asks_length false empty_history)
+
+-- what the disk of its leaves tells
+abbrev pub begun_leaves : History
+begun_leaves = with_beginning journal_steps empty_history
+
+-- what a disk tells after an opening
+abbrev pub with_opening : History → History
+with_opening disk = with_made 3 (open_steps (content disk)) disk
+
+-- the disk of a watcher or an operator that is declared: it held nothing, was begun with this identity, and was opened
+pub record DiskBegan {H : Type 0} (identity : List ℕ) (view : NodeView H) : Type 0 where
+  pub notes : view.notes_disk ≡ with_opening (begun_alone identity)
+  pub leaves : view.leaves_disk ≡ None
+
+-- The disks of a wallet that is declared: they held nothing, were begun with this identity and with no leaf's record,
+-- and were opened.
+pub record DisksBegan {H : Type 0} (identity : List ℕ) (view : NodeView H) : Type 0 where
+  pub notes : view.notes_disk ≡ with_opening (begun_beside_leaves identity)
+  pub leaves : view.leaves_disk ≡ Some (with_opening begun_leaves)
+
 -- ---- orders
 
 -- the order opens a node that is down
@@ -101,10 +137,6 @@ after_order node doing = record (with_records node doing) { is_up = true; offers
 abbrev pub with_append : List (List ℕ) → Option (List ℕ) → History → History
 with_append records None disk = disk
 with_append records (Some body) disk = with_made 4 (append_steps (length (spelled records)) body) disk
-
--- what a disk tells after an opening
-abbrev pub with_opening : History → History
-with_opening disk = with_made 3 (open_steps (content disk)) disk
 
 -- what a disk tells after an order: the calls of an opening, or those of an append, if there was one
 abbrev pub disk_after : Bool → List (List ℕ) → Option (List ℕ) → History → History

@@ -1,12 +1,12 @@
-ghost use Rattle.std.specs.Prelude.{◌≡◌, ◌<◌, ◌^◌, ◌∷◌, [], length, true, None, codes, IfOk};
+ghost use Rattle.std.specs.Prelude.{◌≡◌, ◌<◌, ◌^◌, ◌∷◌, [], length, true, Some, None, codes, option_map, IfOk};
 ghost use Rattle.lms_sign.specs.Types.{is_supported};
 ghost use Rattle.node_rules.specs.WalletRecords.{identity_text, secret_of, who_is};
 ghost use Rattle.node_rules.specs.Watcher.{identity_text as watcher_text};
 ghost use Rattle.operator_rules.specs.Records.{identity_text as operator_text};
 ghost use Rattle.world_rules.specs.Steps.{new_node};
 ghost use Rattle.world_nodes.specs.declared.order.NodeKind.{NodeKind};
-ghost use Rattle.world_nodes.specs.Nodes.{new_wallet, new_watcher, new_operator, role_of, Spells};
-ghost use Rattle.world_nodes.specs.Inside.{empty_disk, down_halves, down_kind, member_kind, first_note, AreBegun, IsDeclared, IsIdentityOf, IsOf, NoFuses};
+ghost use Rattle.world_nodes.specs.Nodes.{new_wallet, new_watcher, new_operator, role_of, begun_alone, begun_beside_leaves, begun_leaves, with_opening, DiskBegan, DisksBegan, Spells};
+ghost use Rattle.world_nodes.specs.Inside.{empty_disk, down_halves, down_kind, member_kind, notes_told, leaves_told, first_note, AreBegun, IsDeclared, IsIdentityOf, IsOf, NoFuses};
 
 use super::boxed::{BoxedMember, BoxedSite};
 use super::down::DownNode;
@@ -51,6 +51,8 @@ fn over<H: Hash32 + Copy>(
     requires { IsDeclared member down }
     ensures node { IfOk result (λ entry.
         entry.node ≡ new_node (role_of (member_kind member)) name account (first_note down)) }
+    ensures notes_disk { IfOk result (λ entry. entry.notes_disk ≡ with_opening (notes_told down)) }
+    ensures leaves_disk { IfOk result (λ entry. entry.leaves_disk ≡ option_map with_opening (leaves_told down)) }
     ensures spells { IfOk result Spells }
     ensures hash { IfOk result (λ entry. entry.hash ≡ hash) }
 {
@@ -74,6 +76,8 @@ fn begin_wallet(alloc: Global, who: &WalletIdentity, key: WalletKey) -> Result<D
     ensures begun { IfOk result (AreBegun (identity_text who.now)) }
     ensures unfused { IfOk result (λ down. NoFuses (down_halves down)) }
     ensures kind { IfOk result (λ down. down_kind down ≡ NodeKind.Wallet) }
+    ensures notes_told { IfOk result (λ down. notes_told down ≡ begun_beside_leaves (identity_text who.now)) }
+    ensures leaves_told { IfOk result (λ down. leaves_told down ≡ Some begun_leaves) }
 {
     match WalletNode::init(alloc, empty_disk(alloc), empty_disk(alloc), who) {
         (notes, leaves, Ok(())) => Ok(DownNode::Wallet { notes, leaves, key }),
@@ -112,6 +116,9 @@ fn begin_watcher(alloc: Global, tag: &[u8; 32], account: u64) -> Result<DownNode
     ensures begun { IfOk result (AreBegun (watcher_text (record { tag = tag.now; account = account }))) }
     ensures unfused { IfOk result (λ down. NoFuses (down_halves down)) }
     ensures kind { IfOk result (λ down. down_kind down ≡ NodeKind.Watcher) }
+    ensures notes_told { IfOk result (λ down. notes_told down
+        ≡ begun_alone (watcher_text (record { tag = tag.now; account = account }))) }
+    ensures leaves_told { IfOk result (λ down. leaves_told down ≡ None) }
     ensures role { IsIdentityOf NodeKind.Watcher (watcher_text (record { tag = tag.now; account = account })) }
 {
     are_sized(*tag, account, *tag);
@@ -127,6 +134,9 @@ fn begin_operator(alloc: Global, tag: &[u8; 32], account: u64) -> Result<DownNod
         (operator_text (record { tag = tag.now; account = account; key_seed = None }))) }
     ensures unfused { IfOk result (λ down. NoFuses (down_halves down)) }
     ensures kind { IfOk result (λ down. down_kind down ≡ NodeKind.Operator) }
+    ensures notes_told { IfOk result (λ down. notes_told down
+        ≡ begun_alone (operator_text (record { tag = tag.now; account = account; key_seed = None }))) }
+    ensures leaves_told { IfOk result (λ down. leaves_told down ≡ None) }
     ensures role { IsIdentityOf NodeKind.Operator
         (operator_text (record { tag = tag.now; account = account; key_seed = None })) }
 {
@@ -156,6 +166,7 @@ impl<H: Hash32 + Copy> Entry<H> {
         requires { is_supported who.now.types ≡ true }
         ensures node { IfOk result (λ entry. entry.node ≡ new_wallet name who.now) }
         ensures who { IfOk result (λ entry. who_is entry.node.notes ≡ who.now) }
+        ensures began { IfOk result (DisksBegan (identity_text who.now)) }
         ensures spells { IfOk result Spells }
         ensures hash { IfOk result (λ entry. entry.hash ≡ hash) }
     {
@@ -175,6 +186,7 @@ impl<H: Hash32 + Copy> Entry<H> {
         account: u64,
     ) -> Result<Entry<H>, NoMemory>
         ensures node { IfOk result (λ entry. entry.node ≡ new_watcher name tag.now account) }
+        ensures began { IfOk result (DiskBegan (watcher_text (record { tag = tag.now; account = account }))) }
         ensures spells { IfOk result Spells }
         ensures hash { IfOk result (λ entry. entry.hash ≡ hash) }
     {
@@ -191,6 +203,8 @@ impl<H: Hash32 + Copy> Entry<H> {
         account: u64,
     ) -> Result<Entry<H>, NoMemory>
         ensures node { IfOk result (λ entry. entry.node ≡ new_operator tag.now account) }
+        ensures began { IfOk result (DiskBegan
+            (operator_text (record { tag = tag.now; account = account; key_seed = None }))) }
         ensures spells { IfOk result Spells }
         ensures hash { IfOk result (λ entry. entry.hash ≡ hash) }
     {

@@ -1,9 +1,11 @@
-use Rattle.std.proofs.Common.{None}
+use Rattle.std.proofs.Common.{None, ap, ◌∙◌}
+use Rattle.crash_disk.specs.Memory.{MemState}
 use Rattle.node_journal.specs.Begin.{init_steps}
 use Rattle.operator_rules.specs.Records.{identity_text}
+use Rattle.world_nodes.specs.Nodes.{with_beginning}
 use Rattle.world_nodes.specs.Inside.{HasNoFuse}
 use Rattle.world_nodes.proofs.Begun.{init-why, init-unfused}
-use Rattle.world_nodes.proofs.Declared.{alone_begun}
+use Rattle.world_nodes.proofs.Declared.{alone_begun, alone_told}
 use Rattle.world_nodes.proofs.Ready.{of-none}
 use Rattle.world_nodes.proofs.Roles.{operator-alone}
 use Rattle.world_nodes.proofs.declaring.begin_operator.Goals as goal
@@ -40,3 +42,10 @@ pub returns-in_default-Err-clause-role : goal.returns-in_default-Err-clause-role
 returns-in_default-Err-clause-role c =
     operator-alone (record { tag = c.args.tag.now; account = c.args.account; key_seed = None })
     (record { tag = c.are_sized.ensures.tag; account = c.are_sized.ensures.account; key_seed = tt })
+
+pub returns-in_default-Ok-clause-notes_told : goal.returns-in_default-Ok-clause-notes_told
+returns-in_default-Ok-clause-notes_told c =
+    let steps = init_steps (identity_text (record { tag = c.args.tag.now; account = c.args.account; key_seed = None })) in
+    alone_told steps c.empty_disk.result c.init.result.0 c.init.result.1 c.in_default-Ok.field-0-1 c.in_default-Ok.is-1
+    c.init.ensures.inits
+    ∙ ap (λ (disk : MemState). with_beginning steps disk.history) c.empty_disk.ensures

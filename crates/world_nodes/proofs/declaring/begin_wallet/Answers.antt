@@ -1,7 +1,8 @@
+use Rattle.std.proofs.Common.{Some, ap}
 use Rattle.node_rules.specs.WalletRecords.{identity_text}
 use Rattle.world_nodes.specs.Inside.{HasNoFuse, kept_half}
 use Rattle.world_nodes.proofs.Begun.{pair-why, pair-unfused}
-use Rattle.world_nodes.proofs.Declared.{both_begun}
+use Rattle.world_nodes.proofs.Declared.{both_begun, pair_told}
 use Rattle.world_nodes.proofs.Ready.{of-half}
 use Rattle.world_nodes.proofs.declaring.begin_wallet.Goals as goal
 
@@ -24,3 +25,16 @@ no_memory-requires c =
     pair-why (identity_text c.args.who.now) c.empty_disk.result c.empty_disk-2.result c.init.result.0
     c.init.result.1 c.init.result.2 c.empty_disk.ensures c.empty_disk-2.ensures c.init.ensures.inits
     c.in_default-default-Err.why c.in_default-default-Err.is-2
+
+pub returns-in_default-default-Ok-clause-notes_told : goal.returns-in_default-default-Ok-clause-notes_told
+returns-in_default-default-Ok-clause-notes_told c =
+    (pair_told (identity_text c.args.who.now) c.empty_disk.result c.empty_disk-2.result c.init.result.0
+    c.init.result.1 c.init.result.2 c.in_default-default-Ok.field-0-2 c.in_default-default-Ok.is-2
+    c.init.ensures.inits c.empty_disk.ensures c.empty_disk-2.ensures).0
+
+pub returns-in_default-default-Ok-clause-leaves_told : goal.returns-in_default-default-Ok-clause-leaves_told
+returns-in_default-default-Ok-clause-leaves_told c =
+    ap Some
+    (pair_told (identity_text c.args.who.now) c.empty_disk.result c.empty_disk-2.result c.init.result.0
+    c.init.result.1 c.init.result.2 c.in_default-default-Ok.field-0-2 c.in_default-default-Ok.is-2
+    c.init.ensures.inits c.empty_disk.ensures c.empty_disk-2.ensures).1

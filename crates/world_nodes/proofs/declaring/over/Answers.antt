@@ -4,7 +4,7 @@ use Rattle.world_rules.specs.Steps.{new_node}
 use Rattle.world_nodes.specs.declared.entry.Site.TheVariants.{Up}
 use Rattle.world_nodes.specs.Nodes.{role_of, Spells}
 use Rattle.world_nodes.specs.Inside.{first_note, member_kind, view_of}
-use Rattle.world_nodes.proofs.Declared.{declared_comes}
+use Rattle.world_nodes.proofs.Declared.{declared_comes, declared_told}
 use Rattle.world_nodes.proofs.Ready.{opened-unfused}
 use Rattle.world_nodes.proofs.ReadyAt.{declared-opens}
 use Rattle.world_nodes.proofs.declaring.over.Goals as goal
@@ -38,3 +38,15 @@ returns-clause-spells g c =
     (subst (λ (os : List RootCall). Spells (view_of c.args.hash c.args.name c.args.account c.args.member (Up
     c.in_ok-node.node) os))
     (sym c.new-2.ensures.items) all.1)
+
+pub returns-clause-notes_disk : goal.returns-clause-notes_disk
+returns-clause-notes_disk g c =
+    rw (c.in_ok-member.ensures, c.in_ok-site.ensures)
+    (declared_told g.H.Hash32.digest_of c.args.hash c.args.member c.args.down c.in_ok-node.node c.requires
+    c.in_ok-node.ensures.opens).0
+
+pub returns-clause-leaves_disk : goal.returns-clause-leaves_disk
+returns-clause-leaves_disk g c =
+    rw (c.in_ok-member.ensures, c.in_ok-site.ensures)
+    (declared_told g.H.Hash32.digest_of c.args.hash c.args.member c.args.down c.in_ok-node.node c.requires
+    c.in_ok-node.ensures.opens).1

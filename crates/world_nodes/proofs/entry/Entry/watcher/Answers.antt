@@ -1,6 +1,6 @@
 use Rattle.node_rules.specs.Watcher.{identity_text}
 use Rattle.world_nodes.specs.declared.entry.Member.TheVariants.{Watcher}
-use Rattle.world_nodes.proofs.Declared.{declared}
+use Rattle.world_nodes.proofs.Declared.{declared, declared_alone}
 use Rattle.world_nodes.proofs.entry.Entry.watcher.Goals as goal
 
 pub over-requires : goal.over-requires
@@ -8,3 +8,9 @@ over-requires g c =
     declared (identity_text (record { tag = c.args.tag.now; account = c.args.account })) Watcher
     c.in_ok-down.down c.in_ok-down.ensures.kind c.in_ok-down.ensures.begun c.in_ok-down.ensures.unfused
     c.in_ok-down.ensures.role tt
+
+pub returns-clause-began : goal.returns-clause-began
+returns-clause-began g c =
+    declared_alone (identity_text (record { tag = c.args.tag.now; account = c.args.account })) c.in_ok-down.down
+    c.over.result c.in_ok-down.ensures.notes_told c.in_ok-down.ensures.leaves_told c.over.ensures.notes_disk
+    c.over.ensures.leaves_disk
