@@ -5,6 +5,8 @@ MANY = 199_000  # lines; a schedule has at most 200,000
 EXIT_OPENS = 907_200  # seconds from an exit's start to its finish
 # The generators, by name: each with the size that bench/replay takes.
 SCHEDULES = {}
+# Those that bench/replay --hostile takes, by name: each with three sizes.
+GROWING = {}
 
 
 class Schedule:
@@ -31,6 +33,13 @@ class Schedule:
             self(f"wallet w{n} {100 + n} {n + 1}{types}")
             self(f"fund {100 + n} 1000000")
 
+    def stranger(self, types="", coins=1):
+        """A rogue r with money and so many coins, 1 and so on."""
+        self(f"rogue r 50 999{types}")
+        self("fund 50 100000000000")
+        for _ in range(coins):
+            self("call 50 deposit 10 r")
+
     def sealed(self):
         self("seal")
         return self("enter op 1")
@@ -49,12 +58,37 @@ class Schedule:
         self(f"accept w{taker} #{bundle}")
         return bundle
 
+    def moves(self, blocks, coins=1):
+        """The first coins of the rogue r move in each of so many blocks: of each the line of its first transfer."""
+        tips, first = list(range(1, coins + 1)), None
+        for block in range(coins + 1, coins + 1 + blocks):
+            signed = [self(f"sign r {block % 32} {coin} {tip} r") for coin, tip in enumerate(tips, 1)]
+            for coin, line in enumerate(signed, 1):
+                self(f"lay {coin} #{line}")
+            self.sealed()
+            first, tips = first or signed, [block] * coins
+        return first
+
+    def proofs(self, blocks):
+        """The line of the opening at coin 1, by block."""
+        return {block: self(f"prove 1 {block}") for block in blocks}
+
 
 def generator(size):
     """Gives a function its place among the generators: its name is that of the function, with blanks."""
 
     def named(make):
         SCHEDULES[make.__name__.replace("_", " ")] = make, size
+        return make
+
+    return named
+
+
+def growing(*sizes):
+    """The same, for a generator that is tried in three sizes."""
+
+    def named(make):
+        GROWING[make.__name__.replace("_", " ")] = make, sizes
         return make
 
     return named
