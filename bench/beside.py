@@ -1,5 +1,5 @@
-"""What bench/replay and bench/nodes share: two programs that do the same in turns, the ratios of what they take, and how
-that grows where the same is done in several sizes."""
+"""What bench/replay and bench/nodes share: two programs that do the same in turns, the ratios of what they take, and
+how that grows where the same is done in several sizes."""
 import collections
 import datetime
 import hashlib
@@ -106,6 +106,23 @@ def print_missed(count, missed):
     print(f"{count} rows; missed: {', '.join(kinds) or 'nothing'}")
 
 
+# ---- words
+
+
+def add_words(parser):
+    """The words that both scripts take."""
+    for flag in ("--goals", "--once"):
+        parser.add_argument(flag, action="store_true")
+    parser.add_argument("--quick", dest="sizes", action="store_const", const=1)
+    parser.add_argument("--sizes", type=int, default=3, metavar="N")
+    parser.add_argument("--only", default="", metavar="TEXT")
+    parser.add_argument("--part", type=int, default=1, metavar="N")
+    parser.add_argument("--seconds", type=int, default=60, metavar="S")
+    parser.add_argument("--write", metavar="FILE")
+    parser.add_argument("program", type=os.path.abspath)
+    parser.add_argument("peer", nargs="?", type=os.path.abspath)
+
+
 # ---- how it grows
 
 
@@ -113,7 +130,7 @@ def in_sizes(things, at_size, words):
     """The rows of things in sizes that rise, by name: all in the smallest size, then in the next. Behind a size in
     which a program is killed no larger one is tried. What is there is written after each row."""
     table = {name: [] for name in things}
-    for turn in range(1 if words.quick else max(map(len, things.values()), default=0)):
+    for turn in range(words.sizes):
         for name, sizes in things.items():
             if turn < len(sizes) and not any(map(is_killed, [run for it in table[name] for run in it.runs])):
                 found = at_size(name, sizes[turn] // words.part or 1)
@@ -145,7 +162,8 @@ def is_faster(rows):
 
 def print_growths(table):
     """How each thing grew, by its rows; at the end which grow faster than the peer's."""
-    print(f"\n{'time by the size, to a power':37} {'ours':>6} {'peer':>6}   {'ratios of time':24} {'memory':>6} {'peer':>6}")
+    head = f"{'time by the size, to a power':37} {'ours':>6} {'peer':>6}   {'ratios of time':24}"
+    print(f"\n{head} {'memory':>6} {'peer':>6}")
     for name, rows in table.items():
         ours, peer, *memory = ("" if it is None else f"{it:.2f}" for it in growths(rows))
         ratios = " ".join(f"{time_of(it.runs):7.2f}" for it in rows)
@@ -156,24 +174,32 @@ def print_growths(table):
 
 
 COLUMNS = ("name size lines seconds peer_seconds time goal megabytes peer_megabytes memory text missed exponent"
-           " peer_exponent memory_exponent peer_memory_exponent")
+           " peer_exponent memory_exponent peer_memory_exponent date load program peer").split()
+
+
+def sum_of(program):
+    with open(program, "rb") as file:
+        return hashlib.sha256(file.read()).hexdigest()[:12]
+
+
+def spelled(it, rows, origin):
+    """A row as words; the exponents stand at the last size."""
+    ours, peer = it.runs
+    words = [it.name, it.size, it.lines, taken(ours), taken(peer), f"{time_of(it.runs):.2f}", it.goal]
+    words += [f"{ours.peak / 1024:.1f}", f"{peer.peak / 1024:.1f}", f"{memory_of(it.runs):.2f}", it.text]
+    grown = growths(rows) if it is rows[-1] else [None] * 4
+    return [*words, " ".join(it.missed), *("" if of is None else f"{of:.2f}" for of in grown), *origin]
 
 
 def write(path, table, programs):
-    """Writes the rows as data: columns with a tab between, the exponents at the last size of each name."""
-    sums = []
-    for program in programs:
-        with open(program, "rb") as file:
-            sums.append(hashlib.sha256(file.read()).hexdigest()[:16])
-    load = f"load {os.getloadavg()[2]:.1f} on {os.cpu_count()} processors"
+    """Puts the rows into a file as data, with a tab between columns, in place of what it has under the same names.
+    The load is how many processes waited for each processor, in the last minutes."""
+    load = f"{os.getloadavg()[2] / os.cpu_count():.1f}"
+    origin = [datetime.date.today(), load, *map(sum_of, programs)]
+    kept = []
+    if os.path.exists(path):
+        with open(path, encoding="ascii") as file:
+            kept = [line for line in file.read().splitlines()[1:] if line.split("\t")[0] not in table]
+    new = ["\t".join(map(str, spelled(it, rows, origin))) for rows in table.values() for it in rows]
     with open(path, "w", encoding="ascii") as file:
-        file.write(f"# {datetime.date.today()}, {load}; program {sums[0]}, peer {sums[1]}\n")
-        file.write(COLUMNS.replace(" ", "\t") + "\n")
-        for rows in table.values():
-            for it in rows:
-                ours, peer = it.runs
-                words = [it.name, it.size, it.lines, taken(ours), taken(peer), f"{time_of(it.runs):.2f}", it.goal,
-                         f"{ours.peak / 1024:.1f}", f"{peer.peak / 1024:.1f}", f"{memory_of(it.runs):.2f}", it.text,
-                         " ".join(it.missed)]
-                words += ["" if of is None else f"{of:.2f}" for of in growths(rows)] if it is rows[-1] else [""] * 4
-                file.write("\t".join(map(str, words)).rstrip("\t") + "\n")
+        file.writelines(f"{line}\n" for line in ["\t".join(COLUMNS), *kept, *new])
