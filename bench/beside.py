@@ -113,7 +113,7 @@ def add_words(parser):
     """The words that both scripts take."""
     for flag in ("--goals", "--once"):
         parser.add_argument(flag, action="store_true")
-    parser.add_argument("--quick", dest="sizes", action="store_const", const=1)
+    parser.add_argument("--quick", dest="sizes", action="store_const", const=1, default=3)
     parser.add_argument("--sizes", type=int, default=3, metavar="N")
     parser.add_argument("--only", default="", metavar="TEXT")
     parser.add_argument("--part", type=int, default=1, metavar="N")
