@@ -185,20 +185,23 @@ class Played:
 
     def call(self, line):
         """A call that was accepted joins the log."""
-        if not is_good(line):
-            return
+        if is_good(line):
+            self.log.append(self.called(line))
+
+    def called(self, line):
+        """The line's call, as a line of a log; none where no such offer is there."""
         if line.form == "enter":
-            self.log.append(self.offers[line.get("node")][int(line.get("number")) - 1])
-        elif line.form == "deposit":
+            offers, number = self.offers.get(line.get("node"), []), int(line.get("number"))
+            return offers[number - 1] if 0 < number <= len(offers) else None
+        if line.form == "deposit":
             account, _ = self.accounts[line.get("wallet")]
-            self.log.append(f"call {account} deposit {line.get('amount')} 0x{self.owners[line.get('wallet')][16:]}")
-        elif line.form in ("fund", "tick"):
-            self.log.append(line.text)
-        else:
-            words = [self.bytes_of(word) for word in line.text.split(" ")]
-            if words[2] == "deposit" and not line.text.endswith(words[4]):
-                words[4] = "0x" + words[4][18:]
-            self.log.append(" ".join(words))
+            return f"call {account} deposit {line.get('amount')} 0x{self.owners[line.get('wallet')][16:]}"
+        if line.form in ("fund", "tick"):
+            return line.text
+        words = [self.bytes_of(word) for word in line.text.split(" ")]
+        if words[2] == "deposit" and not line.text.endswith(words[4]):
+            words[4] = "0x" + words[4][18:]
+        return " ".join(words)
 
 
 # ---- schedules

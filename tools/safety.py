@@ -250,6 +250,37 @@ class Judge:
             for one in it.challenges)
 
 
+# ---- held to the proved program
+
+# What each of the proved program's words that isn't good is here.
+WORSE = {"act": "ACT BY", "late": "TOO LATE", "gone": "GONE", "frozen": "ACT BY", "stale": "STALE"}
+
+
+def hold(verdicts, told, log):
+    """Takes the proved program's word for each coin where it is the worse one, and its calls where they are more."""
+    left = {}
+    for coin, words, lines in told or []:
+        left.setdefault(coin, []).append((words, lines))
+    for it in verdicts:
+        if left.get(it.coin):
+            hold_one(it, *left[it.coin].pop(0), log)
+
+
+def hold_one(it, words, lines, log):
+    if it.word in GOOD and words[0] in WORSE:
+        it.word = WORSE[words[0]]
+        it.notes.append(f"the proved program says '{' '.join(words)}' of it")
+    known = {due.call for due in it.due}
+    for line in lines:
+        kind = line.split(" ")[2] if line.startswith("call ") else ""
+        if line in known or kind not in ("after", "between", "before", "respond"):
+            continue
+        end = next((one.closes for one in it.exits if one.block == int(line.split(" ")[4])), log.clock)
+        it.due.append(Due(kind, end, CHALLENGE_BOND if kind == "before" else 0, 0, line, False, int(line.split(" ")[4])))
+    if words[0] == "act" and it.word == "ACT BY":
+        it.by = min(it.by if it.by is not None else int(words[1]) + 1, int(words[1]) + 1)
+
+
 # ---- all of it
 
 def costs_of(verdicts):
