@@ -1,11 +1,9 @@
-ghost use Rattle.std.specs.Prelude.{◌≡◌, ◌≤◌, IfOk};
+ghost use Rattle.std.specs.Prelude.{◌≡◌, ◌≤◌};
 ghost use Rattle.sparse_merkle.specs.TreeDigest.{default_digest, AreDefaults};
 
-use plasma_base::{Hash32, NoMemory};
+use plasma_base::Hash32;
 use sparse_merkle::{defaults, node_digest};
-use std::alloc::Global;
 use std::marker::Model;
-use std::rc::Rc;
 
 /// A digest, and the nodes of the map without a leaf under it. Contracts see the digest.
 #[derive(Drop)]
@@ -58,62 +56,5 @@ impl<H: Hash32 + Copy> Defaults<H> {
             return &self.root;
         }
         &self.below[level]
-    }
-}
-
-/// Whatever lends the defaults of a digest.
-pub trait LendsDefaults<H: Hash32 + Copy>: Drop {
-    /// The digest.
-    ghost hash_of: { Self → H };
-
-    /// The defaults, lent. It makes no digest and takes no memory.
-    fn defaults(&self) -> &Defaults<H>
-        ensures { result.now ≡ hash_of self.now };
-}
-
-impl<H: Hash32 + Copy> LendsDefaults<H> for Defaults<H> {
-    ghost hash_of = { λ defaults. defaults };
-
-    fn defaults(&self) -> &Defaults<H> {
-        self
-    }
-}
-
-/// The defaults of a digest, which many trees share. Contracts see the digest.
-#[derive(Drop)]
-pub struct SharedDefaults<H: Hash32 + Copy> {
-    defaults: Rc<Defaults<H>>,
-}
-
-impl<H: Hash32 + Copy> Model for SharedDefaults<H> {
-    ghost Value = { H };
-
-    ghost view = { λ d. d.defaults.value };
-}
-
-impl<H: Hash32 + Copy> SharedDefaults<H> {
-    /// The defaults of a digest, by 65 digests.
-    pub fn new(alloc: Global, hash: H) -> Result<SharedDefaults<H>, NoMemory>
-        ensures { IfOk result (λ made. made ≡ hash) }
-    {
-        let defaults = Rc::new(alloc, Defaults::new(hash))?;
-        Ok(SharedDefaults { defaults })
-    }
-
-    /// The same defaults, shared. It makes no digest and takes no memory: `NoMemory` comes only where
-    /// 2^64 - 1 share them already.
-    pub fn share(&self) -> Result<SharedDefaults<H>, NoMemory>
-        ensures { IfOk result (λ shared. shared ≡ self.now) }
-    {
-        let defaults = self.defaults.clone()?;
-        Ok(SharedDefaults { defaults })
-    }
-}
-
-impl<H: Hash32 + Copy> LendsDefaults<H> for SharedDefaults<H> {
-    ghost hash_of = { λ defaults. defaults };
-
-    fn defaults(&self) -> &Defaults<H> {
-        &self.defaults
     }
 }

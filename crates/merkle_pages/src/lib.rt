@@ -14,6 +14,6 @@ mod pages;
 mod tree;
 mod way;
 
-pub use defaults::{Defaults, LendsDefaults, SharedDefaults};
+pub use defaults::Defaults;
 pub use leaves::Leaves;
 pub use tree::{PagedTree, SharedTree};

@@ -5,7 +5,7 @@ ghost use Rattle.sparse_merkle.specs.PathProof.{proof_of_path};
 ghost use Rattle.sparse_merkle.specs.TreeDigest.{leaf_of, with_leaf, root_of, path_to, subtree_digest};
 ghost use Rattle.merkle_pages.specs.Nodes.{part_at, KeepsNodes};
 
-use super::defaults::{Defaults, LendsDefaults, SharedDefaults};
+use super::defaults::Defaults;
 use super::leaves::Leaves;
 use super::nodes::add_nodes;
 use super::pages::{Pages, kept_node, sibling_coin, siblings};
@@ -14,36 +14,49 @@ use plasma_base::{Hash32, NoMemory};
 use sparse_merkle::{Proof, bit, leaf_digest, parent_bytes};
 use std::alloc::Global;
 use std::collections::BTreeMap;
-use std::marker::{Model, PhantomData};
+use std::marker::Model;
 
-/// A finite map from coins to leaves that aren't empty, with the nodes of its tree under one digest.
-/// Contracts see that digest and the entries in rising order of coins.
-///
-/// It holds the defaults of the digest itself, or shares them with other trees.
+/// A finite map from coins to leaves that aren't empty, with the nodes of its tree under one digest, whose
+/// defaults it holds itself. Contracts see that digest and the entries in rising order of coins.
 ///
 /// A page keeps no node that is the default of its level. It may be the node of a part of the map with
 /// leaves, where the digest collides: a node that isn't kept is read as the default, which it then is.
 #[derive(Drop)]
-pub struct PagedTree<H: Hash32 + Copy, D: LendsDefaults<H> = Defaults<H>> {
+pub struct PagedTree<H: Hash32 + Copy> {
+    defaults: Defaults<H>,
+    tree: SharedTree<H>,
+}
+
+impl<H: Hash32 + Copy> Model for PagedTree<H> {
+    ghost use Rattle.std.specs.Prelude.{◌≡◌};
+    ghost use Rattle.merkle_pages.specs.Nodes.{HashedMap};
+
+    ghost Value = { HashedMap H };
+
+    ghost view = { λ t. t.tree };
+
+    ghost invariant = { λ t. t.tree.hash ≡ t.defaults };
+}
+
+/// The same tree without the defaults of its digest, which each call that needs them is lent: so many trees
+/// share them, and a tree without a leaf takes no memory.
+#[derive(Drop)]
+pub struct SharedTree<H: Hash32 + Copy> {
     alloc: Global,
-    digest: PhantomData<H>,
-    defaults: D,
+    hash: H,
     root: [u8; 32],
     leaves: Leaves,
     pages: Pages,
 }
 
-/// A tree that shares its defaults, so that many take little memory.
-pub type SharedTree<H> = PagedTree<H, SharedDefaults<H>>;
-
-impl<H: Hash32 + Copy, D: LendsDefaults<H>> Model for PagedTree<H, D> {
+impl<H: Hash32 + Copy> Model for SharedTree<H> {
     ghost use Rattle.merkle_pages.specs.Nodes.{HashedMap, KeepsNodes};
 
     ghost Value = { HashedMap H };
 
-    ghost view = { λ t. record { hash = D.hash_of t.defaults; entries = t.leaves } };
+    ghost view = { λ t. record { hash = t.hash; entries = t.leaves } };
 
-    ghost invariant = { λ t. KeepsNodes (H.digest_of (D.hash_of t.defaults)) t.leaves t.root t.pages };
+    ghost invariant = { λ t. KeepsNodes (H.digest_of t.hash) t.leaves t.root t.pages };
 }
 
 // The root of a tree, and the pages of its other nodes.
@@ -72,32 +85,123 @@ impl<H: Hash32 + Copy> PagedTree<H> {
         ensures { result ≡ record { hash = h; entries = [] } }
     {
         let defaults = Defaults::new(h);
-        let root = *defaults.of_level(64);
-        PagedTree {
+        let tree = SharedTree::new(alloc, &defaults);
+        PagedTree { defaults, tree }
+    }
+
+    /// The tree of a map, as `SharedTree::of_leaves`.
+    pub fn of_leaves(
+        alloc: Global,
+        defaults: Defaults<H>,
+        leaves: Leaves,
+    ) -> Result<PagedTree<H>, Leaves>
+        ensures made { IfOk result (λ tree. tree ≡ record { hash = defaults; entries = leaves }) }
+        ensures returned { IfErr result (λ returned. returned ≡ leaves) }
+    {
+        match SharedTree::of_leaves(alloc, &defaults, leaves) {
+            Ok(tree) => Ok(PagedTree { defaults, tree }),
+            Err(leaves) => Err(leaves),
+        }
+    }
+
+    /// The map, without the nodes. It takes no memory.
+    pub fn into_leaves(self) -> Leaves
+        ensures { result ≡ self.entries }
+    {
+        let PagedTree { tree, .. } = self;
+        tree.into_leaves()
+    }
+
+    /// The number of coins that have a leaf.
+    pub fn len(&self) -> usize
+        ensures { result ≡ length self.now.entries }
+    {
+        self.tree.len()
+    }
+
+    /// Puts the leaf at the coin in place of the one before, and changes no other coin. An empty leaf
+    /// removes. Where memory runs out nothing changes. It makes 65 digests.
+    pub fn put(&mut self, coin: u64, leaf: &[u8]) -> Result<(), NoMemory>
+        ensures ok { OnOk result (self.new.entries ≡ with_leaf self.old.entries coin leaf.now) }
+        ensures err { OnErr result (self.new.entries ≡ self.old.entries) }
+        ensures hash { self.new.hash ≡ self.old.hash }
+    {
+        self.tree.put(&self.defaults, coin, leaf)
+    }
+
+    /// The leaf of the coin, lent; `None` exactly where the coin has none.
+    pub fn leaf(&self, coin: u64) -> Option<&[u8]>
+        ensures { MatchOption result (leaf_of self.now.entries coin ≡ [])
+            (λ leaf. (leaf.now ≡ leaf_of self.now.entries coin) × (leaf.now ≢ [])) }
+    {
+        self.tree.leaf(coin)
+    }
+
+    /// The root, lent. It makes no digest.
+    pub fn root(&self) -> &[u8; 32]
+        ensures { result.now ≡ root_of (H.digest_of self.now.hash) self.now.entries }
+    {
+        self.tree.root()
+    }
+
+    /// The node at that level on the way up from the coin, lent: the digest of the part of the map whose
+    /// coins agree with this one in the bit of the level and in every higher bit. It takes no memory and
+    /// makes no digest.
+    pub fn node(&self, level: u32, coin: u64) -> &[u8; 32]
+        requires { level ≤ 64 }
+        ensures { result.now ≡ subtree_digest (H.digest_of self.now.hash) level (part_at level coin self.now.entries) }
+    {
+        self.tree.node(&self.defaults, level, coin)
+    }
+
+    /// The proof of what the map has at the coin, a leaf or none. It makes no digest.
+    pub fn prove(&self, coin: u64) -> Result<Proof, NoMemory>
+        ensures path { IfOk result
+            (λ proof. proof_path (H.digest_of self.now.hash) proof
+            ≡ path_to (H.digest_of self.now.hash) coin self.now.entries) }
+        ensures opens { IfOk result (λ proof. IsTrue
+            (is_opening (H.digest_of self.now.hash) (root_of (H.digest_of self.now.hash) self.now.entries) coin
+            (leaf_of self.now.entries coin) (proof_path (H.digest_of self.now.hash) proof))) }
+        ensures canonical { IfOk result (λ proof. IsTrue (is_canonical (H.digest_of self.now.hash) proof)) }
+        ensures is { IfOk result
+            (λ proof. proof ≡ proof_of_path (H.digest_of self.now.hash)
+            (path_to (H.digest_of self.now.hash) coin self.now.entries)) }
+    {
+        self.tree.prove(&self.defaults, coin)
+    }
+}
+
+impl<H: Hash32 + Copy> SharedTree<H> {
+    /// The tree of the map without a leaf, under the digest of the defaults. It takes no memory and makes no
+    /// digest.
+    pub fn new(alloc: Global, defaults: &Defaults<H>) -> SharedTree<H>
+        ensures { result ≡ record { hash = defaults.now; entries = [] } }
+    {
+        SharedTree {
             alloc,
-            digest: PhantomData,
-            defaults,
-            root,
+            hash: defaults.hash(),
+            root: *defaults.of_level(64),
             leaves: Leaves::new(alloc),
             pages: BTreeMap::new(alloc),
         }
     }
-}
 
-impl<H: Hash32 + Copy, D: LendsDefaults<H>> PagedTree<H, D> {
-    /// The tree of a map. It makes a digest for each node of a part with a leaf: at most 65 for a leaf,
+    /// The tree of a map, under the digest of the defaults. It makes a digest for each node of a part with a leaf: at most 65 for a leaf,
     /// and for coins that stand in a row about two. Where memory runs out the map is handed back.
-    pub fn of_leaves(alloc: Global, defaults: D, leaves: Leaves) -> Result<PagedTree<H, D>, Leaves>
-        ensures made { IfOk result (λ tree. tree ≡ record { hash = D.hash_of defaults; entries = leaves }) }
+    pub fn of_leaves(
+        alloc: Global,
+        defaults: &Defaults<H>,
+        leaves: Leaves,
+    ) -> Result<SharedTree<H>, Leaves>
+        ensures made { IfOk result (λ tree. tree ≡ record { hash = defaults.now; entries = leaves }) }
         ensures returned { IfErr result (λ returned. returned ≡ leaves) }
     {
-        match nodes_of(alloc, defaults.defaults(), &leaves) {
+        match nodes_of(alloc, defaults, &leaves) {
             Ok(nodes) => {
                 let TreeNodes { root, pages } = nodes;
-                Ok(PagedTree {
+                Ok(SharedTree {
                     alloc,
-                    digest: PhantomData,
-                    defaults,
+                    hash: defaults.hash(),
                     root,
                     leaves,
                     pages,
@@ -111,7 +215,7 @@ impl<H: Hash32 + Copy, D: LendsDefaults<H>> PagedTree<H, D> {
     pub fn into_leaves(self) -> Leaves
         ensures { result ≡ self.entries }
     {
-        let PagedTree { leaves, .. } = self;
+        let SharedTree { leaves, .. } = self;
         leaves
     }
 
@@ -124,12 +228,13 @@ impl<H: Hash32 + Copy, D: LendsDefaults<H>> PagedTree<H, D> {
 
     /// Puts the leaf at the coin in place of the one before, and changes no other coin. An empty leaf
     /// removes. Where memory runs out nothing changes. It makes 65 digests.
-    pub fn put(&mut self, coin: u64, leaf: &[u8]) -> Result<(), NoMemory>
+    fn put(&mut self, defaults: &Defaults<H>, coin: u64, leaf: &[u8]) -> Result<(), NoMemory>
+        requires { defaults.now ≡ self.old.hash }
         ensures ok { OnOk result (self.new.entries ≡ with_leaf self.old.entries coin leaf.now) }
         ensures err { OnErr result (self.new.entries ≡ self.old.entries) }
         ensures hash { self.new.hash ≡ self.old.hash }
     {
-        let digests = self.digests_with(coin, leaf);
+        let digests = self.digests_with(defaults, coin, leaf);
         put_on_way(
             self.alloc,
             &mut self.leaves,
@@ -137,7 +242,7 @@ impl<H: Hash32 + Copy, D: LendsDefaults<H>> PagedTree<H, D> {
             coin,
             leaf,
             &digests,
-            self.defaults.defaults().below(),
+            defaults.below(),
         )?;
         self.root = digests[64];
         Ok(())
@@ -165,8 +270,9 @@ impl<H: Hash32 + Copy, D: LendsDefaults<H>> PagedTree<H, D> {
     /// The node at that level on the way up from the coin, lent: the digest of the part of the map whose
     /// coins agree with this one in the bit of the level and in every higher bit. It takes no memory and
     /// makes no digest.
-    pub fn node(&self, level: u32, coin: u64) -> &[u8; 32]
-        requires { level ≤ 64 }
+    fn node<'a>(&'a self, defaults: &'a Defaults<H>, level: u32, coin: u64) -> &'a [u8; 32]
+        requires level { level ≤ 64 }
+        requires defaults { defaults.now ≡ self.now.hash }
         ensures { result.now ≡ subtree_digest (H.digest_of self.now.hash) level (part_at level coin self.now.entries) }
     {
         let level = level as usize;
@@ -175,12 +281,13 @@ impl<H: Hash32 + Copy, D: LendsDefaults<H>> PagedTree<H, D> {
         }
         match kept_node(&self.pages, level, coin) {
             Some(digest) => digest,
-            None => self.defaults.defaults().of_level(level),
+            None => defaults.of_level(level),
         }
     }
 
     /// The proof of what the map has at the coin, a leaf or none. It makes no digest.
-    pub fn prove(&self, coin: u64) -> Result<Proof, NoMemory>
+    pub fn prove(&self, defaults: &Defaults<H>, coin: u64) -> Result<Proof, NoMemory>
+        requires { defaults.now ≡ self.now.hash }
         ensures path { IfOk result
             (λ proof. proof_path (H.digest_of self.now.hash) proof
             ≡ path_to (H.digest_of self.now.hash) coin self.now.entries) }
@@ -192,24 +299,24 @@ impl<H: Hash32 + Copy, D: LendsDefaults<H>> PagedTree<H, D> {
             (λ proof. proof ≡ proof_of_path (H.digest_of self.now.hash)
             (path_to (H.digest_of self.now.hash) coin self.now.entries)) }
     {
-        let defaults = self.defaults.defaults().below();
-        let siblings = siblings(&self.pages, coin, defaults);
-        Proof::of_path(self.alloc, defaults, &siblings)
+        let below = defaults.below();
+        let siblings = siblings(&self.pages, coin, below);
+        Proof::of_path(self.alloc, below, &siblings)
     }
 
     // The digests on the way up from a coin, from its leaf to the root, once it has that leaf.
-    fn digests_with(&self, coin: u64, leaf: &[u8]) -> [[u8; 32]; 65]
+    fn digests_with(&self, defaults: &Defaults<H>, coin: u64, leaf: &[u8]) -> [[u8; 32]; 65]
+        requires { defaults.now ≡ self.now.hash }
         ensures { (level : ℕ) → level ≤ 64 → slice_index_or result level []
             ≡ subtree_digest (H.digest_of self.now.hash) level
             (part_at level coin (with_leaf self.now.entries coin leaf.now)) }
     {
-        let hash = self.defaults.defaults().hash();
         let mut digests = [[0; 32]; 65];
-        digests[0] = leaf_digest(&hash, leaf);
+        digests[0] = leaf_digest(&self.hash, leaf);
         for level in 0..64 {
-            let sibling = self.node(level as u32, sibling_coin(coin, level));
+            let sibling = self.node(defaults, level as u32, sibling_coin(coin, level));
             let string = parent_bytes(bit(coin, level), &digests[level], sibling);
-            digests[level + 1] = hash.digest(&string);
+            digests[level + 1] = self.hash.digest(&string);
         }
         digests
     }

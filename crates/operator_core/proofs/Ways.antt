@@ -6,7 +6,8 @@ use Rattle.std.proofs.lemmas.List.{get_or-map, length-map}
 use Rattle.std.proofs.lemmas.List.FromFn.{length-range_with_len, get_or-range_with_len}
 use Rattle.std.proofs.lemmas.List.Filters.{length-filter_both}
 use Rattle.std.proofs.lemmas.List.Kept.{AllPairs-filter}
-use Rattle.std.proofs.lemmas.Bool.{cases_lt, lt-ltb, le-ltb}
+use Rattle.std.specs.Prelude.{◌==◌, ◌&&◌, nat_lt, is_some}
+use Rattle.std.proofs.lemmas.Bool.{cases_lt, lt-ltb, le-ltb, eqb-true, or_cases, or_right, and_parts}
 use Rattle.std.proofs.lemmas.List.Elements.{filter-append, All-nil, All-push}
 use Rattle.sparse_merkle.specs.declared.tree.Entry.{Entry}
 use Rattle.sparse_merkle.specs.TreeDigest.{leaf_of}
@@ -19,12 +20,14 @@ use Rattle.plasma_tx.specs.Transfer.{transfer_in}
 use Rattle.plasma_tx.specs.Views.{blocks}
 use Rattle.coin_history.specs.History.{is_committed, committed_blocks, blocks_of}
 use Rattle.coin_history.specs.Bundles.{AreRising}
+use Rattle.coin_history.specs.Checking.{may_be_tip}
 use Rattle.coin_history.proofs.HistoryGrow.{committed-le}
 use Rattle.operator_rules.specs.declared.refusal.ProveRefusal.{ProveRefusal}
 use Rattle.operator_rules.specs.Trees.{tree_at, tree_of, opening_in_tree}
 use Rattle.operator_rules.specs.Walk.{Place, start_of, moved_by, transfer_at, place_at, present}
 use Rattle.operator_rules.proofs.Places.{transfer_at-idle}
-use Rattle.operator_rules.specs.Commands.{prove_by, with_opening, openings_of}
+use Rattle.operator_rules.specs.Commands.{prove_by, with_opening, openings_of, tip_asked}
+use Rattle.operator_core.specs.Known.{is_known, first_is_known, one_is_known, is_begun}
 
 -- ---- the walk
 
@@ -253,6 +256,99 @@ module _ (dig : List ℕ → List ℕ) (log : List RootCall) (sealed : List (Lis
   ]
 
 pub ruleset openings_steps = (openings_none, openings_skip, openings_more, openings_fail, openings_last)
+
+-- ---- where openings begin
+
+module _ (dig : List ℕ → List ℕ) (log : List RootCall) (sealed : List (List Entry)) where
+  known : (coin n : ℕ) (tree : Option (List Entry)) (first : RawOpening) → prove_by dig coin n tree ≡ Ok first
+      → is_some tree ≡ true
+  known coin n None first is = absurd (cc is)
+  known coin n (Some tree) first is = refl
+
+  first-known : (coin : ℕ) (ns ms : List ℕ) (n : ℕ) (openings : List RawOpening)
+      → openings_of dig log sealed coin ns ≡ Ok openings → is_known dig log sealed n ≡ true
+      → first_is_known dig log sealed (ns ++ n ∷ ms) ≡ true
+  unfolding openings_of
+  first-known coin [] ms n openings is here = here
+  first-known coin (m ∷ ns) ms n openings is here =
+      let p = parts dig log sealed coin (prove_by dig coin m (tree_at dig log sealed m))
+      (openings_of dig log sealed coin ns) openings is in
+      known coin m (tree_at dig log sealed m) p.first p.first_is
+
+  -- the committed blocks, with one of them apart
+  around : (after before last : ℕ) → after ≤ before → before < last → is_committed log (before + 1) ≡ true
+      → committed_blocks log after last
+      ≡ committed_blocks log after before ++ (before + 1) ∷ committed_blocks log (before + 1) last
+  around after before last low high here =
+      committed-split log after before last low (omega arith)
+      ∙ ap (λ (ns : List ℕ). committed_blocks log after before ++ ns)
+      (committed-split log before (before + 1) last (omega arith) (omega arith)
+      ∙ ap (λ (front : List ℕ). front ++ committed_blocks log (before + 1) last) (committed-one log before
+      ∙ ap (λ (b : Bool). if b then (before + 1) ∷ [] else []) here))
+
+  -- where one opening more is begun, the first block is known
+  pub openings_begun : (coin after before last : ℕ) (openings : List RawOpening) → after ≤ before → before < last
+      → openings_of dig log sealed coin (committed_blocks log after before) ≡ Ok openings
+      → is_committed log (before + 1) ≡ true → is_known dig log sealed (before + 1) ≡ true
+      → first_is_known dig log sealed (committed_blocks log after last) ≡ true
+  openings_begun coin after before last openings low high is here tree =
+      ap (first_is_known dig log sealed) (around after before last low high here)
+      ∙ first-known coin (committed_blocks log after before) (committed_blocks log (before + 1) last) (before + 1)
+      openings is tree
+
+  one-inside : (ns ms : List ℕ) → one_is_known dig log sealed ms ≡ true → one_is_known dig log sealed (ns ++ ms) ≡ true
+  one-inside [] ms one = one
+  one-inside (n ∷ ns) ms one = or_right (is_known dig log sealed n) (one_is_known dig log sealed (ns ++ ms)) (one-inside ns ms one)
+
+  one-first : (ns ms : List ℕ) → first_is_known dig log sealed ns ≡ true
+      → one_is_known dig log sealed (ns ++ ms) ≡ true
+  one-first [] ms first = absurd (cc first)
+  one-first (n ∷ ns) ms first = rw first refl
+
+  -- a walk that comes to a known block
+  pub walk_knows : (after before last : ℕ) → after ≤ before → before < last → is_committed log (before + 1) ≡ true
+      → is_known dig log sealed (before + 1) ≡ true
+      → one_is_known dig log sealed (committed_blocks log after last) ≡ true
+  walk_knows after before last low high here tree =
+      ap (one_is_known dig log sealed) (around after before last low high here)
+      ∙ one-inside (committed_blocks log after before) ((before + 1) ∷ committed_blocks log (before + 1) last)
+      (rw tree refl)
+
+  -- a bundle whose first block is known is begun
+  wide : (deposit asked : ℕ) → may_be_tip log deposit asked ≡ true
+      → first_is_known dig log sealed (committed_blocks log deposit asked) ≡ true
+      → one_is_known dig log sealed (committed_blocks log deposit (blocks log)) ≡ true
+  wide deposit asked may first = elim (cases_lt deposit asked) [
+    | inl after ↦
+        (let tip : is_committed log asked ≡ true = elim (or_cases (asked == deposit)
+        (is_committed log asked && nat_lt deposit asked) may) [
+          | inl same ↦ (let e = eqb-true asked deposit same in absurd (omega (arith, e, after)))
+          | inr both ↦ (and_parts (is_committed log asked) (nat_lt deposit asked) both).0
+        ] in
+        let within = committed-le log asked tip in
+        ap (one_is_known dig log sealed) (committed-split log deposit asked (blocks log) (omega arith) within)
+        ∙ one-first (committed_blocks log deposit asked) (committed_blocks log asked (blocks log)) first)
+    | inr none ↦
+        (let e : first_is_known dig log sealed [] ≡ true =
+        ap (first_is_known dig log sealed) (sym (committed-none log deposit asked none)) ∙ first in absurd (cc e))
+  ]
+
+  pub begun_walking : (tip : ℕ) (made : CoinView) → tip ≡ 0
+      → one_is_known dig log sealed (committed_blocks log made.deposit (blocks log)) ≡ true
+      → is_begun dig log sealed tip (Some made) ≡ true
+  begun_walking zero made is one = one
+  begun_walking (suc tip) made is one = absurd (omega (arith, is))
+
+  pub begun : (tip asked : ℕ) (place : Place) (made : CoinView) → asked ≡ tip_asked tip place
+      → may_be_tip log made.deposit asked ≡ true
+      → first_is_known dig log sealed (committed_blocks log made.deposit asked) ≡ true
+      → is_begun dig log sealed tip (Some made) ≡ true
+  begun zero asked place made is may first = wide made.deposit asked may first
+  begun (suc tip) asked place made is may first =
+      let m : may_be_tip log made.deposit (suc tip) ≡ true = ap (may_be_tip log made.deposit) (sym is) ∙ may in
+      let f : first_is_known dig log sealed (committed_blocks log made.deposit (suc tip)) ≡ true =
+      ap (λ (n : ℕ). first_is_known dig log sealed (committed_blocks log made.deposit n)) (sym is) ∙ first in
+      rw (m, f) refl
 
 -- ---- openings are few, and short
 

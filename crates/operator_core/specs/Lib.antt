@@ -3,3 +3,4 @@ pub mod Texts
 pub mod Inside
 pub mod Undone
 pub mod Tips
+pub mod Known

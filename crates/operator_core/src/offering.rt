@@ -1,15 +1,16 @@
-ghost use Rattle.std.specs.Prelude.{◌≡◌, ◌≢◌, Some, Err};
+ghost use Rattle.std.specs.Prelude.{◌≡◌, ◌≢◌, true, Some, Err};
 ghost use Rattle.plasma_tx.specs.Spelling.{signed_in};
 ghost use Rattle.operator_rules.specs.Trees.{is_waiting};
 ghost use Rattle.operator_rules.specs.Commands.{offer_at, offer_of};
 ghost use Rattle.operator_core.specs.Inside.{forest_now};
+ghost use Rattle.operator_core.specs.Known.{has_its_coin};
 
 use super::pool::Pool;
 use super::trees::Trees;
 use super::walk::present;
 use operator_rules::OfferRefusal;
 use plasma_base::Hash32;
-use plasma_tx::{CoinView, RootLog, SignedTx, TxRefusal};
+use plasma_tx::{Body, CoinView, RootLog, SignedTx, TxRefusal};
 use std::alloc::Global;
 
 // Whether the pool has a leaf of the coin, or a sealed tree has one whose root the log doesn't commit.
@@ -54,6 +55,7 @@ fn offer_at<H: Hash32 + Copy>(
 }
 
 /// The coin of an offered transfer, or why it is refused.
+#[tactic(auto, unfolding(plasma_tx::specs::Spelling::signed_in))]
 pub fn offer_of<H: Hash32 + Copy>(
     alloc: Global,
     pool: &Pool<H>,
@@ -62,16 +64,20 @@ pub fn offer_of<H: Hash32 + Copy>(
     tag: &[u8; 32],
     bytes: &[u8],
 ) -> Result<u64, OfferRefusal>
-    ensures { result ≢ Err OfferRefusal.NoMemory → result ≡ (offer_of (H.digest_of trees.now.hash) tag.now log.now.log
+    ensures value { result ≢ Err OfferRefusal.NoMemory → result ≡ (offer_of (H.digest_of trees.now.hash) tag.now log.now.log
         (forest_now pool.now trees.now) bytes.now (signed_in tag.now bytes.now)).answer }
+    ensures memory { result ≡ Err OfferRefusal.NoMemory
+        → has_its_coin log.now.log (signed_in tag.now bytes.now) ≡ true }
 {
-    let tx = match SignedTx::read(alloc, tag, bytes) {
-        Ok(tx) => tx,
-        Err(TxRefusal::NoMemory) => return Err(OfferRefusal::NoMemory),
-        Err(_) => return Err(OfferRefusal::NotTransfer),
+    let Ok(body) = Body::read(tag, bytes) else {
+        return Err(OfferRefusal::NotTransfer);
     };
-    match log.coin(tx.body.coin) {
-        Some(made) => offer_at(alloc, pool, trees, log, tag, bytes, &tx, &made),
-        None => Err(OfferRefusal::NoCoin),
+    let Some(made) = log.coin(body.coin) else {
+        return Err(OfferRefusal::NoCoin);
+    };
+    match SignedTx::read(alloc, tag, bytes) {
+        Ok(tx) => offer_at(alloc, pool, trees, log, tag, bytes, &tx, &made),
+        Err(TxRefusal::NoMemory) => Err(OfferRefusal::NoMemory),
+        Err(_) => Err(OfferRefusal::NotTransfer),
     }
 }

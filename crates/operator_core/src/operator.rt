@@ -6,16 +6,20 @@ ghost use Rattle.node_journal.specs.Role.{are_of, role_in};
 ghost use Rattle.node_journal.specs.Notes.{Did, stopped_by, Opened, RefusesRole};
 ghost use Rattle.operator_core.specs.State.{offer_stop, lay_stop, seal_stop};
 ghost use Rattle.operator_core.specs.Inside.{AddsRecord, offer_refusal, lay_refusal, seal_refusal};
+ghost use Rattle.operator_core.specs.Known.{is_known, first_is_known, is_begun, has_its_coin};
 ghost use Rattle.coin_history.specs.Bundles.{AreRising};
 ghost use Rattle.operator_rules.specs.Records.{Offered, Laid, Sealed as NoteSealed, note_text, operator_kinds, who_is};
-ghost use Rattle.operator_rules.specs.Commands.{offer_effect, lay_effect, seal_effect, prove_answer, bundle_answer, absences_answer};
+ghost use Rattle.coin_history.specs.History.{committed_blocks};
+ghost use Rattle.plasma_tx.specs.Spelling.{signed_in};
+ghost use Rattle.plasma_tx.specs.Views.{blocks, coin_at};
+ghost use Rattle.operator_rules.specs.Commands.{forest_in, offer_effect, lay_effect, seal_effect, prove_answer, bundle_answer, absences_answer};
 
 use super::offering::offer_of;
 use super::pool::Pool;
 use super::rebuild::{long_record, read_records};
 use super::records::{Who, laid_record, offered_record, sealed_record};
 use super::role::OperatorRole;
-use super::showing::{bundle_between, bundle_of, is_narrow, opening_at};
+use super::showing::{bundle_between, bundle_of, opening_at};
 use super::trees::Trees;
 use coin_history::Bundle;
 use crash_disk::Disk;
@@ -186,11 +190,14 @@ impl<D: Disk, H: Hash32 + Copy> Operator<D, H> {
 
     /// What block `block` has at a coin, by its tree. It makes no digest.
     ///
-    /// `UnknownBlock` comes where no sealed tree has the root of the block, or it isn't a committed one.
+    /// `UnknownBlock` comes where no sealed tree has the root of the block, or it isn't a committed one, also
+    /// where there is no memory. `NoMemory` may come in place of an opening alone.
     #[tactic(auto, unfolding(operator_rules::specs::Commands::prove_answer))]
     pub fn prove(&self, log: &RootLog, coin: u64, block: u64) -> Result<RawOpening, ProveRefusal>
-        ensures { result ≢ Err ProveRefusal.NoMemory → result
+        ensures value { result ≢ Err ProveRefusal.NoMemory → result
             ≡ prove_answer (H.digest_of self.now.hash) self.now.notes.records log.now.log coin block }
+        ensures memory { result ≡ Err ProveRefusal.NoMemory → is_known (H.digest_of self.now.hash) log.now.log
+            (forest_in self.now.notes.records).sealed block ≡ true }
     {
         opening_at(self.alloc, &self.trees, log, coin, block)
     }
@@ -200,18 +207,19 @@ impl<D: Disk, H: Hash32 + Copy> Operator<D, H> {
     ///
     /// `NoCoin` comes where the log has no such coin; then `UnknownBlock` where the tip is neither the
     /// deposit block nor a committed one after it, and where no sealed tree has the root of a committed
-    /// block on the way. `NoMemory` may come, and comes before these where the log has 2^32 blocks or more.
+    /// block on the way. `NoMemory` may come once a bundle is begun: behind the first two, and where a tip is
+    /// asked for behind the third of the first block on the way. It comes too for a 2^32nd opening, which no
+    /// bundle's count tells; a log within the limits of a chain has fewer blocks.
     #[tactic(auto, unfolding(operator_rules::specs::Commands::bundle_answer))]
     pub fn bundle(&self, log: &RootLog, coin: u64, tip: u64) -> Result<Bundle, ProveRefusal>
         ensures value { result ≢ Err ProveRefusal.NoMemory → result
             ≡ bundle_answer (H.digest_of self.now.hash) self.now.notes.records log.now.log coin tip }
+        ensures memory { result ≡ Err ProveRefusal.NoMemory → is_begun (H.digest_of self.now.hash) log.now.log
+            (forest_in self.now.notes.records).sealed tip (coin_at log.now.log coin) ≡ true }
         ensures rising { IfOk result (λ bundle. AreRising bundle.openings) }
         ensures count { IfOk result (λ bundle. length bundle.openings < 2 ^ 32) }
         ensures lengths { IfOk result (λ bundle. All (λ opening. length opening.bytes < 2 ^ 32) bundle.openings) }
     {
-        if !is_narrow(log) {
-            return Err(ProveRefusal::NoMemory);
-        }
         bundle_of(self.alloc, &self.trees, log, &self.who.tag, coin, tip)
     }
 
@@ -219,8 +227,8 @@ impl<D: Disk, H: Hash32 + Copy> Operator<D, H> {
     /// no digest.
     ///
     /// `UnknownBlock` comes where there are fewer blocks than the last, and where no sealed tree has the
-    /// root of a committed block between. `NoMemory` may come, and comes before the second where the log has
-    /// 2^32 blocks or more.
+    /// root of a committed block between. `NoMemory` may come once an opening is made: behind both for the
+    /// first block between; and it comes for a 2^32nd opening, as of `bundle`.
     #[tactic(auto, unfolding(operator_rules::specs::Commands::absences_answer))]
     pub fn absences(
         &self,
@@ -231,15 +239,15 @@ impl<D: Disk, H: Hash32 + Copy> Operator<D, H> {
     ) -> Result<Bundle, ProveRefusal>
         ensures value { result ≢ Err ProveRefusal.NoMemory → result
             ≡ absences_answer (H.digest_of self.now.hash) self.now.notes.records log.now.log coin after last }
+        ensures within { result ≡ Err ProveRefusal.NoMemory → last ≤ blocks log.now.log }
+        ensures memory { result ≡ Err ProveRefusal.NoMemory → first_is_known (H.digest_of self.now.hash) log.now.log
+            (forest_in self.now.notes.records).sealed (committed_blocks log.now.log after last) ≡ true }
         ensures rising { IfOk result (λ bundle. AreRising bundle.openings) }
         ensures count { IfOk result (λ bundle. length bundle.openings < 2 ^ 32) }
         ensures lengths { IfOk result (λ bundle. All (λ opening. length opening.bytes < 2 ^ 32) bundle.openings) }
     {
         if log.blocks() < last {
             return Err(ProveRefusal::UnknownBlock { n: last });
-        }
-        if !is_narrow(log) {
-            return Err(ProveRefusal::NoMemory);
         }
         bundle_between(self.alloc, &self.trees, log, coin, after, last)
     }
@@ -251,10 +259,12 @@ impl<D: Disk, H: Hash32 + Copy> Operator<D, H> {
     /// `NoCoin`; `WrongParent` where it spends another block than the coin's present tip; `BadSignature`;
     /// `TooLate` where its last block is there already; `PoolHasCoin` where the pool has a leaf of the coin,
     /// or a sealed tree has one whose root isn't committed; `DeviceFault`. `NoMemory` may come in place of
-    /// any after the first.
+    /// any after the third.
     pub fn offer(&mut self, log: &RootLog, tx: &[u8]) -> Result<u64, OfferRefusal>
         ensures answer { offer_stop result ≡ None → result
             ≡ (offer_effect (H.digest_of self.old.hash) self.old.notes.records log.now.log tx.now).answer }
+        ensures memory { result ≡ Err OfferRefusal.NoMemory
+            → has_its_coin log.now.log (signed_in (who_is self.old.notes.records).tag tx.now) ≡ true }
         ensures did { Did D.told D.plan D.faults
             (offer_effect (H.digest_of self.old.hash) self.old.notes.records log.now.log tx.now).note
             self.old.notes (offer_stop result) self.new.notes }
@@ -277,8 +287,10 @@ impl<D: Disk, H: Hash32 + Copy> Operator<D, H> {
     // The answer to an offer, before its record is added.
     #[tactic(auto, unfolding(operator_rules::specs::Commands::offer_effect))]
     fn offer_answer(&self, log: &RootLog, tx: &[u8]) -> Result<u64, OfferRefusal>
-        ensures { result ≢ Err OfferRefusal.NoMemory → result
+        ensures value { result ≢ Err OfferRefusal.NoMemory → result
             ≡ (offer_effect (H.digest_of self.now.hash) self.now.notes.records log.now.log tx.now).answer }
+        ensures memory { result ≡ Err OfferRefusal.NoMemory
+            → has_its_coin log.now.log (signed_in (who_is self.now.notes.records).tag tx.now) ≡ true }
     {
         offer_of(self.alloc, &self.pool, &self.trees, log, &self.who.tag, tx)
     }
@@ -303,6 +315,7 @@ impl<D: Disk, H: Hash32 + Copy> Operator<D, H> {
     /// In this order: `Closed`; `LeafTooLong` for more than 65,536 bytes; `NoMemory`; `DeviceFault`.
     pub fn lay(&mut self, coin: u64, bytes: &[u8]) -> Result<(), LayRefusal>
         ensures answer { lay_stop result ≡ None → result ≡ (lay_effect coin bytes.now).answer }
+        ensures memory { result ≡ Err LayRefusal.NoMemory → length bytes.now ≤ MOST_LAID }
         ensures did { Did D.told D.plan D.faults (lay_effect coin bytes.now).note self.old.notes (lay_stop result)
             self.new.notes }
         ensures hash { self.new.hash ≡ self.old.hash }
@@ -372,7 +385,7 @@ impl<D: Disk, H: Hash32 + Copy> Operator<D, H> {
         self.trees.make_room()?;
         let body = sealed_record(self.alloc)?;
         self.notes.is_whole();
-        let tree = self.pool.take()?;
+        let tree = self.pool.take(self.trees.defaults())?;
         match self.notes.add(body) {
             Ok(()) => {
                 let leaves = tree.len() as u64;

@@ -2,7 +2,7 @@ ghost use Rattle.std.specs.Prelude.{◌≡◌, [], IfOk, OnOk, OnErr};
 ghost use Rattle.sparse_merkle.specs.TreeDigest.{with_leaf};
 ghost use Rattle.operator_rules.specs.Trees.{has_leaf};
 
-use merkle_pages::{Leaves, SharedDefaults, SharedTree};
+use merkle_pages::{Defaults, Leaves, SharedTree};
 use plasma_base::{Bytes, Hash32, NoMemory};
 use std::alloc::Global;
 use std::marker::Model;
@@ -21,7 +21,7 @@ struct Before {
 #[derive(Drop)]
 pub struct Pool<H: Hash32 + Copy> {
     alloc: Global,
-    defaults: SharedDefaults<H>,
+    hash: H,
     leaves: Leaves,
     before: Option<Before>,
 }
@@ -34,7 +34,7 @@ impl<H: Hash32 + Copy> Model for Pool<H> {
     ghost use Rattle.operator_core.specs.Undone.{put_back};
 
     ghost view = { λ p. record {
-      hash = p.defaults;
+      hash = p.hash;
       entries = put_back p.before p.leaves;
       ahead = p.leaves;
     } };
@@ -42,12 +42,12 @@ impl<H: Hash32 + Copy> Model for Pool<H> {
 
 impl<H: Hash32 + Copy> Pool<H> {
     /// No leaf. It takes no memory and makes no digest.
-    pub fn new(alloc: Global, defaults: SharedDefaults<H>) -> Pool<H>
-        ensures { result ≡ record { hash = defaults; entries = []; ahead = [] } }
+    pub fn new(alloc: Global, hash: H) -> Pool<H>
+        ensures { result ≡ record { hash = hash; entries = []; ahead = [] } }
     {
         Pool {
             alloc,
-            defaults,
+            hash,
             leaves: Leaves::new(alloc),
             before: None,
         }
@@ -98,13 +98,13 @@ impl<H: Hash32 + Copy> Pool<H> {
     }
 
     /// Makes the map a tree, with the last put, and leaves none. Each of the tree's nodes is digested
-    /// once. Where memory runs out nothing changes.
-    pub fn take(&mut self) -> Result<SharedTree<H>, NoMemory>
+    /// once. The defaults are those of the pool's digest. Where memory runs out nothing changes.
+    pub fn take(&mut self, defaults: &Defaults<H>) -> Result<SharedTree<H>, NoMemory>
+        requires { defaults.now ≡ self.old.hash }
         ensures tree { IfOk result (λ tree. tree ≡ record { hash = self.old.hash; entries = self.old.ahead }) }
         ensures empty { OnOk result (self.new ≡ record { hash = self.old.hash; entries = []; ahead = [] }) }
         ensures same { OnErr result (self.new ≡ self.old) }
     {
-        let defaults = self.defaults.share()?;
         let leaves = mem::replace(&mut self.leaves, Leaves::new(self.alloc));
         match SharedTree::of_leaves(self.alloc, defaults, leaves) {
             Ok(tree) => {

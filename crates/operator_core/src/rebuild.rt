@@ -9,7 +9,6 @@ ghost use Rattle.operator_core.specs.Texts.{identity_of_who, put_of_change, chan
 use super::pool::Pool;
 use super::records::{Change, Who, change_in, identity_in};
 use super::trees::Trees;
-use merkle_pages::SharedDefaults;
 use plasma_base::{Bytes, Hash32, NoMemory};
 use std::alloc::Global;
 
@@ -36,7 +35,8 @@ fn apply<H: Hash32 + Copy>(
         Some(Change::Seal) => {
             pool.undo()?;
             trees.make_room()?;
-            trees.push(pool.take()?);
+            let tree = pool.take(trees.defaults())?;
+            trees.push(tree);
         }
         None => {}
     }
@@ -55,9 +55,8 @@ fn rebuild<H: Hash32 + Copy>(
     ensures pool_hash { IfOk result (λ both. both.0.hash ≡ h) }
     ensures trees_hash { IfOk result (λ both. both.1.hash ≡ h) }
 {
-    let defaults = SharedDefaults::new(alloc, h)?;
-    let mut pool = Pool::new(alloc, defaults);
-    let mut trees = Trees::new(alloc, h);
+    let mut pool = Pool::new(alloc, h);
+    let mut trees = Trees::new(alloc, h)?;
     'records: for record in records {
         apply(&mut pool, &mut trees, change_in(tag, record.as_slice()))?;
     }

@@ -10,43 +10,40 @@ ghost use Rattle.operator_rules.specs.Walk.{present};
 ghost use Rattle.operator_rules.specs.Trees.{opening_in_tree, tree_at};
 ghost use Rattle.operator_rules.specs.Commands.{prove_by, openings_of, bundle_between, tip_asked, bundle_of};
 ghost use Rattle.operator_core.specs.Inside.{AreShortTrees};
+ghost use Rattle.operator_core.specs.Known.{is_known, first_is_known, one_is_known, is_begun};
 
 use super::pool::copy_of;
 use super::trees::{Trees, leaf_in};
 use super::walk::{is_committed, present, tree_at};
 use coin_history::{Bundle, Openings};
-use merkle_pages::SharedTree;
+use merkle_pages::{Defaults, SharedTree};
 use operator_rules::ProveRefusal;
 use plasma_base::{Hash32, NoMemory};
 use plasma_tx::{CoinView, Opening, RawOpening, RootLog};
 use std::alloc::Global;
 
+// The most openings that a bundle's count tells.
+const MOST_OPENINGS: usize = 4_294_967_295;
+
 // What a tree has at a coin, as the opening of block n.
 fn opening_in_tree<H: Hash32 + Copy>(
     alloc: Global,
+    defaults: &Defaults<H>,
     tree: &SharedTree<H>,
     coin: u64,
     n: u64,
 ) -> Result<RawOpening, NoMemory>
-    requires { length (leaf_of tree.now.entries coin) ≤ most }
+    requires defaults { defaults.now ≡ tree.now.hash }
+    requires short { length (leaf_of tree.now.entries coin) ≤ most }
     ensures is { IfOk result (λ raw. raw ≡ opening_in_tree (H.digest_of tree.now.hash) coin n tree.now.entries) }
     ensures short { IfOk result (λ raw. length raw.bytes < 2 ^ 32) }
 {
     let opening = Opening {
         block: n,
         leaf: copy_of(alloc, leaf_in(tree, coin))?,
-        proof: tree.prove(coin)?,
+        proof: tree.prove(defaults, coin)?,
     };
     Ok(opening.write()?)
-}
-
-/// Whether a log has so few blocks that the count of a bundle, which is 32 bits, tells as many openings. The most
-/// blocks that a chain may allow are so few; a log that was read from outside may have more than its chain allows.
-pub fn is_narrow(log: &RootLog) -> bool
-    ensures narrow { result ≡ true → blocks log.now.log < 2 ^ 32 }
-    ensures wide { result ≡ false → 2 ^ 32 ≤ blocks log.now.log }
-{
-    log.blocks() < 4_294_967_296
 }
 
 /// What the tree of block n has at a coin.
@@ -61,10 +58,12 @@ pub fn opening_at<H: Hash32 + Copy>(
     requires { AreShortTrees trees.now.sealed }
     ensures value { result ≢ Err ProveRefusal.NoMemory → result ≡ prove_by (H.digest_of trees.now.hash) coin n
         (tree_at (H.digest_of trees.now.hash) log.now.log trees.now.sealed n) }
+    ensures memory { result ≡ Err ProveRefusal.NoMemory
+        → is_known (H.digest_of trees.now.hash) log.now.log trees.now.sealed n ≡ true }
     ensures short { IfOk result (λ raw. length raw.bytes < 2 ^ 32) }
 {
     match tree_at(trees, log, n) {
-        Some(tree) => match opening_in_tree(alloc, tree, coin, n) {
+        Some(tree) => match opening_in_tree(alloc, trees.defaults(), tree, coin, n) {
             Ok(opening) => Ok(opening),
             Err(_) => Err(ProveRefusal::NoMemory),
         },
@@ -72,13 +71,16 @@ pub fn opening_at<H: Hash32 + Copy>(
     }
 }
 
-// Adds an opening at the end.
+// Adds an opening at the end. A bundle's count has 32 bits: the 2^32nd opening is no bundle's, and is told as
+// want of memory. So many take hundreds of gigabytes, and a log within the limits of a chain has fewer blocks.
 fn push(openings: &mut Vec<RawOpening>, opening: RawOpening) -> Result<(), ProveRefusal>
-    requires { length openings.old.items + 1 < 2 ^ 32 }
     ensures ok { OnOk result (openings.new.items ≡ openings.old.items ++ opening ∷ []) }
     ensures count { OnOk result (length openings.new.items < 2 ^ 32) }
     ensures err { OnErr result (result ≡ Err ProveRefusal.NoMemory) }
 {
+    if openings.len() >= MOST_OPENINGS {
+        return Err(ProveRefusal::NoMemory);
+    }
     match openings.push(opening) {
         Ok(()) => Ok(()),
         Err(_) => Err(ProveRefusal::NoMemory),
@@ -96,7 +98,6 @@ fn openings_between<H: Hash32 + Copy>(
     last: u64,
 ) -> Result<Vec<RawOpening>, ProveRefusal>
     requires short { AreShortTrees trees.now.sealed }
-    requires narrow { blocks log.now.log < 2 ^ 32 }
     ensures count { IfOk result (λ openings. length openings.items < 2 ^ 32) }
     ensures lengths { IfOk result (λ openings. All (λ opening. length opening.bytes < 2 ^ 32) openings.items) }
     ensures made { IfOk result (λ openings.
@@ -105,6 +106,8 @@ fn openings_between<H: Hash32 + Copy>(
     ensures refused { IfErr result (λ why. why ≢ ProveRefusal.NoMemory →
         openings_of (H.digest_of trees.now.hash) log.now.log trees.now.sealed coin
         (committed_blocks log.now.log after last) ≡ Err why) }
+    ensures memory { IfErr result (λ why. why ≡ ProveRefusal.NoMemory → first_is_known (H.digest_of trees.now.hash)
+        log.now.log trees.now.sealed (committed_blocks log.now.log after last) ≡ true) }
 {
     let mut openings = Vec::new(alloc);
     'way: for before in after..last {
@@ -129,9 +132,10 @@ pub fn bundle_between<H: Hash32 + Copy>(
     last: u64,
 ) -> Result<Bundle, ProveRefusal>
     requires short { AreShortTrees trees.now.sealed }
-    requires narrow { blocks log.now.log < 2 ^ 32 }
     ensures value { result ≢ Err ProveRefusal.NoMemory → result
         ≡ bundle_between (H.digest_of trees.now.hash) log.now.log trees.now.sealed coin after last }
+    ensures memory { result ≡ Err ProveRefusal.NoMemory → first_is_known (H.digest_of trees.now.hash) log.now.log
+        trees.now.sealed (committed_blocks log.now.log after last) ≡ true }
     ensures rising { IfOk result (λ bundle. AreRising bundle.openings) }
     ensures count { IfOk result (λ bundle. length bundle.openings < 2 ^ 32) }
     ensures lengths { IfOk result (λ bundle. All (λ opening. length opening.bytes < 2 ^ 32) bundle.openings) }
@@ -163,8 +167,11 @@ fn tip_asked<H: Hash32 + Copy>(
     made: &CoinView,
     tip: u64,
 ) -> Result<u64, NoMemory>
-    ensures { IfOk result (λ asked. asked ≡ tip_asked tip
+    ensures value { IfOk result (λ asked. asked ≡ tip_asked tip
         (present (H.digest_of trees.now.hash) tag.now log.now.log trees.now.sealed coin made.now)) }
+    ensures asked { OnErr result (tip ≡ 0) }
+    ensures memory { OnErr result (one_is_known (H.digest_of trees.now.hash) log.now.log trees.now.sealed
+        (committed_blocks log.now.log made.now.deposit (blocks log.now.log)) ≡ true) }
 {
     if tip != 0 {
         return Ok(tip);
@@ -185,10 +192,11 @@ pub fn bundle_of<H: Hash32 + Copy>(
     tip: u64,
 ) -> Result<Bundle, ProveRefusal>
     requires short { AreShortTrees trees.now.sealed }
-    requires narrow { blocks log.now.log < 2 ^ 32 }
     ensures value { result ≢ Err ProveRefusal.NoMemory → result
         ≡ bundle_of (H.digest_of trees.now.hash) tag.now log.now.log trees.now.sealed coin tip
         (coin_at log.now.log coin) }
+    ensures memory { result ≡ Err ProveRefusal.NoMemory → is_begun (H.digest_of trees.now.hash) log.now.log
+        trees.now.sealed tip (coin_at log.now.log coin) ≡ true }
     ensures rising { IfOk result (λ bundle. AreRising bundle.openings) }
     ensures count { IfOk result (λ bundle. length bundle.openings < 2 ^ 32) }
     ensures lengths { IfOk result (λ bundle. All (λ opening. length opening.bytes < 2 ^ 32) bundle.openings) }

@@ -1,4 +1,4 @@
-ghost use Rattle.std.specs.Prelude.{◌≡◌, ◌<◌, ◌++◌, ◌∷◌, [], ℕ, List, true, length, IfSome, OnOk, option_map, slice_get};
+ghost use Rattle.std.specs.Prelude.{◌≡◌, ◌<◌, ◌++◌, ◌∷◌, [], ℕ, List, true, length, IfOk, IfSome, OnOk, option_map, slice_get};
 ghost use Rattle.std.specs.List.{list_any};
 ghost use Rattle.operator_rules.specs.Trees.{tree_of};
 ghost use Rattle.sparse_merkle.specs.TreeDigest.{leaf_of};
@@ -6,17 +6,18 @@ ghost use Rattle.operator_core.specs.Inside.{with_place, is_outside};
 ghost use Rattle.std.specs.HashMap.{get, spare};
 ghost use Rattle.std.specs.Str.{bytes_eq};
 
-use merkle_pages::SharedTree;
+use merkle_pages::{Defaults, SharedTree};
 use plasma_base::{Hash32, NoMemory};
 use plasma_tx::RootLog;
 use std::alloc::Global;
 use std::collections::HashMap;
 use std::marker::Model;
 
-/// The sealed trees in the order of their seals, and for each root the place of the first tree with it.
+/// The sealed trees in the order of their seals, for each root the place of the first tree with it, and the
+/// defaults of the digest, which all of them share.
 #[derive(Drop)]
 pub struct Trees<H: Hash32 + Copy> {
-    hash: H,
+    defaults: Box<Defaults<H>>,
     trees: Vec<SharedTree<H>>,
     index: HashMap<[u8; 32], usize>,
 }
@@ -30,25 +31,32 @@ impl<H: Hash32 + Copy> Model for Trees<H> {
     ghost Value = { TreesState H };
 
     ghost view = { λ t. record {
-      hash = t.hash;
+      hash = t.defaults.value;
       sealed = entries_of t.trees.items;
       has_room = nat_lt (length t.trees.items) (vec_capacity t.trees) && nat_lt 0 (spare t.index);
     } };
 
-    ghost invariant = { λ t. KeepsTrees t.hash (H.digest_of t.hash) t.trees.items t.index };
+    ghost invariant = { λ t. KeepsTrees t.defaults.value (H.digest_of t.defaults.value) t.trees.items t.index };
 }
 
 impl<H: Hash32 + Copy> Trees<H> {
-    /// No tree. It takes no memory.
-    pub fn new(alloc: Global, hash: H) -> Trees<H>
-        ensures hash { result.hash ≡ hash }
-        ensures none { result.sealed ≡ [] }
+    /// No tree. The defaults take memory, and 65 digests.
+    pub fn new(alloc: Global, hash: H) -> Result<Trees<H>, NoMemory>
+        ensures hash { IfOk result (λ trees. trees.hash ≡ hash) }
+        ensures none { IfOk result (λ trees. trees.sealed ≡ []) }
     {
-        Trees {
-            hash,
+        Ok(Trees {
+            defaults: Box::new(alloc, Defaults::new(hash))?,
             trees: Vec::new(alloc),
             index: HashMap::new(alloc),
-        }
+        })
+    }
+
+    /// The defaults of the digest, lent.
+    pub fn defaults(&self) -> &Defaults<H>
+        ensures { result.now ≡ self.now.hash }
+    {
+        &self.defaults
     }
 
     /// Makes room for one more tree. No tree changes.

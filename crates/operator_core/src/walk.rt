@@ -1,12 +1,14 @@
-ghost use Rattle.std.specs.Prelude.{◌≡◌, IfOk, IfSome, option_map, is_some};
+ghost use Rattle.std.specs.Prelude.{◌≡◌, true, IfOk, IfSome, OnErr, option_map, is_some};
 ghost use Rattle.std.specs.Option.{option_and_then};
 ghost use Rattle.sparse_merkle.specs.TreeDigest.{leaf_of};
 ghost use Rattle.plasma_tx.specs.Shown.{root_at};
 ghost use Rattle.plasma_tx.specs.Transfer.{transfer_in};
-ghost use Rattle.coin_history.specs.History.{is_committed};
+ghost use Rattle.plasma_tx.specs.Views.{blocks};
+ghost use Rattle.coin_history.specs.History.{is_committed, committed_blocks};
 ghost use Rattle.operator_rules.specs.Trees.{tree_at, tree_of};
 ghost use Rattle.operator_rules.specs.Walk.{moved_by, present};
 ghost use Rattle.operator_core.specs.Tips.{place_of_tip};
+ghost use Rattle.operator_core.specs.Known.{one_is_known};
 
 use super::trees::{Trees, leaf_in};
 use merkle_pages::SharedTree;
@@ -78,9 +80,10 @@ fn after_tree<H: Hash32 + Copy>(
     last: Tip,
     tree: Option<&SharedTree<H>>,
 ) -> Result<Tip, NoMemory>
-    ensures { IfOk result (λ tip. place_of_tip tip ≡ moved_by n (place_of_tip last)
+    ensures value { IfOk result (λ tip. place_of_tip tip ≡ moved_by n (place_of_tip last)
         (option_and_then (λ tree. transfer_in tag.now coin n (leaf_of tree coin))
         (option_map (λ tree. tree.now.entries) tree.entry))) }
+    ensures memory { OnErr result (is_some (option_map (λ tree. tree.now.entries) tree.entry) ≡ true) }
 {
     let Some(tree) = tree else {
         return Ok(last);
@@ -129,8 +132,10 @@ pub fn present<H: Hash32 + Copy>(
     coin: u64,
     made: &CoinView,
 ) -> Result<Tip, NoMemory>
-    ensures { IfOk result (λ tip. place_of_tip tip
+    ensures value { IfOk result (λ tip. place_of_tip tip
         ≡ present (H.digest_of trees.now.hash) tag.now log.now.log trees.now.sealed coin made.now) }
+    ensures memory { OnErr result (one_is_known (H.digest_of trees.now.hash) log.now.log trees.now.sealed
+        (committed_blocks log.now.log made.now.deposit (blocks log.now.log)) ≡ true) }
 {
     let mut tip = Tip {
         block: made.deposit,

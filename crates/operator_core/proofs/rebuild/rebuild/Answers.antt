@@ -1,4 +1,4 @@
-use Rattle.std.proofs.Common.{◌≡◌, [], List, take, option_map, ◌∙◌, ap, sym, arith}
+use Rattle.std.proofs.Common.{◌≡◌, [], List, take, option_map, refl, ◌∙◌, ap, sym, arith}
 use Rattle.std.specs.Option.{unwrap_or}
 use Rattle.std.proofs.lemmas.List.{take_all}
 use Rattle.operator_rules.specs.Records.{note_in}
@@ -11,9 +11,9 @@ use Rattle.operator_core.proofs.rebuild.rebuild.Goals as goal
 pub records-init : goal.records-init
 unfolding forest_of
 records-init g c = rw c.new-pool.ensures (record {
-  forest = ap (λ (sealed : List (List _)). record { pool = []; sealed = sealed }) c.new-trees.ensures.none;
-  pool_hash = c.in_ok-defaults.ensures;
-  trees_hash = c.new-trees.ensures.hash;
+  forest = ap (λ (sealed : List (List _)). record { pool = []; sealed = sealed }) c.in_ok-trees.ensures.none;
+  pool_hash = refl;
+  trees_hash = c.in_ok-trees.ensures.hash;
 })
 
 pub records-preserved : goal.records-preserved

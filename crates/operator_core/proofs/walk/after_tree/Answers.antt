@@ -7,8 +7,8 @@ use Rattle.operator_rules.specs.Walk.{moved_by}
 use Rattle.operator_core.specs.Tips.{place_of_tip}
 use Rattle.operator_core.proofs.walk.after_tree.Goals as goal
 
-pub returns-then-is_empty : goal.returns-then-is_empty
-returns-then-is_empty g c =
+pub returns-then-is_empty-clause-value : goal.returns-then-is_empty-clause-value
+returns-then-is_empty-clause-value g c =
     let leaf = c.leaf_in-leaf.result.now in
     let none : leaf ≡ [] = empty-is leaf (sym (empty-from leaf) ∙ sym c.if-is_empty.ensures) in
     let after : List ℕ → _ = λ leaf. moved_by c.args.n (place_of_tip c.args.last)

@@ -18,7 +18,7 @@ way-preserved g c =
     let dig = g.H.Hash32.digest_of c.args.trees.now.hash in
     record {
       place = elim c.match-root_at.branch [
-        | in-Some+in_ok-tip w ↦ rw w.tip-is (w.in_ok-tip.ensures
+        | in-Some+in_ok-tip w ↦ rw w.tip-is (w.in_ok-tip.ensures.value
             ∙ place-rooted dig c.args.tag.now c.args.log.now.log c.args.trees.now.sealed c.args.coin c.args.made.now
             c.way.before w.in-Some.root _ (place_of_tip c.way.tip) (omega arith) (sym w.in-Some.ensures)
             w.look_again-found.ensures.tree c.way.invariant.place)
@@ -34,8 +34,8 @@ way-preserved g c =
       ];
     }
 
-pub returns : goal.returns
-returns g c =
+pub returns-clause-value : goal.returns-clause-value
+returns-clause-value g c =
     c.way.invariant.place
     ∙ place-last (g.H.Hash32.digest_of c.args.trees.now.hash) c.args.tag.now c.args.log.now.log
     c.args.trees.now.sealed c.args.coin c.args.made.now c.way.before (omega arith)

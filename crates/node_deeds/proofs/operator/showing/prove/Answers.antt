@@ -8,5 +8,5 @@ returns-in-Err-clause-gives g c =
     let node = c.args.node.now in
     given-unproved on_proved
     (prove_answer (g.H.Hash32.digest_of node.hash) node.notes.records c.args.log.now.log c.args.coin c.args.block)
-    c.in-Err.why c.refusal.result (λ other. c.in-Err.ensures (λ e. other (cc e))) c.refusal.ensures.gives
+    c.in-Err.why c.refusal.result (λ other. c.in-Err.ensures.value (λ e. other (cc e))) c.refusal.ensures.gives
     c.refusal.ensures.memory

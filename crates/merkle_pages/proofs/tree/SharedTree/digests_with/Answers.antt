@@ -4,17 +4,15 @@ use Rattle.std.proofs.lemmas.Bool.{cases_lt}
 use Rattle.sparse_merkle.specs.TreeDigest.{IsMap, subtree_digest}
 use Rattle.merkle_pages.specs.Nodes.{part_at}
 use Rattle.merkle_pages.proofs.PutLaws.{way-start, way-up}
-use Rattle.merkle_pages.proofs.tree.PagedTree.digests_with.Goals as goal
+use Rattle.merkle_pages.proofs.tree.SharedTree.digests_with.Goals as goal
 
 pub loop-level-init : goal.loop-level-init
 loop-level-init g c = record {
   long = refl;
   right = λ level le.
       let e : level ≡ 0 = omega arith in
-      let hash : c.hash-hash.result ≡ g.D.LendsDefaults.hash_of c.self.inside.defaults =
-      c.hash-hash.ensures ∙ c.defaults.ensures in
-      rw (e, ← c.self.view_is) (way-start (g.H.Hash32.digest_of (g.D.LendsDefaults.hash_of c.self.inside.defaults))
-      c.args.coin c.args.leaf.now c.self.inside.leaves c.leaf_digest.result (rw hash at c.leaf_digest.ensures));
+      rw (e, ← c.self.view_is) (way-start (g.H.Hash32.digest_of c.self.inside.hash) c.args.coin c.args.leaf.now
+      c.self.inside.leaves c.leaf_digest.result c.leaf_digest.ensures);
 }
 
 pub loop-level-preserved : goal.loop-level-preserved
@@ -29,10 +27,7 @@ loop-level-preserved g c =
     let sibling : c.node-sibling.result.now ≡ subtree_digest dig level (part_at level (bit_xor c.args.coin (2 ^ level))
     entries) =
     rw c.sibling_coin.ensures at c.node-sibling.ensures in
-    let hash : c.hash-hash.result ≡ g.D.LendsDefaults.hash_of c.self.inside.defaults =
-    c.hash-hash.ensures ∙ c.defaults.ensures in
-    let above : c.digest.result ≡ dig c.parent_bytes-string.result =
-    rw (← c.self.view_is) (rw hash at c.digest.ensures) in
+    let above : c.digest.result ≡ dig c.parent_bytes-string.result = rw (← c.self.view_is) c.digest.ensures in
     let top = way-up dig c.args.coin level c.args.leaf.now entries (slice_index_or digests level [])
     c.node-sibling.result.now c.parent_bytes-string.result
     c.digest.result c.bit.result (omega arith) c.loop-level-test.true map
