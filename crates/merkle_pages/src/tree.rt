@@ -186,8 +186,9 @@ impl<H: Hash32 + Copy> SharedTree<H> {
         }
     }
 
-    /// The tree of a map, under the digest of the defaults. It makes a digest for each node of a part with a leaf: at most 65 for a leaf,
-    /// and for coins that stand in a row about two. Where memory runs out the map is handed back.
+    /// The tree of a map, under the digest of the defaults. It makes a digest for each node of a part with a
+    /// leaf: at most 65 for a leaf, and for coins that stand in a row about two. Where memory runs out the map
+    /// is handed back.
     pub fn of_leaves(
         alloc: Global,
         defaults: &Defaults<H>,

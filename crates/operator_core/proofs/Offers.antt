@@ -1,6 +1,6 @@
 -- What an offer answers and adds.
 use Rattle.std.proofs.Common.{◌≡◌, ℕ, ◌==◌, ◌++◌, not, Bool, true, false, if◌then◌else◌, List, [], ◌∷◌, ◌≤◌, length, Option, Some, None, Result, Ok, Err, refl, sym, ap, ◌∙◌}
-use Rattle.std.specs.Prelude.{MatchResult}
+use Rattle.std.specs.Prelude.{MatchResult, is_some}
 use Rattle.std.specs.List.{AllByRecursion}
 use Rattle.node_journal.specs.declared.stop.Stop.{Stop}
 use Rattle.node_journal.specs.declared.stop.Stop.TheVariants.{Closed, NoMemory, DeviceFault}
@@ -26,6 +26,7 @@ use Rattle.operator_rules.proofs.Run.{offerable}
 use Rattle.operator_rules.proofs.Openings.{leaf-short}
 use Rattle.operator_core.specs.State.{offer_stop}
 use Rattle.operator_core.specs.Inside.{AddsRecord, offer_refusal}
+use Rattle.operator_core.specs.Known.{has_its_coin}
 use Rattle.operator_core.proofs.Adds.{adds_offered}
 
 pub offer_stop-refusal : (stop : Stop) → offer_stop (Err (offer_refusal stop)) ≡ Some stop
@@ -88,6 +89,27 @@ module _ (dig : List ℕ → List ℕ) (tag : List ℕ) (log : List RootCall) (f
   unfolding IsFine
   of-fine (Err why) is = (refl, refl)
   of-fine (Ok tx) is = at-fine tx (coin_at log tx.body.coin) (coin-named tag bytes tx is)
+
+-- a coin that is answered is in the log
+there-at : (dig : List ℕ → List ℕ) (tag : List ℕ) (log : List RootCall) (forest : Forest) (bytes : List ℕ)
+    (tx : SignedTx) (made : Option CoinView) (coin : ℕ)
+    → Ok coin ≡ (offer_at dig tag log forest bytes tx made).answer → is_some made ≡ true
+there-at dig tag log forest bytes tx None coin is = absurd (cc is)
+there-at dig tag log forest bytes tx (Some made) coin is = refl
+
+there-of : (dig : List ℕ → List ℕ) (tag : List ℕ) (log : List RootCall) (forest : Forest) (bytes : List ℕ)
+    (read : Result SignedTx TxRefusal) (coin : ℕ)
+    → Ok coin ≡ (offer_of dig tag log forest bytes read).answer → has_its_coin log read ≡ true
+there-of dig tag log forest bytes (Err why) coin is = absurd (cc is)
+there-of dig tag log forest bytes (Ok tx) coin is =
+    there-at dig tag log forest bytes tx (coin_at log tx.body.coin) coin is
+
+pub offered_there : (dig : List ℕ → List ℕ) (records : List (List ℕ)) (log : List RootCall) (bytes : List ℕ) (coin : ℕ)
+    → Ok coin ≡ (offer_effect dig records log bytes).answer
+    → has_its_coin log (signed_in (who_is records).tag bytes) ≡ true
+unfolding offer_effect
+offered_there dig records log bytes coin is =
+    there-of dig (who_is records).tag log (forest_in records) bytes (signed_in (who_is records).tag bytes) coin is
 
 offer-fine : (dig : List ℕ → List ℕ) (records : List (List ℕ)) (log : List RootCall) (bytes : List ℕ)
     → IsFine bytes (offer_effect dig records log bytes)

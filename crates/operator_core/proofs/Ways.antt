@@ -6,8 +6,8 @@ use Rattle.std.proofs.lemmas.List.{get_or-map, length-map}
 use Rattle.std.proofs.lemmas.List.FromFn.{length-range_with_len, get_or-range_with_len}
 use Rattle.std.proofs.lemmas.List.Filters.{length-filter_both}
 use Rattle.std.proofs.lemmas.List.Kept.{AllPairs-filter}
-use Rattle.std.specs.Prelude.{◌==◌, ◌&&◌, nat_lt, is_some}
-use Rattle.std.proofs.lemmas.Bool.{cases_lt, lt-ltb, le-ltb, eqb-true, or_cases, or_right, and_parts}
+use Rattle.std.specs.Prelude.{◌==◌, ◌&&◌, nat_lt, is_some, OnErr}
+use Rattle.std.proofs.lemmas.Bool.{cases_lt, cases_eq, lt-ltb, le-ltb, eq-eqb, ne_eqb, eqb-true, or_cases, or_right, and_parts}
 use Rattle.std.proofs.lemmas.List.Elements.{filter-append, All-nil, All-push}
 use Rattle.sparse_merkle.specs.declared.tree.Entry.{Entry}
 use Rattle.sparse_merkle.specs.TreeDigest.{leaf_of}
@@ -28,6 +28,11 @@ use Rattle.operator_rules.specs.Walk.{Place, start_of, moved_by, transfer_at, pl
 use Rattle.operator_rules.proofs.Places.{transfer_at-idle}
 use Rattle.operator_rules.specs.Commands.{prove_by, with_opening, openings_of, tip_asked}
 use Rattle.operator_core.specs.Known.{is_known, first_is_known, one_is_known, is_begun}
+
+-- a fact of an error that is passed on
+pub on_err : {T E : Type 0} (result : Result T E) {P : Type 0} → P → OnErr result P
+on_err (Ok value) fact = tt
+on_err (Err why) fact = fact
 
 -- ---- the walk
 
@@ -298,18 +303,23 @@ module _ (dig : List ℕ → List ℕ) (log : List RootCall) (sealed : List (Lis
 
   one-inside : (ns ms : List ℕ) → one_is_known dig log sealed ms ≡ true → one_is_known dig log sealed (ns ++ ms) ≡ true
   one-inside [] ms one = one
-  one-inside (n ∷ ns) ms one = or_right (is_known dig log sealed n) (one_is_known dig log sealed (ns ++ ms)) (one-inside ns ms one)
+  one-inside (n ∷ ns) ms one = or_right (is_known dig log sealed n) (one_is_known dig log sealed (ns ++ ms))
+      (one-inside ns ms one)
 
   one-first : (ns ms : List ℕ) → first_is_known dig log sealed ns ≡ true
       → one_is_known dig log sealed (ns ++ ms) ≡ true
   one-first [] ms first = absurd (cc first)
   one-first (n ∷ ns) ms first = rw first refl
 
-  -- a walk that comes to a known block
-  pub walk_knows : (after before last : ℕ) → after ≤ before → before < last → is_committed log (before + 1) ≡ true
-      → is_known dig log sealed (before + 1) ≡ true
+  -- a walk that comes to a block whose root has a tree
+  pub walk_knows : (after before last : ℕ) (root : List ℕ) (found : Option (List Entry)) → after ≤ before
+      → before < last → root_at log (before + 1) ≡ Some root → found ≡ tree_of dig sealed root → is_some found ≡ true
       → one_is_known dig log sealed (committed_blocks log after last) ≡ true
-  walk_knows after before last low high here tree =
+  walk_knows after before last root found low high root_is found_is some =
+      let here : is_committed log (before + 1) ≡ true = ap (λ (r : Option (List ℕ)). is_some r) root_is in
+      let tree : is_known dig log sealed (before + 1) ≡ true =
+      ap (λ (r : Option (List ℕ)). is_some (option_and_then (tree_of dig sealed) r)) root_is
+      ∙ ap (λ (t : Option (List Entry)). is_some t) (sym found_is) ∙ some in
       ap (one_is_known dig log sealed) (around after before last low high here)
       ∙ one-inside (committed_blocks log after before) ((before + 1) ∷ committed_blocks log (before + 1) last)
       (rw tree refl)
@@ -336,19 +346,22 @@ module _ (dig : List ℕ → List ℕ) (log : List RootCall) (sealed : List (Lis
   pub begun_walking : (tip : ℕ) (made : CoinView) → tip ≡ 0
       → one_is_known dig log sealed (committed_blocks log made.deposit (blocks log)) ≡ true
       → is_begun dig log sealed tip (Some made) ≡ true
-  begun_walking zero made is one = one
-  begun_walking (suc tip) made is one = absurd (omega (arith, is))
+  begun_walking tip made is one = rw (eq-eqb tip 0 is) one
 
   pub begun : (tip asked : ℕ) (place : Place) (made : CoinView) → asked ≡ tip_asked tip place
       → may_be_tip log made.deposit asked ≡ true
       → first_is_known dig log sealed (committed_blocks log made.deposit asked) ≡ true
       → is_begun dig log sealed tip (Some made) ≡ true
-  begun zero asked place made is may first = wide made.deposit asked may first
-  begun (suc tip) asked place made is may first =
-      let m : may_be_tip log made.deposit (suc tip) ≡ true = ap (may_be_tip log made.deposit) (sym is) ∙ may in
-      let f : first_is_known dig log sealed (committed_blocks log made.deposit (suc tip)) ≡ true =
-      ap (λ (n : ℕ). first_is_known dig log sealed (committed_blocks log made.deposit n)) (sym is) ∙ first in
-      rw (m, f) refl
+  begun tip asked place made is may first = elim (cases_eq tip 0) [
+    | inl none ↦ begun_walking tip made none (wide made.deposit asked may first)
+    | inr some ↦
+        (let e = ne_eqb tip 0 some in
+        let same : asked ≡ tip = is ∙ ap (λ (b : Bool). if b then place.block else tip) e in
+        let m : may_be_tip log made.deposit tip ≡ true = ap (may_be_tip log made.deposit) (sym same) ∙ may in
+        let f : first_is_known dig log sealed (committed_blocks log made.deposit tip) ≡ true =
+        ap (λ (n : ℕ). first_is_known dig log sealed (committed_blocks log made.deposit n)) (sym same) ∙ first in
+        rw (e, m, f) refl)
+  ]
 
 -- ---- openings are few, and short
 

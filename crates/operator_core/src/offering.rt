@@ -64,7 +64,8 @@ pub fn offer_of<H: Hash32 + Copy>(
     tag: &[u8; 32],
     bytes: &[u8],
 ) -> Result<u64, OfferRefusal>
-    ensures value { result ≢ Err OfferRefusal.NoMemory → result ≡ (offer_of (H.digest_of trees.now.hash) tag.now log.now.log
+    ensures value { result ≢ Err OfferRefusal.NoMemory → result
+        ≡ (offer_of (H.digest_of trees.now.hash) tag.now log.now.log
         (forest_now pool.now trees.now) bytes.now (signed_in tag.now bytes.now)).answer }
     ensures memory { result ≡ Err OfferRefusal.NoMemory
         → has_its_coin log.now.log (signed_in tag.now bytes.now) ≡ true }

@@ -88,7 +88,7 @@ fn push(openings: &mut Vec<RawOpening>, opening: RawOpening) -> Result<(), Prove
 }
 
 // The openings of the committed blocks after a block and up to the last.
-#[tactic(auto, using(crate::proofs::Ways::openings_steps, crate::proofs::Ways::lengths_more))]
+#[tactic(auto, using(crate::proofs::Ways::openings_steps, crate::proofs::Ways::lengths_more, crate::proofs::Ways::openings_begun))]
 fn openings_between<H: Hash32 + Copy>(
     alloc: Global,
     trees: &Trees<H>,
@@ -183,6 +183,7 @@ fn tip_asked<H: Hash32 + Copy>(
 }
 
 /// The history of a coin up to a tip, or up to the present tip where 0 is asked for.
+#[tactic(auto, using(crate::proofs::Ways::begun_walking, crate::proofs::Ways::begun))]
 pub fn bundle_of<H: Hash32 + Copy>(
     alloc: Global,
     trees: &Trees<H>,

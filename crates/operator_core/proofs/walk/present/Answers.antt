@@ -1,7 +1,8 @@
 use Rattle.std.proofs.Common.{sym, ap, ◌∙◌, arith}
+use Rattle.plasma_tx.specs.Views.{blocks}
 use Rattle.operator_rules.specs.Trees.{tree_of}
 use Rattle.operator_core.specs.Tips.{place_of_tip}
-use Rattle.operator_core.proofs.Ways.{place-early, place-rooted, place-idle, place-last}
+use Rattle.operator_core.proofs.Ways.{place-early, place-rooted, place-idle, place-last, walk_knows, on_err}
 use Rattle.operator_core.proofs.walk.present.Goals as goal
 use Rattle.operator_core.proofs.walk.present.Goals.{in-Some+in_ok-tip, in_default}
 
@@ -40,3 +41,10 @@ returns-clause-value g c =
     ∙ place-last (g.H.Hash32.digest_of c.args.trees.now.hash) c.args.tag.now c.args.log.now.log
     c.args.trees.now.sealed c.args.coin c.args.made.now c.way.before (omega arith)
     (rw c.blocks-before-end.ensures.is at c.way-test.false) c.way.invariant.within
+
+pub returns-in_err-tip-clause-memory : goal.returns-in_err-tip-clause-memory
+returns-in_err-tip-clause-memory g c =
+    on_err c.from_residual.result (walk_knows (g.H.Hash32.digest_of c.args.trees.now.hash) c.args.log.now.log
+    c.args.trees.now.sealed c.args.made.now.deposit c.way.before (blocks c.args.log.now.log) c.in-Some.root _
+    (omega arith) (rw (← c.blocks-before-end.ensures.is) (omega arith)) (sym c.in-Some.ensures)
+    c.look_again-found.ensures.tree c.in_err-tip.ensures.memory)
