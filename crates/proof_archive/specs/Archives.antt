@@ -33,7 +33,7 @@ kept_in state coin = unwrap_or (lookup (is_at (nat_cmp coin)) state.kept) []
 
 -- ---- put
 
--- a log has fewer blocks, and a bundle fewer openings of fewer bytes: each of these numbers has four bytes
+-- the limit of a log's blocks, and of the bytes that an opening has in a bundle: four bytes have the number
 abbrev pub fits : ℕ → Bool
 fits number = nat_lt number (2 ^ 32)
 

@@ -1,4 +1,4 @@
-ghost use Rattle.std.specs.Prelude.{◌≡◌, ◌≢◌, [], ◌==◌, ◌||◌, ◌+◌, ◌<◌, ◌^◌, true, reverse, length, is_some, vec_len, vec_capacity, OnOk, OnErr, IfOk};
+ghost use Rattle.std.specs.Prelude.{◌≡◌, ◌≢◌, [], ◌==◌, ◌||◌, ◌<◌, reverse, is_some, vec_len, vec_capacity, OnOk, OnErr, IfOk};
 ghost use Rattle.std.specs.List.{list_any};
 ghost use Rattle.proof_archive.specs.Scan.{newest_block};
 ghost use Rattle.proof_archive.specs.Archives.{openings_up_to};

@@ -18,8 +18,8 @@ use std::alloc::Global;
 /// What an opening does to the links of its coin once it is kept, or what it is refused for: `NoCoin`
 /// where the log has no such coin, `UnknownBlock` where its block isn't a committed one after the deposit, or
 /// is the 2^32nd or a later one, `HaveBlock` where that is kept, `Gap` with the lowest committed block between
-/// that isn't, `BadOpening` where it doesn't open the block's root, or has 2^32 bytes or more. It makes the digests of one opening, and tests at most one
-/// signature, whatever is kept.
+/// that isn't, `BadOpening` where it doesn't open the block's root, or has 2^32 bytes or more. It makes the
+/// digests of one opening, and tests at most one signature, whatever is kept.
 pub fn judged<H: Hash32>(
     alloc: Global,
     h: &H,
