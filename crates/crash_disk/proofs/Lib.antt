@@ -3,4 +3,3 @@ pub mod Left
 pub mod Plans
 mod Undone
 pub mod Calls
-pub mod Held

@@ -7,6 +7,3 @@ pub mod Log
 pub mod Undo
 pub mod Inside
 pub mod Files
-pub mod FileCalls
-pub mod FileNotes
-pub mod FileSteps

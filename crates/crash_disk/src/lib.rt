@@ -4,28 +4,21 @@
 
 mod copy;
 mod disk;
-mod disk_over;
 mod faults;
 mod file;
-mod file_calls;
-mod file_notes;
 mod laws;
 mod log;
 mod memory;
 mod mix;
 mod outcome;
 mod past;
-mod real_file;
 mod undo;
 
 pub use disk::{Disk, DiskFailed};
-pub use disk_over::DiskOver;
 pub use file::FileDisk;
-pub use file_calls::FileCalls;
 pub use laws::{
     after_calls, content_may_be_left, fresh_disk_leaves_itself, next_pass_by_fuse, none_listed,
     outcomes_may_be_left, passes_by_fuse, synced_content_is_left,
 };
 pub use memory::MemDisk;
 pub use outcome::Outcome;
-pub use real_file::RealFile;
