@@ -1,5 +1,5 @@
 -- Nodes that are declared.
-use Rattle.std.proofs.Common.{◌≡◌, ◌∷◌, [], ℕ, true, List, length, Option, Some, None, Result, Ok, Err, refl, sym, ◌∙◌, ap, subst}
+use Rattle.std.proofs.Common.{◌≡◌, ◌∷◌, [], ℕ, true, false, List, length, Option, Some, None, Result, Ok, Err, refl, sym, ◌∙◌, ap, subst}
 use Rattle.std.specs.Option.{ForSome, option_map, option_map_or, unwrap_or}
 use Rattle.std.specs.List.{slice_get}
 use Rattle.std.specs.Result.{OnOk, IfOk}
