@@ -3,29 +3,33 @@ use Rattle.std.proofs.Common.{◌≡◌, ℕ, ◌+◌, ◌<◌, ◌≤◌, ◌==
 use Rattle.std.specs.Prelude.{is_some, nat_lt}
 use Rattle.std.specs.List.{Contains, flat_map}
 use Rattle.std.specs.Option.{option_and_then, option_map, option_map_or}
-use Rattle.std.proofs.lemmas.Bool.{and_parts, and_from, eqb-true, eq-eqb, ltb-true, leb-true}
+use Rattle.std.proofs.lemmas.Bool.{and_parts, and_from, eqb-true, eq-eqb, lt-ltb, ltb-true, ltb-false, leb-true}
 use Rattle.plasma_tx.specs.declared.owner.Owner.{Owner}
 use Rattle.plasma_tx.specs.declared.opening.RawOpening.{RawOpening}
 use Rattle.plasma_tx.specs.declared.signed_tx.SignedTx.{SignedTx}
 use Rattle.plasma_tx.specs.declared.links.Links.{Links}
 use Rattle.plasma_tx.specs.declared.call.Shown.{Shown}
+use Rattle.plasma_tx.specs.declared.call.Shown.TheVariants.{Spend}
 use Rattle.plasma_tx.specs.declared.call.RootCall.{RootCall}
 use Rattle.plasma_tx.specs.declared.call.RootCall.TheVariants.{Fund, Tick, Deposit, Commit, StartDeposit, StartSpend, After, Between, Before, Respond, Finish}
+use Rattle.plasma_tx.specs.declared.views.ChallengeView.{ChallengeView}
 use Rattle.plasma_tx.specs.declared.views.CoinView.{CoinView}
 use Rattle.plasma_tx.specs.declared.views.ExitView.{ExitView}
-use Rattle.plasma_tx.specs.declared.rules.TheConstants.{CHALLENGE_WINDOW, EXIT_PERIOD}
+use Rattle.plasma_tx.specs.declared.rules.TheConstants.{CHALLENGE_BOND, CHALLENGE_WINDOW, EXIT_PERIOD}
+use Rattle.plasma_tx.specs.ChallengeLists.{is_challenged}
 use Rattle.plasma_tx.specs.Accepted.{ShowsTx, StartsSpend, CancelsBetween}
 use Rattle.plasma_tx.specs.Laws.{last_start, without_challenges}
 use Rattle.plasma_tx.specs.Links.{tip_of}
+use Rattle.plasma_tx.specs.Money.{balance_of}
 use Rattle.plasma_tx.specs.Openings.{leaf_in}
 use Rattle.plasma_tx.specs.Shown.{Tests, Rules, root_at}
-use Rattle.plasma_tx.specs.Table.{answer_to, is_accepted, is_over}
+use Rattle.plasma_tx.specs.Table.{answer_to, is_accepted, is_before_parent, is_over}
 use Rattle.plasma_tx.specs.Transfer.{transfer_in}
-use Rattle.plasma_tx.specs.Views.{now, coin_at, Exit, is_exit, exits, exit_at, exits_of, exit_view, deposit_exit, spend_exit}
+use Rattle.plasma_tx.specs.Views.{now, coin_at, Exit, is_exit, exits, exit_at, exits_of, exit_view, challenge_view, deposit_exit, spend_exit}
 use Rattle.plasma_tx.proofs.Accepted.{accepted_calls_show, owners_are_read}
-use Rattle.plasma_tx.proofs.Acceptance.{shown_calls_are_accepted}
+use Rattle.plasma_tx.proofs.Acceptance.{transfers_are_shown, shown_calls_are_accepted}
 use Rattle.plasma_tx.proofs.Names.{some_same}
-use Rattle.plasma_tx.proofs.RuleNames.{exits-distinct}
+use Rattle.plasma_tx.proofs.RuleNames.{exits-distinct, is_at}
 use Rattle.plasma_tx.proofs.Stands.{exits_stand}
 use Rattle.coin_history.specs.declared.bundle.Bundle.{Bundle}
 use Rattle.coin_history.specs.History.{IsHistory}
@@ -34,23 +38,18 @@ use Rattle.watch_duty.specs.Duty.{due_for, due_of}
 use Rattle.watch_duty.specs.Laws.{IsLegalBy, HaveOneLeaf, openings_of_call, is_poor_before}
 use Rattle.watch_duty.proofs.Accepts.{due_calls_are_accepted}
 use Rattle.watch_duty.proofs.Dues.{IsDue, DueAfter, DueBetween, DueBefore, DueRespond, due_for-due}
-use Rattle.watch_duty.proofs.Members.{Has, has-contains, contains-has, has-left, has-cases, has-map, has-filter, has-flat_map, all-has, only-found}
+use Rattle.watch_duty.proofs.Members.{Has, has-contains, contains-has, has-left, has-cases, has-map, has-filter, has-flat_map, all-has, only-found, none-found, any-map}
 use Rattle.watch_duty.proofs.Shown.{seen, IsShownAt, Deposited, Transferred, IsBegun, OfDeposit, OfSpend, IsShownExit, exits-shown}
 use Rattle.coin_safety.specs.declared.kept.Kept.{Kept}
-use Rattle.coin_safety.specs.Advice.{standing, exit_in, start_shown, lowest, earlier_spend, instead, is_to_finish, has_challenged, is_own, finishes, due, calls_of}
-use Rattle.coin_safety.specs.Laws.{ActsAreAccepted}
+use Rattle.coin_safety.specs.Advice.{standing, exit_in, start_shown, lowest, earlier_spend, instead, is_to_finish, has_challenged, is_own, own_start, finishes, due, shown_again, timed, calls_of, tip}
+use Rattle.coin_safety.specs.Laws.{is_poor, ActsAreAccepted}
+use Rattle.coin_safety.proofs.Blocks.{deposit-low, view-exit}
+use Rattle.coin_safety.proofs.Again.{IsAgain, again-in, answer-shows}
+use Rattle.coin_safety.proofs.Starting.{own-accepted}
 use Rattle.coin_safety.proofs.Telling.{least-has}
 use Rattle.coin_safety.proofs.Viewed.{viewed}
 
--- an exit of the coin whose view is shown
-view-exit : (log : List RootCall) (c : ℕ) (view : ExitView) → Has (exits_of log c) view
-    → (x : Exit) × Has (exits log) x × (x.coin ≡ c) × (exit_view x ≡ view)
-unfolding exits_of
-view-exit log c view h =
-    let shown = has-map exit_view (filter (λ (x : Exit). x.coin == c) (exits log)) view h in
-    let kept = has-filter (λ (x : Exit). x.coin == c) (exits log) shown.0 shown.1 in
-    (shown.0, kept.0, eqb-true shown.0.coin c kept.1, shown.2)
-
+-- a standing exit is the one of its coin and block
 stands : (log : List RootCall) (x : Exit) → Has (exits log) x → exit_at log x.coin x.block ≡ Some x
 unfolding exit_at
 stands log x h =
@@ -301,6 +300,21 @@ finish-accepted tests rules log account kept call h =
 
 -- ---- in place of a Before
 
+-- who has what a call takes isn't poor for a Before
+rich-before : (log : List RootCall) (account : ℕ) (call : RootCall) → is_poor log account call ≡ false
+    → is_poor_before log account call ≡ false
+rich-before log account (Before by c m shown) rich = rich
+rich-before log account (Fund by amount) rich = refl
+rich-before log account (Tick time) rich = refl
+rich-before log account (Deposit by amount key) rich = refl
+rich-before log account (Commit by root) rich = refl
+rich-before log account (StartDeposit by c block) rich = refl
+rich-before log account (StartSpend by c parent exit) rich = refl
+rich-before log account (After by c m spend) rich = refl
+rich-before log account (Between by c m spend) rich = refl
+rich-before log account (Respond by c m challenged spend) rich = refl
+rich-before log account (Finish by c m) rich = refl
+
 -- the coin and the exit's block of a Before
 abbrev before_coin : RootCall → ℕ
 before_coin (Before by coin m shown) = coin
@@ -335,63 +349,126 @@ module _ (tests : Tests) (rules : Rules) (log : List RootCall) (account : ℕ) (
   due_here = due_of log account (record { links = kept.links })
 
   -- a call that is due, and is entered as it is
-  as-it-is : (made call : RootCall) → Has due_here made → made ≡ call → is_poor_before log account call ≡ false
+  as-it-is : (made call : RootCall) → Has due_here made → made ≡ call → is_poor log account call ≡ false
       → is_accepted (answer_to tests rules log call) ≡ true
   as-it-is made call h same money =
       due_calls_are_accepted tests rules log account bundle kept.links call legal is one
-      (has-contains due_here call (subst (Has due_here) same h)) money
+      (has-contains due_here call (subst (Has due_here) same h)) (rich-before log account call money)
 
-  -- a Between in place of a Before
-  between-accepted : (by coin m : ℕ) (shown : Shown) (spend : RawOpening) → Has due_here (Before by coin m shown)
-      → option_and_then (earlier_spend log c) (exit_in (exits_of log c) m) ≡ Some spend
-      → is_accepted (answer_to tests rules log (Between by coin m spend)) ≡ true
-  between-accepted by coin m shown spend h some =
+  there : coin_at log c ≡ Some is.made
+  there = ap (coin_at log) own_coin ∙ is.coin
+
+  found-at : (view : ExitView) (x : Exit) → Has (exits log) x → x.coin ≡ c → exit_view x ≡ view
+      → exit_at log c view.block ≡ Some x
+  found-at view x has mine same =
+      ap (λ n. exit_at log c n) (ap (λ (v : ExitView). v.block) (sym same))
+      ∙ ap (λ k. exit_at log k x.block) (sym mine) ∙ stands log x has
+
+  -- a Between in place of a Before of an exit whose parent is later than the tip
+  between-accepted : (view : ExitView) → Has (exits_of log c) view → tip_of kept.links < view.parent
+      → now log < view.start + CHALLENGE_WINDOW → (by : ℕ) (spend : RawOpening)
+      → option_and_then (earlier_spend log c) (exit_in (exits_of log c) view.block) ≡ Some spend
+      → is_accepted (answer_to tests rules log (Between by c view.block spend)) ≡ true
+  between-accepted view h above in_time by spend some =
+      let found = view-exit log c view h in
+      let x : Exit = found.0 in
+      let at : x.block ≡ view.block = ap (λ (v : ExitView). v.block) found.3 in
+      let seen_at : exit_in (exits_of log c) view.block ≡ Some (exit_view x) =
+      sym (viewed log c view.block) ∙ ap (option_map exit_view) (found-at view x found.1 found.2 found.3) in
+      let spend_is : earlier_spend log c (exit_view x) ≡ Some spend =
+      sym (ap (option_and_then (earlier_spend log c)) seen_at) ∙ some in
+      let low : 0 < x.parent = omega (arith, ap (λ (v : ExitView). v.parent) found.3, above) in
+      let early : now log < x.start + CHALLENGE_WINDOW =
+      omega (arith, ap (λ (v : ExitView). v.start) found.3, in_time) in
+      let one_here : HaveOneLeaf tests log c (seen log c ++ bundle.openings) =
+      subst (λ k. HaveOneLeaf tests log k (seen log k ++ bundle.openings)) (sym own_coin) one in
+      subst (λ n. is_accepted (answer_to tests rules log (Between by c n spend)) ≡ true) at
+      (shown_calls_are_accepted tests rules log (Between by c x.block spend)
+      (between-shown tests rules log c is.made there legal bundle.openings one_here x spend found.1 found.2 low early
+      (sibling tests rules log c is.made there legal bundle.openings one_here x spend spend_is)))
+
+  -- the Before, or a Between in its place
+  either-accepted : (view : ExitView) → Has (exits_of log c) view → tip_of kept.links < view.parent
+      → now log < view.start + CHALLENGE_WINDOW → (by : ℕ) (shown : Shown) (call : RootCall)
+      → instead log c (Before by c view.block shown) ≡ call
+      → (Before by c view.block shown ≡ call → is_accepted (answer_to tests rules log call) ≡ true)
+      → is_accepted (answer_to tests rules log call) ≡ true
+  either-accepted view h above in_time by shown call same itself =
+      (elim (option_and_then (earlier_spend log c) (exit_in (exits_of log c) view.block)) as (λ o.
+      option_and_then (earlier_spend log c) (exit_in (exits_of log c) view.block) ≡ o
+      → option_map_or (λ spend. Between by c view.block spend) o (Before by c view.block shown) ≡ call
+      → is_accepted (answer_to tests rules log call) ≡ true) [
+        | None ↦ λ none it. itself it
+        | Some spend ↦ λ some it. subst (λ k. is_accepted (answer_to tests rules log k) ≡ true) it
+            (between-accepted view h above in_time by spend some)
+      ]) refl same
+
+  advised : (made call : RootCall) → Has due_here made → instead log c made ≡ call
+      → is_poor log account call ≡ false → is_accepted (answer_to tests rules log call) ≡ true
+  advised (Before by coin m shown) call h same money =
       let view = has-flat_map (due_for log account kept.links) (exits_of log c) (Before by coin m shown) h in
       let b = before-due log account kept view.0 by coin m shown
       (due_for-due log account kept.links view.0 (Before by coin m shown) view.2) in
-      let found = view-exit log c view.0 view.1 in
-      let x : Exit = found.0 in
-      let at : x.block ≡ m = ap (λ (v : ExitView). v.block) found.3 ∙ b.3 in
-      let stands_at : exit_at log c x.block ≡ Some x =
-      ap (λ k. exit_at log k x.block) (sym found.2) ∙ stands log x found.1 in
-      let seen_at : exit_in (exits_of log c) m ≡ Some (exit_view x) =
-      sym (viewed log c m) ∙ ap (λ n. option_map exit_view (exit_at log c n)) (sym at)
-      ∙ ap (option_map exit_view) stands_at in
-      let spend_is : earlier_spend log c (exit_view x) ≡ Some spend =
-      sym (ap (option_and_then (earlier_spend log c)) seen_at) ∙ some in
-      let low : 0 < x.parent = omega (arith, ap (λ (v : ExitView). v.parent) found.3, b.0) in
-      let early : now log < x.start + CHALLENGE_WINDOW =
-      omega (arith, ap (λ (v : ExitView). v.start) found.3, b.1) in
-      let there : coin_at log c ≡ Some is.made = ap (coin_at log) own_coin ∙ is.coin in
-      let one_here : HaveOneLeaf tests log c (seen log c ++ bundle.openings) =
-      subst (λ k. HaveOneLeaf tests log k (seen log k ++ bundle.openings)) (sym own_coin) one in
-      subst (λ k. is_accepted (answer_to tests rules log (Between by k m spend)) ≡ true) b.2
-      (subst (λ n. is_accepted (answer_to tests rules log (Between by c n spend)) ≡ true) at
-      (shown_calls_are_accepted tests rules log (Between by c x.block spend)
-      (between-shown tests rules log c is.made there legal bundle.openings one_here x spend found.1 found.2 low early
-      (sibling tests rules log c is.made there legal bundle.openings one_here x spend spend_is))))
-
-  advised : (made call : RootCall) → Has due_here made → instead log c made ≡ call
-      → is_poor_before log account call ≡ false → is_accepted (answer_to tests rules log call) ≡ true
-  advised (Before by coin m shown) call h same money =
-      (elim (option_and_then (earlier_spend log c) (exit_in (exits_of log c) m)) as (λ o.
-      option_and_then (earlier_spend log c) (exit_in (exits_of log c) m) ≡ o
-      → option_map_or (λ spend. Between by coin m spend) o (Before by coin m shown) ≡ call
-      → is_accepted (answer_to tests rules log call) ≡ true) [
-        | None ↦ λ none it. as-it-is (Before by coin m shown) call h it money
-        | Some spend ↦ λ some it. subst (λ k. is_accepted (answer_to tests rules log k) ≡ true) it
-            (between-accepted by coin m shown spend h some)
-      ]) refl same
+      let e : Before by c view.0.block shown ≡ Before by coin m shown =
+      ap (λ k. Before by k view.0.block shown) b.2 ∙ ap (λ n. Before by coin n shown) b.3 in
+      either-accepted view.0 view.1 b.0 b.1 by shown call (ap (instead log c) e ∙ same)
+      (λ it. as-it-is (Before by coin m shown) call h (sym e ∙ it) money)
   advised made call h same money = as-it-is made call h same money
 
+  -- ---- shown again
+
+  again-accepted : (view : ExitView) (call : RootCall) → Has (exits_of log c) view → IsAgain log account kept view call
+      → is_poor log account call ≡ false → is_accepted (answer_to tests rules log call) ≡ true
+  again-accepted view call h a money =
+      let found = view-exit log c view h in
+      let x : Exit = found.0 in
+      let n : ℕ = a.spend.block in
+      let s = answer-shows tests rules log c (tip kept) view.block a.spend legal a.shown in
+      let parent : x.parent ≡ view.parent = ap (λ (v : ExitView). v.parent) found.3 in
+      let start : x.start ≡ view.start = ap (λ (v : ExitView). v.start) found.3 in
+      let low : is.made.deposit < n = omega (arith, deposit-low tests rules log bundle kept.links is, s.later) in
+      let below : n < x.parent = omega (arith, parent, a.below) in
+      subst (λ k. is_accepted (answer_to tests rules log k) ≡ true) a.same
+      (shown_calls_are_accepted tests rules log (Before account c view.block (Spend a.spend)) (record {
+        exit = x;
+        stands = found-at view x found.1 found.2 found.3;
+        in_time = omega (arith, start, a.early);
+        before = ap (λ k. is_before_parent log k x (Spend a.spend)) there
+            ∙ and_from (is_some (root_at log n) && nat_lt is.made.deposit n) (nat_lt n x.parent)
+            (and_from (is_some (root_at log n)) (nat_lt is.made.deposit n) (ap is_some s.shown.committed)
+            (lt-ltb is.made.deposit n low)) (lt-ltb n x.parent below);
+        owner = s.tx.body.to;
+        owner_shown = ap (option_map (λ (tx : SignedTx). tx.body.to))
+            (transfers_are_shown tests rules log c a.spend s.tx s.shown);
+        none_there = none-found (is_at n) x.challenges
+            (sym (any-map challenge_view (λ (v : ChallengeView). v.block == n) x.challenges)
+            ∙ ap (λ (v : ExitView). is_challenged n v.challenges) found.3 ∙ a.free);
+        covered = ltb-false (balance_of log account) CHALLENGE_BOND (ap (is_poor log account) a.same ∙ money);
+      }))
+
+  again-advised : (made call : RootCall) → Has (shown_again log account kept) made → instead log c made ≡ call
+      → is_poor log account call ≡ false → is_accepted (answer_to tests rules log call) ≡ true
+  again-advised made call h same money =
+      let r = again-in log account kept made h in
+      either-accepted r.0 r.1 r.2.above r.2.early account (Spend r.2.spend) call (ap (instead log c) r.2.same ∙ same)
+      (λ it. again-accepted r.0 call r.1 (subst (IsAgain log account kept r.0) (sym r.2.same ∙ it) r.2) money)
+
   pub is-accepted : (call : RootCall) → Contains (calls_of log account kept) call
-      → is_poor_before log account call ≡ false → is_accepted (answer_to tests rules log call) ≡ true
-  is-accepted call there money =
-      elim (has-cases (map (instead log c) (due log account kept)) (finishes log account kept) call
-      (contains-has (calls_of log account kept) call there)) [
-        | inl first ↦
-            let made = has-map (instead log c) (due log account kept) call first in
-            advised made.0 call (here made.0 made.1) made.2 money
+      → is_poor log account call ≡ false → is_accepted (answer_to tests rules log call) ≡ true
+  is-accepted call there_is money =
+      elim (has-cases (map (instead log c) (timed log account kept) ++ own_start log account kept)
+      (finishes log account kept) call
+      (contains-has (calls_of log account kept) call there_is)) [
+        | inl front ↦ elim (has-cases (map (instead log c) (timed log account kept)) (own_start log account kept) call
+            front) [
+              | inr start ↦ own-accepted tests rules log account bundle kept call is start money
+              | inl first ↦
+                  let made = has-map (instead log c) (timed log account kept) call first in
+                  (elim (has-cases (due log account kept) (shown_again log account kept) made.0 made.1) [
+                    | inl own ↦ advised made.0 call (here made.0 own) made.2 money
+                    | inr again ↦ again-advised made.0 call again made.2 money
+                  ])
+            ]
         | inr last ↦ finish-accepted tests rules log account kept call last
       ]
     where

@@ -12,10 +12,10 @@ use Rattle.plasma_tx.specs.declared.rules.TheConstants.{CHALLENGE_BOND, EXIT_BON
 use Rattle.plasma_tx.specs.Money.{balance_of, share_of, takes as taken}
 use Rattle.plasma_tx.specs.Views.{exits_of}
 use Rattle.watch_duty.specs.Duty.{due_of}
-use Rattle.watch_duty.specs.Laws.{is_poor_before}
 use Rattle.watch_duty.proofs.Members.{Has, has-contains, contains-has, has-left}
 use Rattle.coin_safety.specs.declared.kept.Kept.{Kept}
-use Rattle.coin_safety.specs.Advice.{exit_in, earlier_spend, instead, finishes, due, calls_of, takes}
+use Rattle.coin_safety.specs.declared.kept.Sent.{Sent}
+use Rattle.coin_safety.specs.Advice.{exit_in, earlier_spend, instead, finishes, due, shown_again, timed, own_start, calls_of, takes}
 use Rattle.coin_safety.specs.Laws.{IsMet, NothingDueIsLeftOut, with_calls, EnoughIsEnough, NoneIsPoor}
 
 -- ---- what is due
@@ -57,7 +57,7 @@ met log c calls (Finish account coin exit) h = has-contains calls (Finish accoun
 pub due-unsent : (log : List RootCall) (account : ℕ) (kept : Kept) → kept.sent ≡ None
     → due log account kept ≡ due_of log account (record { links = kept.links })
 due-unsent log account kept unsent =
-    ap (λ (o : Option ℕ). if is_some o then [] else due_of log account (record { links = kept.links })) unsent
+    ap (λ (o : Option Sent). if is_some o then [] else due_of log account (record { links = kept.links })) unsent
 
 pub nothing_due_is_left_out : NothingDueIsLeftOut
 nothing_due_is_left_out log account kept call unsent is =
@@ -65,9 +65,12 @@ nothing_due_is_left_out log account kept call unsent is =
     subst (λ l. Has l call) (sym (due-unsent log account kept unsent))
     (contains-has (due_of log account (record { links = kept.links })) call is) in
     met log kept.links.coin (calls_of log account kept) call
-    (has-left (map (instead log kept.links.coin) (due log account kept)) (finishes log account kept)
+    (has-left (map (instead log kept.links.coin) (timed log account kept) ++ own_start log account kept)
+    (finishes log account kept) (instead log kept.links.coin call)
+    (has-left (map (instead log kept.links.coin) (timed log account kept)) (own_start log account kept)
     (instead log kept.links.coin call)
-    (has-mapped (instead log kept.links.coin) (due log account kept) call here))
+    (has-mapped (instead log kept.links.coin) (timed log account kept) call
+    (has-left (due log account kept) (shown_again log account kept) call here))))
 
 -- ---- money
 
@@ -115,22 +118,8 @@ enough_is_enough log account (first ∷ earlier) call after enough =
     (left log account first (sum_by takes (earlier ++ call ∷ after))
     (omega (arith, sum-cons first (earlier ++ call ∷ after))))
 
-not-poor : (log : List RootCall) (account : ℕ) (call : RootCall) → takes call ≤ balance_of log account
-    → is_poor_before log account call ≡ false
-not-poor log account (Before by c m shown) enough = le-ltb (balance_of log account) CHALLENGE_BOND enough
-not-poor log account (Fund by amount) enough = refl
-not-poor log account (Tick time) enough = refl
-not-poor log account (Deposit by amount key) enough = refl
-not-poor log account (Commit by root) enough = refl
-not-poor log account (StartDeposit by c block) enough = refl
-not-poor log account (StartSpend by c parent exit) enough = refl
-not-poor log account (After by c m spend) enough = refl
-not-poor log account (Between by c m spend) enough = refl
-not-poor log account (Respond by c m challenged spend) enough = refl
-not-poor log account (Finish by c m) enough = refl
-
 pub none_is_poor : NoneIsPoor
 none_is_poor log account calls earlier call after none is =
-    not-poor (with_calls log earlier) account call
+    le-ltb (balance_of (with_calls log earlier) account) (takes call)
     (enough_is_enough log account earlier call after
     (omega (arith, ap (sum_by takes) is, none)))

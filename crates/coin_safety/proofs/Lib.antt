@@ -2,8 +2,12 @@ pub mod Numbers
 pub mod Lists
 pub mod Ends
 pub mod Indexes
+pub mod Answered
+pub mod Again
+pub mod Blocks
 pub mod Followed
 pub mod Viewed
 pub mod Advised
 pub mod Telling
+pub mod Starting
 pub mod Accepting

@@ -13,13 +13,14 @@ use Rattle.plasma_tx.proofs.Names.{some_same}
 use Rattle.watch_duty.specs.Duty.{due_for}
 use Rattle.watch_duty.proofs.Members.{Has, has-contains, contains-has}
 use Rattle.coin_safety.specs.declared.kept.Kept.{Kept}
+use Rattle.coin_safety.specs.declared.kept.Sent.{Sent}
 use Rattle.coin_safety.specs.declared.payment.Payment.{Payment}
 use Rattle.coin_safety.specs.declared.word.Word.{Word}
-use Rattle.coin_safety.specs.declared.word.Word.TheVariants.{Act, Sent, Leaving, Paid, Gone, Late, Frozen, Stale}
+use Rattle.coin_safety.specs.declared.word.Word.TheVariants.{Act, Sent as IsSent, Leaving, Paid, Gone, Late, Frozen, Stale}
 use Rattle.coin_safety.specs.Numbers.{later, least}
-use Rattle.coin_safety.specs.Advice.{standing, tip, exit_in, due, calls_of, missing}
-use Rattle.coin_safety.specs.Words.{is_strange, sent_word, next_line, starter, paid_by, payment, holder, paid_word, first_end, come, late_word, stale_word, end_of_call, act_word, leaving_word, safe_word}
-use Rattle.coin_safety.specs.Laws.{IsHere, ends, AreAhead, NothingIsDue, IsFresh, IsPaidOut, IsFirst, Tells, WordsTell}
+use Rattle.coin_safety.specs.Advice.{standing, tip, holder, exit_in, due, shown_again, timed, calls_of, missing}
+use Rattle.coin_safety.specs.Words.{is_strange, away, sent_word, left_leaf, left_word, next_line, starter, paid_by, payment, paid_word, first_end, come, late_word, stale_word, end_of_call, act_word, leaving_word, safe_word}
+use Rattle.coin_safety.specs.Laws.{IsHere, ends, AreAhead, NothingIsDue, IsFresh, IsPaidOut, IsFirst, IsAway, Tells, WordsTell}
 use Rattle.coin_safety.proofs.Advised.{due-unsent}
 use Rattle.coin_safety.proofs.Viewed.{paid-withdrawn}
 
@@ -63,19 +64,20 @@ missed p (y ∷ ys) x is h =
       ]
     ]) refl is h
 
+-- where two lists together are empty, each is
+front-none : {X : Type 0} (a b : List X) → a ++ b ≡ [] → a ≡ []
+front-none [] b e = refl
+front-none (z ∷ a) b e = absurd (cc e)
+
+back-none : {X : Type 0} (a b : List X) → a ++ b ≡ [] → b ≡ []
+back-none [] b e = e
+back-none (z ∷ a) b e = absurd (cc e)
+
 -- where nothing comes of the elements, nothing comes of each
 each-none : {X Y : Type 0} (f : X → List Y) (xs : List X) (x : X) → flat_map f xs ≡ [] → Has xs x → f x ≡ []
 each-none f [] x is h = absurd h
-each-none f (y ∷ ys) x is (inl same) = ap f (sym same) ∙ front (f y) (flat_map f ys) is
-  where
-    front : {Y : Type 0} (a b : List Y) → a ++ b ≡ [] → a ≡ []
-    front [] b e = refl
-    front (z ∷ a) b e = absurd (cc e)
-each-none f (y ∷ ys) x is (inr h) = each-none f ys x (back (f y) (flat_map f ys) is) h
-  where
-    back : {Y : Type 0} (a b : List Y) → a ++ b ≡ [] → b ≡ []
-    back [] b e = e
-    back (z ∷ a) b e = absurd (cc e)
+each-none f (y ∷ ys) x is (inl same) = ap f (sym same) ∙ front-none (f y) (flat_map f ys) is
+each-none f (y ∷ ys) x is (inr h) = each-none f ys x (back-none (f y) (flat_map f ys) is) h
 
 -- ---- the least
 
@@ -161,38 +163,44 @@ module _ (log : List RootCall) (account clock : ℕ) (kept : Kept) where
             ]) refl not_come
       ]) refl none
 
-  sent-tells : (w : Word) → sent_word log kept ≡ Some w → Tells log account clock kept w
-  sent-tells w is =
-      (elim kept.sent as (λ o. kept.sent ≡ o
-      → option_map (λ leaf. if list_any (is_strange kept) (standing log kept) then Frozen else Sent leaf) o ≡ Some w
-      → Tells log account clock kept w) [
-        | None ↦ λ none wrong. absurd (cc wrong)
-        | Some leaf ↦ λ some same. subst (Tells log account clock kept) (some_same _ w same)
-            ((elim (list_any (is_strange kept) (standing log kept)) as (λ b.
-            list_any (is_strange kept) (standing log kept) ≡ b
-            → Tells log account clock kept (if b then Frozen else Sent leaf)) [
-              | true ↦ λ strange.
-                  let found = any-found (is_strange kept) (standing log kept) strange in (
-                    λ e. absurd (cc (sym some ∙ e)),
-                    (
-                      found.0,
-                      has-contains (standing log kept) found.0 found.1,
-                      λ e. true≢false (sym (eq-eqb found.0.parent (tip kept) e) ∙ not-true _ found.2),
-                    ),
-                  )
-              | false ↦ λ none. (
-                some,
-                λ exit there.
-                    eqb-true exit.parent (tip kept)
-                    (not-false (exit.parent == tip kept) (none-any (is_strange kept) (standing log kept) exit none
-                    (contains-has (standing log kept) exit there))),
-              )
-            ]) refl)
-      ]) refl is
+  away-tells : (leaf : ℕ) → IsAway log account clock kept leaf → Tells log account clock kept (away log kept leaf)
+  away-tells leaf is =
+      (elim (list_any (is_strange kept) (standing log kept)) as (λ b.
+      list_any (is_strange kept) (standing log kept) ≡ b
+      → Tells log account clock kept (if b then Frozen else IsSent leaf)) [
+        | true ↦ λ strange.
+            let found = any-found (is_strange kept) (standing log kept) strange in (
+              (leaf, is),
+              (
+                found.0,
+                has-contains (standing log kept) found.0 found.1,
+                λ e. true≢false (sym (eq-eqb found.0.parent (tip kept) e) ∙ not-true _ found.2),
+              ),
+            )
+        | false ↦ λ none. (
+          is,
+          λ exit there.
+              eqb-true exit.parent (tip kept)
+              (not-false (exit.parent == tip kept) (none-any (is_strange kept) (standing log kept) exit none
+              (contains-has (standing log kept) exit there))),
+        )
+      ]) refl
     where
       not-false : (b : Bool) → not b ≡ false → b ≡ true
       not-false true e = refl
       not-false false e = absurd (true≢false e)
+
+  sent-tells : (w : Word) → sent_word log kept ≡ Some w → Tells log account clock kept w
+  sent-tells w is =
+      let sent = mapped (λ (sent : Sent). away log kept sent.leaf) kept.sent w is in
+      subst (Tells log account clock kept) sent.2 (away-tells sent.0.leaf
+      (inl (ap (option_map (λ (it : Sent). it.leaf)) sent.1)))
+
+  left-tells : IsFresh log clock kept → NothingIsDue log account kept → (w : Word) → left_word log kept ≡ Some w
+      → Tells log account clock kept w
+  left-tells at none w is =
+      let left = mapped (away log kept) (left_leaf log kept) w is in
+      subst (Tells log account clock kept) left.2 (away-tells left.0 (inr (at, none, left.1)))
 
   -- ---- paid out
 
@@ -336,7 +344,7 @@ module _ (log : List RootCall) (account clock : ℕ) (kept : Kept) where
       ]) refl is
 
   abbrev due_ends : List ℕ
-  due_ends = map (end_of_call (standing log kept)) (due log account kept)
+  due_ends = map (end_of_call (standing log kept)) (timed log account kept)
 
   act-tells : IsFresh log clock kept → (w : Word) → act_word log account kept ≡ Some w
       → Tells log account clock kept w
@@ -347,21 +355,27 @@ module _ (log : List RootCall) (account clock : ℕ) (kept : Kept) where
       (at, (act.0, first-of due_ends act.0 act.1, refl), refl)
 
   nothing-due : kept.sent ≡ None → act_word log account kept ≡ None → NothingIsDue log account kept
-  nothing-due unsent is exit there =
+  nothing-due unsent is =
       let none : due_ends ≡ [] =
       least-none due_ends (unmapped (λ (end : ℕ). Act (end - 1) (missing log account (calls_of log account kept)))
       (least due_ends) is) in
-      each-none (due_for log account kept.links) (standing log kept) exit
-      (sym (due-unsent log account kept unsent) ∙ unmapped-none (end_of_call (standing log kept))
-      (due log account kept) none) (contains-has (standing log kept) exit there)
+      let untimed : timed log account kept ≡ [] =
+      unmapped-none (end_of_call (standing log kept)) (timed log account kept) none in
+      record {
+        due = λ exit there. each-none (due_for log account kept.links) (standing log kept) exit
+            (sym (due-unsent log account kept unsent)
+            ∙ front-none (due log account kept) (shown_again log account kept) untimed)
+            (contains-has (standing log kept) exit there);
+        again = back-none (due log account kept) (shown_again log account kept) untimed;
+      }
     where
       unmapped-none : {X Y : Type 0} (f : X → Y) (xs : List X) → map f xs ≡ [] → xs ≡ []
       unmapped-none f [] e = refl
       unmapped-none f (x ∷ xs) e = absurd (cc e)
 
-  last-tells : IsFresh log clock kept → NothingIsDue log account kept
+  last-tells : IsFresh log clock kept → NothingIsDue log account kept → left_leaf log kept ≡ None
       → Tells log account clock kept (unwrap_or (leaving_word log kept) (safe_word log))
-  last-tells at none =
+  last-tells at none unleft =
       (elim (exit_in (standing log kept) (tip kept)) as (λ o. exit_in (standing log kept) (tip kept) ≡ o
       → Tells log account clock kept
       (unwrap_or (option_map (λ exit. Leaving (later exit.start EXIT_PERIOD)) o) (safe_word log))) [
@@ -373,6 +387,7 @@ module _ (log : List RootCall) (account clock : ℕ) (kept : Kept) where
               ∙ missed (λ (it : ExitView). it.block == tip kept) (standing log kept) exit no_own
               (contains-has (standing log kept) exit there)),
           refl,
+          unleft,
         )
         | Some exit ↦ λ own.
             let found = found-has (λ (it : ExitView). it.block == tip kept) (standing log kept) exit own in (
@@ -384,6 +399,7 @@ module _ (log : List RootCall) (account clock : ℕ) (kept : Kept) where
                 eqb-true exit.block (tip kept) found.1,
                 refl,
               ),
+              unleft,
             )
       ]) refl
 
@@ -391,14 +407,14 @@ pub words_tell : WordsTell
 words_tell log account clock kept =
     let last : Word = safe_word log in
     let leaving : Option Word = leaving_word log kept in
-    let acting : Option Word = option_or (act_word log account kept) leaving in
+    let moving : Option Word = option_or (left_word log kept) leaving in
+    let acting : Option Word = option_or (act_word log account kept) moving in
     let aging : Option Word = option_or (stale_word log clock kept) acting in
     let ending : Option Word = option_or (late_word log kept) aging in
     let paying : Option Word = option_or (paid_word log kept) ending in
     let P : Word → Type 0 = Tells log account clock kept in
     first-rule (sent_word log kept) paying last P (sent-tells log account clock kept) (λ no_sent.
-    let unsent = unmapped (λ (leaf : ℕ). if list_any (is_strange kept) (standing log kept) then Frozen else Sent leaf)
-    kept.sent no_sent in
+    let unsent = unmapped (λ (sent : Sent). away log kept sent.leaf) kept.sent no_sent in
     first-rule (paid_word log kept) ending last P (paid-tells log account clock kept unsent) (λ no_paid.
     let at = here log account clock kept unsent no_paid in
     first-rule (late_word log kept) aging last P (late-tells log account clock kept at) (λ no_late.
@@ -406,5 +422,7 @@ words_tell log account clock kept =
     (unmapped Late (come (now log) (first_end log kept)) no_late) in
     first-rule (stale_word log clock kept) acting last P (stale-tells log account clock kept at in_time) (λ no_stale.
     let good = fresh log account clock kept at in_time no_stale in
-    first-rule (act_word log account kept) leaving last P (act-tells log account clock kept good) (λ no_act.
-    last-tells log account clock kept good (nothing-due log account clock kept unsent no_act))))))
+    first-rule (act_word log account kept) moving last P (act-tells log account clock kept good) (λ no_act.
+    let none = nothing-due log account clock kept unsent no_act in
+    first-rule (left_word log kept) leaving last P (left-tells log account clock kept good none) (λ no_left.
+    last-tells log account clock kept good none (unmapped (away log kept) (left_leaf log kept) no_left)))))))

@@ -1,6 +1,7 @@
 -- What holds of the calls and the words.
-use Rattle.std.specs.Prelude.{◌≡◌, ◌≢◌, ◌⊎◌, ℕ, ◌+◌, ◌-◌, ◌<◌, ◌≤◌, ◌==◌, ◌&&◌, Bool, true, false, List, [], ◌∷◌, ◌++◌, map, Some, None}
+use Rattle.std.specs.Prelude.{◌≡◌, ◌≢◌, ◌⊎◌, ℕ, nat_lt, ◌+◌, ◌-◌, ◌<◌, ◌≤◌, ◌==◌, ◌&&◌, Bool, true, false, List, [], ◌∷◌, ◌++◌, map, Some, None}
 use Rattle.std.specs.List.{Contains, flat_map, sum_by}
+use Rattle.std.specs.Option.{option_map}
 use Rattle.plasma_tx.specs.declared.call.RootCall.{RootCall}
 use Rattle.plasma_tx.specs.declared.call.RootCall.TheVariants.{After, Between, Before, Finish}
 use Rattle.plasma_tx.specs.declared.views.ExitView.{ExitView}
@@ -12,13 +13,13 @@ use Rattle.plasma_tx.specs.Views.{now, exit_at, has_no_open_challenge, is_withdr
 use Rattle.coin_history.specs.declared.bundle.Bundle.{Bundle}
 use Rattle.coin_history.specs.History.{IsHistory}
 use Rattle.watch_duty.specs.Duty.{due_for, due_of}
-use Rattle.watch_duty.specs.Laws.{IsLegalBy, HaveOneLeaf, openings_of_call, is_poor_before}
+use Rattle.watch_duty.specs.Laws.{IsLegalBy, HaveOneLeaf, openings_of_call}
 use Rattle.coin_safety.specs.declared.kept.Kept.{Kept}
 use Rattle.coin_safety.specs.declared.word.Word.{Word}
 use Rattle.coin_safety.specs.declared.word.Word.TheVariants.{Safe, Act, Sent, Leaving, Paid, Gone, Late, Frozen, Stale}
 use Rattle.coin_safety.specs.Numbers.{later}
-use Rattle.coin_safety.specs.Advice.{standing, tip, due, calls_of, takes, missing}
-use Rattle.coin_safety.specs.Words.{next_line, starter, holder, ends_of, end_of_call, word_of}
+use Rattle.coin_safety.specs.Advice.{standing, tip, holder, shown_again, timed, calls_of, takes, missing}
+use Rattle.coin_safety.specs.Words.{next_line, starter, ends_of, end_of_call, left_leaf, word_of}
 
 -- ---- the calls
 
@@ -41,16 +42,20 @@ abbrev pub NothingDueIsLeftOut : Type 0
 NothingDueIsLeftOut = (log : List RootCall) (account : ℕ) (kept : Kept) (call : RootCall) → kept.sent ≡ None
     → Contains (due_of log account (record { links = kept.links })) call → IsMet (calls_of log account kept) call
 
--- Each call that is advised for the history of a coin is accepted, unless it is a Before for which there is no money,
--- in a log of calls that were accepted under these tests, where no two openings of that history and of the log's calls
--- of the coin show two leaves of one root.
+-- the account's balance is less than what the call takes
+abbrev pub is_poor : List RootCall → ℕ → RootCall → Bool
+is_poor log account call = nat_lt (balance_of log account) (takes call)
+
+-- Each call that is advised for the history of a coin is accepted, unless it takes money that isn't there, in a log of
+-- calls that were accepted under these tests, where no two openings of that history and of the log's calls of the coin
+-- show two leaves of one root.
 abbrev pub ActsAreAccepted : Type 0
 ActsAreAccepted = (tests : Tests) (rules : Rules) (log : List RootCall) (account : ℕ) (bundle : Bundle) (kept : Kept)
     (call : RootCall)
     → IsLegalBy tests rules log → IsHistory tests rules log bundle kept.links
     → HaveOneLeaf tests log bundle.coin (flat_map (openings_of_call bundle.coin) log ++ bundle.openings)
     → Contains (calls_of log account kept) call
-    → is_poor_before log account call ≡ false → is_accepted (answer_to tests rules log call) ≡ true
+    → is_poor log account call ≡ false → is_accepted (answer_to tests rules log call) ≡ true
 
 -- ---- money
 
@@ -72,7 +77,7 @@ abbrev pub NoneIsPoor : Type 0
 NoneIsPoor = (log : List RootCall) (account : ℕ) (calls earlier : List RootCall) (call : RootCall)
     (after : List RootCall)
     → missing log account calls ≡ 0 → calls ≡ earlier ++ call ∷ after
-    → is_poor_before (with_calls log earlier) account call ≡ false
+    → is_poor (with_calls log earlier) account call ≡ false
 
 -- ---- the words
 
@@ -93,10 +98,10 @@ pub record IsFirst (numbers : List ℕ) (first : ℕ) : Type 0 where
   pub among : Contains numbers first
   pub no_less : (n : ℕ) → Contains numbers n → first ≤ n
 
--- nothing is due for any exit of the coin
-abbrev pub NothingIsDue : List RootCall → ℕ → Kept → Type 0
-NothingIsDue log account kept =
-    (exit : ExitView) → Contains (standing log kept) exit → due_for log account kept.links exit ≡ []
+-- nothing is due for any exit of the coin, and nothing is shown again
+pub record NothingIsDue (log : List RootCall) (account : ℕ) (kept : Kept) : Type 0 where
+  pub due : (exit : ExitView) → Contains (standing log kept) exit → due_for log account kept.links exit ≡ []
+  pub again : shown_again log account kept ≡ []
 
 -- The coin is here, the log is fresh by the clock, and no window ended unseen.
 pub record IsFresh (log : List RootCall) (clock : ℕ) (kept : Kept) : Type 0 where
@@ -118,13 +123,21 @@ pub record IsPaidOut (log : List RootCall) (c account line : ℕ) : Type 0 where
   pub whose : starter (exit_at older c exit) ≡ account
   pub place : line ≡ next_line older
 
+-- The leaf signed the coin away: the node's own; or one that an answer shows, and then the log is fresh, and nothing is
+-- due.
+abbrev pub IsAway : List RootCall → ℕ → ℕ → Kept → ℕ → Type 0
+IsAway log account clock kept leaf =
+    (option_map (λ sent. sent.leaf) kept.sent ≡ Some leaf)
+    ⊎ (IsFresh log clock kept × NothingIsDue log account kept × (left_leaf log kept ≡ Some leaf))
+
 -- what each word tells
 abbrev pub Tells : List RootCall → ℕ → ℕ → Kept → Word → Type 0
 Tells log account clock kept (Sent leaf) =
-    (kept.sent ≡ Some leaf)
+    IsAway log account clock kept leaf
     × ((exit : ExitView) → Contains (standing log kept) exit → exit.parent ≡ tip kept)
 Tells log account clock kept Frozen =
-    (kept.sent ≢ None) × ((exit : ExitView) × Contains (standing log kept) exit × (exit.parent ≢ tip kept))
+    ((leaf : ℕ) × IsAway log account clock kept leaf)
+    × ((exit : ExitView) × Contains (standing log kept) exit × (exit.parent ≢ tip kept))
 Tells log account clock kept Paid = (kept.sent ≡ None) × ((line : ℕ) × IsPaidOut log kept.links.coin (holder kept) line)
 Tells log account clock kept (Gone whose line) =
     (kept.sent ≡ None) × (whose ≢ holder kept) × IsPaidOut log kept.links.coin whose line
@@ -135,16 +148,18 @@ Tells log account clock kept Stale =
     × ((now log + RESPONSE_WINDOW < clock) ⊎ ((end : ℕ) × Contains (ends log kept) end × (end ≤ clock)))
 Tells log account clock kept (Act by money) =
     IsFresh log clock kept
-    × ((end : ℕ) × IsFirst (map (end_of_call (standing log kept)) (due log account kept)) end × (by ≡ end - 1))
+    × ((end : ℕ) × IsFirst (map (end_of_call (standing log kept)) (timed log account kept)) end × (by ≡ end - 1))
     × (money ≡ missing log account (calls_of log account kept))
 Tells log account clock kept (Leaving opens) =
     IsFresh log clock kept × NothingIsDue log account kept
     × ((exit : ExitView) × Contains (standing log kept) exit × (exit.block ≡ tip kept)
     × (opens ≡ later exit.start EXIT_PERIOD))
+    × (left_leaf log kept ≡ None)
 Tells log account clock kept (Safe until) =
     IsFresh log clock kept × NothingIsDue log account kept
     × ((exit : ExitView) → Contains (standing log kept) exit → exit.block ≢ tip kept)
     × (until ≡ later (now log) (CHALLENGE_WINDOW - 1))
+    × (left_leaf log kept ≡ None)
 
 -- each word tells what it says
 abbrev pub WordsTell : Type 0

@@ -1,22 +1,28 @@
 -- Whether a coin is safe, in a word: by the log, the account that would enter calls, the caller's clock, and what is
 -- kept of the coin. The rules are tried in the order in which they stand here, and the first that speaks gives it.
-use Rattle.std.specs.Prelude.{ℕ, ◌+◌, ◌-◌, ◌==◌, not, Bool, if◌then◌else◌, nat_lt, nat_le, List, [], ◌∷◌, length, Option, Some, None, unwrap_or, find, filter, map}
+use Rattle.std.specs.Prelude.{ℕ, ◌+◌, ◌-◌, ◌==◌, not, Bool, if◌then◌else◌, nat_lt, nat_le, List, [], ◌∷◌, length, Option, Some, None, unwrap_or, find, filter, map, slice_range, Result, Ok, Err}
 use Rattle.std.specs.List.{list_any, flat_map}
 use Rattle.std.specs.Option.{option_and_then, option_map, option_map_or, option_or}
+use Rattle.std.specs.Int.{w32}
+use Rattle.plasma_base.specs.Fields.{field_at}
+use Rattle.plasma_tx.specs.declared.opening.RawOpening.{RawOpening}
+use Rattle.plasma_tx.specs.declared.signed_tx.SignedTx.{SignedTx}
+use Rattle.plasma_tx.specs.declared.signed_tx.TxRefusal.{TxRefusal}
 use Rattle.plasma_tx.specs.declared.call.RootCall.{RootCall}
 use Rattle.plasma_tx.specs.declared.call.RootCall.TheVariants.{After, Between, Before, Respond, Finish}
 use Rattle.plasma_tx.specs.declared.views.ChallengeView.{ChallengeView}
 use Rattle.plasma_tx.specs.declared.views.ExitView.{ExitView}
 use Rattle.plasma_tx.specs.declared.rules.TheConstants.{CHALLENGE_WINDOW, RESPONSE_WINDOW, EXIT_PERIOD}
 use Rattle.plasma_tx.specs.ChallengeLists.{is_challenged}
-use Rattle.plasma_tx.specs.Links.{last_owner_of}
+use Rattle.plasma_tx.specs.Openings.{leaf_in}
+use Rattle.plasma_tx.specs.Spelling.{signed_in}
 use Rattle.plasma_tx.specs.Views.{now, Exit, exit_at, has_no_open_challenge}
 use Rattle.coin_safety.specs.declared.kept.Kept.{Kept}
 use Rattle.coin_safety.specs.declared.payment.Payment.{Payment}
 use Rattle.coin_safety.specs.declared.word.Word.{Word}
 use Rattle.coin_safety.specs.declared.word.Word.TheVariants.{Safe, Act, Sent, Leaving, Paid, Gone, Late, Frozen, Stale}
 use Rattle.coin_safety.specs.Numbers.{later, least}
-use Rattle.coin_safety.specs.Advice.{standing, tip, exit_in, due, calls_of, missing}
+use Rattle.coin_safety.specs.Advice.{standing, tip, holder, left_by, exit_in, timed, calls_of, missing}
 
 -- ---- sent
 
@@ -24,10 +30,13 @@ use Rattle.coin_safety.specs.Advice.{standing, tip, exit_in, due, calls_of, miss
 abbrev pub is_strange : Kept → ExitView → Bool
 is_strange kept exit = not (exit.parent == tip kept)
 
--- The coin was signed away. It can't be accepted while a strange exit of it stands.
+-- The leaf signed the coin away. It can't be accepted while a strange exit of it stands.
+abbrev pub away : List RootCall → Kept → ℕ → Word
+away log kept leaf = if list_any (is_strange kept) (standing log kept) then Frozen else Sent leaf
+
+-- The node signed the coin away.
 abbrev pub sent_word : List RootCall → Kept → Option Word
-sent_word log kept =
-    option_map (λ leaf. if list_any (is_strange kept) (standing log kept) then Frozen else Sent leaf) kept.sent
+sent_word log kept = option_map (λ sent. away log kept sent.leaf) kept.sent
 
 -- ---- paid out
 
@@ -50,10 +59,6 @@ payment [] c = None
 payment (Finish account coin exit ∷ log) c =
     option_or (payment log c) (if coin == c then paid_by log (exit_at log coin exit) else None)
 payment (call ∷ log) c = payment log c
-
--- the account of the owner at the tip
-abbrev pub holder : Kept → ℕ
-holder kept = (last_owner_of kept.links).account
 
 -- The coin was paid out: to its holder, or to another.
 abbrev pub paid_word : List RootCall → Kept → Option Word
@@ -106,7 +111,7 @@ answer_end challenges block =
 abbrev pub window_end : Option ExitView → ℕ
 window_end exit = option_map_or (λ it. later it.start CHALLENGE_WINDOW) exit 0
 
--- from when on a call can't be entered that is due for one of these exits
+-- from when on a call can't be entered that has to be for one of these exits
 abbrev pub end_of_call : List ExitView → RootCall → ℕ
 end_of_call exits (Respond account coin block challenged spend) =
     option_map_or (λ exit. answer_end exit.challenges challenged) (exit_in exits block) 0
@@ -115,11 +120,31 @@ end_of_call exits (Between account coin block spend) = window_end (exit_in exits
 end_of_call exits (Before account coin block shown) = window_end (exit_in exits block)
 end_of_call exits call = 0
 
--- Calls are due: until the last second before the first of their windows ends, and with so much more money.
+-- Calls are due, or shown again: until the last second before the first of their windows ends, and with so much more
+-- money.
 abbrev pub act_word : List RootCall → ℕ → Kept → Option Word
 act_word log account kept =
     option_map (λ end. Act (end - 1) (missing log account (calls_of log account kept)))
-    (least (map (end_of_call (standing log kept)) (due log account kept)))
+    (least (map (end_of_call (standing log kept)) (timed log account kept)))
+
+-- ---- left
+
+-- the leaf that a transfer was signed by, if it reads: the number that its signature begins with
+abbrev pub leaf_of : Result SignedTx TxRefusal → Option ℕ
+leaf_of (Err why) = None
+leaf_of (Ok tx) = field_at w32 tx.signature 0
+
+-- the leaf that signed the transfer in an opening, whatever the transfer's tag
+abbrev pub signing_leaf : RawOpening → Option ℕ
+signing_leaf opening = leaf_of (signed_in (slice_range (leaf_in opening.bytes) 4 36) (leaf_in opening.bytes))
+
+-- the leaf that signed the coin away from the tip, by what an answer showed
+abbrev pub left_leaf : List RootCall → Kept → Option ℕ
+left_leaf log kept = option_and_then signing_leaf (left_by log kept.links.coin (tip kept))
+
+-- An answer shows that the coin has left the tip.
+abbrev pub left_word : List RootCall → Kept → Option Word
+left_word log kept = option_map (away log kept) (left_leaf log kept)
 
 -- ---- the rest
 
@@ -142,5 +167,6 @@ word_of log account clock kept =
     (option_or (late_word log kept)
     (option_or (stale_word log clock kept)
     (option_or (act_word log account kept)
-    (leaving_word log kept))))))
+    (option_or (left_word log kept)
+    (leaving_word log kept)))))))
     (safe_word log)

@@ -1,7 +1,7 @@
-ghost use Rattle.std.specs.Prelude.{◌≡◌, ◌==◌, ◌++◌, find, map, IfOk, OnOk, unwrap_or};
+ghost use Rattle.std.specs.Prelude.{◌≡◌, ◌==◌, ◌++◌, find, map, is_some, IfOk, OnOk, unwrap_or};
 ghost use Rattle.std.specs.Option.{option_and_then, option_copied};
 ghost use Rattle.plasma_tx.specs.Views.{exits_of};
-ghost use Rattle.coin_safety.specs.Advice.{standing, exit_in, earlier_spend, instead, has_challenged, is_own, is_to_finish, finishes, due, calls_of};
+ghost use Rattle.coin_safety.specs.Advice.{standing, tip, left_by, exit_in, earlier_spend, instead, has_challenged, is_own, is_to_finish, finishes, due, timed, calls_of};
 ghost use Rattle.coin_safety.specs.Index.{IsIndex};
 ghost use Rattle.coin_safety.specs.Numbers.{least};
 ghost use Rattle.coin_safety.specs.Words.{end_of_call, answer_end, window_end};
@@ -17,7 +17,7 @@ use plasma_tx::{
 use std::alloc::Global;
 use watch_duty::push_due;
 
-/// The calls to enter, and from when on the first of those that are due can't be entered any more.
+/// The calls to enter, and from when on the first of those that have a time can't be entered any more.
 #[derive(Drop)]
 pub(crate) struct Advice {
     pub(crate) calls: Vec<RootCall>,
@@ -26,15 +26,18 @@ pub(crate) struct Advice {
 
 impl Look<'_> {
     /// The calls to enter, in their order.
-    pub(crate) fn advice(&self, alloc: Global) -> Result<Advice, NoMemory>
+    pub(crate) fn advice(&self, alloc: Global, left: bool) -> Result<Advice, NoMemory>
+        requires { left ≡ is_some (left_by self.now.log.now.log self.now.kept.now.links.coin (tip self.now.kept.now)) }
         ensures calls { IfOk result (λ advice. advice.calls.items
             ≡ calls_of self.now.log.now.log self.now.account self.now.kept.now) }
         ensures end { IfOk result (λ advice. advice.end
             ≡ least (map (end_of_call (standing self.now.log.now.log self.now.kept.now))
-            (due self.now.log.now.log self.now.account self.now.kept.now))) }
+            (timed self.now.log.now.log self.now.account self.now.kept.now))) }
     {
         let mut calls = self.due(alloc)?;
+        self.push_shown_again(alloc, &mut calls)?;
         let end = advise(alloc, self.log, self.coin(), &mut calls)?;
+        self.push_own_start(left, &mut calls)?;
         self.push_finishes(&mut calls)?;
         Ok(Advice { calls, end })
     }
@@ -104,8 +107,8 @@ fn has_challenged(account: u64, exit: &ExitView) -> bool
         .any(|challenge| challenge.by == account && !challenge.answered)
 }
 
-/// Puts the calls to enter in place of those that are due for the coin, and answers from when on the first of
-/// them can't be entered any more. `NoMemory` may leave some of them changed.
+/// Puts the calls to enter in place of those that have a time, and answers from when on the first of them can't be
+/// entered any more. `NoMemory` may leave some of them changed.
 fn advise(
     alloc: Global,
     log: &RootLog,

@@ -1,18 +1,21 @@
 ghost use Rattle.std.specs.Prelude.{◌≡◌, map, Some, None, IfOk, if◌then◌else◌};
 ghost use Rattle.std.specs.List.{list_any};
-ghost use Rattle.coin_safety.specs.Advice.{calls_of, missing, due, standing};
+ghost use Rattle.std.specs.Option.{option_copied};
+ghost use Rattle.coin_safety.specs.Advice.{tip, holder, left_by, calls_of, missing, timed, standing};
+ghost use Rattle.coin_safety.specs.Commands.{command_of};
 ghost use Rattle.coin_safety.specs.Numbers.{least};
-ghost use Rattle.coin_safety.specs.Words.{end_of_call, is_strange, sent_word, holder, paid_word, first_end, late_word, stale_word, act_word, leaving_word, safe_word, word_of};
+ghost use Rattle.coin_safety.specs.Words.{end_of_call, is_strange, away, sent_word, left_word, paid_word, first_end, late_word, stale_word, act_word, leaving_word, safe_word, word_of};
 
 use super::advice::Advice;
 use super::kept::Kept;
+use super::left::signing_leaf;
 use super::look::Look;
 use super::money::missing;
 use super::payment::payment_of;
 use super::windows::{come, first_exit_end, later};
 use super::word::{Judgement, Word};
 use plasma_base::NoMemory;
-use plasma_tx::{CHALLENGE_WINDOW, EXIT_PERIOD, RESPONSE_WINDOW, RootLog};
+use plasma_tx::{CHALLENGE_WINDOW, EXIT_PERIOD, RESPONSE_WINDOW, RawOpening, RootLog};
 use std::alloc::Global;
 
 /// Whether the coin is safe by this log, and what the account is to enter, where the caller's clock shows that
@@ -26,24 +29,35 @@ pub fn judge(
 ) -> Result<Judgement, NoMemory>
     ensures word { IfOk result (λ judged. judged.word ≡ word_of log.now.log account clock kept.now) }
     ensures calls { IfOk result (λ judged. judged.calls.items ≡ calls_of log.now.log account kept.now) }
+    ensures command { IfOk result (λ judged. judged.command ≡ command_of log.now.log kept.now) }
 {
     let look = Look { log, account, kept };
-    let advice = look.advice(alloc)?;
-    let word = look.word(alloc, clock, &advice)?;
+    let left = look.left_by();
+    let advice = look.advice(alloc, left.is_some())?;
+    let word = look.word(alloc, clock, &advice, left)?;
     Ok(Judgement {
         word,
         calls: advice.calls,
+        command: look.command(left.is_some()),
     })
 }
 
 impl Look<'_> {
     /// The word of the first rule that speaks.
-    fn word(&self, alloc: Global, clock: u64, advice: &Advice) -> Result<Word, NoMemory>
+    fn word(
+        &self,
+        alloc: Global,
+        clock: u64,
+        advice: &Advice,
+        left: Option<&RawOpening>,
+    ) -> Result<Word, NoMemory>
         requires calls { advice.now.calls.items
             ≡ calls_of self.now.log.now.log self.now.account self.now.kept.now }
         requires end { advice.now.end
             ≡ least (map (end_of_call (standing self.now.log.now.log self.now.kept.now))
-            (due self.now.log.now.log self.now.account self.now.kept.now)) }
+            (timed self.now.log.now.log self.now.account self.now.kept.now)) }
+        requires left { option_copied left
+            ≡ left_by self.now.log.now.log self.now.kept.now.links.coin (tip self.now.kept.now) }
         ensures { IfOk result (λ word. word
             ≡ word_of self.now.log.now.log self.now.account clock self.now.kept.now) }
     {
@@ -63,21 +77,30 @@ impl Look<'_> {
         if let Some(word) = self.act_word(alloc, advice)? {
             return Ok(word);
         }
+        if let Some(word) = self.left_word(alloc, left)? {
+            return Ok(word);
+        }
         Ok(match self.leaving_word() {
             Some(word) => word,
             None => self.safe_word(),
         })
     }
 
-    /// The coin was signed away.
+    /// The node signed the coin away.
     fn sent_word(&self) -> Option<Word>
         ensures { result ≡ sent_word self.now.log.now.log self.now.kept.now }
     {
-        let leaf = self.kept.sent?;
+        Some(self.away(self.kept.sent?.leaf))
+    }
+
+    /// The leaf signed the coin away.
+    fn away(&self, leaf: u32) -> Word
+        ensures { result ≡ away self.now.log.now.log self.now.kept.now leaf }
+    {
         if self.has_strange() {
-            return Some(Word::Frozen);
+            return Word::Frozen;
         }
-        Some(Word::Sent { leaf })
+        Word::Sent { leaf }
     }
 
     /// Whether an exit stands that isn't of the transfer by which the coin was signed away.
@@ -102,13 +125,6 @@ impl Look<'_> {
             account: paid.account,
             line: paid.line,
         }))
-    }
-
-    /// The account of the owner at the tip.
-    fn holder(&self) -> u64
-        ensures { result ≡ holder self.now.kept.now }
-    {
-        self.kept.links.last_owner().account
     }
 
     /// The first end of a window of the coin's exits.
@@ -148,7 +164,7 @@ impl Look<'_> {
             ≡ calls_of self.now.log.now.log self.now.account self.now.kept.now }
         requires end { advice.now.end
             ≡ least (map (end_of_call (standing self.now.log.now.log self.now.kept.now))
-            (due self.now.log.now.log self.now.account self.now.kept.now)) }
+            (timed self.now.log.now.log self.now.account self.now.kept.now)) }
         ensures { IfOk result (λ word. word
             ≡ act_word self.now.log.now.log self.now.account self.now.kept.now) }
     {
@@ -160,6 +176,21 @@ impl Look<'_> {
             by: end.saturating_sub(1),
             missing,
         }))
+    }
+
+    /// An answer shows that the coin has left the tip.
+    fn left_word(&self, alloc: Global, left: Option<&RawOpening>) -> Result<Option<Word>, NoMemory>
+        requires { option_copied left
+            ≡ left_by self.now.log.now.log self.now.kept.now.links.coin (tip self.now.kept.now) }
+        ensures { IfOk result (λ word. word ≡ left_word self.now.log.now.log self.now.kept.now) }
+    {
+        let Some(spend) = left else {
+            return Ok(None);
+        };
+        Ok(match signing_leaf(alloc, spend)? {
+            None => None,
+            Some(leaf) => Some(self.away(leaf)),
+        })
     }
 
     /// The holder's exit stands.

@@ -1,9 +1,18 @@
 use plasma_tx::Links;
 
-/// What a node has of a coin: its links up to the block at which it keeps it, and the leaf that signed it away
-/// from there, if one did. Who is the owner there holds the coin.
+/// What a node has of a coin: its links up to the block at which it keeps it, by which of its leaves it signed the
+/// coin away from there, if it did, and whether it guards the coin, as a watcher does. Who is the owner there holds
+/// the coin.
 #[derive(Drop)]
 pub struct Kept {
     pub links: Links,
-    pub sent: Option<u32>,
+    pub sent: Option<Sent>,
+    pub guarded: bool,
+}
+
+/// A leaf that signed a coin away, and the last block of its transfer, if it names one.
+#[derive(Clone, Copy, PartialEq, Eq)]
+pub struct Sent {
+    pub leaf: u32,
+    pub last: Option<u64>,
 }

@@ -2,11 +2,15 @@
 #![tactic(auto)]
 
 mod advice;
+mod answers;
+mod command;
 mod index;
 mod judging;
 mod kept;
 mod laws;
 mod lean;
+mod leaving;
+mod left;
 mod look;
 mod money;
 mod payment;
@@ -14,9 +18,9 @@ mod windows;
 mod word;
 
 pub use judging::judge;
-pub use kept::Kept;
+pub use kept::{Kept, Sent};
 pub use laws::{acts_are_accepted, enough_is_enough, nothing_due_is_left_out, words_tell};
 pub use money::{balance, takes};
 pub use payment::Payment;
 pub use windows::LAST_SECOND;
-pub use word::{Judgement, Word};
+pub use word::{Command, Judgement, Word};

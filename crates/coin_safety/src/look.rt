@@ -1,7 +1,7 @@
 ghost use Rattle.std.specs.Prelude.{◌≡◌};
 ghost use Rattle.std.specs.Option.{option_copied};
 ghost use Rattle.plasma_tx.specs.Table.{is_over};
-ghost use Rattle.coin_safety.specs.Advice.{exit_in, standing, tip};
+ghost use Rattle.coin_safety.specs.Advice.{exit_in, holder, standing, tip};
 
 use super::kept::Kept;
 use super::payment::exit_in;
@@ -27,6 +27,13 @@ impl Look<'_> {
         ensures { result ≡ tip self.now.kept.now }
     {
         self.kept.links.tip()
+    }
+
+    /// The account of the owner at the tip.
+    pub(crate) fn holder(&self) -> u64
+        ensures { result ≡ holder self.now.kept.now }
+    {
+        self.kept.links.last_owner().account
     }
 
     /// The standing exits of the coin.

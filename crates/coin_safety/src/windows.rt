@@ -55,7 +55,7 @@ pub(crate) fn first_exit_end(first: Option<u64>, at: u64, exit: &ExitView) -> Op
 }
 
 /// Whether one of the challenges is at the block.
-fn is_challenged(block: u64, challenges: &[ChallengeView]) -> bool
+pub(crate) fn is_challenged(block: u64, challenges: &[ChallengeView]) -> bool
     ensures { result ≡ is_challenged block challenges.now }
 {
     challenges.iter().any(|challenge| challenge.block == block)

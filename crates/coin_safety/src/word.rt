@@ -23,9 +23,20 @@ pub enum Word {
     Stale,
 }
 
-/// The word, and the calls to enter, in their order.
+/// What a node is to be told beside the calls.
+#[derive(Clone, Copy, PartialEq, Eq)]
+pub enum Command {
+    /// The guard is of a block that the coin has left: a watcher's `release` of the coin and that block.
+    Release,
+    /// The last block of the transfer by which the coin was signed away has come, and nothing shows that it went
+    /// through: a wallet's `reclaim`, with a bundle of absences up to that block.
+    Reclaim { last: u64 },
+}
+
+/// The word, the calls to enter, in their order, and what to tell the node.
 #[derive(Drop)]
 pub struct Judgement {
     pub word: Word,
     pub calls: Vec<RootCall>,
+    pub command: Option<Command>,
 }

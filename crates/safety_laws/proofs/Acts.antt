@@ -1,17 +1,21 @@
 -- The calls that are advised are accepted, over legal events.
-use Rattle.std.proofs.Common.{ℕ, List, ◌++◌, inl, inr, sym, ap, ◌∙◌, subst}
+use Rattle.std.proofs.Common.{◌≡◌, ℕ, List, ◌++◌, Option, Some, None, inl, inr, refl, sym, ap, ◌∙◌, subst}
 use Rattle.plasma_tx.specs.declared.opening.RawOpening.{RawOpening}
+use Rattle.plasma_tx.specs.declared.links.Link.{Link}
+use Rattle.plasma_tx.specs.Links.{last_spend}
 use Rattle.plasma_tx.specs.Shown.{Tests, tests_by, root_at}
 use Rattle.coin_history.specs.History.{IsHistory}
 use Rattle.watch_duty.specs.Laws.{HaveOneLeaf}
 use Rattle.watch_duty.proofs.Members.{Has, has-cases, contains-has}
 use Rattle.watch_duty.proofs.Shown.{seen as log_seen}
+use Rattle.node_rules.specs.Wallet.{start_by as leaving_by}
 use Rattle.world_rules.specs.Events.{Event, log_of}
 use Rattle.world_rules.specs.Exhibits.{seen, collides}
 use Rattle.world_laws.proofs.Clash.{HasOneLeaf, one_leaf}
 use Rattle.world_laws.proofs.Shown.{legal-log, log-seen}
 use Rattle.coin_safety.proofs.Accepting.{acts_are_accepted as acts_taken}
-use Rattle.safety_laws.specs.Calls.{LegalActsAreAccepted}
+use Rattle.coin_safety.specs.Advice.{start_by}
+use Rattle.safety_laws.specs.Calls.{LegalActsAreAccepted, StartsAreLeaves}
 use Rattle.safety_laws.proofs.AtLook.{keeps_it}
 
 -- the openings of the history and of the log's calls have one leaf in each block
@@ -40,3 +44,10 @@ acts_are_accepted dig rules events n account kept call digest legal by among non
     (subst (IsHistory tests rules (log_of events) by.bundle) k.links_are k.is.history)
     (leaves-of tests events by.bundle.coin by.bundle.openings
     (subst (λ c. HasOneLeaf tests (log_of events) c (seen events c)) (sym k.coin_is) one) k.is.is_seen) among rich
+
+pub starts_are_leaves : StartsAreLeaves
+starts_are_leaves account at links = by (last_spend links)
+  where
+    by : (o : Option Link) → start_by account at links o ≡ leaving_by account at links o
+    by None = refl
+    by (Some link) = refl

@@ -256,7 +256,7 @@ module _ (dig : List ℕ → List ℕ) (digest : IsDigest dig) (rules : Rules) (
       → Has (due_for (log_of events) account kept.links x) call → ⊥
   none-due x call there has =
       subst (λ (l : List RootCall). Has l call)
-      (nothing x (has-contains (standing (log_of events) kept) x there)) has
+      (nothing.due x (has-contains (standing (log_of events) kept) x there)) has
 
   -- where nothing is due, it is so forever
   pub calm-stands : (end : ℕ) → StandsTill events c e Me end

@@ -1,23 +1,25 @@
 -- Where no money is missing, the calls are accepted one after the other.
-use Rattle.std.proofs.Common.{◌≡◌, ℕ, ◌+◌, ◌≤◌, true, false, List, [], ◌∷◌, ◌++◌, inl, inr, refl, ap, ◌∙◌, arith}
+use Rattle.std.proofs.Common.{◌≡◌, ℕ, ◌+◌, ◌<◌, ◌≤◌, true, false, List, [], ◌∷◌, ◌++◌, inl, inr, refl, ap, ◌∙◌, subst, arith}
 use Rattle.std.specs.List.{sum_by}
 use Rattle.std.proofs.lemmas.Bool.{le-ltb}
 use Rattle.std.proofs.lemmas.List.Sums.{sum_by_from}
-use Rattle.plasma_tx.specs.declared.rules.TheConstants.{CHALLENGE_BOND}
-use Rattle.plasma_tx.specs.declared.call.RootCall.TheVariants.{Before}
+use Rattle.plasma_tx.specs.declared.views.ExitView.{ExitView}
 use Rattle.plasma_tx.specs.Money.{balance_of}
 use Rattle.plasma_tx.specs.declared.call.RootCall.{RootCall}
 use Rattle.plasma_tx.specs.Shown.{Tests, Rules, tests_by, rules_of}
-use Rattle.watch_duty.specs.Laws.{is_poor_before}
+use Rattle.coin_history.specs.History.{IsHistory}
 use Rattle.watch_duty.proofs.Members.{Has, has-contains}
 use Rattle.world_rules.specs.Events.{log_of}
+use Rattle.world_laws.proofs.Shown.{legal-log}
 use Rattle.money_laws.specs.Reserve.{AreAccepted}
 use Rattle.money_laws.proofs.Tips.{legal-to}
-use Rattle.coin_safety.specs.Advice.{takes, missing, calls_of}
-use Rattle.coin_safety.specs.Laws.{with_calls}
+use Rattle.coin_safety.specs.Advice.{standing, tip, takes, missing, calls_of}
+use Rattle.coin_safety.specs.Laws.{is_poor, with_calls}
 use Rattle.coin_safety.proofs.Advised.{none_is_poor}
+use Rattle.coin_safety.proofs.Blocks.{after-parent, last-at, none-later}
 use Rattle.safety_laws.specs.Calls.{LegalEnoughIsEnough, EnoughOfRunsIsEnough}
 use Rattle.safety_laws.proofs.Acts.{acts_are_accepted}
+use Rattle.safety_laws.proofs.AtLook.{keeps_it}
 use Rattle.safety_laws.proofs.StillTaken.{CouldBe, is_move, IsBy, Apart, could-from, could-taken, still-could}
 use Rattle.safety_laws.proofs.Pairs.{Pairs}
 use Rattle.safety_laws.proofs.OrderOf.{calls-pairs, calls-move}
@@ -35,17 +37,12 @@ sum-has (one ∷ calls) call (inl same) =
     let e : takes one ≡ takes call = ap takes same in omega (arith, e, sum-cons one calls)
 sum-has (one ∷ calls) call (inr h) = omega (arith, sum-has calls call h, sum-cons one calls)
 
--- who has what a call takes isn't poor for it
-rich-one : (log : List RootCall) (account : ℕ) (call : RootCall) → takes call ≤ balance_of log account
-    → is_poor_before log account call ≡ false
-rich-one log account (Before by c f shown) enough = le-ltb (balance_of log account) CHALLENGE_BOND enough
-rich-one log account call enough = refl
-
+-- who has what all take isn't poor for one
 rich-all : (log : List RootCall) (account : ℕ) (calls : List RootCall) → missing log account calls ≡ 0
-    → (call : RootCall) → Has calls call → is_poor_before log account call ≡ false
+    → (call : RootCall) → Has calls call → is_poor log account call ≡ false
 rich-all log account calls none call h =
     let less = sum-has calls call h in
-    rich-one log account call (omega (arith, less, none))
+    le-ltb (balance_of log account) (takes call) (omega (arith, less, none))
 
 -- ---- one after the other
 
@@ -54,7 +51,7 @@ module _ (tests : Tests) (rules : Rules) (account : ℕ) where
       → ((call : RootCall) → Has calls call → CouldBe tests rules log call × (is_move call ≡ true) × IsBy account call)
       → Pairs Apart calls
       → ((earlier : List RootCall) (call : RootCall) (after : List RootCall) → calls ≡ earlier ++ call ∷ after
-      → is_poor_before (with_calls log earlier) account call ≡ false)
+      → is_poor (with_calls log earlier) account call ≡ false)
       → AreAccepted tests rules log calls
   unfolding AreAccepted with_calls
   in-order [] log could pairs rich = tt
@@ -72,16 +69,23 @@ pub enough_is_enough : LegalEnoughIsEnough
 enough_is_enough dig rules events n account kept digest legal by none enough =
     let log : List RootCall = log_of events in
     let calls : List RootCall = calls_of log account kept in
+    let k = keeps_it (tests_by dig) rules events n kept legal by in
+    let history = subst (IsHistory (tests_by dig) rules log by.bundle) k.links_are k.is.history in
+    let ended = none-later (tests_by dig) rules log by.bundle kept.links history in
+    let at_link = last-at (tests_by dig) rules log by.bundle kept.links history in
+    let after : (v : ExitView) → Has (standing log kept) v → tip kept < v.parent → v.parent < v.block =
+    λ v there above. after-parent (tests_by dig) rules log kept.links.coin (tip kept) v
+    (legal-log (tests_by dig) rules events legal) there above in
     in-order (tests_by dig) rules account calls log
     (λ call h.
-    let m = calls-move log account kept call h in (
+    let m = calls-move log account kept after ended at_link call h in (
       could-from (tests_by dig) rules log call m.1.move
           (acts_are_accepted dig rules events n account kept call digest legal by (has-contains calls call h) none
           (rich-all log account calls enough call h)),
       m.1.move,
       m.1.by,
     ))
-    (calls-pairs log account kept)
+    (calls-pairs log account kept after ended at_link)
     (λ earlier call after is. none_is_poor log account calls earlier call after enough is)
 
 pub run_enough_is_enough : EnoughOfRunsIsEnough

@@ -19,7 +19,8 @@ use Rattle.world_rules.specs.Events.{Event, Joins, log_of, wallet_owner, accepte
 use Rattle.world_rules.specs.Safety.{holds_with, holds, finish_harms, call_harms, harms, is_harmed}
 use Rattle.world_laws.specs.Legal.{IsLegal}
 use Rattle.coin_safety.specs.declared.word.Word.TheVariants.{Paid, Gone}
-use Rattle.coin_safety.specs.Words.{next_line, starter, holder}
+use Rattle.coin_safety.specs.Advice.{holder}
+use Rattle.coin_safety.specs.Words.{next_line, starter}
 use Rattle.coin_safety.specs.Laws.{IsPaidOut, Tells}
 use Rattle.coin_safety.proofs.Telling.{words_tell}
 use Rattle.safety_laws.specs.Gone.{WasPaidTo, IsOut, LegalGoneMeansGone, LegalPaidMeansPaid}

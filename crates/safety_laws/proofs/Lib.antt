@@ -11,6 +11,7 @@ pub mod NextLook
 pub mod GoneWords
 pub mod StillTaken
 pub mod Pairs
+pub mod OnExits
 pub mod OrderOf
 pub mod Acts
 pub mod Runs

@@ -1,12 +1,12 @@
 -- Small lists of calls, the newest first, on which the words and the calls are computed: each premise of the laws can
 -- be met, and the times are tight. Every call of the lists is accepted after those before it, where each opening and
 -- each signature passes.
-use Rattle.std.proofs.Common.{◌≡◌, ℕ, ◌+◌, ◌&&◌, Bool, true, List, [], ◌∷◌, None, refl}
+use Rattle.std.proofs.Common.{◌≡◌, ℕ, ◌+◌, ◌&&◌, Bool, true, List, [], ◌∷◌, Some, None, refl}
 use Rattle.lms_sign.specs.Types.{u32_at}
 use Rattle.plasma_tx.specs.declared.opening.RawOpening.{RawOpening}
 use Rattle.plasma_tx.specs.declared.call.Shown.TheVariants.{Deposit as AtDeposit, Spend}
 use Rattle.plasma_tx.specs.declared.call.RootCall.{RootCall}
-use Rattle.plasma_tx.specs.declared.call.RootCall.TheVariants.{Fund, Tick, Deposit, Commit, StartDeposit, StartSpend, Between, Before, Finish}
+use Rattle.plasma_tx.specs.declared.call.RootCall.TheVariants.{Fund, Tick, Deposit, Commit, StartDeposit, StartSpend, Between, Before, Respond, Finish}
 use Rattle.plasma_tx.specs.Openings.{leaf_in}
 use Rattle.plasma_tx.specs.Spelling.{body_text, signed_in, body_in, owner_text, owner_in}
 use Rattle.plasma_tx.specs.Transfer.{transfer_in}
@@ -22,10 +22,12 @@ use Rattle.world_rules.specs.Safety.{holds}
 use Rattle.world_laws.specs.Legal.{Bare}
 use Rattle.world_laws.proofs.Samples.{key, me, stranger, tag, rules, lax, deposited}
 use Rattle.coin_safety.specs.declared.kept.Kept.{Kept}
+use Rattle.coin_safety.specs.declared.word.Command.TheVariants.{Release}
 use Rattle.coin_safety.specs.declared.word.Word.{Word}
 use Rattle.coin_safety.specs.declared.word.Word.TheVariants.{Safe, Act, Leaving, Paid, Gone, Late}
 use Rattle.coin_safety.specs.Numbers.{least}
-use Rattle.coin_safety.specs.Advice.{start_shown, due, calls_of}
+use Rattle.coin_safety.specs.Advice.{left_by, answer_shown, start_shown, due, calls_of}
+use Rattle.coin_safety.specs.Commands.{command_of}
 use Rattle.coin_safety.specs.Words.{payment, word_of}
 use Rattle.safety_laws.specs.Look.{IsLook, are_met}
 
@@ -55,7 +57,7 @@ began left =
 
 -- what its wallet keeps
 abbrev kept : Kept
-kept = record { links = record { coin = 1; deposit = 1; owner = me; spends = [] }; sent = None }
+kept = record { links = record { coin = 1; deposit = 1; owner = me; spends = [] }; sent = None; guarded = false }
 
 abbrev word : List RootCall → Word
 word log = word_of log 21 0 kept
@@ -82,8 +84,8 @@ deposited-look dig = record {
 -- ---- the words
 
 pub began-safe : word (began 100) ≡ Safe 604799
-unfolding least payment start_shown next_link balance_of pays takes share_of now blocks coins block_at coin_at
-    responses exits exit_at exits_of is_withdrawn
+unfolding least payment left_by answer_shown start_shown next_link balance_of pays takes share_of now blocks coins
+    block_at coin_at responses exits exit_at exits_of is_withdrawn
 began-safe = refl
 
 -- the stranger's exits of blocks 3 and 4 stand: two spends of block 2
@@ -93,28 +95,29 @@ attacked left =
     ∷ StartSpend 30 1 (Spend (planted 2 1000)) (planted 3 2)
     ∷ began left
 
--- against the earlier one a Before, against the later one what the start of the earlier one has shown
+-- against the earlier one a Before, against the later one what the start of the earlier one has shown; and the start
+-- of the own exit
 pub attacked-calls : calls_of (attacked 40) 21 kept
-    ≡ Before 21 1 3 (AtDeposit 1) ∷ Between 21 1 4 (planted 3 2) ∷ []
-unfolding least payment start_shown next_link balance_of pays takes share_of now blocks coins block_at coin_at
-    responses exits exit_at exits_of is_withdrawn
+    ≡ Before 21 1 3 (AtDeposit 1) ∷ Between 21 1 4 (planted 3 2) ∷ StartDeposit 21 1 1 ∷ []
+unfolding least payment left_by answer_shown start_shown next_link balance_of pays takes share_of now blocks coins
+    block_at coin_at responses exits exit_at exits_of is_withdrawn
 attacked-calls = refl
 
--- it takes 40, until a second before the window ends
-pub attacked-act : word (attacked 40) ≡ Act 604799 0
-unfolding least payment start_shown next_link balance_of pays takes share_of now blocks coins block_at coin_at
-    responses exits exit_at exits_of is_withdrawn
+-- it takes 40 and 100, until a second before the window ends
+pub attacked-act : word (attacked 140) ≡ Act 604799 0
+unfolding least payment left_by answer_shown start_shown next_link balance_of pays takes share_of now blocks coins
+    block_at coin_at responses exits exit_at exits_of is_withdrawn
 attacked-act = refl
 
-pub attacked-missing : word (attacked 39) ≡ Act 604799 1
-unfolding least payment start_shown next_link balance_of pays takes share_of now blocks coins block_at coin_at
-    responses exits exit_at exits_of is_withdrawn
+pub attacked-missing : word (attacked 139) ≡ Act 604799 1
+unfolding least payment left_by answer_shown start_shown next_link balance_of pays takes share_of now blocks coins
+    block_at coin_at responses exits exit_at exits_of is_withdrawn
 attacked-missing = refl
 
 -- so what begins just after a look is met by the next one until then, and a second later it is late
 pub attacked-late : word (Tick 604800 ∷ attacked 40) ≡ Late 604800
-unfolding least payment start_shown next_link balance_of pays takes share_of now blocks coins block_at coin_at
-    responses exits exit_at exits_of is_withdrawn
+unfolding least payment left_by answer_shown start_shown next_link balance_of pays takes share_of now blocks coins
+    block_at coin_at responses exits exit_at exits_of is_withdrawn
 attacked-late = refl
 
 -- with the calls entered nothing is due
@@ -129,20 +132,50 @@ guarded-taken = refl
 -- so what was due was met: a call that ends the exit does as well as a Before
 pub guarded-met :
     are_met (Between 21 1 4 (planted 3 2) ∷ Before 21 1 3 (AtDeposit 1) ∷ []) (due (attacked 40) 21 kept) ≡ true
-unfolding least payment start_shown next_link balance_of pays takes share_of now blocks coins block_at coin_at
-    responses exits exit_at exits_of is_withdrawn
+unfolding least payment left_by answer_shown start_shown next_link balance_of pays takes share_of now blocks coins
+    block_at coin_at responses exits exit_at exits_of is_withdrawn
 guarded-met = refl
 
 pub guarded-safe : word guarded ≡ Safe 604799
-unfolding least payment start_shown next_link balance_of pays takes share_of now blocks coins block_at coin_at
-    responses exits exit_at exits_of is_withdrawn
+unfolding least payment left_by answer_shown start_shown next_link balance_of pays takes share_of now blocks coins
+    block_at coin_at responses exits exit_at exits_of is_withdrawn
 guarded-safe = refl
 
--- at the end of the challenged exit a Finish gives the bond back
-pub ended-calls : calls_of (Tick 907200 ∷ guarded) 21 kept ≡ Finish 21 1 3 ∷ []
-unfolding least payment start_shown next_link balance_of pays takes share_of now blocks coins block_at coin_at
-    responses exits exit_at exits_of is_withdrawn
+-- at the end of the challenged exit a Finish gives the bond back; the own start helps still
+pub ended-calls : calls_of (Tick 907200 ∷ guarded) 21 kept ≡ StartDeposit 21 1 1 ∷ Finish 21 1 3 ∷ []
+unfolding least payment left_by answer_shown start_shown next_link balance_of pays takes share_of now blocks coins
+    block_at coin_at responses exits exit_at exits_of is_withdrawn
 ended-calls = refl
+
+-- ---- a coin under way
+
+-- what a watcher with account 31 guards
+abbrev guard : Kept
+guard = record { links = record { coin = 1; deposit = 1; owner = me; spends = [] }; sent = None; guarded = true }
+
+-- Account 21 sent the coin, in block 2. The stranger's exit of block 4 with the planted parent 3 was challenged at the
+-- deposit, and the transfer answered.
+abbrev underway : List RootCall
+underway =
+    Respond 30 1 4 1 (planted 2 1)
+    ∷ Before 31 1 4 (AtDeposit 1)
+    ∷ StartSpend 30 1 (Spend (planted 3 1000)) (planted 4 3)
+    ∷ began 140
+
+-- so the transfer is shown again, against the planted parent, and the guard is to be let go
+pub underway-calls : calls_of underway 31 guard ≡ Before 31 1 4 (Spend (planted 2 1)) ∷ []
+unfolding least payment left_by answer_shown start_shown next_link balance_of pays takes share_of now blocks coins
+    block_at coin_at responses exits exit_at exits_of is_withdrawn
+underway-calls = refl
+
+pub underway-act : word_of underway 31 0 guard ≡ Act 604799 40
+unfolding least payment left_by answer_shown start_shown next_link balance_of pays takes share_of now blocks coins
+    block_at coin_at responses exits exit_at exits_of is_withdrawn
+underway-act = refl
+
+pub underway-command : command_of underway guard ≡ Some Release
+unfolding left_by
+underway-command = refl
 
 -- ---- leaving, and paid
 
@@ -150,8 +183,8 @@ abbrev left : List RootCall
 left = StartDeposit 21 1 1 ∷ began 100
 
 pub left-leaving : word left ≡ Leaving 907200
-unfolding least payment start_shown next_link balance_of pays takes share_of now blocks coins block_at coin_at
-    responses exits exit_at exits_of is_withdrawn
+unfolding least payment left_by answer_shown start_shown next_link balance_of pays takes share_of now blocks coins
+    block_at coin_at responses exits exit_at exits_of is_withdrawn
 left-leaving = refl
 
 abbrev paid : List RootCall
@@ -163,8 +196,8 @@ unfolding are_taken answer_to shown_tx transfer_in signed_in body_in leaf_in bod
 paid-taken = refl
 
 pub paid-paid : word paid ≡ Paid
-unfolding least payment start_shown next_link balance_of pays takes share_of now blocks coins block_at coin_at
-    responses exits exit_at exits_of is_withdrawn
+unfolding least payment left_by answer_shown start_shown next_link balance_of pays takes share_of now blocks coins
+    block_at coin_at responses exits exit_at exits_of is_withdrawn
 paid-paid = refl
 
 -- ---- gone
@@ -179,6 +212,6 @@ unfolding are_taken answer_to shown_tx transfer_in signed_in body_in leaf_in bod
 taken-taken = refl
 
 pub taken-gone : word taken ≡ Gone 30 11
-unfolding least payment start_shown next_link balance_of pays takes share_of now blocks coins block_at coin_at
-    responses exits exit_at exits_of is_withdrawn
+unfolding least payment left_by answer_shown start_shown next_link balance_of pays takes share_of now blocks coins
+    block_at coin_at responses exits exit_at exits_of is_withdrawn
 taken-gone = refl

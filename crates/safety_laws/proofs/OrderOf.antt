@@ -1,19 +1,19 @@
 -- Each of the calls that are advised leaves the later ones what they are.
-use Rattle.std.proofs.Common.{◌≡◌, ℕ, ◌+◌, ◌==◌, ◌&&◌, ◌||◌, not, Bool, true, false, if◌then◌else◌, List, [], ◌∷◌, map, filter, Option, Some, None, inl, inr, refl, sym, ap, ◌∙◌, subst, arith}
+use Rattle.std.proofs.Common.{◌≡◌, ℕ, ◌+◌, ◌<◌, ◌==◌, ◌&&◌, ◌||◌, not, Bool, true, false, if◌then◌else◌, List, [], ◌∷◌, ◌++◌, map, filter, Option, Some, None, inl, inr, refl, sym, ap, ◌∙◌, subst, arith}
 use Rattle.std.specs.Prelude.{is_some, nat_lt, unwrap_or}
 use Rattle.std.specs.Option.{option_and_then, option_map, option_map_or, option_or}
 use Rattle.std.specs.List.{flat_map}
-use Rattle.std.proofs.lemmas.Bool.{cases_eq, ne_eqb, eqb-true, eq-eqb, leb-true, and_parts, and_from, not_from_false, false≢true, false_from_ne_true}
+use Rattle.std.proofs.lemmas.Bool.{cases_eq, ne_eqb, eqb-true, eq-eqb, leb-true, and_parts, and_from, not_from_false, true≢false}
 use Rattle.plasma_tx.specs.declared.opening.RawOpening.{RawOpening}
 use Rattle.plasma_tx.specs.declared.links.Link.{Link}
+use Rattle.plasma_tx.specs.declared.call.Shown.TheVariants.{Spend}
 use Rattle.plasma_tx.specs.declared.call.RootCall.{RootCall}
 use Rattle.plasma_tx.specs.declared.call.RootCall.TheVariants.{After, Between, Before, Respond, Finish}
 use Rattle.plasma_tx.specs.declared.views.ChallengeView.{ChallengeView}
 use Rattle.plasma_tx.specs.declared.views.ExitView.{ExitView}
 use Rattle.plasma_tx.specs.declared.rules.TheConstants.{CHALLENGE_WINDOW, RESPONSE_WINDOW, EXIT_PERIOD}
 use Rattle.plasma_tx.specs.ChallengeLists.{is_challenged}
-use Rattle.plasma_tx.specs.Links.{tip_of}
-use Rattle.plasma_tx.specs.RuleLaws.{is_of_exit}
+use Rattle.plasma_tx.specs.Links.{last_spend, tip_of}
 use Rattle.plasma_tx.specs.Table.{is_over}
 use Rattle.plasma_tx.specs.Views.{now, Challenge, Exit, is_exit, exits, exit_at, challenge_view, exit_view, exits_of}
 use Rattle.plasma_tx.proofs.RuleNames.{exits-distinct, is_at, challenged-once}
@@ -21,51 +21,12 @@ use Rattle.watch_duty.specs.Duty.{link_after, tip_shown, within, old_owner, seco
 use Rattle.watch_duty.proofs.Members.{Has, has-cases, has-filter, has-map, has-flat_map, only-found}
 use Rattle.watch_duty.proofs.Dues.{IsDue, DueAfter, DueBetween, DueBefore, DueRespond, due_for-due}
 use Rattle.coin_safety.specs.declared.kept.Kept.{Kept}
-use Rattle.coin_safety.specs.Advice.{standing, exit_in, earlier_spend, instead, is_to_finish, has_challenged, is_own, finishes, due, calls_of}
-use Rattle.safety_laws.proofs.StillTaken.{is_move, IsBy, is_answer, Apart}
+use Rattle.coin_safety.specs.Advice.{standing, tip, answer_shown, is_answered, before_by, again_for, shown_again, may_leave, is_planted, start_by, start_of, own_start, exit_in, earlier_spend, instead, is_to_finish, has_challenged, is_own, finishes, due, timed, calls_of}
+use Rattle.coin_safety.proofs.Again.{IsAgain, again_for-again, again-in}
+use Rattle.coin_safety.proofs.Starting.{own-in}
+use Rattle.safety_laws.proofs.StillTaken.{is_answer, Apart}
+use Rattle.safety_laws.proofs.OnExits.{answered-challenged, MovesAt, MovesWithin, is_start, other-exit, of-other, apart-at, before-start}
 use Rattle.safety_laws.proofs.Pairs.{Pairs, pairs-append, pairs-filter, pairs-once, pairs-same, pairs-map, pairs-flat}
-
--- ---- the exit of a call
-
-abbrev pub block_on : RootCall → ℕ
-block_on (After account c f spend) = f
-block_on (Between account c f spend) = f
-block_on (Before account c f shown) = f
-block_on (Respond account c f n spend) = f
-block_on (Finish account c f) = f
-block_on call = 0
-
--- the call is on the exit at the block, by the account
-pub record MovesAt (account block : ℕ) (call : RootCall) : Type 0 where
-  pub move : is_move call ≡ true
-  pub at : block_on call ≡ block
-  pub by : IsBy account call
-
-other-exit : (k f c g : ℕ) → (f ≡ g → ⊥) → ((k == c) && (f == g)) ≡ false
-other-exit k f c g apart =
-    false_from_ne_true ((k == c) && (f == g)) (λ is. apart (eqb-true f g (and_parts (k == c) (f == g) is).1))
-
-of-other : (new : RootCall) (c g : ℕ) → is_move new ≡ true → (block_on new ≡ g → ⊥) → is_of_exit c g new ≡ false
-of-other (After account k f spend) c g move apart = other-exit k f c g apart
-of-other (Between account k f spend) c g move apart = other-exit k f c g apart
-of-other (Before account k f shown) c g move apart = other-exit k f c g apart
-of-other (Respond account k f n spend) c g move apart = other-exit k f c g apart
-of-other (Finish account k f) c g move apart = other-exit k f c g apart
-of-other new c g move apart = absurd (false≢true move)
-
-apart-exits : (new call : RootCall) → is_move new ≡ true → is_move call ≡ true → (block_on new ≡ block_on call → ⊥)
-    → Apart new call
-apart-exits new (After account c g spend) move too apart = of-other new c g move apart
-apart-exits new (Between account c g spend) move too apart = of-other new c g move apart
-apart-exits new (Before account c g shown) move too apart = of-other new c g move apart
-apart-exits new (Respond account c g n spend) move too apart = inl (of-other new c g move apart)
-apart-exits new (Finish account c g) move too apart = inl (of-other new c g move apart)
-apart-exits new call move too apart = absurd (false≢true too)
-
-apart-at : (account one other : ℕ) (new call : RootCall) → MovesAt account one new → MovesAt account other call
-    → (one ≡ other → ⊥) → Apart new call
-apart-at account one other new call a b apart =
-    apart-exits new call a.move b.move (λ same. apart (sym a.at ∙ same ∙ b.at))
 
 module _ (log : List RootCall) (account : ℕ) (kept : Kept) where
   abbrev C : ℕ
@@ -73,28 +34,34 @@ module _ (log : List RootCall) (account : ℕ) (kept : Kept) where
 
   -- ---- each call is on its exit
 
-  due-moves : (v : ExitView) (call : RootCall) → IsDue log account kept.links v call → MovesAt account v.block call
+  due-moves : (v : ExitView) (call : RootCall) → IsDue log account kept.links v call
+      → MovesWithin account v.block call
   due-moves v call (DueAfter link next early same) =
-      subst (MovesAt account v.block) same (record { move = refl; at = refl; by = tt })
+      subst (MovesWithin account v.block) same
+      (record { moves = record { move = refl; at = refl; by = tt }; unstarted = refl; unfinished = refl })
   due-moves v call (DueBetween link above next early same) =
-      subst (MovesAt account v.block) same (record { move = refl; at = refl; by = tt })
+      subst (MovesWithin account v.block) same
+      (record { moves = record { move = refl; at = refl; by = tt }; unstarted = refl; unfinished = refl })
   due-moves v call (DueBefore above free early same) =
-      subst (MovesAt account v.block) same (record { move = refl; at = refl; by = refl })
+      subst (MovesWithin account v.block) same
+      (record { moves = record { move = refl; at = refl; by = refl }; unstarted = refl; unfinished = refl })
   due-moves v call (DueRespond ch link at_tip has still next early same) =
-      subst (MovesAt account v.block) same (record { move = refl; at = refl; by = tt })
+      subst (MovesWithin account v.block) same
+      (record { moves = record { move = refl; at = refl; by = tt }; unstarted = refl; unfinished = refl })
 
-  instead-moves : (block : ℕ) (call : RootCall) → MovesAt account block call
-      → MovesAt account block (instead log C call)
+  instead-moves : (block : ℕ) (call : RootCall) → MovesWithin account block call
+      → MovesWithin account block (instead log C call)
   instead-moves block (Before by c f shown) m =
-      elim (option_and_then (earlier_spend log C) (exit_in (exits_of log C) f)) as (λ o. MovesAt account block
+      elim (option_and_then (earlier_spend log C) (exit_in (exits_of log C) f)) as (λ o. MovesWithin account block
       (option_map_or (λ (spend : RawOpening). Between by c f spend) o (Before by c f shown))) [
-        | Some spend ↦ record { move = refl; at = m.at; by = tt }
+        | Some spend ↦
+            record { moves = record { move = refl; at = m.moves.at; by = tt }; unstarted = refl; unfinished = refl }
         | None ↦ m
       ]
   instead-moves block call m = m
 
   entered-moves : (v : ExitView) (call : RootCall) → Has (due_for log account kept.links v) call
-      → MovesAt account v.block (instead log C call)
+      → MovesWithin account v.block (instead log C call)
   entered-moves v call h =
       instead-moves v.block call (due-moves v call (due_for-due log account kept.links v call h))
 
@@ -244,8 +211,46 @@ module _ (log : List RootCall) (account : ℕ) (kept : Kept) where
         | false ↦ pairs-flat (λ (v u : ExitView). v.block ≡ u.block → ⊥) Leaves (due_for log account kept.links)
             (standing log kept) (λ v h. due-pairs v h)
             (λ v u hv hu apart a b ha hb. apart-at account v.block u.block (instead log C a) (instead log C b)
-            (entered-moves v a ha) (entered-moves u b hb) apart) blocks-apart
+            (entered-moves v a ha).moves (entered-moves u b hb).moves (entered-moves u b hb).unstarted apart)
+            blocks-apart
       ]
+
+  -- ---- what is shown again
+
+  again-moves : (v : ExitView) (call : RootCall) → IsAgain log account kept v call
+      → MovesWithin account v.block (instead log C call)
+  again-moves v call a =
+      instead-moves v.block call (subst (MovesWithin account v.block) a.same
+      (record { moves = record { move = refl; at = refl; by = refl }; unstarted = refl; unfinished = refl }))
+
+  again-pairs : Pairs Leaves (shown_again log account kept)
+  again-pairs =
+      pairs-flat (λ (v u : ExitView). v.block ≡ u.block → ⊥) Leaves (again_for log account kept) (standing log kept)
+      (λ v h. one-again v)
+      (λ v u hv hu apart a b ha hb. apart-at account v.block u.block (instead log C a) (instead log C b)
+      (again-moves v a (again_for-again log account kept v a ha)).moves
+      (again-moves u b (again_for-again log account kept u b hb)).moves
+      (again-moves u b (again_for-again log account kept u b hb)).unstarted apart) blocks-apart
+    where
+      by-spend : (v : ExitView) (o : Option RawOpening)
+          → Pairs Leaves (option_map_or (before_by log account C v) o [])
+      by-spend v None = tt
+      by-spend v (Some spend) =
+          elim (nat_lt spend.block v.parent && not (is_challenged spend.block v.challenges)) as (λ (b : Bool).
+          Pairs Leaves (if b then within log v.start CHALLENGE_WINDOW (Before account C v.block (Spend spend))
+          else [])) [
+            | true ↦ within-pairs v.start CHALLENGE_WINDOW (Before account C v.block (Spend spend))
+            | false ↦ tt
+          ]
+
+      one-again : (v : ExitView) → Pairs Leaves (again_for log account kept v)
+      one-again v =
+          elim (nat_lt (tip kept) v.parent && is_answered (tip kept) v.challenges) as (λ (b : Bool).
+          Pairs Leaves (if b then option_map_or (before_by log account C v)
+          (answer_shown log C (tip kept) v.block) [] else [])) [
+            | true ↦ by-spend v (answer_shown log C (tip kept) v.block)
+            | false ↦ tt
+          ]
 
   pub due-in : (call : RootCall) → Has (due log account kept) call
       → (v : ExitView) × Has (standing log kept) v × Has (due_for log account kept.links v) call
@@ -286,39 +291,167 @@ module _ (log : List RootCall) (account : ℕ) (kept : Kept) where
   ended-answer v call (DueRespond ch link at_tip has still next early same) over =
       subst (λ (z : RootCall). is_answer (instead log C z) ≡ true) same refl
 
-  across : (a b : RootCall) → Has (map (instead log C) (due log account kept)) a
+  -- what is timed, of its exit: for one that is to be finished it is an answer
+  timed-in : (call : RootCall) → Has (timed log account kept) call
+      → (v : ExitView) × Has (standing log kept) v × MovesWithin account v.block (instead log C call)
+      × (is_over log v.start EXIT_PERIOD ≡ true → is_answer (instead log C call) ≡ true)
+  timed-in call h =
+      elim (has-cases (due log account kept) (shown_again log account kept) call h) [
+        | inl own ↦
+            let d = due-in call own in
+            let is = due_for-due log account kept.links d.0 call d.2 in
+            (d.0, d.1, entered-moves d.0 call d.2, ended-answer d.0 call is)
+        | inr again ↦
+            let r = again-in log account kept call again in (
+              r.0,
+              r.1,
+              again-moves r.0 call r.2,
+              λ over. absurd (omega (arith, r.2.early, leb-true (r.0.start + EXIT_PERIOD) (now log) over)),
+            )
+      ]
+
+  across : (a b : RootCall) → Has (map (instead log C) (timed log account kept)) a
       → Has (finishes log account kept) b → Apart a b
   across a b ha hb =
-      let m = has-map (instead log C) (due log account kept) a ha in
-      let d = due-in m.0 m.1 in
+      let m = has-map (instead log C) (timed log account kept) a ha in
+      let d = timed-in m.0 m.1 in
       let f = finish-in b hb in
       subst (λ (z : RootCall). Apart z b) m.2 (subst (Apart (instead log C m.0)) f.3
       (elim (cases_eq d.0.block f.0.block) [
         | inr apart ↦ apart-at account d.0.block f.0.block (instead log C m.0) (Finish account C f.0.block)
-            (entered-moves d.0 m.0 d.2) (record { move = refl; at = refl; by = tt }) apart
+            d.2.moves (record { move = refl; at = refl; by = tt }) refl apart
         | inl same ↦
             let one = pairs-same (λ (v : ExitView). v.block) (standing log kept) blocks-apart d.0 f.0 d.1 f.1 same in
-            inr (ended-answer d.0 m.0 (due_for-due log account kept.links d.0 m.0 d.2)
+            inr (d.3
             (ap (λ (v : ExitView). is_over log v.start EXIT_PERIOD) one
             ∙ (and_parts (is_over log f.0.start EXIT_PERIOD)
             (has_challenged account f.0 || is_own kept f.0) f.2).0))
       ]))
 
-  pub calls-pairs : Pairs Apart (calls_of log account kept)
-  calls-pairs =
-      pairs-append Apart (map (instead log C) (due log account kept)) (finishes log account kept)
-      (pairs-map Leaves Apart (instead log C) (due log account kept) (λ x y hx hy leaves. leaves) dues-pairs)
-      finish-pairs across
+  -- ---- the own start
 
-  pub calls-move : (call : RootCall) → Has (calls_of log account kept) call
-      → (block : ℕ) × MovesAt account block call
-  calls-move call h =
-      elim (has-cases (map (instead log C) (due log account kept)) (finishes log account kept) call h) [
-        | inl here ↦
-            let m = has-map (instead log C) (due log account kept) call here in
-            let d = due-in m.0 m.1 in
-            (d.0.block, subst (MovesAt account d.0.block) m.2 (entered-moves d.0 m.0 d.2))
-        | inr there ↦
-            let f = finish-in call there in
-            (f.0.block, subst (MovesAt account f.0.block) f.3 (record { move = refl; at = refl; by = tt }))
+  abbrev Start : RootCall
+  Start = start_of account (tip kept) kept.links
+
+  -- it is at the tip, where no exit stands
+  record IsOwn (call : RootCall) : Type 0 where
+    moves : MovesAt account (tip kept) call
+    starts : is_start call ≡ true
+    free : (v : ExitView) → Has (standing log kept) v → v.block ≡ tip kept → ⊥
+
+  start-is : (at_link : (link : Link) → last_spend kept.links ≡ Some link → link.opening.block ≡ tip kept)
+      → MovesAt account (tip kept) Start × (is_start Start ≡ true)
+  start-is at_link = by (last_spend kept.links) refl
+    where
+      by : (o : Option Link) → last_spend kept.links ≡ o
+          → MovesAt account (tip kept) (start_by account (tip kept) kept.links o)
+          × (is_start (start_by account (tip kept) kept.links o) ≡ true)
+      by None none = (record { move = refl; at = refl; by = refl }, refl)
+      by (Some link) some = (record { move = refl; at = at_link link some; by = refl }, refl)
+
+  missed : (vs : List ExitView) (block : ℕ) → exit_in vs block ≡ None → (v : ExitView) → Has vs v → v.block ≡ block
+      → ⊥
+  missed [] block none v h at = h
+  missed (u ∷ us) block none v h at =
+      (elim (u.block == block) as (λ (b : Bool). (u.block == block) ≡ b
+      → (if b then Some u else exit_in us block) ≡ None → ⊥) [
+        | true ↦ λ own wrong. absurd (cc wrong)
+        | false ↦ λ other rest. elim h [
+          | inl same ↦ true≢false (sym (eq-eqb u.block block (ap (λ (w : ExitView). w.block) same ∙ at)) ∙ other)
+          | inr deeper ↦ missed us block rest v deeper at
+        ]
+      ]) refl none
+
+  own-is : (at_link : (link : Link) → last_spend kept.links ≡ Some link → link.opening.block ≡ tip kept)
+      (call : RootCall) → Has (own_start log account kept) call → IsOwn call
+  own-is at_link call h =
+      let own = own-in log account kept call h in
+      let is = start-is at_link in
+      record {
+        moves = subst (MovesAt account (tip kept)) own.1 is.0;
+        starts = ap is_start (sym own.1) ∙ is.1;
+        free = missed (standing log kept) (tip kept) own.0.unstarted;
+      }
+
+  own-pairs : Pairs Apart (own_start log account kept)
+  own-pairs =
+      elim (may_leave log account kept && is_planted log kept) as (λ (b : Bool).
+      Pairs Apart (if b then Start ∷ [] else [])) [
+        | true ↦ (λ y h. absurd h, tt)
+        | false ↦ tt
       ]
+
+  -- ---- where blocks are after their parents, and the links end at the tip
+
+  module _ (after_parent : (v : ExitView) → Has (standing log kept) v → tip kept < v.parent → v.parent < v.block)
+      (ended : (b : ℕ) → tip kept < b → link_after kept.links b ≡ None)
+      (at_link : (link : Link) → last_spend kept.links ≡ Some link → link.opening.block ≡ tip kept) where
+    -- nothing is due for an exit where something is shown again
+    not-both : (v : ExitView) (a b : RootCall) → Has (standing log kept) v → IsDue log account kept.links v a
+        → IsAgain log account kept v b → ⊥
+    not-both v a b there (DueAfter link next early same) again =
+        absurd (cc (sym next ∙ ended v.block (omega (arith, again.above, after_parent v there again.above))))
+    not-both v a b there (DueBetween link above next early same) again =
+        absurd (cc (sym next ∙ ended v.parent again.above))
+    not-both v a b there (DueBefore above free early same) again =
+        true≢false (sym (answered-challenged (tip kept) v.challenges again.answered) ∙ free)
+    not-both v a b there (DueRespond ch link at_tip has still next early same) again =
+        absurd (omega (arith, again.above, after_parent v there again.above, at_tip))
+
+    across-again : (a b : RootCall) → Has (due log account kept) a → Has (shown_again log account kept) b → Leaves a b
+    across-again a b ha hb =
+        let d = due-in a ha in
+        let r = again-in log account kept b hb in
+        elim (cases_eq d.0.block r.0.block) [
+          | inr apart ↦ apart-at account d.0.block r.0.block (instead log C a) (instead log C b)
+              (entered-moves d.0 a d.2).moves (again-moves r.0 b r.2).moves (again-moves r.0 b r.2).unstarted apart
+          | inl same ↦
+              let one = pairs-same (λ (v : ExitView). v.block) (standing log kept) blocks-apart d.0 r.0 d.1 r.1 same in
+              absurd (not-both r.0 a b r.1 (subst (λ (v : ExitView). IsDue log account kept.links v a) one
+              (due_for-due log account kept.links d.0 a d.2)) r.2)
+        ]
+
+    timed-pairs : Pairs Leaves (timed log account kept)
+    timed-pairs =
+        pairs-append Leaves (due log account kept) (shown_again log account kept) dues-pairs again-pairs across-again
+
+    pub calls-pairs : Pairs Apart (calls_of log account kept)
+    calls-pairs =
+        let calls : List RootCall = map (instead log C) (timed log account kept) in
+        pairs-append Apart (calls ++ own_start log account kept) (finishes log account kept)
+        (pairs-append Apart calls (own_start log account kept)
+        (pairs-map Leaves Apart (instead log C) (timed log account kept) (λ x y hx hy leaves. leaves) timed-pairs)
+        own-pairs
+        (λ a b ha hb.
+        let m = has-map (instead log C) (timed log account kept) a ha in
+        let d = timed-in m.0 m.1 in
+        let o = own-is at_link b hb in
+        subst (λ (z : RootCall). Apart z b) m.2 (before-start account d.0.block (tip kept) (instead log C m.0) b
+        d.2.moves d.2.unfinished o.moves o.starts (o.free d.0 d.1))))
+        finish-pairs
+        (λ a b ha hb. elim (has-cases calls (own_start log account kept) a ha) [
+          | inl first ↦ across a b first hb
+          | inr start ↦
+              let o = own-is at_link a start in
+              let f = finish-in b hb in
+              subst (Apart a) f.3 (inl (of-other a C f.0.block o.moves.move
+              (λ same. o.free f.0 f.1 (sym same ∙ o.moves.at))))
+        ])
+
+    pub calls-move : (call : RootCall) → Has (calls_of log account kept) call
+        → (block : ℕ) × MovesAt account block call
+    calls-move call h =
+        elim (has-cases (map (instead log C) (timed log account kept) ++ own_start log account kept)
+        (finishes log account kept) call h) [
+          | inl front ↦ elim (has-cases (map (instead log C) (timed log account kept)) (own_start log account kept) call
+              front) [
+                | inl first ↦
+                    let m = has-map (instead log C) (timed log account kept) call first in
+                    let d = timed-in m.0 m.1 in
+                    (d.0.block, subst (MovesAt account d.0.block) m.2 d.2.moves)
+                | inr start ↦ (tip kept, (own-is at_link call start).moves)
+              ]
+          | inr last ↦
+              let f = finish-in call last in
+              (f.0.block, subst (MovesAt account f.0.block) f.3 (record { move = refl; at = refl; by = tt }))
+        ]

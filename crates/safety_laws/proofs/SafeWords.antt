@@ -10,7 +10,7 @@ use Rattle.plasma_tx.specs.declared.rules.TheConstants.{CHALLENGE_WINDOW}
 use Rattle.plasma_tx.specs.Views.{now, Exit, exit_at, exit_view}
 use Rattle.plasma_tx.specs.Table.{is_over}
 use Rattle.plasma_tx.specs.Shown.{Rules, tests_by}
-use Rattle.watch_duty.proofs.Members.{has-contains, contains-has}
+use Rattle.watch_duty.proofs.Members.{has-contains, contains-has, has-left}
 use Rattle.world_rules.specs.Laws.{IsDigest}
 use Rattle.world_rules.specs.Events.{Event, log_of, wallet_owner}
 use Rattle.world_laws.specs.Legal.{IsLegal}
@@ -20,7 +20,7 @@ use Rattle.money_laws.specs.MoneyLaws.{is_in_time}
 use Rattle.coin_safety.specs.declared.kept.Kept.{Kept}
 use Rattle.coin_safety.specs.declared.word.Word.{Word}
 use Rattle.coin_safety.specs.declared.word.Word.TheVariants.{Safe, Act, Leaving}
-use Rattle.coin_safety.specs.Advice.{standing, due}
+use Rattle.coin_safety.specs.Advice.{standing, due, shown_again, timed}
 use Rattle.coin_safety.specs.Words.{end_of_call, word_of}
 use Rattle.coin_safety.specs.Laws.{AreAhead, IsFirst, NothingIsDue, Tells}
 use Rattle.coin_safety.proofs.Telling.{words_tell}
@@ -61,14 +61,15 @@ any-append p (x ∷ xs) ys none =
 
 -- each call that is due may be entered at least till the first end
 act-calls : (log : List RootCall) (account : ℕ) (kept : Kept) (first : ℕ)
-    → IsFirst (map (end_of_call (standing log kept)) (due log account kept)) first → (call : RootCall)
+    → IsFirst (map (end_of_call (standing log kept)) (timed log account kept)) first → (call : RootCall)
     → Contains (due log account kept) call → first ≤ end_of_call (standing log kept) call
 act-calls log account kept first is call among =
     is.no_less (end_of_call (standing log kept) call)
-    (has-contains (map (end_of_call (standing log kept)) (due log account kept))
+    (has-contains (map (end_of_call (standing log kept)) (timed log account kept))
     (end_of_call (standing log kept) call)
-    (has-mapped (end_of_call (standing log kept)) (due log account kept) call
-    (contains-has (due log account kept) call among)))
+    (has-mapped (end_of_call (standing log kept)) (timed log account kept) call
+    (has-left (due log account kept) (shown_again log account kept) call
+    (contains-has (due log account kept) call among))))
 
 told : (log : List RootCall) (account clock : ℕ) (kept : Kept) (word : Word)
     → word_of log account clock kept ≡ word → Tells log account clock kept word

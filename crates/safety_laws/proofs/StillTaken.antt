@@ -2,20 +2,21 @@
 use Rattle.std.proofs.Common.{◌≡◌, ◌⊎◌, ℕ, ◌+◌, ◌<◌, ◌≤◌, ◌==◌, ◌&&◌, not, Bool, true, false, if◌then◌else◌, List, [], ◌∷◌, map, Option, Some, None, option_map, inl, inr, refl, sym, ap, ◌∙◌, subst}
 use Rattle.std.specs.Prelude.{is_some, nat_lt}
 use Rattle.std.specs.Option.{option_and_then}
-use Rattle.std.proofs.lemmas.Bool.{eqb-true, ltb-false, not-true, false≢true}
+use Rattle.std.proofs.lemmas.Bool.{eqb-true, ltb-false, not-true, true≢false, false≢true}
+use Rattle.plasma_tx.specs.declared.owner.Owner.{Owner}
 use Rattle.plasma_tx.specs.declared.opening.RawOpening.{RawOpening}
 use Rattle.plasma_tx.specs.declared.signed_tx.SignedTx.{SignedTx}
 use Rattle.plasma_tx.specs.declared.call.Shown.{Shown}
 use Rattle.plasma_tx.specs.declared.call.Shown.TheVariants.{Deposit as AtDeposit, Spend}
 use Rattle.plasma_tx.specs.declared.call.RootCall.{RootCall}
-use Rattle.plasma_tx.specs.declared.call.RootCall.TheVariants.{After, Between, Before, Respond, Finish}
+use Rattle.plasma_tx.specs.declared.call.RootCall.TheVariants.{Fund, Tick, Deposit, Commit, StartDeposit, StartSpend, After, Between, Before, Respond, Finish}
 use Rattle.plasma_tx.specs.declared.views.CoinView.{CoinView}
-use Rattle.plasma_tx.specs.declared.rules.TheConstants.{CHALLENGE_BOND, CHALLENGE_WINDOW, RESPONSE_WINDOW, EXIT_PERIOD}
+use Rattle.plasma_tx.specs.declared.rules.TheConstants.{EXIT_BOND, CHALLENGE_BOND, CHALLENGE_WINDOW, RESPONSE_WINDOW, EXIT_PERIOD}
 use Rattle.plasma_tx.specs.Openings.{leaf_in}
 use Rattle.plasma_tx.specs.Transfer.{transfer_in}
-use Rattle.plasma_tx.specs.Views.{now, block_at, coin_at, Challenge, Exit, exits, exit_at, challenge_at, with_answer, with_answer_at}
+use Rattle.plasma_tx.specs.Views.{now, block_at, coin_at, Challenge, Exit, exits, exit_at, challenge_at, block_of, is_withdrawn, with_answer, with_answer_at}
 use Rattle.plasma_tx.specs.Shown.{Tests, Rules, root_at, shown_tx, shown_owner}
-use Rattle.plasma_tx.specs.Table.{answer_to, is_accepted, is_before_parent}
+use Rattle.plasma_tx.specs.Table.{answer_to, is_accepted, is_before_parent, is_committed_after, is_parent_of}
 use Rattle.plasma_tx.specs.RuleLaws.{is_of_exit}
 use Rattle.plasma_tx.specs.Money.{balance_of}
 use Rattle.plasma_tx.specs.Accepted.{ShowsTx, CancelsAfter, CancelsBetween, Responds, Finishes}
@@ -23,11 +24,39 @@ use Rattle.plasma_tx.proofs.Accepted.{accepted_calls_show}
 use Rattle.plasma_tx.proofs.Acceptance.{shown_calls_are_accepted}
 use Rattle.plasma_tx.proofs.Names.{find-changed}
 use Rattle.plasma_tx.proofs.RuleLeaves.{others_leave_exits}
-use Rattle.watch_duty.specs.Laws.{is_poor_before}
+use Rattle.coin_safety.specs.Laws.{is_poor}
 use Rattle.money_laws.proofs.Reserves.{Could}
+
+-- a start of a deposit's exit is accepted, but for the money
+pub record MayStartDeposit (log : List RootCall) (account c block : ℕ) : Type 0 where
+  pub coin : CoinView
+  pub there : coin_at log c ≡ Some coin
+  pub not_withdrawn : is_withdrawn log c ≡ false
+  pub at_deposit : block ≡ coin.deposit
+  pub owner : account ≡ coin.owner.account
+  pub none_stands : exit_at log c block ≡ None
+
+-- and that of a transfer's exit
+pub record MayStartSpend (tests : Tests) (rules : Rules) (log : List RootCall) (account c : ℕ) (parent : Shown)
+    (exit : RawOpening) : Type 0 where
+  pub coin : CoinView
+  pub there : coin_at log c ≡ Some coin
+  pub not_withdrawn : is_withdrawn log c ≡ false
+  pub committed : is_committed_after log coin.deposit exit.block ≡ true
+  pub parent_fits : is_parent_of log coin exit.block parent ≡ true
+  pub parent_owner : Owner
+  pub parent_shown : shown_owner tests rules log c parent ≡ Some parent_owner
+  pub tx : SignedTx
+  pub shown : ShowsTx tests rules log c exit tx
+  pub child : tx.body.parent ≡ block_of parent
+  pub signed : tests.is_signed tx parent_owner ≡ true
+  pub owner : tx.body.to.account ≡ account
+  pub none_stands : exit_at log c exit.block ≡ None
 
 -- the call is accepted, but for the money
 unfoldable pub CouldBe : Tests → Rules → List RootCall → RootCall → Type 0
+CouldBe tests rules log (StartDeposit account c f) = MayStartDeposit log account c f
+CouldBe tests rules log (StartSpend account c parent exit) = MayStartSpend tests rules log account c parent exit
 CouldBe tests rules log (After account c f spend) = CancelsAfter tests rules log c f spend
 CouldBe tests rules log (Between account c f spend) = CancelsBetween tests rules log c f spend
 CouldBe tests rules log (Before account c f shown) = Could tests rules log c f shown
@@ -35,8 +64,10 @@ CouldBe tests rules log (Respond account c f n spend) = Responds tests rules log
 CouldBe tests rules log (Finish account c f) = Finishes log c f
 CouldBe tests rules log call = ⊥
 
--- the call is on an exit, and no start
+-- the call is on an exit
 abbrev pub is_move : RootCall → Bool
+is_move (StartDeposit account c block) = true
+is_move (StartSpend account c parent exit) = true
 is_move (After account c f spend) = true
 is_move (Between account c f spend) = true
 is_move (Before account c f shown) = true
@@ -44,8 +75,10 @@ is_move (Respond account c f n spend) = true
 is_move (Finish account c f) = true
 is_move call = false
 
--- a Before is by this account
+-- a call that takes money is by this account
 abbrev pub IsBy : ℕ → RootCall → Type 0
+IsBy account (StartDeposit by c block) = by ≡ account
+IsBy account (StartSpend by c parent exit) = by ≡ account
 IsBy account (Before by c f shown) = by ≡ account
 IsBy account call = Unit {0}
 
@@ -58,9 +91,16 @@ abbrev pub is_answer : RootCall → Bool
 is_answer (Respond account c f m spend) = true
 is_answer call = false
 
--- The earlier call leaves the later one what it is: it is on another exit; or an answer, before one of another
--- challenge, or before a Finish.
+-- the call finishes an exit
+abbrev pub is_finish : RootCall → Bool
+is_finish (Finish account c f) = true
+is_finish call = false
+
+-- The earlier call leaves the later one what it is: it is on another exit, and before a start no Finish; or an answer,
+-- before one of another challenge, or before a Finish.
 abbrev pub Apart : RootCall → RootCall → Type 0
+Apart new (StartDeposit account c block) = (is_of_exit c block new ≡ false) × (is_finish new ≡ false)
+Apart new (StartSpend account c parent exit) = (is_of_exit c exit.block new ≡ false) × (is_finish new ≡ false)
 Apart new (After account c f spend) = is_of_exit c f new ≡ false
 Apart new (Between account c f spend) = is_of_exit c f new ≡ false
 Apart new (Before account c f shown) = is_of_exit c f new ≡ false
@@ -72,6 +112,33 @@ module _ (tests : Tests) (rules : Rules) where
   pub could-from : (log : List RootCall) (call : RootCall) → is_move call ≡ true
       → is_accepted (answer_to tests rules log call) ≡ true → CouldBe tests rules log call
   unfolding CouldBe
+  could-from log (StartDeposit account c block) move is =
+      let s = accepted_calls_show tests rules log (StartDeposit account c block) is in
+      record {
+        coin = s.coin;
+        there = s.there;
+        not_withdrawn = s.not_withdrawn;
+        at_deposit = s.at_deposit;
+        owner = s.owner;
+        none_stands = s.none_stands;
+      }
+  could-from log (StartSpend account c parent exit) move is =
+      let s = accepted_calls_show tests rules log (StartSpend account c parent exit) is in
+      record {
+        coin = s.coin;
+        there = s.there;
+        not_withdrawn = s.not_withdrawn;
+        committed = s.committed;
+        parent_fits = s.parent_fits;
+        parent_owner = s.parent_owner;
+        parent_shown = s.parent_shown;
+        tx = s.tx;
+        shown = s.shown;
+        child = s.child;
+        signed = s.signed;
+        owner = s.owner;
+        none_stands = s.none_stands;
+      }
   could-from log (After account c f spend) move is =
       accepted_calls_show tests rules log (After account c f spend) is
   could-from log (Between account c f spend) move is =
@@ -93,9 +160,38 @@ module _ (tests : Tests) (rules : Rules) where
   could-from log call move is = absurd (false≢true move)
 
   pub could-taken : (log : List RootCall) (account : ℕ) (call : RootCall) → CouldBe tests rules log call
-      → IsBy account call → is_poor_before log account call ≡ false
+      → IsBy account call → is_poor log account call ≡ false
       → is_accepted (answer_to tests rules log call) ≡ true
   unfolding CouldBe
+  could-taken log account (StartDeposit by c block) could own rich =
+      shown_calls_are_accepted tests rules log (StartDeposit by c block) (record {
+        coin = could.coin;
+        there = could.there;
+        not_withdrawn = could.not_withdrawn;
+        at_deposit = could.at_deposit;
+        owner = could.owner;
+        none_stands = could.none_stands;
+        covered = subst (λ n. EXIT_BOND ≤ balance_of log n) (sym own)
+            (ltb-false (balance_of log account) EXIT_BOND rich);
+      })
+  could-taken log account (StartSpend by c parent exit) could own rich =
+      shown_calls_are_accepted tests rules log (StartSpend by c parent exit) (record {
+        coin = could.coin;
+        there = could.there;
+        not_withdrawn = could.not_withdrawn;
+        committed = could.committed;
+        parent_fits = could.parent_fits;
+        parent_owner = could.parent_owner;
+        parent_shown = could.parent_shown;
+        tx = could.tx;
+        shown = could.shown;
+        child = could.child;
+        signed = could.signed;
+        owner = could.owner;
+        none_stands = could.none_stands;
+        covered = subst (λ n. EXIT_BOND ≤ balance_of log n) (sym own)
+            (ltb-false (balance_of log account) EXIT_BOND rich);
+      })
   could-taken log account (After by c f spend) could own rich =
       shown_calls_are_accepted tests rules log (After by c f spend) could
   could-taken log account (Between by c f spend) could own rich =
@@ -127,12 +223,31 @@ record IsSame (log other : List RootCall) : Type 0 where
 
 moved-same : (log : List RootCall) (new : RootCall) → is_move new ≡ true → IsSame log (new ∷ log)
 unfolding now coin_at block_at
+moved-same log (StartDeposit account c block) move = record { clock = refl; coins = λ n. refl; roots = λ n. refl }
+moved-same log (StartSpend account c parent exit) move =
+    record { clock = refl; coins = λ n. refl; roots = λ n. refl }
 moved-same log (After account c f spend) move = record { clock = refl; coins = λ n. refl; roots = λ n. refl }
 moved-same log (Between account c f spend) move = record { clock = refl; coins = λ n. refl; roots = λ n. refl }
 moved-same log (Before account c f shown) move = record { clock = refl; coins = λ n. refl; roots = λ n. refl }
 moved-same log (Respond account c f m spend) move = record { clock = refl; coins = λ n. refl; roots = λ n. refl }
 moved-same log (Finish account c f) move = record { clock = refl; coins = λ n. refl; roots = λ n. refl }
 moved-same log call move = absurd (false≢true move)
+
+-- where no exit is finished, no coin comes to be withdrawn
+alive-still : (log : List RootCall) (new : RootCall) (c : ℕ) → is_finish new ≡ false
+    → is_withdrawn (new ∷ log) c ≡ is_withdrawn log c
+unfolding is_withdrawn
+alive-still log (Finish account k f) c none = absurd (true≢false none)
+alive-still log (Fund account amount) c none = refl
+alive-still log (Tick time) c none = refl
+alive-still log (Deposit account amount key) c none = refl
+alive-still log (Commit account root) c none = refl
+alive-still log (StartDeposit account k block) c none = refl
+alive-still log (StartSpend account k parent exit) c none = refl
+alive-still log (After account k f spend) c none = refl
+alive-still log (Between account k f spend) c none = refl
+alive-still log (Before account k f shown) c none = refl
+alive-still log (Respond account k f m spend) c none = refl
 
 module _ (tests : Tests) (rules : Rules) (log other : List RootCall) (same : IsSame log other) where
   shows-still : (c : ℕ) (o : RawOpening) (tx : SignedTx) → ShowsTx tests rules log c o tx
@@ -161,6 +276,47 @@ module _ (tests : Tests) (rules : Rules) (log other : List RootCall) (same : IsS
   parent-still (Some coin) exit (Spend opening) =
       ap (λ (r : Option (List ℕ)). is_some r && nat_lt coin.deposit opening.block && nat_lt opening.block exit.parent)
       (same.roots opening.block)
+
+  committed-still : (low n : ℕ) → is_committed_after other low n ≡ is_committed_after log low n
+  committed-still low n = ap (λ (r : Option (List ℕ)). is_some r && nat_lt low n) (same.roots n)
+
+  fits-still : (made : CoinView) (block : ℕ) (parent : Shown)
+      → is_parent_of other made block parent ≡ is_parent_of log made block parent
+  fits-still made block (AtDeposit at) = refl
+  fits-still made block (Spend opening) =
+      ap (λ (r : Option (List ℕ)). is_some r && nat_lt made.deposit opening.block && nat_lt opening.block block)
+      (same.roots opening.block)
+
+  deposit-still : (account c block : ℕ) → is_withdrawn other c ≡ is_withdrawn log c
+      → exit_at other c block ≡ exit_at log c block → MayStartDeposit log account c block
+      → MayStartDeposit other account c block
+  deposit-still account c block alive stays s = record {
+    coin = s.coin;
+    there = same.coins c ∙ s.there;
+    not_withdrawn = alive ∙ s.not_withdrawn;
+    at_deposit = s.at_deposit;
+    owner = s.owner;
+    none_stands = stays ∙ s.none_stands;
+  }
+
+  spend-still : (account c : ℕ) (parent : Shown) (exit : RawOpening) → is_withdrawn other c ≡ is_withdrawn log c
+      → exit_at other c exit.block ≡ exit_at log c exit.block → MayStartSpend tests rules log account c parent exit
+      → MayStartSpend tests rules other account c parent exit
+  spend-still account c parent exit alive stays s = record {
+    coin = s.coin;
+    there = same.coins c ∙ s.there;
+    not_withdrawn = alive ∙ s.not_withdrawn;
+    committed = committed-still s.coin.deposit exit.block ∙ s.committed;
+    parent_fits = fits-still s.coin exit.block parent ∙ s.parent_fits;
+    parent_owner = s.parent_owner;
+    parent_shown = owner-still c parent ∙ s.parent_shown;
+    tx = s.tx;
+    shown = shows-still c exit s.tx s.shown;
+    child = s.child;
+    signed = s.signed;
+    owner = s.owner;
+    none_stands = stays ∙ s.none_stands;
+  }
 
   after-still : (c f : ℕ) (spend : RawOpening) → exit_at other c f ≡ exit_at log c f
       → CancelsAfter tests rules log c f spend → CancelsAfter tests rules other c f spend
@@ -305,6 +461,12 @@ module _ (tests : Tests) (rules : Rules) (log : List RootCall) where
   pub still-could : (new call : RootCall) → is_move new ≡ true → Apart new call → CouldBe tests rules log call
       → CouldBe tests rules (new ∷ log) call
   unfolding CouldBe
+  still-could new (StartDeposit account c block) move apart could =
+      deposit-still tests rules log (new ∷ log) (moved-same log new move) account c block
+      (alive-still log new c apart.1) (others_leave_exits log new c block apart.0) could
+  still-could new (StartSpend account c parent exit) move apart could =
+      spend-still tests rules log (new ∷ log) (moved-same log new move) account c parent exit
+      (alive-still log new c apart.1) (others_leave_exits log new c exit.block apart.0) could
   still-could new (After account c f spend) move apart could =
       after-still tests rules log (new ∷ log) (moved-same log new move) c f spend
       (others_leave_exits log new c f apart) could

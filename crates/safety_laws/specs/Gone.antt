@@ -15,7 +15,8 @@ use Rattle.world_laws.specs.Headline.{IsRun}
 use Rattle.world_laws.specs.Legal.{IsLegal}
 use Rattle.coin_safety.specs.declared.kept.Kept.{Kept}
 use Rattle.coin_safety.specs.declared.word.Word.TheVariants.{Paid, Gone}
-use Rattle.coin_safety.specs.Words.{next_line, holder, word_of}
+use Rattle.coin_safety.specs.Advice.{holder}
+use Rattle.coin_safety.specs.Words.{next_line, word_of}
 
 -- In that line of the log's file a Finish of coin c was answered Paid, of an exit that the account had started.
 pub record WasPaidTo (tests : Tests) (rules : Rules) (events : List Event) (c account line : ℕ) : Type 0 where

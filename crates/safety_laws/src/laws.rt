@@ -1,4 +1,4 @@
-ghost use Rattle.safety_laws.specs.Calls.{LegalActsAreAccepted, ActsOfRunsAreAccepted, LegalEnoughIsEnough, EnoughOfRunsIsEnough};
+ghost use Rattle.safety_laws.specs.Calls.{LegalActsAreAccepted, ActsOfRunsAreAccepted, StartsAreLeaves, LegalEnoughIsEnough, EnoughOfRunsIsEnough};
 ghost use Rattle.safety_laws.specs.Gone.{LegalGoneMeansGone, LegalPaidMeansPaid, GoneMeansGone, PaidMeansPaid};
 ghost use Rattle.safety_laws.specs.Safe.{LegalSafeMeansSafe, LegalLeavingMeansSafe, LegalActLeavesTime, LegalActMeansAct, LegalHoldersBeginInTime, LegalNextLookIsInTime, LegalLooksAreEnough, LegalLookedAtCoinsAreSafe, LookedAtCoinsAreSafe};
 
@@ -36,11 +36,13 @@ pub fn gone_means_gone()
     ensures run_paid { PaidMeansPaid }
 {}
 
-/// A law: each call that is advised for a coin that a node keeps is accepted, unless it is a Before for which the
-/// account has no money; where the events show no clash at the coin.
+/// A law: each call that is advised for a coin that a node keeps is accepted, unless it takes money that the
+/// account hasn't got; where the events show no clash at the coin. The start of the own exit is the call that a wallet
+/// offers when it leaves.
 pub fn acts_are_accepted()
     ensures legal { LegalActsAreAccepted }
     ensures run { ActsOfRunsAreAccepted }
+    ensures leave { StartsAreLeaves }
 {}
 
 /// A law: where no money is missing, all calls that are advised for a coin are accepted, entered one after the other

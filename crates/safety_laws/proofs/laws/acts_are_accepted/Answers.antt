@@ -1,4 +1,4 @@
-use Rattle.safety_laws.proofs.Acts.{acts_are_accepted}
+use Rattle.safety_laws.proofs.Acts.{acts_are_accepted, starts_are_leaves}
 use Rattle.safety_laws.proofs.Runs.{run_acts_are_accepted}
 use Rattle.safety_laws.proofs.laws.acts_are_accepted.Goals as goal
 
@@ -7,3 +7,6 @@ returns-clause-legal c = acts_are_accepted
 
 pub returns-clause-run : goal.returns-clause-run
 returns-clause-run c = run_acts_are_accepted
+
+pub returns-clause-leave : goal.returns-clause-leave
+returns-clause-leave c = starts_are_leaves

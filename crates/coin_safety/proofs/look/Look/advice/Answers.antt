@@ -1,0 +1,16 @@
+use Rattle.std.proofs.Common.{◌++◌, map, ap, ◌∙◌}
+use Rattle.plasma_tx.specs.Views.{exits_of}
+use Rattle.coin_safety.specs.Numbers.{least}
+use Rattle.coin_safety.specs.Advice.{standing, shown_again}
+use Rattle.coin_safety.specs.Words.{end_of_call}
+use Rattle.coin_safety.proofs.look.Look.advice.Goals as goal
+
+pub returns-clause-end : goal.returns-clause-end
+returns-clause-end c =
+    let look = c.args.self.now in
+    c.in_ok-end.ensures.end
+    ∙ ap (λ n. least (map (end_of_call (exits_of look.log.now.log n)) c.push_shown_again.new.calls.items))
+    c.coin.ensures
+    ∙ ap (λ l. least (map (end_of_call (standing look.log.now.log look.kept.now)) l))
+    (c.in_ok-push_shown_again.ensures
+    ∙ ap (λ l. l ++ shown_again look.log.now.log look.account look.kept.now) c.in_ok-calls.ensures)
