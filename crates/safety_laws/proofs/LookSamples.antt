@@ -1,7 +1,7 @@
 -- Small lists of calls, the newest first, on which the words and the calls are computed: each premise of the laws can
 -- be met, and the times are tight. Every call of the lists is accepted after those before it, where each opening and
 -- each signature passes.
-use Rattle.std.proofs.Common.{◌≡◌, ℕ, ◌+◌, ◌&&◌, Bool, true, List, [], ◌∷◌, Some, None, refl}
+use Rattle.std.proofs.Common.{◌≡◌, ℕ, ◌+◌, ◌&&◌, Bool, true, false, List, [], ◌∷◌, Some, None, refl}
 use Rattle.lms_sign.specs.Types.{u32_at}
 use Rattle.plasma_tx.specs.declared.opening.RawOpening.{RawOpening}
 use Rattle.plasma_tx.specs.declared.call.Shown.TheVariants.{Deposit as AtDeposit, Spend}
