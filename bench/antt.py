@@ -17,7 +17,7 @@ NAME = re.compile(rf"(?<!\S\.)(?<![^{APART}])[^{APART}]+")
 HEAD = re.compile(r" *((?:(?:pattern|axiom|unfoldable|abbrev|pub) )*)(\S+)")
 PARTING = re.compile(r"[(){}\[\]]|(?<!\S)[:=](?!\S)")
 TYPE = re.compile(r"(?:→|(?<!\S):)\s+Type\s+(?:\w+|\([^()]*\))$")
-USE = re.compile(r" *(pub )?use ([^\s{]+?)(?:\.\{(.*)\}| as (\S+))?$", re.S)
+USE = re.compile(r" *(?:unfoldable )?(pub )?use ([^\s{]+?)(?:\.\{(.*)\}| as (\S+))?$", re.S)
 # What an item may begin with that is neither a signature nor a clause; the last two have items of their own.
 OTHERS = ("use", "mod", "open", "infix", "infixl", "infixr", "ruleset", "record", "data", "unfolding", "deriving")
 AROUND, ENDS = ("module", "mutual"), ("where", "mutual")
@@ -124,7 +124,7 @@ def imports_of(item):
         last = path.rpartition(".")[2]
         return [Import(path, other or last, item.lines[0][0], passed)] if last != "*" else []
     each = (" ".join(it.split()) for it in names.split(","))
-    return [Import(it, re.split(r"[ .]", it)[-1], item.lines[0][0], passed) for it in each if it]
+    return [Import(it, re.split(r"[ .]", it)[-1].strip("«»"), item.lines[0][0], passed) for it in each if it]
 
 
 def standing(items):

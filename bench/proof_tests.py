@@ -10,12 +10,12 @@ import antt
 
 HERE = os.path.dirname(os.path.abspath(__file__))
 TEXT = """-- Numbers, told with sym and grind.
-use Rattle.a.Common.{◌≡◌, ◌∷◌, if◌then◌else◌, ◌&&◌, ℕ, List, ap, sym, length as size, take as front}
+use Rattle.a.Common.{◌≡◌, ◌∷◌, if◌then◌else◌, ◌&&◌, ℕ, List, ap, sym, length as size, take as front, «to»}
 use Rattle.a.proofs.start.Goals as goal
 use Rattle.a.specs.{gone, gone_too}
 use Rattle.a.Deep
 use Deep.More.{more}
-pub use Rattle.a.proofs.Other.{passed-on}
+unfoldable pub use Rattle.a.proofs.Other.{passed-on}
 
 infixr 20 ◌▹◌
 abbrev pub ◌▹◌ : {A : Type 0} → A → A → List A
@@ -29,6 +29,7 @@ pub record Few (xs : List ℕ) : Type 0 where
 
 ruleset few = (
   more,
+  «to»,
 )
 
 -- its term stands below its head
