@@ -6,7 +6,7 @@ use std::io;
 /// The calls that a disk makes of a file at a path. Each is noted for proofs, whatever it answers.
 ///
 /// A file that tells with which bytes it began answers by these and the writes since, as long as its calls pass; and
-/// behind one that failed it passes none. A file of the operating system tells nothing.
+/// behind one that failed it passes none, but for the mark. A file of the operating system tells nothing.
 pub trait FileCalls {
     ghost use Rattle.std.specs.Prelude.{ℕ, List, Option};
     ghost use Rattle.told_files.specs.FileCalls.{FileCall};
