@@ -1,0 +1,9 @@
+pub mod Loops
+pub mod GuardCases
+pub mod HeldCases
+pub mod LookLines
+pub mod Silence
+pub mod Ends
+pub mod Looking
+pub mod Opening
+pub mod DiskLooks

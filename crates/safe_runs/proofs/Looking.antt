@@ -1,0 +1,190 @@
+-- How a look ends whose lines were read, or that was stopped.
+use Rattle.std.proofs.Common.{◌≡◌, ℕ, inl, inr, Bool, true, false, List, [], ◌∷◌, ◌++◌, Option, None, Result, Ok, Err, refl, sym, ap, ◌∙◌, subst, append_assoc, append-nil}
+use Rattle.std.specs.Prelude.{if◌then◌else◌, unwrap_or}
+use Rattle.std.specs.List.{list_all}
+use Rattle.plasma_tx.specs.declared.call.RootCall.{RootCall}
+use Rattle.plasma_tx.specs.Views.{now}
+use Rattle.plasma_outside.specs.declared.sink.SinkRefusal.{SinkRefusal}
+use Rattle.node_sessions.specs.Sessions.{begun, calls_of}
+use Rattle.safe_runs.proofs.Ends.{ends-more}
+use Rattle.streamed_lines.specs.declared.ending.Ending.{Ending}
+use Rattle.streamed_lines.specs.declared.ending.Ending.TheVariants.{Complete, BadLine, ReadFault, TooLong, Ended}
+use Rattle.streamed_lines.specs.declared.ending.Halt.{Halt}
+use Rattle.streamed_lines.specs.declared.ending.Break.{Break}
+use Rattle.streamed_lines.specs.declared.ending.Break.TheVariants.{WriteFault as WriteBreak, Failed as FailedBreak, NoMemory as NoMemoryBreak}
+use Rattle.streamed_lines.specs.Streams.{Streamed, Stream}
+use Rattle.streamed_lines.specs.Outside.{Wrote, WroteFront}
+use Rattle.streamed_lines.specs.Reading.{is_read_fault, next_text, IsLeft, IsPut, Answers, BrokeOff}
+use Rattle.run_endings.specs.declared.status.Status.{Status}
+use Rattle.run_endings.specs.declared.status.Status.TheVariants.{Done, Refused, ReadFault as ReadFaultStatus}
+use Rattle.run_endings.specs.Statuses.{status_of_refusal}
+use Rattle.run_endings.specs.Outputs.{Output, EndsAs}
+use Rattle.run_endings.specs.Endings.{status_of, last_text}
+use Rattle.run_endings.proofs.EndingLaws.{ends-stopped}
+use Rattle.safe_runs.specs.Answers.{is_case_good}
+use Rattle.safe_runs.specs.Sessions.{LookState, look_rules}
+use Rattle.safe_runs.specs.Inside.{is_complete}
+use Rattle.safe_runs.specs.Runs.{Node, Looks, ended_output, look_output, whole_output}
+use Rattle.safe_runs.proofs.Silence.{lines-silent, front-silent}
+
+module _ (node : Node) {W : Type 0} (Ran : W → LookState → Type 0)
+    (Halted : W → LookState → List ℕ → Halt (List ℕ) → Type 0) (left later taken put_then : Option (List ℕ))
+    (text : List ℕ) (session : W) where
+  -- what is said of the lines of a chain with this tag, which is the node's
+  abbrev Lines : List ℕ → Ending (List ℕ) → Type 0
+  Lines tag ending =
+      Answers (look_rules tag) (begun None) Ran Halted left later taken put_then text ending session
+
+  abbrev BrokenLines : List ℕ → Break → Type 0
+  BrokenLines tag why =
+      BrokeOff (look_rules tag) (begun None) Ran Halted left later taken put_then text why session
+
+  pub lines-of : (tag : List ℕ) (ending : Ending (List ℕ)) → tag ≡ node.tag → Lines tag ending
+      → Lines node.tag ending
+  lines-of tag ending same lines = subst (λ t. Lines t ending) same lines
+
+  pub broken-of : (tag : List ℕ) (why : Break) → tag ≡ node.tag → BrokenLines tag why → BrokenLines node.tag why
+  broken-of tag why same broke = subst (λ t. BrokenLines t why) same broke
+
+  none-put : (put rest : List ℕ) → put ++ rest ≡ [] → put ≡ []
+  none-put [] rest is = refl
+  none-put (byte ∷ put) rest is = absurd (cc is)
+
+  -- a look whose lines were read to what ended them
+  module _ (ending : Ending (List ℕ)) (Reads : Bool → Type 0)
+      (answers : Answers (look_rules node.tag) (begun None) Ran Halted left later taken put_then text ending session)
+      (reads : Reads (is_read_fault (Ok ending))) where
+    abbrev run : LookState
+    run = answers.ends.stream.run
+
+    -- where they were all read they came to this
+    pub ran-whole : ending ≡ Complete → Ran session run
+    ran-whole is =
+        subst (λ e. IsLeft Ran Halted session run (next_text answers.bytes answers.ends.stream) e) is answers.ends.left
+
+    none-said : answers.put ++ text ≡ []
+    none-said =
+        answers.ends.told
+        ∙ ap (λ (s : Streamed LookState (List ℕ)). s.stream.text) (sym answers.ends.streams)
+        ∙ lines-silent node.tag (begun None) answers.bytes answers.ended
+
+    read-failed : (e : Ending (List ℕ)) → Reads (is_read_fault (Ok e))
+        → (ended_output node run e).status ≡ ReadFaultStatus → Reads true
+    read-failed Complete reads is = absurd (never (list_all (is_case_good (calls_of run.log) node.account
+        (unwrap_or run.node (now (calls_of run.log)))) (node.cases (calls_of run.log))) is)
+      where
+        never : (b : Bool) → (if b then Done else Refused) ≡ ReadFaultStatus → ⊥
+        never true wrong = absurd (cc)
+        never false wrong = absurd (cc)
+    read-failed (BadLine n) reads is = absurd (cc)
+    read-failed ReadFault reads is = reads
+    read-failed (TooLong n) reads is = absurd (cc)
+    read-failed (Ended n cause) reads is = absurd (cc)
+
+    pub looks-whole : (after : Option (List ℕ)) (status : Status)
+        → EndsAs (record {
+          status = (ended_output node run ending).status;
+          answers = text ++ (ended_output node run ending).answers;
+          last = (ended_output node run ending).last;
+        }) status put_then after (Unit {0})
+        → Looks node (record { left = left; later = later; taken = taken; after = after }) (Reads true) status
+    looks-whole after status ends =
+        let output = ended_output node run ending in
+        let behind =
+        ends-more taken put_then after answers.put (text ++ output.answers) output.last (Reads true) answers.wrote
+        output.status status (read-failed ending reads) ends in
+        record {
+          bytes = answers.bytes;
+          ended = answers.ended;
+          gave = answers.gave;
+          ends =
+              subst (λ o. EndsAs o status taken after (Reads true))
+              (ap (λ said. record { status = output.status; answers = said; last = output.last })
+              (sym (append_assoc answers.put text output.answers)
+              ∙ ap (λ (front : List ℕ). front ++ output.answers) none-said)
+              ∙ ap (λ (s : Streamed LookState (List ℕ)). ended_output node s.stream.run s.ending)
+              (sym answers.ends.streams))
+              behind;
+        }
+
+  put-of : (why : Break) (put all : List ℕ)
+      → IsPut (look_rules node.tag) (begun None) Ran Halted why put text all → (rest : List ℕ) × (put ++ rest ≡ all)
+  put-of FailedBreak put all is = (text, is)
+  put-of WriteBreak put all is = is
+  put-of NoMemoryBreak put all is = is
+
+  -- one that was broken off
+  pub looks-early : (why : Break) (failed : Type 0) (refusal : SinkRefusal)
+      → BrokeOff (look_rules node.tag) (begun None) Ran Halted left later taken put_then text why session
+      → Looks node (record { left = left; later = later; taken = taken; after = put_then }) failed
+      (status_of_refusal refusal)
+  looks-early why failed refusal broke =
+      let is = broke.breaks in
+      let put = put-of why broke.put is.stream.text is.put_is in
+      let none =
+      none-put broke.put put.0 (put.1 ∙ front-silent node.tag (begun None) is.front is.stream is.runs) in
+      let wrote = subst (Wrote taken put_then) none broke.wrote in
+      let output = look_output node broke.bytes broke.ended in
+      record {
+        bytes = broke.bytes;
+        ended = broke.ended;
+        gave = broke.gave;
+        ends =
+            ends-stopped refusal output taken put_then failed
+            (record {
+              front = record { front = []; back = output.answers ++ output.last; whole = refl; wrote = wrote };
+              fault = λ is. inr (record { front = []; back = output.answers; whole = refl; wrote = wrote });
+            });
+      }
+
+-- ---- what is said where lines ended so
+
+pub complete-is : (ending : Ending (List ℕ)) → is_complete ending ≡ true → ending ≡ Complete
+complete-is Complete is = refl
+complete-is (BadLine n) is = absurd (cc)
+complete-is ReadFault is = absurd (cc)
+complete-is (TooLong n) is = absurd (cc)
+complete-is (Ended n cause) is = absurd (cc)
+
+module _ (node : Node) (run : LookState) where
+  -- the text of the output
+  abbrev text_of : Ending (List ℕ) → List ℕ
+  text_of ending = (ended_output node run ending).answers ++ (ended_output node run ending).last
+
+  pub text-complete : (ending : Ending (List ℕ)) → is_complete ending ≡ true
+      → (whole_output node run).answers ≡ text_of ending
+  text-complete Complete is = sym (append-nil (whole_output node run).answers)
+  text-complete (BadLine n) is = absurd (cc)
+  text-complete ReadFault is = absurd (cc)
+  text-complete (TooLong n) is = absurd (cc)
+  text-complete (Ended n cause) is = absurd (cc)
+
+  pub status-complete : (ending : Ending (List ℕ)) → is_complete ending ≡ true
+      → (ended_output node run ending).status ≡ (whole_output node run).status
+  status-complete Complete is = refl
+  status-complete (BadLine n) is = absurd (cc)
+  status-complete ReadFault is = absurd (cc)
+  status-complete (TooLong n) is = absurd (cc)
+  status-complete (Ended n cause) is = absurd (cc)
+
+  pub text-other : (ending : Ending (List ℕ)) → is_complete ending ≡ false → last_text ending ≡ text_of ending
+  text-other Complete is = absurd (cc)
+  text-other (BadLine n) is = refl
+  text-other ReadFault is = refl
+  text-other (TooLong n) is = refl
+  text-other (Ended n cause) is = refl
+
+  pub status-other : (ending : Ending (List ℕ)) → is_complete ending ≡ false
+      → (ended_output node run ending).status ≡ status_of ending
+  status-other Complete is = absurd (cc)
+  status-other (BadLine n) is = refl
+  status-other ReadFault is = refl
+  status-other (TooLong n) is = refl
+  status-other (Ended n cause) is = refl
+
+  -- the status of cases
+  pub status-said : (good : Bool)
+      → good ≡ list_all (is_case_good (calls_of run.log) node.account
+      (unwrap_or run.node (now (calls_of run.log)))) (node.cases (calls_of run.log))
+      → (whole_output node run).status ≡ (if good then Done else Refused)
+  status-said good is = ap (λ b. if b then Done else Refused) (sym is)

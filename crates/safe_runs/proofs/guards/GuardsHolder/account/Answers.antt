@@ -1,0 +1,6 @@
+use Rattle.std.proofs.Common.{sym, ap, ◌∙◌}
+use Rattle.safe_runs.specs.Runs.{Node}
+use Rattle.safe_runs.proofs.guards.GuardsHolder.account.Goals as goal
+
+pub returns : goal.returns
+returns c node is = is.2.is_account ∙ ap (λ (n : Node). n.account) (sym is.3)

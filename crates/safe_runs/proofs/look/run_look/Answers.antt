@@ -1,0 +1,32 @@
+use Rattle.std.proofs.Common.{◌∙◌}
+use Rattle.plasma_outside.specs.declared.sink.SinkRefusal.TheVariants.{Failed, NoMemory}
+use Rattle.streamed_lines.specs.Outside.{ReadsToFault}
+use Rattle.safe_runs.proofs.Looking.{lines-of, broken-of, ran-whole, looks-whole, looks-early}
+use Rattle.safe_runs.proofs.look.run_look.Goals as goal
+
+pub returns-in-Ok-clause-looks : goal.returns-in-Ok-clause-looks
+returns-in-Ok-clause-looks g c = λ at is.
+    let answers =
+    lines-of at _ _ _ _ _ _ _ _ c.new-session.result.tag c.in-Ok.ending
+    (c.new-session.ensures.tag ∙ c.tag.ensures at is) c.in-Ok.ensures.answered in
+    looks-whole at _ _ _ _ _ _ _ _ c.in-Ok.ending
+    (ReadsToFault (g.S.Source.faults c.args.source.now) (g.S.Source.faults c.answer_lines.new.source)
+    (g.S.Source.failed_last c.answer_lines.new.source))
+    answers c.in-Ok.ensures.reads _ _
+    (c.put_ended.ensures.ends at answers.ends.stream.run is
+    (ran-whole at _ _ _ _ _ _ _ _ c.in-Ok.ending
+    (ReadsToFault (g.S.Source.faults c.args.source.now) (g.S.Source.faults c.answer_lines.new.source)
+    (g.S.Source.failed_last c.answer_lines.new.source))
+    answers c.in-Ok.ensures.reads))
+
+pub returns-in-Err-WriteFault-clause-looks : goal.returns-in-Err-WriteFault-clause-looks
+returns-in-Err-WriteFault-clause-looks g c = λ at is.
+    looks-early at _ _ _ _ _ _ _ _ _ _ Failed
+    (broken-of at _ _ _ _ _ _ _ _ c.new-session.result.tag _ (c.new-session.ensures.tag ∙ c.tag.ensures at is)
+    c.in-Err-WriteFault.ensures.broken)
+
+pub returns-clause-looks : goal.returns-clause-looks
+returns-clause-looks g c = λ at is.
+    looks-early at _ _ _ _ _ _ _ _ _ _ NoMemory
+    (broken-of at _ _ _ _ _ _ _ _ c.new-session.result.tag _ (c.new-session.ensures.tag ∙ c.tag.ensures at is)
+    c.in-Err.ensures.broken)

@@ -1,0 +1,5 @@
+pub mod Cases
+pub mod Answers
+pub mod Sessions
+pub mod Runs
+pub mod Inside

@@ -1,0 +1,178 @@
+ghost use Rattle.std.specs.Prelude.{◌≡◌, ◌++◌, true, false, List, ℕ, IfOk, OnOk};
+ghost use Rattle.plasma_base.specs.Causes.{faults_after};
+ghost use Rattle.gate_journal.specs.declared.refusal.JournalRefusal.{JournalRefusal};
+ghost use Rattle.streamed_lines.specs.Outside.{ReadsToFault};
+ghost use Rattle.streamed_lines.specs.declared.ending.Ending.{Ending};
+ghost use Rattle.run_endings.specs.Statuses.{is_write_fault};
+ghost use Rattle.run_endings.specs.Outputs.{EndsAs};
+ghost use Rattle.safe_runs.specs.Sessions.{LookState};
+ghost use Rattle.safe_runs.specs.Inside.{is_complete};
+ghost use Rattle.safe_runs.specs.Runs.{Node, Looks, ended_output, refused_output, whole_output};
+
+use super::node::Holder;
+use super::saying::Look;
+use super::session::LookSession;
+use gate_journal::JournalRefusal;
+use plasma_base::{Bytes, NoMemory};
+use plasma_outside::{Sink, Source};
+use run_endings::{Status, push_last, push_not_journal, put_line, status_of};
+use std::alloc::Global;
+use streamed_lines::{Answerer, Break, Ending, answer_lines, put_text};
+
+/// Reads a log of a node's chain and the time behind it, and says of each of its coins how it stands.
+pub fn run_look<N: Holder, S: Source, K: Sink>(
+    alloc: Global,
+    node: &N,
+    source: &mut S,
+    sink: &mut K,
+) -> Status
+    requires { N.sound node.now }
+    ensures looks { (at : Node) → N.is node.now at → Looks at
+        (record {
+          left = S.left source.old;
+          later = S.left source.new;
+          taken = K.taken sink.old;
+          after = K.taken sink.new;
+        })
+        (ReadsToFault (S.faults source.old) (S.faults source.new) (S.failed_last source.new) true) result }
+    ensures sink_faults { K.faults sink.new ≡ faults_after (K.faults sink.old) (is_write_fault result) }
+{
+    let mut session = LookSession::new(alloc, node.tag());
+    let mut text = Vec::new(alloc);
+    match answer_lines(alloc, &mut session, source, sink, &mut text) {
+        Ok(ending) => put_ended(alloc, node, session, &ending, sink, &mut text),
+        Err(Break::WriteFault) => Status::WriteFault,
+        Err(_) => Status::NoMemory,
+    }
+}
+
+// Puts what is said where lines ended so, behind a text.
+fn put_ended<N: Holder, K: Sink>(
+    alloc: Global,
+    node: &N,
+    session: LookSession,
+    ending: &Ending<Bytes>,
+    sink: &mut K,
+    text: &mut Vec<u8>,
+) -> Status
+    requires { N.sound node.now }
+    ensures ends { (at : Node) (run : LookState) → N.is node.now at
+        → (ending.now ≡ Ending.Complete → ⟦<LookSession as Answerer>⟧.ran session run)
+        → EndsAs (record {
+          status = (ended_output at run ending.now).status;
+          answers = text.old.items ++ (ended_output at run ending.now).answers;
+          last = (ended_output at run ending.now).last;
+        }) result (K.taken sink.old) (K.taken sink.new) (Unit {0}) }
+    ensures sink_faults { K.faults sink.new ≡ faults_after (K.faults sink.old) (is_write_fault result) }
+{
+    match end_text(alloc, node, session, ending, text) {
+        Ok(status) => put_whole(sink, text, status),
+        Err(NoMemory) => Status::NoMemory,
+    }
+}
+
+// Puts the gathered text, with which a run ends that has this status.
+fn put_whole<K: Sink>(sink: &mut K, text: &mut Vec<u8>, status: Status) -> Status
+    requires no_write_fault { is_write_fault status ≡ false }
+    ensures ends { (answers last : List ℕ) → text.old.items ≡ answers ++ last → EndsAs
+        (record { status = status; answers = answers; last = last }) result (K.taken sink.old) (K.taken sink.new)
+        (Unit {0}) }
+    ensures sink_faults { K.faults sink.new ≡ faults_after (K.faults sink.old) (is_write_fault result) }
+{
+    match put_text(sink, text) {
+        Ok(()) => status,
+        Err(refusal) => Status::of_refusal(refusal),
+    }
+}
+
+// Whether the lines were read to the end of the input.
+fn is_complete(ending: &Ending<Bytes>) -> bool
+    ensures { result ≡ is_complete ending.now }
+{
+    match ending {
+        Ending::Complete => true,
+        Ending::BadLine { .. } => false,
+        Ending::ReadFault => false,
+        Ending::TooLong { .. } => false,
+        Ending::Ended { .. } => false,
+    }
+}
+
+// Puts what is said where lines ended so behind a text, and answers the status.
+fn end_text<N: Holder>(
+    alloc: Global,
+    node: &N,
+    session: LookSession,
+    ending: &Ending<Bytes>,
+    text: &mut Vec<u8>,
+) -> Result<Status, NoMemory>
+    requires { N.sound node.now }
+    ensures said { (at : Node) (run : LookState) → N.is node.now at
+        → (ending.now ≡ Ending.Complete → ⟦<LookSession as Answerer>⟧.ran session run)
+        → OnOk result (text.new.items ≡ text.old.items
+        ++ ((ended_output at run ending.now).answers ++ (ended_output at run ending.now).last)) }
+    ensures status { (at : Node) (run : LookState) → N.is node.now at
+        → (ending.now ≡ Ending.Complete → ⟦<LookSession as Answerer>⟧.ran session run)
+        → IfOk result (λ status. (ended_output at run ending.now).status ≡ status) }
+    ensures no_write_fault { IfOk result (λ status. is_write_fault status ≡ false) }
+{
+    if is_complete(ending) {
+        return say_all(alloc, node, session, text);
+    }
+    push_last(text, ending)?;
+    Ok(status_of(ending))
+}
+
+// Says of each coin of a node how it stands, behind a log that was read to its end.
+fn say_all<N: Holder>(
+    alloc: Global,
+    node: &N,
+    session: LookSession,
+    text: &mut Vec<u8>,
+) -> Result<Status, NoMemory>
+    requires { N.sound node.now }
+    ensures said { (at : Node) (run : LookState) → N.is node.now at
+        → ⟦<LookSession as Answerer>⟧.ran session run
+        → OnOk result (text.new.items ≡ text.old.items ++ (whole_output at run).answers) }
+    ensures status { (at : Node) (run : LookState) → N.is node.now at
+        → ⟦<LookSession as Answerer>⟧.ran session run
+        → IfOk result (λ status. (whole_output at run).status ≡ status) }
+    ensures no_write_fault { IfOk result (λ status. is_write_fault status ≡ false) }
+{
+    let (log, clock) = session.take();
+    let cases = node.cases(alloc, &log)?;
+    let look = Look {
+        log: &log,
+        account: node.account(),
+        clock,
+    };
+    if look.say(alloc, &cases, text)? {
+        return Ok(Status::Done);
+    }
+    Ok(Status::Refused)
+}
+
+// Puts that a disk keeps no records of the role, with the place of the first gate that is wrong.
+fn put_not_journal<K: Sink>(alloc: Global, sink: &mut K, place: u64) -> Status
+    ensures ends { EndsAs (refused_output (JournalRefusal.NotJournal place)) result
+        (K.taken sink.old) (K.taken sink.new) ⊥ }
+    ensures sink_faults { K.faults sink.new ≡ faults_after (K.faults sink.old) (is_write_fault result) }
+{
+    let mut text = Vec::new(alloc);
+    match push_not_journal(&mut text, place) {
+        Ok(()) => put_line(sink, &text, Status::NotJournal),
+        Err(_) => Status::NoMemory,
+    }
+}
+
+/// Ends a run whose disks weren't read or spell no node, and says why; for want of memory it says nothing.
+pub fn put_refusal<K: Sink>(alloc: Global, sink: &mut K, why: JournalRefusal) -> Status
+    ensures ends { EndsAs (refused_output why) result (K.taken sink.old) (K.taken sink.new) ⊥ }
+    ensures sink_faults { K.faults sink.new ≡ faults_after (K.faults sink.old) (is_write_fault result) }
+{
+    match why {
+        JournalRefusal::NotJournal { place } => put_not_journal(alloc, sink, place),
+        JournalRefusal::DeviceFault => put_line(sink, b"device fault\n", Status::DeviceFault),
+        _ => Status::NoMemory,
+    }
+}
