@@ -82,17 +82,56 @@ pub fn run_with<H: Hash32, S: Source, K: Sink, D: Disk>(
     ensures leaves { OnlyLooks D.told leaves result.leaves }
     ensures sink_faults { K.faults sink.new ≡ faults_after (K.faults sink.old) (is_write_fault result.status) }
 {
-    let mut notes = notes;
-    let mut leaves = leaves;
-    let status = match role_of(words) {
-        None => put_line(sink, USAGE, Status::Usage),
-        Some(Role::Watcher) => run_watcher(alloc, h, source, sink, &mut notes),
-        Some(Role::Wallet) => run_wallet(alloc, h, source, sink, &mut notes, &mut leaves),
-    };
-    Ended {
-        status,
-        notes,
-        leaves,
+    run_role(alloc, h, role_of(words), source, sink, notes, leaves)
+}
+
+// Runs over the disks of a role, or says that the words are no form.
+fn run_role<H: Hash32, S: Source, K: Sink, D: Disk>(
+    alloc: Global,
+    h: &H,
+    role: Option<Role>,
+    source: &mut S,
+    sink: &mut K,
+    notes: D,
+    leaves: D,
+) -> Ended<D>
+    ensures runs { RunsSafe D.told (H.digest_of h.now) role notes leaves
+        (record {
+          left = S.left source.old;
+          later = S.left source.new;
+          taken = K.taken sink.old;
+          after = K.taken sink.new;
+        })
+        (ReadsToFault (S.faults source.old) (S.faults source.new) (S.failed_last source.new) true) result.status }
+    ensures notes { OnlyLooks D.told notes result.notes }
+    ensures leaves { OnlyLooks D.told leaves result.leaves }
+    ensures sink_faults { K.faults sink.new ≡ faults_after (K.faults sink.old) (is_write_fault result.status) }
+{
+    match role {
+        None => Ended {
+            status: put_line(sink, USAGE, Status::Usage),
+            notes,
+            leaves,
+        },
+        Some(Role::Watcher) => {
+            let mut notes = notes;
+            let status = run_watcher(alloc, h, source, sink, &mut notes);
+            Ended {
+                status,
+                notes,
+                leaves,
+            }
+        }
+        Some(Role::Wallet) => {
+            let mut notes = notes;
+            let mut leaves = leaves;
+            let status = run_wallet(alloc, h, source, sink, &mut notes, &mut leaves);
+            Ended {
+                status,
+                notes,
+                leaves,
+            }
+        }
     }
 }
 
