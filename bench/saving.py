@@ -2,12 +2,19 @@
 
 The attack is a schedule. Of it are left out the lines by which a wallet or a watcher would help itself: their looks,
 their offers, their exits and the calls of their accounts. Behind each call that joins the log each of them asks `safe`,
-and enters what it says, in its order. The contract is a replay of the log: it says which calls are accepted.
+and enters what it says, in its order: a call at the contract, `release` and `reclaim` at the node itself, where a wallet
+takes a transfer back with what the operator shows it. The contract is a replay of the log: it says which calls are
+accepted.
+
+A wallet first asks the attack's operator for each committed block behind its coin's deposit, and an archive whether
+these openings are a whole history. Where they aren't it tells `safe` so, by a line `hidden <coin>`. So an attack hides
+a block by what its schedule has: a leaf that is laid without a right to the coin, which no wallet takes; or a `commit`
+by hand of a root of which the operator has no tree.
 """
 import os
 import subprocess
 
-from answered import node_of
+from answered import OPERATOR, node_of
 from played import Played
 from rootlog import Log
 
@@ -23,7 +30,8 @@ class Saved(Played):
 
     def __init__(self, program, safe, schedule, grammar, room):
         super().__init__(program, schedule, grammar, room)
-        self.safe, self.said = safe, {}
+        self.safe, self.said, self.shown = safe, {}, {}
+        self.takes_hidden = True
 
     def holders(self):
         return [name for name, role in self.roles.items() if role in ("wallet", "watcher")]
@@ -94,9 +102,14 @@ class Saved(Played):
 
     def ask(self, name):
         """What `safe` says: its words are kept, and the lines to enter are given."""
-        done = subprocess.run([self.safe, self.roles[name]], cwd=self.folder(name), input=f"{self.text()}--\n".encode(),
+        hidden = [f"hidden {coin}" for coin in self.hidden(name)] if self.takes_hidden else []
+        text = "".join(f"{line}\n" for line in ["--", *hidden])
+        done = subprocess.run([self.safe, self.roles[name]], cwd=self.folder(name), input=(self.text() + text).encode(),
                               stdout=subprocess.PIPE, check=False)
         lines = done.stdout.decode().splitlines()
+        if hidden and done.returncode not in (0, 1):
+            self.takes_hidden = False  # (a program from before there were these lines)
+            return self.ask(name)
         self.said[name] = [line for line in lines if line[:1].isdigit()]
         if done.returncode not in (0, 1):
             raise RuntimeError(f"{name}: status {done.returncode}, {lines}")
@@ -106,8 +119,44 @@ class Saved(Played):
         """Does what a line says: a call is entered, a command is given to the node."""
         if line.startswith("call "):
             return self.enters(line)
+        if line.startswith("reclaim "):
+            return self.takes_back(name, *line.split(" ")[1:3])
+        return self.given(name, line)
+
+    def given(self, name, line):
+        """Gives a node a command, and says whether it was done."""
         answer = self.typed(name, [self.roles[name]], f"{self.text()}--\n{line}\n")
         return bool(answer) and not answer[0].startswith(("refused", "bad"))
+
+    def takes_back(self, name, coin, last):
+        """Takes a transfer back with what the operator shows of the blocks behind the coin's tip, up to the last."""
+        state = self.typed(name, ["wallet"], f"{self.text()}--\nstate {coin}\n")[0].split(" ")
+        shown = self.typed(OPERATOR, ["operator"], f"{self.text()}--\nabsences {coin} {state[1]} {last}\n")
+        return len(shown) == 2 and self.given(name, f"reclaim {shown[1]}")
+
+    # ---- what the operator shows
+
+    def hidden(self, name):
+        """The coins of a wallet, those that it was told of last, of which the operator doesn't show it each block."""
+        if self.roles[name] != "wallet":
+            return []
+        return [coin for coin in dict.fromkeys(line.split(" ")[0] for line in self.said.get(name, []))
+                if not self.shows(int(coin))]
+
+    def shows(self, coin):
+        """The operator opens each committed block behind the coin's deposit, and an archive finds them a whole history.
+        """
+        log = Log(self.text())
+        if coin not in log.coins:
+            return True
+        blocks = sorted(block for block in log.committed if block > log.coins[coin].block)
+        if (coin, log.blocks) not in self.shown:
+            asked = "".join(f"prove {coin} {block}\n" for block in blocks)
+            openings = self.typed(OPERATOR, ["operator"], f"{self.text()}--\n{asked}")[1::2]
+            put = "".join(f"put {coin} {block} {it}\n" for block, it in zip(blocks, openings))
+            kept = self.typed(OPERATOR, ["archive"], f"{self.text()}--\n{put}broken {coin}\n")
+            self.shown[coin, log.blocks] = len(openings) == len(blocks) and kept[-1] == "whole"
+        return self.shown[coin, log.blocks]
 
 
 def outcome(saved, log):
