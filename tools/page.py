@@ -2,6 +2,7 @@
 import re
 from html import escape
 
+from looked import COLORS
 from picture import VERDICTS, exhibit_of, passed, short
 from plainly import said, why
 from sentences import CALLS
@@ -31,7 +32,7 @@ td{display:block;border:0;padding:0 .5rem .1rem 0}td[data-of]::before{content:at
 .picture svg{max-width:100%;height:auto;max-height:25cm}
 .table{break-before:page}}
 """
-TONES = {"green": "good", "amber": "warn", "red": "bad", "grey": "soft"}
+TONES = {"green": "good", "amber": "warn", "red": "bad", "grey": "soft", "blue": "soft"}
 
 
 def page(title, story, svg, reason="", sentences=(), purse=()):
@@ -49,7 +50,7 @@ def page(title, story, svg, reason="", sentences=(), purse=()):
         '<div class="picture" tabindex="0" role="region" aria-label="the picture">',
         heads(story, svg), f"{svg}</div>",
         '<div class="table"><h2>Line by line</h2>\n<table><thead><tr><th>line</th><th>schedule</th><th>answer</th>'
-        "<th>in words</th></tr></thead>\n<tbody>",
+        f"<th>in words</th>{'<th>safe says</th>' if story.looks else ''}</tr></thead>\n<tbody>",
         *rows(story),
         "</tbody></table></div>\n</body>\n</html>",
     ]
@@ -92,14 +93,23 @@ def rows(story):
     for line in story.lines:
         row = of_line.get(line.number)
         if row and row.kind == "time":
-            yield f'<tr><td class="time" colspan="4">{escape(row.label)}</td></tr>'
+            yield f'<tr><td class="time" colspan="{5 if story.looks else 4}">{escape(row.label)}</td></tr>'
         tone = ' class="bad"' if row and row.bad and row.lines[-1] is line else ""
         yield (
             f'<tr{tone}><td data-of="line">{line.number}</td>'
             f'<td data-of="schedule"><code>{escape(short(line.text, 200))}</code></td>'
             f'<td data-of="answer"><code>{escape(" ".join(line.answer))}</code></td>'
-            f'<td class="words">{escape(words_of(line, row, story))}</td></tr>'
+            f'<td class="words">{escape(words_of(line, row, story))}</td>{looks_of(line, story)}</tr>'
         )
+
+
+def looks_of(line, story):
+    """The cell of what `safe` says anew behind a line; none where it was never asked."""
+    if not story.looks:
+        return ""
+    said = (f"{escape(whose)}: <b class=\"{TONES[COLORS.get(it.word, 'grey')]}\">{escape(it.words())}</b>"
+            for whose, it in story.looks_at(line))
+    return f'<td data-of="safe says">{"<br>".join(said)}</td>'
 
 
 def words_of(line, row, story):

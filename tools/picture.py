@@ -4,13 +4,14 @@ right.
 Beside the root contract stands a bar for each exit, and behind these one for each coin.
 """
 from drawing import Drawing, width_of
+from looked import COLORS
 from plainly import day_of, span_of
 from told import CHAIN, Row
 
 LEFT, LANE, ROW, HEAD, BARS, COLUMN = 132, 124, 40, 116, 52, 13
 MOST_ALIKE, MOST_ROWS, MOST_COINS, WIDE_COINS = 4, 1500, 40, 8
-# So many lines are told of rows that are drawn as one.
-MOST_TOLD = 300
+# So many lines are told of rows that are drawn as one; and so many words of `safe` on a lane.
+MOST_TOLD, MOST_SAID = 300, 3
 VERDICTS = {"held": "green", "paid": "green", "away": "grey", "unattended": "amber", "lost": "red"}
 LEGEND = {"held": "a wallet holds it", "risk": "at risk: a stranger's exit stands", "leaves": "on its way out",
           "other": "no wallet has it"}
@@ -70,13 +71,14 @@ def passed(row):
     return f"{span} pass{'es' if span in ('1 day', '½ day', '1 s') else ''}" if row.passed else ""
 
 
-def spoken(row, lanes):
-    """A row as a sentence."""
+def spoken(row, story):
+    """A row as a sentence, and what `safe` says then."""
     first, last = row.numbers
     lines = f"Line {first}" if first == last else f"Lines {first} to {last}"
-    who = [lanes[key].name for key in (row.source if row.kind != "look" else "", row.target) if key]
+    who = [story.lanes[key].name for key in (row.source if row.kind != "look" else "", row.target) if key]
     said = [" to ".join(who), row.label, row.answer or passed(row)]
-    return f"{lines}: {': '.join(filter(None, said))}."
+    looks = [f"{whose}: {it.words()}" for line in row.lines for whose, it in story.looks_at(line)]
+    return f"{lines}: {': '.join(filter(None, said))}." + (f" safe says to {'; '.join(looks)}." if looks else "")
 
 
 class Picture:
@@ -146,7 +148,7 @@ class Picture:
         actors = [f"{it.name}{', ' + it.kind if it.kind else ''}" for it in self.story.lanes.values()]
         verdicts = [f"{words[0].capitalize()}, coin {words[1]}: {' '.join(words[2:])}." for words in self.run.verdicts]
         end = f"At the end: {exhibit_of(self.run.last)}."
-        rows = [spoken(row, self.story.lanes) for row in self.rows]
+        rows = [spoken(row, self.story) for row in self.rows]
         return " ".join([f"Actors: {'; '.join(actors)}.", *rows, *verdicts, end])
 
     # ---- what stands above and behind the rows
@@ -272,7 +274,22 @@ class Picture:
         color = "amber" if named else "red" if row.bad else "ink"
         self.draw.text(self.answers_left, y + 3, row.answer or passed(row), color, more="bold" if named else "")
         self.draw.text(self.answers_left, y + 16, self.typed(row), "soft", 9.5, more="mono")
+        self.looks(y, row)
         self.draw.end()
+
+    def looks(self, y, row):
+        """Below the row, on the lanes of holders: each new word of `safe`, with its coin where there are several."""
+        found = {}
+        for line in row.lines if row.kind != "gap" else []:
+            for _, it in self.story.looks_at(line):
+                found.setdefault(it.node, []).append((f"{it.coin} {it.word}" if self.story.many else it.word, it.word))
+        for node, looks in found.items():
+            x = self.x(node) + 7
+            for place, (words, word) in enumerate(looks[:MOST_SAID]):
+                more = ".." if place + 1 == MOST_SAID < len(looks) else ""
+                self.draw.text(x, y + 14, words + more, COLORS.get(word, "soft"), 9.5, "start", "halo")
+                x += width_of(words, 9.5) + 6
+            self.legend["said"] = "what safe says to the holder"
 
     def ahead(self, row):
         return [f"{day_of(time)}: {what}" for time, what in row.ahead]
@@ -384,11 +401,13 @@ class Picture:
         x = 12
         colors = {**STATES, "down": "", "exit": "blue", "hostile": "red",
                   "closed": "pale-blue" if all(it.own for it in self.story.exits) else "pale-red",
-                  "challenge": "violet"}
+                  "challenge": "violet", "said": ""}
         for kind in filter(self.legend.get, colors):
             words = self.legend[kind]
             if kind == "down":
                 self.draw.line(x, y - 4, x + 20, y - 4, "soft", 2, ' stroke-dasharray="2 5"')
+            elif kind == "said":
+                self.draw.text(x + 2, y - 1, "act", COLORS["act"], 9.5)
             else:
                 self.draw.box(x, y - 9, 20, 9, colors[kind])
             self.draw.text(x + 26, y, words, "soft", 11)

@@ -76,10 +76,10 @@ class Exit:
 
 
 class Story:
-    """The rows of a run, made line by line."""
+    """The rows of a run, made line by line; with what `safe` says to its holders, where that is known (looked.py)."""
 
-    def __init__(self, run, names=None):
-        self.names = names or {}
+    def __init__(self, run, names=None, looks=None):
+        self.names, self.looks = names or {}, looks or {}
         self.run, self.lines, self.lanes, self.rows, self.exits = run, run.lines, {}, [], []
         self.clock, self.offers, self.held, self.guarded, self.down = 0, {}, {}, {}, set()
         self.coins, self.changed, self.paid, self.makers, self.told = {}, [], set(), {}, set()
@@ -130,6 +130,12 @@ class Story:
         elif account == self.operator and OPERATOR not in self.lanes:
             self.lanes[OPERATOR] = Lane("Operator", "")
         return self.by_account[account]
+
+    def looks_at(self, line):
+        """What `safe` says anew behind a line: of whom and of which coin, and the look."""
+        for it in self.looks.get(line.number, []):
+            if it.node in self.lanes:
+                yield self.lanes[it.node].name + self.of_coin(it.coin), it
 
     def name_of(self, account):
         key = self.by_account.get(account)

@@ -1,4 +1,5 @@
 """A run told as a text, for a terminal: who did what, what it was answered, what each has then, and what is ahead."""
+from looked import COLORS
 from picture import MOST_ALIKE, exhibit_of, passed
 from plainly import day_of, span_of, why
 
@@ -73,6 +74,7 @@ class Trace:
         label = self.padded(row.label, 26, *paints)
         number = self.paint(f"{number:>9}", "soft")
         yield f"{number}  {who}  {label}  {self.paint(answer, *paints)}{self.paid(row)}".rstrip()
+        yield from self.looks(row)
         yield from self.next(row)
 
     def time(self, row, number):
@@ -80,7 +82,15 @@ class Trace:
         rule = "─" * max(4, min(self.width, 100) - len(what) - len(row.label) - 18)
         yield f"{self.paint(f'{number:>9}', 'soft')}  {self.paint('── ' + row.label, 'bold')} " \
               f"{self.paint(what, 'soft')} {self.paint(rule, 'soft')}"
+        yield from self.looks(row)
         yield from self.next(row)
+
+    def looks(self, row):
+        """What `safe` says anew to the holders."""
+        said = [f"{whose}: {self.paint(it.words(), 'soft' if color == 'grey' else color)}" for line in row.lines
+                for whose, it in self.story.looks_at(line) for color in [COLORS.get(it.word, "grey")]]
+        if said:
+            yield f"{'':>9}  safe says to " + "; ".join(said)
 
     def paid(self, row):
         """What the accounts have after it, where it moved money."""
