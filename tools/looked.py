@@ -36,9 +36,10 @@ class Look:
         return f"act by {day_of(int(by) + 1)}" + (f", {int(missing):,} missing" if missing != "0" else "")
 
 
-def said(played, safe):
+def said(played, safe, clocks=()):
     """Plays a schedule, and gives a line for each coin of which something else is said: the line's number, the node,
-    and `safe`'s line, with the beginnings of what is to be entered."""
+    and `safe`'s line, with the beginnings of what is to be entered. The clocks are pairs of a line's number and a time
+    by which each holder asks behind it too."""
     last = {}
     for line, nodes in played.steps():
         for node in nodes:
@@ -47,11 +48,16 @@ def said(played, safe):
                 if last.get(node, [])[place : place + 1] != [text]:
                     yield f"{line.number} {node}: {text}"
             last[node] = now
+        for clock in (clock for number, clock in clocks if number == line.number):
+            for node in last:
+                yield from (f"{line.number} {node} at {clock}: {text}" for text in asked(played, safe, node, clock))
 
 
-def asked(played, safe, node):
-    """What `safe` says of each coin of the node, with the beginnings of what is to be entered."""
-    done = subprocess.run([safe, played.roles[node]], cwd=played.folder(node), input=f"{played.text()}--\n".encode(),
+def asked(played, safe, node, clock=None):
+    """What `safe` says of each coin of the node, with the beginnings of what is to be entered; by another clock than
+    the log's, where one is given."""
+    text = f"{played.text()}--\n" + ("" if clock is None else f"{clock}\n")
+    done = subprocess.run([safe, played.roles[node]], cwd=played.folder(node), input=text.encode(),
                           stdout=subprocess.PIPE, check=False)
     if done.returncode > 1:
         return [f"status {done.returncode}"]

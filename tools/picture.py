@@ -138,6 +138,7 @@ class Picture:
         self.coin_bars()
         for place, row in enumerate(self.rows):
             self.row(place, row)
+        width = max(width, 12 + sum(44 + round(width_of(words, 11)) for words in self.legend.values()))
         y = self.foot(verdicts, self.bottom + 20 * below + 16)
         y = self.set_up(y + 26, width)
         self.draw_legend(y + 22)
