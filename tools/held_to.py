@@ -11,6 +11,7 @@ Behind each line, and for each node that it changed:
 
 Of the proved program likewise: what is `safe` is held, has no offer, and is paid to nobody else; what is `gone` isn't
 held; and each offered call is among its calls, unless a call for nothing takes its place, or the coin was signed away.
+A guard may be `safe` while an exit spends its very tip: whoever has the coin next exits with it.
 
 At the end the words fit the verdicts of the replay. A line that left the log and a node's files as they were isn't
 looked at again.
@@ -116,8 +117,12 @@ class Held:
         for it, (_, words, _) in zip(verdicts, told or [(None, [""], None)] * len(verdicts)):
             mine = [one for one, answer in zip(standing, finished) if answer == "paid" and one.coin == it.coin]
             other = [one for one in mine if one.block != it.tip]
-            if words[0] == "safe" and other:
+            if words[0] == "safe" and any(one.parent != it.tip for one in other):
                 yield f"coin {it.coin} is safe, and account {other[0].account} is paid for it"
+            elif words[0] == "safe" and other and node.role == "wallet":
+                yield f"coin {it.coin} is safe, and account {other[0].account}, by a spend of it, is paid for it"
+            elif words[0] == "safe" and other:
+                self.counts["proved safe of a guard, and its coin's next owner exits"] += 1
             if it.word == "SAFE" and other:
                 yield f"coin {it.coin} is SAFE, and account {other[0].account} is paid for it"
             if it.word == "TOO LATE" and not other and not it.due and "challenge of your exit" not in str(it.notes):

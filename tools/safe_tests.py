@@ -12,6 +12,7 @@ import unittest
 from grammar import Grammar
 from held_to import Held
 from played import Made, Played
+from proved import Safe
 from testing import HERE, Program, script
 
 EXAMPLES = f"{HERE}/../examples"
@@ -57,9 +58,13 @@ class Safety(unittest.TestCase):
         cls.addClassCleanup(cls.unpacked.__exit__)
         if not cls.program:
             raise unittest.SkipTest("no proved program is here")
+        cls.safes = Safe()
+        cls.proved = cls.safes.__enter__()
+        cls.addClassCleanup(cls.safes.__exit__)
 
-    def held(self, counts=None):
-        return Held(script("safe"), self.program, Grammar(), collections.Counter() if counts is None else counts)
+    def held(self, counts=None, proved=None):
+        counts = collections.Counter() if counts is None else counts
+        return Held(script("safe"), self.program, Grammar(), counts, proved or self.proved)
 
     def test_over_the_logs_of_the_examples(self):
         counts = collections.Counter()
@@ -81,11 +86,26 @@ class Safety(unittest.TestCase):
         finally:
             judge.is_paid = was
 
+    def test_a_wrong_word_of_the_proved_program_is_found(self):
+        if not self.proved:
+            self.skipTest("no proved program safe is here")
+        with tempfile.TemporaryDirectory() as room:
+            for change, part in (("s/ act .*/ safe 604799/", "is safe, with 1 offers"),
+                                 ("s/ act .*/ safe 604799/", "is safe, and account 21 is paid for it"),
+                                 ("s/ safe .*/ gone 21 6/", "is gone, and held 2"), ("/^call/d", "is offered, and not said"),
+                                 ("s/ late .*/ gone 21 6/", "by the proved program")):
+                with open(f"{room}/wrong", "w", encoding="utf-8") as file:
+                    file.write(f"#!/bin/sh\n{self.proved} \"$@\" | sed '{change}'\n")
+                os.chmod(f"{room}/wrong", 0o700)
+                misses = self.held(None, f"{room}/wrong").misses("theft", THEFT + LATE)
+                self.assertIn(part, " ".join(misses))
+
 
 class Typed(Safety):
     """What a person types, and reads."""
 
     test_over_the_logs_of_the_examples = test_over_random_logs = test_a_wrong_word_is_found = None
+    test_a_wrong_word_of_the_proved_program_is_found = None
 
     def setUp(self):
         room = tempfile.TemporaryDirectory()
