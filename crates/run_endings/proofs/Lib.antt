@@ -1,2 +1,3 @@
 pub mod EndingLaws
 pub mod PromptLaws
+pub mod PutLaws

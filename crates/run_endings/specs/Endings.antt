@@ -1,5 +1,5 @@
 -- What a run writes behind the lines that it answered, and its status.
-use Rattle.std.specs.Prelude.{ℕ, List, []}
+use Rattle.std.specs.Prelude.{ℕ, Bool, true, false, List, []}
 use Rattle.streamed_lines.specs.declared.ending.Ending.{Ending}
 use Rattle.streamed_lines.specs.declared.ending.Ending.TheVariants.{Complete, BadLine, ReadFault, TooLong, Ended}
 use Rattle.streamed_lines.specs.Streams.{Streamed}
@@ -23,6 +23,14 @@ last_text (BadLine n) = bad_line_text n
 last_text ReadFault = read_fault_text
 last_text (TooLong n) = too_long_text n
 last_text (Ended n cause) = refused_text cause
+
+-- whether it is made for the run: it has a number or a cause
+abbrev pub is_composed : Ending (List ℕ) → Bool
+is_composed Complete = false
+is_composed ReadFault = false
+is_composed (BadLine n) = true
+is_composed (TooLong n) = true
+is_composed (Ended n cause) = true
 
 -- a session: its answers, and what ended it
 abbrev pub session_output : {R : Type 0} → Streamed R (List ℕ) → Output

@@ -6,6 +6,6 @@ mod ending;
 mod status;
 mod text;
 
-pub use ending::{push_last, status_of};
+pub use ending::{push_last, put_last, status_of};
 pub use status::Status;
 pub use text::{push_already_made, push_not_journal, push_refused, put_line};

@@ -29,7 +29,7 @@ returns-in-Ok-clause-runs g c =
     (g.S.Source.failed_last c.answer_lines.new.source))
     c.in-Ok.ensures.answered c.in-Ok.ensures.reads _
     (subst (Wrote (g.K.Sink.taken c.answer_lines.new.sink) (g.K.Sink.taken c.put_text.new.sink))
-    c.in_ok-push_last-in-Ok.ensures c.in_ok-put_text-in-Ok.ensures.ok))
+    c.in_ok-push_last-in-Ok.ensures.bytes c.in_ok-put_text-in-Ok.ensures.ok))
 
 pub returns-in_err-push_last-in-Ok-clause-runs : goal.returns-in_err-push_last-in-Ok-clause-runs
 returns-in_err-push_last-in-Ok-clause-runs g c =
@@ -50,7 +50,7 @@ returns-in_err-put_text-in-Ok-clause-runs g c =
     (g.S.Source.failed_last c.answer_lines.new.source))
     c.in-Ok.ensures.answered c.in-Ok.ensures.reads _ refusal
     (subst (WroteFront (g.K.Sink.taken c.answer_lines.new.sink) (g.K.Sink.taken c.put_text.new.sink))
-    c.in_ok-push_last-in-Ok.ensures c.in_err-put_text-in-Ok.ensures.err)))
+    c.in_ok-push_last-in-Ok.ensures.bytes c.in_err-put_text-in-Ok.ensures.err)))
 
 pub returns-in-Err-WriteFault-clause-runs : goal.returns-in-Err-WriteFault-clause-runs
 returns-in-Err-WriteFault-clause-runs g c =
@@ -72,7 +72,7 @@ returns-in-Ok-clause-prompt g c =
     (prompt-last _ _ _ _ _ _ _ _ _ _ _ c.in-Ok.ending _ c.in-Ok.ensures.last c.in-Ok.ensures.put
     c.in-Ok.ensures.answered c.in-Ok.ensures.prompt
     (front-whole _ _ _ (subst (Wrote (g.K.Sink.taken c.answer_lines.new.sink) (g.K.Sink.taken c.put_text.new.sink))
-    c.in_ok-push_last-in-Ok.ensures c.in_ok-put_text-in-Ok.ensures.ok)))
+    c.in_ok-push_last-in-Ok.ensures.bytes c.in_ok-put_text-in-Ok.ensures.ok)))
 
 pub returns-in_err-put_text-in-Ok-clause-prompt : goal.returns-in_err-put_text-in-Ok-clause-prompt
 returns-in_err-put_text-in-Ok-clause-prompt g c =
@@ -80,4 +80,4 @@ returns-in_err-put_text-in-Ok-clause-prompt g c =
     (prompt-last _ _ _ _ _ _ _ _ _ _ _ c.in-Ok.ending _ c.in-Ok.ensures.last c.in-Ok.ensures.put
     c.in-Ok.ensures.answered c.in-Ok.ensures.prompt
     (subst (WroteFront (g.K.Sink.taken c.answer_lines.new.sink) (g.K.Sink.taken c.put_text.new.sink))
-    c.in_ok-push_last-in-Ok.ensures c.in_err-put_text-in-Ok.ensures.err))
+    c.in_ok-push_last-in-Ok.ensures.bytes c.in_err-put_text-in-Ok.ensures.err))

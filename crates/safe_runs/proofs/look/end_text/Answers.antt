@@ -20,7 +20,7 @@ returns-then-is_complete-clause-status g c = λ at run is ran.
 
 pub returns-clause-said : goal.returns-clause-said
 returns-clause-said g c = λ at run is ran.
-    c.in_ok-push_last.ensures
+    c.in_ok-push_last.ensures.bytes
     ∙ ap (λ (text : List ℕ). c.args.text.now.items ++ text)
     (text-other at run c.args.ending.now (sym c.is_complete.ensures ∙ c.if-is_complete.false))
 
