@@ -3,3 +3,4 @@ pub mod Left
 pub mod Plans
 mod Undone
 pub mod Calls
+pub mod Held

@@ -6,4 +6,7 @@ pub mod Laws
 pub mod Log
 pub mod Undo
 pub mod Inside
+pub mod FileCalls
+pub mod FileSteps
 pub mod Files
+pub mod Adding

@@ -2,7 +2,7 @@ ghost use Rattle.std.specs.Prelude.{◌≡◌, ◌≤◌, ◌+◌, length, vec_l
 ghost use Rattle.std.specs.Vec.{vec_capacity};
 ghost use Rattle.crash_disk.specs.Disk.{with_write};
 
-// Writes bytes over what is there and past the end. There is room for them.
+/// Writes bytes over what is there and past the end. There is room for them.
 pub fn overwrite(content: &mut Vec<u8>, place: usize, bytes: &[u8])
     requires within { place ≤ vec_len content.old }
     requires fits { vec_len content.old + length bytes.now ≤ vec_capacity content.old }

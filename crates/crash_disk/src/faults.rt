@@ -13,8 +13,8 @@ pub struct Faults {
     pub count: u64,
 }
 
-// Whether no call may pass any more.
-fn is_spent(fuse: Option<u64>) -> bool
+/// Whether a fuse lets no call pass any more.
+pub fn is_spent(fuse: Option<u64>) -> bool
     ensures { result ≡ is_spent fuse }
 {
     match fuse {
@@ -23,8 +23,8 @@ fn is_spent(fuse: Option<u64>) -> bool
     }
 }
 
-// The fuse after one call more.
-fn shorter_fuse(fuse: Option<u64>) -> Option<u64>
+/// The fuse after one call more.
+pub fn shorter_fuse(fuse: Option<u64>) -> Option<u64>
     ensures { result ≡ option_map (λ calls. calls - 1) fuse }
 {
     match fuse {

@@ -1,15 +1,16 @@
 -- What a file holds and was asked, to which bytes were added over a disk.
-use Rattle.std.proofs.Common.{◌≡◌, ℕ, ◌+◌, Bool, true, false, ◌≤◌, List, [], ◌++◌, length, take, drop, Option, Some, sym, ◌∙◌, ap, subst, arith}
+use Rattle.std.proofs.Common.{◌≡◌, ℕ, ◌+◌, Bool, true, false, List, [], ◌++◌, length, take, drop, Option, Some, sym, ◌∙◌, ap, subst, arith}
 use Rattle.std.specs.Option.{option_map}
 use Rattle.std.proofs.Math.Logic.{∥∥₁_map}
 use Rattle.std.proofs.Math.ListN.{drop_of_length-le}
 use Rattle.std.proofs.Math.Seq.{take-length}
 use Rattle.std.proofs.lemmas.List.{append-nil}
 use Rattle.crash_disk.specs.Calls.{WhereTold}
-use Rattle.crash_disk.specs.Disk.{asks_length, writes, syncs, DeviceCall, History, fresh_history, content, with_call, with_write}
-use Rattle.told_files.specs.FileCalls.{FileCall, finds, measures, asked, has_name, asks_of, went, AreFor}
+use Rattle.crash_disk.specs.Disk.{Step, asks_length, writes, syncs, DeviceCall, History, fresh_history, content, with_call, with_write}
+use Rattle.crash_disk.specs.FileCalls.{FileCall, finds, measures, asked, has_name, asks_of, went, AreFor, told_of}
+use Rattle.crash_disk.proofs.Held.{told_more}
 use Rattle.told_files.specs.States.{tells_there}
-use Rattle.told_files.specs.Adding.{added_calls, added_asks, all_made}
+use Rattle.crash_disk.specs.Adding.{added_calls, added_asks, all_made}
 
 -- the calls of a length, and of a write behind it
 abbrev measured : Bool → List FileCall
@@ -64,18 +65,12 @@ with_end old new =
     ∙ ap (λ (l : List ℕ). old ++ new ++ l) last
     ∙ append-nil (old ++ new)
 
--- a write may begin where the length says
-pub within : (image : List ℕ) (place : ℕ) (opened asked : Option History) → opened ≡ Some (fresh_history image)
-    → asked ≡ option_map (with_call asks_length false) opened
-    → WhereTold opened (λ history. place ≡ length (content history))
-    → WhereTold asked (λ history. place ≤ length (content history))
-within image place opened asked told called answer history is =
-    let before : asked ≡ Some (with_call asks_length false (fresh_history image)) =
-    called ∙ ap (option_map (with_call asks_length false)) told in
-    let same : with_call asks_length false (fresh_history image) ≡ history = cc (sym before ∙ is) in
-    let last : place ≡ length image = answer (fresh_history image) told in
-    let least : place ≤ length image = omega (arith, last) in
-    subst (λ (h : History). place ≤ length (content h)) same least
+-- one device call more is told, where the file began with the same bytes
+pub told_next : (began now_began : Option (List ℕ)) (past now : History) (step : Step) (failed : Bool)
+    → now ≡ with_call step failed past → now_began ≡ began
+    → told_of now_began now ≡ option_map (with_call step failed) (told_of began past)
+told_next began now_began past now step failed is stays =
+    (λ i. told_of (stays i) (is i)) ∙ told_more began past step failed
 
 -- what the disk tells of the three calls
 pub added_told : (image : List ℕ) (place : ℕ) (bytes : List ℕ) (opened asked wrote synced : Option History)

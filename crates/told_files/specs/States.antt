@@ -1,7 +1,7 @@
 -- A file in memory: which of its calls fail, and what they leave.
 use Rattle.std.specs.Prelude.{◌≡◌, ℕ, ◌+◌, ◌-◌, ◌^◌, Bool, true, false, not, ◌&&◌, ◌||◌, nat_le, nat_lt, if◌then◌else◌, List, [], ◌∷◌, length, Option, Some, option_map}
 use Rattle.crash_disk.specs.Disk.{is_spent, with_write}
-use Rattle.told_files.specs.FileCalls.{FileAsk, finds, makes, fits, reaches, gets, puts, syncs_bytes, syncs_name, marks, looks, FileCall, asked, all_passed, holds}
+use Rattle.crash_disk.specs.FileCalls.{FileAsk, finds, makes, fits, reaches, gets, puts, syncs_bytes, syncs_name, marks, looks, FileCall, FilePast, asked, all_passed, holds}
 
 -- the bytes that it began with, and the calls since, the newest first; whether it is there, and its name kept; its
 -- bytes; and how many further calls may pass, where that is limited
@@ -60,12 +60,6 @@ after ask failed file = record {
 -- the file with a mark, which takes no call from those that may pass
 abbrev pub with_mark : FileState → FileState
 with_mark file = record file { calls = asked marks false file.calls }
-
--- what proofs know of a file: the bytes that it began with, whether it was there, and the calls since, the newest first
-pub record FilePast : Type 0 where
-  pub began : List ℕ
-  pub was_there : Bool
-  pub calls : List FileCall
 
 -- As long as no call failed, the bytes are those that the calls left.
 abbrev pub AreHeld : FilePast → List ℕ → Type 0

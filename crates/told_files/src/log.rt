@@ -1,9 +1,9 @@
-ghost use Rattle.std.specs.Prelude.{◌≡◌, ◌-◌, ◌||◌, not, true, false, [], option_map};
+ghost use Rattle.std.specs.Prelude.{◌≡◌, ◌||◌, not, true, false, []};
 ghost use Rattle.crash_disk.specs.Disk.{is_spent};
-ghost use Rattle.told_files.specs.FileCalls.{asked, marks, all_passed};
+ghost use Rattle.crash_disk.specs.FileCalls.{asked, marks, all_passed};
 ghost use Rattle.told_files.specs.States.{fuse_after};
 
-use super::notes::{FileStep, Notes};
+use crash_disk::{FileStep, Notes, is_spent, shorter_fuse};
 
 // The calls of a file, of which only proofs know, and how many further ones may pass, where that is limited. None does
 // behind one that failed.
@@ -14,26 +14,6 @@ pub struct Log {
     pub ghost whole: { is_spent fuse ≡ false → all_passed notes.past.calls ≡ true },
 }
 
-// Whether no call may pass any more.
-fn is_spent(fuse: Option<u64>) -> bool
-    ensures { result ≡ is_spent fuse }
-{
-    match fuse {
-        Some(calls) => calls == 0,
-        None => false,
-    }
-}
-
-// The fuse after one call more that passed.
-fn shorter_fuse(fuse: Option<u64>) -> Option<u64>
-    ensures { result ≡ option_map (λ calls. calls - 1) fuse }
-{
-    match fuse {
-        Some(calls) => Some(calls.saturating_sub(1)),
-        None => None,
-    }
-}
-
 // The fuse after one call more.
 fn fuse_after(fuse: Option<u64>, failed: bool) -> Option<u64>
     ensures { result ≡ fuse_after failed fuse }
@@ -42,7 +22,7 @@ fn fuse_after(fuse: Option<u64>, failed: bool) -> Option<u64>
 }
 
 impl Log {
-    ghost use Rattle.told_files.specs.FileSteps.{ask_of};
+    ghost use Rattle.crash_disk.specs.FileSteps.{ask_of};
 
     // That of a file that begins with these bytes, and is there or missing.
     pub fn new(image: &[u8], there: bool, fuse: Option<u64>) -> Log

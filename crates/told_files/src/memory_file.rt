@@ -1,12 +1,10 @@
 ghost use Rattle.std.specs.Prelude.{◌≡◌, ◌+◌, ◌^◌, ◌<◌, ◌≤◌, true, false, ◌||◌, ◌&&◌, nat_le, nat_lt, [], length, take, drop, vec_len, is_err, Some, IfOk, OnOk};
 ghost use Rattle.std.specs.Vec.{vec_capacity};
-ghost use Rattle.told_files.specs.FileCalls.{all_passed, holds, was_there, finds, makes, fits, measures, reaches, gets, puts, syncs_bytes, opens_folder, syncs_name, looks};
+ghost use Rattle.crash_disk.specs.FileCalls.{all_passed, holds, was_there, finds, makes, fits, measures, reaches, gets, puts, syncs_bytes, opens_folder, syncs_name, looks};
 ghost use Rattle.told_files.specs.States.{AreHeld, stands, tells_there, is_kept, fails, after, with_mark};
 
-use super::copy::overwrite;
-use super::file_calls::FileCalls;
 use super::log::Log;
-use super::notes::FileStep;
+use crash_disk::{FileCalls, FileStep, overwrite};
 use std::alloc::Global;
 use std::io::{self, ErrorKind};
 

@@ -1,12 +1,11 @@
 ghost use Rattle.std.specs.Prelude.{◌≡◌, ◌++◌, Bool, [], length, true, Some, IfOk};
 ghost use Rattle.crash_disk.specs.Disk.{History, fresh_history, content};
-ghost use Rattle.told_files.specs.FileCalls.{all_passed};
-ghost use Rattle.told_files.specs.Adding.{added_calls, added_asks, all_made};
+ghost use Rattle.crash_disk.specs.FileCalls.{all_passed};
+ghost use Rattle.crash_disk.specs.Adding.{added_calls, added_asks, all_made};
 ghost use Rattle.told_files.specs.Shown.{shown};
 
-use super::disk_over::DiskOver;
 use super::memory_file::MemoryFile;
-use crash_disk::{Disk, DiskFailed};
+use crash_disk::{Disk, DiskFailed, DiskOver};
 
 /// A disk over a file of which nothing was asked yet. It tells the bytes that the file holds, and no device call.
 pub fn opened(file: MemoryFile) -> DiskOver<MemoryFile>
@@ -22,7 +21,7 @@ pub fn file_holds_what_is_told(disk: &DiskOver<MemoryFile>)
     ensures { (history : History) → ⟦<DiskOver<MemoryFile> as Disk>⟧.told disk.now ≡ Some history
         → all_passed (shown disk.now.file).calls ≡ true → (shown disk.now.file).bytes ≡ content history }
 {
-    let _ = disk;
+    let _ = disk.file();
 }
 
 /// Adds bytes behind those of a file of which nothing was asked yet, by a disk over it, and syncs the disk.
@@ -39,5 +38,6 @@ pub fn added(file: MemoryFile, bytes: &[u8]) -> Result<DiskOver<MemoryFile>, Dis
     let place = disk.len()?;
     disk.write_at(place, bytes)?;
     disk.sync()?;
+    let _ = disk.file();
     Ok(disk)
 }

@@ -1,0 +1,65 @@
+-- `and` makes the empty struct, at the calls that its clause names. Assumes `Logic`.
+use Rattle.std.proofs.Common.{[], ◌∷◌, refl}
+use Rattle.std.proofs.raw_atomic.Walks.{proved}
+use mir.Syntax.{named}
+use mir.Val.{vstruct, vnil}
+use types.Kit.{‵, raw, ◌⊛◌, ◌$◌, ◌∵◌, !, qed, move, keep, split, suffices, done}
+use types.Part.{agg}
+use types.Run.{enter, returns, no_more}
+use types.ByLocal.{alloc_all, pass_all, free_all, look_at, sets}
+use denote.Builtin.{bool}
+use denote.Exit.{yes}
+use denote.Plain.{bool_vals, bool_Tells}
+use denote.RattleType.{owns}
+use denote.Ref.{shr_vals, shr_Tells}
+use denote.Shadow.{pure_i}
+use denote.Signature.{plain, types_at, named_lft}
+use denote.Triple.Entry.{alive}
+use denote.Triple.Walked.{says, Stays, stay_none, stay_none_ref, walk_of, ends_at, Goes-none, Goes-none_ref}
+use Rattle.crash_disk.specs.FileCalls.{asked}
+use Rattle.crash_disk.specs.FileCalls.{FilePast}
+use Rattle.crash_disk.specs.FileSteps.{ask_of}
+use Rattle.crash_disk.specs.contracts.notes.FileStep as steps
+use Rattle.crash_disk.specs.contracts.notes.Notes.{the_row}
+use Rattle.crash_disk.specs.contracts.notes.Notes.and as f
+use Rattle.crash_disk.proofs.notes.Notes.and.Statement.{statement}
+use Rattle.crash_disk.proofs.notes.Notes.and.Code as code
+
+abbrev stayed : Stays f.ended.signature.params f.ended.kept
+stayed = (
+  stay_none_ref (0 ∷ []) tt (plain (λ _. the_row)) yes,
+  (stay_none_ref (1 ∷ []) tt (plain (λ κs. steps.the_row (named_lft 3 2 tt κs))) yes, (stay_none (λ _. bool) yes, tt)),
+)
+
+abbrev made : FilePast → the_row.Denot
+made past = record { past = past }
+
+pub and_spec : {M : Type 1} → statement M
+and_spec 𝓤 𝓛 𝓜 𝓡 wired =
+    let c = f.clauses 𝓛 𝓜.mem 𝓡.returns in let W = walk_of 𝓛 f.ended stayed c in
+    proved 𝓛 f.ended stayed c 𝓜 𝓡 (
+      Goes-none_ref 𝓛 3 (0 ∷ []) tt (plain (λ _. the_row)) yes,
+      (
+        Goes-none_ref 𝓛 3 (1 ∷ []) tt (plain (λ κs. steps.the_row (named_lft 3 2 tt κs))) yes,
+        (Goes-none 𝓛 3 (λ _. bool) yes (λ κs x f. refl), tt),
+      ),
+    )
+    f.Key.name code.function (code.unfolded 𝓤 𝓛.H 𝓜 𝓡 wired)
+    (λ κs. (shr_vals, (shr_vals, (bool_vals, tt))))
+    (λ κs. (
+      shr_Tells (named 0) κs.0 the_row,
+      (shr_Tells (named 1) κs.1.0 (steps.the_row (named_lft 3 2 tt κs)), (bool_Tells, tt)),
+    ))
+    (λ κs qs bounds a g are.
+    let y : W.Ghost = ((κs, qs, bounds, a, (shr_vals a.0, (shr_vals a.1.0, (bool_vals a.1.1.0, tt)))), g) in
+    let passed = owns (types_at f.signature.params κs) a y.0.4 in
+    let new = made (record a.0.now.past { calls = asked (ask_of a.1.0.now) a.1.1.0 a.0.now.past.calls }) in
+    qed 𝓛 ((raw (alive 𝓛 f.signature κs qs) ⊛ ‵ passed) ∷ raw ((c κs a).requires g) ∷ []) ∵
+    keep ! (0 ∷ []) $ split ! $
+    enter ! _ _ _ _ _ $ alloc_all ! (λ l. pass_all ! refl ((tt, tt), ((tt, tt), ((tt, tt), tt))) $
+    sets ! (agg ! (no_more !)) refl (tt, tt) $
+    returns ! (look_at ! 0 refl) $ free_all ! refl $
+    suffices ! _ (ends_at 𝓛 f.ended stayed c y (vstruct vnil) new (tt, (tt, (tt, tt))) (tt, (tt, (tt, tt)))) $
+    says ! refl $
+    pure_i ! (the_row.own_val new (vstruct vnil ∷ [])) ((λ vss. (tt, tt)), tt) ((tt, (refl, tt)), tt) $
+    move ! (1 ∷ 2 ∷ 0 ∷ []) $ done !))

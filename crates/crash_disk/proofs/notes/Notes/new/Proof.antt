@@ -1,0 +1,51 @@
+-- `new` makes the empty struct, at the calls that its clause names. Assumes `Logic`.
+use Rattle.std.proofs.Common.{[], ◌∷◌, refl}
+use Rattle.std.proofs.raw_atomic.Walks.{proved}
+use mir.Syntax.{named}
+use mir.Val.{vstruct, vnil}
+use types.Kit.{‵, raw, ◌⊛◌, ◌$◌, ◌∵◌, !, qed, move, keep, split, suffices, done}
+use types.Part.{agg}
+use types.Run.{enter, returns, no_more}
+use types.ByLocal.{alloc_all, pass_all, free_all, look_at, sets}
+use denote.Builtin.{u8, bool}
+use denote.Exit.{yes}
+use denote.Plain.{bool_vals, bool_Tells}
+use denote.RattleType.{owns}
+use denote.Shadow.{pure_i}
+use denote.Signature.{plain, types_at}
+use denote.Slice.{shr_slice_vals, shr_slice_Tells}
+use denote.Triple.Entry.{alive}
+use denote.Triple.Walked.{says, Stays, stay_none, stay_none_slice, walk_of, ends_at, Goes-none, Goes-none_slice}
+use Rattle.crash_disk.specs.FileCalls.{FilePast}
+use Rattle.crash_disk.specs.contracts.notes.Notes.{the_row}
+use Rattle.crash_disk.specs.contracts.notes.Notes.new as f
+use Rattle.crash_disk.proofs.notes.Notes.new.Statement.{statement}
+use Rattle.crash_disk.proofs.notes.Notes.new.Code as code
+
+abbrev stayed : Stays f.ended.signature.params f.ended.kept
+stayed = (stay_none_slice (0 ∷ []) tt (plain (λ _. u8)) yes, (stay_none (λ _. bool) yes, tt))
+
+abbrev made : FilePast → the_row.Denot
+made past = record { past = past }
+
+pub new_spec : {M : Type 1} → statement M
+new_spec 𝓤 𝓛 𝓜 𝓡 wired =
+    let c = f.clauses 𝓛 𝓜.mem 𝓡.returns in let W = walk_of 𝓛 f.ended stayed c in
+    proved 𝓛 f.ended stayed c 𝓜 𝓡 (
+      Goes-none_slice 𝓛 1 (0 ∷ []) tt (plain (λ _. u8)) yes,
+      (Goes-none 𝓛 1 (λ _. bool) yes (λ κs x f. refl), tt),
+    )
+    f.Key.name code.function (code.unfolded 𝓤 𝓛.H 𝓜 𝓡 wired)
+    (λ κs. (shr_slice_vals, (bool_vals, tt)))
+    (λ κs. (shr_slice_Tells (named 0) κs.0 u8, (bool_Tells, tt))) (λ κs qs bounds a g are.
+    let y : W.Ghost = ((κs, qs, bounds, a, (shr_slice_vals a.0, (bool_vals a.1.0, tt))), g) in
+    let passed = owns (types_at f.signature.params κs) a y.0.4 in
+    let new = made (record { began = a.0.now; was_there = a.1.0; calls = [] }) in
+    qed 𝓛 ((raw (alive 𝓛 f.signature κs qs) ⊛ ‵ passed) ∷ raw ((c κs a).requires g) ∷ []) ∵
+    keep ! (0 ∷ []) $ split ! $
+    enter ! _ _ _ _ _ $ alloc_all ! (λ l. pass_all ! refl ((tt, (tt, (record { fits = are.0.0.1.0 }, tt))), ((tt, tt), tt)) $
+    sets ! (agg ! (no_more !)) refl (tt, tt) $
+    returns ! (look_at ! 0 refl) $ free_all ! refl $
+    suffices ! _ (ends_at 𝓛 f.ended stayed c y (vstruct vnil) new (tt, (tt, tt)) (tt, (tt, tt))) $ says ! refl $
+    pure_i ! (the_row.own_val new (vstruct vnil ∷ [])) ((λ vss. (tt, tt)), tt) ((tt, (refl, tt)), tt) $
+    move ! (1 ∷ 2 ∷ 0 ∷ []) $ done !))
