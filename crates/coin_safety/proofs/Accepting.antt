@@ -46,7 +46,7 @@ use Rattle.coin_safety.specs.Laws.{is_poor, ActsAreAccepted}
 use Rattle.coin_safety.proofs.Blocks.{deposit-low, view-exit}
 use Rattle.coin_safety.proofs.Again.{IsAgain, again-in, answer-shows}
 use Rattle.coin_safety.proofs.Starting.{own-accepted}
-use Rattle.coin_safety.proofs.Telling.{least-has}
+use Rattle.coin_safety.proofs.Found.{least-has}
 use Rattle.coin_safety.proofs.Viewed.{viewed}
 
 -- a standing exit is the one of its coin and block

@@ -8,6 +8,7 @@ pub mod Blocks
 pub mod Followed
 pub mod Viewed
 pub mod Advised
+pub mod Found
 pub mod Telling
 pub mod Starting
 pub mod Accepting

@@ -1,5 +1,5 @@
 -- The own start that is advised for the history of a coin is accepted.
-use Rattle.std.proofs.Common.{◌≡◌, ℕ, suc, ◌+◌, ◌-◌, ◌<◌, ◌≤◌, ◌==◌, ◌&&◌, not, Bool, true, false, if◌then◌else◌, List, [], ◌∷◌, ◌++◌, length, take, Option, Some, None, inl, inr, refl, sym, ap, ◌∙◌, subst, arith}
+use Rattle.std.proofs.Common.{◌≡◌, ℕ, suc, ◌-◌, ◌<◌, ◌≤◌, ◌==◌, ◌&&◌, ◌||◌, not, Bool, true, false, if◌then◌else◌, List, [], ◌∷◌, ◌++◌, length, take, Option, Some, None, inl, inr, refl, sym, ap, ◌∙◌, subst, arith}
 use Rattle.std.specs.Prelude.{is_none, is_some, nat_lt, slice_get}
 use Rattle.std.specs.List.{AllByRecursion}
 use Rattle.std.specs.Option.{option_map, option_map_or}
@@ -247,7 +247,7 @@ own-in log account kept call h =
     let here : Bool = is_none (left_by log kept.links.coin (tip kept)) in
     let free : Bool = is_none (exit_in (standing log kept) (tip kept)) in
     let may : Bool = may_leave log account kept in
-    let bad : Bool = is_planted log kept in
+    let bad : Bool = is_planted log kept || kept.hidden in
     (elim (may && bad) as (λ (b : Bool). (may && bad) ≡ b
     → Has (if b then start_of account (tip kept) kept.links ∷ [] else []) call
     → Asks log account kept × (start_of account (tip kept) kept.links ≡ call)) [

@@ -1,9 +1,9 @@
 -- Each word tells what it says.
-use Rattle.std.proofs.Common.{◌≡◌, ◌⊎◌, ℕ, ◌+◌, ◌-◌, ◌<◌, ◌≤◌, ◌==◌, ◌||◌, min, not, Bool, true, false, if◌then◌else◌, List, [], ◌∷◌, ◌++◌, map, find, Option, Some, None, inl, inr, refl, sym, ap, ◌∙◌, subst, arith}
+use Rattle.std.proofs.Common.{◌≡◌, ℕ, ◌+◌, ◌-◌, ◌<◌, ◌≤◌, ◌==◌, ◌&&◌, ◌||◌, not, Bool, true, false, if◌then◌else◌, List, [], ◌∷◌, ◌++◌, map, Option, Some, None, inl, inr, refl, sym, ap, ◌∙◌, subst, arith}
 use Rattle.std.specs.Prelude.{is_some, nat_lt, nat_le, unwrap_or}
-use Rattle.std.specs.List.{flat_map, list_any}
-use Rattle.std.specs.Option.{option_map, option_map_or, option_or}
-use Rattle.std.proofs.lemmas.Bool.{eqb-true, eq-eqb, ltb-true, ltb-false, leb-true, leb-false, true≢false, not-true}
+use Rattle.std.specs.List.{Contains, list_any}
+use Rattle.std.specs.Option.{option_map, option_or}
+use Rattle.std.proofs.lemmas.Bool.{and_parts, and_from, eqb-true, eq-eqb, ltb-true, ltb-false, leb-true, leb-false, true≢false, not-true}
 use Rattle.plasma_tx.specs.declared.call.RootCall.{RootCall}
 use Rattle.plasma_tx.specs.declared.call.RootCall.TheVariants.{Finish}
 use Rattle.plasma_tx.specs.declared.views.ExitView.{ExitView}
@@ -11,112 +11,19 @@ use Rattle.plasma_tx.specs.declared.rules.TheConstants.{RESPONSE_WINDOW, EXIT_PE
 use Rattle.plasma_tx.specs.Views.{now, Exit, exit_at, has_no_open_challenge}
 use Rattle.plasma_tx.proofs.Names.{some_same}
 use Rattle.watch_duty.specs.Duty.{due_for}
-use Rattle.watch_duty.proofs.Members.{Has, has-contains, contains-has}
+use Rattle.watch_duty.proofs.Members.{Has, has-contains, contains-has, has-left, has-right}
 use Rattle.coin_safety.specs.declared.kept.Kept.{Kept}
 use Rattle.coin_safety.specs.declared.kept.Sent.{Sent}
 use Rattle.coin_safety.specs.declared.payment.Payment.{Payment}
 use Rattle.coin_safety.specs.declared.word.Word.{Word}
 use Rattle.coin_safety.specs.declared.word.Word.TheVariants.{Act, Sent as IsSent, Leaving, Paid, Gone, Late, Frozen, Stale}
 use Rattle.coin_safety.specs.Numbers.{later, least}
-use Rattle.coin_safety.specs.Advice.{standing, tip, holder, exit_in, due, shown_again, timed, calls_of, missing}
-use Rattle.coin_safety.specs.Words.{is_strange, away, sent_word, left_leaf, left_word, next_line, starter, paid_by, payment, paid_word, first_end, come, late_word, stale_word, end_of_call, act_word, leaving_word, safe_word}
-use Rattle.coin_safety.specs.Laws.{IsHere, ends, AreAhead, NothingIsDue, IsFresh, IsPaidOut, IsFirst, IsAway, Tells, WordsTell}
+use Rattle.coin_safety.specs.Advice.{standing, tip, holder, exit_in, may_leave, is_planted, start_of, own_start, finishes, instead, due, shown_again, timed, calls_of, missing}
+use Rattle.coin_safety.specs.Words.{is_strange, away, sent_word, left_leaf, left_word, next_line, starter, paid_by, payment, paid_word, first_end, come, late_word, stale_word, end_of_call, due_by, at_once, act_by, act_word, leaving_word, safe_word}
+use Rattle.coin_safety.specs.Laws.{IsHere, ends, AreAhead, NothingIsDue, IsToLeave, IsActBy, IsFresh, IsPaidOut, IsFirst, IsAway, Tells, WordsTell}
 use Rattle.coin_safety.proofs.Advised.{due-unsent}
+use Rattle.coin_safety.proofs.Found.{any-found, none-any, found-has, missed, front-none, back-none, each-none, least-none, least-has, least-le}
 use Rattle.coin_safety.proofs.Viewed.{paid-withdrawn}
-
--- ---- lists
-
-any-found : {X : Type 0} (p : X → Bool) (xs : List X) → list_any p xs ≡ true → (x : X) × Has xs x × (p x ≡ true)
-any-found p [] is = absurd (true≢false (sym is))
-any-found p (x ∷ xs) is =
-    (elim (p x) as (λ b. p x ≡ b → (b || list_any p xs) ≡ true → (y : _) × Has (x ∷ xs) y × (p y ≡ true)) [
-      | true ↦ λ own _. (x, inl refl, own)
-      | false ↦ λ other rest. let found = any-found p xs rest in (found.0, inr found.1, found.2)
-    ]) refl is
-
-none-any : {X : Type 0} (p : X → Bool) (xs : List X) (x : X) → list_any p xs ≡ false → Has xs x → p x ≡ false
-none-any p [] x none h = absurd h
-none-any p (y ∷ ys) x none h =
-    (elim (p y) as (λ b. p y ≡ b → (b || list_any p ys) ≡ false → (y ≡ x) ⊎ Has ys x → p x ≡ false) [
-      | true ↦ λ own wrong _. absurd (true≢false wrong)
-      | false ↦ λ other rest it. elim it [
-        | inl same ↦ ap p (sym same) ∙ other
-        | inr deeper ↦ none-any p ys x rest deeper
-      ]
-    ]) refl none h
-
-found-has : {X : Type 0} (p : X → Bool) (xs : List X) (x : X) → find p xs ≡ Some x → Has xs x × (p x ≡ true)
-found-has p [] x is = absurd (cc is)
-found-has p (y ∷ ys) x is =
-    (elim (p y) as (λ b. p y ≡ b → (if b then Some y else find p ys) ≡ Some x → Has (y ∷ ys) x × (p x ≡ true)) [
-      | true ↦ λ own same. let e = some_same y x same in (inl e, ap p (sym e) ∙ own)
-      | false ↦ λ other rest. let found = found-has p ys x rest in (inr found.0, found.1)
-    ]) refl is
-
-missed : {X : Type 0} (p : X → Bool) (xs : List X) (x : X) → find p xs ≡ None → Has xs x → p x ≡ false
-missed p [] x is h = absurd h
-missed p (y ∷ ys) x is h =
-    (elim (p y) as (λ b. p y ≡ b → (if b then Some y else find p ys) ≡ None → (y ≡ x) ⊎ Has ys x → p x ≡ false) [
-      | true ↦ λ own wrong _. absurd (cc wrong)
-      | false ↦ λ other rest it. elim it [
-        | inl same ↦ ap p (sym same) ∙ other
-        | inr deeper ↦ missed p ys x rest deeper
-      ]
-    ]) refl is h
-
--- where two lists together are empty, each is
-front-none : {X : Type 0} (a b : List X) → a ++ b ≡ [] → a ≡ []
-front-none [] b e = refl
-front-none (z ∷ a) b e = absurd (cc e)
-
-back-none : {X : Type 0} (a b : List X) → a ++ b ≡ [] → b ≡ []
-back-none [] b e = e
-back-none (z ∷ a) b e = absurd (cc e)
-
--- where nothing comes of the elements, nothing comes of each
-each-none : {X Y : Type 0} (f : X → List Y) (xs : List X) (x : X) → flat_map f xs ≡ [] → Has xs x → f x ≡ []
-each-none f [] x is h = absurd h
-each-none f (y ∷ ys) x is (inl same) = ap f (sym same) ∙ front-none (f y) (flat_map f ys) is
-each-none f (y ∷ ys) x is (inr h) = each-none f ys x (back-none (f y) (flat_map f ys) is) h
-
--- ---- the least
-
-least-none : (ns : List ℕ) → least ns ≡ None → ns ≡ []
-unfolding least
-least-none [] is = refl
-least-none (n ∷ ns) is = absurd (cc is)
-
--- the less of one and of what the others have
-less-has : (n k m : ℕ) (ns : List ℕ) → Has ns k → min n k ≡ m → Has (n ∷ ns) m
-less-has n k m ns h same =
-    (elim (nat_le n k) as (λ b. nat_le n k ≡ b → Has (n ∷ ns) m) [
-      | true ↦ λ le. let e : n ≡ m = omega (arith, leb-true n k le, same) in inl e
-      | false ↦ λ gt. let e : k ≡ m = omega (arith, leb-false n k gt, same) in inr (subst (λ j. Has ns j) e h)
-    ]) refl
-
-pub least-has : (ns : List ℕ) (m : ℕ) → least ns ≡ Some m → Has ns m
-unfolding least
-least-has [] m is = absurd (cc is)
-least-has (n ∷ ns) m is =
-    (elim (least ns) as (λ o. least ns ≡ o → Some (option_map_or (min n) o n) ≡ Some m → Has (n ∷ ns) m) [
-      | None ↦ λ none same. inl (some_same n m same)
-      | Some k ↦ λ some same. less-has n k m ns (least-has ns k some) (some_same (min n k) m same)
-    ]) refl is
-
-least-le : (ns : List ℕ) (m n : ℕ) → least ns ≡ Some m → Has ns n → m ≤ n
-unfolding least
-least-le [] m n is h = absurd h
-least-le (k ∷ ns) m n is h =
-    (elim (least ns) as (λ o. least ns ≡ o → Some (option_map_or (min k) o k) ≡ Some m → m ≤ n) [
-      | None ↦ λ none same. elim h [
-        | inl own ↦ omega (arith, some_same k m same, own)
-        | inr deeper ↦ absurd (subst (λ l. Has l n) (least-none ns none) deeper)
-      ]
-      | Some j ↦ λ some same. elim h [
-        | inl own ↦ omega (arith, some_same (min k j) m same, own)
-        | inr deeper ↦ omega (arith, some_same (min k j) m same, least-le ns j n some deeper)
-      ]
-    ]) refl is
 
 -- ---- rules in order
 
@@ -135,6 +42,11 @@ mapped f (Some x) w is = (x, refl, some_same (f x) w is)
 unmapped : {X : Type 0} (f : X → Word) (o : Option X) → option_map f o ≡ None → o ≡ None
 unmapped f None is = refl
 unmapped f (Some x) is = absurd (cc is)
+
+-- neither of two
+or-none : {X : Type 0} (one other : Option X) → option_or one other ≡ None → (one ≡ None) × (other ≡ None)
+or-none None other is = (refl, is)
+or-none (Some x) other is = absurd (cc is)
 
 -- an end that has come, and one that hasn't
 come-is : (clock : ℕ) (end : Option ℕ) (time : ℕ) → come clock end ≡ Some time → (end ≡ Some time) × (time ≤ clock)
@@ -346,19 +258,9 @@ module _ (log : List RootCall) (account clock : ℕ) (kept : Kept) where
   abbrev due_ends : List ℕ
   due_ends = map (end_of_call (standing log kept)) (timed log account kept)
 
-  act-tells : IsFresh log clock kept → (w : Word) → act_word log account kept ≡ Some w
-      → Tells log account clock kept w
-  act-tells at w is =
-      let act = mapped (λ (end : ℕ). Act (end - 1) (missing log account (calls_of log account kept)))
-      (least due_ends) w is in
-      subst (Tells log account clock kept) act.2
-      (at, (act.0, first-of due_ends act.0 act.1, refl), refl)
-
-  nothing-due : kept.sent ≡ None → act_word log account kept ≡ None → NothingIsDue log account kept
+  nothing-due : kept.sent ≡ None → least due_ends ≡ None → NothingIsDue log account kept
   nothing-due unsent is =
-      let none : due_ends ≡ [] =
-      least-none due_ends (unmapped (λ (end : ℕ). Act (end - 1) (missing log account (calls_of log account kept)))
-      (least due_ends) is) in
+      let none : due_ends ≡ [] = least-none due_ends is in
       let untimed : timed log account kept ≡ [] =
       unmapped-none (end_of_call (standing log kept)) (timed log account kept) none in
       record {
@@ -373,9 +275,70 @@ module _ (log : List RootCall) (account clock : ℕ) (kept : Kept) where
       unmapped-none f [] e = refl
       unmapped-none f (x ∷ xs) e = absurd (cc e)
 
-  last-tells : IsFresh log clock kept → NothingIsDue log account kept → left_leaf log kept ≡ None
+  -- ---- a hidden block
+
+  abbrev start : RootCall
+  start = start_of account (tip kept) kept.links
+
+  own-advised : may_leave log account kept ≡ true → kept.hidden ≡ true → Contains (calls_of log account kept) start
+  own-advised may hidden =
+      let before : List RootCall = map (instead log c) (timed log account kept) in
+      let either : (is_planted log kept || kept.hidden) ≡ true =
+      elim (is_planted log kept) as (λ b. (b || kept.hidden) ≡ true) [ true ↦ refl | false ↦ hidden ] in
+      let own : Has (own_start log account kept) start =
+      subst (λ (b : Bool). Has (if b then start ∷ [] else []) start)
+      (sym (and_from (may_leave log account kept) (is_planted log kept || kept.hidden) may either)) (inl refl) in
+      has-contains (calls_of log account kept) start
+      (has-left (before ++ own_start log account kept) (finishes log account kept) start
+      (has-right before (own_start log account kept) start own))
+
+  to-leave : NothingIsDue log account kept → (by : ℕ) → at_once log account kept ≡ Some by
+      → IsToLeave log account kept by
+  to-leave none by is =
+      (elim (may_leave log account kept && kept.hidden) as (λ b. (may_leave log account kept && kept.hidden) ≡ b
+      → (if b then Some (now log) else None) ≡ Some by → IsToLeave log account kept by) [
+        | false ↦ λ other wrong. absurd (cc wrong)
+        | true ↦ λ both same.
+            let parts = and_parts (may_leave log account kept) kept.hidden both in
+            record {
+              none = none;
+              hidden = parts.1;
+              may = parts.0;
+              advised = own-advised parts.0 parts.1;
+              at_once = sym (some_same (now log) by same);
+            }
+      ]) refl is
+
+  stays : at_once log account kept ≡ None → kept.hidden ≡ true → may_leave log account kept ≡ false
+  stays none hidden =
+      (elim (may_leave log account kept) as (λ b. (if b && kept.hidden then Some (now log) else None) ≡ None
+      → b ≡ false) [
+        | false ↦ λ _. refl
+        | true ↦ λ it. absurd (cc (sym (ap (λ h. if h then Some (now log) else None) hidden) ∙ it))
+      ]) none
+
+  -- ---- the rest
+
+  acts-by : kept.sent ≡ None → (by : ℕ) → act_by log account kept ≡ Some by → IsActBy log account kept by
+  acts-by unsent by is =
+      (elim (least due_ends) as (λ o. least due_ends ≡ o
+      → option_or (option_map (λ end. end - 1) o) (at_once log account kept) ≡ Some by
+      → IsActBy log account kept by) [
+        | Some end ↦ λ some same. inl (end, first-of due_ends end some, sym (some_same (end - 1) by same))
+        | None ↦ λ none rest. inr (to-leave (nothing-due unsent none) by rest)
+      ]) refl is
+
+  act-tells : IsFresh log clock kept → (w : Word) → act_word log account kept ≡ Some w
+      → Tells log account clock kept w
+  act-tells at w is =
+      let act = mapped (λ (by : ℕ). Act by (missing log account (calls_of log account kept)))
+      (act_by log account kept) w is in
+      subst (Tells log account clock kept) act.2 (at, acts-by at.here.0 act.0 act.1, refl)
+
+  last-tells : IsFresh log clock kept → NothingIsDue log account kept → at_once log account kept ≡ None
+      → left_leaf log kept ≡ None
       → Tells log account clock kept (unwrap_or (leaving_word log kept) (safe_word log))
-  last-tells at none unleft =
+  last-tells at none shown unleft =
       (elim (exit_in (standing log kept) (tip kept)) as (λ o. exit_in (standing log kept) (tip kept) ≡ o
       → Tells log account clock kept
       (unwrap_or (option_map (λ exit. Leaving (later exit.start EXIT_PERIOD)) o) (safe_word log))) [
@@ -388,6 +351,7 @@ module _ (log : List RootCall) (account clock : ℕ) (kept : Kept) where
               (contains-has (standing log kept) exit there)),
           refl,
           unleft,
+          stays shown,
         )
         | Some exit ↦ λ own.
             let found = found-has (λ (it : ExitView). it.block == tip kept) (standing log kept) exit own in (
@@ -402,6 +366,10 @@ module _ (log : List RootCall) (account clock : ℕ) (kept : Kept) where
               unleft,
             )
       ]) refl
+
+unmapped-end : (o : Option ℕ) → option_map (λ end. end - 1) o ≡ None → o ≡ None
+unmapped-end None is = refl
+unmapped-end (Some end) is = absurd (cc is)
 
 pub words_tell : WordsTell
 words_tell log account clock kept =
@@ -423,6 +391,10 @@ words_tell log account clock kept =
     first-rule (stale_word log clock kept) acting last P (stale-tells log account clock kept at in_time) (λ no_stale.
     let good = fresh log account clock kept at in_time no_stale in
     first-rule (act_word log account kept) moving last P (act-tells log account clock kept good) (λ no_act.
-    let none = nothing-due log account clock kept unsent no_act in
+    let by = or-none (due_by log account kept) (at_once log account kept)
+    (unmapped (λ (by : ℕ). Act by (missing log account (calls_of log account kept))) (act_by log account kept) no_act)
+    in
+    let none = nothing-due log account clock kept unsent (unmapped-end (least (due_ends log account clock kept)) by.0)
+    in
     first-rule (left_word log kept) leaving last P (left-tells log account clock kept good none) (λ no_left.
-    last-tells log account clock kept good none (unmapped (away log kept) (left_leaf log kept) no_left)))))))
+    last-tells log account clock kept good none by.1 (unmapped (away log kept) (left_leaf log kept) no_left)))))))

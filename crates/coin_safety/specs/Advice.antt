@@ -162,10 +162,13 @@ may_leave log account kept =
 abbrev pub is_planted : List RootCall → Kept → Bool
 is_planted log kept = list_any (λ exit. nat_lt (tip kept) exit.parent) (standing log kept)
 
--- Then the holder had better leave: whoever leaves first is paid first, whatever is planted later.
+-- Then the holder had better leave, and also where the operator hides a block that no exit shows yet: whoever leaves
+-- first is paid first, whatever is planted later.
 abbrev pub own_start : List RootCall → ℕ → Kept → List RootCall
 own_start log account kept =
-    if may_leave log account kept && is_planted log kept then start_of account (tip kept) kept.links ∷ [] else []
+    if may_leave log account kept && (is_planted log kept || kept.hidden)
+    then start_of account (tip kept) kept.links ∷ []
+    else []
 
 -- ---- all of it
 

@@ -18,7 +18,7 @@ use Rattle.coin_safety.specs.declared.kept.Kept.{Kept}
 use Rattle.coin_safety.specs.declared.word.Word.{Word}
 use Rattle.coin_safety.specs.declared.word.Word.TheVariants.{Safe, Act, Sent, Leaving, Paid, Gone, Late, Frozen, Stale}
 use Rattle.coin_safety.specs.Numbers.{later}
-use Rattle.coin_safety.specs.Advice.{standing, tip, holder, shown_again, timed, calls_of, takes, missing}
+use Rattle.coin_safety.specs.Advice.{standing, tip, holder, shown_again, start_of, may_leave, timed, calls_of, takes, missing}
 use Rattle.coin_safety.specs.Words.{next_line, starter, ends_of, end_of_call, left_leaf, word_of}
 
 -- ---- the calls
@@ -103,6 +103,21 @@ pub record NothingIsDue (log : List RootCall) (account : ℕ) (kept : Kept) : Ty
   pub due : (exit : ExitView) → Contains (standing log kept) exit → due_for log account kept.links exit ≡ []
   pub again : shown_again log account kept ≡ []
 
+-- Nothing is due, but the operator hides a block from the holder, who may leave: his start is advised, at once.
+pub record IsToLeave (log : List RootCall) (account : ℕ) (kept : Kept) (by : ℕ) : Type 0 where
+  pub none : NothingIsDue log account kept
+  pub hidden : kept.hidden ≡ true
+  pub may : may_leave log account kept ≡ true
+  pub advised : Contains (calls_of log account kept) (start_of account (tip kept) kept.links)
+  pub at_once : by ≡ now log
+
+-- The time is the last second before the first window of a call that is due, or shown again, ends; or nothing is due,
+-- and the holder is to leave.
+abbrev pub IsActBy : List RootCall → ℕ → Kept → ℕ → Type 0
+IsActBy log account kept by =
+    ((end : ℕ) × IsFirst (map (end_of_call (standing log kept)) (timed log account kept)) end × (by ≡ end - 1))
+    ⊎ IsToLeave log account kept by
+
 -- The coin is here, the log is fresh by the clock, and no window ended unseen.
 pub record IsFresh (log : List RootCall) (clock : ℕ) (kept : Kept) : Type 0 where
   pub here : IsHere log kept
@@ -147,8 +162,7 @@ Tells log account clock kept Stale =
     IsHere log kept × AreAhead log (now log) kept
     × ((now log + RESPONSE_WINDOW < clock) ⊎ ((end : ℕ) × Contains (ends log kept) end × (end ≤ clock)))
 Tells log account clock kept (Act by money) =
-    IsFresh log clock kept
-    × ((end : ℕ) × IsFirst (map (end_of_call (standing log kept)) (timed log account kept)) end × (by ≡ end - 1))
+    IsFresh log clock kept × IsActBy log account kept by
     × (money ≡ missing log account (calls_of log account kept))
 Tells log account clock kept (Leaving opens) =
     IsFresh log clock kept × NothingIsDue log account kept
@@ -160,6 +174,7 @@ Tells log account clock kept (Safe until) =
     × ((exit : ExitView) → Contains (standing log kept) exit → exit.block ≢ tip kept)
     × (until ≡ later (now log) (CHALLENGE_WINDOW - 1))
     × (left_leaf log kept ≡ None)
+    × (kept.hidden ≡ true → may_leave log account kept ≡ false)
 
 -- each word tells what it says
 abbrev pub WordsTell : Type 0

@@ -1,6 +1,6 @@
 -- Whether a coin is safe, in a word: by the log, the account that would enter calls, the caller's clock, and what is
 -- kept of the coin. The rules are tried in the order in which they stand here, and the first that speaks gives it.
-use Rattle.std.specs.Prelude.{ℕ, ◌+◌, ◌-◌, ◌==◌, not, Bool, if◌then◌else◌, nat_lt, nat_le, List, [], ◌∷◌, length, Option, Some, None, unwrap_or, find, filter, map, slice_range, Result, Ok, Err}
+use Rattle.std.specs.Prelude.{ℕ, ◌+◌, ◌-◌, ◌==◌, ◌&&◌, not, Bool, if◌then◌else◌, nat_lt, nat_le, List, [], ◌∷◌, length, Option, Some, None, unwrap_or, find, filter, map, slice_range, Result, Ok, Err}
 use Rattle.std.specs.List.{list_any, flat_map}
 use Rattle.std.specs.Option.{option_and_then, option_map, option_map_or, option_or}
 use Rattle.std.specs.Int.{w32}
@@ -22,7 +22,7 @@ use Rattle.coin_safety.specs.declared.payment.Payment.{Payment}
 use Rattle.coin_safety.specs.declared.word.Word.{Word}
 use Rattle.coin_safety.specs.declared.word.Word.TheVariants.{Safe, Act, Sent, Leaving, Paid, Gone, Late, Frozen, Stale}
 use Rattle.coin_safety.specs.Numbers.{later, least}
-use Rattle.coin_safety.specs.Advice.{standing, tip, holder, left_by, exit_in, timed, calls_of, missing}
+use Rattle.coin_safety.specs.Advice.{standing, tip, holder, left_by, exit_in, may_leave, timed, calls_of, missing}
 
 -- ---- sent
 
@@ -99,7 +99,7 @@ stale_word log clock kept =
     if nat_lt (now log + RESPONSE_WINDOW) clock then Some Stale
     else option_map (λ end. Stale) (come clock (first_end log kept))
 
--- ---- what is due
+-- ---- what is to be entered
 
 -- from when on the challenge at the block can't be answered
 abbrev pub answer_end : List ChallengeView → ℕ → ℕ
@@ -120,12 +120,24 @@ end_of_call exits (Between account coin block spend) = window_end (exit_in exits
 end_of_call exits (Before account coin block shown) = window_end (exit_in exits block)
 end_of_call exits call = 0
 
--- Calls are due, or shown again: until the last second before the first of their windows ends, and with so much more
--- money.
+-- Calls are due, or shown again: until the last second before the first of their windows ends.
+abbrev pub due_by : List RootCall → ℕ → Kept → Option ℕ
+due_by log account kept =
+    option_map (λ end. end - 1) (least (map (end_of_call (standing log kept)) (timed log account kept)))
+
+-- The operator hides a block from the holder, who had better leave at once: an exit planted there may be started at any
+-- second from now on.
+abbrev pub at_once : List RootCall → ℕ → Kept → Option ℕ
+at_once log account kept = if may_leave log account kept && kept.hidden then Some (now log) else None
+
+-- until when calls are to be entered
+abbrev pub act_by : List RootCall → ℕ → Kept → Option ℕ
+act_by log account kept = option_or (due_by log account kept) (at_once log account kept)
+
+-- Until then, and with so much more money.
 abbrev pub act_word : List RootCall → ℕ → Kept → Option Word
 act_word log account kept =
-    option_map (λ end. Act (end - 1) (missing log account (calls_of log account kept)))
-    (least (map (end_of_call (standing log kept)) (timed log account kept)))
+    option_map (λ by. Act by (missing log account (calls_of log account kept))) (act_by log account kept)
 
 -- ---- left
 

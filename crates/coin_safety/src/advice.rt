@@ -1,10 +1,10 @@
 ghost use Rattle.std.specs.Prelude.{◌≡◌, ◌==◌, ◌++◌, find, map, is_some, IfOk, OnOk, unwrap_or};
 ghost use Rattle.std.specs.Option.{option_and_then, option_copied};
 ghost use Rattle.plasma_tx.specs.Views.{exits_of};
-ghost use Rattle.coin_safety.specs.Advice.{standing, tip, left_by, exit_in, earlier_spend, instead, has_challenged, is_own, is_to_finish, finishes, due, timed, calls_of};
+ghost use Rattle.coin_safety.specs.Advice.{tip, left_by, exit_in, earlier_spend, instead, has_challenged, is_own, is_to_finish, finishes, due, calls_of};
 ghost use Rattle.coin_safety.specs.Index.{IsIndex};
 ghost use Rattle.coin_safety.specs.Numbers.{least};
-ghost use Rattle.coin_safety.specs.Words.{end_of_call, answer_end, window_end};
+ghost use Rattle.coin_safety.specs.Words.{end_of_call, answer_end, window_end, act_by};
 
 use super::index::Index;
 use super::look::Look;
@@ -17,11 +17,11 @@ use plasma_tx::{
 use std::alloc::Global;
 use watch_duty::push_due;
 
-/// The calls to enter, and from when on the first of those that have a time can't be entered any more.
+/// The calls to enter, and until when.
 #[derive(Drop)]
 pub(crate) struct Advice {
     pub(crate) calls: Vec<RootCall>,
-    pub(crate) end: Option<u64>,
+    pub(crate) by: Option<u64>,
 }
 
 impl Look<'_> {
@@ -30,16 +30,18 @@ impl Look<'_> {
         requires { left ≡ is_some (left_by self.now.log.now.log self.now.kept.now.links.coin (tip self.now.kept.now)) }
         ensures calls { IfOk result (λ advice. advice.calls.items
             ≡ calls_of self.now.log.now.log self.now.account self.now.kept.now) }
-        ensures end { IfOk result (λ advice. advice.end
-            ≡ least (map (end_of_call (standing self.now.log.now.log self.now.kept.now))
-            (timed self.now.log.now.log self.now.account self.now.kept.now))) }
+        ensures by { IfOk result (λ advice. advice.by
+            ≡ act_by self.now.log.now.log self.now.account self.now.kept.now) }
     {
         let mut calls = self.due(alloc)?;
         self.push_shown_again(alloc, &mut calls)?;
         let end = advise(alloc, self.log, self.coin(), &mut calls)?;
         self.push_own_start(left, &mut calls)?;
         self.push_finishes(&mut calls)?;
-        Ok(Advice { calls, end })
+        Ok(Advice {
+            calls,
+            by: self.act_by(left, end),
+        })
     }
 
     /// What is due for the coin; nothing where it was signed away.

@@ -1,10 +1,9 @@
-ghost use Rattle.std.specs.Prelude.{◌≡◌, map, Some, None, IfOk, if◌then◌else◌};
+ghost use Rattle.std.specs.Prelude.{◌≡◌, Some, None, IfOk, if◌then◌else◌};
 ghost use Rattle.std.specs.List.{list_any};
 ghost use Rattle.std.specs.Option.{option_copied};
-ghost use Rattle.coin_safety.specs.Advice.{tip, holder, left_by, calls_of, missing, timed, standing};
+ghost use Rattle.coin_safety.specs.Advice.{tip, holder, left_by, calls_of, missing, standing};
 ghost use Rattle.coin_safety.specs.Commands.{command_of};
-ghost use Rattle.coin_safety.specs.Numbers.{least};
-ghost use Rattle.coin_safety.specs.Words.{end_of_call, is_strange, away, sent_word, left_word, paid_word, first_end, late_word, stale_word, act_word, leaving_word, safe_word, word_of};
+ghost use Rattle.coin_safety.specs.Words.{is_strange, away, sent_word, left_word, paid_word, first_end, late_word, stale_word, act_by, act_word, leaving_word, safe_word, word_of};
 
 use super::advice::Advice;
 use super::kept::Kept;
@@ -53,9 +52,8 @@ impl Look<'_> {
     ) -> Result<Word, NoMemory>
         requires calls { advice.now.calls.items
             ≡ calls_of self.now.log.now.log self.now.account self.now.kept.now }
-        requires end { advice.now.end
-            ≡ least (map (end_of_call (standing self.now.log.now.log self.now.kept.now))
-            (timed self.now.log.now.log self.now.account self.now.kept.now)) }
+        requires by { advice.now.by
+            ≡ act_by self.now.log.now.log self.now.account self.now.kept.now }
         requires left { option_copied left
             ≡ left_by self.now.log.now.log self.now.kept.now.links.coin (tip self.now.kept.now) }
         ensures { IfOk result (λ word. word
@@ -158,24 +156,20 @@ impl Look<'_> {
         clock > later(self.log.now(), RESPONSE_WINDOW) || come(clock, end).is_some()
     }
 
-    /// Calls are due.
+    /// Calls are to be entered.
     fn act_word(&self, alloc: Global, advice: &Advice) -> Result<Option<Word>, NoMemory>
         requires calls { advice.now.calls.items
             ≡ calls_of self.now.log.now.log self.now.account self.now.kept.now }
-        requires end { advice.now.end
-            ≡ least (map (end_of_call (standing self.now.log.now.log self.now.kept.now))
-            (timed self.now.log.now.log self.now.account self.now.kept.now)) }
+        requires by { advice.now.by
+            ≡ act_by self.now.log.now.log self.now.account self.now.kept.now }
         ensures { IfOk result (λ word. word
             ≡ act_word self.now.log.now.log self.now.account self.now.kept.now) }
     {
-        let Some(end) = advice.end else {
+        let Some(by) = advice.by else {
             return Ok(None);
         };
         let missing = missing(alloc, self.log, self.account, advice.calls.as_slice())?;
-        Ok(Some(Word::Act {
-            by: end.saturating_sub(1),
-            missing,
-        }))
+        Ok(Some(Word::Act { by, missing }))
     }
 
     /// An answer shows that the coin has left the tip.

@@ -1,6 +1,8 @@
-ghost use Rattle.std.specs.Prelude.{◌≡◌, ◌++◌, IfOk, OnOk, is_some};
+ghost use Rattle.std.specs.Prelude.{◌≡◌, ◌++◌, map, IfOk, OnOk, is_some};
 ghost use Rattle.watch_duty.specs.Duty.{guard_of, tip_shown};
-ghost use Rattle.coin_safety.specs.Advice.{tip, holder, left_by, start_of, may_leave, is_planted, own_start};
+ghost use Rattle.coin_safety.specs.Advice.{standing, tip, holder, left_by, start_of, may_leave, is_planted, own_start, timed};
+ghost use Rattle.coin_safety.specs.Numbers.{least};
+ghost use Rattle.coin_safety.specs.Words.{end_of_call, act_by};
 
 use super::look::Look;
 use plasma_base::NoMemory;
@@ -17,10 +19,27 @@ impl Look<'_> {
         ensures { OnOk result (calls.new.items
             ≡ calls.old.items ++ own_start self.now.log.now.log self.now.account self.now.kept.now) }
     {
-        if self.may_leave(left) && self.is_planted() {
+        if self.may_leave(left) && (self.is_planted() || self.kept.hidden) {
             calls.push(self.start()?)?;
         }
         Ok(())
+    }
+
+    /// Until when the calls are to be entered, where this is the end of those that have a time: with none of them at
+    /// once, where the operator hides a block from the holder, who may leave.
+    pub(crate) fn act_by(&self, left: bool, end: Option<u64>) -> Option<u64>
+        requires left { left
+            ≡ is_some (left_by self.now.log.now.log self.now.kept.now.links.coin (tip self.now.kept.now)) }
+        requires end { end
+            ≡ least (map (end_of_call (standing self.now.log.now.log self.now.kept.now))
+            (timed self.now.log.now.log self.now.account self.now.kept.now)) }
+        ensures { result ≡ act_by self.now.log.now.log self.now.account self.now.kept.now }
+    {
+        match end {
+            Some(end) => Some(end.saturating_sub(1)),
+            None if self.may_leave(left) && self.kept.hidden => Some(self.log.now()),
+            None => None,
+        }
     }
 
     /// Whether the account is the holder's, the coin is at the tip still, and no exit there stands.

@@ -5,7 +5,7 @@ use plasma_tx::RootCall;
 pub enum Word {
     /// It is held, and nothing is due; so it stays till then without another look.
     Safe { until: u64 },
-    /// Calls are due: the first at the latest by then, and so much money is missing to enter them all.
+    /// Calls are to be entered: the first at the latest by then, and so much money is missing to enter them all.
     Act { by: u64, missing: u64 },
     /// This leaf signed it away.
     Sent { leaf: u32 },

@@ -5,8 +5,8 @@ use Rattle.coin_safety.specs.Advice.{standing, shown_again}
 use Rattle.coin_safety.specs.Words.{end_of_call}
 use Rattle.coin_safety.proofs.look.Look.advice.Goals as goal
 
-pub returns-clause-end : goal.returns-clause-end
-returns-clause-end c =
+pub act_by-requires-clause-end : goal.act_by-requires-clause-end
+act_by-requires-clause-end c =
     let look = c.args.self.now in
     c.in_ok-end.ensures.end
     ∙ ap (λ n. least (map (end_of_call (exits_of look.log.now.log n)) c.push_shown_again.new.calls.items))
