@@ -2,9 +2,8 @@
 
 The attack is a schedule. Of it are left out the lines by which a wallet or a watcher would help itself: their looks,
 their offers, their exits and the calls of their accounts. Behind each call that joins the log each of them asks `safe`,
-and enters what it says, in its order: a call at the contract, `release` and `reclaim` at the node itself, where a wallet
-takes a transfer back with what the operator shows it. The contract is a replay of the log: it says which calls are
-accepted.
+and enters what it says, in its order: a call at the contract, `release` and `reclaim` at the node itself. A transfer is
+taken back with what the operator shows. The contract is a replay of the log: it says which calls are accepted.
 
 A wallet first asks the attack's operator for each committed block behind its coin's deposit, and an archive whether
 these openings are a whole history. Where they aren't it tells `safe` so, by a line `hidden <coin>`. So an attack hides

@@ -92,7 +92,8 @@ class Safety(unittest.TestCase):
         with tempfile.TemporaryDirectory() as room:
             for change, part in (("s/ act .*/ safe 604799/", "is safe, with 1 offers"),
                                  ("s/ act .*/ safe 604799/", "is safe, and account 21 is paid for it"),
-                                 ("s/ safe .*/ gone 21 6/", "is gone, and held 2"), ("/^call/d", "is offered, and not said"),
+                                 ("s/ safe .*/ gone 21 6/", "is gone, and held 2"),
+                                 ("/^call/d", "is offered, and not said"),
                                  ("s/ late .*/ gone 21 6/", "by the proved program")):
                 with open(f"{room}/wrong", "w", encoding="utf-8") as file:
                     file.write(f"#!/bin/sh\n{self.proved} \"$@\" | sed '{change}'\n")
@@ -205,6 +206,19 @@ class Typed(Safety):
         self.assertIn("STALE", self.safe(to, "bob", "--now", "259200")[1])
         os.utime(f"{to}/log", (1, 1))
         self.assertIn("STALE", self.safe(to)[1])
+
+    def test_a_block_that_was_not_shown(self):
+        to, said = self.play(THEFT.replace("call 21 start 1 1\n", "")), "1 300 act 0 0\ncall 12 exit 1 1 - 2 0x"
+        with open(f"{self.room}/asked", "w", encoding="utf-8") as file:
+            file.write(f"#!/bin/sh\ntail -n 1 > {self.room}/last\necho '{said}'\n")
+        os.chmod(f"{self.room}/asked", 0o700)
+        os.environ["PLASMA_SAFE"] = f"{self.room}/asked"
+        self.addCleanup(os.environ.pop, "PLASMA_SAFE")
+        found, told = self.safe(to, "bob", "--hidden", "1")
+        self.assertEqual((found, told.splitlines()[0]), (1, "ACT BY: coin 1"))
+        self.assertIn("due: exit, no day is set; takes 100, which come back when it pays", told)
+        self.assertEqual(self.safe(to, "bob", "--hidden", "1", "--calls")[1], f"{said.splitlines()[1]}\n")
+        self.assertEqual(text_of(f"{self.room}/last"), "hidden 1\n")
 
     def test_what_changed(self):
         to, kept = self.play(THEFT.replace("call 21 start 1 1\n", "")), f"{self.room}/kept"

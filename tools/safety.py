@@ -256,14 +256,26 @@ class Judge:
 WORSE = {"act": "ACT BY", "late": "TOO LATE", "gone": "GONE", "frozen": "ACT BY", "stale": "STALE"}
 
 
-def hold(verdicts, told, log):
-    """Takes the proved program's word for each coin where it is the worse one, and its calls where they are more."""
+def hold(verdicts, told, log, hidden=()):
+    """Takes the proved program's word for each coin where it is the worse one, and its calls where they are more; of a
+    coin of which a block was hidden the start of its own exit too."""
     left = {}
     for coin, words, lines in told or []:
         left.setdefault(coin, []).append((words, lines))
     for it in verdicts:
         if left.get(it.coin):
-            hold_one(it, *left[it.coin].pop(0), log)
+            words, lines = left[it.coin].pop(0)
+            hold_one(it, words, lines, log)
+            if it.coin in hidden and words[0] == "act":
+                leave(it, lines)
+
+
+def leave(it, lines):
+    """A block of the coin wasn't shown: it is to be taken out at once, where nothing else is due."""
+    starts = [line for line in lines if line.split(" ")[2:3] in (["start"], ["exit"])]
+    if starts and not it.due:
+        it.by, it.due = None, [Due("exit", None, EXIT_BOND, 0, starts[0], False, it.tip)]
+        it.notes.append("the operator didn't show a block of it: take it out at once, since the first exit is paid")
 
 
 def hold_one(it, words, lines, log):
