@@ -129,8 +129,10 @@ class Saved(Played):
 
     def takes_back(self, name, coin, last):
         """Takes a transfer back with what the operator shows of the blocks behind the coin's tip, up to the last."""
-        state = self.typed(name, ["wallet"], f"{self.text()}--\nstate {coin}\n")[0].split(" ")
-        shown = self.typed(OPERATOR, ["operator"], f"{self.text()}--\nabsences {coin} {state[1]} {last}\n")
+        state, *tip = self.typed(name, ["wallet"], f"{self.text()}--\nstate {coin}\n")[0].split(" ")
+        if state != "sending":
+            return False
+        shown = self.typed(OPERATOR, ["operator"], f"{self.text()}--\nabsences {coin} {tip[0]} {last}\n")
         return len(shown) == 2 and self.given(name, f"reclaim {shown[1]}")
 
     # ---- what the operator shows
