@@ -97,6 +97,7 @@ impl<H: Hash32 + Copy> PagedTree<H> {
     ) -> Result<PagedTree<H>, Leaves>
         ensures made { IfOk result (λ tree. tree ≡ record { hash = defaults; entries = leaves }) }
         ensures returned { IfErr result (λ returned. returned ≡ leaves) }
+        ensures memory { OnErr result (leaves ≢ []) }
     {
         match SharedTree::of_leaves(alloc, &defaults, leaves) {
             Ok(tree) => Ok(PagedTree { defaults, tree }),
@@ -188,7 +189,7 @@ impl<H: Hash32 + Copy> SharedTree<H> {
 
     /// The tree of a map, under the digest of the defaults. It makes a digest for each node of a part with a
     /// leaf: at most 65 for a leaf, and for coins that stand in a row about two. Where memory runs out the map
-    /// is handed back.
+    /// is handed back; a map without a leaf takes none.
     pub fn of_leaves(
         alloc: Global,
         defaults: &Defaults<H>,
@@ -196,7 +197,11 @@ impl<H: Hash32 + Copy> SharedTree<H> {
     ) -> Result<SharedTree<H>, Leaves>
         ensures made { IfOk result (λ tree. tree ≡ record { hash = defaults.now; entries = leaves }) }
         ensures returned { IfErr result (λ returned. returned ≡ leaves) }
+        ensures memory { OnErr result (leaves ≢ []) }
     {
+        if leaves.len() == 0 {
+            return Ok(SharedTree::new(alloc, defaults));
+        }
         match nodes_of(alloc, defaults, &leaves) {
             Ok(nodes) => {
                 let TreeNodes { root, pages } = nodes;
