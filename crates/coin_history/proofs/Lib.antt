@@ -1,4 +1,5 @@
 pub mod BundleItems
+pub mod FirstItems
 pub mod BundleLaws
 pub mod HistoryOpenings
 pub mod HistoryLinks

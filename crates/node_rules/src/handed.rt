@@ -1,5 +1,5 @@
 ghost use Rattle.std.specs.Prelude.{◌≡◌, ◌≢◌, ◌<◌, ◌^◌, length, map, Err, IfOk, OnOk, ◌++◌, ◌∷◌, []};
-ghost use Rattle.coin_history.specs.Bundles.{IsBundle, bundle_text};
+ghost use Rattle.coin_history.specs.Bundles.{HasFirstItem, IsBundle, bundle_text};
 ghost use Rattle.node_rules.specs.Kept.{kept_of, links_handed};
 ghost use Rattle.node_rules.specs.KeptCoins.{IsShown};
 
@@ -10,7 +10,7 @@ use std::alloc::Global;
 
 /// The links of the history of a coin whose bundle was handed in as bytes, for a chain with this tag. What is
 /// kept of them is read back from its bytes. It refuses as `Bundle::read`, and then as `check_tagged`;
-/// `NoMemory` may come in place of each.
+/// `NoMemory` may come in place of each where the bytes have a first item.
 pub fn links_handed<H: Hash32>(
     alloc: Global,
     h: &H,
@@ -20,6 +20,7 @@ pub fn links_handed<H: Hash32>(
 ) -> Result<Links, HistoryRefusal>
     ensures value { result ≢ Err HistoryRefusal.NoMemory
         → result ≡ links_handed (H.digest_of h.now) tag.now log.now.log bytes.now }
+    ensures memory { result ≡ Err HistoryRefusal.NoMemory → HasFirstItem bytes.now }
     ensures spelled { IfOk result (λ links. IsBundle (kept_of links)) }
     ensures shown { IfOk result (IsShown (H.digest_of h.now) tag.now) }
 {

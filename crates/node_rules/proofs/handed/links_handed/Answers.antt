@@ -1,6 +1,7 @@
 use Rattle.std.proofs.Common.{◌≡◌, ◌<◌, Ok, sym, ◌∙◌, ap, arith}
 use Rattle.std.proofs.lemmas.List.Elements.{All-from_get_or}
 use Rattle.coin_history.specs.Bundles.{bundle_in}
+use Rattle.coin_history.proofs.FirstItems.{has-first_item, looked-some}
 use Rattle.node_rules.specs.Kept.{checked_by}
 use Rattle.node_rules.proofs.KeptTexts.{handed-back}
 use Rattle.node_rules.proofs.handed.links_handed.Goals as goal
@@ -23,3 +24,8 @@ returns-in-Ok-check_tagged-clause-shown g c =
     (ap (checked_by dig c.args.tag.now c.args.log.now.log) read
     ∙ sym (c.in-Ok-check_tagged.ensures.value (λ wrong. cc wrong))) in
     record { read = back.read; shown = back.shown }
+
+pub returns-clause-memory : goal.returns-clause-memory
+returns-clause-memory g c = λ none.
+    has-first_item c.args.bytes.now c.in-Ok.bundle (sym (c.in-Ok.ensures.value (λ wrong. cc wrong)))
+    (looked-some c.in-Ok.bundle.openings (c.in-Err-check_tagged.ensures.memory none).looks)

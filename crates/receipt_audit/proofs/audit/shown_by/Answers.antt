@@ -1,7 +1,7 @@
 use Rattle.std.proofs.Common.{sym}
 use Rattle.coin_history.specs.Bundles.{bundle_in}
 use Rattle.receipt_audit.proofs.Audits.{unread-answer, read-cause, memory-told}
-use Rattle.receipt_audit.proofs.Items.{has-first_item}
+use Rattle.coin_history.proofs.FirstItems.{has-first_item}
 use Rattle.receipt_audit.proofs.audit.shown_by.Goals as goal
 
 pub audit_refusal-requires : goal.audit_refusal-requires
