@@ -23,35 +23,37 @@ each-last c x change (m ∷ ms) = at (m == c) (x == c) (each-last c x change ms)
     at false true rest = rest
     at false false rest = rest
 
-pub met-none : (line : ℕ) (nodes : List Quiet) (books : List CoinBook) → AreMet line nodes [] books books
-met-none line nodes books c = at (book_at books c)
+pub met-none : (line : ℕ) (wallets : List ℕ) (nodes : List Quiet) (books : List CoinBook)
+    → AreMet line wallets nodes [] books books
+met-none line wallets nodes books c = at (book_at books c)
   where
-    at : (o : Option CoinBook) → o ≡ option_map (with_each line c nodes []) o
+    at : (o : Option CoinBook) → o ≡ option_map (with_each line c wallets nodes []) o
     at None = refl
     at (Some book) = refl
 
 -- a tick meets a deadline of one more coin
-pub met-more : (line : ℕ) (nodes : List Quiet) (xs : List ℕ) (x : ℕ) (books mid after : List CoinBook)
-    → AreMet line nodes xs books mid → IsChanged x (with_met line x nodes) mid after
-    → AreMet line nodes (xs ++ x ∷ []) books after
-met-more line nodes xs x books mid after are is c = is c ∙ at (cases_eq c x) (book_at books c) (are c)
+pub met-more : (line : ℕ) (wallets : List ℕ) (nodes : List Quiet) (xs : List ℕ) (x : ℕ)
+    (books mid after : List CoinBook)
+    → AreMet line wallets nodes xs books mid → IsChanged x (with_met line x wallets nodes) mid after
+    → AreMet line wallets nodes (xs ++ x ∷ []) books after
+met-more line wallets nodes xs x books mid after are is c = is c ∙ at (cases_eq c x) (book_at books c) (are c)
   where
     one : (o : Option CoinBook) → x ≡ c
-        → option_map (with_met line x nodes) (option_map (with_each line c nodes xs) o)
-        ≡ option_map (with_each line c nodes (xs ++ x ∷ [])) o
+        → option_map (with_met line x wallets nodes) (option_map (with_each line c wallets nodes xs) o)
+        ≡ option_map (with_each line c wallets nodes (xs ++ x ∷ [])) o
     one None same = refl
     one (Some book) same =
-        rw (each-last c x (meets c nodes book.guards) xs, eq-eqb x c same)
-        (ap (λ k. Some (with_met line k nodes (with_each line c nodes xs book))) same)
+        rw (each-last c x (meets c wallets nodes book.guards) xs, eq-eqb x c same)
+        (ap (λ k. Some (with_met line k wallets nodes (with_each line c wallets nodes xs book))) same)
 
     other : (o : Option CoinBook) → (x ≡ c → ⊥)
-        → option_map (with_each line c nodes xs) o ≡ option_map (with_each line c nodes (xs ++ x ∷ [])) o
+        → option_map (with_each line c wallets nodes xs) o ≡ option_map (with_each line c wallets nodes (xs ++ x ∷ [])) o
     other None apart = refl
-    other (Some book) apart = rw (each-last c x (meets c nodes book.guards) xs, ne_eqb x c apart) refl
+    other (Some book) apart = rw (each-last c x (meets c wallets nodes book.guards) xs, ne_eqb x c apart) refl
 
     at : (c ≡ x) ⊎ (c ≡ x → ⊥) → (o : Option CoinBook)
-        → book_at mid c ≡ option_map (with_each line c nodes xs) o
-        → (if c == x then option_map (with_met line x nodes) (book_at mid c) else book_at mid c)
-        ≡ option_map (with_each line c nodes (xs ++ x ∷ [])) o
+        → book_at mid c ≡ option_map (with_each line c wallets nodes xs) o
+        → (if c == x then option_map (with_met line x wallets nodes) (book_at mid c) else book_at mid c)
+        ≡ option_map (with_each line c wallets nodes (xs ++ x ∷ [])) o
     at (inl same) o was = rw (eq-eqb c x same, was) (one o (sym same))
     at (inr apart) o was = rw (ne_eqb c x apart, was) (other o (λ same. apart (sym same)))

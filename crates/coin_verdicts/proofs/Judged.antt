@@ -16,10 +16,11 @@ use Rattle.coin_verdicts.specs.declared.note.Holder.{Holder}
 use Rattle.coin_verdicts.specs.declared.note.Leaf.{Leaf}
 use Rattle.coin_verdicts.specs.declared.note.Standing.{Standing}
 use Rattle.coin_verdicts.specs.Facts.{has, ended, IsFact, AreFacts}
-use Rattle.coin_verdicts.specs.Notes.{bound_in, taken_in, quiet_in, guards_in, nodes_at, tips_at, leaf_in, where_so, returned, changes_in, noted, notes_in}
+use Rattle.coin_verdicts.specs.Notes.{wallets_in, bound_in, taken_in, quiet_in, guards_in, nodes_at, wallets_at, tips_at, leaf_in, where_so, returned, changes_in, noted, notes_in}
 use Rattle.coin_verdicts.specs.Standings.{has_coin, is_held_at, takes, standing_in}
 use Rattle.coin_verdicts.proofs.Forms.{tick-form, watch-form, as-many}
 use Rattle.coin_verdicts.proofs.GuardedTips.{guarded-same}
+use Rattle.coin_verdicts.proofs.QuietWallets.{holder-declared, quiet-among}
 use Rattle.coin_verdicts.proofs.SentLeaves.{is_body, count_of, sent-counted}
 use Rattle.coin_verdicts.proofs.OneLine.{after-where, after-each}
 use Rattle.coin_verdicts.proofs.Agreed.{AgreesAt, agreed}
@@ -162,11 +163,12 @@ module _ (tests : Tests) (rules : Rules) (holder : Holder) (c e : ℕ) where
         let form = tick-form (log_of events) time fact h in
         rw (
           form.is,
-          after-each holder e (length facts + 1) c (nodes_at c (quiet_in facts))
+          after-each holder e (length facts + 1) c (wallets_at (nodes_at c (quiet_in facts)) (wallets_in facts))
               (tips_at (nodes_at c (quiet_in facts)) (guards_in facts c)) form.met (notes_in facts c),
         )
         (judges-meets holder e (length facts + 1) (standing facts) (has form.met c)
-        (nodes_at c (quiet_in facts)) (tips_at (nodes_at c (quiet_in facts)) (guards_in facts c))
+        (wallets_at (nodes_at c (quiet_in facts)) (wallets_in facts))
+        (tips_at (nodes_at c (quiet_in facts)) (guards_in facts c))
         (goes_unattended events holder.wallet c e (Joins (RootCall.Tick time)))
         (unattended-same (meets_deadline (log_of events) c (Joins (RootCall.Tick time)))
         (holds events holder.wallet c e) (is_guarded events holder.wallet c e)
@@ -174,7 +176,11 @@ module _ (tests : Tests) (rules : Rules) (holder : Holder) (c e : ℕ) where
         (sym (form.those c))
         ∙ ap (λ b. has form.met c && (b && not (is_guarded events holder.wallet c e))) held_is
         ∙ ap (λ b. has form.met c && (is_held_at holder (length facts + 1) (standing facts) && not b))
-        (sym (guarded-same tests rules events facts holder.wallet c e are))))
+        (sym (guarded-same tests rules events facts holder.wallet c e are))
+        ∙ ap (λ b. has form.met c && b)
+        (quiet-among (is_held_at holder (length facts + 1) (standing facts)) (nodes_at c (quiet_in facts))
+        (wallets_in facts) holder.wallet (has (tips_at (nodes_at c (quiet_in facts)) (guards_in facts c)) e)
+        (λ held. holder-declared tests rules events facts holder.wallet c e are (held_is ∙ held)))))
     call-judged (RootCall.After account coin block spend) fact h =
         rw h (cancel-step (exit_at (log_of events) coin block) coin block)
     call-judged (RootCall.Between account coin block spend) fact h =

@@ -11,7 +11,7 @@ use Rattle.coin_verdicts.specs.declared.note.Quiet.{Quiet}
 use Rattle.coin_verdicts.specs.declared.reading.Reading.{Reading}
 use Rattle.coin_verdicts.specs.declared.signers.Signers.{Signers}
 use Rattle.coin_verdicts.specs.Facts.{has}
-use Rattle.coin_verdicts.specs.Notes.{bound_in, taken_in, without_node, quiet_after, quiet_in, is_guard, guards_after, guards_in, where_so, returned, leaf_in, changes_in, noted, notes_in}
+use Rattle.coin_verdicts.specs.Notes.{wallets_after, wallets_in, bound_in, taken_in, without_node, quiet_after, quiet_in, is_guard, guards_after, guards_in, where_so, returned, leaf_in, changes_in, noted, notes_in}
 use Rattle.coin_verdicts.specs.Books.{CoinBook, blank, with_more, with_guard, without_guard, with_each, book_at, IsChanged, AreMet, Signing, with_leaf, with_taken}
 use Rattle.coin_verdicts.specs.Signings.{signed_in, IsSigned}
 use Rattle.coin_verdicts.specs.Readings.{is_coin, book_in, Keeps}
@@ -62,12 +62,14 @@ books-next count line c facts fact old new is was made =
 module _ (count line : ℕ) (facts : List Fact) (old new : Reading) (is : line ≡ length facts + 1)
     (keeps : Keeps count facts old) where
   -- a fact that says nothing of leaves
-  pub keeps-next : (fact : Fact) → is_unsigned fact ≡ true → new.nodes ≡ quiet_after old.nodes fact
+  pub keeps-next : (fact : Fact) → is_unsigned fact ≡ true
+      → new.wallets.items ≡ wallets_after old.wallets.items fact → new.nodes ≡ quiet_after old.nodes fact
       → new.signers ≡ old.signers
       → ((c : ℕ) → book_at new.books c ≡ option_map (book_after facts line c fact) (book_at old.books c))
       → Keeps count (fact ∷ facts) new
-  unfolding quiet_in
-  keeps-next fact unsigned nodes signers books = record {
+  unfolding wallets_in quiet_in
+  keeps-next fact unsigned wallets nodes signers books = record {
+    wallets_are = wallets ∙ ap (λ ws. wallets_after ws fact) keeps.wallets_are;
     nodes_are = nodes ∙ ap (λ ns. quiet_after ns fact) keeps.nodes_are;
     leaves_are = λ w. ap (λ (s : Signers). (signed_in s w).leaves) signers ∙ keeps.leaves_are w
         ∙ ap reverse (sym (unsigned-bound fact facts w unsigned));
@@ -90,14 +92,17 @@ module _ (count line : ℕ) (facts : List Fact) (old new : Reading) (is : line �
       at false = same
 
   -- a wallet binds its next leaf
-  pub keeps-binds : (wallet coin parent : ℕ) → new.nodes ≡ without_node wallet old.nodes
+  pub keeps-binds : (wallet coin parent : ℕ)
+      → new.wallets.items ≡ wallets_after old.wallets.items (Fact.Binds wallet coin parent)
+      → new.nodes ≡ without_node wallet old.nodes
       → IsSigned old.signers new.signers wallet
       (with_leaf (record { coin = coin; parent = parent }) (signed_in old.signers wallet))
       → ((c : ℕ) → book_at new.books c
       ≡ option_map (book_after facts line c (Fact.Binds wallet coin parent)) (book_at old.books c))
       → Keeps count (Fact.Binds wallet coin parent ∷ facts) new
-  unfolding quiet_in bound_in taken_in
-  keeps-binds wallet coin parent nodes signers books = record {
+  unfolding wallets_in quiet_in bound_in taken_in
+  keeps-binds wallet coin parent wallets nodes signers books = record {
+    wallets_are = wallets ∙ keeps.wallets_are;
     nodes_are = nodes ∙ ap (λ ns. quiet_after ns (Fact.Binds wallet coin parent)) keeps.nodes_are;
     leaves_are = λ w. leaves-more w wallet (record { coin = coin; parent = parent }) (signed_in new.signers w)
         (signed_in old.signers w) (bound_in facts w) (signers w ∙ own w) (keeps.leaves_are w);
@@ -127,13 +132,16 @@ module _ (count line : ℕ) (facts : List Fact) (old new : Reading) (is : line �
       at w q false = refl
 
   -- a wallet takes a leaf back
-  pub keeps-returns : (wallet number : ℕ) → new.nodes ≡ without_node wallet old.nodes
+  pub keeps-returns : (wallet number : ℕ)
+      → new.wallets.items ≡ wallets_after old.wallets.items (Fact.TakesBack wallet number)
+      → new.nodes ≡ without_node wallet old.nodes
       → IsSigned old.signers new.signers wallet (with_taken number (signed_in old.signers wallet))
       → ((c : ℕ) → book_at new.books c
       ≡ option_map (book_after facts line c (Fact.TakesBack wallet number)) (book_at old.books c))
       → Keeps count (Fact.TakesBack wallet number ∷ facts) new
-  unfolding quiet_in bound_in taken_in
-  keeps-returns wallet number nodes signers books = record {
+  unfolding wallets_in quiet_in bound_in taken_in
+  keeps-returns wallet number wallets nodes signers books = record {
+    wallets_are = wallets ∙ keeps.wallets_are;
     nodes_are = nodes ∙ ap (λ ns. quiet_after ns (Fact.TakesBack wallet number)) keeps.nodes_are;
     leaves_are = λ w. ap (λ (s : Signing). s.leaves) (signers w ∙ own w) ∙ kept w (w == wallet) ∙ keeps.leaves_are w;
     taken_are = λ w q. ap (λ (s : Signing). has s.taken q) (signers w ∙ own w)
@@ -235,17 +243,19 @@ released-books watcher coin tip c books after is = is c ∙ rw (eqb-comm c coin)
     at false None = refl
     at false (Some book) = refl
 
--- a tick, by the nodes and guards that are kept
-pub met-books : (count line c : ℕ) (facts : List Fact) (nodes : List Quiet) (met : List ℕ) (books after : List CoinBook)
-    → nodes ≡ quiet_in facts → book_at books c ≡ (if is_coin count c then Some (book_in facts c) else None)
-    → AreMet line nodes met books after
+-- a tick, by the wallets, nodes and guards that are kept
+pub met-books : (count line c : ℕ) (facts : List Fact) (wallets : List ℕ) (nodes : List Quiet) (met : List ℕ)
+    (books after : List CoinBook) → wallets ≡ wallets_in facts → nodes ≡ quiet_in facts
+    → book_at books c ≡ (if is_coin count c then Some (book_in facts c) else None)
+    → AreMet line wallets nodes met books after
     → book_at after c ≡ option_map (book_after facts line c (Fact.Ticks met)) (book_at books c)
-met-books count line c facts nodes met books after same was are =
-    are c ∙ ap (λ ns. option_map (with_each line c ns met) (book_at books c)) same
+met-books count line c facts wallets nodes met books after known same was are =
+    are c ∙ ap (λ ws. option_map (with_each line c ws nodes met) (book_at books c)) known
+    ∙ ap (λ ns. option_map (with_each line c (wallets_in facts) ns met) (book_at books c)) same
     ∙ at (is_coin count c) (book_at books c) was
   where
     at : (b : Bool) (o : Option CoinBook) → o ≡ (if b then Some (book_in facts c) else None)
-        → option_map (with_each line c (quiet_in facts) met) o
+        → option_map (with_each line c (wallets_in facts) (quiet_in facts) met) o
         ≡ option_map (book_after facts line c (Fact.Ticks met)) o
     at true o is = rw is refl
     at false o is = rw is refl

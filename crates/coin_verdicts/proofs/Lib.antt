@@ -2,6 +2,7 @@ pub mod Forms
 pub mod Views
 pub mod Lists
 pub mod QuietNodes
+pub mod QuietWallets
 pub mod QuietPlaces
 pub mod GuardedTips
 pub mod SentLeaves

@@ -226,21 +226,6 @@ standing-more watches watch = flat_map-append option_to_list watches (watch ∷ 
     ends None = refl
     ends (Some quiet) = refl
 
--- one more watch among those that are asked
-pub asked-more : (c : ℕ) (watches : List (Option Quiet)) (i : ℕ) (watch : Option Quiet) → i < length watches
-    → watch ≡ slice_index_or watches i watch
-    → nodes_at c (standing (take (i + 1) watches))
-    ≡ nodes_at c (standing (take i watches)) ++ nodes_at c (option_to_list watch)
-asked-more c watches i watch less is =
-    ap (λ (all : List (Option Quiet)). nodes_at c (standing all)) (take_more watches i watch less
-    ∙ ap (λ (one : Option Quiet). take i watches ++ one ∷ []) (sym is))
-    ∙ ap (nodes_at c) (standing-more (take i watches) watch)
-    ∙ ap (map (λ (quiet : Quiet). quiet.node)) (filter-append (λ quiet. not (has quiet.coins c))
-    (standing (take i watches)) (option_to_list watch))
-    ∙ map-append (λ (quiet : Quiet). quiet.node)
-    (filter (λ quiet. not (has quiet.coins c)) (standing (take i watches)))
-    (filter (λ quiet. not (has quiet.coins c)) (option_to_list watch))
-
 pub places-same : {S : Type 0} (watches : List (Option Quiet)) (old new : HashMap ℕ ℕ S)
     → new.entries ≡ old.entries → ArePlaces watches old → ArePlaces watches new
 places-same watches old new same are = record {

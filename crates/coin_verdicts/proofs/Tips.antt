@@ -16,7 +16,7 @@ use Rattle.coin_verdicts.specs.declared.note.Change.{Change}
 use Rattle.coin_verdicts.specs.declared.note.Holder.{Holder}
 use Rattle.coin_verdicts.specs.declared.note.Leaf.{Leaf}
 use Rattle.coin_verdicts.specs.Facts.{has, ended, IsFact, AreFacts}
-use Rattle.coin_verdicts.specs.Notes.{bound_in, taken_in, quiet_in, guards_in, meets, leaf_in, where_so, each_time, returned, changes_in, noted, notes_in}
+use Rattle.coin_verdicts.specs.Notes.{wallets_in, bound_in, taken_in, quiet_in, guards_in, meets, leaf_in, where_so, each_time, returned, changes_in, noted, notes_in}
 use Rattle.coin_verdicts.specs.Standings.{deposited_in, tips_in, was_held, tip_in}
 use Rattle.coin_verdicts.proofs.Forms.{tick-form, watch-form}
 use Rattle.coin_verdicts.proofs.Lists.{eqb-comm}
@@ -122,7 +122,7 @@ module _ (tests : Tests) (rules : Rules) (w : ℕ) (me : Owner) (c : ℕ) where
     call-tips (RootCall.Tick time) fact h =
         let form = tick-form (log_of events) time fact h in
         rw form.is (each-more w me (length facts + 1) (notes_in facts c) tips deposit same c
-        (meets c (quiet_in facts) (guards_in facts c)) form.met refl)
+        (meets c (wallets_in facts) (quiet_in facts) (guards_in facts c)) form.met refl)
     call-tips (RootCall.After account coin block spend) fact h =
         rw h (ended-more w me (length facts + 1) (notes_in facts c) tips deposit same facts c
         (exit_at (log_of events) coin block) coin block false)

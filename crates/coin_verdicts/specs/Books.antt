@@ -39,19 +39,20 @@ abbrev pub IsChanged : ℕ → (CoinBook → CoinBook) → List CoinBook → Lis
 IsChanged coin change books after =
     (c : ℕ) → book_at after c ≡ (if c == coin then option_map change (book_at books c) else book_at books c)
 
--- the book with a note of a tick that meets a deadline of coin c, with these quiet nodes
-abbrev pub with_met : ℕ → ℕ → List Quiet → CoinBook → CoinBook
-with_met line c nodes book = with_more (record { line = line; change = meets c nodes book.guards }) book
+-- the book with a note of a tick that meets a deadline of coin c, with these wallets and quiet nodes
+abbrev pub with_met : ℕ → ℕ → List ℕ → List Quiet → CoinBook → CoinBook
+with_met line c wallets nodes book =
+    with_more (record { line = line; change = meets c wallets nodes book.guards }) book
 
 -- the book with such a note for each time that coin c is among these
-abbrev pub with_each : ℕ → ℕ → List Quiet → List ℕ → CoinBook → CoinBook
-with_each line c nodes met book =
-    record book { notes = noted line (each_time c (meets c nodes book.guards) met) ++ book.notes }
+abbrev pub with_each : ℕ → ℕ → List ℕ → List Quiet → List ℕ → CoinBook → CoinBook
+with_each line c wallets nodes met book =
+    record book { notes = noted line (each_time c (meets c wallets nodes book.guards) met) ++ book.notes }
 
 -- the books after a tick
-abbrev pub AreMet : ℕ → List Quiet → List ℕ → List CoinBook → List CoinBook → Type 0
-AreMet line nodes met books after =
-    (c : ℕ) → book_at after c ≡ option_map (with_each line c nodes met) (book_at books c)
+abbrev pub AreMet : ℕ → List ℕ → List Quiet → List ℕ → List CoinBook → List CoinBook → Type 0
+AreMet line wallets nodes met books after =
+    (c : ℕ) → book_at after c ≡ option_map (with_each line c wallets nodes met) (book_at books c)
 
 -- a wallet's leaves in the order of time, and the numbers of those that it took back
 pub record Signing : Type 0 where

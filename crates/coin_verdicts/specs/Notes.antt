@@ -32,6 +32,16 @@ unfoldable pub holder_in : List Fact → ℕ → Option Holder
 holder_in [] w = None
 holder_in (fact ∷ facts) w = earlier (holder_in facts w) (declared w (length facts + 1) fact)
 
+-- the wallets that were declared after a fact
+abbrev pub wallets_after : List ℕ → Fact → List ℕ
+wallets_after wallets (Fact.Declares wallet owner) = wallets ++ wallet ∷ []
+wallets_after wallets fact = wallets
+
+-- the wallets that were declared, the oldest first
+unfoldable pub wallets_in : List Fact → List ℕ
+wallets_in [] = []
+wallets_in (fact ∷ facts) = wallets_after (wallets_in facts) fact
+
 -- the leaves that a wallet bound, the newest first
 unfoldable pub bound_in : List Fact → ℕ → List Leaf
 bound_in [] w = []
@@ -97,9 +107,14 @@ nodes_at c nodes = map (λ quiet. quiet.node) (filter (λ quiet. not (has quiet.
 abbrev pub tips_at : List ℕ → List Guard → List ℕ
 tips_at nodes guards = map (λ guard. guard.tip) (filter (λ guard. has nodes guard.watcher) guards)
 
--- a tick meets a deadline of coin c, with these quiet nodes and guards
-abbrev pub meets : ℕ → List Quiet → List Guard → Change
-meets c nodes guards = Change.Meets (nodes_at c nodes) (tips_at (nodes_at c nodes) guards)
+-- those of the wallets that are among the nodes
+abbrev pub wallets_at : List ℕ → List ℕ → List ℕ
+wallets_at nodes wallets = filter (has nodes) wallets
+
+-- a tick meets a deadline of coin c, with these wallets, quiet nodes and guards
+abbrev pub meets : ℕ → List ℕ → List Quiet → List Guard → Change
+meets c wallets nodes guards =
+    Change.Meets (wallets_at (nodes_at c nodes) wallets) (tips_at (nodes_at c nodes) guards)
 
 -- ---- the notes of a coin
 
@@ -126,7 +141,8 @@ leaf_in q leaves = slice_get (reverse leaves) q
 -- what a fact behind others does to coin c
 abbrev pub changes_in : List Fact → ℕ → Fact → List Change
 changes_in facts c (Fact.Deposits coin block owner) = where_so (coin == c) (Change.Deposits block owner)
-changes_in facts c (Fact.Ticks met) = each_time c (meets c (quiet_in facts) (guards_in facts c)) met
+changes_in facts c (Fact.Ticks met) =
+    each_time c (meets c (wallets_in facts) (quiet_in facts) (guards_in facts c)) met
 changes_in facts c (Fact.Ends coin block account paid) = where_so (coin == c) (Change.Ends block account paid)
 changes_in facts c (Fact.Accepts wallet coin tip) = where_so (coin == c) (Change.Accepts wallet tip)
 changes_in facts c (Fact.Binds wallet coin parent) =

@@ -63,8 +63,8 @@ changed holder e line held s (Change.Ends block account paid) =
       paid = s.paid || ((block == e) && (account == holder.owner.account) && paid);
       taken = s.taken || takes holder e held block account paid;
     }
-changed holder e line held s (Change.Meets nodes tips) =
-    record s { unattended = missed line s (held && not (has nodes holder.wallet || has tips e)) }
+changed holder e line held s (Change.Meets wallets tips) =
+    record s { unattended = missed line s (held && not (has wallets holder.wallet || has tips e)) }
 
 -- the standing after a note
 abbrev pub with_note : Holder → ℕ → Standing → Note → Standing

@@ -1,6 +1,6 @@
 ghost use Rattle.std.specs.Prelude.{◌≡◌, ◌-◌, ◌==◌, ◌||◌, if◌then◌else◌, nat_lt, not, filter, replicate, reverse, IfOk, OnOk, IfSome, IfNone, Some, None};
 ghost use Rattle.coin_verdicts.specs.Facts.{has};
-ghost use Rattle.coin_verdicts.specs.Notes.{is_guard, nodes_at, tips_at};
+ghost use Rattle.coin_verdicts.specs.Notes.{is_guard, nodes_at, wallets_at, tips_at};
 ghost use Rattle.coin_verdicts.specs.Books.{blank, with_more, with_guard, without_guard, with_met, book_at, IsChanged, AreMet};
 
 use super::fact::Numbers;
@@ -67,21 +67,22 @@ impl Book {
         Ok(Numbers::from_vec(tips_at(alloc, coin, nodes, &self.guards)?))
     }
 
-    /// Notes that a tick met a deadline of the coin, whose book this is.
+    /// Notes that a tick met a deadline of the coin, whose book this is. These wallets were declared.
     pub fn meet(
         &mut self,
         alloc: Global,
         line: u64,
         coin: u64,
+        wallets: &[u64],
         nodes: &QuietNodes,
     ) -> Result<(), NoMemory>
-        ensures { OnOk result (self.new ≡ with_met line coin nodes.now self.old) }
+        ensures { OnOk result (self.new ≡ with_met line coin wallets.now nodes.now self.old) }
     {
         let tips = self.tips(alloc, coin, nodes)?;
-        let nodes = nodes.at(alloc, coin)?;
+        let wallets = Numbers::from_vec(wallets_at(alloc, coin, nodes, wallets)?);
         self.note(Note {
             line,
-            change: Change::Meets { nodes, tips },
+            change: Change::Meets { wallets, tips },
         })
     }
 
@@ -167,13 +168,14 @@ impl Books {
         alloc: Global,
         line: u64,
         coin: u64,
+        wallets: &[u64],
         nodes: &QuietNodes,
     ) -> Result<(), NoMemory>
-        ensures { OnOk result (IsChanged coin (with_met line coin nodes.now) self.old self.new) }
+        ensures { OnOk result (IsChanged coin (with_met line coin wallets.now nodes.now) self.old self.new) }
     {
         match place_of(self.items.len(), coin) {
             None => Ok(()),
-            Some(place) => self.items[place].meet(alloc, line, coin, nodes),
+            Some(place) => self.items[place].meet(alloc, line, coin, wallets, nodes),
         }
     }
 
@@ -183,12 +185,13 @@ impl Books {
         alloc: Global,
         line: u64,
         met: &[u64],
+        wallets: &[u64],
         nodes: &QuietNodes,
     ) -> Result<(), NoMemory>
-        ensures { OnOk result (AreMet line nodes.now met.now self.old self.new) }
+        ensures { OnOk result (AreMet line wallets.now nodes.now met.now self.old self.new) }
     {
         for coin in met {
-            self.meet(alloc, line, *coin, nodes)?;
+            self.meet(alloc, line, *coin, wallets, nodes)?;
         }
         Ok(())
     }
@@ -228,4 +231,22 @@ fn tips_at(
         }
     }
     Ok(tips)
+}
+
+// Those of the wallets that are quiet nodes and offer no call of the coin.
+fn wallets_at(
+    alloc: Global,
+    coin: u64,
+    nodes: &QuietNodes,
+    wallets: &[u64],
+) -> Result<Vec<u64>, NoMemory>
+    ensures { IfOk result (λ quiet. quiet.items ≡ wallets_at (nodes_at coin nodes.now) wallets.now) }
+{
+    let mut quiet = Vec::new(alloc);
+    for wallet in wallets {
+        if nodes.is_at(*wallet, coin) {
+            quiet.push(*wallet)?;
+        }
+    }
+    Ok(quiet)
 }

@@ -38,10 +38,10 @@ pub enum Change {
         account: u64,
         paid: bool,
     },
-    /// A tick met a deadline of it. These nodes had watched and offered no call of it, and no call was accepted since;
-    /// watchers among them guard it at these tips.
+    /// A tick met a deadline of it. These wallets had watched and offered no call of it, and no call was accepted
+    /// since; watchers of which the same holds guard it at these tips.
     Meets {
-        nodes: Numbers,
+        wallets: Numbers,
         tips: Numbers,
     },
 }

@@ -1,6 +1,5 @@
-ghost use Rattle.std.specs.Prelude.{◌≡◌, ◌++◌, ◌∷◌, [], nat_eq, filter, map, not, None, IfOk, OnOk};
+ghost use Rattle.std.specs.Prelude.{◌≡◌, ◌++◌, ◌∷◌, [], nat_eq, None, OnOk};
 ghost use Rattle.std.specs.HashMap.{get};
-ghost use Rattle.std.specs.Option.{option_to_list};
 ghost use Rattle.coin_verdicts.specs.Facts.{has};
 ghost use Rattle.coin_verdicts.specs.Notes.{without_node, nodes_at};
 ghost use Rattle.coin_verdicts.specs.Quiet.{standing, ArePlaces};
@@ -67,13 +66,6 @@ impl QuietNodes {
         put_in(&mut self.watches, &mut self.places, Quiet { node, coins })
     }
 
-    /// The quiet nodes that offer no call of the coin.
-    pub fn at(&self, alloc: Global, coin: u64) -> Result<Numbers, NoMemory>
-        ensures { IfOk result (λ nodes. nodes ≡ nodes_at coin self.now) }
-    {
-        Ok(Numbers::from_vec(nodes_at(alloc, &self.watches, coin)?))
-    }
-
     /// Whether the node is quiet and offers no call of the coin.
     pub fn is_at(&self, node: u64, coin: u64) -> bool
         ensures { result ≡ has (nodes_at coin self.now) node }
@@ -109,28 +101,6 @@ fn put_in(
     watches.reserve(1)?;
     places.insert(quiet.node, watches.len())?;
     watches.push(Some(quiet)).unwrap();
-    Ok(())
-}
-
-// The nodes that offer no call of the coin.
-fn nodes_at(alloc: Global, watches: &[Option<Quiet>], coin: u64) -> Result<Vec<u64>, NoMemory>
-    ensures { IfOk result (λ found. found.items ≡ nodes_at coin (standing watches.now)) }
-{
-    let mut found = Vec::new(alloc);
-    for watch in watches {
-        push_node(&mut found, watch, coin)?;
-    }
-    Ok(found)
-}
-
-// Adds the node of a watch that stands, where it offers no call of the coin.
-fn push_node(found: &mut Vec<u64>, watch: &Option<Quiet>, coin: u64) -> Result<(), NoMemory>
-    ensures { OnOk result (found.new.items ≡ found.old.items ++ nodes_at coin (option_to_list watch.now)) }
-{
-    match watch {
-        Some(quiet) if !quiet.coins.has(coin) => found.push(quiet.node)?,
-        _ => {}
-    }
     Ok(())
 }
 

@@ -11,6 +11,8 @@ use std::alloc::Global;
 #[derive(Drop)]
 pub struct Reading {
     pub alloc: Global,
+    /// The wallets that were declared, the oldest first.
+    pub wallets: Vec<u64>,
     pub nodes: QuietNodes,
     pub signers: Signers,
     pub books: Books,
@@ -18,6 +20,7 @@ pub struct Reading {
 
 impl Reading {
     ghost use Rattle.std.specs.Prelude.{◌≡◌, ℕ, [], IfOk, OnOk};
+    ghost use Rattle.plasma_tx.specs.declared.owner.Owner.{Owner};
     ghost use Rattle.coin_verdicts.specs.declared.fact.Fact.{Fact};
     ghost use Rattle.coin_verdicts.specs.Readings.{Keeps, Reads};
 
@@ -27,6 +30,7 @@ impl Reading {
     {
         Ok(Reading {
             alloc,
+            wallets: Vec::new(alloc),
             nodes: QuietNodes::new(alloc),
             signers: Signers::new(alloc),
             books: Books::new(alloc, count)?,
@@ -46,7 +50,7 @@ impl Reading {
         ensures { OnOk result (Reads line fact.now self.old self.new) }
     {
         match fact {
-            Fact::Declares { .. } => Ok(()),
+            Fact::Declares { wallet, .. } => self.declare(*wallet),
             Fact::Idle => Ok(()),
             Fact::Other { node } => {
                 self.nodes.remove(*node);
@@ -78,6 +82,14 @@ impl Reading {
             } => self.bind(line, *wallet, *coin, *parent),
             Fact::TakesBack { wallet, leaf } => self.take_back(line, *wallet, *leaf),
         }
+    }
+
+    // A wallet is declared.
+    fn declare(&mut self, wallet: u64) -> Result<(), NoMemory>
+        ensures { (line : ℕ) (me : Owner) → OnOk result (Reads line (Fact.Declares wallet me) self.old self.new) }
+    {
+        self.wallets.push(wallet)?;
+        Ok(())
     }
 
     // A node watches.
@@ -119,8 +131,9 @@ impl Reading {
     fn tick(&mut self, line: u64, met: &Numbers) -> Result<(), NoMemory>
         ensures { OnOk result (Reads line (Fact.Ticks met.now) self.old self.new) }
     {
+        let wallets = self.wallets.as_slice();
         self.books
-            .meet_all(self.alloc, line, met.as_slice(), &self.nodes)?;
+            .meet_all(self.alloc, line, met.as_slice(), wallets, &self.nodes)?;
         self.nodes.clear();
         Ok(())
     }

@@ -190,8 +190,8 @@ fn changed(standing: &Standing, note: &Note, held: bool, holder: &Holder, at: u6
                 || (*block == at && *account == holder.owner.account && *paid);
             after.taken = standing.taken || takes(holder, at, held, *block, *account, *paid);
         }
-        Change::Meets { nodes, tips } => {
-            let is_missed = held && !(nodes.has(holder.wallet) || tips.has(at));
+        Change::Meets { wallets, tips } => {
+            let is_missed = held && !(wallets.has(holder.wallet) || tips.has(at));
             after.unattended = missed(standing, note.line, is_missed);
         }
     }

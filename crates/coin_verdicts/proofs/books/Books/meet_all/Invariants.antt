@@ -3,4 +3,4 @@ use Rattle.coin_verdicts.specs.Books.{AreMet}
 use Rattle.coin_verdicts.proofs.books.Books.meet_all.Given as goal
 
 abbrev pub invariant-loop-coin : goal.invariant-loop-coin
-invariant-loop-coin l = AreMet l.line l.nodes (take l.coin-index l.met) l.initial.self l.self
+invariant-loop-coin l = AreMet l.line l.wallets l.nodes (take l.coin-index l.met) l.initial.self l.self

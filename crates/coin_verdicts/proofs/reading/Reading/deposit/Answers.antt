@@ -7,6 +7,6 @@ use Rattle.coin_verdicts.proofs.reading.Reading.deposit.Goals as goal
 pub returns : goal.returns
 returns c count facts is keeps =
     keeps-next count c.args.line facts c.args.self.now _ is keeps
-    (Fact.Deposits c.args.coin c.args.block c.args.owner) refl c.clear.ensures refl
+    (Fact.Deposits c.args.coin c.args.block c.args.owner) refl refl c.clear.ensures refl
     (λ coin. noted-books c.args.line c.args.coin coin (Change.Deposits c.args.block c.args.owner)
     c.args.self.now.books c.note.new.self c.in_ok-note.ensures)

@@ -5,24 +5,21 @@ use Rattle.coin_verdicts.proofs.KeptReadings.{keeps-next, same-book}
 use Rattle.coin_verdicts.proofs.reading.Reading.read.Goals as goal
 
 pub returns-in-Declares : goal.returns-in-Declares
-returns-in-Declares c count facts is keeps =
-    rw c.in-Declares.is (keeps-next count c.args.line facts c.args.self.now _ is keeps (Fact.Declares _ _) refl refl
-    refl
-    (λ coin. same-book (book_at c.args.self.now.books coin)))
+returns-in-Declares c = rw c.in-Declares.is (c.declare.ensures c.args.line _)
 
 pub returns-in-Idle : goal.returns-in-Idle
 returns-in-Idle c count facts is keeps =
-    rw c.in-Idle.is (keeps-next count c.args.line facts c.args.self.now _ is keeps Fact.Idle refl refl refl
+    rw c.in-Idle.is (keeps-next count c.args.line facts c.args.self.now _ is keeps Fact.Idle refl refl refl refl
     (λ coin. same-book (book_at c.args.self.now.books coin)))
 
 pub returns-in-Other : goal.returns-in-Other
 returns-in-Other c count facts is keeps =
-    rw c.in-Other.is (keeps-next count c.args.line facts c.args.self.now _ is keeps (Fact.Other _) refl
+    rw c.in-Other.is (keeps-next count c.args.line facts c.args.self.now _ is keeps (Fact.Other _) refl refl
     c.remove.ensures refl (λ coin. same-book (book_at c.args.self.now.books coin)))
 
 pub returns-in-Joins : goal.returns-in-Joins
 returns-in-Joins c count facts is keeps =
-    rw c.in-Joins.is (keeps-next count c.args.line facts c.args.self.now _ is keeps Fact.Joins refl
+    rw c.in-Joins.is (keeps-next count c.args.line facts c.args.self.now _ is keeps Fact.Joins refl refl
     c.clear.ensures refl (λ coin. same-book (book_at c.args.self.now.books coin)))
 
 pub returns-in-Deposits : goal.returns-in-Deposits

@@ -7,7 +7,7 @@ use Rattle.coin_verdicts.proofs.reading.Reading.watch.Goals as goal
 
 pub returns : goal.returns
 returns c line count facts is keeps =
-    keeps-next count line facts c.args.self.now _ is keeps (Fact.Watches c.args.node c.args.coins.now) refl
+    keeps-next count line facts c.args.self.now _ is keeps (Fact.Watches c.args.node c.args.coins.now) refl refl
     (c.in_ok-watch.ensures
     ∙ ap (λ (coins : List ℕ). without_node c.args.node c.args.self.now.nodes
     ++ record { node = c.args.node; coins = coins } ∷ []) c.in_ok-copy.ensures)
