@@ -9,8 +9,8 @@ TAKEN += ["crates", "second_opinion"]
 # What only serves the repository itself. Of the crates and of the second opinion their pages are taken, and the files
 # to which pages lead.
 LEFT = re.compile(
-    r"(^|/)test$|^docs/(check|clauses|installed|(quotes|sentences)\.py)$|^examples/(draw|pages|check)$"
-    r"|^tools/(testing|cases|played|held_to|\w+_tests)\.py$|^tools/sentences$"
+    r"(^|/)test$|^docs/(check|clauses|installed|(quotes|sentences)\.py)$|^examples/(draw|pages|check|safe)$"
+    r"|^tools/(testing|cases|held_to|\w+_tests)\.py$|^tools/sentences$"
     r"|^release/(pack|crate|taken\.py|VECTORS\.md|.*vectors.*)$|^crates/(?!(?:\w+/)?README\.md$)"
     r"|^second_opinion/(?!README\.md$)"
 )

@@ -8,8 +8,7 @@ from dataclasses import dataclass
 
 from plainly import day_of
 from played import Played
-from proved import Safe
-from testing import Program
+from proved import Program, Safe
 
 SHOWN_WORDS = 5  # of a call: `call`, the account, the kind, the coin and the block
 # A longer schedule isn't played for a story.

@@ -1,12 +1,14 @@
-"""The proved program `safe`, as a file that can be run: for tools/safe and the benches.
+"""The proved programs as files that can be run: plasma, which is the one that ./plasma runs, and `safe`. For
+tools/safe, stories and the benches.
 
-It is, the first of these: what PLASMA_SAFE names; the one that the gate proved and built here, where its SHA-256 is the
-one that was left beside it and no source is newer; the one that dist/ keeps, where the sources are still those that it
-was made from, or where there are none, as in a release.
+The program `safe` is the first of these: what PLASMA_SAFE names; the one that the gate proved and built here, where its
+SHA-256 is the one that was left beside it and no source is newer; the one that dist/ keeps, where the sources are still
+those that it was made from, or where there are none, as in a release.
 """
 import gzip
 import hashlib
 import os
+import re
 import subprocess
 import tempfile
 
@@ -14,6 +16,28 @@ from grammar import TOP
 
 BUILT = f"{TOP}/crates/safe/out/safe"
 PACKED, MADE = f"{TOP}/dist/safe.gz", f"{TOP}/dist/safe.made"
+
+
+class Program:
+    """The program that ./plasma runs here, as a path, where it is a proved one; else None. A kept one is unpacked for
+    as long as this lasts."""
+
+    def __enter__(self):
+        where = subprocess.run([f"{TOP}/plasma", "--where"], capture_output=True, text=True, check=False).stdout
+        found = re.match(r"(/.*?)(?:: proved on|: PLASMA_PROGRAM|, with the SHA-256)", where)
+        self.room = None
+        if not found or not found[1].endswith(".gz"):
+            return found and found[1]
+        self.room = tempfile.TemporaryDirectory()
+        path = f"{self.room.name}/plasma"
+        with gzip.open(found[1]) as packed, open(path, "wb") as file:
+            file.write(packed.read())
+        os.chmod(path, 0o700)
+        return path
+
+    def __exit__(self, *_):
+        if self.room:
+            self.room.cleanup()
 
 
 class Safe:
