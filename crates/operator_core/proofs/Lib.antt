@@ -7,3 +7,4 @@ pub mod Ways
 pub mod Opening
 pub mod Adds
 pub mod Offers
+pub mod Walked

@@ -103,6 +103,15 @@ module _ {H S : Type 0} (hash : H) (dig : List ℕ → List ℕ) (trees : List (
             ∙ ap (λ (t : HashedMap H). Some t.entries) some.2,
       )
 
+  pub tree_known : (root : List ℕ) → KeepsTrees hash dig trees index → is_some (get bytes_eq index root) ≡ true
+      → is_some (tree_of dig (entries_of trees) root) ≡ true
+  tree_known root keeps = by (get bytes_eq index root) refl
+    where
+      by : (o : Option ℕ) → o ≡ get bytes_eq index root → is_some o ≡ true
+          → is_some (tree_of dig (entries_of trees) root) ≡ true
+      by None is some = absurd (true≢false (sym some))
+      by (Some place) is some = ap (λ (t : Option (List Entry)). is_some t) (has_tree root place keeps is).3
+
   pub pushed : {T : Type 0} (tree : HashedMap H) (new : HashMap (List ℕ) ℕ T) (root : List ℕ) (place : ℕ)
       → KeepsTrees hash dig trees index
       → place ≡ length trees → tree.hash ≡ hash → root ≡ root_of dig tree.entries

@@ -21,7 +21,9 @@ use Rattle.plasma_tx.specs.declared.call.RootCall.{RootCall}
 use Rattle.operator_rules.specs.Trees.{Forest, has_leaf, is_root_committed}
 use Rattle.operator_rules.specs.Commands.{forest_in}
 use Rattle.operator_core.specs.declared.records.Who.{Who}
+use Rattle.operator_core.specs.declared.ends.Ends.{Ends}
 use Rattle.operator_core.specs.Texts.{identity_of_who, with_put}
+use Rattle.operator_core.specs.Walked.{KeepsEnds}
 
 -- what a pool is: the digest that it was made with, its leaves, and those that it will have once its last put is kept
 pub record PoolState (H : Type 0) : Type 0 where
@@ -29,12 +31,13 @@ pub record PoolState (H : Type 0) : Type 0 where
   pub entries : List Entry
   pub ahead : List Entry
 
--- what sealed trees are: the digest that each was made with, their leaves in the order of their seals, and whether
--- there is room for one more
+-- what sealed trees are: the digest that each was made with, their leaves in the order of their seals, whether there is
+-- room for one more, and the roots of the blocks over which walks ended
 pub record TreesState (H : Type 0) : Type 0 where
   pub hash : H
   pub sealed : List (List Entry)
   pub has_room : Bool
+  pub walked : List (Option (List ℕ))
 
 -- the leaves of trees
 abbrev pub entries_of : {H : Type 0} → List (HashedMap H) → List (List Entry)
@@ -54,6 +57,12 @@ pub record KeepsTrees {H S : Type 0} (hash : H) (dig : List ℕ → List ℕ) (t
     (index : HashMap (List ℕ) ℕ S) : Type 0 where
   pub hashes : All (λ tree. tree.hash ≡ hash) trees
   pub places : (root : List ℕ) → get bytes_eq index root ≡ place_of dig (entries_of trees) root
+
+-- and each end that is kept is one by these trees
+pub record KeepsWalks {H S : Type 0} (hash : H) (dig : List ℕ → List ℕ) (trees : List (HashedMap H))
+    (index : HashMap (List ℕ) ℕ S) (ends : Ends) : Type 0 where
+  pub kept : KeepsTrees hash dig trees index
+  pub walks : KeepsEnds dig (entries_of trees) ends
 
 -- the pool and the sealed trees, as the definitions have them
 abbrev pub forest_now : {H : Type 0} → PoolState H → TreesState H → Forest

@@ -3,4 +3,5 @@ pub mod Texts
 pub mod Inside
 pub mod Undone
 pub mod Tips
+pub mod Walked
 pub mod Known

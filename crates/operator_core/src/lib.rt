@@ -3,6 +3,7 @@
 #![tactic(auto)]
 
 mod beginning;
+mod ends;
 mod offering;
 mod operator;
 mod pool;

@@ -21,13 +21,14 @@ use super::records::{Who, laid_record, offered_record, sealed_record};
 use super::role::OperatorRole;
 use super::showing::{bundle_between, bundle_of, opening_at};
 use super::trees::Trees;
+use super::walk::walk_on;
 use coin_history::Bundle;
 use crash_disk::Disk;
 use gate_journal::{JournalRefusal, Returned};
 use node_journal::{Notes, Stop};
 use operator_rules::{LayRefusal, MOST_LAID, OfferRefusal, ProveRefusal, SealRefusal, Sealed};
 use plasma_base::{Bytes, Hash32, Sha};
-use plasma_tx::{RawOpening, RootCall, RootLog};
+use plasma_tx::{Body, RawOpening, RootCall, RootLog};
 use std::alloc::Global;
 use std::marker::Model;
 
@@ -223,6 +224,18 @@ impl<D: Disk, H: Hash32 + Copy> Operator<D, H> {
         bundle_of(self.alloc, &self.trees, log, &self.who.tag, coin, tip)
     }
 
+    /// Walks on to the present tip of a coin, and keeps where the walk ended, if there is memory. So `offer` and
+    /// `bundle` need not go over the same blocks again. No answer depends on it. It makes no digest, and tests the
+    /// signatures on the way that aren't remembered.
+    pub fn walk_on(&mut self, log: &RootLog, coin: u64)
+        ensures { self.new ≡ self.old }
+    {
+        let Some(made) = log.coin(coin) else {
+            return;
+        };
+        walk_on(self.alloc, &mut self.trees, log, &self.who.tag, coin, &made);
+    }
+
     /// What the committed blocks after a block and up to the last have at a coin. It can be written. It makes
     /// no digest.
     ///
@@ -273,6 +286,7 @@ impl<D: Disk, H: Hash32 + Copy> Operator<D, H> {
         if self.is_closed() {
             return Err(OfferRefusal::Closed);
         }
+        self.walk_offered(log, tx);
         self.is_whole();
         let coin = match self.offer_answer(log, tx) {
             Ok(coin) => coin,
@@ -282,6 +296,16 @@ impl<D: Disk, H: Hash32 + Copy> Operator<D, H> {
             Ok(()) => Ok(coin),
             Err(stop) => Err(offer_refusal(stop)),
         }
+    }
+
+    // Walks on to the present tip of the coin that offered bytes name.
+    fn walk_offered(&mut self, log: &RootLog, tx: &[u8])
+        ensures { self.new ≡ self.old }
+    {
+        let Ok(body) = Body::read(&self.who.tag, tx) else {
+            return;
+        };
+        self.walk_on(log, body.coin);
     }
 
     // The answer to an offer, before its record is added.

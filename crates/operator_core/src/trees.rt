@@ -1,32 +1,39 @@
-ghost use Rattle.std.specs.Prelude.{◌≡◌, ◌<◌, ◌++◌, ◌∷◌, [], ℕ, List, true, length, IfOk, IfSome, OnOk, option_map, slice_get};
+ghost use Rattle.std.specs.Prelude.{◌≡◌, ◌<◌, ◌++◌, ◌∷◌, [], ℕ, List, true, is_some, length, IfOk, IfSome, OnOk, option_map, slice_get};
 ghost use Rattle.std.specs.List.{list_any};
 ghost use Rattle.operator_rules.specs.Trees.{tree_of};
 ghost use Rattle.sparse_merkle.specs.TreeDigest.{leaf_of};
+ghost use Rattle.sparse_merkle.specs.TreeDigest.{root_of};
+ghost use Rattle.sparse_merkle.specs.declared.tree.Entry.{Entry};
+ghost use Rattle.operator_rules.specs.Walk.{place_at};
 ghost use Rattle.operator_core.specs.Inside.{with_place, is_outside};
+ghost use Rattle.operator_core.specs.Tips.{place_of_tip};
+ghost use Rattle.operator_core.specs.Walked.{Follows, IsOnWay, KeepsEnds};
 ghost use Rattle.std.specs.HashMap.{get, spare};
 ghost use Rattle.std.specs.Str.{bytes_eq};
 
+use super::ends::{End, Ends};
 use merkle_pages::{Defaults, SharedTree};
 use plasma_base::{Hash32, NoMemory};
-use plasma_tx::RootLog;
+use plasma_tx::{CoinView, RootLog};
 use std::alloc::Global;
 use std::collections::HashMap;
 use std::marker::Model;
 
-/// The sealed trees in the order of their seals, for each root the place of the first tree with it, and the
-/// defaults of the digest, which all of them share.
+/// The sealed trees in the order of their seals, for each root the place of the first tree with it, the
+/// defaults of the digest, which all of them share, and where walks over the trees ended.
 #[derive(Drop)]
 pub struct Trees<H: Hash32 + Copy> {
     defaults: Box<Defaults<H>>,
     trees: Vec<SharedTree<H>>,
     index: HashMap<[u8; 32], usize>,
+    ends: Ends,
 }
 
 impl<H: Hash32 + Copy> Model for Trees<H> {
     ghost use Rattle.std.specs.Prelude.{◌&&◌, nat_lt, length};
     ghost use Rattle.std.specs.Vec.{vec_capacity};
     ghost use Rattle.std.specs.HashMap.{spare};
-    ghost use Rattle.operator_core.specs.Inside.{TreesState, KeepsTrees, entries_of};
+    ghost use Rattle.operator_core.specs.Inside.{TreesState, KeepsWalks, entries_of};
 
     ghost Value = { TreesState H };
 
@@ -34,9 +41,11 @@ impl<H: Hash32 + Copy> Model for Trees<H> {
       hash = t.defaults.value;
       sealed = entries_of t.trees.items;
       has_room = nat_lt (length t.trees.items) (vec_capacity t.trees) && nat_lt 0 (spare t.index);
+      walked = t.ends.roots.items;
     } };
 
-    ghost invariant = { λ t. KeepsTrees t.defaults.value (H.digest_of t.defaults.value) t.trees.items t.index };
+    ghost invariant = { λ t.
+        KeepsWalks t.defaults.value (H.digest_of t.defaults.value) t.trees.items t.index t.ends };
 }
 
 impl<H: Hash32 + Copy> Trees<H> {
@@ -49,6 +58,7 @@ impl<H: Hash32 + Copy> Trees<H> {
             defaults: Box::new(alloc, Defaults::new(hash))?,
             trees: Vec::new(alloc),
             index: HashMap::new(alloc),
+            ends: Ends::new(alloc),
         })
     }
 
@@ -79,6 +89,7 @@ impl<H: Hash32 + Copy> Trees<H> {
     {
         let root = *tree.root();
         let place = self.trees.as_slice().len();
+        seal_ends(&mut self.ends, &self.index, root);
         index_root(&mut self.index, root, place);
         self.trees.push(tree).unwrap();
     }
@@ -100,6 +111,57 @@ impl<H: Hash32 + Copy> Trees<H> {
         let place = *self.index.get(root)?;
         tree_at(self.trees.as_slice(), place)
     }
+
+    /// Takes the roots of this log's blocks, as far as there is memory, so that the ends of walks over them can be
+    /// kept. Those over other blocks are let go.
+    pub fn follow(&mut self, log: &RootLog)
+        ensures follows { Follows log.now.log self.new.walked }
+        ensures sealed { self.new.sealed ≡ self.old.sealed }
+        ensures hash { self.new.hash ≡ self.old.hash }
+    {
+        self.ends.follow(log);
+    }
+
+    /// Whether the log's first blocks are those over which walks ended.
+    pub fn is_followed(&self, log: &RootLog) -> bool
+        ensures { result ≡ true → Follows log.now.log self.now.walked }
+    {
+        self.ends.is_followed(log)
+    }
+
+    /// Where the last walk of the coin ended, if it is kept and within the log's blocks.
+    pub fn end_of(&self, log: &RootLog, tag: &[u8; 32], coin: u64, made: &CoinView) -> Option<End>
+        requires { Follows log.now.log self.now.walked }
+        ensures { IfSome result (λ end. IsOnWay (H.digest_of self.now.hash) tag.now log.now.log self.now.sealed coin
+            made.now end) }
+    {
+        self.ends.end_of(log, tag, coin, made)
+    }
+
+    /// Keeps where a walk of the coin ended, where it went over blocks whose roots were taken.
+    pub fn keep(&mut self, log: &RootLog, coin: u64, end: End)
+        requires follows { Follows log.now.log self.old.walked }
+        requires placed { place_of_tip end.tip ≡ place_at (H.digest_of self.old.hash) end.tag log.now.log
+            self.old.sealed coin end.made end.upto }
+        ensures sealed { self.new.sealed ≡ self.old.sealed }
+        ensures hash { self.new.hash ≡ self.old.hash }
+    {
+        self.ends.keep(coin, end);
+    }
+}
+
+// Lets go where walks ended, where the tree that is sealed with this root is the first with it, and a block has it.
+fn seal_ends(ends: &mut Ends, index: &HashMap<[u8; 32], usize>, root: [u8; 32])
+    ensures roots { ends.new.roots.items ≡ ends.old.roots.items }
+    ensures keeps { (dig : List ℕ → List ℕ) (sealed : List (List Entry)) (tree : List Entry)
+        → KeepsEnds dig sealed ends.old → root ≡ root_of dig tree
+        → (is_some (get bytes_eq index.now root) ≡ true → is_some (tree_of dig sealed root) ≡ true)
+        → KeepsEnds dig (sealed ++ tree ∷ []) ends.new }
+{
+    if index.contains_key(&root) {
+        return;
+    }
+    ends.seal(&root);
 }
 
 // Adds a root's place to an index with room, where the index has none for it.

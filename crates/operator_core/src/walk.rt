@@ -1,6 +1,8 @@
-ghost use Rattle.std.specs.Prelude.{◌≡◌, true, IfOk, IfSome, OnErr, option_map, is_some};
+ghost use Rattle.std.specs.Prelude.{◌≡◌, ℕ, List, true, IfOk, IfSome, OnErr, option_map, is_some};
 ghost use Rattle.std.specs.Option.{option_and_then};
+ghost use Rattle.sparse_merkle.specs.declared.tree.Entry.{Entry};
 ghost use Rattle.sparse_merkle.specs.TreeDigest.{leaf_of};
+ghost use Rattle.plasma_tx.specs.declared.call.RootCall.{RootCall};
 ghost use Rattle.plasma_tx.specs.Shown.{root_at};
 ghost use Rattle.plasma_tx.specs.Transfer.{transfer_in};
 ghost use Rattle.plasma_tx.specs.Views.{blocks};
@@ -9,29 +11,14 @@ ghost use Rattle.operator_rules.specs.Trees.{tree_at, tree_of};
 ghost use Rattle.operator_rules.specs.Walk.{moved_by, present};
 ghost use Rattle.operator_core.specs.Tips.{place_of_tip};
 ghost use Rattle.operator_core.specs.Known.{one_is_known};
+ghost use Rattle.operator_core.specs.Walked.{Follows, IsOnWay};
 
+use super::ends::{End, Tip, root_at};
 use super::trees::{Trees, leaf_in};
 use merkle_pages::SharedTree;
 use plasma_base::{Hash32, NoMemory};
-use plasma_tx::{BlockView, CoinView, Owner, RootLog, SignedTx, leaf_tx};
+use plasma_tx::{CoinView, RootLog, SignedTx, leaf_tx};
 use std::alloc::Global;
-
-/// A block that a coin came to, and its owner there.
-#[derive(Clone, Copy)]
-pub struct Tip {
-    pub block: u64,
-    pub owner: Owner,
-}
-
-// The root of block n, where it was committed.
-fn root_at(log: &RootLog, n: u64) -> Option<[u8; 32]>
-    ensures { result ≡ root_at log.now.log n }
-{
-    match log.block(n) {
-        Some(BlockView::Root { root }) => Some(root),
-        _ => None,
-    }
-}
 
 /// Whether block n was committed.
 pub fn is_committed(log: &RootLog, n: u64) -> bool
@@ -123,7 +110,72 @@ fn look_again<'a, H: Hash32 + Copy>(
     }
 }
 
-/// The coin's present tip and its owner: once over the committed blocks after the deposit.
+// The deposit, as the end of a walk over no block behind it.
+fn begun(tag: &[u8; 32], made: &CoinView) -> End
+    ensures { (dig : List ℕ → List ℕ) (log : List RootCall) (sealed : List (List Entry)) (coin : ℕ)
+        → IsOnWay dig tag.now log sealed coin made.now result }
+{
+    End {
+        tag: *tag,
+        made: *made,
+        upto: made.deposit,
+        tip: Tip {
+            block: made.deposit,
+            owner: made.owner,
+        },
+    }
+}
+
+// From where a walk of the coin goes on.
+fn start<H: Hash32 + Copy>(
+    trees: &Trees<H>,
+    log: &RootLog,
+    tag: &[u8; 32],
+    coin: u64,
+    made: &CoinView,
+) -> End
+    requires { Follows log.now.log trees.now.walked }
+    ensures { IsOnWay (H.digest_of trees.now.hash) tag.now log.now.log trees.now.sealed coin made.now result }
+{
+    match trees.end_of(log, tag, coin, made) {
+        Some(end) => end,
+        None => begun(tag, made),
+    }
+}
+
+// The coin's present tip and its owner: on from there over the committed blocks.
+fn walk<H: Hash32 + Copy>(
+    alloc: Global,
+    trees: &Trees<H>,
+    log: &RootLog,
+    tag: &[u8; 32],
+    coin: u64,
+    made: &CoinView,
+    from: &End,
+) -> Result<Tip, NoMemory>
+    requires { IsOnWay (H.digest_of trees.now.hash) tag.now log.now.log trees.now.sealed coin made.now from.now }
+    ensures value { IfOk result (λ tip. place_of_tip tip
+        ≡ present (H.digest_of trees.now.hash) tag.now log.now.log trees.now.sealed coin made.now) }
+    ensures memory { OnErr result (one_is_known (H.digest_of trees.now.hash) log.now.log trees.now.sealed
+        (committed_blocks log.now.log made.now.deposit (blocks log.now.log)) ≡ true) }
+{
+    let mut tip = from.tip;
+    let mut found = Sought {
+        root: [0; 32],
+        tree: trees.find(&[0; 32]),
+    };
+    'way: for before in from.upto..log.blocks() {
+        let n = before + 1;
+        if let Some(root) = root_at(log, n) {
+            found = look_again(trees, found, root);
+            tip = after_tree(alloc, log, tag, coin, n, tip, found.tree)?;
+        }
+    }
+    Ok(tip)
+}
+
+/// The coin's present tip and its owner: once over the committed blocks after the deposit, or on from where the last
+/// walk over them ended.
 pub fn present<H: Hash32 + Copy>(
     alloc: Global,
     trees: &Trees<H>,
@@ -137,20 +189,34 @@ pub fn present<H: Hash32 + Copy>(
     ensures memory { OnErr result (one_is_known (H.digest_of trees.now.hash) log.now.log trees.now.sealed
         (committed_blocks log.now.log made.now.deposit (blocks log.now.log)) ≡ true) }
 {
-    let mut tip = Tip {
-        block: made.deposit,
-        owner: made.owner,
-    };
-    let mut found = Sought {
-        root: [0; 32],
-        tree: trees.find(&[0; 32]),
-    };
-    'way: for before in made.deposit..log.blocks() {
-        let n = before + 1;
-        if let Some(root) = root_at(log, n) {
-            found = look_again(trees, found, root);
-            tip = after_tree(alloc, log, tag, coin, n, tip, found.tree)?;
-        }
+    if trees.is_followed(log) {
+        let from = start(trees, log, tag, coin, made);
+        return walk(alloc, trees, log, tag, coin, made, &from);
     }
-    Ok(tip)
+    walk(alloc, trees, log, tag, coin, made, &begun(tag, made))
+}
+
+/// Walks on to the coin's present tip, and keeps where the walk ended, if there is memory.
+pub fn walk_on<H: Hash32 + Copy>(
+    alloc: Global,
+    trees: &mut Trees<H>,
+    log: &RootLog,
+    tag: &[u8; 32],
+    coin: u64,
+    made: &CoinView,
+)
+    ensures sealed { trees.new.sealed ≡ trees.old.sealed }
+    ensures hash { trees.new.hash ≡ trees.old.hash }
+{
+    trees.follow(log);
+    let from = start(trees, log, tag, coin, made);
+    if let Ok(tip) = walk(alloc, trees, log, tag, coin, made, &from) {
+        let end = End {
+            tag: *tag,
+            made: *made,
+            upto: log.blocks(),
+            tip,
+        };
+        trees.keep(log, coin, end);
+    }
 }
