@@ -45,5 +45,5 @@ module _ (tag : List ℕ) where
   -- what was tested stays so where more was met
   pub tested-still : (events : List Event) (before met : List Opened) (tested : Tested) → AreStill before met
       → KeepsTested tag events before tested → KeepsTested tag events met tested
-  tested-still events before met tested still keeps place is =
-      let was = keeps place is in (was.0, still place was.0 was.1, was.2)
+  tested-still events before met tested still keeps place count is =
+      let was = keeps place count is in (was.0, still place was.0 was.1, was.2)

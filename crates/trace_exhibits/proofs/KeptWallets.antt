@@ -1,9 +1,10 @@
 -- What is kept of the wallets that events declared and of the bodies that they bound.
-use Rattle.std.proofs.Common.{nat_eq, ◌≡◌, Bor, ℕ, ◌==◌, ◌&&◌, ◌||◌, not, Bool, true, false, if◌then◌else◌, List, [], ◌∷◌, ◌++◌, map, Option, Some, None, inl, inr, refl, sym, ap, ◌∙◌}
+use Rattle.std.proofs.Common.{nat_eq, ◌≡◌, Bor, ℕ, ◌-◌, ◌==◌, ◌&&◌, ◌||◌, not, Bool, true, false, if◌then◌else◌, List, [], ◌∷◌, ◌++◌, length, map, take, Option, Some, None, inl, inr, refl, sym, ap, ◌∙◌}
 use Rattle.std.specs.List.{list_any, insert}
 use Rattle.std.specs.Option.{option_eq, option_map_or}
 use Rattle.std.specs.Str.{bytes_eq}
 use Rattle.std.proofs.lemmas.Bool.{cases_Bool}
+use Rattle.std.proofs.lemmas.List.{length-map, take-map}
 use Rattle.std.proofs.lemmas.List.Folds.{list_any-append}
 use Rattle.plasma_tx.specs.declared.owner.Owner.{Owner}
 use Rattle.plasma_tx.specs.declared.body.Body.{Body}
@@ -17,7 +18,7 @@ use Rattle.world_rules.specs.Events.{Event, Declares, Joins, Bounces, Accepts, G
 use Rattle.world_rules.specs.Exhibits.{is_same_body, forges_transfer, forges_one}
 use Rattle.trace_exhibits.specs.Opened.{Opened}
 use Rattle.trace_exhibits.specs.Lines.{event_of}
-use Rattle.trace_exhibits.specs.Wallets.{bodies_of, declared_in, owner_in, is_bound_in, signs_unbound, KeepsWallets, is_forged_in}
+use Rattle.trace_exhibits.specs.Wallets.{bodies_of, declared_in, owner_in, is_bound_in, signs_unbound, KeepsWallets, wallets_since, forges_by, is_forged_since}
 use Rattle.trace_exhibits.specs.declared.lines.ExhibitLine.{ExhibitLine}
 use Rattle.trace_exhibits.specs.declared.wallets.Declared.{Declared}
 use Rattle.trace_exhibits.specs.declared.wallets.Bound.{Bound}
@@ -161,6 +162,22 @@ wallets-declared (Seals call ∷ events) = wallets-declared events
 wallets-declared (Other w ∷ events) = wallets-declared events
 wallets-declared (Idle ∷ events) = wallets-declared events
 
+-- how many were declared, and those that were since there were so many
+pub declared-count : (events : List Event) (known : Known) → KeepsWallets events known
+    → length known.declared.items ≡ length (wallets events)
+declared-count events known keeps =
+    ap length keeps.declared ∙ sym (length-map (declared_in events) (λ (one : Declared). one.wallet))
+    ∙ ap length (sym (wallets-declared events))
+
+wallets-newer : (events : List Event) (all : List Declared) (count : ℕ) → all ≡ declared_in events
+    → map (λ one. one.wallet) (take (length all - count) all) ≡ wallets_since count events
+wallets-newer events all count is =
+    sym (take-map (λ (one : Declared). one.wallet) (length all - count) all)
+    ∙ ap (λ n. take (n - count) (map (λ (one : Declared). one.wallet) all))
+    (sym (length-map all (λ (one : Declared). one.wallet)))
+    ∙ ap (λ ws. take (length ws - count) ws)
+    (ap (map (λ (one : Declared). one.wallet)) is ∙ sym (wallets-declared events))
+
 owner-declared : (events : List Event) (w : ℕ) → wallet_owner events w ≡ owner_in (declared_in events) w
 unfolding wallet_owner declared_in
 owner-declared [] w = refl
@@ -183,11 +200,11 @@ owner-declared (Idle ∷ events) v = owner-declared events v
 
 module _ (tag : List ℕ) (events : List Event) (one : Opened) where
   -- a leaf that is no transfer shows none
-  pub forged-none : None ≡ transfer_in tag one.coin one.opening.block (leaf_in one.opening.bytes)
-      → false ≡ is_forged_in tag events one
-  forged-none none =
-      sym (any-false (λ w. forges_one tag (wallet_owner events w) (bound_by events w) one.coin (one.opening ∷ []))
-      (wallets events) (λ w. by (wallet_owner events w) (bound_by events w)))
+  pub forged-none : (count : ℕ) → None ≡ transfer_in tag one.coin one.opening.block (leaf_in one.opening.bytes)
+      → false ≡ is_forged_since tag count events one
+  forged-none count none =
+      sym (any-false (forges_by tag events one) (wallets_since count events)
+      (λ w. by (wallet_owner events w) (bound_by events w)))
     where
       by : (owner : Option Owner) (bodies : List Body)
           → forges_one tag owner bodies one.coin (one.opening ∷ []) ≡ false
@@ -195,19 +212,19 @@ module _ (tag : List ℕ) (events : List Event) (one : Opened) where
       by (Some me) bodies = ap (λ found. forges_transfer me bodies found || false) (sym none)
 
   -- and a transfer shows one where a wallet signed it that didn't bind its body
-  pub forged-some : (known : Known) (tx : SignedTx) → KeepsWallets events known
+  pub forged-some : (known : Known) (tx : SignedTx) (count : ℕ) → KeepsWallets events known
       → Some tx ≡ transfer_in tag one.coin one.opening.block (leaf_in one.opening.bytes)
       → list_any
       (λ declared. signs_unbound known.declared.items (bodies_of known.bodies tx.body.coin) tx declared.wallet)
-      known.declared.items ≡ is_forged_in tag events one
-  forged-some known tx keeps is =
+      (take (length known.declared.items - count) known.declared.items) ≡ is_forged_since tag count events one
+  forged-some known tx count keeps is =
       sym (any-map (λ (declared : Declared). declared.wallet)
-      (signs_unbound known.declared.items (bodies_of known.bodies tx.body.coin) tx) known.declared.items)
+      (signs_unbound known.declared.items (bodies_of known.bodies tx.body.coin) tx)
+      (take (length known.declared.items - count) known.declared.items))
       ∙ ap (list_any (signs_unbound known.declared.items (bodies_of known.bodies tx.body.coin) tx))
-      (ap (map (λ (declared : Declared). declared.wallet)) keeps.declared ∙ sym (wallets-declared events))
+      (wallets-newer events known.declared.items count keeps.declared)
       ∙ any-same (signs_unbound known.declared.items (bodies_of known.bodies tx.body.coin) tx)
-      (λ w. forges_one tag (wallet_owner events w) (bound_by events w) one.coin (one.opening ∷ []))
-      (wallets events) (λ w.
+      (forges_by tag events one) (wallets_since count events) (λ w.
       ap (λ (all : List Declared). signs_unbound all (bodies_of known.bodies tx.body.coin) tx w) keeps.declared
       ∙ by w (owner_in (declared_in events) w)
       ∙ ap (λ owner. forges_one tag owner (bound_by events w) one.coin (one.opening ∷ []))

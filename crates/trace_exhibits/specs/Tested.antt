@@ -1,17 +1,24 @@
 -- The openings that were tested for forgeries.
-use Rattle.std.specs.Prelude.{◌≡◌, ℕ, nat_eq, Bool, true, false, List, Some, is_some}
+use Rattle.std.specs.Prelude.{◌≡◌, ℕ, ◌≤◌, nat_eq, true, List, length, Option, Some, None, unwrap_or}
 use Rattle.std.specs.List.{slice_get}
 use Rattle.std.specs.HashMap.{get}
-use Rattle.world_rules.specs.Events.{Event}
+use Rattle.world_rules.specs.Events.{Event, wallets}
 use Rattle.trace_exhibits.specs.Opened.{Opened}
-use Rattle.trace_exhibits.specs.Wallets.{is_forged_in}
+use Rattle.trace_exhibits.specs.Wallets.{is_wallet_in, wallets_since, forges_by}
 use Rattle.trace_exhibits.specs.declared.tested.Tested.{Tested}
 
--- the opening that was met at a place was tested
-abbrev pub is_tested : Tested → ℕ → Bool
-is_tested tested place = is_some (get nat_eq tested.places place)
+-- how many wallets had been declared when the opening at a place was last tested; 0 where it wasn't
+abbrev pub count_at : Tested → Option ℕ → ℕ
+count_at tested None = 0
+count_at tested (Some place) = unwrap_or (get nat_eq tested.places place) 0
 
--- behind the events no opening that was tested shows a forgery; each was met
+-- each wallet whose signature the opening forges behind the events was declared since there were so many
+pub record IsTestedBy (tag : List ℕ) (events : List Event) (count : ℕ) (one : Opened) : Type 0 where
+  pub few : count ≤ length (wallets events)
+  pub since : (w : ℕ) → is_wallet_in (wallets events) w ≡ true → forges_by tag events one w ≡ true
+      → is_wallet_in (wallets_since count events) w ≡ true
+
+-- each opening that was tested was met, and it was tested by all wallets but those that were declared since
 abbrev pub KeepsTested : List ℕ → List Event → List Opened → Tested → Type 0
-KeepsTested tag events met tested = (place : ℕ) → is_tested tested place ≡ true
-    → (one : Opened) × (slice_get met place ≡ Some one) × (is_forged_in tag events one ≡ false)
+KeepsTested tag events met tested = (place count : ℕ) → get nat_eq tested.places place ≡ Some count
+    → (one : Opened) × (slice_get met place ≡ Some one) × IsTestedBy tag events count one

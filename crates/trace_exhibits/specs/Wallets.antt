@@ -1,5 +1,5 @@
 -- The wallets that were declared and the bodies that their leaves bound.
-use Rattle.std.specs.Prelude.{◌≡◌, ℕ, ◌==◌, ◌&&◌, not, Bool, false, List, [], ◌∷◌, find, nat_eq, Option, option_map, Vec}
+use Rattle.std.specs.Prelude.{◌≡◌, ℕ, ◌-◌, ◌==◌, ◌&&◌, not, Bool, false, List, [], ◌∷◌, length, take, find, nat_eq, Option, option_map, Vec}
 use Rattle.std.specs.List.{list_any}
 use Rattle.std.specs.HashMap.{HashMap, get}
 use Rattle.std.specs.Option.{option_map_or}
@@ -43,8 +43,21 @@ pub record KeepsWallets (events : List Event) (known : Known) : Type 0 where
   pub bound : (w : ℕ) (body : Body)
       → is_bound_in (bodies_of known.bodies body.coin) w body ≡ list_any (is_same_body body) (bound_by events w)
 
--- behind events the opening shows a forgery of some wallet's signature
+-- the wallet is one of these
+abbrev pub is_wallet_in : List ℕ → ℕ → Bool
+is_wallet_in wallets w = list_any (λ v. v == w) wallets
+
+-- the wallets that events declared since there were so many, the newest first
+abbrev pub wallets_since : ℕ → List Event → List ℕ
+wallets_since count events = take (length (wallets events) - count) (wallets events)
+
+-- behind events the opening shows a forgery of the wallet's signature
+abbrev pub forges_by : List ℕ → List Event → Opened → ℕ → Bool
+forges_by tag events one w = forges_one tag (wallet_owner events w) (bound_by events w) one.coin (one.opening ∷ [])
+
+-- the same of some wallet, and of some that was declared since there were so many
 abbrev pub is_forged_in : List ℕ → List Event → Opened → Bool
-is_forged_in tag events one =
-    list_any (λ w. forges_one tag (wallet_owner events w) (bound_by events w) one.coin (one.opening ∷ []))
-    (wallets events)
+is_forged_in tag events one = list_any (forges_by tag events one) (wallets events)
+
+abbrev pub is_forged_since : List ℕ → ℕ → List Event → Opened → Bool
+is_forged_since tag count events one = list_any (forges_by tag events one) (wallets_since count events)

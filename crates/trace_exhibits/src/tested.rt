@@ -1,19 +1,19 @@
-ghost use Rattle.std.specs.Prelude.{◌≡◌, ◌⊎◌, ℕ, ◌∷◌, List, true, false, IfSome, OnOk, Some};
+ghost use Rattle.std.specs.Prelude.{◌≡◌, ◌⊎◌, ℕ, nat_eq, List, OnOk, Some};
+ghost use Rattle.std.specs.HashMap.{get};
 ghost use Rattle.world_rules.specs.Events.{Event};
 ghost use Rattle.trace_exhibits.specs.Opened.{Opened};
-ghost use Rattle.trace_exhibits.specs.Lines.{event_of};
-ghost use Rattle.trace_exhibits.specs.Tested.{is_tested, KeepsTested};
+ghost use Rattle.trace_exhibits.specs.Tested.{count_at, KeepsTested};
 
-use super::lines::ExhibitLine;
 use plasma_base::NoMemory;
 use std::alloc::Global;
 use std::collections::HashMap;
 
-/// The openings that were tested since a wallet was last declared, none of which shows a forgery, by the places at
-/// which they were met. A leaf that binds a body later makes none of them show one.
+/// How many wallets had been declared when an opening was last tested, by the place at which it was met. It showed no
+/// forgery then. So one that it shows later is of a wallet that was declared since: a leaf that binds a body later
+/// makes none.
 #[derive(Drop)]
 pub(crate) struct Tested {
-    places: HashMap<usize, bool>,
+    places: HashMap<usize, usize>,
 }
 
 impl Tested {
@@ -26,34 +26,25 @@ impl Tested {
         }
     }
 
-    /// Whether the opening that was met at this place was tested; one that wasn't met wasn't.
-    pub(crate) fn has(&self, place: Option<usize>) -> bool
-        ensures { result ≡ true → (at : ℕ) × (place ≡ Some at) × (is_tested self.now at ≡ true) }
+    /// How many wallets had been declared when the opening that was met at this place was last tested; 0 where it wasn't.
+    pub(crate) fn count(&self, place: Option<usize>) -> usize
+        ensures { result ≡ count_at self.now place }
     {
         match place {
-            Some(place) => self.places.contains_key(&place),
-            None => false,
+            Some(place) => self.places.get(&place).copied().unwrap_or(0),
+            None => 0,
         }
     }
 
-    /// Adds the opening that was met at this place, where it was met.
-    pub(crate) fn add(&mut self, place: Option<usize>) -> Result<(), NoMemory>
-        ensures { OnOk result ((at : ℕ) → is_tested self.new at ≡ true
-            → (is_tested self.old at ≡ true) ⊎ (place ≡ Some at)) }
+    /// Notes that so many wallets had been declared when the opening that was met at this place, where it was met, was
+    /// tested.
+    pub(crate) fn add(&mut self, place: Option<usize>, count: usize) -> Result<(), NoMemory>
+        ensures { OnOk result ((at number : ℕ) → get nat_eq self.new.places at ≡ Some number
+            → (get nat_eq self.old.places at ≡ Some number) ⊎ ((place ≡ Some at) × (number ≡ count))) }
     {
         if let Some(place) = place {
-            self.places.insert(place, true)?;
+            self.places.insert(place, count)?;
         }
         Ok(())
-    }
-
-    /// Goes on behind a line. All are to be tested again once a wallet is declared.
-    pub(crate) fn pass(&mut self, line: &ExhibitLine<'_>)
-        ensures { (tag : List ℕ) (events : List Event) (met : List Opened) → KeepsTested tag events met self.old
-            → KeepsTested tag (event_of line.now ∷ events) met self.new }
-    {
-        if let ExhibitLine::Declares { .. } = line {
-            self.places.clear();
-        }
     }
 }

@@ -1,10 +1,10 @@
-ghost use Rattle.std.specs.Prelude.{◌≡◌, ℕ, ◌∷◌, [], List, ◌++◌, ◌==◌, if◌then◌else◌, IfOk, OnOk};
+ghost use Rattle.std.specs.Prelude.{◌≡◌, ℕ, ◌-◌, ◌∷◌, [], List, ◌++◌, ◌==◌, if◌then◌else◌, length, take, IfOk, OnOk};
 ghost use Rattle.std.specs.List.{list_any};
 ghost use Rattle.std.specs.Option.{option_copied};
 ghost use Rattle.world_rules.specs.Events.{Event};
 ghost use Rattle.trace_exhibits.specs.Lines.{event_of};
 ghost use Rattle.trace_exhibits.specs.Opened.{Opened};
-ghost use Rattle.trace_exhibits.specs.Wallets.{bodies_of, owner_in, is_bound_in, signs_unbound, KeepsWallets, is_forged_in};
+ghost use Rattle.trace_exhibits.specs.Wallets.{bodies_of, owner_in, is_bound_in, signs_unbound, KeepsWallets, is_forged_since};
 
 use super::forging::is_same;
 use super::lines::ExhibitLine;
@@ -71,37 +71,45 @@ impl Known {
         Ok(())
     }
 
-    /// Whether the opening shows a signature of a declared wallet over a body that no leaf of it bound.
+    /// How many wallets were declared.
+    pub(crate) fn count(&self) -> usize
+        ensures { result ≡ length self.now.declared.items }
+    {
+        self.declared.len()
+    }
+
+    /// Whether the opening shows a signature of a wallet that was declared since there were so many, over a body that
+    /// no leaf of it bound.
     pub(crate) fn is_forged(
         &self,
         alloc: Global,
         tag: &[u8; 32],
         one: &ShownOpening<'_>,
+        count: usize,
     ) -> Result<bool, NoMemory>
         ensures { IfOk result (λ forged. (events : List Event) → KeepsWallets events self.now
-            → forged ≡ is_forged_in tag.now events one.now) }
+            → forged ≡ is_forged_since tag.now count events one.now) }
     {
         let opening = one.opening();
         let leaf = leaf_in(opening.bytes.as_slice());
         match leaf_tx(alloc, tag, one.coin(), opening.block, leaf)? {
             None => Ok(false),
-            Some(tx) => Ok(self.some_signs(&tx)),
+            Some(tx) => Ok(self.some_signs(&tx, count)),
         }
     }
 
-    // Whether a declared wallet signed the transfer, whose body no leaf of it bound.
-    fn some_signs(&self, tx: &SignedTx) -> bool
+    // Whether a wallet that was declared since there were so many signed the transfer, whose body no leaf of it bound.
+    fn some_signs(&self, tx: &SignedTx, count: usize) -> bool
         ensures { let bodies = bodies_of self.now.bodies tx.now.body.coin in result
             ≡ list_any (λ one. signs_unbound self.now.declared.items bodies tx.now one.wallet)
-            self.now.declared.items }
+            (take (length self.now.declared.items - count) self.now.declared.items) }
     {
         let bodies = bodies_of(&self.bodies, tx.body.coin);
-        self.declared.iter().any(|one| signs_unbound(
-            self.declared.as_slice(),
-            bodies,
-            one.wallet,
-            tx,
-        ))
+        let declared = self.declared.as_slice();
+        let newer = declared.len().saturating_sub(count);
+        declared[..newer]
+            .iter()
+            .any(|one| signs_unbound(declared, bodies, one.wallet, tx))
     }
 }
 

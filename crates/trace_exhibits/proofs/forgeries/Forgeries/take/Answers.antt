@@ -3,6 +3,7 @@ use Rattle.trace_exhibits.specs.Lines.{event_of}
 use Rattle.trace_exhibits.specs.declared.forgeries.Forgeries.{Forgeries}
 use Rattle.trace_exhibits.proofs.Lined.{forgery-passed, forgery-here}
 use Rattle.trace_exhibits.proofs.Found.{none-of}
+use Rattle.trace_exhibits.proofs.TestedLaws.{tested-behind}
 use Rattle.trace_exhibits.proofs.Forged.{open-events, open-finds, forged-stays, tested-still}
 use Rattle.trace_exhibits.proofs.forgeries.Forgeries.take.Goals as goal
 
@@ -33,11 +34,11 @@ returns c events before number still finds =
     let new : Forgeries = record {
       alloc = c.args.self.now.alloc;
       known = c.add.new.self;
-      tested = c.pass.new.self;
+      tested = c.show_forgery.new.tested;
       found = c.args.self.now.found;
     } in
     open-finds tag _ met new none (record {
       none = forgery-passed tag events event kept.none (sym c.if-branch.false ∙ told.0);
       wallets = c.in_ok-add.ensures events kept.wallets;
-      tested = c.pass.ensures tag events met (told.1 c.if-branch.false);
+      tested = tested-behind tag events met c.show_forgery.new.tested c.args.line.now (told.1 c.if-branch.false);
     })
