@@ -1,5 +1,5 @@
 -- What is due for the guards in memory.
-use Rattle.std.proofs.Common.{◌≡◌, ℕ, List, [], ◌∷◌, ◌++◌, Option, None, Some, refl, ◌∙◌, ap}
+use Rattle.std.proofs.Common.{◌≡◌, ◌≢◌, ℕ, List, [], ◌∷◌, ◌++◌, map, Option, None, Some, refl, ◌∙◌, ap}
 use Rattle.std.specs.List.{flat_map}
 use Rattle.std.specs.Map.{values_of}
 use Rattle.std.proofs.lemmas.List.Folds.{flat_map-map}
@@ -7,7 +7,7 @@ use Rattle.plasma_tx.specs.declared.call.RootCall.{RootCall}
 use Rattle.plasma_tx.specs.declared.views.CoinView.{CoinView}
 use Rattle.plasma_tx.specs.Views.{coin_at}
 use Rattle.coin_history.specs.declared.bundle.Bundle.{Bundle}
-use Rattle.node_rules.specs.Watcher.{who_is, notes_of, guards_of, due_for_kept, watch_answer}
+use Rattle.node_rules.specs.Watcher.{who_is, notes_of, guards_of, guards_in, due_for_kept, watch_answer}
 use Rattle.node_rules.specs.declared.kept_coin.KeptCoin.{KeptCoin}
 use Rattle.watcher_node.specs.Inside.{watched_in, AreKeyed}
 use Rattle.watcher_node.proofs.Order.{values-keyed}
@@ -45,3 +45,12 @@ dues-answer dig records log account entries is are =
     (guards_of (notes_of dig records))
     ∙ dues-same (who_is records).tag log account (guards_of (notes_of dig records))
     ∙ ap (λ (n : ℕ). flat_map (due_for_kept (who_is records).tag log n) (guards_of (notes_of dig records))) is
+
+-- where there are some in memory, there are guards
+pub guards-some : (dig : List ℕ → List ℕ) (records : List (List ℕ)) (entries : List ((ℕ × ℕ) × KeptCoin))
+    → AreKeyed entries (watched_in (who_is records).tag (notes_of dig records)) → values_of entries ≢ []
+    → guards_in dig records ≢ []
+guards-some dig records entries are some none =
+    let tag = (who_is records).tag in
+    some
+    (ap values_of are ∙ values-keyed (watched_in tag (notes_of dig records)) ∙ ap (map (kept_coin_of tag)) none)

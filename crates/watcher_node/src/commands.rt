@@ -1,4 +1,4 @@
-ghost use Rattle.std.specs.Prelude.{◌≡◌, ◌≢◌, ◌≤◌, false, true, length, Some, None, Ok, Err, IfOk, IfSome};
+ghost use Rattle.std.specs.Prelude.{◌≡◌, ◌≢◌, ◌⊎◌, ◌≤◌, false, true, length, Some, None, Ok, Err, is_ok, IfOk, IfSome};
 ghost use Rattle.std.specs.Option.{option_map};
 ghost use Rattle.std.specs.List.{list_any};
 ghost use Rattle.gate_journal.specs.Image.{most};
@@ -10,7 +10,7 @@ ghost use Rattle.watcher_node.specs.declared.watched.Change.{Change};
 ghost use Rattle.watcher_node.specs.State.{stop_in, watcher_stop};
 ghost use Rattle.watcher_node.specs.Inside.{change_of, history_refusal};
 ghost use Rattle.node_rules.specs.KeptCoins.{IsShown};
-ghost use Rattle.coin_history.specs.Bundles.{IsBundle};
+ghost use Rattle.coin_history.specs.Bundles.{HasFirstItem, IsBundle};
 
 use super::bundles::{guarded_note, released_note};
 use super::node::WatcherNode;
@@ -35,7 +35,8 @@ fn stop_refusal(stop: Stop) -> WatcherRefusal
 
 // Why a history is refused, as a refusal.
 fn history_refusal(why: HistoryRefusal) -> WatcherRefusal
-    ensures { result ≡ history_refusal why }
+    ensures is { result ≡ history_refusal why }
+    ensures memory { result ≡ WatcherRefusal.NoMemory → why ≡ HistoryRefusal.NoMemory }
 {
     match why {
         HistoryRefusal::NoMemory => WatcherRefusal::NoMemory,
@@ -172,7 +173,8 @@ impl<D: Disk, H: Hash32 + Copy> WatcherNode<D, H> {
     ///
     /// In this order: `Closed` after a device fault; `History` where the bytes spell no bundle, or it is no
     /// history of its coin; `Withdrawn`; `ExitStands`; `NoteTooLong`; `DeviceFault`, which closes the
-    /// watcher. `NoMemory` may come in place of each but the first; nothing changed then.
+    /// watcher. `NoMemory` may come in place of each but the first, where the bytes have a first item or are a
+    /// history of its coin; nothing changed then.
     #[tactic(auto, unfolding(node_rules::specs::Watcher::guard_effect))]
     pub fn guard(&mut self, log: &RootLog, bundle: &[u8]) -> Result<Accepted, WatcherRefusal>
         ensures answer { watcher_stop result ≡ None → result ≡
@@ -180,6 +182,9 @@ impl<D: Disk, H: Hash32 + Copy> WatcherNode<D, H> {
         ensures did { Did D.told D.plan D.faults
             (guard_effect (H.digest_of self.old.hash) self.old.notes.records log.now.log bundle.now).note
             self.old.notes (watcher_stop result) self.new.notes }
+        ensures memory { result ≡ Err WatcherRefusal.NoMemory → HasFirstItem bundle.now
+            ⊎ (is_ok (links_handed (H.digest_of self.old.hash) (who_is self.old.notes.records).tag log.now.log
+            bundle.now) ≡ true) }
         ensures hash { self.new.hash ≡ self.old.hash }
     {
         if self.notes.is_closed() {

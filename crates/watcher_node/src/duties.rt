@@ -1,7 +1,7 @@
-ghost use Rattle.std.specs.Prelude.{◌≡◌, ◌++◌, IfOk, OnOk, OnErr};
+ghost use Rattle.std.specs.Prelude.{◌≡◌, ◌≢◌, [], ◌++◌, IfOk, OnOk, OnErr};
 ghost use Rattle.std.specs.List.{flat_map};
 ghost use Rattle.std.specs.BTreeMap.{values};
-ghost use Rattle.node_rules.specs.Watcher.{watch_answer};
+ghost use Rattle.node_rules.specs.Watcher.{guards_in, watch_answer};
 ghost use Rattle.node_rules.specs.KeptCoins.{due_for_coin};
 
 use super::node::WatcherNode;
@@ -19,7 +19,9 @@ fn due_calls(
     account: u64,
     guards: &BTreeMap<(u64, u64), KeptCoin>,
 ) -> Result<Vec<RootCall>, NoMemory>
-    ensures { IfOk result (λ calls. calls.items ≡ flat_map (due_for_coin log.now.log account) (values guards.now)) }
+    ensures calls { IfOk result
+        (λ calls. calls.items ≡ flat_map (due_for_coin log.now.log account) (values guards.now)) }
+    ensures memory { OnErr result (values guards.now ≢ []) }
 {
     let mut calls = Vec::new(alloc);
     for watched in guards.values() {
@@ -30,10 +32,12 @@ fn due_calls(
 
 impl<D: Disk, H: Hash32 + Copy> WatcherNode<D, H> {
     /// What is due for the guards, in the order of coins and tips, for the watcher's account; nothing for
-    /// one whose coin the log doesn't have. It reads no record anew, and makes no device call.
+    /// one whose coin the log doesn't have. It reads no record anew, and makes no device call. Where nothing is
+    /// guarded it takes no memory.
     pub fn watch(&self, log: &RootLog) -> Result<Vec<RootCall>, NoMemory>
-        ensures { IfOk result (λ calls. calls.items
+        ensures calls { IfOk result (λ calls. calls.items
             ≡ watch_answer (H.digest_of self.now.hash) self.now.notes.records log.now.log) }
+        ensures memory { OnErr result (guards_in (H.digest_of self.now.hash) self.now.notes.records ≢ []) }
     {
         let calls = due_calls(self.alloc, log, self.account, &self.guards)?;
         Ok(calls)
