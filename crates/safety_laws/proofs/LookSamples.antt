@@ -57,7 +57,12 @@ began left =
 
 -- what its wallet keeps
 abbrev kept : Kept
-kept = record { links = record { coin = 1; deposit = 1; owner = me; spends = [] }; sent = None; guarded = false }
+kept = record {
+  links = record { coin = 1; deposit = 1; owner = me; spends = [] };
+  sent = None;
+  guarded = false;
+  hidden = false;
+}
 
 abbrev word : List RootCall → Word
 word log = word_of log 21 0 kept
@@ -147,11 +152,55 @@ unfolding least payment left_by answer_shown start_shown next_link balance_of pa
     block_at coin_at responses exits exit_at exits_of is_withdrawn
 ended-calls = refl
 
+-- ---- a hidden block
+
+-- the same, where the operator didn't show one of the blocks
+abbrev unshown : Kept
+unshown = record {
+  links = record { coin = 1; deposit = 1; owner = me; spends = [] };
+  sent = None;
+  guarded = false;
+  hidden = true;
+}
+
+-- so the holder is to leave at once, and needs 100 for it
+pub unshown-calls : calls_of (began 100) 21 unshown ≡ StartDeposit 21 1 1 ∷ []
+unfolding least payment left_by answer_shown start_shown next_link balance_of pays takes share_of now blocks coins
+    block_at coin_at responses exits exit_at exits_of is_withdrawn
+unshown-calls = refl
+
+pub unshown-act : word_of (Tick 50 ∷ began 99) 21 0 unshown ≡ Act 50 1
+unfolding least payment left_by answer_shown start_shown next_link balance_of pays takes share_of now blocks coins
+    block_at coin_at responses exits exit_at exits_of is_withdrawn
+unshown-act = refl
+
+-- what is due comes first, and where he has left, nothing is
+pub unshown-attacked : word_of (attacked 140) 21 0 unshown ≡ Act 604799 0
+unfolding least payment left_by answer_shown start_shown next_link balance_of pays takes share_of now blocks coins
+    block_at coin_at responses exits exit_at exits_of is_withdrawn
+unshown-attacked = refl
+
+pub unshown-leaving : word_of (StartDeposit 21 1 1 ∷ began 100) 21 0 unshown ≡ Leaving 907200
+unfolding least payment left_by answer_shown start_shown next_link balance_of pays takes share_of now blocks coins
+    block_at coin_at responses exits exit_at exits_of is_withdrawn
+unshown-leaving = refl
+
+-- another's look, as a watcher's, says nothing of it
+pub unshown-another : word_of (began 100) 31 0 unshown ≡ Safe 604799
+unfolding least payment left_by answer_shown start_shown next_link balance_of pays takes share_of now blocks coins
+    block_at coin_at responses exits exit_at exits_of is_withdrawn
+unshown-another = refl
+
 -- ---- a coin under way
 
 -- what a watcher with account 31 guards
 abbrev guard : Kept
-guard = record { links = record { coin = 1; deposit = 1; owner = me; spends = [] }; sent = None; guarded = true }
+guard = record {
+  links = record { coin = 1; deposit = 1; owner = me; spends = [] };
+  sent = None;
+  guarded = true;
+  hidden = false;
+}
 
 -- Account 21 sent the coin, in block 2. The stranger's exit of block 4 with the planted parent 3 was challenged at the
 -- deposit, and the transfer answered.

@@ -375,7 +375,7 @@ module _ (log : List RootCall) (account : ℕ) (kept : Kept) where
 
   own-pairs : Pairs Apart (own_start log account kept)
   own-pairs =
-      elim (may_leave log account kept && is_planted log kept) as (λ (b : Bool).
+      elim (may_leave log account kept && (is_planted log kept || kept.hidden)) as (λ (b : Bool).
       Pairs Apart (if b then Start ∷ [] else [])) [
         | true ↦ (λ y h. absurd h, tt)
         | false ↦ tt

@@ -104,6 +104,16 @@ module _ (dig : List ℕ → List ℕ) (digest : IsDigest dig) (rules : Rules) (
   short-goes (inr s) =
       inr (s.2, own-closed s.0, ap (λ o. list_any (begins_own o c e) later) (sym me_is) ∙ s.1)
 
+  -- till the time of Act nothing goes wrong
+  act-till : (by money : ℕ) → Tells (log_of events) account clock kept (Act by money) → (end : ℕ) → end ≤ by
+      → StandsTill events c e Me end
+  act-till by money t end early =
+      elim t.1 [
+        | inl due ↦ act-stands dig digest rules events n w c e account kept before look t.0.here.0 t.0.in_time due.0
+            by due.2 (act-calls (log_of events) account kept due.0 due.1) end early
+        | inr leave ↦ calm-stands dig digest rules events n w c e account kept before look leave.none t.0.in_time end
+      ]
+
   -- what was due was met
   module _ (r : IsActedOn (word_of (log_of events) account clock kept) (due (log_of events) account kept)
       (wallet_owner events w) c e later events) where
@@ -143,9 +153,7 @@ module _ (dig : List ℕ → List ℕ) (digest : IsDigest dig) (rules : Rules) (
           acted.0.in_time r.met (now (log_of (later ++ events))) (inl less);
       goes = inl (omega (arith, less, clock-since (tests_by dig) rules events r.within mid));
       in_time = stays-in-time (tests_by dig) rules events w c e Me me_is (now (log_of (r.within ++ events)))
-          (act-stands dig digest rules events n w c e account kept before look acted.0.here.0 acted.0.in_time
-          acted.1.0 r.by acted.1.2 (act-calls (log_of events) account kept acted.1.0 acted.1.1)
-          (now (log_of (r.within ++ events))) r.early) r.within mid (inl (omega (arith, less, clock-mid)))
+          (act-till r.by r.money acted (now (log_of (r.within ++ events))) r.early) r.within mid (inl (omega (arith, less, clock-mid)))
           (le_refl (now (log_of (r.within ++ events))));
     }
     acted-goes (inr g) =
@@ -168,9 +176,7 @@ module _ (dig : List ℕ → List ℕ) (digest : IsDigest dig) (rules : Rules) (
             parts.0,
           );
           in_time = stays-in-time (tests_by dig) rules events w c e Me me_is (now (log_of (r.within ++ events)))
-              (act-stands dig digest rules events n w c e account kept before look acted.0.here.0 acted.0.in_time
-              acted.1.0 r.by acted.1.2 (act-calls (log_of events) account kept acted.1.0 acted.1.1)
-              (now (log_of (r.within ++ events))) r.early) r.within mid
+              (act-till r.by r.money acted (now (log_of (r.within ++ events))) r.early) r.within mid
               (inr (omega (arith, g.2, clock-mid), own-closed g.0, parts.1))
               (le_refl (now (log_of (r.within ++ events))));
         }
@@ -211,8 +217,7 @@ module _ (dig : List ℕ → List ℕ) (digest : IsDigest dig) (rules : Rules) (
   look-goes (inr (inr (inl r))) =
       let t = told (log_of events) account clock kept (Act r.0 r.1) r.2 in
       from-look-itself
-      (act-stands dig digest rules events n w c e account kept before look t.0.here.0 t.0.in_time t.1.0 r.0 t.1.2
-      (act-calls (log_of events) account kept t.1.0 t.1.1) (now (log_of (later ++ events))) r.3)
+      (act-till r.0 r.1 t (now (log_of (later ++ events))) r.3)
       (short-goes r.4)
   look-goes (inr (inr (inr r))) = acted-goes r r.short
 
