@@ -22,7 +22,7 @@ use node_rules::WalletIdentity;
 use plasma_base::{Bytes, Hash32, NoMemory};
 use world_nodes::Entry;
 use world_rules::MOST_WALLETS;
-use world_tokens::{Rogue, declared_wallet};
+use world_tokens::{KeyPlace, Rogue, declared_wallet};
 use world_trace::LineEvent;
 
 impl<H: Hash32 + Copy> Scene<H> {
@@ -145,6 +145,13 @@ impl<H: Hash32 + Copy> Scene<H> {
         Ok(answer)
     }
 
+    // The place of an identity's key, which all rogues with its types and seed share.
+    fn key_place(&mut self, who: &WalletIdentity) -> Result<KeyPlace, NoMemory>
+        ensures { self.new ≡ self.old }
+    {
+        self.rogues.key_place(who)
+    }
+
     // One more rogue, whose name is new.
     fn add_rogue(&mut self, rogue: Rogue) -> Result<(), NoMemory>
         requires { rogue_named (world_of self.old) rogue.name ≡ None }
@@ -202,7 +209,8 @@ impl<H: Hash32 + Copy> Scene<H> {
             return Err(StepRefusal::BadLine);
         }
         let name = name.copy()?;
-        let rogue = Rogue::new(self.alloc, name, who);
+        let place = self.key_place(who)?;
+        let rogue = Rogue::new(self.alloc, name, who, place);
         self.add_rogue(rogue)?;
         Ok(idles(self.alloc, Reply::Rogue))
     }

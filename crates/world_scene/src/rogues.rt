@@ -5,18 +5,20 @@ ghost use Rattle.world_rules.specs.World.{owner_of_rogue};
 ghost use Rattle.world_scene.specs.Names.{is_named_rogue, is_rogue_with};
 
 use super::places::Places;
+use node_rules::WalletIdentity;
 use plasma_base::NoMemory;
 use plasma_tx::Owner;
 use std::alloc::Global;
 use std::marker::Model;
-use world_tokens::Rogue;
+use world_tokens::{KeyPlace, KeyPlaces, Rogue};
 
 /// The strangers that have names, in the order of their declarations, each with a name of its own, by which it is found
-/// without going through all of them. Contracts see the strangers.
+/// without going through all of them; and the places of their keys. Contracts see the strangers.
 #[derive(Drop)]
 pub(crate) struct Rogues {
     rogues: Vec<Rogue>,
     places: Places,
+    keys: KeyPlaces,
 }
 
 impl Model for Rogues {
@@ -46,6 +48,7 @@ impl Rogues {
         Rogues {
             rogues: Vec::new(alloc),
             places: Places::new(alloc),
+            keys: KeyPlaces::new(alloc),
         }
     }
 
@@ -77,6 +80,13 @@ impl Rogues {
         ensures { result ≡ list_any (is_rogue_with account) self.now }
     {
         self.rogues.iter().any(|rogue| rogue.account() == account)
+    }
+
+    // The place of an identity's key, which all strangers with its types and seed share.
+    pub(crate) fn key_place(&mut self, who: &WalletIdentity) -> Result<KeyPlace, NoMemory>
+        ensures { self.new ≡ self.old }
+    {
+        self.keys.place_of(who)
     }
 
     // One more rogue, whose name is new. `NoMemory` changes nothing.

@@ -5,66 +5,13 @@ ghost use Rattle.plasma_tx.specs.Spelling.{body_text};
 ghost use Rattle.node_rules.specs.WalletRecords.{secret_of};
 ghost use Rattle.world_rules.specs.World.{owner_of_rogue};
 
+use super::keys::{KeyPlace, MadeKey};
 use lms_sign::{SecretKey, sign};
 use node_rules::WalletIdentity;
-use plasma_base::{Bytes, Hash32, NoMemory, Sha};
+use plasma_base::{Bytes, NoMemory};
 use plasma_tx::{Body, Owner};
 use std::alloc::Global;
-use std::cell::OnceCell;
 use std::marker::Model;
-
-// A key with its whole tree. Contracts see it as the identity that it was made of.
-#[derive(Drop)]
-struct MadeKey {
-    who: WalletIdentity,
-    key: SecretKey,
-}
-
-impl Model for MadeKey {
-    ghost use Rattle.std.specs.Prelude.{◌≡◌};
-    ghost use Rattle.node_rules.specs.declared.identity.WalletIdentity.{WalletIdentity};
-    ghost use Rattle.node_rules.specs.WalletRecords.{secret_of};
-
-    ghost Value = { WalletIdentity };
-
-    ghost view = { λ m. m.who };
-
-    ghost invariant = { λ m. m.key ≡ secret_of m.who };
-}
-
-impl MadeKey {
-    // Makes the key of an identity. Its identifier is the first 16 bytes of the seed's SHA-256.
-    fn make(alloc: Global, who: &WalletIdentity) -> Result<MadeKey, NoMemory>
-        requires { is_supported who.now.types ≡ true }
-        ensures { IfOk result (λ made. made ≡ who.now) }
-    {
-        let digest = Sha.digest(&who.seed);
-        let mut id = [0; 16];
-        id.copy_from_slice(&digest[..16]);
-        Ok(MadeKey {
-            who: *who,
-            key: SecretKey::make(alloc, who.types, id, who.seed)?,
-        })
-    }
-
-    // The key, lent.
-    fn key(&self) -> &SecretKey
-        ensures { result.now ≡ secret_of self.now }
-    {
-        &self.key
-    }
-
-    // The key, lent, where it is this identity's.
-    fn key_of(&self, who: &WalletIdentity) -> Option<&SecretKey>
-        ensures { IfSome result (λ key. key.now ≡ secret_of who.now) }
-    {
-        if self.who == *who {
-            Some(&self.key)
-        } else {
-            None
-        }
-    }
-}
 
 // The body and its signature by this leaf of the key.
 fn signed(alloc: Global, key: &SecretKey, leaf: u32, body: &Body) -> Result<Bytes, NoMemory>
@@ -82,13 +29,13 @@ fn signed(alloc: Global, key: &SecretKey, leaf: u32, body: &Body) -> Result<Byte
 
 /// A stranger's account and key, which a schedule gives a name. Contracts see it as the rogue of a world. The key is
 /// the one that a wallet with this identity would have. It is made when a call first needs it, all nodes of its tree,
-/// and is kept.
+/// and is kept at its place, which rogues of one seed share.
 #[derive(Drop)]
 pub struct Rogue {
     alloc: Global,
     name: Bytes,
     who: WalletIdentity,
-    made: OnceCell<Box<MadeKey>>,
+    place: KeyPlace,
 }
 
 impl Model for Rogue {
@@ -105,8 +52,9 @@ impl Model for Rogue {
 }
 
 impl Rogue {
-    /// Declares a rogue. The types of the identity have to be supported. It takes no memory.
-    pub fn new(alloc: Global, name: Bytes, who: &WalletIdentity) -> Rogue
+    /// Declares a rogue, whose key is kept at this place. The types of the identity have to be supported. It takes no
+    /// memory.
+    pub fn new(alloc: Global, name: Bytes, who: &WalletIdentity, place: KeyPlace) -> Rogue
         requires { is_supported who.now.types ≡ true }
         ensures { result ≡ record { name = name; account = who.now.account; secret = secret_of who.now } }
     {
@@ -114,7 +62,7 @@ impl Rogue {
             alloc,
             name,
             who: *who,
-            made: OnceCell::new(),
+            place,
         }
     }
 
@@ -176,18 +124,10 @@ impl Rogue {
         MadeKey::make(self.alloc, &self.who)
     }
 
-    // The key that is kept, lent. The first call makes it. No clause knows what a cell has, so there may be none, or one
-    // of another identity; whoever asks then makes the key anew.
+    // The key that is kept, lent, unless that of another identity is. The first call makes it.
     fn kept(&self) -> Result<Option<&SecretKey>, NoMemory>
         ensures { IfOk result (λ found. IfSome found (λ key. key.now ≡ self.now.secret)) }
     {
-        if self.made.get().is_none() {
-            let made = self.make()?;
-            let _ = self.made.set(Box::new(self.alloc, made)?);
-        }
-        match self.made.get() {
-            Some(made) => Ok(made.key_of(&self.who)),
-            None => Ok(None),
-        }
+        self.place.key_of(self.alloc, &self.who)
     }
 }
