@@ -153,7 +153,8 @@ module _ (dig : List ℕ → List ℕ) (digest : IsDigest dig) (rules : Rules) (
           acted.0.in_time r.met (now (log_of (later ++ events))) (inl less);
       goes = inl (omega (arith, less, clock-since (tests_by dig) rules events r.within mid));
       in_time = stays-in-time (tests_by dig) rules events w c e Me me_is (now (log_of (r.within ++ events)))
-          (act-till r.by r.money acted (now (log_of (r.within ++ events))) r.early) r.within mid (inl (omega (arith, less, clock-mid)))
+          (act-till r.by r.money acted (now (log_of (r.within ++ events))) r.early) r.within mid
+          (inl (omega (arith, less, clock-mid)))
           (le_refl (now (log_of (r.within ++ events))));
     }
     acted-goes (inr g) =
@@ -217,8 +218,7 @@ module _ (dig : List ℕ → List ℕ) (digest : IsDigest dig) (rules : Rules) (
   look-goes (inr (inr (inl r))) =
       let t = told (log_of events) account clock kept (Act r.0 r.1) r.2 in
       from-look-itself
-      (act-till r.0 r.1 t (now (log_of (later ++ events))) r.3)
-      (short-goes r.4)
+      (act-till r.0 r.1 t (now (log_of (later ++ events))) r.3) (short-goes r.4)
   look-goes (inr (inr (inr r))) = acted-goes r r.short
 
   pub look-keeps : Covers (word_of (log_of events) account clock kept) (due (log_of events) account kept)
