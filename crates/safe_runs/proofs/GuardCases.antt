@@ -42,29 +42,30 @@ watched-take dig tag bodies i body less is =
 
 -- ---- the cases
 
-abbrev in_memory : List RootCall → KeptCoin → Case
-in_memory log guard = case_with log guard.coin guard.spends None true
+abbrev in_memory : List RootCall → List ℕ → KeptCoin → Case
+in_memory log hidden guard = case_with log hidden guard.coin guard.spends None true
 
-case-same : (tag : List ℕ) (log : List RootCall) (guard : Bundle)
-    → in_memory log (kept_coin_of tag guard) ≡ guard_case tag log guard
-case-same tag log guard = at (coin_at log guard.coin) refl
+case-same : (tag : List ℕ) (log : List RootCall) (hidden : List ℕ) (guard : Bundle)
+    → in_memory log hidden (kept_coin_of tag guard) ≡ guard_case tag log hidden guard
+case-same tag log hidden guard = at (coin_at log guard.coin) refl
   where
     at : (made : Option CoinView) → coin_at log guard.coin ≡ made
-        → in_memory log (kept_coin_of tag guard) ≡ guard_case tag log guard
+        → in_memory log hidden (kept_coin_of tag guard) ≡ guard_case tag log hidden guard
     at None is = rw is refl
     at (Some made) is = rw is refl
 
-cases-same : (tag : List ℕ) (log : List RootCall) (guards : List Bundle)
-    → map (in_memory log) (map (kept_coin_of tag) guards) ≡ map (guard_case tag log) guards
-cases-same tag log [] = refl
-cases-same tag log (guard ∷ guards) =
-    ap (λ (case : Case). case ∷ map (in_memory log) (map (kept_coin_of tag) guards)) (case-same tag log guard)
-    ∙ ap (λ (cases : List Case). guard_case tag log guard ∷ cases) (cases-same tag log guards)
+cases-same : (tag : List ℕ) (log : List RootCall) (hidden : List ℕ) (guards : List Bundle)
+    → map (in_memory log hidden) (map (kept_coin_of tag) guards) ≡ map (guard_case tag log hidden) guards
+cases-same tag log hidden [] = refl
+cases-same tag log hidden (guard ∷ guards) =
+    ap (λ (case : Case). case ∷ map (in_memory log hidden) (map (kept_coin_of tag) guards))
+    (case-same tag log hidden guard)
+    ∙ ap (λ (cases : List Case). guard_case tag log hidden guard ∷ cases) (cases-same tag log hidden guards)
 
-pub guards-said : (dig : List ℕ → List ℕ) (records : List (List ℕ)) (log : List RootCall) (tag : List ℕ) (account : ℕ)
-    (entries : List ((ℕ × ℕ) × KeptCoin)) → IsKept dig records tag account entries
-    → map (in_memory log) (values_of entries) ≡ guard_cases dig records log
-guards-said dig records log tag account entries kept =
-    ap (λ (all : List ((ℕ × ℕ) × KeptCoin)). map (in_memory log) (values_of all)) kept.are_all
-    ∙ ap (map (in_memory log)) (values-keyed (watched_in (who_is records).tag (notes_of dig records)))
-    ∙ cases-same (who_is records).tag log (guards_of (notes_of dig records))
+pub guards-said : (dig : List ℕ → List ℕ) (records : List (List ℕ)) (log : List RootCall) (hidden : List ℕ)
+    (tag : List ℕ) (account : ℕ) (entries : List ((ℕ × ℕ) × KeptCoin)) → IsKept dig records tag account entries
+    → map (in_memory log hidden) (values_of entries) ≡ guard_cases dig records log hidden
+guards-said dig records log hidden tag account entries kept =
+    ap (λ (all : List ((ℕ × ℕ) × KeptCoin)). map (in_memory log hidden) (values_of all)) kept.are_all
+    ∙ ap (map (in_memory log hidden)) (values-keyed (watched_in (who_is records).tag (notes_of dig records)))
+    ∙ cases-same (who_is records).tag log hidden (guards_of (notes_of dig records))

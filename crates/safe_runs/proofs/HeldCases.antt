@@ -22,8 +22,9 @@ use Rattle.node_rules.specs.WalletRecords.{Note, Accepts, LeavesWith, Reclaims, 
 use Rattle.node_rules.specs.Wallet.{WalletRecords, who, noted, links_at, coin_state}
 use Rattle.wallet_node.proofs.Spends.{links-are, spends-kept}
 use Rattle.coin_safety.specs.declared.kept.Kept.{Kept}
+use Rattle.coin_safety.specs.declared.kept.Sent.{Sent}
 use Rattle.safe_runs.specs.declared.case.Case.{Case}
-use Rattle.safe_runs.specs.Cases.{sent_by, coins_of, kept_at_tip, rising_with, wallet_case}
+use Rattle.safe_runs.specs.Cases.{sent_by, is_hidden, coins_of, kept_at_tip, rising_with, wallet_case}
 use Rattle.safe_runs.specs.Inside.{accepted_by, accepted_in, case_with, makes_block, spends_of}
 
 -- ---- what was accepted
@@ -166,14 +167,14 @@ made-more events i call less is =
 
 -- ---- the case of a coin
 
-module _ (dig : List ℕ → List ℕ) (wallet : WalletRecords) (log : List RootCall) (coin : ℕ) where
-  abbrev with : ℕ → Option ℕ → Case
-  with tip sent = case_with log coin (spends_of (accepted_in dig wallet) coin tip) sent false
+module _ (dig : List ℕ → List ℕ) (wallet : WalletRecords) (log : List RootCall) (hidden : List ℕ) (coin : ℕ) where
+  abbrev with : ℕ → Option Sent → Case
+  with tip sent = case_with log hidden coin (spends_of (accepted_in dig wallet) coin tip) sent false
 
   -- what is said of a coin that is this to the wallet
   abbrev said : CoinState → Option Case
   said Nothing = None
-  said (Sending tip q) = Some (with tip (Some q))
+  said (Sending tip q) = Some (with tip (sent_by (leaves_in wallet.leaves) (Some q)))
   said (Leaving tip) = Some (with tip None)
   said (Held tip) = Some (with tip None)
 
@@ -181,17 +182,25 @@ module _ (dig : List ℕ → List ℕ) (wallet : WalletRecords) (log : List Root
   some-coin None wrong = absurd (cc)
   some-coin (Some made) there = (made, refl)
 
-  kept-at : (tip : ℕ) (sent : Option ℕ) → is_none (coin_at log coin) ≡ false
-      → option_map (λ links. record { links = links; sent = sent_by sent; guarded = false }) (links_at dig wallet log coin tip)
+  kept-at : (tip : ℕ) (sent : Option Sent) → is_none (coin_at log coin) ≡ false
+      → option_map
+      (λ links. record { links = links; sent = sent; guarded = false; hidden = is_hidden hidden coin })
+      (links_at dig wallet log coin tip)
       ≡ (with tip sent).kept
   kept-at tip sent there =
       let found = some-coin (coin_at log coin) there in
       let links = links-are dig wallet log coin tip found.0 found.1 in
-      ap (option_map (λ links. record { links = links; sent = sent_by sent; guarded = false })) links
+      ap (option_map (λ links. record {
+        links = links;
+        sent = sent;
+        guarded = false;
+        hidden = is_hidden hidden coin;
+      })) links
       ∙ ap (λ (spends : List Link). Some (record {
         links = record { coin = coin; deposit = found.0.deposit; owner = found.0.owner; spends = spends };
-        sent = sent_by sent;
+        sent = sent;
         guarded = false;
+        hidden = is_hidden hidden coin;
       })) (sym (spends-kept (who wallet).tag coin tip (accepted_of (notes_of dig wallet.notes))))
       ∙ sym (ap (option_map (λ (made : CoinView). record {
         links = record {
@@ -200,12 +209,13 @@ module _ (dig : List ℕ → List ℕ) (wallet : WalletRecords) (log : List Root
           owner = made.owner;
           spends = spends_of (accepted_in dig wallet) coin tip;
         };
-        sent = sent_by sent;
+        sent = sent;
         guarded = false;
+        hidden = is_hidden hidden coin;
       })) found.1)
 
   by-leaf : (tip : ℕ) (leaf : Option ℕ) → is_none (coin_at log coin) ≡ false
-      → Some (with tip leaf) ≡ said (state_at (noted dig wallet) coin tip leaf)
+      → Some (with tip (sent_by (leaves_in wallet.leaves) leaf)) ≡ said (state_at (noted dig wallet) coin tip leaf)
   by-leaf tip (Some q) there = refl
   by-leaf tip None there = elim (is_noted coin tip (noted dig wallet).leaving) as (λ b.
       Some (with tip None) ≡ said (if b then Leaving tip else Held tip)) [
@@ -214,16 +224,17 @@ module _ (dig : List ℕ → List ℕ) (wallet : WalletRecords) (log : List Root
       ]
 
   by-tip : (tip : Option ℕ) → is_none (coin_at log coin) ≡ false
-      → option_map (λ t. record { coin = coin; kept = kept_at_tip dig wallet log coin t }) tip
+      → option_map (λ t. record { coin = coin; kept = kept_at_tip dig wallet log hidden coin t }) tip
       ≡ said (state_by (noted dig wallet) (leaves_in wallet.leaves) coin tip)
   by-tip None there = refl
   by-tip (Some tip) there =
       let leaf = sending_leaf (noted dig wallet).reclaimed (leaves_in wallet.leaves) coin tip in
-      ap (λ (kept : Option Kept). Some (record { coin = coin; kept = kept })) (kept-at tip leaf there)
+      ap (λ (kept : Option Kept). Some (record { coin = coin; kept = kept }))
+      (kept-at tip (sent_by (leaves_in wallet.leaves) leaf) there)
       ∙ by-leaf tip leaf there
 
   pub case-said : is_none (coin_at log coin) ≡ false
-      → wallet_case dig wallet log coin ≡ said (coin_state dig wallet (made log) coin)
+      → wallet_case dig wallet log hidden coin ≡ said (coin_state dig wallet (made log) coin)
   unfolding coin_state
   case-said there =
       rw there
@@ -232,7 +243,7 @@ module _ (dig : List ℕ → List ℕ) (wallet : WalletRecords) (log : List Root
 
   -- by what it is to the wallet
   pub case-is : (state : CoinState) → is_none (coin_at log coin) ≡ false
-      → state ≡ coin_state dig wallet (made log) coin → said state ≡ wallet_case dig wallet log coin
+      → state ≡ coin_state dig wallet (made log) coin → said state ≡ wallet_case dig wallet log hidden coin
   case-is state there is = ap said is ∙ sym (case-said there)
 
 -- ---- all coins
@@ -255,6 +266,7 @@ pub account-is : (wallet : WalletRecords) → (owner_of (who wallet)).account �
 unfolding owner_of
 account-is wallet = refl
 
-pub case-unmade : (dig : List ℕ → List ℕ) (wallet : WalletRecords) (log : List RootCall) (coin : ℕ)
-    → is_none (coin_at log coin) ≡ true → Some (record { coin = coin; kept = None }) ≡ wallet_case dig wallet log coin
-case-unmade dig wallet log coin none = rw none refl
+pub case-unmade : (dig : List ℕ → List ℕ) (wallet : WalletRecords) (log : List RootCall) (hidden : List ℕ) (coin : ℕ)
+    → is_none (coin_at log coin) ≡ true
+    → Some (record { coin = coin; kept = None }) ≡ wallet_case dig wallet log hidden coin
+case-unmade dig wallet log hidden coin none = rw none refl

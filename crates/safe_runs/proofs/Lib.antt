@@ -7,3 +7,4 @@ pub mod Ends
 pub mod Looking
 pub mod Opening
 pub mod DiskLooks
+pub mod LastBlocks

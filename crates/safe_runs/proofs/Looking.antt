@@ -1,7 +1,7 @@
 -- How a look ends whose lines were read, or that was stopped.
 use Rattle.std.proofs.Common.{◌≡◌, ℕ, inl, inr, Bool, true, false, List, [], ◌∷◌, ◌++◌, Option, None, Result, Ok, Err, refl, sym, ap, ◌∙◌, subst, append_assoc, append-nil}
 use Rattle.std.specs.Prelude.{if◌then◌else◌, unwrap_or}
-use Rattle.std.specs.List.{list_all}
+use Rattle.std.specs.List.{flat_map, list_all}
 use Rattle.plasma_tx.specs.declared.call.RootCall.{RootCall}
 use Rattle.plasma_tx.specs.Views.{now}
 use Rattle.plasma_outside.specs.declared.sink.SinkRefusal.{SinkRefusal}
@@ -21,8 +21,10 @@ use Rattle.run_endings.specs.Statuses.{status_of_refusal}
 use Rattle.run_endings.specs.Outputs.{Output, EndsAs}
 use Rattle.run_endings.specs.Endings.{status_of, last_text}
 use Rattle.run_endings.proofs.EndingLaws.{ends-stopped}
-use Rattle.safe_runs.specs.Answers.{is_case_good}
-use Rattle.safe_runs.specs.Sessions.{LookState, look_rules}
+use Rattle.safe_runs.specs.declared.case.Case.{Case}
+use Rattle.safe_runs.specs.declared.told.Told.{Told}
+use Rattle.safe_runs.specs.Answers.{case_text, is_case_good}
+use Rattle.safe_runs.specs.Sessions.{LookState, look_rules, untold}
 use Rattle.safe_runs.specs.Inside.{is_complete}
 use Rattle.safe_runs.specs.Runs.{Node, Looks, ended_output, look_output, whole_output}
 use Rattle.safe_runs.proofs.Silence.{lines-silent, front-silent}
@@ -33,11 +35,11 @@ module _ (node : Node) {W : Type 0} (Ran : W → LookState → Type 0)
   -- what is said of the lines of a chain with this tag, which is the node's
   abbrev Lines : List ℕ → Ending (List ℕ) → Type 0
   Lines tag ending =
-      Answers (look_rules tag) (begun None) Ran Halted left later taken put_then text ending session
+      Answers (look_rules tag) (begun untold) Ran Halted left later taken put_then text ending session
 
   abbrev BrokenLines : List ℕ → Break → Type 0
   BrokenLines tag why =
-      BrokeOff (look_rules tag) (begun None) Ran Halted left later taken put_then text why session
+      BrokeOff (look_rules tag) (begun untold) Ran Halted left later taken put_then text why session
 
   pub lines-of : (tag : List ℕ) (ending : Ending (List ℕ)) → tag ≡ node.tag → Lines tag ending
       → Lines node.tag ending
@@ -52,7 +54,7 @@ module _ (node : Node) {W : Type 0} (Ran : W → LookState → Type 0)
 
   -- a look whose lines were read to what ended them
   module _ (ending : Ending (List ℕ)) (Reads : Bool → Type 0)
-      (answers : Answers (look_rules node.tag) (begun None) Ran Halted left later taken put_then text ending session)
+      (answers : Answers (look_rules node.tag) (begun untold) Ran Halted left later taken put_then text ending session)
       (reads : Reads (is_read_fault (Ok ending))) where
     abbrev run : LookState
     run = answers.ends.stream.run
@@ -66,12 +68,12 @@ module _ (node : Node) {W : Type 0} (Ran : W → LookState → Type 0)
     none-said =
         answers.ends.told
         ∙ ap (λ (s : Streamed LookState (List ℕ)). s.stream.text) (sym answers.ends.streams)
-        ∙ lines-silent node.tag (begun None) answers.bytes answers.ended
+        ∙ lines-silent node.tag (begun untold) answers.bytes answers.ended
 
     read-failed : (e : Ending (List ℕ)) → Reads (is_read_fault (Ok e))
         → (ended_output node run e).status ≡ ReadFaultStatus → Reads true
     read-failed Complete reads is = absurd (never (list_all (is_case_good (calls_of run.log) node.account
-        (unwrap_or run.node (now (calls_of run.log)))) (node.cases (calls_of run.log))) is)
+        (unwrap_or run.node.clock (now (calls_of run.log)))) (node.cases (calls_of run.log) run.node.hidden)) is)
       where
         never : (b : Bool) → (if b then Done else Refused) ≡ ReadFaultStatus → ⊥
         never true wrong = absurd (cc)
@@ -108,21 +110,21 @@ module _ (node : Node) {W : Type 0} (Ran : W → LookState → Type 0)
         }
 
   put-of : (why : Break) (put all : List ℕ)
-      → IsPut (look_rules node.tag) (begun None) Ran Halted why put text all → (rest : List ℕ) × (put ++ rest ≡ all)
+      → IsPut (look_rules node.tag) (begun untold) Ran Halted why put text all → (rest : List ℕ) × (put ++ rest ≡ all)
   put-of FailedBreak put all is = (text, is)
   put-of WriteBreak put all is = is
   put-of NoMemoryBreak put all is = is
 
   -- one that was broken off
   pub looks-early : (why : Break) (failed : Type 0) (refusal : SinkRefusal)
-      → BrokeOff (look_rules node.tag) (begun None) Ran Halted left later taken put_then text why session
+      → BrokeOff (look_rules node.tag) (begun untold) Ran Halted left later taken put_then text why session
       → Looks node (record { left = left; later = later; taken = taken; after = put_then }) failed
       (status_of_refusal refusal)
   looks-early why failed refusal broke =
       let is = broke.breaks in
       let put = put-of why broke.put is.stream.text is.put_is in
       let none =
-      none-put broke.put put.0 (put.1 ∙ front-silent node.tag (begun None) is.front is.stream is.runs) in
+      none-put broke.put put.0 (put.1 ∙ front-silent node.tag (begun untold) is.front is.stream is.runs) in
       let wrote = subst (Wrote taken put_then) none broke.wrote in
       let output = look_output node broke.bytes broke.ended in
       record {
@@ -185,6 +187,32 @@ module _ (node : Node) (run : LookState) where
   -- the status of cases
   pub status-said : (good : Bool)
       → good ≡ list_all (is_case_good (calls_of run.log) node.account
-      (unwrap_or run.node (now (calls_of run.log)))) (node.cases (calls_of run.log))
+      (unwrap_or run.node.clock (now (calls_of run.log)))) (node.cases (calls_of run.log) run.node.hidden)
       → (whole_output node run).status ≡ (if good then Done else Refused)
   status-said good is = ap (λ b. if b then Done else Refused) (sym is)
+
+-- ---- what is said behind what was read
+
+module _ (node : Node) (run : LookState) (log : List RootCall) (told : Told) (account clock : ℕ) (cases : List Case)
+    (log_is : log ≡ calls_of run.log) (told_is : told ≡ run.node) (account_is : account ≡ node.account)
+    (clock_is : clock ≡ unwrap_or told.clock (now log)) (cases_are : cases ≡ node.cases log told.hidden) where
+  same : {X : Type 0} (f : List RootCall → ℕ → ℕ → List Case → X)
+      → f log account clock cases
+      ≡ f (calls_of run.log) node.account (unwrap_or run.node.clock (now (calls_of run.log)))
+      (node.cases (calls_of run.log) run.node.hidden)
+  same f =
+      ap (f log account clock) cases_are
+      ∙ ap (λ (c : ℕ). f log account c (node.cases log told.hidden)) clock_is
+      ∙ ap (λ (a : ℕ). f log a (unwrap_or told.clock (now log)) (node.cases log told.hidden)) account_is
+      ∙ ap (λ (l : List RootCall). f l node.account (unwrap_or told.clock (now l)) (node.cases l told.hidden)) log_is
+      ∙ ap (λ (t : Told). f (calls_of run.log) node.account (unwrap_or t.clock (now (calls_of run.log)))
+      (node.cases (calls_of run.log) t.hidden)) told_is
+
+  pub text-said : flat_map (case_text log account clock) cases ≡ (whole_output node run).answers
+  text-said = same (λ (l : List RootCall) (a c : ℕ) (cs : List Case). flat_map (case_text l a c) cs)
+
+  pub good-said : (good : Bool) → good ≡ list_all (is_case_good log account clock) cases
+      → (whole_output node run).status ≡ (if good then Done else Refused)
+  good-said good is =
+      status-said node run good
+      (is ∙ same (λ (l : List RootCall) (a c : ℕ) (cs : List Case). list_all (is_case_good l a c) cs))

@@ -8,7 +8,9 @@ use Rattle.gate_journal.specs.declared.refusal.JournalRefusal.{JournalRefusal}
 use Rattle.gate_journal.specs.declared.refusal.JournalRefusal.TheVariants.{AlreadyMade, NotJournal, DeviceFault, NoMemory, RecordTooLong, Closed}
 use Rattle.node_journal.specs.Notes.{NotesState, Opened, RefusesRole}
 use Rattle.node_journal.specs.Role.{Kinds, are_of, front_of, of_kinds, read_of_kinds, role_in}
-use Rattle.leaf_journal.specs.Records.{leaf_records_in_of}
+use Rattle.leaf_journal.specs.Records.{leaf_records_in_of, leaf_records_read_of, MessagesPass}
+use Rattle.leaf_journal.proofs.Form.{all_same}
+use Rattle.leaf_journal.proofs.KindRecords.{kind_records}
 use Rattle.node_rules.specs.Watcher.{watcher_kinds}
 use Rattle.node_rules.specs.WalletRecords.{wallet_kinds, is_body, leaves_in, notes_of, are_bound_notes}
 use Rattle.node_rules.specs.Wallet.{WalletRecords}
@@ -37,6 +39,21 @@ module _ (kinds : Kinds) where
 
   pub role-keeps : (image : List ℕ) (records : List (List ℕ)) → role_in kinds image ≡ Ok records → Keeps records image
   role-keeps image records is = read-keeps (journal_in image) records is
+
+-- so are those of leaves, and each binds a message that passes
+module _ (is_message : List ℕ → Bool) (leaves : ℕ) where
+  read-leaves : (read : Result (List (List ℕ)) ℕ) (records : List (List ℕ))
+      → leaf_records_read_of is_message leaves read ≡ Ok records → result_ok read ≡ Some records
+  read-leaves (Ok others) records is = ap Some (all_same is_message leaves others records is)
+  read-leaves (Err place) records is = absurd (cc is)
+
+  pub leaves-keep : (image : List ℕ) (records : List (List ℕ)) → leaf_records_in_of is_message leaves image ≡ Ok records
+      → Keeps records image
+  leaves-keep image records is = read-leaves (journal_in image) records is
+
+  pub leaves-pass : (image : List ℕ) (records : List (List ℕ)) → leaf_records_in_of is_message leaves image ≡ Ok records
+      → MessagesPass is_message records
+  leaves-pass image records is = ((kind_records is_message leaves image records).0 is).1
 
 pub kept-same : (image : List ℕ) (one other : List (List ℕ)) → Keeps one image → Keeps other image → one ≡ other
 kept-same image one other first second = cc (sym first ∙ second)

@@ -1,6 +1,5 @@
 -- No line of a look has an answer.
 use Rattle.std.proofs.Common.{◌≡◌, ℕ, ◌+◌, ◌&&◌, not, Bool, true, false, if◌then◌else◌, List, [], ◌∷◌, ◌++◌, length, Option, None, Some, Result, Ok, Err, refl, sym, ap, ◌∙◌, append-nil}
-use Rattle.line_forms.specs.Tokens.{number_in}
 use Rattle.plasma_tx.specs.Chain.{Chain}
 use Rattle.root_log.specs.Grammar.{chain_in, appended}
 use Rattle.root_log.specs.EndOfLog.{is_end_of_log}
@@ -10,7 +9,8 @@ use Rattle.streamed_lines.specs.declared.ending.Ending.TheVariants.{ReadFault, T
 use Rattle.streamed_lines.specs.Lines.{lines_in, is_whole, text_of, is_too_long}
 use Rattle.streamed_lines.specs.Streams.{Rules, Stream, Streamed, no_lines, next_number, stream_or, goes_on, line_stream, stream_from, stream_of}
 use Rattle.streamed_lines.specs.Reading.{RunsTo}
-use Rattle.safe_runs.specs.Sessions.{LookState, clock_in, timed, later_line, line_of, next_line, look_rules}
+use Rattle.safe_runs.specs.declared.told.Told.{Told}
+use Rattle.safe_runs.specs.Sessions.{LookState, told_in, tells, later_line, line_of, next_line, look_rules}
 
 -- a line has no answer, or ends the look
 abbrev Silent : OrStop (LookState × List ℕ) → Type 0
@@ -21,9 +21,9 @@ silent-joins : (session : LookState) (log : OrStop Chain) → Silent (joins sess
 silent-joins session (Ok chain) = refl
 silent-joins session (Err stop) = tt
 
-silent-timed : (session : LookState) (told : OrStop ℕ) → Silent (timed session told)
-silent-timed session (Ok time) = refl
-silent-timed session (Err stop) = tt
+silent-tells : (session : LookState) (told : OrStop Told) → Silent (tells session told)
+silent-tells session (Ok told) = refl
+silent-tells session (Err stop) = tt
 
 silent-log : (session : LookState) (chain : Chain) (line : List ℕ) → Silent (log_line session chain line)
 silent-log session chain line = elim (is_end_of_log line) as (λ b. Silent
@@ -35,8 +35,8 @@ silent-log session chain line = elim (is_end_of_log line) as (λ b. Silent
 module _ (tag : List ℕ) where
   silent-later : (session : LookState) (chain : Chain) (line : List ℕ) → Silent (later_line tag session chain line)
   silent-later session chain line = elim session.is_over as (λ b. Silent
-      (if b then timed session (clock_in session.node (number_in line)) else log_line session chain line)) [
-        | true ↦ silent-timed session (clock_in session.node (number_in line))
+      (if b then tells session (told_in session.node line) else log_line session chain line)) [
+        | true ↦ silent-tells session (told_in session.node line)
         | false ↦ silent-log session chain line
       ]
 

@@ -29,7 +29,7 @@ use Rattle.safe_runs.specs.declared.role.Role.{Role}
 use Rattle.safe_runs.specs.declared.role.Role.TheVariants.{Wallet, Watcher}
 use Rattle.safe_runs.specs.Cases.{guard_cases, wallet_cases}
 use Rattle.safe_runs.specs.Answers.{cases_output}
-use Rattle.safe_runs.specs.Sessions.{LookState, look_rules}
+use Rattle.safe_runs.specs.Sessions.{LookState, look_rules, untold}
 
 -- ---- words
 
@@ -59,11 +59,12 @@ pub record Outside : Type 0 where
 
 -- ---- what the disks spell
 
--- a node as a look sees it: the tag of its chain, the account that would enter calls, and its coins by a log
+-- a node as a look sees it: the tag of its chain, the account that would enter calls, and its coins by a log, where some
+-- are hidden
 pub record Node : Type 0 where
   pub tag : List ℕ
   pub account : ℕ
-  pub cases : List RootCall → List Case
+  pub cases : List RootCall → List ℕ → List Case
 
 abbrev pub watcher_node : (List ℕ → List ℕ) → List (List ℕ) → Node
 watcher_node dig records =
@@ -103,7 +104,7 @@ wallet_in dig notes leaves =
 abbrev pub whole_output : Node → LookState → Output
 whole_output node run =
     let log = calls_of run.log in
-    cases_output log node.account (unwrap_or run.node (now log)) (node.cases log)
+    cases_output log node.account (unwrap_or run.node.clock (now log)) (node.cases log run.node.hidden)
 
 -- lines that came to this, and what ended them: nothing is said of coins where they weren't read to their end
 abbrev pub ended_output : Node → LookState → Ending (List ℕ) → Output
@@ -112,7 +113,7 @@ ended_output node run ending = record { status = status_of ending; answers = [];
 
 -- the lines of an input, and what is said of them
 abbrev pub lines_of : Node → List ℕ → Bool → Streamed LookState (List ℕ)
-lines_of node bytes ended = stream_of (look_rules node.tag) (begun None) bytes ended
+lines_of node bytes ended = stream_of (look_rules node.tag) (begun untold) bytes ended
 
 abbrev pub look_output : Node → List ℕ → Bool → Output
 look_output node bytes ended =

@@ -1,7 +1,7 @@
 ghost use Rattle.std.specs.Prelude.{◌≡◌};
-ghost use Rattle.safe_runs.specs.Cases.{sent_by};
 ghost use Rattle.safe_runs.specs.Inside.{case_with};
 
+use super::told::Coins;
 use coin_safety::{Kept, Sent};
 use plasma_tx::{Links, RootLog, Spends};
 
@@ -12,20 +12,17 @@ pub struct Case {
     pub kept: Option<Kept>,
 }
 
-// The leaf that signed a coin away, if one did.
-fn sent_by(leaf: Option<u32>) -> Option<Sent>
-    ensures { result ≡ sent_by leaf }
-{
-    match leaf {
-        Some(leaf) => Some(Sent { leaf, last: None }),
-        None => None,
-    }
-}
-
-/// The case of a coin with these links behind its deposit, and the leaf that signed it away from their end, if one did;
-/// and whether it is guarded.
-pub fn case_of(log: &RootLog, coin: u64, spends: Spends, leaf: Option<u32>, guarded: bool) -> Case
-    ensures { result ≡ case_with log.now.log coin spends leaf guarded }
+/// The case of a coin with these links behind its deposit, and what signed it away from their end, if a leaf did; and
+/// whether it is guarded.
+pub fn case_of(
+    log: &RootLog,
+    hidden: &Coins,
+    coin: u64,
+    spends: Spends,
+    sent: Option<Sent>,
+    guarded: bool,
+) -> Case
+    ensures { result ≡ case_with log.now.log hidden.now coin spends sent guarded }
 {
     let Some(made) = log.coin(coin) else {
         return Case { coin, kept: None };
@@ -40,8 +37,9 @@ pub fn case_of(log: &RootLog, coin: u64, spends: Spends, leaf: Option<u32>, guar
         coin,
         kept: Some(Kept {
             links,
-            sent: sent_by(leaf),
+            sent,
             guarded,
+            hidden: hidden.contains(coin),
         }),
     }
 }

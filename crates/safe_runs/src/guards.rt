@@ -14,6 +14,7 @@ ghost use Rattle.safe_runs.specs.Runs.{IsRefused, watcher_in};
 use super::case::{Case, case_of};
 use super::image::{disk_of, only_place, records_of};
 use super::node::Holder;
+use super::told::Coins;
 use gate_journal::JournalRefusal;
 use node_rules::{KeptCoin, number_at, read_kept};
 use plasma_base::{Bytes, Hash32, NoMemory};
@@ -208,11 +209,17 @@ impl Guards {
 }
 
 // Adds the case of a guard.
-fn push_guard(log: &RootLog, guard: &KeptCoin, cases: &mut Vec<Case>) -> Result<(), NoMemory>
-    ensures { OnOk result (cases.new.items
-        ≡ cases.old.items ++ case_with log.now.log guard.now.coin guard.now.spends None true ∷ []) }
+fn push_guard(
+    log: &RootLog,
+    hidden: &Coins,
+    guard: &KeptCoin,
+    cases: &mut Vec<Case>,
+) -> Result<(), NoMemory>
+    ensures { OnOk result (cases.new.items ≡ cases.old.items
+        ++ case_with log.now.log hidden.now guard.now.coin guard.now.spends None true ∷ []) }
 {
-    cases.push(case_of(log, guard.coin, guard.spends.copy()?, None, true))?;
+    let spends = guard.spends.copy()?;
+    cases.push(case_of(log, hidden, guard.coin, spends, None, true))?;
     Ok(())
 }
 
@@ -220,14 +227,15 @@ fn push_guard(log: &RootLog, guard: &KeptCoin, cases: &mut Vec<Case>) -> Result<
 fn cases_of(
     alloc: Global,
     log: &RootLog,
+    hidden: &Coins,
     guards: &BTreeMap<(u64, u64), KeptCoin>,
 ) -> Result<Vec<Case>, NoMemory>
     ensures { IfOk result (λ cases. cases.items
-        ≡ map (λ guard. case_with log.now.log guard.coin guard.spends None true) (values guards.now)) }
+        ≡ map (λ guard. case_with log.now.log hidden.now guard.coin guard.spends None true) (values guards.now)) }
 {
     let mut cases = Vec::new(alloc);
     for guard in guards.values() {
-        push_guard(log, guard, &mut cases)?;
+        push_guard(log, hidden, guard, &mut cases)?;
     }
     Ok(cases)
 }
@@ -250,7 +258,7 @@ impl Holder for Guards {
         self.account
     }
 
-    fn cases(&self, alloc: Global, log: &RootLog) -> Result<Vec<Case>, NoMemory> {
-        cases_of(alloc, log, &self.all)
+    fn cases(&self, alloc: Global, log: &RootLog, hidden: &Coins) -> Result<Vec<Case>, NoMemory> {
+        cases_of(alloc, log, hidden, &self.all)
     }
 }

@@ -4,17 +4,21 @@ ghost use Rattle.std.specs.List.{filter_map, flat_map};
 ghost use Rattle.std.specs.Option.{option_copied, option_to_list};
 ghost use Rattle.std.specs.Ordering.{nat_cmp};
 ghost use Rattle.gate_journal.specs.Journal.{Keeps};
+ghost use Rattle.leaf_journal.specs.Records.{MessagesPass};
 ghost use Rattle.plasma_tx.specs.Views.{deposits_of};
-ghost use Rattle.node_rules.specs.WalletRecords.{note_in};
+ghost use Rattle.node_rules.specs.WalletRecords.{is_body, note_in};
 ghost use Rattle.node_rules.specs.Wallet.{who};
 ghost use Rattle.wallet_node.specs.Inside.{is_kept_at};
 ghost use Rattle.safe_runs.specs.Cases.{rising_with, wallet_case, wallet_cases};
-ghost use Rattle.safe_runs.specs.Inside.{accepted_by, accepted_in, case_with, makes_block, spends_of};
+ghost use Rattle.safe_runs.specs.Inside.{AreRead, accepted_by, accepted_in, case_with, last_at, makes_block, spends_of};
 ghost use Rattle.safe_runs.specs.Runs.{IsRefused, wallet_in, wallet_node};
 
 use super::case::{Case, case_of};
 use super::image::{disk_of, only_place, records_of};
+use super::lasts::read_lasts;
 use super::node::Holder;
+use super::told::Coins;
+use coin_safety::Sent;
 use crash_disk::MemDisk;
 use gate_journal::JournalRefusal;
 use node_rules::{KeptCoin, read_kept};
@@ -25,16 +29,23 @@ use std::collections::BTreeSet;
 use wallet_core::CoinState;
 use wallet_node::WalletNode;
 
-/// What a wallet's records say: a wallet in memory, and the coins that it accepted.
+/// What a wallet's records say: a wallet in memory, the coins that it accepted, and the last blocks of the transfers
+/// that its leaves bind.
 pub struct Holdings<H: Hash32 + Copy> {
     node: WalletNode<MemDisk, H>,
     // in the order in which they were accepted
     accepted: Vec<KeptCoin>,
+    // by the numbers of the leaves
+    lasts: Vec<Option<u64>>,
 }
 
 impl<H: Hash32 + Copy> Drop for Holdings<H> {
     fn drop(self) {
-        let Holdings { node, accepted: _ } = self;
+        let Holdings {
+            node,
+            accepted: _,
+            lasts: _,
+        } = self;
         let _ = node.take_disks();
     }
 }
@@ -153,6 +164,8 @@ fn open_wallet<H: Hash32 + Copy>(
     ensures opened { IfOk result (λ node.
         wallet_in (H.digest_of h) notes.items leaves.items ≡ Ok (wallet_node (H.digest_of h) node.records)) }
     ensures notes { IfOk result (λ node. Keeps node.records.notes notes.items) }
+    ensures leaves { IfOk result (λ node. Keeps node.records.leaves leaves.items) }
+    ensures pass { IfOk result (λ node. MessagesPass is_body node.records.leaves) }
     ensures hash { IfOk result (λ node. node.hash ≡ h) }
     ensures refused { IfErr result (IsRefused (wallet_in (H.digest_of h) notes.items leaves.items)) }
 {
@@ -176,6 +189,26 @@ fn accepted_in<H: Hash32 + Copy>(
     read_records(alloc, h, &node.tag(), &records)
 }
 
+// What the two images of a wallet say beside it: the coins that it accepted, and the last blocks of the transfers that
+// its leaves bind.
+fn read_both<H: Hash32 + Copy>(
+    alloc: Global,
+    h: &H,
+    node: &WalletNode<MemDisk, H>,
+    notes: Vec<u8>,
+    leaves: Vec<u8>,
+) -> Result<(Vec<KeptCoin>, Vec<Option<u64>>), NoMemory>
+    requires notes { Keeps node.now.records.notes notes.items }
+    requires leaves { Keeps node.now.records.leaves leaves.items }
+    requires pass { MessagesPass is_body node.now.records.leaves }
+    ensures { IfOk result (λ read. AreRead (H.digest_of h.now) node.now.records read.0.items read.1.items) }
+{
+    let accepted = accepted_in(alloc, h, node, notes)?;
+    let records = records_of(alloc, disk_of(alloc, leaves))?;
+    let lasts = read_lasts(alloc, &records)?;
+    Ok((accepted, lasts))
+}
+
 impl<H: Hash32 + Copy> Holdings<H> {
     /// What two images say of a wallet, under a digest. `NotJournal` where they spell no records of one.
     pub fn read(
@@ -186,14 +219,22 @@ impl<H: Hash32 + Copy> Holdings<H> {
     ) -> Result<Holdings<H>, JournalRefusal>
         ensures read { IfOk result (λ read. wallet_in (H.digest_of h) notes.items leaves.items
             ≡ Ok (wallet_node (H.digest_of read.node.hash) read.node.records)) }
-        ensures accepted { IfOk result (λ read. read.accepted.items
-            ≡ accepted_in (H.digest_of read.node.hash) read.node.records) }
+        ensures sound { IfOk result (λ read. AreRead (H.digest_of read.node.hash) read.node.records
+            read.accepted.items read.lasts.items) }
         ensures refused { IfErr result (IsRefused (wallet_in (H.digest_of h) notes.items leaves.items)) }
     {
-        let again = notes.to_vec(alloc)?;
+        let of_notes = notes.to_vec(alloc)?;
+        let of_leaves = leaves.to_vec(alloc)?;
         let node = open_wallet(alloc, h, notes, leaves)?;
-        match accepted_in(alloc, &h, &node, again) {
-            Ok(accepted) => Ok(Holdings { node, accepted }),
+        match read_both(alloc, &h, &node, of_notes, of_leaves) {
+            Ok(read) => {
+                let (accepted, lasts) = read;
+                Ok(Holdings {
+                    node,
+                    accepted,
+                    lasts,
+                })
+            }
             Err(NoMemory) => Err(JournalRefusal::NoMemory),
         }
     }
@@ -210,20 +251,32 @@ impl<H: Hash32 + Copy> Holdings<H> {
         Ok(coins)
     }
 
+    // That a leaf signed a coin away, with the last block of its transfer, if it names one.
+    fn sent_by(&self, leaf: u32) -> Sent
+        ensures { result ≡ record { leaf = leaf; last = last_at self.now.lasts.items leaf } }
+    {
+        let last = match self.lasts.get(leaf as usize) {
+            Some(last) => *last,
+            None => None,
+        };
+        Sent { leaf, last }
+    }
+
     // The case of a coin that it has at a tip.
     fn case_at(
         &self,
         alloc: Global,
         log: &RootLog,
+        hidden: &Coins,
         coin: u64,
         tip: u64,
-        sent: Option<u32>,
+        sent: Option<Sent>,
     ) -> Result<Case, NoMemory>
         ensures { IfOk result (λ case. case
-            ≡ case_with log.now.log coin (spends_of self.now.accepted.items coin tip) sent false) }
+            ≡ case_with log.now.log hidden.now coin (spends_of self.now.accepted.items coin tip) sent false) }
     {
         let spends = spends_of(alloc, &self.accepted, coin, tip)?;
-        Ok(case_of(log, coin, spends, sent, false))
+        Ok(case_of(log, hidden, coin, spends, sent, false))
     }
 
     // The case of a coin, where it ever had it. `made` has the calls of the log that make blocks.
@@ -232,13 +285,14 @@ impl<H: Hash32 + Copy> Holdings<H> {
         alloc: Global,
         log: &RootLog,
         made: &RootLog,
+        hidden: &Coins,
         coin: u64,
     ) -> Result<Option<Case>, NoMemory>
         requires made { made.now.log ≡ filter makes_block log.now.log }
-        requires accepted { self.now.accepted.items
-            ≡ accepted_in (H.digest_of self.now.node.hash) self.now.node.records }
+        requires read { AreRead (H.digest_of self.now.node.hash) self.now.node.records
+            self.now.accepted.items self.now.lasts.items }
         ensures { IfOk result (λ case. case
-            ≡ wallet_case (H.digest_of self.now.node.hash) self.now.node.records log.now.log coin) }
+            ≡ wallet_case (H.digest_of self.now.node.hash) self.now.node.records log.now.log hidden.now coin) }
     {
         let Some(_) = log.coin(coin) else {
             return Ok(Some(Case { coin, kept: None }));
@@ -246,10 +300,15 @@ impl<H: Hash32 + Copy> Holdings<H> {
         match self.node.state(made, coin) {
             CoinState::Nothing => Ok(None),
             CoinState::Sending { tip, q } => {
-                Ok(Some(self.case_at(alloc, log, coin, tip, Some(q))?))
+                let sent = self.sent_by(q);
+                Ok(Some(self.case_at(alloc, log, hidden, coin, tip, Some(sent))?))
             }
-            CoinState::Leaving { tip } => Ok(Some(self.case_at(alloc, log, coin, tip, None)?)),
-            CoinState::Held { tip } => Ok(Some(self.case_at(alloc, log, coin, tip, None)?)),
+            CoinState::Leaving { tip } => {
+                Ok(Some(self.case_at(alloc, log, hidden, coin, tip, None)?))
+            }
+            CoinState::Held { tip } => {
+                Ok(Some(self.case_at(alloc, log, hidden, coin, tip, None)?))
+            }
         }
     }
 
@@ -259,16 +318,17 @@ impl<H: Hash32 + Copy> Holdings<H> {
         alloc: Global,
         log: &RootLog,
         made: &RootLog,
+        hidden: &Coins,
         coin: u64,
         cases: &mut Vec<Case>,
     ) -> Result<(), NoMemory>
         requires made { made.now.log ≡ filter makes_block log.now.log }
-        requires accepted { self.now.accepted.items
-            ≡ accepted_in (H.digest_of self.now.node.hash) self.now.node.records }
-        ensures { OnOk result (cases.new.items ≡ cases.old.items
-            ++ option_to_list (wallet_case (H.digest_of self.now.node.hash) self.now.node.records log.now.log coin)) }
+        requires read { AreRead (H.digest_of self.now.node.hash) self.now.node.records
+            self.now.accepted.items self.now.lasts.items }
+        ensures { OnOk result (cases.new.items ≡ cases.old.items ++ option_to_list
+            (wallet_case (H.digest_of self.now.node.hash) self.now.node.records log.now.log hidden.now coin)) }
     {
-        if let Some(case) = self.case(alloc, log, made, coin)? {
+        if let Some(case) = self.case(alloc, log, made, hidden, coin)? {
             cases.push(case)?;
         }
         Ok(())
@@ -279,30 +339,32 @@ impl<H: Hash32 + Copy> Holdings<H> {
         &self,
         alloc: Global,
         log: &RootLog,
+        hidden: &Coins,
         coins: &BTreeSet<u64>,
     ) -> Result<Vec<Case>, NoMemory>
-        requires { self.now.accepted.items ≡ accepted_in (H.digest_of self.now.node.hash) self.now.node.records }
-        ensures { IfOk result (λ cases. cases.items
-            ≡ flat_map
-            (λ c. option_to_list (wallet_case (H.digest_of self.now.node.hash) self.now.node.records log.now.log c))
+        requires { AreRead (H.digest_of self.now.node.hash) self.now.node.records
+            self.now.accepted.items self.now.lasts.items }
+        ensures { IfOk result (λ cases. cases.items ≡ flat_map (λ c. option_to_list
+            (wallet_case (H.digest_of self.now.node.hash) self.now.node.records log.now.log hidden.now c))
             coins.now.keys) }
     {
         let made = made_by(alloc, log)?;
         let mut cases = Vec::new(alloc);
         for coin in coins {
-            self.push_case(alloc, log, &made, *coin, &mut cases)?;
+            self.push_case(alloc, log, &made, hidden, *coin, &mut cases)?;
         }
         Ok(cases)
     }
 
     // The cases of the coins that it ever had, by coin.
-    fn all_cases(&self, alloc: Global, log: &RootLog) -> Result<Vec<Case>, NoMemory>
-        requires { self.now.accepted.items ≡ accepted_in (H.digest_of self.now.node.hash) self.now.node.records }
+    fn all_cases(&self, alloc: Global, log: &RootLog, hidden: &Coins) -> Result<Vec<Case>, NoMemory>
+        requires { AreRead (H.digest_of self.now.node.hash) self.now.node.records
+            self.now.accepted.items self.now.lasts.items }
         ensures { IfOk result (λ cases. cases.items
-            ≡ wallet_cases (H.digest_of self.now.node.hash) self.now.node.records log.now.log) }
+            ≡ wallet_cases (H.digest_of self.now.node.hash) self.now.node.records log.now.log hidden.now) }
     {
         let coins = self.coins(alloc, log)?;
-        self.cases_of(alloc, log, &coins)
+        self.cases_of(alloc, log, hidden, &coins)
     }
 }
 
@@ -363,12 +425,13 @@ fn put_accepted(set: &mut BTreeSet<u64>, accepted: &[KeptCoin]) -> Result<(), No
 
 impl<H: Hash32 + Copy> Holder for Holdings<H> {
     ghost use Rattle.std.specs.Prelude.{◌≡◌};
-    ghost use Rattle.safe_runs.specs.Inside.{accepted_in};
+    ghost use Rattle.safe_runs.specs.Inside.{AreRead};
     ghost use Rattle.safe_runs.specs.Runs.{wallet_node};
 
     ghost is = { λ read node. node ≡ wallet_node (H.digest_of read.node.hash) read.node.records };
 
-    ghost sound = { λ read. read.accepted.items ≡ accepted_in (H.digest_of read.node.hash) read.node.records };
+    ghost sound = { λ read. AreRead (H.digest_of read.node.hash) read.node.records read.accepted.items
+        read.lasts.items };
 
     fn tag(&self) -> [u8; 32] {
         self.node.tag()
@@ -378,7 +441,7 @@ impl<H: Hash32 + Copy> Holder for Holdings<H> {
         self.node.owner().account
     }
 
-    fn cases(&self, alloc: Global, log: &RootLog) -> Result<Vec<Case>, NoMemory> {
-        self.all_cases(alloc, log)
+    fn cases(&self, alloc: Global, log: &RootLog, hidden: &Coins) -> Result<Vec<Case>, NoMemory> {
+        self.all_cases(alloc, log, hidden)
     }
 }

@@ -6,12 +6,14 @@ mod case;
 mod guards;
 mod holdings;
 mod image;
+mod lasts;
 mod lines;
 mod look;
 mod node;
 mod role;
 mod saying;
 mod session;
+mod told;
 mod top;
 
 pub use run_endings::Status;

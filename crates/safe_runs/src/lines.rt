@@ -1,11 +1,8 @@
 ghost use Rattle.std.specs.Prelude.{◌≡◌, Ok, Err, IfOk, IfErr, OnOk, OnErr};
-ghost use Rattle.line_forms.specs.Tokens.{number_in};
 ghost use Rattle.root_log.specs.Grammar.{chain_in, appended};
 ghost use Rattle.node_sessions.specs.Sessions.{other_chain, first_log, longer_log};
 ghost use Rattle.node_sessions.specs.Commands.{HaltsLog};
-ghost use Rattle.safe_runs.specs.Sessions.{clock_in};
 
-use line_forms::number;
 use plasma_base::{Bytes, NoMemory};
 use plasma_tx::RootLog;
 use root_log::{LogRefusal, read_chain, read_line};
@@ -54,17 +51,4 @@ pub fn read_call(alloc: Global, log: &mut RootLog, line: &[u8]) -> Result<(), Ha
     ensures same { OnErr result (log.new ≡ log.old) }
 {
     read_line(alloc, log, line).map_err(halt_of)
-}
-
-/// The time that the line behind a log spells, where there was none before.
-pub fn read_clock(clock: Option<u64>, line: &[u8]) -> Result<u64, Halt<Bytes>>
-    ensures told { IfOk result (λ time. clock_in clock (number_in line.now) ≡ Ok time) }
-    ensures halts { IfErr result (HaltsLog (clock_in clock (number_in line.now))) }
-{
-    match number(line) {
-        Some(time) if clock.is_none() => Ok(time),
-        _ => Err(Halt::Stops {
-            stop: Stop::BadLine,
-        }),
-    }
 }

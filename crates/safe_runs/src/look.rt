@@ -19,7 +19,7 @@ use run_endings::{Status, push_last, push_not_journal, put_line, status_of};
 use std::alloc::Global;
 use streamed_lines::{Answerer, Break, Ending, answer_lines, put_text};
 
-/// Reads a log of a node's chain and the time behind it, and says of each of its coins how it stands.
+/// Reads a log of a node's chain and the lines behind it, and says of each of its coins how it stands.
 pub fn run_look<N: Holder, S: Source, K: Sink>(
     alloc: Global,
     node: &N,
@@ -139,12 +139,12 @@ fn say_all<N: Holder>(
         → IfOk result (λ status. (whole_output at run).status ≡ status) }
     ensures no_write_fault { IfOk result (λ status. is_write_fault status ≡ false) }
 {
-    let (log, clock) = session.take();
-    let cases = node.cases(alloc, &log)?;
+    let (log, told) = session.take();
+    let cases = node.cases(alloc, &log, &told.hidden)?;
     let look = Look {
         log: &log,
         account: node.account(),
-        clock,
+        clock: told.time(&log),
     };
     if look.say(alloc, &cases, text)? {
         return Ok(Status::Done);

@@ -2,6 +2,7 @@ ghost use Rattle.std.specs.Prelude.{◌≡◌, IfOk};
 ghost use Rattle.safe_runs.specs.Runs.{Node};
 
 use super::case::Case;
+use super::told::Coins;
 use plasma_base::NoMemory;
 use plasma_tx::RootLog;
 use std::alloc::Global;
@@ -22,8 +23,9 @@ pub trait Holder {
     fn account(&self) -> u64
         ensures { (node : Node) → is self.now node → result ≡ node.account };
 
-    /// Its coins, and what it keeps of each.
-    fn cases(&self, alloc: Global, log: &RootLog) -> Result<Vec<Case>, NoMemory>
+    /// Its coins, of which some are hidden, and what it keeps of each.
+    fn cases(&self, alloc: Global, log: &RootLog, hidden: &Coins) -> Result<Vec<Case>, NoMemory>
         requires { sound self.now }
-        ensures { (node : Node) → is self.now node → IfOk result (λ cases. cases.items ≡ node.cases log.now.log) };
+        ensures { (node : Node) → is self.now node
+            → IfOk result (λ cases. cases.items ≡ node.cases log.now.log hidden.now) };
 }

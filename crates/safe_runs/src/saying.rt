@@ -2,10 +2,10 @@ ghost use Rattle.std.specs.Prelude.{◌≡◌, ◌++◌, ◌∷◌, [], map, IfO
 ghost use Rattle.std.specs.List.{flat_map, list_all};
 ghost use Rattle.plasma_tx.specs.Money.{amount_of};
 ghost use Rattle.plasma_tx.specs.Views.{coin_at};
-ghost use Rattle.safe_runs.specs.Answers.{phrase, call_line, word_text, is_good, coin_line, case_word, case_calls, case_text, is_case_good};
+ghost use Rattle.safe_runs.specs.Answers.{phrase, call_line, command_line, word_text, is_good, coin_line, case_word, case_calls, case_command, told_text, case_text, is_case_good};
 
 use super::case::Case;
-use coin_safety::{Judgement, Word, judge};
+use coin_safety::{Command, Judgement, Kept, Word, judge};
 use line_forms::push_number;
 use plasma_base::NoMemory;
 use plasma_tx::{RootCall, RootLog};
@@ -73,6 +73,19 @@ fn push_calls(out: &mut Vec<u8>, calls: &[RootCall]) -> Result<(), NoMemory>
     Ok(())
 }
 
+// Puts what the node is told of a coin at the end, as a line.
+fn push_command(out: &mut Vec<u8>, kept: &Kept, command: Command) -> Result<(), NoMemory>
+    ensures { OnOk result (out.new.items ≡ out.old.items ++ command_line kept.now command) }
+{
+    let coin = kept.links.coin;
+    match command {
+        Command::Release => push_phrase(out, b"release", &[coin, kept.links.tip()])?,
+        Command::Reclaim { last } => push_phrase(out, b"reclaim", &[coin, last])?,
+    }
+    out.push(b'\n')?;
+    Ok(())
+}
+
 // Whether nothing is to be done.
 fn is_good(word: Word) -> bool
     ensures { result ≡ is_good word }
@@ -93,6 +106,8 @@ impl Look<'_> {
             ≡ case_word self.now.log.now.log self.now.account self.now.clock case.now) }
         ensures calls { IfOk result (λ judged. judged.calls.items
             ≡ case_calls self.now.log.now.log self.now.account self.now.clock case.now) }
+        ensures command { IfOk result (λ judged. judged.command
+            ≡ case_command self.now.log.now.log self.now.account self.now.clock case.now) }
     {
         match &case.kept {
             None => Ok(Judgement {
@@ -114,6 +129,21 @@ impl Look<'_> {
         }
     }
 
+    // Puts what the node is told of a case at the end, if anything.
+    fn tell(&self, case: &Case, command: Option<Command>, out: &mut Vec<u8>) -> Result<(), NoMemory>
+        requires { command ≡ case_command self.now.log.now.log self.now.account self.now.clock case.now }
+        ensures { OnOk result (out.new.items ≡ out.old.items
+            ++ told_text self.now.log.now.log self.now.account self.now.clock case.now) }
+    {
+        let Some(kept) = &case.kept else {
+            return Ok(());
+        };
+        match command {
+            Some(command) => push_command(out, kept, command),
+            None => Ok(()),
+        }
+    }
+
     // Puts what is said of a case at the end, and answers whether nothing is to be done.
     fn say_case(&self, alloc: Global, case: &Case, out: &mut Vec<u8>) -> Result<bool, NoMemory>
         ensures text { OnOk result (out.new.items ≡ out.old.items
@@ -124,6 +154,7 @@ impl Look<'_> {
         let judged = self.judged(alloc, case)?;
         push_line(out, case.coin, self.amount(case.coin), judged.word)?;
         push_calls(out, &judged.calls)?;
+        self.tell(case, judged.command, out)?;
         Ok(is_good(judged.word))
     }
 

@@ -1,24 +1,24 @@
-ghost use Rattle.std.specs.Prelude.{◌≡◌, None, unwrap_or};
-ghost use Rattle.plasma_tx.specs.Views.{now};
+ghost use Rattle.std.specs.Prelude.{◌≡◌};
 ghost use Rattle.node_sessions.specs.Sessions.{begun, calls_of};
-ghost use Rattle.safe_runs.specs.Sessions.{LookState};
+ghost use Rattle.safe_runs.specs.Sessions.{LookState, untold};
 
-use super::lines::{first_log, read_call, read_clock};
+use super::lines::{first_log, read_call};
+use super::told::Told;
 use plasma_base::Bytes;
 use plasma_tx::RootLog;
 use root_log::is_end_of_log;
 use std::alloc::Global;
 use streamed_lines::{Answerer, Halt};
 
-/// What reads a log of a chain and the time behind it: the chain's tag, the log so far, whether it has ended, and the
-/// time by the caller's clock. It answers no line.
+/// What reads a log of a chain and the lines behind it: the chain's tag, the log so far, whether it has ended, and what
+/// was told behind it. It answers no line.
 #[derive(Drop)]
 pub struct LookSession {
     alloc: Global,
     tag: [u8; 32],
     log: Option<RootLog>,
     is_over: bool,
-    clock: Option<u64>,
+    told: Told,
 }
 
 // The log, or one without calls where there is none.
@@ -34,7 +34,7 @@ fn or_none(alloc: Global, tag: [u8; 32], log: Option<RootLog>) -> RootLog
 impl LookSession {
     /// Before the first line of a log of the chain with this tag.
     pub fn new(alloc: Global, tag: [u8; 32]) -> LookSession
-        ensures ran { ⟦<LookSession as Answerer>⟧.ran result (begun None) }
+        ensures ran { ⟦<LookSession as Answerer>⟧.ran result (begun untold) }
         ensures ready { ⟦<LookSession as Answerer>⟧.ready result }
         ensures tag { result.tag ≡ tag }
     {
@@ -43,31 +43,24 @@ impl LookSession {
             tag,
             log: None,
             is_over: false,
-            clock: None,
+            told: Told::new(alloc),
         }
     }
 
-    /// The log, without calls before its first line, and the time by the caller's clock: the log's own where none was
-    /// told.
-    pub fn take(self) -> (RootLog, u64)
+    /// The log, without calls before its first line, and what was told behind it.
+    pub fn take(self) -> (RootLog, Told)
         ensures log { (run : LookState) → ⟦<LookSession as Answerer>⟧.ran self run
             → result.0.log ≡ calls_of run.log }
-        ensures clock { (run : LookState) → ⟦<LookSession as Answerer>⟧.ran self run
-            → result.1 ≡ unwrap_or run.node (now (calls_of run.log)) }
+        ensures told { (run : LookState) → ⟦<LookSession as Answerer>⟧.ran self run → result.1 ≡ run.node }
     {
         let LookSession {
             alloc,
             tag,
             log,
             is_over: _,
-            clock,
+            told,
         } = self;
-        let log = or_none(alloc, tag, log);
-        let clock = match clock {
-            Some(time) => time,
-            None => log.now(),
-        };
-        (log, clock)
+        (or_none(alloc, tag, log), told)
     }
 }
 
@@ -80,7 +73,7 @@ impl Answerer for LookSession {
 
     ghost rules = { λ session. look_rules session.tag };
 
-    ghost ran = { λ session. IsRead session.log session.is_over session.clock };
+    ghost ran = { λ session. IsRead session.log session.is_over session.told };
 
     ghost halted = { λ _ _ _ halt. IsNoFailure halt };
 
@@ -93,8 +86,7 @@ impl Answerer for LookSession {
             return Ok(());
         };
         if self.is_over {
-            self.clock = Some(read_clock(self.clock, line)?);
-            return Ok(());
+            return self.told.tell(line);
         }
         if is_end_of_log(line) {
             self.is_over = true;

@@ -1,6 +1,6 @@
-use Rattle.std.proofs.Common.{None}
 use Rattle.node_sessions.specs.Sessions.{begun}
+use Rattle.safe_runs.specs.Sessions.{untold}
 use Rattle.safe_runs.proofs.look.run_look.Given as goal
 
 abbrev pub ghost-answer_lines : goal.ghost-answer_lines
-ghost-answer_lines g a = begun None
+ghost-answer_lines g a = begun untold

@@ -13,6 +13,6 @@ returns g c =
     let log = c.args.log.now.log in
     IfOk-weaker c.cases_of.result _ _
     (λ cases is. is
-    ∙ ap (λ (coins : List ℕ). flat_map (λ c. option_to_list (wallet_case dig records log c)) coins)
-    (c.in_ok-coins.ensures ∙ coins-are dig records log c.args.self.now.accepted.items c.requires))
+    ∙ ap (λ (coins : List ℕ). flat_map (λ (coin : ℕ). option_to_list (wallet_case dig records log c.args.hidden.now coin)) coins)
+    (c.in_ok-coins.ensures ∙ coins-are dig records log c.args.self.now.accepted.items c.requires.accepted_are))
     c.cases_of.ensures
