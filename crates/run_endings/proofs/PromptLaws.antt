@@ -1,5 +1,5 @@
 -- What the last text of a run, put behind its answers, says of its last take.
-use Rattle.std.proofs.Common.{◌≡◌, ℕ, Bool, List, [], ◌++◌, Option, Ok, refl, subst}
+use Rattle.std.proofs.Common.{◌≡◌, ℕ, Bool, true, false, List, [], ◌++◌, Option, Ok, refl, subst}
 use Rattle.streamed_lines.specs.declared.ending.Ending.{Ending}
 use Rattle.streamed_lines.specs.declared.ending.Ending.TheVariants.{Complete, BadLine, ReadFault, TooLong, Ended}
 use Rattle.streamed_lines.specs.declared.ending.Halt.{Halt}
@@ -9,7 +9,16 @@ use Rattle.streamed_lines.specs.Prompt.{answers_so_far, AnswersPromptly}
 use Rattle.streamed_lines.specs.Reading.{is_read_fault, Answers}
 use Rattle.streamed_lines.proofs.PromptLaws.{prompt-more, fault-prompt}
 use Rattle.run_endings.specs.Texts.{read_fault_text}
-use Rattle.run_endings.specs.Endings.{last_text}
+use Rattle.run_endings.specs.Endings.{last_text, is_composed}
+
+-- a last line that is made for the run doesn't say that the reading failed
+pub composed-reads : (Reads : Bool → Type 0) (ending : Ending (List ℕ)) → is_composed ending ≡ true
+    → Reads (is_read_fault (Ok ending)) → Reads false
+composed-reads Reads Complete wrong reads = reads
+composed-reads Reads (BadLine n) is reads = reads
+composed-reads Reads ReadFault wrong reads = absurd (cc (wrong))
+composed-reads Reads (TooLong n) is reads = reads
+composed-reads Reads (Ended n cause) is reads = reads
 
 module _ {R W : Type 0} (rules : Rules R (List ℕ)) (first : R) (Ran : W → R → Type 0)
     (Halted : W → R → List ℕ → Halt (List ℕ) → Type 0) (left later taken after next : Option (List ℕ)) (answerer : W)
