@@ -1,5 +1,5 @@
 -- How a run over a log ends whose lines were answered, or that was stopped on its way.
-use Rattle.std.proofs.Common.{◌≡◌, ℕ, inl, inr, Bool, true, List, [], ◌++◌, Option, Result, Ok, Err, refl, sym, ap, ◌∙◌, subst, append_assoc}
+use Rattle.std.proofs.Common.{◌≡◌, ℕ, inl, inr, Bool, true, List, ◌++◌, Option, Result, Ok, Err, sym, ap, ◌∙◌, subst, append_assoc}
 use Rattle.std.specs.Prelude.{IsErr}
 use Rattle.std.proofs.lemmas.Bool.{false≢true}
 use Rattle.plasma_outside.specs.declared.sink.SinkRefusal.{SinkRefusal}
@@ -13,32 +13,17 @@ use Rattle.streamed_lines.specs.Streams.{Streamed}
 use Rattle.streamed_lines.specs.Bounds.{TakesFew}
 use Rattle.streamed_lines.specs.Outside.{Wrote, WroteFront}
 use Rattle.streamed_lines.specs.Reading.{is_read_fault, IsPut, Answers, BrokeOff}
-use Rattle.streamed_lines.proofs.OutsideLaws.{wrote-none, wrote-more}
+use Rattle.streamed_lines.proofs.OutsideLaws.{wrote-more}
 use Rattle.run_endings.specs.declared.status.Status.{Status}
 use Rattle.run_endings.specs.declared.status.Status.TheVariants.{ReadFault as ReadFaultStatus}
 use Rattle.run_endings.specs.Statuses.{status_of_refusal}
 use Rattle.run_endings.specs.Outputs.{Output, EndsAs}
 use Rattle.run_endings.proofs.EndingLaws.{ends-whole, ends-stopped}
+use Rattle.run_endings.proofs.PutLaws.{front-more}
 use Rattle.log_runs.specs.Following.{Following, LogRun, begun, log_rules}
 use Rattle.run_endings.specs.Endings.{status_of, last_text, session_output}
 use Rattle.log_runs.specs.Runs.{status_of_run, lines_of, TakesFewBy, RunsLog}
 use Rattle.log_runs.proofs.GrowLaws.{front-grows}
-
--- ---- what a sink holds
-
--- a text was written, and a beginning of the next one
-front-more : (a b c : Option (List ℕ)) (put text : List ℕ) → Wrote a b put → WroteFront b c text
-    → WroteFront a c (put ++ text)
-front-more a b c put text first second = record {
-  front = put ++ second.front;
-  back = second.back;
-  whole = append_assoc put second.front second.back ∙ ap (λ rest. put ++ rest) second.whole;
-  wrote = wrote-more a b c put second.front first second.wrote;
-}
-
--- nothing was written of a text
-pub front-none : (before : Option (List ℕ)) (text : List ℕ) → WroteFront before before text
-front-none before text = record { front = []; back = text; whole = refl; wrote = wrote-none before }
 
 -- ---- what an ending says
 

@@ -1,4 +1,4 @@
-ghost use Rattle.std.specs.Prelude.{◌≡◌, true, Option, List, ℕ};
+ghost use Rattle.std.specs.Prelude.{◌≡◌, true, false, Option, List, ℕ};
 ghost use Rattle.plasma_base.specs.Causes.{faults_after};
 ghost use Rattle.streamed_lines.specs.Outside.{ReadsToFault};
 ghost use Rattle.streamed_lines.specs.Prompt.{AnswersPromptly, answers_so_far};
@@ -97,6 +97,8 @@ pub fn run_archive<H: Hash32 + Copy, S: Source, K: Sink>(
     ensures prompt { AnswersPromptly (answers_so_far (log_rules (archiving (H.digest_of h))) begun)
         (S.left source.old) (S.left source.new) (S.failed_last source.new) (K.taken sink.old) (K.taken sink.new) }
     ensures complete { LogComplete (archiving (H.digest_of h)) (S.left source.old) result }
+    ensures source_memory { K.takes_memory ≡ false → result ≡ Status.NoMemory
+        → ReadsToFault (S.faults source.old) (S.faults source.new) (S.failed_last source.new) false }
     ensures source_faults { ReadsBy result
         (ReadsToFault (S.faults source.old) (S.faults source.new) (S.failed_last source.new)) }
     ensures sink_faults { K.faults sink.new ≡ faults_after (K.faults sink.old) (is_write_fault result) }

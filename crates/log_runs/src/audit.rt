@@ -1,4 +1,4 @@
-ghost use Rattle.std.specs.Prelude.{◌≡◌, ◌++◌, ℕ, true, List, Ok, Err, OnOk, IfErr};
+ghost use Rattle.std.specs.Prelude.{◌≡◌, ◌++◌, ℕ, true, false, List, Ok, Err, OnOk, IfErr};
 ghost use Rattle.plasma_base.specs.Causes.{faults_after};
 ghost use Rattle.receipt_audit.specs.Audit.{conviction_answer};
 ghost use Rattle.streamed_lines.specs.Outside.{ReadsToFault};
@@ -128,6 +128,8 @@ pub fn run_audit<H: Hash32 + Drop, S: Source, K: Sink>(
     ensures prompt { AnswersPromptly (answers_so_far (log_rules (auditing (H.digest_of h) key receipt)) begun)
         (S.left source.old) (S.left source.new) (S.failed_last source.new) (K.taken sink.old) (K.taken sink.new) }
     ensures complete { LogComplete (auditing (H.digest_of h) key receipt) (S.left source.old) result }
+    ensures source_memory { K.takes_memory ≡ false → result ≡ Status.NoMemory
+        → ReadsToFault (S.faults source.old) (S.faults source.new) (S.failed_last source.new) false }
     ensures source_faults { ReadsBy result
         (ReadsToFault (S.faults source.old) (S.faults source.new) (S.failed_last source.new)) }
     ensures sink_faults { K.faults sink.new ≡ faults_after (K.faults sink.old) (is_write_fault result) }

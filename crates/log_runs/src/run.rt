@@ -1,4 +1,4 @@
-ghost use Rattle.std.specs.Prelude.{◌≡◌, true, Option, List, ℕ};
+ghost use Rattle.std.specs.Prelude.{◌≡◌, true, false, Err, Option, List, ℕ};
 ghost use Rattle.plasma_base.specs.Causes.{faults_after};
 ghost use Rattle.plasma_outside.specs.Outside.{is_failed};
 ghost use Rattle.streamed_lines.specs.Outside.{ReadsToFault};
@@ -12,9 +12,9 @@ use super::follower::Follower;
 use super::log_session::LogSession;
 use plasma_base::Bytes;
 use plasma_outside::{Sink, SinkRefusal, Source};
-use run_endings::{Status, push_last, status_of};
+use run_endings::{Status, put_last, status_of};
 use std::alloc::Global;
-use streamed_lines::{Break, Ending, answer_lines, put_text};
+use streamed_lines::{Break, Ending, answer_lines};
 
 // Answers the lines of a log and those behind it into the sink, each before more is taken, and puts what stands behind
 // the answers.
@@ -32,14 +32,15 @@ fn answer_log<F: Follower + Drop, S: Source, K: Sink>(
         (S.left source.old) (S.left source.new) (S.failed_last source.new) (K.taken sink.old) (K.taken sink.new) }
     ensures reads { ReadsBy (status_of_run result)
         (ReadsToFault (S.faults source.old) (S.faults source.new) (S.failed_last source.new)) }
+    ensures source_memory { K.takes_memory ≡ false → result ≡ Err SinkRefusal.NoMemory
+        → ReadsToFault (S.faults source.old) (S.faults source.new) (S.failed_last source.new) false }
     ensures cause { K.faults sink.new ≡ faults_after (K.faults sink.old) (is_failed result) }
 {
     let mut session = LogSession::new(alloc, follower);
     let mut text = Vec::new(alloc);
     match answer_lines(alloc, &mut session, source, sink, &mut text) {
         Ok(ending) => {
-            push_last(&mut text, &ending)?;
-            put_text(sink, &mut text)?;
+            put_last(sink, &mut text, &ending)?;
             Ok(ending)
         }
         Err(Break::WriteFault) => Err(SinkRefusal::Failed),
@@ -63,6 +64,8 @@ pub fn run_log<F: Follower + Drop, S: Source, K: Sink>(
     ensures prompt { AnswersPromptly (answers_so_far (log_rules (F.following follower)) begun)
         (S.left source.old) (S.left source.new) (S.failed_last source.new) (K.taken sink.old) (K.taken sink.new) }
     ensures complete { LogComplete (F.following follower) (S.left source.old) result }
+    ensures source_memory { K.takes_memory ≡ false → result ≡ Status.NoMemory
+        → ReadsToFault (S.faults source.old) (S.faults source.new) (S.failed_last source.new) false }
     ensures source_faults { ReadsBy result
         (ReadsToFault (S.faults source.old) (S.faults source.new) (S.failed_last source.new)) }
     ensures sink_faults { K.faults sink.new ≡ faults_after (K.faults sink.old) (is_write_fault result) }

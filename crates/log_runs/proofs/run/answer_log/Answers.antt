@@ -1,10 +1,12 @@
 use contract.BorrowLft.{⊑_meet, ⊑_static}
-use Rattle.std.proofs.Common.{subst}
-use Rattle.streamed_lines.specs.Outside.{Wrote, WroteFront, ReadsToFault}
+use Rattle.std.proofs.Common.{◌≡◌, Err, inl, inr, sym, ap, ◌∙◌}
+use Rattle.std.proofs.lemmas.Bool.{false≢true}
+use Rattle.std.proofs.lemmas.Result.{err_from_is_err_and}
+use Rattle.streamed_lines.specs.Outside.{ReadsToFault}
 use Rattle.streamed_lines.proofs.OutsideLaws.{front-whole}
-use Rattle.run_endings.proofs.PromptLaws.{prompt-last}
+use Rattle.run_endings.proofs.PromptLaws.{prompt-last, composed-reads}
 use Rattle.plasma_outside.specs.declared.sink.SinkRefusal.TheVariants.{Failed, NoMemory}
-use Rattle.log_runs.proofs.RunLaws.{by-error, front-none, ran-early, ran-part, ran-whole}
+use Rattle.log_runs.proofs.RunLaws.{by-error, ran-early, ran-part, ran-whole}
 use Rattle.log_runs.proofs.run.answer_log.Goals as goal
 
 pub answer_lines-requires : goal.answer_lines-requires
@@ -27,30 +29,16 @@ returns-in-Ok-clause-runs g c =
     (ran-whole (g.F.Follower.following c.new-session.result.follower) _ _ _ _ _ _ _ _ c.in-Ok.ending
     (ReadsToFault (g.S.Source.faults c.args.source.now) (g.S.Source.faults c.answer_lines.new.source)
     (g.S.Source.failed_last c.answer_lines.new.source))
-    c.in-Ok.ensures.answered c.in-Ok.ensures.reads _
-    (subst (Wrote (g.K.Sink.taken c.answer_lines.new.sink) (g.K.Sink.taken c.put_text.new.sink))
-    c.in_ok-push_last-in-Ok.ensures.bytes c.in_ok-put_text-in-Ok.ensures.ok))
+    c.in-Ok.ensures.answered c.in-Ok.ensures.reads _ c.in_ok-put_last-in-Ok.ensures.ok)
 
-pub returns-in_err-push_last-in-Ok-clause-runs : goal.returns-in_err-push_last-in-Ok-clause-runs
-returns-in_err-push_last-in-Ok-clause-runs g c =
+pub returns-in_err-put_last-in-Ok-clause-runs : goal.returns-in_err-put_last-in-Ok-clause-runs
+returns-in_err-put_last-in-Ok-clause-runs g c =
     rw (← c.new-session.ensures.follower)
     (by-error (g.F.Follower.following c.new-session.result.follower) _ _ _ _ _ _ c.from_residual.ensures.0
     (λ refusal. ran-part (g.F.Follower.following c.new-session.result.follower) _ _ _ _ _ _ _ _ c.in-Ok.ending
     (ReadsToFault (g.S.Source.faults c.args.source.now) (g.S.Source.faults c.answer_lines.new.source)
     (g.S.Source.failed_last c.answer_lines.new.source))
-    c.in-Ok.ensures.answered c.in-Ok.ensures.reads _ refusal (front-none _ _)))
-
-pub returns-in_err-put_text-in-Ok-clause-runs : goal.returns-in_err-put_text-in-Ok-clause-runs
-returns-in_err-put_text-in-Ok-clause-runs g c =
-    rw (← c.new-session.ensures.follower)
-    (by-error (g.F.Follower.following c.new-session.result.follower) _ _ _ _ _ _
-    c.from_residual-in_err-put_text-in-Ok.ensures.0
-    (λ refusal. ran-part (g.F.Follower.following c.new-session.result.follower) _ _ _ _ _ _ _ _ c.in-Ok.ending
-    (ReadsToFault (g.S.Source.faults c.args.source.now) (g.S.Source.faults c.answer_lines.new.source)
-    (g.S.Source.failed_last c.answer_lines.new.source))
-    c.in-Ok.ensures.answered c.in-Ok.ensures.reads _ refusal
-    (subst (WroteFront (g.K.Sink.taken c.answer_lines.new.sink) (g.K.Sink.taken c.put_text.new.sink))
-    c.in_ok-push_last-in-Ok.ensures.bytes c.in_err-put_text-in-Ok.ensures.err)))
+    c.in-Ok.ensures.answered c.in-Ok.ensures.reads _ refusal c.in_err-put_last-in-Ok.ensures.err))
 
 pub returns-in-Err-WriteFault-clause-runs : goal.returns-in-Err-WriteFault-clause-runs
 returns-in-Err-WriteFault-clause-runs g c =
@@ -70,14 +58,25 @@ pub returns-in-Ok-clause-prompt : goal.returns-in-Ok-clause-prompt
 returns-in-Ok-clause-prompt g c =
     rw (← c.new-session.ensures.follower)
     (prompt-last _ _ _ _ _ _ _ _ _ _ _ c.in-Ok.ending _ c.in-Ok.ensures.last c.in-Ok.ensures.put
-    c.in-Ok.ensures.answered c.in-Ok.ensures.prompt
-    (front-whole _ _ _ (subst (Wrote (g.K.Sink.taken c.answer_lines.new.sink) (g.K.Sink.taken c.put_text.new.sink))
-    c.in_ok-push_last-in-Ok.ensures.bytes c.in_ok-put_text-in-Ok.ensures.ok)))
+    c.in-Ok.ensures.answered c.in-Ok.ensures.prompt (front-whole _ _ _ c.in_ok-put_last-in-Ok.ensures.ok))
 
-pub returns-in_err-put_text-in-Ok-clause-prompt : goal.returns-in_err-put_text-in-Ok-clause-prompt
-returns-in_err-put_text-in-Ok-clause-prompt g c =
+pub returns-in_err-put_last-in-Ok-clause-prompt : goal.returns-in_err-put_last-in-Ok-clause-prompt
+returns-in_err-put_last-in-Ok-clause-prompt g c =
     rw (← c.new-session.ensures.follower)
     (prompt-last _ _ _ _ _ _ _ _ _ _ _ c.in-Ok.ending _ c.in-Ok.ensures.last c.in-Ok.ensures.put
-    c.in-Ok.ensures.answered c.in-Ok.ensures.prompt
-    (subst (WroteFront (g.K.Sink.taken c.answer_lines.new.sink) (g.K.Sink.taken c.put_text.new.sink))
-    c.in_ok-push_last-in-Ok.ensures.bytes c.in_err-put_text-in-Ok.ensures.err))
+    c.in-Ok.ensures.answered c.in-Ok.ensures.prompt c.in_err-put_last-in-Ok.ensures.err)
+
+-- ---- a run that ends for want of memory over a sink that takes none met no fault of the source
+
+pub returns-in_err-put_last-in-Ok-clause-source_memory : goal.returns-in_err-put_last-in-Ok-clause-source_memory
+returns-in_err-put_last-in-Ok-clause-source_memory g c = λ none is.
+    let p = err_from_is_err_and c.from_residual.result c.from_residual.ensures.1 in
+    let wants : c.in_err-put_last-in-Ok.field-0.0 ≡ NoMemory = cc (p.1, p.2, is) in
+    elim (c.in_err-put_last-in-Ok.ensures.memory (ap Err wants)) [
+      | inl takes ↦ absurd (false≢true (sym none ∙ takes))
+      | inr composed ↦
+          composed-reads
+          (ReadsToFault (g.S.Source.faults c.args.source.now) (g.S.Source.faults c.answer_lines.new.source)
+          (g.S.Source.failed_last c.answer_lines.new.source))
+          c.in-Ok.ending composed c.in-Ok.ensures.reads
+    ]
