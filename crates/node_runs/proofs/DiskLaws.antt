@@ -56,7 +56,7 @@ module _ {D : Type 0} (told : D → Option History) (faults : D → ℕ) where
     faults_are = is.faults_are;
   }
 
-  node-keeps : (at : Parts NotesAt) (node : Parts (NotesState D)) → IsNodeAt told faults at node
+  pub node-keeps : (at : Parts NotesAt) (node : Parts (NotesState D)) → IsNodeAt told faults at node
       → KeepsNode told faults at (disks_of node)
   node-keeps at node is = (
     stays-keeps at.notes node.notes is.0.there,
@@ -75,7 +75,7 @@ module _ {D : Type 0} (told : D → Option History) (faults : D → ℕ) where
     part-failed outcome.leaf at.leaves node.leaves failed,
   )
 
-  node-starved : (outcome : Outcome) (at : Parts NotesAt) (node : Parts (NotesState D))
+  pub node-starved : (outcome : Outcome) (at : Parts NotesAt) (node : Parts (NotesState D))
       → StoppedAt told faults outcome at NoMemory node
       → KeepsNode told faults at (disks_of node)
       ⊎ KeepsNode told faults (with_effect with_note at outcome) (disks_of node)

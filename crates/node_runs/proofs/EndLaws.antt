@@ -5,7 +5,7 @@ use Rattle.streamed_lines.specs.declared.ending.Ending.{Ending}
 use Rattle.streamed_lines.specs.declared.ending.Ending.TheVariants.{Complete, BadLine, ReadFault, TooLong, Ended}
 use Rattle.streamed_lines.specs.Outside.{Wrote, WroteFront}
 use Rattle.streamed_lines.specs.Reading.{is_read_fault}
-use Rattle.streamed_lines.proofs.OutsideLaws.{wrote-none, wrote-more, front-whole}
+use Rattle.streamed_lines.proofs.OutsideLaws.{wrote-more, front-whole}
 use Rattle.plasma_outside.specs.declared.sink.SinkRefusal.{SinkRefusal}
 use Rattle.run_endings.specs.declared.status.Status.{Status}
 use Rattle.run_endings.specs.declared.status.Status.TheVariants.{Done, Refused, Usage, BadLine as BadLineStatus, ReadFault as ReadFaultStatus, WriteFault, DeviceFault, NoMemory, TooLong as TooLongStatus, NotJournal, AlreadyMade}
@@ -14,20 +14,7 @@ use Rattle.run_endings.specs.Statuses.{status_of_refusal}
 use Rattle.run_endings.specs.Endings.{status_of, fault_output}
 use Rattle.run_endings.specs.Texts.{device_fault_text}
 use Rattle.run_endings.proofs.EndingLaws.{ends-stopped}
-
--- nothing was written of a text
-pub front-none : (before : Option (List ℕ)) (text : List ℕ) → WroteFront before before text
-front-none before text = record { front = []; back = text; whole = refl; wrote = wrote-none before }
-
--- a beginning that was written behind a text
-front-more : (a b c : Option (List ℕ)) (put text : List ℕ) → Wrote a b put → WroteFront b c text
-    → WroteFront a c (put ++ text)
-front-more a b c put text first second = record {
-  front = put ++ second.front;
-  back = second.back;
-  whole = append_assoc put second.front second.back ∙ ap (λ rest. put ++ rest) second.whole;
-  wrote = wrote-more a b c put second.front first second.wrote;
-}
+use Rattle.run_endings.proofs.PutLaws.{front-more}
 
 -- a run whose answers were partly put before
 module _ (a b c : Option (List ℕ)) (put text last : List ℕ) (failed : Type 0) (first : Wrote a b put) where

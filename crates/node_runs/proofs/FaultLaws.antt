@@ -118,7 +118,7 @@ module _ {A L : Type 0} (tag : List ℕ) (command_in : List ℕ → Option L)
     (faulted : (log : List RootCall) (at : A) (command : L) → part at ≡ part found → Faulted log at command → Met true)
     (unanswered : (log : List RootCall) (at : A) (command : L) → part at ≡ part found → Unanswered log at command
     → Met false) where
-  session-counts : (outside : Outside) (failed : Type 0) (status : Status)
+  pub session-counts : (outside : Outside) (failed : Type 0) (status : Status)
       → RunsSession (session_rules tag command_in does) command_in found Left Faulted Unanswered outside failed status
       → FaultsBy status Met
   session-counts outside failed status (inl is) =
@@ -187,7 +187,7 @@ notes-keep at None = refl
 notes-keep at (Some body) = refl
 
 -- the faults of the leaves that a node has
-of_leaves : Option NotesAt → ℕ
+unfoldable pub of_leaves : Option NotesAt → ℕ
 of_leaves leaves = unwrap_or (option_map (λ at. at.faults) leaves) 0
 
 leaves-keep : (leaves : Option NotesAt) (added : Option (List ℕ))
@@ -197,14 +197,14 @@ leaves-keep None added = refl
 leaves-keep (Some at) added = notes-keep at added
 
 -- the faults of both parts
-met : Parts NotesAt → ℕ × ℕ
+unfoldable pub met : Parts NotesAt → ℕ × ℕ
 met at = (at.notes.faults, of_leaves at.leaves)
 
-node-keeps : (at : Parts NotesAt) (outcome : Outcome) → met (with_effect with_note at outcome) ≡ met at
+pub effect-keeps : (at : Parts NotesAt) (outcome : Outcome) → met (with_effect with_note at outcome) ≡ met at
 unfolding met
-node-keeps at outcome = λ i. (notes-keep at.notes outcome.note i, leaves-keep at.leaves outcome.leaf i)
+effect-keeps at outcome = λ i. (notes-keep at.notes outcome.note i, leaves-keep at.leaves outcome.leaf i)
 
-left-keep : {A M : Type 0} (part : A → M) (next left : A) (says : Result (List ℕ) (List ℕ)) (text : List ℕ)
+pub left-keep : {A M : Type 0} (part : A → M) (next left : A) (says : Result (List ℕ) (List ℕ)) (text : List ℕ)
     → left_with next says ≡ Ok (left, text) → part left ≡ part next
 left-keep part next left (Ok answer) text is =
     ap (λ (p : _ × List ℕ). part p.0) (sym (ok-same _ (next, answer) (left, text) refl is))
@@ -219,7 +219,7 @@ module _ {D : Type 0} (told : D → Option History) (faults : D → ℕ) where
   failed-counts (Some body) at disk is = is.faults_are
 
   -- the faults of the leaves' disk of a node that has one
-  leaves-stay : (at : Option NotesAt) (disk : D) → OfLeaves (Keeps told faults) at (Some disk)
+  pub leaves-stay : (at : Option NotesAt) (disk : D) → OfLeaves (Keeps told faults) at (Some disk)
       → faults disk ≡ of_leaves at
   unfolding of_leaves
   leaves-stay None disk never = absurd never
@@ -268,13 +268,13 @@ module _ {D : Type 0} (told : D → Option History) (plan : D → Option FaultPl
       (λ (at : NodeAt NotesAt). met at.kept)
       (λ log at line left text is.
       left-keep (λ (a : NodeAt NotesAt). met a.kept) _ left (outcome_at commands log at line).says text is
-      ∙ node-keeps at.kept (outcome_at commands log at line))
+      ∙ effect-keeps at.kept (outcome_at commands log at line))
       _ _ _ _ Met
       (λ at same keeps. kept at.kept same keeps)
       (λ log at line same is. failed_so at.kept (outcome_at commands log at line) same is)
       (λ log at line same keeps.
       kept (with_effect with_note at.kept (outcome_at commands log at line))
-      (node-keeps at.kept (outcome_at commands log at line) ∙ same) keeps)
+      (effect-keeps at.kept (outcome_at commands log at line) ∙ same) keeps)
       outside failed status runs
 
   -- one that has notes alone
@@ -342,7 +342,7 @@ module _ {D : Type 0} (told : D → Option History) (plan : D → Option FaultPl
   -- ---- an operator
 
   module _ (notes leaves new_notes new_leaves : D) where
-    desk-met : (seed : List ℕ) (why : JournalRefusal) → RefusesDesk told plan faults dig seed leaves why new_leaves
+    pub desk-met : (seed : List ℕ) (why : JournalRefusal) → RefusesDesk told plan faults dig seed leaves why new_leaves
         → faults new_notes ≡ faults notes
         → CountsEither faults notes leaves new_notes new_leaves (is_device_fault why)
     desk-met seed why (inl refuses) same =
@@ -389,7 +389,7 @@ module _ {D : Type 0} (told : D → Option History) (plan : D → Option FaultPl
     unbound-none bodies records (JournalLong count) never = absurd never
     unbound-none bodies records JournalClosed never = absurd never
 
-    refused-met : (why : JournalRefusal)
+    pub refused-met : (why : JournalRefusal)
         → RefusesWallet told plan faults dig notes leaves why new_notes new_leaves
         → CountsEither faults notes leaves new_notes new_leaves (is_device_fault why)
     refused-met why (inl (refuses, same)) =
@@ -420,7 +420,7 @@ module _ {D : Type 0} (told : D → Option History) (plan : D → Option FaultPl
       → FaultsBy status (Counts faults old new)
   inits-count old new is = init-counts (Counts faults old new) is.answer status _ _ is.ends is.count
 
-  pair-met : (notes leaves new_notes new_leaves : D) (answer : Result Unit InitRefusal)
+  pub pair-met : (notes leaves new_notes new_leaves : D) (answer : Result Unit InitRefusal)
       → BeginsPair told plan faults told plan faults identity notes leaves answer new_notes new_leaves
       → CountsEither faults notes leaves new_notes new_leaves (is_init_fault answer)
   pair-met notes leaves new_notes new_leaves (Ok done) (asked, asks, passes) =

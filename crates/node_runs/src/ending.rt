@@ -1,38 +1,25 @@
-ghost use Rattle.std.specs.Prelude.{◌≡◌, ◌++◌, ℕ, List, true, false};
+ghost use Rattle.std.specs.Prelude.{◌≡◌, ◌⊎◌, true};
 ghost use Rattle.plasma_base.specs.Causes.{faults_after};
 ghost use Rattle.run_endings.specs.Statuses.{is_write_fault};
 ghost use Rattle.run_endings.specs.Outputs.{EndsAs};
-ghost use Rattle.run_endings.specs.Endings.{status_of, last_text, fault_output};
+ghost use Rattle.run_endings.specs.Endings.{status_of, last_text, is_composed, fault_output};
 
-use plasma_base::{Bytes, NoMemory};
+use plasma_base::Bytes;
 use plasma_outside::Sink;
-use run_endings::{Status, push_last, put_line, status_of};
+use run_endings::{Status, put_last, put_line, status_of};
 use streamed_lines::{Ending, put_text};
 
-// Puts the gathered text, with which a run ends that has this status.
-fn put_whole<K: Sink>(sink: &mut K, text: &mut Vec<u8>, status: Status) -> Status
-    requires no_write_fault { is_write_fault status ≡ false }
-    ensures ends { (answers last : List ℕ) → text.old.items ≡ answers ++ last → EndsAs
-        (record { status = status; answers = answers; last = last }) result (K.taken sink.old) (K.taken sink.new)
-        (Unit {0}) }
-    ensures sink_faults { K.faults sink.new ≡ faults_after (K.faults sink.old) (is_write_fault result) }
-{
-    match put_text(sink, text) {
-        Ok(()) => status,
-        Err(refusal) => Status::of_refusal(refusal),
-    }
-}
-
-/// Ends a session that ended so: puts the text that is gathered, and the last line behind it.
+/// Ends a session that ended so: puts the text that is gathered, and the last line behind it (`put_last`).
 pub fn put_ending<K: Sink>(sink: &mut K, text: &mut Vec<u8>, ending: &Ending<Bytes>) -> Status
     ensures ends { EndsAs
         (record { status = status_of ending.now; answers = text.old.items; last = last_text ending.now })
         result (K.taken sink.old) (K.taken sink.new) (Unit {0}) }
+    ensures memory { result ≡ Status.NoMemory → (K.takes_memory ≡ true) ⊎ (is_composed ending.now ≡ true) }
     ensures sink_faults { K.faults sink.new ≡ faults_after (K.faults sink.old) (is_write_fault result) }
 {
-    match push_last(text, ending) {
-        Ok(()) => put_whole(sink, text, status_of(ending)),
-        Err(NoMemory) => Status::NoMemory,
+    match put_last(sink, text, ending) {
+        Ok(()) => status_of(ending),
+        Err(refusal) => Status::of_refusal(refusal),
     }
 }
 

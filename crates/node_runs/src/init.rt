@@ -1,4 +1,4 @@
-ghost use Rattle.std.specs.Prelude.{◌≡◌, ◌≢◌, true, [], None, Some, Err};
+ghost use Rattle.std.specs.Prelude.{◌≡◌, ◌≢◌, true, false, [], None, Some, Err};
 ghost use Rattle.plasma_base.specs.Causes.{faults_after};
 ghost use Rattle.gate_journal.specs.declared.refusal.InitRefusal.{InitRefusal};
 ghost use Rattle.lms_sign.specs.Types.{is_supported};
@@ -8,6 +8,7 @@ ghost use Rattle.operator_rules.specs.Records.{identity_text as operator_text};
 ghost use Rattle.run_endings.specs.Statuses.{is_write_fault};
 ghost use Rattle.run_endings.specs.Outputs.{EndsAs};
 ghost use Rattle.run_endings.specs.Texts.{already_made_text};
+ghost use Rattle.node_runs.specs.Faults.{Counts, CountsEither};
 ghost use Rattle.node_runs.specs.Endings.{init_output, refused_init};
 ghost use Rattle.node_runs.specs.Inits.{InitsNotes, InitsPair};
 
@@ -77,6 +78,8 @@ pub fn init_watcher<D: Disk, K: Sink>(
 ) -> (D, Status)
     ensures inits { InitsNotes D.told D.plan D.faults (K.taken sink.old) (K.taken sink.new) result.1
         (watcher_text (record { tag = tag; account = account })) notes result.0 }
+    ensures memory { K.takes_memory ≡ false → result.1 ≡ Status.NoMemory
+        → Counts D.faults notes result.0 false }
     ensures no_read_fault { result.1 ≢ Status.ReadFault }
     ensures sink_faults { K.faults sink.new ≡ faults_after (K.faults sink.old) (is_write_fault result.1) }
 {
@@ -95,6 +98,8 @@ pub fn init_operator<D: Disk, K: Sink>(
 ) -> (D, Status)
     ensures inits { InitsNotes D.told D.plan D.faults (K.taken sink.old) (K.taken sink.new) result.1
         (operator_text (record { tag = tag; account = account; key_seed = None })) notes result.0 }
+    ensures memory { K.takes_memory ≡ false → result.1 ≡ Status.NoMemory
+        → Counts D.faults notes result.0 false }
     ensures no_read_fault { result.1 ≢ Status.ReadFault }
     ensures sink_faults { K.faults sink.new ≡ faults_after (K.faults sink.old) (is_write_fault result.1) }
 {
@@ -115,6 +120,8 @@ pub fn init_wallet<D: Disk, K: Sink>(
     requires { is_supported who.now.types ≡ true }
     ensures inits { InitsPair D.told D.plan D.faults (K.taken sink.old) (K.taken sink.new) result.2
         (wallet_text who.now) notes leaves result.0 result.1 }
+    ensures memory { K.takes_memory ≡ false → result.2 ≡ Status.NoMemory
+        → CountsEither D.faults notes leaves result.0 result.1 false }
     ensures no_read_fault { result.2 ≢ Status.ReadFault }
     ensures sink_faults { K.faults sink.new ≡ faults_after (K.faults sink.old) (is_write_fault result.2) }
 {
@@ -137,6 +144,8 @@ pub fn init_operator_with_key<D: Disk, K: Sink>(
     ensures inits { InitsPair D.told D.plan D.faults (K.taken sink.old) (K.taken sink.new) result.2
         (operator_text (record { tag = tag; account = account; key_seed = Some seed }))
         notes leaves result.0 result.1 }
+    ensures memory { K.takes_memory ≡ false → result.2 ≡ Status.NoMemory
+        → CountsEither D.faults notes leaves result.0 result.1 false }
     ensures no_read_fault { result.2 ≢ Status.ReadFault }
     ensures sink_faults { K.faults sink.new ≡ faults_after (K.faults sink.old) (is_write_fault result.2) }
 {

@@ -5,6 +5,7 @@ ghost use Rattle.gate_journal.specs.Journal.{IsSettled};
 ghost use Rattle.operator_rules.specs.Records.{who_is};
 ghost use Rattle.streamed_lines.specs.Outside.{ReadsToFault};
 ghost use Rattle.run_endings.specs.Statuses.{is_write_fault, ReadsBy};
+ghost use Rattle.node_runs.specs.Faults.{CountsEither};
 ghost use Rattle.node_runs.specs.Operators.{RunsBehind, RunsOperator};
 ghost use Rattle.node_runs.specs.Prompt.{OperatorPromptly, PromptlyBehind};
 
@@ -46,6 +47,10 @@ pub fn run_operator<D: Disk, H: Hash32 + Copy, S: Source, K: Sink>(
           after = K.taken sink.new;
         })
         (ReadsToFault (S.faults source.old) (S.faults source.new) (S.failed_last source.new) true) result.2 }
+    ensures memory { K.takes_memory ≡ false → result.2 ≡ Status.NoMemory
+        → CountsEither D.faults notes leaves result.0 result.1 false }
+    ensures source_memory { K.takes_memory ≡ false → result.2 ≡ Status.NoMemory
+        → ReadsToFault (S.faults source.old) (S.faults source.new) (S.failed_last source.new) false }
     ensures prompt { OperatorPromptly
         (record {
           left = S.left source.old;
@@ -96,6 +101,10 @@ fn run_with_key<D: Disk, H: Hash32 + Copy, S: Source, K: Sink>(
           after = K.taken sink.new;
         })
         (ReadsToFault (S.faults source.old) (S.faults source.new) (S.failed_last source.new) true) result.2 }
+    ensures memory { K.takes_memory ≡ false → result.2 ≡ Status.NoMemory
+        → CountsEither D.faults node.notes.disk leaves result.0 result.1 false }
+    ensures source_memory { K.takes_memory ≡ false → result.2 ≡ Status.NoMemory
+        → ReadsToFault (S.faults source.old) (S.faults source.new) (S.failed_last source.new) false }
     ensures prompt { PromptlyBehind
         (record {
           left = S.left source.old;

@@ -48,6 +48,8 @@ pub fn run_session<N: Commanded, S: Source, K: Sink>(
           after = K.taken sink.new;
         })
         (ReadsToFault (S.faults source.old) (S.faults source.new) (S.failed_last source.new) true) result.1 }
+    ensures source_memory { K.takes_memory ≡ false → result.1 ≡ Status.NoMemory
+        → ReadsToFault (S.faults source.old) (S.faults source.new) (S.failed_last source.new) false }
     ensures prompt { AnswersPromptly
         (answers_so_far (session_rules (N.tag node) (N.command_in node) (N.does node)) (begun found))
         (S.left source.old) (S.left source.new) (S.failed_last source.new) (K.taken sink.old) (K.taken sink.new) }

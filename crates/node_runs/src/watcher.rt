@@ -1,7 +1,8 @@
-ghost use Rattle.std.specs.Prelude.{◌≡◌, true, Option, List, ℕ};
+ghost use Rattle.std.specs.Prelude.{◌≡◌, true, false, Option, List, ℕ};
 ghost use Rattle.plasma_base.specs.Causes.{faults_after};
 ghost use Rattle.streamed_lines.specs.Outside.{ReadsToFault};
 ghost use Rattle.run_endings.specs.Statuses.{is_write_fault, ReadsBy};
+ghost use Rattle.node_runs.specs.Faults.{Counts};
 ghost use Rattle.node_runs.specs.Runs.{RunsWatcher};
 ghost use Rattle.node_runs.specs.Prompt.{WatcherPromptly};
 
@@ -39,6 +40,10 @@ pub fn run_watcher<D: Disk, H: Hash32 + Copy, S: Source, K: Sink>(
           after = K.taken sink.new;
         })
         (ReadsToFault (S.faults source.old) (S.faults source.new) (S.failed_last source.new) true) result.1 }
+    ensures memory { K.takes_memory ≡ false → result.1 ≡ Status.NoMemory
+        → Counts D.faults notes result.0 false }
+    ensures source_memory { K.takes_memory ≡ false → result.1 ≡ Status.NoMemory
+        → ReadsToFault (S.faults source.old) (S.faults source.new) (S.failed_last source.new) false }
     ensures prompt { WatcherPromptly
         (record {
           left = S.left source.old;

@@ -1,10 +1,10 @@
-use Rattle.std.proofs.Common.{sym, ◌∙◌}
+use Rattle.std.proofs.Common.{inl, inr, sym, ◌∙◌}
 use Rattle.std.proofs.lemmas.Bool.{false≢true}
 use Rattle.node_sessions.specs.Commands.{IsSession, IsHaltedSession}
 use Rattle.streamed_lines.specs.Outside.{ReadsToFault}
 use Rattle.streamed_lines.proofs.PromptLaws.{prompt-more}
 use Rattle.run_endings.specs.Endings.{status_of, last_text, fault_output}
-use Rattle.run_endings.proofs.PromptLaws.{prompt-last}
+use Rattle.run_endings.proofs.PromptLaws.{prompt-last, composed-reads}
 use Rattle.node_runs.proofs.EndLaws.{ends-front}
 use Rattle.node_runs.proofs.SessionLaws.{answered-runs, faulted-runs, refused-runs, starved-runs}
 use Rattle.node_runs.proofs.session.run_session.Goals as goal
@@ -107,3 +107,16 @@ returns-in-Err-WriteFault-clause-prompt g c = rw (← c.new-session.ensures.rule
 
 pub returns-clause-prompt : goal.returns-clause-prompt
 returns-clause-prompt g c = rw (← c.new-session.ensures.rules) c.in-Err-NoMemory.ensures.prompt
+
+-- ---- and the source met none
+
+pub returns-in-Ok-clause-source_memory : goal.returns-in-Ok-clause-source_memory
+returns-in-Ok-clause-source_memory g c = λ none is.
+    elim (c.put_ending-status.ensures.memory is) [
+      | inl takes ↦ absurd (false≢true (sym none ∙ takes))
+      | inr composed ↦
+          composed-reads
+          (ReadsToFault (g.S.Source.faults c.args.source.now) (g.S.Source.faults c.answer_lines.new.source)
+          (g.S.Source.failed_last c.answer_lines.new.source))
+          c.in-Ok.ending composed c.in-Ok.ensures.reads
+    ]
