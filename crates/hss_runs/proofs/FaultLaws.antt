@@ -61,7 +61,7 @@ module _ {D : Type 0} (told : D → Option History) (plan : D → Option FaultPl
   leaves-met true none met = inr (none, met)
   leaves-met false none met = (none, met)
 
-  refused-met : (why : JournalRefusal) → RefusesSigner told plan faults notes leaves why new_notes new_leaves
+  pub refused-met : (why : JournalRefusal) → RefusesSigner told plan faults notes leaves why new_notes new_leaves
       → Met (is_device_fault why)
   refused-met why (inl (refuses, same)) =
       notes-met told faults notes leaves new_notes new_leaves (is_device_fault why) refuses.count (ap faults same)

@@ -1,4 +1,4 @@
-ghost use Rattle.std.specs.Prelude.{◌≡◌, ◌≢◌};
+ghost use Rattle.std.specs.Prelude.{◌≡◌, ◌≢◌, false};
 ghost use Rattle.plasma_base.specs.Causes.{faults_after};
 ghost use Rattle.run_endings.specs.Statuses.{is_write_fault, FaultsBy};
 ghost use Rattle.node_runs.specs.Inits.{InitsPair};
@@ -26,6 +26,8 @@ pub fn init_signer<D: Disk, K: Sink>(
 ) -> (D, D, Status)
     ensures inits { InitsPair D.told D.plan D.faults (K.taken sink.old) (K.taken sink.new) result.2
         (identity_text seed) notes leaves result.0 result.1 }
+    ensures memory { K.takes_memory ≡ false → result.2 ≡ Status.NoMemory
+        → CountsEither D.faults notes leaves result.0 result.1 false }
     ensures disk_faults { FaultsBy result.2 (CountsEither D.faults notes leaves result.0 result.1) }
     ensures no_read_fault { result.2 ≢ Status.ReadFault }
     ensures sink_faults { K.faults sink.new ≡ faults_after (K.faults sink.old) (is_write_fault result.2) }

@@ -46,6 +46,8 @@ fn sign_by<D: Disk, K: Sink>(
     requires signable { is_signable message.now ≡ true }
     ensures signs { Signs D.told D.plan D.faults (K.taken sink.old) (K.taken sink.new) result
         (signs levels.old.seed message.now next) levels.old.notes levels.new.notes }
+    ensures memory { K.takes_memory ≡ false → result ≡ Status.NoMemory
+        → D.faults levels.new.notes.disk ≡ D.faults levels.old.notes.disk }
     ensures no_read_fault { result ≢ Status.ReadFault }
     ensures sink_faults { K.faults sink.new ≡ faults_after (K.faults sink.old) (is_write_fault result) }
 {
@@ -73,6 +75,8 @@ fn sign<D: Disk, K: Sink>(
     requires open { levels.old.notes.closed ≡ false }
     ensures signs { Signs D.told D.plan D.faults (K.taken sink.old) (K.taken sink.new) result
         (signing levels.old.seed levels.old.notes.records message.now) levels.old.notes levels.new.notes }
+    ensures memory { K.takes_memory ≡ false → result ≡ Status.NoMemory
+        → D.faults levels.new.notes.disk ≡ D.faults levels.old.notes.disk }
     ensures no_read_fault { result ≢ Status.ReadFault }
     ensures sink_faults { K.faults sink.new ≡ faults_after (K.faults sink.old) (is_write_fault result) }
 {
@@ -109,6 +113,8 @@ pub fn run_signer<D: Disk, K: Sink>(
     ensures runs { RunsSigner D.told D.plan D.faults (K.taken sink.old) (K.taken sink.new) result.2
         message.now notes leaves result.0 result.1 }
     ensures complete { SigningComplete D.told result.2 message.now notes leaves }
+    ensures memory { K.takes_memory ≡ false → result.2 ≡ Status.NoMemory
+        → CountsEither D.faults notes leaves result.0 result.1 false }
     ensures disk_faults { FaultsBy result.2 (CountsEither D.faults notes leaves result.0 result.1) }
     ensures no_read_fault { result.2 ≢ Status.ReadFault }
     ensures sink_faults { K.faults sink.new ≡ faults_after (K.faults sink.old) (is_write_fault result.2) }

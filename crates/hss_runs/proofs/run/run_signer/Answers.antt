@@ -1,5 +1,8 @@
-use Rattle.std.proofs.Common.{inl, inr}
-use Rattle.hss_runs.proofs.FaultLaws.{signer-counts}
+use Rattle.std.proofs.Common.{inl, inr, sym, ap, ◌∙◌}
+use Rattle.std.proofs.lemmas.Bool.{false≢true}
+use Rattle.node_runs.specs.Faults.{CountsEither}
+use Rattle.node_runs.proofs.QuietLaws.{refused-quiet}
+use Rattle.hss_runs.proofs.FaultLaws.{signer-counts, refused-met}
 use Rattle.hss_runs.proofs.CompleteLaws.{signing-complete}
 use Rattle.hss_runs.proofs.run.run_signer.Goals as goal
 
@@ -32,3 +35,22 @@ returns-in-Err-clause-complete g c =
       refuses = c.in-Err.ensures.refused;
       ends = c.put_opening_refusal-status.ensures.ends;
     }))
+
+-- ---- want of memory, where the sink takes none, met no fault
+
+pub returns-in-Ok-clause-memory : goal.returns-in-Ok-clause-memory
+returns-in-Ok-clause-memory g c = λ none is.
+    let faults = g.D.Disk.faults in
+    let opens = c.in-Ok.ensures.opened in (
+      ap faults c.take_disk-notes.ensures ∙ opens.opens_notes.count,
+      ap faults c.take_disk-leaves.ensures ∙ c.sign-status.ensures.memory none is ∙ opens.opens_leaves.count,
+    )
+
+pub returns-in-Err-clause-memory : goal.returns-in-Err-clause-memory
+returns-in-Err-clause-memory g c = λ none is.
+    refused-quiet
+    (CountsEither g.D.Disk.faults c.args.notes c.args.leaves c.in-Err.returned.notes c.in-Err.returned.leaves)
+    c.in-Err.returned.why (λ fault. false≢true (sym none ∙ c.put_opening_refusal-status.ensures.memory fault is))
+    (refused-met g.D.Disk.told g.D.Disk.plan g.D.Disk.faults (g.K.Sink.taken c.args.sink.now)
+    (g.K.Sink.taken c.put_opening_refusal-status.new.sink) c.put_opening_refusal-status.result c.args.notes
+    c.args.leaves c.in-Err.returned.notes c.in-Err.returned.leaves c.in-Err.returned.why c.in-Err.ensures.refused)

@@ -1,4 +1,5 @@
-use Rattle.std.proofs.Common.{◌<◌, ℕ, List, [], inl, inr, arith, sym, subst}
+use Rattle.std.proofs.Common.{◌<◌, ℕ, List, [], inl, inr, arith, sym, ◌∙◌, subst}
+use Rattle.std.proofs.lemmas.Bool.{false≢true}
 use Rattle.lms_sign.specs.Types.{leaf_count}
 use Rattle.run_endings.specs.declared.status.Status.TheVariants.{Done}
 use Rattle.run_endings.specs.Outputs.{EndsAs}
@@ -6,7 +7,7 @@ use Rattle.hss_keys.specs.declared.seed.HssSeed.{HssSeed}
 use Rattle.hss_keys.specs.Entries.{entries_of}
 use Rattle.hss_keys.proofs.Form.{are_counted}
 use Rattle.hss_runs.specs.Signing.{entries_added}
-use Rattle.hss_runs.proofs.Adding.{adds-settle, fails-leave}
+use Rattle.hss_runs.proofs.Adding.{adds-count, adds-settle, fails-leave}
 use Rattle.hss_runs.proofs.Calls.{answer-is}
 use Rattle.hss_runs.proofs.Leaves.{top-within}
 use Rattle.hss_runs.proofs.run.sign_by.Goals as goal
@@ -46,3 +47,18 @@ returns-in-Err-DeviceFault-clause-signs g c =
           old.notes c.bind_next.new.levels.notes failed;
       ends = c.put_line-in-Err-DeviceFault.ensures.output;
     }))
+
+-- ---- want of memory, where the sink takes none, met no fault
+
+pub returns-in-Ok-bind_next-clause-memory : goal.returns-in-Ok-bind_next-clause-memory
+returns-in-Ok-bind_next-clause-memory g c = λ none is.
+    let d = g.D.Disk in
+    adds-count d.told d.plan d.faults (entries_added c.args.levels.now.seed c.args.next c.args.message.now)
+    c.args.levels.now.notes c.bind_next.new.levels.notes c.in-Ok-bind_next.ensures.did
+
+pub returns-in-Err-DeviceFault-clause-memory : goal.returns-in-Err-DeviceFault-clause-memory
+returns-in-Err-DeviceFault-clause-memory g c = λ none is.
+    elim (c.put_line-in-Err-DeviceFault.ensures.memory is) [
+      | inl wrong ↦ absurd (cc wrong)
+      | inr takes ↦ absurd (false≢true (sym none ∙ takes))
+    ]
