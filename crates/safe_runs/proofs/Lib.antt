@@ -8,3 +8,5 @@ pub mod Looking
 pub mod Opening
 pub mod DiskLooks
 pub mod LastBlocks
+pub mod CompleteLaws
+pub mod FaultLaws

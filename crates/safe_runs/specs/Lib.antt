@@ -2,4 +2,6 @@ pub mod Cases
 pub mod Answers
 pub mod Sessions
 pub mod Runs
+pub mod Complete
+pub mod Faults
 pub mod Inside

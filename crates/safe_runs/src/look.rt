@@ -3,7 +3,7 @@ ghost use Rattle.plasma_base.specs.Causes.{faults_after};
 ghost use Rattle.gate_journal.specs.declared.refusal.JournalRefusal.{JournalRefusal};
 ghost use Rattle.streamed_lines.specs.Outside.{ReadsToFault};
 ghost use Rattle.streamed_lines.specs.declared.ending.Ending.{Ending};
-ghost use Rattle.run_endings.specs.Statuses.{is_write_fault};
+ghost use Rattle.run_endings.specs.Statuses.{is_write_fault, ReadsBy};
 ghost use Rattle.run_endings.specs.Outputs.{EndsAs};
 ghost use Rattle.safe_runs.specs.Sessions.{LookState};
 ghost use Rattle.safe_runs.specs.Inside.{is_complete};
@@ -35,6 +35,8 @@ pub fn run_look<N: Holder, S: Source, K: Sink>(
           after = K.taken sink.new;
         })
         (ReadsToFault (S.faults source.old) (S.faults source.new) (S.failed_last source.new) true) result }
+    ensures source_faults { (at : Node) → N.is node.now at → ReadsBy result
+        (ReadsToFault (S.faults source.old) (S.faults source.new) (S.failed_last source.new)) }
     ensures sink_faults { K.faults sink.new ≡ faults_after (K.faults sink.old) (is_write_fault result) }
 {
     let mut session = LookSession::new(alloc, node.tag());

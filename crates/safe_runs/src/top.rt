@@ -2,7 +2,10 @@ ghost use Rattle.std.specs.Prelude.{◌≡◌, ◌⊎◌, true, map, string_byte
 ghost use Rattle.sha2.specs.Sha256.{sha256};
 ghost use Rattle.plasma_base.specs.Causes.{faults_after};
 ghost use Rattle.streamed_lines.specs.Outside.{ReadsToFault};
-ghost use Rattle.run_endings.specs.Statuses.{is_write_fault};
+ghost use Rattle.gate_journal.specs.Journal.{is_fault};
+ghost use Rattle.run_endings.specs.Statuses.{is_write_fault, FaultsBy, ReadsBy};
+ghost use Rattle.safe_runs.specs.Complete.{CompletesBy};
+ghost use Rattle.safe_runs.specs.Faults.{Counts, CountsEither};
 ghost use Rattle.safe_runs.specs.Runs.{Node, HoldsOf, IsRefused, IsUnread, OnlyLooks, RunsSafe, RunsWallet, RunsWatcher, role_of, wallet_in, watcher_in};
 
 use super::guards::Guards;
@@ -52,8 +55,19 @@ pub fn run<S: Source, K: Sink, D: Disk>(
           after = K.taken sink.new;
         })
         (ReadsToFault (S.faults source.old) (S.faults source.new) (S.failed_last source.new) true) result.status }
+    ensures complete { CompletesBy D.told sha256
+        (record {
+          left = S.left source.old;
+          later = S.left source.new;
+          taken = K.taken sink.old;
+          after = K.taken sink.new;
+        })
+        result.status (role_of (map string_bytes words.now)) notes leaves }
     ensures notes { OnlyLooks D.told notes result.notes }
     ensures leaves { OnlyLooks D.told leaves result.leaves }
+    ensures source_faults { ReadsBy result.status
+        (ReadsToFault (S.faults source.old) (S.faults source.new) (S.failed_last source.new)) }
+    ensures disk_faults { FaultsBy result.status (CountsEither D.faults notes leaves result.notes result.leaves) }
     ensures sink_faults { K.faults sink.new ≡ faults_after (K.faults sink.old) (is_write_fault result.status) }
 {
     let digest = KeptSha::new(alloc);
@@ -78,8 +92,19 @@ pub fn run_with<H: Hash32, S: Source, K: Sink, D: Disk>(
           after = K.taken sink.new;
         })
         (ReadsToFault (S.faults source.old) (S.faults source.new) (S.failed_last source.new) true) result.status }
+    ensures complete { CompletesBy D.told (H.digest_of h.now)
+        (record {
+          left = S.left source.old;
+          later = S.left source.new;
+          taken = K.taken sink.old;
+          after = K.taken sink.new;
+        })
+        result.status (role_of (map string_bytes words.now)) notes leaves }
     ensures notes { OnlyLooks D.told notes result.notes }
     ensures leaves { OnlyLooks D.told leaves result.leaves }
+    ensures source_faults { ReadsBy result.status
+        (ReadsToFault (S.faults source.old) (S.faults source.new) (S.failed_last source.new)) }
+    ensures disk_faults { FaultsBy result.status (CountsEither D.faults notes leaves result.notes result.leaves) }
     ensures sink_faults { K.faults sink.new ≡ faults_after (K.faults sink.old) (is_write_fault result.status) }
 {
     run_role(alloc, h, role_of(words), source, sink, notes, leaves)
@@ -105,6 +130,9 @@ fn run_role<H: Hash32, S: Source, K: Sink, D: Disk>(
         (ReadsToFault (S.faults source.old) (S.faults source.new) (S.failed_last source.new) true) result.status }
     ensures notes { OnlyLooks D.told notes result.notes }
     ensures leaves { OnlyLooks D.told leaves result.leaves }
+    ensures source_faults { ReadsBy result.status
+        (ReadsToFault (S.faults source.old) (S.faults source.new) (S.failed_last source.new)) }
+    ensures disk_faults { FaultsBy result.status (CountsEither D.faults notes leaves result.notes result.leaves) }
     ensures sink_faults { K.faults sink.new ≡ faults_after (K.faults sink.old) (is_write_fault result.status) }
 {
     match role {
@@ -152,6 +180,9 @@ fn run_watcher<H: Hash32 + Copy, S: Source, K: Sink, D: Disk>(
         })
         (ReadsToFault (S.faults source.old) (S.faults source.new) (S.failed_last source.new) true) result }
     ensures looks { OnlyLooks D.told notes.old notes.new }
+    ensures source_faults { ReadsBy result
+        (ReadsToFault (S.faults source.old) (S.faults source.new) (S.failed_last source.new)) }
+    ensures disk_faults { FaultsBy result (Counts D.faults notes.old notes.new) }
     ensures sink_faults { K.faults sink.new ≡ faults_after (K.faults sink.old) (is_write_fault result) }
 {
     match read_watcher(alloc, h, notes) {
@@ -171,6 +202,7 @@ fn read_watcher<H: Hash32 + Copy, D: Disk>(
     ensures sound { IfOk result (λ read. ⟦<Guards as Holder>⟧.sound read) }
     ensures refused { IfErr result (λ why. IsUnread why
         ⊎ HoldsOf D.told notes.old (λ image. IsRefused (watcher_in (H.digest_of h) image) why)) }
+    ensures faults { Counts D.faults notes.old notes.new (is_fault result) }
     ensures looks { OnlyLooks D.told notes.old notes.new }
 {
     let image = read_image(alloc, notes)?;
@@ -196,6 +228,9 @@ fn run_wallet<H: Hash32 + Copy, S: Source, K: Sink, D: Disk>(
         (ReadsToFault (S.faults source.old) (S.faults source.new) (S.failed_last source.new) true) result }
     ensures notes { OnlyLooks D.told notes.old notes.new }
     ensures leaves { OnlyLooks D.told leaves.old leaves.new }
+    ensures source_faults { ReadsBy result
+        (ReadsToFault (S.faults source.old) (S.faults source.new) (S.failed_last source.new)) }
+    ensures disk_faults { FaultsBy result (CountsEither D.faults notes.old leaves.old notes.new leaves.new) }
     ensures sink_faults { K.faults sink.new ≡ faults_after (K.faults sink.old) (is_write_fault result) }
 {
     match read_wallet(alloc, h, notes, leaves) {
@@ -218,6 +253,7 @@ fn read_wallet<H: Hash32 + Copy, D: Disk>(
     ensures refused { IfErr result (λ why. IsUnread why
         ⊎ HoldsOf D.told notes.old (λ of_notes. HoldsOf D.told leaves.old
         (λ of_leaves. IsRefused (wallet_in (H.digest_of h) of_notes of_leaves) why))) }
+    ensures faults { CountsEither D.faults notes.old leaves.old notes.new leaves.new (is_fault result) }
     ensures notes { OnlyLooks D.told notes.old notes.new }
     ensures leaves { OnlyLooks D.told leaves.old leaves.new }
 {

@@ -1,6 +1,8 @@
-use Rattle.std.proofs.Common.{◌∙◌}
+use Rattle.std.proofs.Common.{Bool, false, ◌++◌, ◌∙◌, subst}
 use Rattle.plasma_outside.specs.declared.sink.SinkRefusal.TheVariants.{Failed, NoMemory}
 use Rattle.streamed_lines.specs.Outside.{ReadsToFault}
+use Rattle.safe_runs.specs.Runs.{ended_output}
+use Rattle.safe_runs.proofs.FaultLaws.{ended-read, reads-by}
 use Rattle.safe_runs.proofs.Looking.{lines-of, broken-of, ran-whole, looks-whole, looks-early}
 use Rattle.safe_runs.proofs.look.run_look.Goals as goal
 
@@ -30,3 +32,27 @@ returns-clause-looks g c = λ at is.
     looks-early at _ _ _ _ _ _ _ _ _ _ NoMemory
     (broken-of at _ _ _ _ _ _ _ _ c.new-session.result.tag _ (c.new-session.ensures.tag ∙ c.tag.ensures at is)
     c.in-Err.ensures.broken)
+
+pub returns-in-Ok-clause-source_faults : goal.returns-in-Ok-clause-source_faults
+returns-in-Ok-clause-source_faults g c = λ at is.
+    let Reads : Bool → Type 0 =
+    ReadsToFault (g.S.Source.faults c.args.source.now) (g.S.Source.faults c.answer_lines.new.source)
+    (g.S.Source.failed_last c.answer_lines.new.source) in
+    let answers =
+    lines-of at _ _ _ _ _ _ _ _ c.new-session.result.tag c.in-Ok.ending
+    (c.new-session.ensures.tag ∙ c.tag.ensures at is) c.in-Ok.ensures.answered in
+    let output = ended_output at answers.ends.stream.run c.in-Ok.ending in
+    reads-by Reads (record {
+      status = output.status;
+      answers = c.answer_lines.new.text.items ++ output.answers;
+      last = output.last;
+    }) c.put_ended.result _ _ (Unit {0})
+    (c.put_ended.ensures.ends at answers.ends.stream.run is
+    (ran-whole at _ _ _ _ _ _ _ _ c.in-Ok.ending Reads answers c.in-Ok.ensures.reads))
+    (subst Reads (ended-read at answers.ends.stream.run c.in-Ok.ending) c.in-Ok.ensures.reads)
+
+pub returns-in-Err-WriteFault-clause-source_faults : goal.returns-in-Err-WriteFault-clause-source_faults
+returns-in-Err-WriteFault-clause-source_faults g c = λ at is. (false, c.in-Err-WriteFault.ensures.reads)
+
+pub returns-clause-source_faults : goal.returns-clause-source_faults
+returns-clause-source_faults g c = λ at is. (false, c.in-Err.ensures.reads)

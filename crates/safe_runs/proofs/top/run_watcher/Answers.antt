@@ -1,5 +1,9 @@
 use Rattle.std.proofs.Common.{inl, inr}
+use Rattle.streamed_lines.specs.Outside.{ReadsToFault}
 use Rattle.streamed_lines.proofs.OutsideLaws.{gave-none}
+use Rattle.safe_runs.specs.Faults.{Counts}
+use Rattle.safe_runs.specs.Runs.{lines_of, look_output}
+use Rattle.safe_runs.proofs.FaultLaws.{ended-other, none-met, refused-met, refused-read, unread}
 use Rattle.safe_runs.proofs.top.run_watcher.Goals as goal
 
 pub returns-in-Ok-clause-runs : goal.returns-in-Ok-clause-runs
@@ -14,3 +18,28 @@ returns-in-Err-clause-runs g c =
       c.in-Err.ensures.refused,
       record { gave = gave-none _; ends = c.put_refusal.ensures.ends },
     )
+
+pub returns-in-Ok-clause-source_faults : goal.returns-in-Ok-clause-source_faults
+returns-in-Ok-clause-source_faults g c =
+    let read = c.in-Ok.ensures.read in c.run_look.ensures.source_faults read.0 read.2
+
+pub returns-in-Err-clause-source_faults : goal.returns-in-Err-clause-source_faults
+returns-in-Err-clause-source_faults g c =
+    refused-read c.put_refusal.result _ _
+    (ReadsToFault (g.S.Source.faults c.args.source.now) (g.S.Source.faults c.args.source.now)
+    (g.S.Source.failed_last c.args.source.now))
+    c.in-Err.why c.put_refusal.ensures.ends (unread _ _)
+
+pub returns-in-Ok-clause-disk_faults : goal.returns-in-Ok-clause-disk_faults
+returns-in-Ok-clause-disk_faults g c =
+    let read = c.in-Ok.ensures.read in
+    let looks = c.run_look.ensures.looks read.0 read.2 in
+    let lines = lines_of read.0 looks.bytes looks.ended in
+    none-met (Counts g.D.Disk.faults c.args.notes.now c.read_watcher.new.notes)
+    (look_output read.0 looks.bytes looks.ended) c.run_look.result _ _ _
+    (ended-other read.0 lines.stream.run lines.ending) looks.ends c.in-Ok.ensures.faults
+
+pub returns-in-Err-clause-disk_faults : goal.returns-in-Err-clause-disk_faults
+returns-in-Err-clause-disk_faults g c =
+    refused-met c.put_refusal.result _ _ (Counts g.D.Disk.faults c.args.notes.now c.read_watcher.new.notes)
+    c.in-Err.why c.put_refusal.ensures.ends c.in-Err.ensures.faults
