@@ -8,7 +8,8 @@ use Rattle.world_scene.proofs.scene.Scene.begin_rogue.Goals as goal
 pub add_rogue-requires : goal.add_rogue-requires
 add_rogue-requires g c =
     let world = world_of c.args.self.now in
-    ap (λ rogue. rogue_named world rogue.name) c.new-rogue.ensures
+    ap (λ scene. rogue_named (world_of scene) c.new-rogue.result.name) c.in_ok-place.ensures
+    ∙ ap (λ rogue. rogue_named world rogue.name) c.new-rogue.ensures
     ∙ ap (rogue_named world) c.in_ok-name.ensures
     ∙ unused_rogue world c.args.name.now
     (ap (is_used world) (sym c.as_slice.ensures) ∙ sym c.is_used.ensures ∙ c.if-is_used.false)
