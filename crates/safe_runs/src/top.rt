@@ -36,9 +36,10 @@ pub struct Ended<D> {
 /// Openings are judged by SHA-256 (FIPS 180-4).
 ///
 /// `wallet` and `watcher` read the records of a node from the disks, which they leave as they are, and from the source a
-/// log of the root contract, a line `--`, and behind it at most the time by the caller's clock. For each coin that the
-/// node ever had or guards they write its number, its amount and how it stands, and under it the calls to enter. Other
-/// words are no form: the run ends as `Usage`, and writes the line that names the forms.
+/// log of the root contract, a line `--`, and behind it at most the time by the caller's clock, and then the coins of
+/// which the operator didn't show a block. For each coin that the node ever had or guards they write its number, its
+/// amount and how it stands, and under it the calls to enter and what the node is to be told. Other words are no form:
+/// the run ends as `Usage`, and writes the line that names the forms.
 pub fn run<S: Source, K: Sink, D: Disk>(
     alloc: Global,
     words: &[String],
