@@ -47,6 +47,20 @@ module _ {D : Type 0} (told : D → Option History) (plan : D → Option FaultPl
       ⊎ ((opened : NotesState D) × Opened told plan faults (role_in signer_kinds) notes opened
       × RefusesLeaves opened leaves why new_notes new_leaves)
 
+  -- a signer was opened, and its two disks are as the openings left them
+  pub record OpensAlone (notes leaves new_notes new_leaves : D) : Type 0 where
+    pub opened : NotesState D
+    pub levels : NotesState D
+    pub opens : OpensSigner notes leaves opened levels
+    pub notes_are : new_notes ≡ opened.disk
+    pub leaves_are : new_leaves ≡ levels.disk
+
+  -- No leaf was spent: behind the openings nothing was done, or one of them was refused.
+  abbrev pub SpendsNone : D → D → D → D → Type 0
+  SpendsNone notes leaves new_notes new_leaves =
+      OpensAlone notes leaves new_notes new_leaves
+      ⊎ ((why : JournalRefusal) × RefusesSigner notes leaves why new_notes new_leaves)
+
   -- ---- the signing
 
   -- The entries were added, one after another: the device calls of each append all passed, and each image of a crash

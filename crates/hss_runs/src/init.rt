@@ -1,7 +1,7 @@
 ghost use Rattle.std.specs.Prelude.{◌≡◌, ◌≢◌, false};
 ghost use Rattle.plasma_base.specs.Causes.{faults_after};
 ghost use Rattle.run_endings.specs.Statuses.{is_write_fault, FaultsBy};
-ghost use Rattle.node_runs.specs.Inits.{InitsPair};
+ghost use Rattle.node_runs.specs.Inits.{InitsPair, RefusesPair};
 ghost use Rattle.node_runs.specs.Faults.{CountsEither};
 ghost use Rattle.hss_runs.specs.Identity.{identity_text};
 
@@ -28,6 +28,8 @@ pub fn init_signer<D: Disk, K: Sink>(
         (identity_text seed) notes leaves result.0 result.1 }
     ensures memory { K.takes_memory ≡ false → result.2 ≡ Status.NoMemory
         → CountsEither D.faults notes leaves result.0 result.1 false }
+    ensures unmade { K.takes_memory ≡ false → result.2 ≡ Status.NoMemory → RefusesPair D.told D.plan D.faults
+        (identity_text seed) notes leaves result.0 result.1 }
     ensures disk_faults { FaultsBy result.2 (CountsEither D.faults notes leaves result.0 result.1) }
     ensures no_read_fault { result.2 ≢ Status.ReadFault }
     ensures sink_faults { K.faults sink.new ≡ faults_after (K.faults sink.old) (is_write_fault result.2) }

@@ -4,7 +4,7 @@ ghost use Rattle.run_endings.specs.Statuses.{is_write_fault, FaultsBy};
 ghost use Rattle.node_runs.specs.Faults.{CountsEither};
 ghost use Rattle.hss_keys.specs.Entries.{entries_of};
 ghost use Rattle.hss_runs.specs.Signing.{is_signable, next_leaf, signing, signs};
-ghost use Rattle.hss_runs.specs.Runs.{RunsSigner, Signs};
+ghost use Rattle.hss_runs.specs.Runs.{RunsSigner, Signs, SpendsNone};
 ghost use Rattle.hss_runs.specs.Complete.{SigningComplete};
 
 use super::answer::Answer;
@@ -48,6 +48,7 @@ fn sign_by<D: Disk, K: Sink>(
         (signs levels.old.seed message.now next) levels.old.notes levels.new.notes }
     ensures memory { K.takes_memory ≡ false → result ≡ Status.NoMemory
         → D.faults levels.new.notes.disk ≡ D.faults levels.old.notes.disk }
+    ensures unspent { K.takes_memory ≡ false → result ≡ Status.NoMemory → levels.new.notes ≡ levels.old.notes }
     ensures no_read_fault { result ≢ Status.ReadFault }
     ensures sink_faults { K.faults sink.new ≡ faults_after (K.faults sink.old) (is_write_fault result) }
 {
@@ -77,6 +78,7 @@ fn sign<D: Disk, K: Sink>(
         (signing levels.old.seed levels.old.notes.records message.now) levels.old.notes levels.new.notes }
     ensures memory { K.takes_memory ≡ false → result ≡ Status.NoMemory
         → D.faults levels.new.notes.disk ≡ D.faults levels.old.notes.disk }
+    ensures unspent { K.takes_memory ≡ false → result ≡ Status.NoMemory → levels.new.notes ≡ levels.old.notes }
     ensures no_read_fault { result ≢ Status.ReadFault }
     ensures sink_faults { K.faults sink.new ≡ faults_after (K.faults sink.old) (is_write_fault result) }
 {
@@ -115,6 +117,8 @@ pub fn run_signer<D: Disk, K: Sink>(
     ensures complete { SigningComplete D.told result.2 message.now notes leaves }
     ensures memory { K.takes_memory ≡ false → result.2 ≡ Status.NoMemory
         → CountsEither D.faults notes leaves result.0 result.1 false }
+    ensures unspent { K.takes_memory ≡ false → result.2 ≡ Status.NoMemory
+        → SpendsNone D.told D.plan D.faults notes leaves result.0 result.1 }
     ensures disk_faults { FaultsBy result.2 (CountsEither D.faults notes leaves result.0 result.1) }
     ensures no_read_fault { result.2 ≢ Status.ReadFault }
     ensures sink_faults { K.faults sink.new ≡ faults_after (K.faults sink.old) (is_write_fault result.2) }

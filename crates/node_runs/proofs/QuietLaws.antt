@@ -1,5 +1,5 @@
 -- A run that ends for want of memory over a sink that takes none met no fault.
-use Rattle.std.proofs.Common.{◌≡◌, ℕ, Bool, false, List, Option, Result, Ok, Err, inl, inr, refl, ap, ◌∙◌, subst}
+use Rattle.std.proofs.Common.{◌≡◌, ℕ, Bool, true, false, List, Option, Result, Ok, Err, is_ok, inl, inr, refl, ap, ◌∙◌, subst}
 use Rattle.crash_disk.specs.Disk.{History, FaultPlan}
 use Rattle.gate_journal.specs.Journal.{is_device_fault}
 use Rattle.gate_journal.specs.declared.refusal.InitRefusal.{InitRefusal}
@@ -51,6 +51,12 @@ init-quiet Met (Ok done) never is = is
 init-quiet Met (Err InitFault) never is = absurd (never refl)
 init-quiet Met (Err (InitMade count)) never is = is
 init-quiet Met (Err InitNoMemory) never is = is
+
+-- an init that made nothing was refused
+pub init-refused : (Did : Result Unit InitRefusal → Type 0) (answer : Result Unit InitRefusal)
+    → (is_ok answer ≡ true → ⊥) → Did answer → (why : InitRefusal) × Did (Err why)
+init-refused Did (Ok done) never did = absurd (never refl)
+init-refused Did (Err why) never did = (why, did)
 
 -- ---- a session
 

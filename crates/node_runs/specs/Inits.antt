@@ -1,5 +1,5 @@
 -- What an init of a watcher, an operator or a wallet does.
-use Rattle.std.specs.Prelude.{◌≡◌, ℕ, List, [], ◌∷◌, Option, Result, OnOk}
+use Rattle.std.specs.Prelude.{◌≡◌, ℕ, List, [], ◌∷◌, Option, Result, Err, OnOk}
 use Rattle.plasma_base.specs.Causes.{faults_after}
 use Rattle.crash_disk.specs.Disk.{History, FaultPlan}
 use Rattle.crash_disk.specs.Calls.{WhereTold}
@@ -31,3 +31,15 @@ module _ {D : Type 0} (told : D → Option History) (plan : D → Option FaultPl
     pub begun : OnOk answer (WhereTold (told new_notes) (λ now. IsSettled now (identity ∷ [])))
     pub empty : OnOk answer (WhereTold (told new_leaves) (λ now. IsSettled now []))
     pub ends : EndsAs (init_output answer) status taken after ⊥
+
+-- over disks that tell their history and foretell their faults
+module _ {D : Type 0} (told : D → Option History) (plan : D → Option FaultPlan) where
+  -- an init of notes with this identity that was refused, and what it did to the disk; and one of two disks
+  abbrev pub RefusesNotes : List ℕ → D → D → Type 0
+  RefusesNotes identity old new =
+      (why : InitRefusal) × Inits told plan (init_steps identity) old (Err why) new
+
+  abbrev pub RefusesPair : (D → ℕ) → List ℕ → D → D → D → D → Type 0
+  RefusesPair faults identity notes leaves new_notes new_leaves =
+      (why : InitRefusal)
+      × BeginsPair told plan faults told plan faults identity notes leaves (Err why) new_notes new_leaves

@@ -1,4 +1,4 @@
-ghost use Rattle.std.specs.Prelude.{◌≡◌, ◌≢◌, true, false, [], None, Some, Err};
+ghost use Rattle.std.specs.Prelude.{◌≡◌, ◌≢◌, true, false, [], None, Some, Err, is_ok};
 ghost use Rattle.plasma_base.specs.Causes.{faults_after};
 ghost use Rattle.gate_journal.specs.declared.refusal.InitRefusal.{InitRefusal};
 ghost use Rattle.lms_sign.specs.Types.{is_supported};
@@ -10,7 +10,7 @@ ghost use Rattle.run_endings.specs.Outputs.{EndsAs};
 ghost use Rattle.run_endings.specs.Texts.{already_made_text};
 ghost use Rattle.node_runs.specs.Faults.{Counts, CountsEither};
 ghost use Rattle.node_runs.specs.Endings.{init_output, refused_init};
-ghost use Rattle.node_runs.specs.Inits.{InitsNotes, InitsPair};
+ghost use Rattle.node_runs.specs.Inits.{InitsNotes, InitsPair, RefusesNotes, RefusesPair};
 
 use crash_disk::Disk;
 use gate_journal::InitRefusal;
@@ -58,6 +58,7 @@ pub fn put_init_answer<K: Sink>(
 ) -> Status
     ensures ends { EndsAs (init_output answer) result (K.taken sink.old) (K.taken sink.new) ⊥ }
     ensures memory { answer ≡ Err InitRefusal.DeviceFault → result ≡ Status.NoMemory → K.takes_memory ≡ true }
+    ensures made { is_ok answer ≡ true → result ≡ Status.NoMemory → K.takes_memory ≡ true }
     ensures no_read_fault { result ≢ Status.ReadFault }
     ensures sink_faults { K.faults sink.new ≡ faults_after (K.faults sink.old) (is_write_fault result) }
 {
@@ -80,6 +81,8 @@ pub fn init_watcher<D: Disk, K: Sink>(
         (watcher_text (record { tag = tag; account = account })) notes result.0 }
     ensures memory { K.takes_memory ≡ false → result.1 ≡ Status.NoMemory
         → Counts D.faults notes result.0 false }
+    ensures unmade { K.takes_memory ≡ false → result.1 ≡ Status.NoMemory → RefusesNotes D.told D.plan
+        (watcher_text (record { tag = tag; account = account })) notes result.0 }
     ensures no_read_fault { result.1 ≢ Status.ReadFault }
     ensures sink_faults { K.faults sink.new ≡ faults_after (K.faults sink.old) (is_write_fault result.1) }
 {
@@ -100,6 +103,8 @@ pub fn init_operator<D: Disk, K: Sink>(
         (operator_text (record { tag = tag; account = account; key_seed = None })) notes result.0 }
     ensures memory { K.takes_memory ≡ false → result.1 ≡ Status.NoMemory
         → Counts D.faults notes result.0 false }
+    ensures unmade { K.takes_memory ≡ false → result.1 ≡ Status.NoMemory → RefusesNotes D.told D.plan
+        (operator_text (record { tag = tag; account = account; key_seed = None })) notes result.0 }
     ensures no_read_fault { result.1 ≢ Status.ReadFault }
     ensures sink_faults { K.faults sink.new ≡ faults_after (K.faults sink.old) (is_write_fault result.1) }
 {
@@ -122,6 +127,8 @@ pub fn init_wallet<D: Disk, K: Sink>(
         (wallet_text who.now) notes leaves result.0 result.1 }
     ensures memory { K.takes_memory ≡ false → result.2 ≡ Status.NoMemory
         → CountsEither D.faults notes leaves result.0 result.1 false }
+    ensures unmade { K.takes_memory ≡ false → result.2 ≡ Status.NoMemory → RefusesPair D.told D.plan D.faults
+        (wallet_text who.now) notes leaves result.0 result.1 }
     ensures no_read_fault { result.2 ≢ Status.ReadFault }
     ensures sink_faults { K.faults sink.new ≡ faults_after (K.faults sink.old) (is_write_fault result.2) }
 {
@@ -146,6 +153,9 @@ pub fn init_operator_with_key<D: Disk, K: Sink>(
         notes leaves result.0 result.1 }
     ensures memory { K.takes_memory ≡ false → result.2 ≡ Status.NoMemory
         → CountsEither D.faults notes leaves result.0 result.1 false }
+    ensures unmade { K.takes_memory ≡ false → result.2 ≡ Status.NoMemory → RefusesPair D.told D.plan D.faults
+        (operator_text (record { tag = tag; account = account; key_seed = Some seed }))
+        notes leaves result.0 result.1 }
     ensures no_read_fault { result.2 ≢ Status.ReadFault }
     ensures sink_faults { K.faults sink.new ≡ faults_after (K.faults sink.old) (is_write_fault result.2) }
 {

@@ -54,3 +54,19 @@ returns-in-Err-clause-memory g c = λ none is.
     (refused-met g.D.Disk.told g.D.Disk.plan g.D.Disk.faults (g.K.Sink.taken c.args.sink.now)
     (g.K.Sink.taken c.put_opening_refusal-status.new.sink) c.put_opening_refusal-status.result c.args.notes
     c.args.leaves c.in-Err.returned.notes c.in-Err.returned.leaves c.in-Err.returned.why c.in-Err.ensures.refused)
+
+-- ---- want of memory, where the sink takes none, spent no leaf
+
+pub returns-in-Ok-clause-unspent : goal.returns-in-Ok-clause-unspent
+returns-in-Ok-clause-unspent g c = λ none is.
+    let unspent = c.sign-status.ensures.unspent none is in
+    inl (record {
+      opened = c.in-Ok.signer.notes.notes;
+      levels = c.in-Ok.signer.levels.notes;
+      opens = c.in-Ok.ensures.opened;
+      notes_are = c.take_disk-notes.ensures;
+      leaves_are = rw unspent at c.take_disk-leaves.ensures;
+    })
+
+pub returns-in-Err-clause-unspent : goal.returns-in-Err-clause-unspent
+returns-in-Err-clause-unspent g c = λ none is. inr (c.in-Err.returned.why, c.in-Err.ensures.refused)

@@ -62,3 +62,19 @@ returns-in-Err-DeviceFault-clause-memory g c = λ none is.
       | inl wrong ↦ absurd (cc wrong)
       | inr takes ↦ absurd (false≢true (sym none ∙ takes))
     ]
+
+-- ---- want of memory, where the sink takes none, spent no leaf
+
+pub returns-in-Ok-bind_next-clause-unspent : goal.returns-in-Ok-bind_next-clause-unspent
+returns-in-Ok-bind_next-clause-unspent g c = λ none is.
+    elim (c.put_line.ensures.memory is) [
+      | inl wrong ↦ absurd (cc wrong)
+      | inr takes ↦ absurd (false≢true (sym none ∙ takes))
+    ]
+
+pub returns-in-Err-DeviceFault-clause-unspent : goal.returns-in-Err-DeviceFault-clause-unspent
+returns-in-Err-DeviceFault-clause-unspent g c = λ none is.
+    elim (c.put_line-in-Err-DeviceFault.ensures.memory is) [
+      | inl wrong ↦ absurd (cc wrong)
+      | inr takes ↦ absurd (false≢true (sym none ∙ takes))
+    ]

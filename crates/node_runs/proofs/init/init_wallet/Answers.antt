@@ -1,9 +1,11 @@
-use Rattle.std.proofs.Common.{sym, ◌∙◌}
+use Rattle.std.proofs.Common.{Result, sym, ◌∙◌}
 use Rattle.std.proofs.lemmas.Bool.{false≢true}
+use Rattle.gate_journal.specs.declared.refusal.InitRefusal.{InitRefusal}
 use Rattle.node_rules.specs.WalletRecords.{identity_text}
+use Rattle.node_journal.specs.Begin.{BeginsPair}
 use Rattle.node_runs.specs.Faults.{CountsEither}
 use Rattle.node_runs.proofs.FaultLaws.{pair-met}
-use Rattle.node_runs.proofs.QuietLaws.{init-quiet}
+use Rattle.node_runs.proofs.QuietLaws.{init-quiet, init-refused}
 use Rattle.node_runs.proofs.init.init_wallet.Goals as goal
 
 pub returns-clause-memory : goal.returns-clause-memory
@@ -16,3 +18,12 @@ returns-clause-memory g c = λ none is.
     (pair-met g.D.Disk.told g.D.Disk.plan g.D.Disk.faults (g.K.Sink.taken c.args.sink.now)
     (g.K.Sink.taken c.put_init_answer-status.new.sink) c.put_init_answer-status.result
     (identity_text c.args.who.now) c.args.notes c.args.leaves new_notes new_leaves answer c.init-notes.ensures.inits)
+
+pub returns-clause-unmade : goal.returns-clause-unmade
+returns-clause-unmade g c = λ none is.
+    let d = g.D.Disk in
+    init-refused
+    (λ (answer : Result Unit InitRefusal). BeginsPair d.told d.plan d.faults d.told d.plan d.faults
+    (identity_text c.args.who.now) c.args.notes c.args.leaves answer c.init-notes.result.0
+    c.init-notes.result.1) c.init-notes.result.2
+    (λ made. false≢true (sym none ∙ c.put_init_answer-status.ensures.made made is)) c.init-notes.ensures.inits
