@@ -119,10 +119,10 @@ class Held:
             other = [one for one in mine if one.block != it.tip]
             if words[0] == "safe" and any(one.parent != it.tip for one in other):
                 yield f"coin {it.coin} is safe, and account {other[0].account} is paid for it"
-            elif words[0] == "safe" and other and node.role == "wallet":
-                yield f"coin {it.coin} is safe, and account {other[0].account}, by a spend of it, is paid for it"
             elif words[0] == "safe" and other:
-                self.counts["proved safe of a guard, and its coin's next owner exits"] += 1
+                # (the owner's key signed a spend that the node doesn't know: a guard is too old, or a seed was stolen.
+                # No call cancels such an exit, so the word is as if it weren't there)
+                self.counts[f"proved safe of a {node.role}'s coin, and a spend of it exits"] += 1
             if it.word == "SAFE" and other:
                 yield f"coin {it.coin} is SAFE, and account {other[0].account} is paid for it"
             if it.word == "TOO LATE" and not other and not it.due and "challenge of your exit" not in str(it.notes):
