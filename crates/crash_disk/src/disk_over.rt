@@ -256,6 +256,7 @@ impl<F: FileCalls> Disk for DiskOver<F> {
 
     /// A file needs no room. It does nothing, and always answers `Ok`.
     fn make_room(&mut self, calls: u64, bytes: u64) -> Result<(), NoMemory>
+        ensures ok { is_err result ≡ false }
         ensures calls { OnOk result (calls ≤ every_room.calls) }
         ensures bytes { OnOk result (bytes ≤ every_room.bytes) }
         ensures same { self.new ≡ self.old }

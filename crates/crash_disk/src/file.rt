@@ -1,4 +1,4 @@
-ghost use Rattle.std.specs.Prelude.{◌≡◌, ◌+◌, ◌^◌, ◌<◌, ◌≤◌, [], length, take, drop, is_err, IfOk, OnOk, OnErr};
+ghost use Rattle.std.specs.Prelude.{◌≡◌, ◌+◌, ◌^◌, ◌<◌, ◌≤◌, false, [], length, take, drop, is_err, IfOk, OnOk, OnErr};
 ghost use Rattle.plasma_base.specs.Causes.{faults_after};
 ghost use Rattle.crash_disk.specs.Disk.{content, asks_length, reads, writes, syncs, Spends};
 ghost use Rattle.crash_disk.specs.Calls.{WhereTold, Called, IsStill};
@@ -28,7 +28,7 @@ use std::marker::Model;
 /// It fails where it opens or syncs the file and
 /// - the file has a second name, a hard link;
 /// - the file isn't the one at the path any more: it was removed or renamed, or another one was put there;
-/// - anybody but the file's owner may write it;
+/// - anybody but the file's owner may write it, or somebody cut it;
 /// - the file's owner may not write it. A sync that fails, of the file or of its folder, takes this right away (mode
 ///   0400), since the system may then take bytes for written that the disk doesn't have. Give it back once the machine
 ///   was started anew.
@@ -110,6 +110,7 @@ impl<'a, R: Files<File = File>> Disk for FileDisk<'a, R> {
 
     /// A file needs no room. It does nothing, and always answers `Ok`.
     fn make_room(&mut self, calls: u64, bytes: u64) -> Result<(), NoMemory>
+        ensures ok { is_err result ≡ false }
         ensures calls { OnOk result (calls ≤ every_room.calls) }
         ensures bytes { OnOk result (bytes ≤ every_room.bytes) }
         ensures calls_stay { every_room.calls ≤ every_room.calls }

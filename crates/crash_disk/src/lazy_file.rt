@@ -1,7 +1,7 @@
 use std::fs::{self, File, Files, OpenOptions, Permissions};
-use std::io::{self, ErrorKind, Read, Seek, SeekFrom, Write};
+use std::io::{self, ErrorKind};
 use std::os::fd::AsRawFd;
-use std::os::unix::fs::{MetadataExt, OpenOptionsExt, PermissionsExt};
+use std::os::unix::fs::{FileExt, MetadataExt, OpenOptionsExt, PermissionsExt};
 use std::path::Path;
 
 // The greatest descriptor of a standard stream.
@@ -19,12 +19,21 @@ const OTHERS_WRITE: u32 = 0o022;
 // The mode of a file of which a sync failed: not even its owner may write.
 const MARKED: u32 = 0o400;
 
+// A file that is held: which one it is, by device and number, and how far it reaches, as was seen or written last.
+#[derive(Drop)]
+struct HeldFile {
+    file: File,
+    dev: u64,
+    ino: u64,
+    end: u64,
+}
+
 // A file that is opened when it is first asked for, and then held alone. While it is missing it has no bytes.
 #[derive(Drop)]
 pub struct LazyFile<'a, R: Files<File = File>> {
     files: &'a R,
     path: &'a str,
-    file: Option<File>,
+    file: Option<HeldFile>,
     // Whether it was missing when it was first asked for. It then stays missing until this one makes it: what somebody
     // else made in between was never looked at, and the first write would spoil it.
     is_missing: bool,
@@ -72,7 +81,7 @@ impl<'a, R: Files<File = File>> LazyFile<'a, R> {
     }
 
     // Opens the file, or makes it where nobody else did, and locks it until it is closed.
-    fn take(&self, makes: bool) -> io::Result<File> {
+    fn take(&self, makes: bool) -> io::Result<HeldFile> {
         let mut options = OpenOptions::new();
         options.read(true).write(true);
         options.create_new(makes).mode(FOR_ITS_OWNER);
@@ -83,76 +92,78 @@ impl<'a, R: Files<File = File>> LazyFile<'a, R> {
             file = file.try_clone()?;
         }
         file.try_lock()?;
+        let found = file.metadata()?;
+        let (dev, ino, end) = (found.dev(), found.ino(), 0);
+        let mut held = HeldFile {
+            file,
+            dev,
+            ino,
+            end,
+        };
         // Behind the lock, since in front of it somebody could still put another file in its place.
         if !makes {
-            self.check(&file)?;
+            self.check(&mut held)?;
         }
         // From now on the file is its owner's alone, and a new one is so whatever the mask is. Only the owner, or root,
         // may set a mode: of a file that is somebody else's this fails, and so would the mark of a sync that failed.
-        file.set_permissions(Permissions::from_mode(FOR_ITS_OWNER))?;
-        self.check(&file)?;
-        Ok(file)
+        held.file
+            .set_permissions(Permissions::from_mode(FOR_ITS_OWNER))?;
+        self.check(&mut held)?;
+        Ok(held)
     }
 
-    // Fails unless this is the regular file at the path, has no other name, and its owner may write and nobody else.
-    fn check(&self, file: &File) -> io::Result<()> {
-        let held = file.metadata()?;
+    // Fails unless this is the regular file at the path, has no other name, its owner may write and nobody else, and
+    // nobody cut it. Since it is held, its number is no other file's, and so the path alone is asked.
+    fn check(&self, held: &mut HeldFile) -> io::Result<()> {
         let named = fs::symlink_metadata(self.files, self.path)?;
-        let is_at_path = held.dev() == named.dev() && held.ino() == named.ino();
-        let is_alone = held.is_file() && held.nlink() == 1;
-        let is_its_owners = held.mode() & OWNER_WRITES != 0 && held.mode() & OTHERS_WRITE == 0;
-        if is_at_path && is_alone && is_its_owners {
+        let is_at_path = named.dev() == held.dev && named.ino() == held.ino;
+        let is_alone = named.is_file() && named.nlink() == 1;
+        let is_its_owners = named.mode() & OWNER_WRITES != 0 && named.mode() & OTHERS_WRITE == 0;
+        let is_whole = named.len() >= held.end;
+        if is_at_path && is_alone && is_its_owners && is_whole {
+            held.end = named.len();
             Ok(())
         } else {
             Err(ErrorKind::Unsupported.into())
         }
     }
 
-    // The file, which is held.
-    fn held(&self) -> io::Result<&File> {
-        match &self.file {
-            Some(file) => Ok(file),
-            None => Err(ErrorKind::NotFound.into()),
-        }
-    }
-
     pub fn len(&self) -> io::Result<u64> {
         match &self.file {
-            Some(file) => Ok(file.metadata()?.len()),
+            Some(held) => Ok(held.file.metadata()?.len()),
             None => Ok(0),
         }
     }
 
     // Fails where the file ends before a place, as where somebody cut it: in front of what is written there would be
-    // zeros that nobody wrote.
-    pub fn reach(&self, place: u64) -> io::Result<()> {
-        if self.held()?.metadata()?.len() < place {
+    // zeros that nobody wrote. In front of the end that was seen last nobody is asked: where the file was cut since
+    // then, the next sync finds it too short.
+    pub fn reach(&mut self, place: u64) -> io::Result<()> {
+        let held = held(&mut self.file)?;
+        if place >= held.end && held.file.metadata()?.len() < place {
             return Err(ErrorKind::UnexpectedEof.into());
         }
         Ok(())
     }
 
-    pub fn read_at(&mut self, place: u64, room: &mut [u8]) -> io::Result<()> {
-        match &mut self.file {
-            Some(file) => {
-                file.seek(SeekFrom::Start(place))?;
-                file.read_exact(room)
-            }
+    pub fn read_at(&self, place: u64, room: &mut [u8]) -> io::Result<()> {
+        match &self.file {
+            Some(held) => held.file.read_exact_at(room, place),
             None if room.is_empty() => Ok(()),
             None => Err(ErrorKind::UnexpectedEof.into()),
         }
     }
 
     pub fn write_at(&mut self, place: u64, bytes: &[u8]) -> io::Result<()> {
-        let Some(file) = &mut self.file else {
-            return Err(ErrorKind::NotFound.into());
-        };
-        file.seek(SeekFrom::Start(place))?;
-        file.write_all(bytes)
+        let held = held(&mut self.file)?;
+        held.file.write_all_at(bytes, place)?;
+        let end = place.saturating_add(bytes.len() as u64);
+        held.end = held.end.max(end);
+        Ok(())
     }
 
-    pub fn sync_bytes(&self) -> io::Result<()> {
-        self.held()?.sync_all()
+    pub fn sync_bytes(&mut self) -> io::Result<()> {
+        held(&mut self.file)?.file.sync_all()
     }
 
     pub fn open_folder(&mut self) -> io::Result<()> {
@@ -173,13 +184,28 @@ impl<'a, R: Files<File = File>> LazyFile<'a, R> {
     // these bytes, since both are in the system's memory. That this user may set it was seen at the opening. Where it
     // can't be set even so, as on a device that fails, the sync has failed all the same.
     pub fn mark(&self) {
-        if let Some(file) = &self.file {
-            let _ = file.set_permissions(Permissions::from_mode(MARKED));
+        if let Some(held) = &self.file {
+            let _ = held.file.set_permissions(Permissions::from_mode(MARKED));
         }
     }
 
-    pub fn look(&self) -> io::Result<()> {
-        self.check(self.held()?)
+    // Fails where somebody replaced, renamed, cut or opened to others what is held.
+    pub fn look(&mut self) -> io::Result<()> {
+        let mut held = match self.file.take() {
+            Some(held) => held,
+            None => return Err(ErrorKind::NotFound.into()),
+        };
+        let answer = self.check(&mut held);
+        self.file = Some(held);
+        answer
+    }
+}
+
+// The file, which is held.
+fn held(file: &mut Option<HeldFile>) -> io::Result<&mut HeldFile> {
+    match file {
+        Some(held) => Ok(held),
+        None => Err(ErrorKind::NotFound.into()),
     }
 }
 
