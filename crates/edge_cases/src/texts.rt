@@ -1,6 +1,6 @@
 use coin_history::HistoryRefusal;
 use node_replies::history_cause;
-use plasma_base::{NoMemory, Sha, lent_digest, put_hex, sha_digest, toy_digest};
+use plasma_base::{Bytes, NoMemory, Sha, lent_digest, put_hex, sha_digest, toy_digest};
 use root_log::{print_chain, read_chain};
 use std::alloc::Global;
 use std::test::Fail;
@@ -22,9 +22,8 @@ fn printed(alloc: Global, line: &[u8]) -> Result<Vec<u8>, Fail> {
 }
 
 // The text of a refusal.
-fn said(alloc: Global) -> Result<Vec<u8>, NoMemory> {
-    let cause = history_cause(alloc, &HistoryRefusal::MissingBlock { n: 12 })?;
-    Ok(cause.into_vec())
+fn said(alloc: Global) -> Result<Bytes, NoMemory> {
+    history_cause(alloc, &HistoryRefusal::MissingBlock { n: 12 })
 }
 
 #[test]
