@@ -1,4 +1,4 @@
-ghost use Rattle.std.specs.Prelude.{◌≡◌, ◌≤◌, length, IfOk, IfSome};
+ghost use Rattle.std.specs.Prelude.{◌≡◌, ◌<◌, ◌≤◌, length, IfOk, IfSome};
 ghost use Rattle.sha2.specs.Sha256.{sha256};
 ghost use Rattle.sparse_merkle.specs.TreeDigest.{AreDefaults};
 ghost use Rattle.plasma_tx.specs.Openings.{opening_in};
@@ -11,12 +11,18 @@ use std::alloc::Global;
 use std::cell::RefCell;
 use std::cmp::Ordering;
 
-// The most tests that are remembered. No clause bounds memory.
-const MOST_KNOWN: usize = 2_048;
+// The most tests of short openings that are remembered. No clause bounds memory.
+const MOST_SHORT: usize = 2_048;
 
-// The bytes of the longest opening that is remembered: a leaf with the longest signature that any key may have, and
-// 64 siblings. A longer one takes long to be shown at all.
-const LONGEST_OPENING: usize = 5_000;
+// The most tests of long openings that are remembered.
+const MOST_LONG: usize = 256;
+
+// The bytes of the longest opening that is short: a leaf with the longest signature that any key may have, and 64
+// siblings.
+const LONGEST_SHORT: usize = 5_000;
+
+// The bytes of the longest opening that is remembered: the longest leaf that a line may have, and 64 siblings.
+const LONGEST_LONG: usize = 68_000;
 
 // An opening, and whether it opens the root at the coin.
 #[derive(Drop)]
@@ -28,20 +34,23 @@ struct Tested {
     ghost is_tested: { opens_root sha256 root coin (opening_in sha256 opening) ≡ opens },
 }
 
-/// What the tests of openings under SHA-256 found, so that none is made twice: at most 2,048, which take 11 MB at most.
-/// No answer depends on it. Where there is no memory for one it isn't remembered. A call that takes no `&mut` remembers
-/// too.
+/// What the tests of openings under SHA-256 found, so that none is made twice: of openings of at most 5,000 bytes at
+/// most 2,048, in 11 MB at most, and of longer ones 256, in 18 MB at most. Bytes that somebody else holds too lie in
+/// memory once. No answer depends on it. Where there is no memory for one it isn't remembered. A call that takes no
+/// `&mut` remembers too.
 #[derive(Drop)]
 pub struct OpeningTests {
     // In the order of `compare`, and not by a hash: nobody can choose openings that are slow to find.
-    known: RefCell<Vec<Box<Tested>>>,
+    short: RefCell<Vec<Box<Tested>>>,
+    long: RefCell<Vec<Box<Tested>>>,
 }
 
 impl OpeningTests {
     /// None is known. It takes no memory.
     pub fn new(alloc: Global) -> OpeningTests {
         OpeningTests {
-            known: RefCell::new(Vec::new(alloc)),
+            short: RefCell::new(Vec::new(alloc)),
+            long: RefCell::new(Vec::new(alloc)),
         }
     }
 
@@ -75,9 +84,18 @@ impl OpeningTests {
     fn recall(&self, root: &[u8; 32], coin: u64, opening: &RawOpening) -> Option<bool>
         ensures { IfSome result (λ opens. opens ≡ opens_root sha256 root.now coin (opening_in sha256 opening.now)) }
     {
-        match self.known.try_borrow() {
+        match self.known(opening).try_borrow() {
             Ok(known) => found_in(known.as_slice(), root, coin, opening),
             Err(_) => None,
+        }
+    }
+
+    // The tests of openings as long as this one.
+    fn known(&self, opening: &RawOpening) -> &RefCell<Vec<Box<Tested>>> {
+        if opening.bytes.len() <= LONGEST_SHORT {
+            &self.short
+        } else {
+            &self.long
         }
     }
 
@@ -85,17 +103,22 @@ impl OpeningTests {
     fn remember(&self, root: &[u8; 32], coin: u64, opening: &RawOpening, opens: bool)
         requires { opens_root sha256 root.now coin (opening_in sha256 opening.now) ≡ opens }
     {
-        if opening.bytes.len() > LONGEST_OPENING {
-            return;
-        }
-        if let (Ok(mut known), Ok(opening)) = (self.known.try_borrow_mut(), opening.copy()) {
+        let most = match opening.bytes.len() {
+            0..=LONGEST_SHORT => MOST_SHORT,
+            ..=LONGEST_LONG => MOST_LONG,
+            _ => return,
+        };
+        if let (Ok(mut known), Ok(opening)) = (
+            self.known(opening).try_borrow_mut(),
+            opening.copy(),
+        ) {
             let tested = Tested {
                 root: *root,
                 coin,
                 opening,
                 opens,
             };
-            put(&mut known, tested);
+            put(&mut known, most, tested);
         }
     }
 }
@@ -152,13 +175,15 @@ fn answer_of(tested: &Tested, root: &[u8; 32], coin: u64, opening: &RawOpening) 
     None
 }
 
-// Adds a test to these at its place; to as many as are remembered, in place of the next one.
-fn put(known: &mut Vec<Box<Tested>>, tested: Tested) {
+// Adds a test to these at its place; to the most that there may be, in place of the next one.
+fn put(known: &mut Vec<Box<Tested>>, most: usize, tested: Tested)
+    requires { 0 < most }
+{
     let place = place_of(known.as_slice(), &tested.root, tested.coin, &tested.opening);
     let Ok(tested) = Box::new(*known.allocator(), tested) else {
         return;
     };
-    if known.len() < MOST_KNOWN {
+    if known.len() < most {
         let _ = known.insert(place, tested);
     } else {
         let place = place.min(known.len() - 1);

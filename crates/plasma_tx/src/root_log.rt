@@ -203,9 +203,9 @@ impl RootLog {
     }
 
     /// Whether the opening is read and opens the root at the coin, where the caller has the defaults of levels 0 to 63
-    /// already. What a test under SHA-256 found is remembered beside the log, for at most 2,048 openings in 11 MB at
-    /// most, so that an opening isn't tested anew in each history that has it. Where there is no memory for that it
-    /// tests again; `NoMemory` is of the test.
+    /// already. What a test under SHA-256 found is remembered beside the log, so that an opening isn't tested anew in
+    /// each history that has it: for at most 2,048 openings of at most 5,000 bytes, in 11 MB, and for 256 of at most
+    /// 68,000, in 18 MB. Where there is no memory for that it tests again; `NoMemory` is of the test.
     pub fn opens<H: Hash32>(
         &self,
         h: &H,
