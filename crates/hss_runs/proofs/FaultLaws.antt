@@ -12,7 +12,7 @@ use Rattle.run_endings.specs.Statuses.{FaultsBy}
 use Rattle.run_endings.specs.Outputs.{Output, EndsAs}
 use Rattle.run_endings.specs.Endings.{fault_output}
 use Rattle.node_runs.specs.Endings.{refused_output}
-use Rattle.node_runs.specs.Faults.{CountsEither}
+use Rattle.run_endings.specs.Faults.{CountsEither}
 use Rattle.node_runs.proofs.FaultLaws.{notes-met}
 use Rattle.hss_runs.specs.Identity.{seed_of}
 use Rattle.hss_runs.specs.Signing.{Signing, signing, said_output}

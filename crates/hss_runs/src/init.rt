@@ -2,7 +2,7 @@ ghost use Rattle.std.specs.Prelude.{◌≡◌, ◌≢◌, false};
 ghost use Rattle.plasma_base.specs.Causes.{faults_after};
 ghost use Rattle.run_endings.specs.Statuses.{is_write_fault, FaultsBy};
 ghost use Rattle.node_runs.specs.Inits.{InitsPair, RefusesPair};
-ghost use Rattle.node_runs.specs.Faults.{CountsEither};
+ghost use Rattle.run_endings.specs.Faults.{CountsEither};
 ghost use Rattle.hss_runs.specs.Identity.{identity_text};
 
 use super::identity::identity_record;

@@ -1,7 +1,7 @@
 ghost use Rattle.std.specs.Prelude.{◌≡◌, ◌≢◌, true, false, Some};
 ghost use Rattle.plasma_base.specs.Causes.{faults_after};
 ghost use Rattle.run_endings.specs.Statuses.{is_write_fault, FaultsBy};
-ghost use Rattle.node_runs.specs.Faults.{CountsEither};
+ghost use Rattle.run_endings.specs.Faults.{CountsEither};
 ghost use Rattle.hss_keys.specs.Entries.{entries_of};
 ghost use Rattle.hss_runs.specs.Signing.{is_signable, next_leaf, signing, signs};
 ghost use Rattle.hss_runs.specs.Runs.{RunsSigner, Signs, SpendsNone};

@@ -32,73 +32,14 @@ use Rattle.wallet_node.specs.Opening.{IsUnbound, RefusesWallet}
 use Rattle.run_endings.specs.Endings.{status_of, session_output, fault_output}
 use Rattle.node_runs.specs.Endings.{refused_output, init_output}
 use Rattle.node_runs.specs.Disks.{Keeps, MayKeep, node_opened, KeepsNode, NodeFailed}
-use Rattle.node_runs.specs.Faults.{Counts, CountsEither}
+use Rattle.run_endings.specs.Faults.{Counts, CountsEither}
+use Rattle.run_endings.proofs.FaultLaws.{other-status, none-met, by-more, one-met}
 use Rattle.node_runs.specs.Inits.{InitsNotes, InitsPair}
 use Rattle.node_runs.specs.Runs.{NodeSession, RunsWatcher, RunsWallet}
 use Rattle.node_runs.specs.Operators.{RefusesDesk, RunsBehind, RunsOperator}
 use Rattle.node_runs.specs.Sessions.{Outside, RunsSession}
 
 -- ---- by the output
-
--- a run whose output has another status than DeviceFault ends with another
-pub other-status : (output : Output) (status : Status) (before after : Option (List ℕ)) (failed : Type 0)
-    → (output.status ≡ DeviceFault → ⊥) → EndsAs output status before after failed → status ≡ DeviceFault → ⊥
-other-status output DeviceFault before after failed never ends is = never ends.0
-other-status output Done before after failed never ends is = absurd (cc (is))
-other-status output Refused before after failed never ends is = absurd (cc (is))
-other-status output Usage before after failed never ends is = absurd (cc (is))
-other-status output BadLineStatus before after failed never ends is = absurd (cc (is))
-other-status output ReadFaultStatus before after failed never ends is = absurd (cc (is))
-other-status output WriteFault before after failed never ends is = absurd (cc (is))
-other-status output NoMemory before after failed never ends is = absurd (cc (is))
-other-status output TooLongStatus before after failed never ends is = absurd (cc (is))
-other-status output NotJournal before after failed never ends is = absurd (cc (is))
-other-status output AlreadyMade before after failed never ends is = absurd (cc (is))
-
--- no fault was met
-pub none-met : (Met : Bool → Type 0) (status : Status) → (status ≡ DeviceFault → ⊥) → Met false → FaultsBy status Met
-none-met Met DeviceFault never none = absurd (never refl)
-none-met Met WriteFault never none = (false, none)
-none-met Met NoMemory never none = (false, none)
-none-met Met Done never none = none
-none-met Met Refused never none = none
-none-met Met Usage never none = none
-none-met Met BadLineStatus never none = none
-none-met Met ReadFaultStatus never none = none
-none-met Met TooLongStatus never none = none
-none-met Met NotJournal never none = none
-none-met Met AlreadyMade never none = none
-
--- the same in other words
-pub by-more : (Met More : Bool → Type 0) → ((fault : Bool) → Met fault → More fault) → (status : Status)
-    → FaultsBy status Met → FaultsBy status More
-by-more Met More more DeviceFault is = more true is
-by-more Met More more WriteFault is = (is.0, more is.0 is.1)
-by-more Met More more NoMemory is = (is.0, more is.0 is.1)
-by-more Met More more Done is = more false is
-by-more Met More more Refused is = more false is
-by-more Met More more Usage is = more false is
-by-more Met More more BadLineStatus is = more false is
-by-more Met More more ReadFaultStatus is = more false is
-by-more Met More more TooLongStatus is = more false is
-by-more Met More more NotJournal is = more false is
-by-more Met More more AlreadyMade is = more false is
-
--- one was, and the run says so, or its text was stopped
-one-met : (Met : Bool → Type 0) (answers : List ℕ) (status : Status) (before after : Option (List ℕ))
-    (failed : Type 0)
-    → EndsAs (fault_output answers) status before after failed → Met true → FaultsBy status Met
-one-met Met answers DeviceFault before after failed ends one = one
-one-met Met answers WriteFault before after failed ends one = (true, one)
-one-met Met answers NoMemory before after failed ends one = (true, one)
-one-met Met answers Done before after failed ends one = absurd (cc (ends.0))
-one-met Met answers Refused before after failed ends one = absurd (cc (ends.0))
-one-met Met answers Usage before after failed ends one = absurd (cc (ends.0))
-one-met Met answers BadLineStatus before after failed ends one = absurd (cc (ends.0))
-one-met Met answers ReadFaultStatus before after failed ends one = absurd (cc (ends.0.0))
-one-met Met answers TooLongStatus before after failed ends one = absurd (cc (ends.0))
-one-met Met answers NotJournal before after failed ends one = absurd (cc (ends.0))
-one-met Met answers AlreadyMade before after failed ends one = absurd (cc (ends.0))
 
 session-other : (ending : Ending (List ℕ)) → status_of ending ≡ DeviceFault → ⊥
 session-other Complete is = cc
@@ -127,7 +68,7 @@ module _ {A L : Type 0} (tag : List ℕ) (command_in : List ℕ → Option L)
       (other-status (session_output ended) status _ _ _ (session-other ended.ending) is.ends)
       (left ended.stream.run.node (session-keeps tag command_in does part kept found is.bytes is.ended) is.left)
   session-counts outside failed status (inr (inl is)) =
-      one-met Met is.stream.text status _ _ _ is.ends
+      one-met Met (fault_output is.stream.text) status _ _ _ refl is.ends
       (faulted (calls_of is.stream.run.log) is.stream.run.node is.left.1.0
       (run-keeps tag command_in does part kept found is.begins.front is.stream is.begins.runs) is.left.1.2)
   session-counts outside failed WriteFault (inr (inr is)) = (
@@ -157,7 +98,7 @@ module _ {A L : Type 0} (tag : List ℕ) (command_in : List ℕ → Option L)
 
 refused-counts : (Met : Bool → Type 0) (why : JournalRefusal) (status : Status) (before after : Option (List ℕ))
     → EndsAs (refused_output why) status before after ⊥ → Met (is_device_fault why) → FaultsBy status Met
-refused-counts Met JournalFault status before after ends met = one-met Met [] status _ _ _ ends met
+refused-counts Met JournalFault status before after ends met = one-met Met (fault_output []) status _ _ _ refl ends met
 refused-counts Met (JournalPlace place) status before after ends met =
     none-met Met status (other-status (refused_output (JournalPlace place)) status _ _ _ (λ is. cc (is)) ends) met
 refused-counts Met (JournalMade count) status before after ends met =
@@ -174,7 +115,7 @@ init-counts : (Met : Bool → Type 0) (answer : Result Unit InitRefusal) (status
     → FaultsBy status Met
 init-counts Met (Ok done) status before after ends met =
     none-met Met status (other-status (init_output (Ok done)) status _ _ _ (λ is. cc (is)) ends) met
-init-counts Met (Err InitFault) status before after ends met = one-met Met [] status _ _ _ ends met
+init-counts Met (Err InitFault) status before after ends met = one-met Met (fault_output []) status _ _ _ refl ends met
 init-counts Met (Err (InitMade count)) status before after ends met =
     none-met Met status (other-status (init_output (Err (InitMade count))) status _ _ _ (λ is. cc (is)) ends) met
 init-counts Met (Err InitNoMemory) status before after ends met =

@@ -21,7 +21,7 @@ use Rattle.run_endings.specs.declared.status.Status.TheVariants.{NoMemory}
 use Rattle.run_endings.specs.Statuses.{FaultsBy}
 use Rattle.run_endings.specs.Endings.{status_of}
 use Rattle.node_runs.specs.Disks.{node_opened, KeepsNode}
-use Rattle.node_runs.specs.Faults.{Counts, CountsEither}
+use Rattle.run_endings.specs.Faults.{Counts, CountsEither}
 use Rattle.node_runs.specs.Sessions.{Outside, RunsUnfailed}
 use Rattle.node_runs.specs.Runs.{node_rules, node_found}
 use Rattle.node_runs.proofs.DiskLaws.{disks_of, node-keeps, node-starved}

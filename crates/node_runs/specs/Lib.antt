@@ -4,6 +4,5 @@ pub mod Sessions
 pub mod Runs
 pub mod Operators
 pub mod Inits
-pub mod Faults
 pub mod Prompt
 pub mod Complete

@@ -8,7 +8,7 @@ ghost use Rattle.operator_rules.specs.Records.{identity_text as operator_text};
 ghost use Rattle.run_endings.specs.Statuses.{is_write_fault};
 ghost use Rattle.run_endings.specs.Outputs.{EndsAs};
 ghost use Rattle.run_endings.specs.Texts.{already_made_text};
-ghost use Rattle.node_runs.specs.Faults.{Counts, CountsEither};
+ghost use Rattle.run_endings.specs.Faults.{Counts, CountsEither};
 ghost use Rattle.node_runs.specs.Endings.{init_output, refused_init};
 ghost use Rattle.node_runs.specs.Inits.{InitsNotes, InitsPair, RefusesNotes, RefusesPair};
 

@@ -5,7 +5,7 @@ ghost use Rattle.gate_journal.specs.Journal.{IsSettled};
 ghost use Rattle.operator_rules.specs.Records.{who_is};
 ghost use Rattle.streamed_lines.specs.Outside.{ReadsToFault};
 ghost use Rattle.run_endings.specs.Statuses.{is_write_fault, ReadsBy};
-ghost use Rattle.node_runs.specs.Faults.{CountsEither};
+ghost use Rattle.run_endings.specs.Faults.{CountsEither};
 ghost use Rattle.node_runs.specs.Operators.{RunsBehind, RunsOperator};
 ghost use Rattle.node_runs.specs.Prompt.{OperatorPromptly, PromptlyBehind};
 

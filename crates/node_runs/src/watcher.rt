@@ -2,7 +2,7 @@ ghost use Rattle.std.specs.Prelude.{◌≡◌, true, false, Option, List, ℕ};
 ghost use Rattle.plasma_base.specs.Causes.{faults_after};
 ghost use Rattle.streamed_lines.specs.Outside.{ReadsToFault};
 ghost use Rattle.run_endings.specs.Statuses.{is_write_fault, ReadsBy};
-ghost use Rattle.node_runs.specs.Faults.{Counts};
+ghost use Rattle.run_endings.specs.Faults.{Counts};
 ghost use Rattle.node_runs.specs.Runs.{RunsWatcher};
 ghost use Rattle.node_runs.specs.Prompt.{WatcherPromptly};
 

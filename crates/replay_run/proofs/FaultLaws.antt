@@ -9,9 +9,10 @@ use Rattle.run_endings.specs.declared.status.Status.{Status}
 use Rattle.run_endings.specs.declared.status.Status.TheVariants.{DeviceFault}
 use Rattle.run_endings.specs.Statuses.{FaultsBy}
 use Rattle.run_endings.specs.Outputs.{Output, EndsAs}
-use Rattle.node_runs.specs.Faults.{Counts, CountsEither}
+use Rattle.run_endings.specs.Faults.{Counts, CountsEither}
 use Rattle.node_runs.specs.Sessions.{Outside}
-use Rattle.node_runs.proofs.FaultLaws.{other-status, none-met, by-more, notes-met, watcher-counts, operator-counts, wallet-counts, inits-count, inits-count-either}
+use Rattle.run_endings.proofs.FaultLaws.{other-status, none-met, by-more}
+use Rattle.node_runs.proofs.FaultLaws.{notes-met, watcher-counts, operator-counts, wallet-counts, inits-count, inits-count-either}
 use Rattle.hss_runs.specs.Verdict.{is_hss_verified, verdict_output}
 use Rattle.hss_runs.proofs.FaultLaws.{signer-counts}
 use Rattle.log_runs.specs.Following.{Following}

@@ -5,7 +5,7 @@ ghost use Rattle.streamed_lines.specs.Outside.{ReadsToFault};
 ghost use Rattle.run_words.specs.Forms.{form_of, IsSound};
 ghost use Rattle.run_endings.specs.Statuses.{is_write_fault, ReadsBy, FaultsBy};
 ghost use Rattle.run_endings.specs.Outputs.{EndsAs};
-ghost use Rattle.node_runs.specs.Faults.{CountsEither};
+ghost use Rattle.run_endings.specs.Faults.{CountsEither};
 ghost use Rattle.replay_run.specs.Forms.{is_verified, reads_input, uses_notes, uses_leaves};
 ghost use Rattle.replay_run.specs.Output.{make_output, verify_output, replay_output, brief_output};
 ghost use Rattle.replay_run.specs.Bounds.{FewBy};

@@ -1,3 +1,4 @@
 pub mod EndingLaws
+pub mod FaultLaws
 pub mod PromptLaws
 pub mod PutLaws

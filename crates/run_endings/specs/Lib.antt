@@ -1,4 +1,5 @@
-pub mod Statuses
-pub mod Outputs
-pub mod Texts
 pub mod Endings
+pub mod Faults
+pub mod Outputs
+pub mod Statuses
+pub mod Texts

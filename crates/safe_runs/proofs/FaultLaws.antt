@@ -17,7 +17,8 @@ use Rattle.run_endings.specs.Statuses.{FaultsBy, ReadsBy}
 use Rattle.run_endings.specs.Outputs.{Output, EndsAs}
 use Rattle.safe_runs.specs.Answers.{is_case_good}
 use Rattle.safe_runs.specs.Sessions.{LookState}
-use Rattle.safe_runs.specs.Faults.{Counts, CountsEither}
+use Rattle.run_endings.specs.Faults.{Counts, CountsEither}
+use Rattle.run_endings.proofs.FaultLaws.{other-status, none-met as none-status, one-met}
 use Rattle.safe_runs.specs.Runs.{Node, IsRefused, ended_output, refused_output, whole_output}
 
 -- ---- of the source
@@ -82,55 +83,12 @@ ended-other node run (Ended n cause) is = absurd (cc is)
 
 -- ---- of the disks
 
--- a run whose output has another status than DeviceFault ends with another
-other-status : (output : Output) (status : Status) (before after : Option (List ℕ)) (failed : Type 0)
-    → (output.status ≡ DeviceFault → ⊥) → EndsAs output status before after failed → status ≡ DeviceFault → ⊥
-other-status output DeviceFault before after failed never ends is = never ends.0
-other-status output Done before after failed never ends is = absurd (cc is)
-other-status output Refused before after failed never ends is = absurd (cc is)
-other-status output Usage before after failed never ends is = absurd (cc is)
-other-status output BadLine before after failed never ends is = absurd (cc is)
-other-status output ReadFault before after failed never ends is = absurd (cc is)
-other-status output WriteFault before after failed never ends is = absurd (cc is)
-other-status output NoMemory before after failed never ends is = absurd (cc is)
-other-status output TooLong before after failed never ends is = absurd (cc is)
-other-status output NotJournal before after failed never ends is = absurd (cc is)
-other-status output AlreadyMade before after failed never ends is = absurd (cc is)
-
-none-by : (Met : Bool → Type 0) (status : Status) → (status ≡ DeviceFault → ⊥) → Met false → FaultsBy status Met
-none-by Met DeviceFault never none = absurd (never refl)
-none-by Met WriteFault never none = (false, none)
-none-by Met NoMemory never none = (false, none)
-none-by Met Done never none = none
-none-by Met Refused never none = none
-none-by Met Usage never none = none
-none-by Met BadLine never none = none
-none-by Met ReadFault never none = none
-none-by Met TooLong never none = none
-none-by Met NotJournal never none = none
-none-by Met AlreadyMade never none = none
-
 -- no fault was met
 pub none-met : (Met : Bool → Type 0) (output : Output) (status : Status) (before after : Option (List ℕ))
     (failed : Type 0) → (output.status ≡ DeviceFault → ⊥) → EndsAs output status before after failed → Met false
     → FaultsBy status Met
 none-met Met output status before after failed never ends none =
-    none-by Met status (other-status output status before after failed never ends) none
-
--- one was, and the run says so, or its text was stopped
-one-met : (Met : Bool → Type 0) (output : Output) (status : Status) (before after : Option (List ℕ)) (failed : Type 0)
-    → output.status ≡ DeviceFault → EndsAs output status before after failed → Met true → FaultsBy status Met
-one-met Met output DeviceFault before after failed is ends one = one
-one-met Met output WriteFault before after failed is ends one = (true, one)
-one-met Met output NoMemory before after failed is ends one = (true, one)
-one-met Met output Done before after failed is ends one = absurd (cc (is, ends.0))
-one-met Met output Refused before after failed is ends one = absurd (cc (is, ends.0))
-one-met Met output Usage before after failed is ends one = absurd (cc (is, ends.0))
-one-met Met output BadLine before after failed is ends one = absurd (cc (is, ends.0))
-one-met Met output ReadFault before after failed is ends one = absurd (cc (is, ends.0.0))
-one-met Met output TooLong before after failed is ends one = absurd (cc (is, ends.0))
-one-met Met output NotJournal before after failed is ends one = absurd (cc (is, ends.0))
-one-met Met output AlreadyMade before after failed is ends one = absurd (cc (is, ends.0))
+    none-status Met status (other-status output status before after failed never ends) none
 
 -- ---- of a run whose disks weren't read, or spell no node
 

@@ -3,5 +3,4 @@ pub mod Answers
 pub mod Sessions
 pub mod Runs
 pub mod Complete
-pub mod Faults
 pub mod Inside

@@ -5,7 +5,7 @@ ghost use Rattle.streamed_lines.specs.Outside.{ReadsToFault};
 ghost use Rattle.gate_journal.specs.Journal.{is_fault};
 ghost use Rattle.run_endings.specs.Statuses.{is_write_fault, FaultsBy, ReadsBy};
 ghost use Rattle.safe_runs.specs.Complete.{CompletesBy};
-ghost use Rattle.safe_runs.specs.Faults.{Counts, CountsEither};
+ghost use Rattle.run_endings.specs.Faults.{Counts, CountsEither};
 ghost use Rattle.safe_runs.specs.Runs.{Node, HoldsOf, IsRefused, IsUnread, OnlyLooks, RunsSafe, RunsWallet, RunsWatcher, role_of, wallet_in, watcher_in};
 
 use super::guards::Guards;

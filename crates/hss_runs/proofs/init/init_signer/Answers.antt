@@ -2,7 +2,7 @@ use Rattle.std.proofs.Common.{Result, sym, ◌∙◌}
 use Rattle.std.proofs.lemmas.Bool.{false≢true}
 use Rattle.gate_journal.specs.declared.refusal.InitRefusal.{InitRefusal}
 use Rattle.node_journal.specs.Begin.{BeginsPair}
-use Rattle.node_runs.specs.Faults.{CountsEither}
+use Rattle.run_endings.specs.Faults.{CountsEither}
 use Rattle.node_runs.proofs.FaultLaws.{pair-met}
 use Rattle.node_runs.proofs.QuietLaws.{init-quiet, init-refused}
 use Rattle.hss_runs.specs.Identity.{identity_text}

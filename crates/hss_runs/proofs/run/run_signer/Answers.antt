@@ -1,6 +1,6 @@
 use Rattle.std.proofs.Common.{inl, inr, sym, ap, ◌∙◌}
 use Rattle.std.proofs.lemmas.Bool.{false≢true}
-use Rattle.node_runs.specs.Faults.{CountsEither}
+use Rattle.run_endings.specs.Faults.{CountsEither}
 use Rattle.node_runs.proofs.QuietLaws.{refused-quiet}
 use Rattle.hss_runs.proofs.FaultLaws.{signer-counts, refused-met}
 use Rattle.hss_runs.proofs.CompleteLaws.{signing-complete}

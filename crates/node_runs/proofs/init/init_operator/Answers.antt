@@ -3,7 +3,7 @@ use Rattle.std.proofs.lemmas.Bool.{false≢true}
 use Rattle.gate_journal.specs.declared.refusal.InitRefusal.{InitRefusal}
 use Rattle.node_journal.specs.Begin.{Inits, init_steps}
 use Rattle.operator_rules.specs.Records.{identity_text}
-use Rattle.node_runs.specs.Faults.{Counts}
+use Rattle.run_endings.specs.Faults.{Counts}
 use Rattle.node_runs.proofs.QuietLaws.{init-quiet, init-refused}
 use Rattle.node_runs.proofs.init.init_operator.Goals as goal
 

@@ -5,7 +5,7 @@ use Rattle.node_journal.specs.Parts.{alone}
 use Rattle.node_roles.specs.Roles.{operator_commands}
 use Rattle.node_runs.specs.Operators.{RunsOperator}
 use Rattle.node_runs.specs.Prompt.{OperatorPromptly}
-use Rattle.node_runs.specs.Faults.{Counts}
+use Rattle.run_endings.specs.Faults.{Counts}
 use Rattle.node_runs.proofs.DiskLaws.{opened-there, handed-back}
 use Rattle.node_runs.proofs.OperatorLaws.{runs-behind, promptly-behind}
 use Rattle.node_runs.proofs.QuietLaws.{refused-quiet, session-quiet, alone-quiet}

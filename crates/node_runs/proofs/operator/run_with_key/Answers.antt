@@ -15,7 +15,7 @@ use Rattle.node_journal.specs.Parts.{both}
 use Rattle.node_roles.specs.Nodes.{outcome_at, StoppedAt}
 use Rattle.node_roles.specs.Roles.{desk_commands}
 use Rattle.streamed_lines.proofs.OutsideLaws.{gave-none}
-use Rattle.node_runs.specs.Faults.{Counts}
+use Rattle.run_endings.specs.Faults.{Counts}
 use Rattle.node_runs.proofs.DiskLaws.{opened-there, handed-back}
 use Rattle.node_runs.proofs.QuietLaws.{refused-quiet, session-quiet, both-quiet}
 use Rattle.node_runs.proofs.operator.run_with_key.Goals as goal

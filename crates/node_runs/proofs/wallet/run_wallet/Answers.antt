@@ -6,7 +6,7 @@ use Rattle.node_roles.specs.Roles.{wallet_parts, wallet_commands}
 use Rattle.streamed_lines.proofs.OutsideLaws.{gave-none}
 use Rattle.node_runs.specs.Runs.{RunsWallet}
 use Rattle.node_runs.specs.Prompt.{WalletPromptly}
-use Rattle.node_runs.specs.Faults.{CountsEither}
+use Rattle.run_endings.specs.Faults.{CountsEither}
 use Rattle.node_runs.proofs.DiskLaws.{opened-there, handed-back}
 use Rattle.node_runs.proofs.FaultLaws.{refused-met}
 use Rattle.node_runs.proofs.QuietLaws.{refused-quiet, session-quiet, both-quiet}

@@ -6,7 +6,7 @@ use Rattle.node_roles.specs.Roles.{watcher_commands}
 use Rattle.streamed_lines.proofs.OutsideLaws.{gave-none}
 use Rattle.node_runs.specs.Runs.{RunsWatcher}
 use Rattle.node_runs.specs.Prompt.{WatcherPromptly}
-use Rattle.node_runs.specs.Faults.{Counts}
+use Rattle.run_endings.specs.Faults.{Counts}
 use Rattle.node_runs.proofs.DiskLaws.{opened-there, handed-back}
 use Rattle.node_runs.proofs.QuietLaws.{refused-quiet, session-quiet, alone-quiet}
 use Rattle.node_runs.proofs.watcher.run_watcher.Goals as goal

@@ -1,6 +1,6 @@
 use Rattle.std.proofs.Common.{false, inl, inr, refl, subst}
 use Rattle.std.proofs.lemmas.Result.{IfOk-weaker, IfErr-weaker, err_from_is_err_and}
-use Rattle.safe_runs.specs.Faults.{CountsEither}
+use Rattle.run_endings.specs.Faults.{CountsEither}
 use Rattle.safe_runs.specs.Runs.{wallet_in, wallet_node}
 use Rattle.safe_runs.proofs.FaultLaws.{first-only, result-no-fault, second-only}
 use Rattle.safe_runs.proofs.top.read_wallet.Goals as goal

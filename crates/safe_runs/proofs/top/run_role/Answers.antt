@@ -1,6 +1,6 @@
 use Rattle.std.proofs.Common.{refl}
 use Rattle.streamed_lines.specs.Outside.{ReadsToFault}
-use Rattle.safe_runs.specs.Faults.{CountsEither}
+use Rattle.run_endings.specs.Faults.{CountsEither}
 use Rattle.safe_runs.specs.Runs.{usage_output}
 use Rattle.safe_runs.proofs.DiskLooks.{looks-none}
 use Rattle.safe_runs.proofs.FaultLaws.{by-first, none-met, reads-by, unread}

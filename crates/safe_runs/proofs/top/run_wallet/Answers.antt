@@ -1,7 +1,7 @@
 use Rattle.std.proofs.Common.{inl, inr}
 use Rattle.streamed_lines.specs.Outside.{ReadsToFault}
 use Rattle.streamed_lines.proofs.OutsideLaws.{gave-none}
-use Rattle.safe_runs.specs.Faults.{CountsEither}
+use Rattle.run_endings.specs.Faults.{CountsEither}
 use Rattle.safe_runs.specs.Runs.{lines_of, look_output}
 use Rattle.safe_runs.proofs.FaultLaws.{ended-other, none-met, refused-met, refused-read, unread}
 use Rattle.safe_runs.proofs.top.run_wallet.Goals as goal
