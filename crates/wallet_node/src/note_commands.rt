@@ -1,12 +1,12 @@
-ghost use Rattle.std.specs.Prelude.{◌≡◌, ◌≤◌, false, true, is_some, length, None, Some, Ok, IfSome};
+ghost use Rattle.std.specs.Prelude.{◌≡◌, ◌⊎◌, ◌≤◌, false, true, is_some, is_ok, length, None, Some, Ok, Err, IfSome};
 ghost use Rattle.std.specs.Option.{option_map};
 ghost use Rattle.gate_journal.specs.Image.{most};
 ghost use Rattle.node_journal.specs.Effect.{first_cause};
 ghost use Rattle.node_journal.specs.Notes.{stopped_by};
 ghost use Rattle.plasma_tx.specs.Views.{coin_at};
-ghost use Rattle.coin_history.specs.Bundles.{IsBundle};
+ghost use Rattle.coin_history.specs.Bundles.{HasFirstItem, IsBundle};
 ghost use Rattle.node_rules.specs.KeptCoins.{IsShown};
-ghost use Rattle.node_rules.specs.Kept.{kept_of};
+ghost use Rattle.node_rules.specs.Kept.{kept_of, links_handed};
 ghost use Rattle.node_rules.specs.WalletRecords.{Note, note_text, note_in, leaves_in};
 ghost use Rattle.node_rules.specs.Wallet.{who, noted, accept_causes, is_known, accept_taken, accept_by, accept_effect, exit_start, leave_effect};
 ghost use Rattle.wallet_node.specs.State.{stop_in, wallet_stop, DidNote};
@@ -138,7 +138,8 @@ impl<D: Disk, H: Hash32 + Copy> WalletNode<D, H> {
     ///
     /// In this order: `Closed` after a device fault; `History` where the bytes spell no bundle, or it is no
     /// history of its coin; `NotMine`; `Withdrawn`; `ExitStands`; `NoteTooLong`; `DeviceFault`, which closes
-    /// the wallet. `NoMemory` may come in place of each but the first; nothing changed then.
+    /// the wallet. `NoMemory` may come in place of each but the first, where the bytes have a first item or are a
+    /// history of its coin; nothing changed then.
     #[tactic(auto, unfolding(node_rules::specs::Wallet::accept_effect))]
     pub fn accept(&mut self, log: &RootLog, bundle: &[u8]) -> Result<Accepted, WalletRefusal>
         ensures answer { wallet_stop result ≡ None → result ≡
@@ -146,6 +147,9 @@ impl<D: Disk, H: Hash32 + Copy> WalletNode<D, H> {
         ensures did { DidNote D.told D.plan D.faults
             (accept_effect (H.digest_of self.old.hash) self.old.records log.now.log bundle.now).note
             self.old (wallet_stop result) self.new }
+        ensures memory { result ≡ Err WalletRefusal.NoMemory → HasFirstItem bundle.now
+            ⊎ (is_ok (links_handed (H.digest_of self.old.hash) (who self.old.records).tag log.now.log bundle.now)
+            ≡ true) }
     {
         if self.is_closed() {
             return Err(WalletRefusal::Closed);

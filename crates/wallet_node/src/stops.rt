@@ -19,7 +19,8 @@ pub fn stop_refusal(stop: Stop) -> WalletRefusal
 
 // Why a history is refused, as a refusal.
 pub fn history_refusal(why: HistoryRefusal) -> WalletRefusal
-    ensures { result ≡ history_refusal why }
+    ensures is { result ≡ history_refusal why }
+    ensures memory { result ≡ WalletRefusal.NoMemory → why ≡ HistoryRefusal.NoMemory }
 {
     match why {
         HistoryRefusal::NoMemory => WalletRefusal::NoMemory,

@@ -3,7 +3,7 @@ ghost use Rattle.std.specs.List.{flat_map};
 ghost use Rattle.plasma_tx.specs.Views.{coin_at};
 ghost use Rattle.watch_duty.specs.Duty.{tip_shown};
 ghost use Rattle.node_rules.specs.Wallet.{start_of, exit_start, due_at, noted, watch_answer};
-ghost use Rattle.wallet_node.specs.State.{wallet_stop};
+ghost use Rattle.wallet_node.specs.State.{wallet_stop, HasToLook};
 ghost use Rattle.wallet_node.specs.Inside.{links_behind, spends_at, due_of_coin};
 
 use super::node::WalletNode;
@@ -135,16 +135,22 @@ impl<D: Disk, H: Hash32 + Copy> WalletNode<D, H> {
 
     /// What is due for the coins that the wallet holds or leaves with, by rising coin, for its account. It
     /// reads no record anew, and makes no device call, also after a device fault. It asks the coins of which an
-    /// exit stands, or those that the wallet may have, whichever are fewer.
+    /// exit stands, or those that the wallet may have, whichever are fewer. Where there are none of the former or
+    /// none of the latter it takes no memory.
     pub fn watch(&self, log: &RootLog) -> Result<Vec<RootCall>, NoMemory>
-        ensures { IfOk result (λ calls. calls.items
+        ensures calls { IfOk result (λ calls. calls.items
             ≡ watch_answer (H.digest_of self.now.hash) self.now.records log.now.log) }
+        ensures memory { OnErr result (HasToLook (H.digest_of self.now.hash) self.now.records log.now.log) }
     {
         let noted = self.noted();
         let exiting = log.exiting();
         let accepted = noted.accepted.as_slice().len();
         let deposited = log.deposits(noted.me.account).len();
-        if accepted.saturating_add(deposited) < exiting.len() {
+        let count = accepted.saturating_add(deposited);
+        if count == 0 || exiting.is_empty() {
+            return Ok(Vec::new(self.alloc));
+        }
+        if count < exiting.len() {
             let own = own_coins(self.alloc, noted, log)?;
             return self.due_for(log, &own);
         }

@@ -10,9 +10,9 @@ returns-clause-gives g c = record {
   reply =
       c.offers.ensures.reply
       ∙ ap Reply.Offers
-      (c.in_ok-kinds.ensures ∙ ap (filter_map kind_of) (c.deref.ensures.value ∙ c.in_ok-calls.ensures));
+      (c.in_ok-kinds.ensures ∙ ap (filter_map kind_of) (c.deref.ensures.value ∙ c.in_ok-calls.ensures.calls));
   made = c.offers.ensures.made;
-  offers = c.offers.ensures.offers ∙ c.in_ok-calls.ensures;
+  offers = c.offers.ensures.offers ∙ c.in_ok-calls.ensures.calls;
 }
 
 pub returns-clause-did : goal.returns-clause-did
