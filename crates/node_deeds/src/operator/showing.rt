@@ -47,18 +47,23 @@ fn bundled(alloc: Global, bundle: &Bundle) -> Result<Given, Stop>
     ))
 }
 
-/// Makes a bundle, as `Operator::bundle`, and its bytes.
+/// Makes a bundle, as `Operator::bundle`, and its bytes. Of the present tip it keeps where the walk ended, so that
+/// the next one goes on there.
 pub fn bundle<D: Disk, H: Hash32 + Copy>(
     alloc: Global,
-    node: &Operator<D, H>,
+    node: &mut Operator<D, H>,
     log: &RootLog,
     coin: u64,
     tip: u64,
 ) -> Result<Given, Stop>
     ensures gives { IfOk result (λ given. IsGiven (answered prove_cause on_bundled (bundle_answer
-        (H.digest_of node.now.hash) node.now.notes.records log.now.log coin tip)) given) }
+        (H.digest_of node.old.hash) node.old.notes.records log.now.log coin tip)) given) }
     ensures stop { IfErr result (λ stop. stop ≡ Stop.NoMemory) }
+    ensures same { node.new ≡ node.old }
 {
+    if tip == 0 {
+        node.walk_on(log, coin);
+    }
     match node.bundle(log, coin, tip) {
         Ok(bundle) => bundled(alloc, &bundle),
         Err(why) => refusal(alloc, &why),
