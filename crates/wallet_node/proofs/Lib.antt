@@ -1,5 +1,6 @@
 pub mod InMemory
 pub mod Spends
+pub mod StartLaws
 pub mod Watched
 pub mod Kept
 pub mod Parts
