@@ -10,5 +10,6 @@ pub mod Viewed
 pub mod Advised
 pub mod Found
 pub mod Telling
+pub mod StartLaws
 pub mod Starting
 pub mod Accepting

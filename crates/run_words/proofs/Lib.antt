@@ -3,3 +3,4 @@ pub mod FormLaws
 pub mod Matching
 pub mod Found
 pub mod SoundLaws
+pub mod Verifying
