@@ -26,7 +26,7 @@ pub record HasCome (dig : List ℕ → List ℕ) (IsGood : Line → Type 0) (lin
   pub world_is : run.world ≡ Some world
 
 module _ (dig : List ℕ → List ℕ) (IsGood : Line → Type 0) (P : List TraceEntry → World → Type 0)
-    (first : (tag operator most : ℕ)
+    (first : (tag operator most : ℕ) → IsGood (Line.Chain tag operator most)
     → P (entry_of (Line.Chain tag operator most) (begun tag operator most) ∷ []) (begun tag operator most).world)
     (next : (lines : List Line) (run : Run) (world : World) (line : Line) (act : Act)
     → HasCome dig IsGood lines run world → IsGood line → act_of world line ≡ Some act → IsActIn world act
@@ -40,12 +40,13 @@ module _ (dig : List ℕ → List ℕ) (IsGood : Line → Type 0) (P : List Trac
   abbrev After : List TraceEntry → Line → LineEffect → Type 0
   After entries line effect = P (entry_of line effect ∷ entries) effect.world
 
-  begins : (line : Line) (effect : LineEffect) → step dig None line ≡ Some effect → After [] line effect
+  begins : (line : Line) (effect : LineEffect) → IsGood line → step dig None line ≡ Some effect
+      → After [] line effect
   unfolding step effect_of keeps_rules
-  begins (Line.Chain tag operator most) effect is =
+  begins (Line.Chain tag operator most) effect good is =
       subst (After [] (Line.Chain tag operator most)) (some_same (begun tag operator most) effect is)
-      (first tag operator most)
-  begins line effect is = absurd (cc is)
+      (first tag operator most good)
+  begins line effect good is = absurd (cc is)
 
   steps : (lines : List Line) (run : Run) (line : Line) (effect : LineEffect) → All IsGood lines
       → run_of dig lines ≡ Some run → IsGood line → Holds run.entries run.world → step dig run.world line ≡ Some effect
@@ -54,7 +55,7 @@ module _ (dig : List ℕ → List ℕ) (IsGood : Line → Type 0) (P : List Trac
     where
       by : (o : Option World) → run.world ≡ o → Holds run.entries o → step dig o line ≡ Some effect
           → After run.entries line effect
-      by None none empty is = subst (λ es. After es line effect) (sym empty) (begins line effect is)
+      by None none empty is = subst (λ es. After es line effect) (sym empty) (begins line effect good is)
       by (Some world) some holds is =
           let act = option_map_some (line_effect dig world) (act_of world line) effect
           (sym (steps_are_of_acts dig world line) ∙ is) in
@@ -75,7 +76,19 @@ module _ (dig : List ℕ → List ℕ) (IsGood : Line → Type 0) (P : List Trac
       (each lines earlier.0 rest earlier.1) made.1)
 
   -- it holds of every run that has begun
-  pub runs_keep : (lines : List Line) (run : Run) (world : World) → HasCome dig IsGood lines run world
+  pub good_runs_keep : (lines : List Line) (run : Run) (world : World) → HasCome dig IsGood lines run world
       → P run.entries world
-  runs_keep lines run world come =
+  good_runs_keep lines run world come =
       subst (Holds run.entries) come.world_is (each lines run come.lines_are come.run_is)
+
+-- where the first line needn't be good for it
+pub runs_keep : (dig : List ℕ → List ℕ) (IsGood : Line → Type 0) (P : List TraceEntry → World → Type 0)
+    → ((tag operator most : ℕ)
+    → P (entry_of (Line.Chain tag operator most) (begun tag operator most) ∷ []) (begun tag operator most).world)
+    → ((lines : List Line) (run : Run) (world : World) (line : Line) (act : Act)
+    → HasCome dig IsGood lines run world → IsGood line → act_of world line ≡ Some act → IsActIn world act
+    → P run.entries world
+    → P (entry_of line (line_effect dig world act) ∷ run.entries) (line_effect dig world act).world)
+    → (lines : List Line) (run : Run) (world : World) → HasCome dig IsGood lines run world → P run.entries world
+runs_keep dig IsGood P first next =
+    good_runs_keep dig IsGood P (λ tag operator most good. first tag operator most) next

@@ -1,7 +1,8 @@
 -- What the act of a line shows of the names, places and tokens in it.
-use Rattle.std.proofs.Common.{◌≡◌, ℕ, ◌&&◌, Bool, true, false, List, Option, Some, None, is_some, refl, sym, ap, ◌∙◌, subst}
+use Rattle.std.proofs.Common.{◌≡◌, ℕ, ◌&&◌, Bool, true, false, List, Option, Some, None, is_some, inl, inr, refl, sym, ap, ◌∙◌, subst}
 use Rattle.std.specs.Prelude.{slice_get, option_map, option_and_then, nat_lt}
 use Rattle.std.specs.Option.{option_or}
+use Rattle.std.specs.Str.{bytes_eq}
 use Rattle.std.proofs.lemmas.Bool.{and_parts}
 use Rattle.std.proofs.lemmas.List.Folds.{find_at}
 use Rattle.line_forms.specs.declared.tokens.HexOrName.{HexOrName}
@@ -18,7 +19,8 @@ use Rattle.node_replies.specs.declared.order.NodeOrder.{NodeOrder}
 use Rattle.world_rules.specs.World.{Role, Wallet, Watcher, Operator, Node, Rogue, World, is_named, is_wallet_role, number_of, rogue_named, owner_of_node, owner_of_rogue, owner_named, new_owner_of}
 use Rattle.world_rules.specs.Declarations.{plays, is_declared, is_sendable, has_declared_names}
 use Rattle.world_rules.specs.Orders.{wallet_order, order_of}
-use Rattle.world_rules.specs.Steps.{cut, signed_body}
+use Rattle.world_rules.specs.Steps.{cut, outcome_of, signed_body}
+use Rattle.world_rules.specs.Laws.{IsCommandIn}
 use Rattle.world_rules.proofs.Existence.{position-is, position-parts}
 use Rattle.world_acts.specs.Acts.{Place, Cut, Act, Signs, only_where, place_at, place_named, signer_named, order_act, command_act, act_of}
 use Rattle.world_acts.specs.Evidence.{IsThere}
@@ -134,6 +136,20 @@ module _ (world : World) where
         order_is = order.1;
         act_is = order.2;
       }
+
+  -- so does that of a line with the command, cut or not
+  pub understood-in : (line : Line) (command : Command) (act : Act) → act_of world line ≡ Some act
+      → IsCommandIn line command → (cut : Option Cut) × IsUnderstood cut command act
+  unfolding act_of
+  understood-in line command act is (inl plain) =
+      (None, understood None command act (ap (act_of world) (sym plain) ∙ is))
+  understood-in line command act is (inr in_cut) =
+      let cut : Cut = record { calls = in_cut.1; outcome = outcome_of in_cut.2 } in (
+        Some cut,
+        understood (Some cut) command act
+            (where-some (bytes_eq (node_of command) in_cut.0) (command_act world (Some cut) command) act
+            (ap (act_of world) (sym in_cut.3) ∙ is)).1,
+      )
 
   -- what the act of a line that signs shows
   pub record IsSigned (rogue : List ℕ) (leaf coin parent : ℕ) (to : HexOrName) (last : Option ℕ) (act : Act)

@@ -117,3 +117,20 @@ pub each_node_keeps : (P Q : ℕ → Option Node → Type 0) (dig : List ℕ →
 each_node_keeps P Q dig world act known each keeps =
     subst (EachNode Q) (sym (nodes-done dig world act))
     (change-keeps P Q world.nodes each (change_of dig world act) (is-old dig world act known) keeps)
+
+-- ---- of the nodes that are there
+
+-- what holds of each node that is there
+abbrev pub IfThere : (ℕ → Node → Type 0) → ℕ → Option Node → Type 0
+IfThere Q n None = Unit {0}
+IfThere Q n (Some node) = Q n node
+
+pub node-there : (Q : ℕ → Node → Type 0) (nodes : List Node) → EachNode (IfThere Q) nodes → (n : ℕ) (node : Node)
+    → slice_get nodes n ≡ Some node → Q n node
+node-there Q nodes each n node is = subst (IfThere Q n) is (each n)
+
+pub others-there : (Q R : ℕ → Node → Type 0) (nodes : List Node) (change : Change)
+    → ((m : ℕ) → IsOther nodes change m → (node : Node) → Q m node → R m node)
+    → (m : ℕ) → IsOther nodes change m → (found : Option Node) → IfThere Q m found → IfThere R m found
+others-there Q R nodes change others m other None holds = tt
+others-there Q R nodes change others m other (Some node) holds = others m other node holds

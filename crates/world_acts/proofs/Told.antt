@@ -1,5 +1,5 @@
--- The event of an act is of the node that it changes, so it says nothing of the others.
-use Rattle.std.proofs.Common.{◌≡◌, ◌≢◌, ℕ, ◌==◌, Bool, true, false, if◌then◌else◌, List, [], length, Option, Some, None, refl, sym, ap, ◌∙◌}
+-- The event of an act is of the node that it changes, so it says nothing of the others; and what it says of that one.
+use Rattle.std.proofs.Common.{◌≡◌, ◌≢◌, ℕ, ◌==◌, Bool, true, false, if◌then◌else◌, List, [], ◌∷◌, length, Option, Some, None, refl, sym, ap, ◌∙◌}
 use Rattle.std.specs.Prelude.{slice_get}
 use Rattle.std.specs.Option.{option_map_or}
 use Rattle.std.proofs.lemmas.Bool.{ne_eqb}
@@ -7,14 +7,16 @@ use Rattle.plasma_tx.specs.declared.call.RootCall.{RootCall}
 use Rattle.plasma_tx.specs.Shown.{tests_by, rules_of}
 use Rattle.plasma_tx.specs.Table.{answer_to, is_accepted}
 use Rattle.plasma_tx.proofs.Names.{some_same}
+use Rattle.schedule_text.specs.declared.command.Command.{Command}
 use Rattle.node_replies.specs.declared.order.NodeOrder.{NodeOrder}
 use Rattle.world_rules.specs.Events.{Event, Declares, Joins, Bounces, Accepts, Guards, Releases, Binds, TakesBack, Watches, Leaves, Seals, node_in, is_command_of}
 use Rattle.world_rules.specs.World.{Node, World, is_operator_role}
-use Rattle.world_rules.specs.Deeds.{Deed}
+use Rattle.world_rules.specs.Deeds.{Gives, Deed}
 use Rattle.world_rules.specs.Steps.{without_offers}
 use Rattle.world_rules.proofs.OrderEnds.{OrderEnds, Sealing, order-ends}
-use Rattle.world_rules.proofs.OwnEvents.{IsBy}
-use Rattle.world_rules.proofs.Said.{is_said_of}
+use Rattle.world_rules.proofs.OwnEvents.{IsBy, IsOfNode, Owns}
+use Rattle.world_rules.proofs.NodeEvents.{command-told, cut-of, other-of}
+use Rattle.world_rules.proofs.Said.{Said, said, told, is_said_of}
 use Rattle.world_acts.specs.Acts.{Place, NewWallet, NewWatcher, NewRogue, Act, Rests, Signs, Adds, Enters, Orders, Crashes, End, Whole, Crashed, Kept, Lost, end_of, node_after, event_after, deed_at, done}
 use Rattle.world_acts.specs.Evidence.{has_order, MayOrder, IsActIn}
 use Rattle.world_acts.proofs.Nodes.{Change, NoNode, OneNode, NewNode, change_of, IsOther}
@@ -120,3 +122,38 @@ module _ (dig : List ℕ → List ℕ) (world : World) (first : OperatorIsFirst 
       said-apart _ place.number m
       (by-end place order known (end_of cut place.node order (deed_at dig world place order))).node other
   said-others (Crashes place) known m other = refl
+
+-- what an order tells of its node, however it ends: its event, or nothing where its record is lost
+abbrev pub told_after : Deed → End → Said → Said
+told_after given Lost s = s
+told_after given end s = told given.gives.event s
+
+module _ (dig : List ℕ → List ℕ) (world : World) (first : OperatorIsFirst world) (events : List Event) where
+  pub said-own : (place : Place) (order : NodeOrder) → MayOrder world place order → (end : End)
+      → let deed = deed_at dig world place order in
+      said (event_after place.number deed end ∷ events) place.number ≡ told_after deed end (said events place.number)
+  said-own place order may end = by end
+    where
+      n : ℕ
+      n = place.number
+
+      gives : Gives
+      gives = (deed_at dig world place order).gives
+
+      own : IsOfNode n (Command.Open []) gives
+      own = Owns (by-order dig world first place order may)
+
+      by : (end : End) → said (event_after n (deed_at dig world place order) end ∷ events) n
+          ≡ told_after (deed_at dig world place order) end (said events n)
+      by Whole = (command-told n events (Command.Open []) gives own).is
+      by Crashed = (cut-of n events (Command.Open []) gives own).is
+      by Kept = (cut-of n events (Command.Open []) gives own).is
+      by Lost = (other-of n events).is
+
+-- an act leaves the rules of the chain
+pub rules-stay : (dig : List ℕ → List ℕ) (world : World) (act : Act)
+    → rules_of (done dig world act).world.chain ≡ rules_of world.chain
+unfolding done
+rules-stay dig world (Adds name (NewWallet who)) = refl
+rules-stay dig world (Adds name (NewWatcher account)) = refl
+rules-stay dig world act = refl
