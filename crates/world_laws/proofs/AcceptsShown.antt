@@ -7,7 +7,6 @@ use Rattle.plasma_tx.specs.declared.links.Links.{Links}
 use Rattle.plasma_tx.specs.declared.call.RootCall.{RootCall}
 use Rattle.plasma_tx.specs.Views.{blocks}
 use Rattle.coin_history.specs.declared.bundle.Bundle.{Bundle}
-use Rattle.schedule_text.specs.declared.command.Command.{Command}
 use Rattle.node_rules.specs.declared.answers.Accepted.{Accepted}
 use Rattle.node_rules.specs.declared.refusal.WalletRefusal.{WalletRefusal}
 use Rattle.node_rules.specs.Kept.{kept_of, links_handed}
@@ -28,15 +27,14 @@ use Rattle.node_replies.specs.declared.order.WalletOrder.{WalletOrder}
 use Rattle.node_replies.specs.Orders.{with_record, on_accepted, wallet_does}
 use Rattle.world_rules.specs.Orders.{node_does}
 use Rattle.world_rules.specs.OrderEvents.{bundle_read, event_of}
-use Rattle.world_rules.proofs.OrderEnds.{OrderEnds, Accepting, wallet_told, IsOrderAt, order-role, ordered, order-ends}
+use Rattle.world_rules.proofs.OrderEnds.{OrderEnds, Accepting, wallet_told, order-ends}
 use Rattle.node_replies.proofs.ByteTexts.{Small}
 use Rattle.world_rules.proofs.Said.{Said, told}
-use Rattle.world_rules.proofs.Shapes.{IsDone}
 use Rattle.node_replies.proofs.WalletEnds.{AcceptEnds, Refused, Known, New, accept_ends}
 use Rattle.world_rules.proofs.WalletSends.{words}
 use Rattle.world_rules.proofs.KeptWallet.{KeptWallet}
-use Rattle.world_rules.proofs.KeptNode.{Feeds, IsFit, IsFitOrder, order-fit, wallet-alone}
-use Rattle.world_laws.proofs.DeedOffers.{done-role}
+use Rattle.world_rules.proofs.KeptNode.{Feeds, IsFitOrder, wallet-alone}
+use Rattle.world_acts.specs.Evidence.{has_order}
 use Rattle.world_laws.proofs.GuardsShown.{IsShown, AreShown, shown-more, handed-shown}
 
 -- what a wallet's notes accept
@@ -192,20 +190,11 @@ module _ (dig : List ℕ → List ℕ) (world : World) (n : ℕ) (node : Node) (
   ShownAfter deed =
       AreShown world.chain.tag (told deed.gives.event s).accepted (accepted_in dig (with_record node.notes deed.note))
 
-  order-shown : (order : NodeOrder) → IsOrderAt node.role order → IsFitOrder order
+  pub accepts-shown : (order : NodeOrder) → has_order order node.role ≡ true → IsFitOrder order
       → ShownAfter (as_deed n order (node_does dig world.chain.log node order))
   unfolding event_of
-  order-shown (NodeOrder.Wallet order) at fit =
+  accepts-shown (NodeOrder.Wallet order) at fit =
       wallet-shown dig world.chain.tag world.chain.log feeds.few n (wallet_of node) s kept tag_is shown order fit
-  order-shown (NodeOrder.Watcher order) at fit = absurd (false≢true (sym (wallet-alone node.role role).0 ∙ at))
-  order-shown (NodeOrder.Operator order) at fit = absurd (false≢true (sym (wallet-alone node.role role).1 ∙ at))
-  order-shown NodeOrder.Open at fit = shown
-
-  pub accepts-shown : (command : Command) (deed : Deed) → IsFit command → IsDone dig world command n node deed
-      → ShownAfter deed
-  accepts-shown command deed fit done =
-      let own = ordered dig world n node command deed done.deed_is in
-      subst ShownAfter own.deed_is
-      (order-shown own.order
-      (order-role world node.role command own.order (done-role dig world command n node deed done) own.order_is)
-      (order-fit world feeds node.role command own.order fit own.order_is))
+  accepts-shown (NodeOrder.Watcher order) at fit = absurd (false≢true (sym (wallet-alone node.role role).0 ∙ at))
+  accepts-shown (NodeOrder.Operator order) at fit = absurd (false≢true (sym (wallet-alone node.role role).1 ∙ at))
+  accepts-shown NodeOrder.Open at fit = shown

@@ -1,8 +1,7 @@
 -- What a line makes that is answered with a bundle: the bytes of the bundle that the operator's notes and the log give.
-use Rattle.std.proofs.Common.{◌≡◌, ℕ, ◌==◌, Bool, true, false, if◌then◌else◌, List, Some, Ok, Err, inl, inr, refl, sym, ap, ◌∙◌, slice_get}
-use Rattle.std.specs.Prelude.{Result, option_map}
-use Rattle.std.proofs.lemmas.Bool.{false≢true, eq-eqb, eqb-true, and_parts}
-use Rattle.line_forms.specs.declared.tokens.OutcomeToken.{OutcomeToken}
+use Rattle.std.proofs.Common.{◌≡◌, ℕ, ◌==◌, Bool, true, false, if◌then◌else◌, List, Option, Some, Ok, Err, inl, inr, refl, sym, ap, ◌∙◌, subst, slice_get}
+use Rattle.std.specs.Prelude.{Result}
+use Rattle.std.proofs.lemmas.Bool.{false≢true, eq-eqb, eqb-true}
 use Rattle.coin_history.specs.declared.bundle.Bundle.{Bundle}
 use Rattle.coin_history.specs.Bundles.{bundle_text}
 use Rattle.coin_history.specs.Checking.{may_be_tip}
@@ -10,7 +9,6 @@ use Rattle.schedule_text.specs.declared.line.Line.{Line}
 use Rattle.schedule_text.specs.declared.command.Command.{Command}
 use Rattle.schedule_text.specs.declared.command.OperatorCommand.{OperatorCommand}
 use Rattle.schedule_text.specs.Grammar.{node_of}
-use Rattle.line_forms.proofs.FormLaws.{option_map_some}
 use Rattle.plasma_tx.specs.declared.call.RootCall.{RootCall}
 use Rattle.plasma_tx.specs.declared.views.CoinView.{CoinView}
 use Rattle.plasma_tx.specs.Views.{coin_at}
@@ -22,19 +20,17 @@ use Rattle.operator_rules.specs.Commands.{openings_of, as_bundle, bundle_between
 use Rattle.node_replies.specs.declared.reply.Reply.{Reply}
 use Rattle.node_replies.specs.Causes.{prove_cause}
 use Rattle.world_rules.specs.Events.{Other}
-use Rattle.world_rules.specs.World.{Node, World, is_operator_role, is_named, number_of}
-use Rattle.world_rules.specs.Declarations.{plays}
-use Rattle.world_rules.specs.Deeds.{Deed, as_deed, deed_of}
+use Rattle.world_rules.specs.World.{Node, World, is_operator_role}
 use Rattle.node_replies.specs.declared.order.NodeOrder.{NodeOrder}
 use Rattle.node_replies.specs.declared.order.OperatorOrder.{OperatorOrder}
-use Rattle.node_replies.specs.Orders.{without_record, answered, on_bundled, operator_does}
+use Rattle.node_replies.specs.Orders.{answered, on_bundled, operator_does}
 use Rattle.world_rules.specs.Orders.{order_of}
 use Rattle.world_rules.specs.OrderEvents.{event_of}
-use Rattle.world_rules.specs.Steps.{LineEffect, answers_down, commanded, down, cut, without_offers, command_effect, cut_effect, effect_in, step}
+use Rattle.world_rules.specs.Steps.{LineEffect, without_offers, with_mail}
 use Rattle.world_rules.specs.Laws.{IsCommandIn}
-use Rattle.world_rules.proofs.Existence.{position-is}
-use Rattle.world_rules.proofs.Shapes.{acted}
-use Rattle.world_rules.proofs.StepLaws.{stepped}
+use Rattle.world_acts.specs.Acts.{Place as NodePlace, Cut, Act, Rests, Orders, End, Whole, Crashed, Kept, Lost, is_down_for, order_act, act_of, end_of, end_effect, deed_at, done}
+use Rattle.world_acts.proofs.Lives.{line_effect}
+use Rattle.world_acts.proofs.Lookups.{IsFound, understood-in}
 use Rattle.world_laws.proofs.Lists.{some_same}
 
 -- ---- the bundle that is asked for
@@ -116,110 +112,56 @@ module _ (dig : List ℕ → List ℕ) (world : World) (coin asked tip : ℕ) wh
   answered-bundle n (Ok bundle) is = (bundle, refl, cc is, refl, refl)
   answered-bundle n (Err why) is = absurd (cc is)
 
-  abbrev deed_at : ℕ → Node → Deed
-  deed_at n node =
-      as_deed n order
-      (without_record (answered prove_cause on_bundled (bundle_answer dig node.notes world.chain.log coin asked)))
+  abbrev Makes : Act → Type 0
+  Makes act = (done dig world act).reply ≡ Reply.Bundled tip
+      → IsMadeBundle dig world coin asked tip (line_effect dig world act)
 
-  -- the deed of the command is that one
-  deed-made : (n : ℕ) (node : Node) (deed : Deed) → deed_of dig world n node command ≡ Some deed
-      → deed_at n node ≡ deed
-  unfolding deed_of order_of operator_does
-  deed-made n node deed is = some_same (deed_at n node) deed is
-
-  plain-made : (n : ℕ) (node : Node) (effect : LineEffect) → slice_get world.nodes n ≡ Some node
-      → is_operator_role node.role ≡ true → command_effect dig world command n node ≡ Some effect
-      → effect.reply ≡ Reply.Bundled tip → IsMadeBundle dig world coin asked tip effect
-  plain-made n node effect node_is role is reply = by (answers_down node command) is
+  pub line-made : (line : Line) (act : Act) → IsCommandIn line command → act_of world line ≡ Some act → Makes act
+  unfolding order_of done operator_does
+  line-made line act is_command is =
+      let (cut, by) = understood-in world line command act is is_command in
+      subst Makes by.act_is
+      (subst (λ (o : NodeOrder). Makes (order_act cut by.place o)) (some_same order by.order by.order_is)
+      (ordered cut by.place by.at (is_down_for order by.place.node)))
     where
-      by : (b : Bool)
-          → (if b then Some (down world) else option_map (commanded world n node) (deed_of dig world n node command))
-          ≡ Some effect
-          → IsMadeBundle dig world coin asked tip effect
-      by true is = absurd (cc (ap (λ (e : LineEffect). e.reply) (some_same _ effect is) ∙ reply))
-      by false is =
-          let done = option_map_some (commanded world n node) (deed_of dig world n node command) effect is in
-          let same = ap (commanded world n node) (deed-made n node done.0 done.1) ∙ done.2 in
-          let found = answered-bundle n (bundle_answer dig node.notes world.chain.log coin asked)
-          (ap (λ (e : LineEffect). e.reply) same ∙ reply) in
+      ended : (place : NodePlace) → IsFound world is_operator_role (node_of command) place → (end : End)
+          → (end_effect world place (deed_at dig world place order) end).reply ≡ Reply.Bundled tip
+          → IsMadeBundle dig world coin asked tip
+          (with_mail (end_effect world place (deed_at dig world place order) end))
+      ended place at Whole reply =
+          let found = answered-bundle place.number (bundle_answer dig place.node.notes world.chain.log coin asked)
+          reply in
           record {
-            n = n;
-            node = node;
-            node_is = node_is;
-            role = role;
+            n = place.number;
+            node = place.node;
+            node_is = at.there;
+            role = at.role;
             bundle = found.0;
             answer_is = found.1;
             tip_is = found.2;
-            made_is = ap (λ (e : LineEffect). e.made) (sym same) ∙ found.3;
-            event_is = ap (λ (e : LineEffect). e.event) (sym same) ∙ found.4;
+            made_is = found.3;
+            event_is = found.4;
           }
-
-  cut-made : (calls : ℕ) (outcome : OutcomeToken) (n : ℕ) (node : Node) (effect : LineEffect)
-      → slice_get world.nodes n ≡ Some node → is_operator_role node.role ≡ true
-      → cut_effect dig world calls outcome command n node ≡ Some effect → effect.reply ≡ Reply.Bundled tip
-      → IsMadeBundle dig world coin asked tip effect
-  cut-made calls outcome n node effect node_is role is reply = by (answers_down node command) is
-    where
-      by : (b : Bool)
-          → (if b then Some (down world)
-          else option_map (cut world n node calls outcome command) (deed_of dig world n node command))
-          ≡ Some effect → IsMadeBundle dig world coin asked tip effect
-      by true is = absurd (cc (ap (λ (e : LineEffect). e.reply) (some_same _ effect is) ∙ reply))
-      by false is =
-          let done = option_map_some (cut world n node calls outcome command) (deed_of dig world n node command)
-          effect is in
-          let same = ap (cut world n node calls outcome command) (deed-made n node done.0 done.1) ∙ done.2 in
-          let found = answered-bundle n (bundle_answer dig node.notes world.chain.log coin asked)
-          (ap (λ (e : LineEffect). e.reply) same ∙ reply) in
+      ended place at Crashed reply =
+          let found = answered-bundle place.number (bundle_answer dig place.node.notes world.chain.log coin asked)
+          reply in
           record {
-            n = n;
-            node = node;
-            node_is = node_is;
-            role = role;
+            n = place.number;
+            node = place.node;
+            node_is = at.there;
+            role = at.role;
             bundle = found.0;
             answer_is = found.1;
             tip_is = found.2;
-            made_is = ap (λ (e : LineEffect). e.made) (sym same) ∙ found.3;
-            event_is = ap (λ (e : LineEffect). e.event) (sym same) ∙ ap (without_offers n) found.4;
+            made_is = found.3;
+            event_is = ap (without_offers place.number) found.4;
           }
+      ended place at Kept reply = absurd (cc reply)
+      ended place at Lost reply = absurd (cc reply)
 
-  pub line-made : (line : Line) (effect : LineEffect) → IsCommandIn line command
-      → step dig (Some world) line ≡ Some effect → effect.reply ≡ Reply.Bundled tip
-      → IsMadeBundle dig world coin asked tip effect
-  unfolding effect_in
-  line-made line effect is_command is reply =
-      let made = stepped dig world line effect is in
-      let bare = by made.bare is_command made.bare_is
-      (ap (λ (e : LineEffect). e.reply) (sym made.effect_is) ∙ reply) in
-      record {
-        n = bare.n;
-        node = bare.node;
-        node_is = bare.node_is;
-        role = bare.role;
-        bundle = bare.bundle;
-        answer_is = bare.answer_is;
-        tip_is = bare.tip_is;
-        made_is = ap (λ (e : LineEffect). e.made) made.effect_is ∙ bare.made_is;
-        event_is = ap (λ (e : LineEffect). e.event) made.effect_is ∙ bare.event_is;
-      }
-    where
-      role-of : (n : ℕ) (node : Node) → number_of (plays command) world (node_of command) ≡ Some n
-          → slice_get world.nodes n ≡ Some node → is_operator_role node.role ≡ true
-      role-of n node number at =
-          let named = is_named (plays command) (node_of command) in
-          let found = position-is named world.nodes n number in
-          let same : found.0 ≡ node = some_same found.0 node (sym found.1 ∙ at) in
-          (and_parts _ (plays command node.role) (ap named (sym same) ∙ found.2)).1
-
-      by : (bare : LineEffect) → IsCommandIn line command → effect_in dig world line ≡ Some bare
-          → bare.reply ≡ Reply.Bundled tip → IsMadeBundle dig world coin asked tip bare
-      by bare (inl plain) is reply =
-          let found = acted dig world (plays command) (node_of command) (command_effect dig world command) bare
-          (ap (effect_in dig world) (sym plain) ∙ is) in
-          plain-made found.0 found.1 bare found.3 (role-of found.0 found.1 found.2 found.3) found.4 reply
-      by bare (inr in_cut) is reply =
-          let found = acted dig world (plays command) (node_of command)
-          (cut_effect dig world in_cut.1 in_cut.2 command) bare
-          (ap (effect_in dig world) (sym in_cut.3) ∙ is) in
-          cut-made in_cut.1 in_cut.2 found.0 found.1 bare found.3 (role-of found.0 found.1 found.2 found.3) found.4
-          reply
+      ordered : (cut : Option Cut) (place : NodePlace) → IsFound world is_operator_role (node_of command) place
+          → (b : Bool)
+          → Makes (if b then Rests Reply.Down else Orders place order cut)
+      ordered cut place at true reply = absurd (cc reply)
+      ordered cut place at false reply =
+          ended place at (end_of cut place.node order (deed_at dig world place order)) reply

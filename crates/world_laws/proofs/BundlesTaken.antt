@@ -29,7 +29,7 @@ use Rattle.operator_rules.specs.Walk.{Place, place_at}
 use Rattle.operator_rules.specs.Commands.{forest_in, bundle_of, bundle_answer}
 use Rattle.node_replies.specs.Causes.{wallet_cause}
 use Rattle.world_rules.specs.Events.{Event, Joins, log_of}
-use Rattle.world_rules.specs.World.{Role, Wallet, Watcher, Operator, Node, World, is_wallet_role, number_of, owner_of_node, wallet_of, bytes_of}
+use Rattle.world_rules.specs.World.{Node, World, is_wallet_role, number_of, owner_of_node, wallet_of, bytes_of}
 use Rattle.world_rules.specs.Safety.{is_joined}
 use Rattle.node_replies.specs.declared.order.NodeOrder.{NodeOrder}
 use Rattle.node_replies.specs.declared.order.WalletOrder.{WalletOrder}
@@ -44,14 +44,16 @@ use Rattle.world_rules.proofs.StepLaws.{stepped}
 use Rattle.world_laws.specs.Headline.{IsRun}
 use Rattle.world_laws.specs.Bundles.{is_barred, CommitsOnce, IsHonestSoFar, WasBundled, IsTakenBundle, HonestBundlesAreTaken}
 use Rattle.world_laws.proofs.Lists.{some_same}
-use Rattle.world_laws.proofs.Acts.{runs-keep}
-use Rattle.world_laws.proofs.Identities.{IsWallet, IsOfRole, wallet-node}
+use Rattle.world_acts.proofs.Lives.{line_effect}
+use Rattle.world_acts.proofs.Told.{OperatorIsFirst}
+use Rattle.world_laws.proofs.Acts.{first-alone}
+use Rattle.world_laws.proofs.Keeps.{own-tag, runs-keep}
 use Rattle.world_laws.proofs.SignedDeeds.{named-role}
 use Rattle.world_laws.proofs.BundleTaken.{taken-bundle}
 use Rattle.world_laws.proofs.BundleMade.{bundle-again, IsMadeBundle, line-made}
 use Rattle.world_laws.proofs.BundleHistories.{coins-few, tree-at-same, place-same, distinct-before, IsGoodAt, good-at, IsOwnHistory, own-history}
 use Rattle.world_laws.proofs.NoteLengths.{note-short}
-use Rattle.world_laws.proofs.OperatorKeeping.{IsKeeping}
+use Rattle.world_laws.proofs.OperatorKeeping.{IsKeeping, HasKeeping}
 use Rattle.world_laws.proofs.OperatorRuns.{AreAllowed, lines-same, runs-keeping}
 use Rattle.world_laws.proofs.OperatorGrowth.{HasMore, HasTrees, grown-trees, IsSplit, split}
 
@@ -92,20 +94,20 @@ log-rest entry rest none = log-none entry.event (events_of rest) none
 
 -- the operator's answer, by the node that is the operator
 operator-answer : (dig : List ℕ → List ℕ) (events : List Event) (world : World) (coin asked tip : ℕ)
-    (effect : LineEffect) (keeping : IsKeeping dig events world.chain world.nodes)
+    (effect : LineEffect) (first : OperatorIsFirst world) (has : HasKeeping dig events world.chain world.nodes)
     (made : IsMadeBundle dig world coin asked tip effect)
-    → bundle_of dig world.chain.tag world.chain.log (forest_in keeping.op.notes).sealed coin asked
+    → bundle_of dig world.chain.tag world.chain.log (forest_in has.op.notes).sealed coin asked
     (coin_at world.chain.log coin) ≡ Ok made.bundle
 unfolding bundle_answer
-operator-answer dig events world coin asked tip effect keeping made =
-    subst (λ (tag : List ℕ). bundle_of dig tag world.chain.log (forest_in keeping.op.notes).sealed coin asked
-    (coin_at world.chain.log coin) ≡ Ok made.bundle) keeping.tag
+operator-answer dig events world coin asked tip effect first has made =
+    subst (λ (tag : List ℕ). bundle_of dig tag world.chain.log (forest_in has.op.notes).sealed coin asked
+    (coin_at world.chain.log coin) ≡ Ok made.bundle) has.is.tag
     (subst (λ (node : Node). bundle_answer dig node.notes world.chain.log coin asked ≡ Ok made.bundle)
     (by made.n made.node_is) made.answer_is)
   where
-    by : (n : ℕ) → slice_get world.nodes n ≡ Some made.node → made.node ≡ keeping.op
-    by zero is = some_same made.node keeping.op (sym is ∙ keeping.op_is)
-    by (suc n) is = absurd (false≢true (sym (keeping.others n made.node is).role ∙ made.role))
+    by : (n : ℕ) → slice_get world.nodes n ≡ Some made.node → made.node ≡ has.op
+    by zero is = some_same made.node has.op (sym is ∙ has.op_is)
+    by (suc n) is = absurd (cc (first (suc n) made.node is made.role))
 
 -- ---- the bundle is a history that ends with the wallet
 
@@ -132,8 +134,8 @@ own-bundle dig lines run world op coin tip bytes made me run_is honest was coin_
     old : World
     old = s.old
 
-    line : IsMadeBundle dig s.old coin was.asked tip s.effect
-    line = line-made dig s.old coin was.asked tip was.entry.line s.effect was.command s.stepped
+    line : IsMadeBundle dig s.old coin was.asked tip (line_effect dig s.old s.act)
+    line = line-made dig s.old coin was.asked tip was.entry.line s.act was.command s.act_is
         (ap (λ (e : TraceEntry). e.reply) (sym s.entry_is) ∙ was.reply)
 
     kept : KeptWorld dig (events_of run.entries) world
@@ -158,8 +160,8 @@ own-bundle dig lines run world op coin tip bytes made me run_is honest was coin_
     allowed : AreAllowed run.entries
     allowed = lines-same dig lines run run_is.run_is ∙ honest.allowed
 
-    keeping : IsKeeping dig (events_of s.before.entries) s.old.chain s.old.nodes
-    keeping =
+    has : HasKeeping dig (events_of s.before.entries) s.old.chain s.old.nodes
+    has =
         runs-keeping dig s.lines s.before s.old s.run_is
         (subst AreAllowed (sym s.entries_are)
         (allowed-before (was.entry ∷ []) was.earlier
@@ -169,24 +171,27 @@ own-bundle dig lines run world op coin tip bytes made me run_is honest was coin_
         (once-before was.later (was.entry ∷ was.earlier)
         (subst (λ (es : List TraceEntry). CommitsOnce (events_of es)) was.entries_are honest.once))))
 
-    more : HasMore keeping.op.notes op.notes
+    keeping : IsKeeping dig (events_of s.before.entries) s.old.chain has.op
+    keeping = has.is
+
+    more : HasMore has.op.notes op.notes
     more =
-        let new = s.later.op keeping.op keeping.op_is in
-        subst (λ (n : Node). HasMore keeping.op.notes n.notes) (some_same new.0 op (sym new.1 ∙ honest.op_is)) new.2
+        let new = s.later.op has.op has.op_is in
+        subst (λ (n : Node). HasMore has.op.notes n.notes) (some_same new.0 op (sym new.1 ∙ honest.op_is)) new.2
 
     sealed : List (List Entry)
-    sealed = (forest_in keeping.op.notes).sealed
+    sealed = (forest_in has.op.notes).sealed
 
-    trees : HasTrees (forest_in keeping.op.notes).sealed (forest_in op.notes).sealed
-    trees = grown-trees keeping.op.notes op.notes keeping.kinds more
+    trees : HasTrees (forest_in has.op.notes).sealed (forest_in op.notes).sealed
+    trees = grown-trees has.op.notes op.notes keeping.kinds more
 
     coin_then : coin_at s.old.chain.log coin ≡ Some made
     coin_then = ap (λ (log : List RootCall). coin_at log coin) (sym log_same) ∙ coin_is
 
-    place_then : place_at dig s.old.chain.tag s.old.chain.log (forest_in keeping.op.notes).sealed coin made tip
+    place_then : place_at dig s.old.chain.tag s.old.chain.log (forest_in has.op.notes).sealed coin made tip
         ≡ record { block = tip; owner = me }
     place_then =
-        sym (place-same dig s.old.chain.log (forest_in keeping.op.notes).sealed (forest_in op.notes).sealed
+        sym (place-same dig s.old.chain.log (forest_in has.op.notes).sealed (forest_in op.notes).sealed
         keeping.counted trees s.old.chain.tag coin made tip)
         ∙ (λ i. place_at dig (sym tag_same i) (sym log_same i) (forest_in op.notes).sealed coin made tip)
         ∙ place_is
@@ -203,36 +208,31 @@ own-bundle dig lines run world op coin tip bytes made me run_is honest was coin_
         let high = coins-few s.old.chain.log in
         omega (arith, low, high, small)
 
-    good : IsGoodAt dig s.old.chain.tag s.old.chain.log (forest_in keeping.op.notes).sealed coin tip made
+    good : IsGoodAt dig s.old.chain.tag s.old.chain.log (forest_in has.op.notes).sealed coin tip made
     good =
-        good-at dig s.old.chain.tag keeping.acts s.old.chain.log (notes_of keeping.op.notes) coin tip made
+        good-at dig s.old.chain.tag keeping.acts s.old.chain.log (notes_of has.op.notes) coin tip made
         keeping.log_is keeping.notes_is run_is.digest narrow (omega (arith, small))
         (keeping.honest (λ n c tree tx tree_is signed.
         honest.in_time n c tree tx
         (ap (λ (log : List RootCall). tree_at dig log (forest_in op.notes).sealed n) log_same
-        ∙ tree-at-same dig s.old.chain.log (forest_in keeping.op.notes).sealed (forest_in op.notes).sealed
+        ∙ tree-at-same dig s.old.chain.log (forest_in has.op.notes).sealed (forest_in op.notes).sealed
         keeping.counted trees n ∙ tree_is)
         (ap (λ (tag : List ℕ). signed_in tag (leaf_of tree c)) tag_same ∙ signed)))
-        (distinct-before dig (forest_in keeping.op.notes).sealed (forest_in op.notes).sealed trees honest.distinct)
+        (distinct-before dig (forest_in has.op.notes).sealed (forest_in op.notes).sealed trees honest.distinct)
         coin_then (ap (λ (p : Place). p.block) place_then)
 
-    again : (bundle_of dig s.old.chain.tag s.old.chain.log (forest_in keeping.op.notes).sealed coin tip
+    again : (bundle_of dig s.old.chain.tag s.old.chain.log (forest_in has.op.notes).sealed coin tip
         (coin_at s.old.chain.log coin) ≡ Ok line.bundle) × (line.bundle.coin ≡ coin)
     again =
-        bundle-again dig s.old.chain.tag s.old.chain.log (forest_in keeping.op.notes).sealed coin was.asked tip made
+        bundle-again dig s.old.chain.tag s.old.chain.log (forest_in has.op.notes).sealed coin was.asked tip made
         line.bundle coin_then
-        (operator-answer dig (events_of s.before.entries) s.old coin was.asked tip s.effect keeping line) line.tip_is
+        (operator-answer dig (events_of s.before.entries) s.old coin was.asked tip (line_effect dig s.old s.act)
+        (first-alone dig s.lines s.before s.old s.run_is) has line) line.tip_is
 
     bytes_are : bytes ≡ bundle_text line.bundle
     bytes_are = sym was.made ∙ ap (λ (e : TraceEntry). e.made) s.entry_is ∙ line.made_is
 
 -- ---- the accept
-
-wallet-tag : (events : List Event) (tag : List ℕ) (n : ℕ) (node : Node) (role : Role) → is_wallet_role role ≡ true
-    → IsOfRole events tag n node role → IsWallet events tag n node
-wallet-tag events tag n node Wallet is_role is = is
-wallet-tag events tag n node Watcher is_role is = absurd (false≢true is_role)
-wallet-tag events tag n node Operator is_role is = absurd (false≢true is_role)
 
 -- the deed of an accept
 accept-deed : (dig : List ℕ → List ℕ) (world : World) (name : List ℕ) (n : ℕ) (node : Node) (token : HexOrItem)
@@ -288,9 +288,7 @@ taken-by dig lines run world node n coin tip name bytes token effect run_is own 
     is =
     let kept = (run-kept dig run_is.digest lines run run_is.lines_are run_is.run_is).world world run_is.world_is in
     let role = named-role dig (events_of run.entries) world kept name n node number node_is in
-    let one = (runs-keep dig lines run world run_is).nodes.each n node node_is in
-    let tag_is = (wallet-node (events_of run.entries) world.chain.tag n node
-    (wallet-tag (events_of run.entries) world.chain.tag n node node.role role one.is)).2 in
+    let tag_is = own-tag (events_of run.entries) world (runs-keep dig lines run world run_is) n node node_is role in
     let handed : links_handed dig (who_is_wallet node.notes).tag world.chain.log bytes ≡ Ok own.links =
     ap (λ (tag : List ℕ). links_handed dig tag world.chain.log bytes) tag_is ∙ own.handed in
     let taken = taken-bundle dig (wallet_of node) world.chain.log bytes own.links handed own.mine short in

@@ -1,19 +1,16 @@
--- What commands offer: challenges and answers by a watch, a wallet's own start by a leave, the operator's commit by a
+-- What orders offer: challenges and answers by a watch, a wallet's own start by a leave, the operator's commit by a
 -- seal. None of it deposits, and a start is by the account of the wallet that offers it.
 use Rattle.std.proofs.Common.{◌≡◌, ℕ, true, false, List, [], Option, Some, None, Ok, Err, inl, inr, refl, sym, ap, ◌∙◌, subst}
 use Rattle.std.specs.Prelude.{Result}
 use Rattle.std.specs.List.{range_with_len}
 use Rattle.std.specs.Option.{option_map_or}
-use Rattle.std.proofs.lemmas.Bool.{and_parts, eqb-true, false≢true}
+use Rattle.std.proofs.lemmas.Bool.{eqb-true, false≢true}
 use Rattle.plasma_tx.specs.declared.links.Link.{Link}
 use Rattle.plasma_tx.specs.declared.links.Links.{Links}
 use Rattle.plasma_tx.specs.declared.call.RootCall.{RootCall}
 use Rattle.plasma_tx.specs.declared.views.ExitView.{ExitView}
 use Rattle.plasma_tx.specs.Links.{last_spend}
 use Rattle.plasma_tx.specs.Views.{coins, exits_of}
-use Rattle.plasma_tx.proofs.Names.{some_same}
-use Rattle.schedule_text.specs.declared.command.Command.{Command}
-use Rattle.schedule_text.specs.Grammar.{node_of}
 use Rattle.wallet_core.specs.declared.coin_state.CoinState.{CoinState}
 use Rattle.wallet_core.specs.declared.coin_state.CoinState.TheVariants.{Nothing, Sending, Leaving, Held}
 use Rattle.node_rules.specs.declared.refusal.WalletRefusal.{WalletRefusal}
@@ -24,17 +21,15 @@ use Rattle.node_rules.specs.Watcher.{due_for_kept, guards_in, who_is as who_is_w
 use Rattle.watch_duty.specs.Duty.{due_for, due_of}
 use Rattle.watch_duty.proofs.Members.{Has, has-flat_map}
 use Rattle.watch_duty.proofs.Dues.{IsDue, DueAfter, DueBetween, DueBefore, DueRespond, due_for-due}
-use Rattle.world_rules.specs.World.{Node, World, is_named, is_wallet_role, is_operator_role, wallet_of, owner_of_node}
-use Rattle.world_rules.specs.Declarations.{plays}
-use Rattle.world_rules.specs.Deeds.{Deed}
+use Rattle.world_rules.specs.World.{Node, World, is_wallet_role, is_operator_role, wallet_of, owner_of_node}
 use Rattle.node_replies.specs.declared.order.NodeOrder.{NodeOrder}
 use Rattle.world_rules.specs.Events.{Event}
-use Rattle.world_rules.proofs.OrderEnds.{OrderEnds, Leaving, Watching, GuardWatching, Sealing, IsOrderAt, order-role, ordered, deed-ends}
-use Rattle.world_rules.proofs.Shapes.{IsDone}
-use Rattle.world_rules.proofs.Existence.{position-is}
+use Rattle.world_rules.proofs.OrderEnds.{OrderEnds, Leaving, Watching, GuardWatching, Sealing, order-ends}
+use Rattle.world_acts.specs.Acts.{Place, deed_at}
+use Rattle.world_acts.specs.Evidence.{has_order, MayOrder}
 use Rattle.world_laws.specs.Legal.{starts_by, deposits_by}
 use Rattle.world_laws.proofs.Identities.{IsOffer}
-use Rattle.world_laws.proofs.OperatorLines.{commits_root}
+use Rattle.world_laws.proofs.OperatorActs.{commits_root}
 
 -- ---- challenges and answers
 
@@ -152,60 +147,46 @@ quiet-offer node call quiet = record {
   starts = λ account is. absurd (false≢true (sym (quiet.starts account) ∙ is));
 }
 
--- the node that has a command has a role for it
-pub done-role : (dig : List ℕ → List ℕ) (world : World) (command : Command) (n : ℕ) (node : Node) (deed : Deed)
-    → IsDone dig world command n node deed → plays command node.role ≡ true
-done-role dig world command n node deed done =
-    let named = is_named (plays command) (node_of command) in
-    let found = position-is named world.nodes n done.number in
-    let same : found.0 ≡ node = some_same found.0 node (sym found.1 ∙ done.node_is) in
-    (and_parts _ (plays command node.role) (ap named (sym same) ∙ found.2)).1
-
--- what a command offers, where a wallet's notes say the account of its node
-pub deed-offers : (dig : List ℕ → List ℕ) (world : World) (command : Command) (n : ℕ) (node : Node) (deed : Deed)
-    → IsDone dig world command n node deed
-    → (is_wallet_role node.role ≡ true → (owner_of_node node).account ≡ node.account)
-    → (call : RootCall) → Has deed.gives.offers call → IsOffer node call
-unfolding owner_of
-deed-offers dig world command n node deed done account call has =
-    let own = ordered dig world n node command deed done.deed_is in
-    by own.order deed.gives.event deed.gives.offers
-    (order-role world node.role command own.order (done-role dig world command n node deed done) own.order_is)
-    (deed-ends dig world n node command deed own) has
+module _ (dig : List ℕ → List ℕ) (world : World) (place : Place) (order : NodeOrder)
+    (may : MayOrder world place order) (call : RootCall) (has : Has (deed_at dig world place order).gives.offers call)
   where
-    by : (order : NodeOrder) (event : Event) (calls : List RootCall) → IsOrderAt node.role order
-        → OrderEnds dig world.chain.log n node order event calls → Has calls call → IsOffer node call
-    by order event calls role (Leaving coin start made) (inl same) =
-        let leaves = subst (IsStart (who (wallet_of node)).account) same
-        (leave-start dig (wallet_of node) world.chain.log start coin made) in
-        record { deposits = leaves.deposits; starts = λ by is. (role, sym (account role) ∙ leaves.starts by is) }
-    by order event calls role (Leaving coin start made) (inr none) = absurd none
-    by order event calls role Watching has =
-        quiet-offer node call (wallet-quiet dig (wallet_of node) world.chain.log call has)
-    by order event calls role GuardWatching has =
-        quiet-offer node call (watcher-quiet dig node.notes world.chain.log call has)
-    by order event calls role Sealing (inl same) =
-        subst (IsOffer node) same (record { deposits = λ a. refl; starts = λ a is. absurd (false≢true is) })
-    by order event calls role Sealing (inr none) = absurd none
-    by order event calls role ends has = absurd has
+    abbrev log : List RootCall
+    log = world.chain.log
 
--- a node that isn't the operator offers no commit
-pub deed-quiet : (dig : List ℕ → List ℕ) (world : World) (command : Command) (n : ℕ) (node : Node) (deed : Deed)
-    → IsDone dig world command n node deed → is_operator_role node.role ≡ false
-    → (call : RootCall) → Has deed.gives.offers call → commits_root call ≡ false
-deed-quiet dig world command n node deed done other call has =
-    let own = ordered dig world n node command deed done.deed_is in
-    by own.order deed.gives.event deed.gives.offers
-    (order-role world node.role command own.order (done-role dig world command n node deed done) own.order_is)
-    (deed-ends dig world n node command deed own) has
-  where
-    by : (order : NodeOrder) (event : Event) (calls : List RootCall) → IsOrderAt node.role order
-        → OrderEnds dig world.chain.log n node order event calls → Has calls call → commits_root call ≡ false
-    by order event calls role (Leaving coin start made) (inl same) =
-        (subst (IsStart (who (wallet_of node)).account) same
-        (leave-start dig (wallet_of node) world.chain.log start coin made)).commits
-    by order event calls role (Leaving coin start made) (inr none) = absurd none
-    by order event calls role Watching has = (wallet-quiet dig (wallet_of node) world.chain.log call has).commits
-    by order event calls role GuardWatching has = (watcher-quiet dig node.notes world.chain.log call has).commits
-    by order event calls role Sealing has = absurd (false≢true (sym other ∙ role))
-    by order event calls role ends has = absurd has
+    abbrev node : Node
+    node = place.node
+
+    -- what an order offers, where a wallet's notes say the account of its node
+    pub order-offers : (is_wallet_role place.node.role ≡ true → (owner_of_node place.node).account ≡ place.node.account)
+        → IsOffer place.node call
+    unfolding owner_of
+    order-offers account = by order may.role (order-ends dig log place.number node order) has
+      where
+        by : (one : NodeOrder) → has_order one node.role ≡ true → {event : Event} → {calls : List RootCall}
+            → OrderEnds dig log place.number node one event calls → Has calls call → IsOffer node call
+        by one role (Leaving coin start made) (inl same) =
+            let leaves = subst (IsStart (who (wallet_of node)).account) same
+            (leave-start dig (wallet_of node) log start coin made) in
+            record { deposits = leaves.deposits; starts = λ by is. (role, sym (account role) ∙ leaves.starts by is) }
+        by one role (Leaving coin start made) (inr none) = absurd none
+        by one role Watching has = quiet-offer node call (wallet-quiet dig (wallet_of node) log call has)
+        by one role GuardWatching has = quiet-offer node call (watcher-quiet dig node.notes log call has)
+        by one role Sealing (inl same) =
+            subst (IsOffer node) same (record { deposits = λ a. refl; starts = λ a is. absurd (false≢true is) })
+        by one role Sealing (inr none) = absurd none
+        by one role ends has = absurd has
+
+    -- a node that isn't the operator offers no commit
+    pub order-quiet : is_operator_role place.node.role ≡ false → commits_root call ≡ false
+    order-quiet other = by order may.role (order-ends dig log place.number node order) has
+      where
+        by : (one : NodeOrder) → has_order one node.role ≡ true → {event : Event} → {calls : List RootCall}
+            → OrderEnds dig log place.number node one event calls → Has calls call → commits_root call ≡ false
+        by one role (Leaving coin start made) (inl same) =
+            (subst (IsStart (who (wallet_of node)).account) same
+            (leave-start dig (wallet_of node) log start coin made)).commits
+        by one role (Leaving coin start made) (inr none) = absurd none
+        by one role Watching has = (wallet-quiet dig (wallet_of node) log call has).commits
+        by one role GuardWatching has = (watcher-quiet dig node.notes log call has).commits
+        by one role Sealing has = absurd (false≢true (sym other ∙ role))
+        by one role ends has = absurd has

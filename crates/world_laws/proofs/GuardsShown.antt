@@ -11,7 +11,6 @@ use Rattle.plasma_tx.specs.Links.{tip_of}
 use Rattle.coin_history.specs.declared.bundle.Bundle.{Bundle}
 use Rattle.coin_history.specs.declared.refusal.HistoryRefusal.{HistoryRefusal}
 use Rattle.coin_history.specs.History.{links_in}
-use Rattle.schedule_text.specs.declared.command.Command.{Command}
 use Rattle.node_rules.specs.declared.answers.Accepted.{Accepted}
 use Rattle.node_rules.specs.declared.refusal.WatcherRefusal.{WatcherRefusal}
 use Rattle.node_rules.specs.declared.refusal.WatcherRefusal.TheVariants.{NoGuard}
@@ -28,14 +27,13 @@ use Rattle.node_replies.specs.declared.order.WatcherOrder.{WatcherOrder}
 use Rattle.node_replies.specs.Orders.{with_record, on_guarded, on_released, watcher_does}
 use Rattle.world_rules.specs.Orders.{node_does}
 use Rattle.world_rules.specs.OrderEvents.{bundle_read, event_of}
-use Rattle.world_rules.proofs.OrderEnds.{watcher_told, IsOrderAt, order-role, ordered}
+use Rattle.world_rules.proofs.OrderEnds.{watcher_told}
 use Rattle.world_rules.specs.Deeds.{Deed, as_deed}
 use Rattle.node_replies.proofs.ByteTexts.{Small, small-nil}
 use Rattle.world_rules.proofs.Said.{Said, told}
 use Rattle.world_rules.proofs.KeptWatcher.{KeptWatcher}
-use Rattle.world_rules.proofs.KeptNode.{Feeds, IsFit, IsFitOrder, order-fit, watcher-alone}
-use Rattle.world_rules.proofs.Shapes.{IsDone}
-use Rattle.world_laws.proofs.DeedOffers.{done-role}
+use Rattle.world_rules.proofs.KeptNode.{IsFitOrder, watcher-alone}
+use Rattle.world_acts.specs.Evidence.{has_order}
 use Rattle.world_laws.proofs.Handed.{handed-history}
 
 -- a bundle shows a kept coin: it is of the coin and the tip, and has the links
@@ -211,7 +209,7 @@ module _ (dig : List ℕ → List ℕ) (tag : List ℕ) (s : Said) (log : List R
       by false adds = shown
 
 -- what a watcher's command leaves
-module _ (dig : List ℕ → List ℕ) (world : World) (n : ℕ) (node : Node) (s : Said) (feeds : Feeds world)
+module _ (dig : List ℕ → List ℕ) (world : World) (n : ℕ) (node : Node) (s : Said)
     (role : is_watcher_role node.role ≡ true) (kept : KeptWatcher dig s node.notes)
     (tag_is : (who_is node.notes).tag ≡ world.chain.tag)
     (shown : AreShown world.chain.tag s.guarded (guards_in dig node.notes)) where
@@ -219,7 +217,7 @@ module _ (dig : List ℕ → List ℕ) (world : World) (n : ℕ) (node : Node) (
   ShownAfter deed =
       AreShown world.chain.tag (told deed.gives.event s).guarded (guards_in dig (with_record node.notes deed.note))
 
-  order-shown : (order : NodeOrder) → IsOrderAt node.role order → IsFitOrder order
+  pub order-shown : (order : NodeOrder) → has_order order node.role ≡ true → IsFitOrder order
       → ShownAfter (as_deed n order (node_does dig world.chain.log node order))
   unfolding watcher_does event_of
   order-shown (NodeOrder.Watcher (WatcherOrder.Guard bytes)) at fit =
@@ -230,12 +228,3 @@ module _ (dig : List ℕ → List ℕ) (world : World) (n : ℕ) (node : Node) (
   order-shown (NodeOrder.Wallet order) at fit = absurd (false≢true (sym (watcher-alone node.role role).0 ∙ at))
   order-shown (NodeOrder.Operator order) at fit = absurd (false≢true (sym (watcher-alone node.role role).1 ∙ at))
   order-shown NodeOrder.Open at fit = shown
-
-  pub deed-shown : (command : Command) (deed : Deed) → IsFit command → IsDone dig world command n node deed
-      → ShownAfter deed
-  deed-shown command deed fit done =
-      let own = ordered dig world n node command deed done.deed_is in
-      subst ShownAfter own.deed_is
-      (order-shown own.order
-      (order-role world node.role command own.order (done-role dig world command n node deed done) own.order_is)
-      (order-fit world feeds node.role command own.order fit own.order_is))

@@ -1,50 +1,45 @@
 -- What holds in the world of every run behind its events: who the nodes are, what they offer, and whose accounts the
 -- log's calls move.
-use Rattle.std.proofs.Common.{◌≡◌, ℕ, ◌==◌, ◌&&◌, ◌||◌, not, nat_lt, true, false, if◌then◌else◌, List, ◌∷◌, length, Option, Some, None, inl, inr, refl, sym, ap, ◌∙◌, subst, slice_get}
+use Rattle.std.proofs.Common.{◌≡◌, ℕ, zero, suc, ◌-◌, ◌==◌, ◌&&◌, ◌||◌, not, nat_lt, Bool, true, false, if◌then◌else◌, List, [], ◌∷◌, ◌++◌, length, Option, Some, None, inl, inr, refl, sym, ap, ◌∙◌, subst, set, slice_get, le_refl}
 use Rattle.std.specs.List.{list_any}
 use Rattle.std.proofs.lemmas.Bool.{and_parts, or_parts, or_left, or_right, not-true, eqb-true, false≢true}
-use Rattle.lms_sign.specs.declared.types.LmsTypes.{LmsTypes}
+use Rattle.std.proofs.lemmas.Option.{slice_get_past}
+use Rattle.line_forms.proofs.FormLaws.{option_map_some}
 use Rattle.plasma_tx.specs.declared.call.RootCall.{RootCall}
-use Rattle.plasma_tx.specs.declared.answer.Answer.{Answer}
-use Rattle.plasma_tx.specs.Chain.{with_log}
-use Rattle.plasma_tx.specs.Shown.{tests_by, rules_of}
+use Rattle.plasma_tx.specs.Shown.{Rules, tests_by, rules_of}
 use Rattle.plasma_tx.specs.Table.{answer_to, is_accepted, log_after}
 use Rattle.schedule_text.specs.declared.line.Line.{Line}
 use Rattle.schedule_text.specs.declared.call_form.CallForm.{CallForm}
-use Rattle.schedule_text.specs.Grammar.{IsLine}
 use Rattle.node_rules.specs.declared.identity.WalletIdentity.{WalletIdentity}
 use Rattle.node_rules.specs.WalletRecords.{identity_text as wallet_text, owner_of}
-use Rattle.node_rules.specs.Watcher.{WatcherIdentity, identity_text as watcher_text}
-use Rattle.world_rules.specs.Events.{Event, Declares, Joins, Bounces, Idle, node_in}
-use Rattle.world_rules.specs.World.{Role, Wallet, Watcher, Operator, Node, World, is_wallet_role, owner_of_node, key_of, call_of}
-use Rattle.world_rules.specs.Declarations.{declared_wallet, is_new_name, is_declared_account, is_caller, is_wallet_key, is_wallet_seed, wallet_nodes, may_be_wallet}
+use Rattle.node_rules.specs.Wallet.{who}
+use Rattle.node_rules.specs.Watcher.{WatcherIdentity, who_is, identity_text as watcher_text}
+use Rattle.node_replies.specs.declared.order.NodeOrder.{NodeOrder}
+use Rattle.watch_duty.proofs.Members.{Has}
+use Rattle.world_rules.specs.Events.{Event, Other, Idle, wallet_owner, node_in, is_command_of}
+use Rattle.world_rules.specs.World.{Role, Wallet, Watcher, Operator, Node, World, is_wallet_role, is_watcher_role, owner_of_node, wallet_of, key_of, call_of, padded}
+use Rattle.world_rules.specs.Declarations.{is_new_name, is_declared_account, is_caller, is_wallet_key, is_wallet_seed, wallet_nodes, may_be_wallet}
 use Rattle.world_rules.specs.declared.TheConstants.{MOST_WALLETS}
-use Rattle.world_rules.specs.Steps.{new_node, declares_wallet, declares_watcher, called}
-use Rattle.line_forms.proofs.FormLaws.{option_map_some}
+use Rattle.world_rules.specs.Deeds.{Deed}
+use Rattle.world_rules.specs.Steps.{new_node, after_crash, offer_numbered, Run, events_of}
+use Rattle.world_rules.proofs.Runs.{begun}
+use Rattle.world_acts.specs.Acts.{Place, NewWallet, NewWatcher, NewRogue, Origin, Plain, Deposits, Raw, Offered, Act, Adds, Enters, Orders, Crashes, callers_after, End, Whole, Crashed, Kept, Lost, end_of, node_after, event_after, deed_at, done}
+use Rattle.world_acts.specs.Evidence.{IsThere, is_plain, IsFrom, MayOrder, IsActIn}
+use Rattle.world_acts.proofs.Fitting.{IsFitAct}
+use Rattle.world_acts.proofs.Lives.{line_effect}
+use Rattle.world_acts.proofs.Nodes.{change_of, EachNode, IsOther, IsKeptOwn, each_node_keeps}
+use Rattle.world_acts.proofs.Same.{IsSame, same-after}
+use Rattle.world_acts.proofs.Told.{OperatorIsFirst, by-end, commands-others, said-others, rules-stay}
+use Rattle.world_laws.specs.Headline.{IsRun}
 use Rattle.world_laws.proofs.Lists.{some_same, none_some}
-use Rattle.world_laws.proofs.Origins.{IsFrom, Plain, Deposits, Raw, Offered}
-use Rattle.world_laws.proofs.Holders.{holder, holders, IsHeld, holder-wallet, holder-at, holders-push, held-declared, Moves, IsKnown, KeepAccounts, accounts-push, accounts-callers, accounts-call}
-use Rattle.world_laws.proofs.Identities.{IsOfRole, IsWallet, IsNode, AreNodes, IsThere, wallet-node, owner-same, owner-new, owner-other, next-unknown, nodes-still, nodes-push, wallet-identity, watcher-identity}
+use Rattle.world_laws.proofs.Acts.{over_events}
+use Rattle.world_laws.proofs.Holders.{holder, holders, IsHeld, holder-wallet, holder-at, holders-set, holders-push, held-declared, Moves, IsKnown, KeepAccounts, accounts-push, accounts-callers, accounts-call}
+use Rattle.world_laws.proofs.Identities.{IsOfRole, IsWallet, IsWatcher, IsNode, IsNodeAt, IsOffer, wallet-node, watcher-who, owner-same, owner-own, owner-new, role-stays, node-same, first-recorded, wallet-identity}
+use Rattle.world_laws.proofs.DeedOffers.{order-offers}
 
 pub record Keeps (events : List Event) (world : World) : Type 0 where
-  pub tag : length world.chain.tag ≡ 32
-  pub nodes : AreNodes events world.chain.tag world.nodes
+  pub nodes : EachNode (IsNodeAt events world.chain.tag) world.nodes
   pub accounts : KeepAccounts (holders world.nodes) world.raw_callers world.chain.log
-
--- ---- calls
-
-none-there : (nodes : List Node) (event : Event) → node_in event ≡ None → IsThere nodes event
-none-there nodes event none n is gone = absurd (none_some n (sym none ∙ is))
-
--- who a wallet's node is
-pub is-wallet : (events : List Event) (tag : List ℕ) (n : ℕ) (node : Node) → IsNode events tag n node
-    → is_wallet_role node.role ≡ true → IsWallet events tag n node
-is-wallet events tag n node is role = by node.role role is.is
-  where
-    by : (r : Role) → is_wallet_role r ≡ true → IsOfRole events tag n node r → IsWallet events tag n node
-    by Wallet role is = is
-    by Watcher role is = absurd (false≢true role)
-    by Operator role is = absurd (false≢true role)
 
 pub holder-is : (nodes : List Node) (n : ℕ) (node : Node) (account : ℕ) → slice_get nodes n ≡ Some node
     → is_wallet_role node.role ≡ true → node.account ≡ account → slice_get (holders nodes) n ≡ Some (Some account)
@@ -54,6 +49,29 @@ holder-is nodes n node account is role same =
 pub held-by : (nodes : List Node) (n : ℕ) (node : Node) (account : ℕ) → slice_get nodes n ≡ Some node
     → is_wallet_role node.role ≡ true → node.account ≡ account → IsHeld (holders nodes) account
 held-by nodes n node account is role same = (n, holder-is nodes n node account is role same)
+
+-- money that comes in and the time move no account
+pub plain-moves : (call : RootCall) (account : ℕ) → is_plain call ≡ true → Moves account call → ⊥
+plain-moves (RootCall.Fund by amount) account plain (inl wrong) = false≢true wrong
+plain-moves (RootCall.Fund by amount) account plain (inr wrong) = false≢true wrong
+plain-moves (RootCall.Tick time) account plain (inl wrong) = false≢true wrong
+plain-moves (RootCall.Tick time) account plain (inr wrong) = false≢true wrong
+plain-moves call account plain moves = false≢true plain
+
+-- an offer with a number is one of the offers
+slice-has : (xs : List RootCall) (n : ℕ) (x : RootCall) → slice_get xs n ≡ Some x → Has xs x
+slice-has [] n x is = absurd (cc is)
+slice-has (y ∷ ys) zero x is = inl (some_same y x is)
+slice-has (y ∷ ys) (suc n) x is = inr (slice-has ys n x is)
+
+pub offered-has : (number : ℕ) (node : Node) (call : RootCall) → offer_numbered number node ≡ Some call
+    → Has node.offers call
+offered-has number node call is =
+    (elim (number == 0) as (λ b. (if b then None else slice_get node.offers (number - 1)) ≡ Some call
+    → Has node.offers call) [
+      | true ↦ λ none. absurd (cc none)
+      | false ↦ λ some. slice-has node.offers (number - 1) call some
+    ]) is
 
 -- a stranger's call moves its own account
 pub raw-moves : (world : World) (account : ℕ) (form : CallForm) (call : RootCall) (by : ℕ)
@@ -81,91 +99,92 @@ raw-moves world account form call by is moves =
     ]
 
 module _ (events : List Event) (world : World) (keeps : Keeps events world) where
+  -- the node that is there
+  pub node-at : (n : ℕ) (node : Node) → slice_get world.nodes n ≡ Some node → IsNode events world.chain.tag n node
+  node-at n node is = subst (IsNodeAt events world.chain.tag n) is (keeps.nodes n)
+
+  -- of what isn't there nothing is said, so of the next node
+  pub not-there : (n : ℕ) → slice_get world.nodes n ≡ None
+      → (wallet_owner events n ≡ None) × (list_any (is_command_of n) events ≡ false)
+  not-there n none = subst (IsNodeAt events world.chain.tag n) none (keeps.nodes n)
+
+  pub next-unknown : (wallet_owner events (length world.nodes) ≡ None)
+      × (list_any (is_command_of (length world.nodes)) events ≡ false)
+  next-unknown =
+      not-there (length world.nodes) (slice_get_past world.nodes (length world.nodes) (le_refl (length world.nodes)))
+
+  -- who a wallet's node is
+  pub is-wallet : (n : ℕ) (node : Node) → slice_get world.nodes n ≡ Some node → is_wallet_role node.role ≡ true
+      → IsWallet events world.chain.tag n node
+  is-wallet n node is role = by node.role role (node-at n node is).is
+    where
+      by : (r : Role) → is_wallet_role r ≡ true → IsOfRole events world.chain.tag n node r
+          → IsWallet events world.chain.tag n node
+      by Wallet role is = is
+      by Watcher role is = absurd (false≢true role)
+      by Operator role is = absurd (false≢true role)
+
+  -- and a watcher's, and its tag
+  pub is-watcher : (n : ℕ) (node : Node) → slice_get world.nodes n ≡ Some node → is_watcher_role node.role ≡ true
+      → IsWatcher events world.chain.tag n node
+  is-watcher n node is role = by node.role role (node-at n node is).is
+    where
+      by : (r : Role) → is_watcher_role r ≡ true → IsOfRole events world.chain.tag n node r
+          → IsWatcher events world.chain.tag n node
+      by Wallet role is = absurd (false≢true role)
+      by Watcher role is = is
+      by Operator role is = absurd (false≢true role)
+
+  pub watcher-tag : (n : ℕ) (node : Node) → slice_get world.nodes n ≡ Some node → is_watcher_role node.role ≡ true
+      → (who_is node.notes).tag ≡ world.chain.tag
+  watcher-tag n node is role =
+      let own = is-watcher n node is role in
+      ap (λ (w : WatcherIdentity). w.tag) (watcher-who node.notes own.who own.identity own.first) ∙ own.tag_is
+
   -- the account of a wallet's owner is its node's
   pub own-account : (n : ℕ) (node : Node) → slice_get world.nodes n ≡ Some node → is_wallet_role node.role ≡ true
       → (owner_of_node node).account ≡ node.account
-  own-account n node is role =
-      (wallet-node events world.chain.tag n node
-      (is-wallet events world.chain.tag n node (keeps.nodes.each n node is) role)).1
+  own-account n node is role = (wallet-node events world.chain.tag n node (is-wallet n node is role)).1
+
+  -- the tag of a wallet's node is the chain's
+  pub own-tag : (n : ℕ) (node : Node) → slice_get world.nodes n ≡ Some node → is_wallet_role node.role ≡ true
+      → (who (wallet_of node)).tag ≡ world.chain.tag
+  own-tag n node is role = (wallet-node events world.chain.tag n node (is-wallet n node is role)).2
+
+  -- what a node there offers
+  pub is-offer : (place : Place) (call : RootCall) → IsThere world place
+      → (number : ℕ) × (offer_numbered number place.node ≡ Some call) → IsOffer place.node call
+  is-offer place call there offered =
+      (node-at place.number place.node there).offers call (offered-has offered.0 place.node call offered.1)
 
   -- what is entered moves a known account
-  from-known : (callers : List ℕ) (call : RootCall) → IsFrom world callers call → (account : ℕ)
-      → Moves account call → IsKnown (holders world.nodes) callers account
-  from-known callers call (Plain deposits starts same) account (inl moves) =
-      absurd (false≢true (sym (deposits account) ∙ moves))
-  from-known callers call (Plain deposits starts same) account (inr moves) =
-      absurd (false≢true (sym (starts account) ∙ moves))
-  from-known callers call (Deposits n node amount is role call_is same) account moves =
-      elim (subst (Moves account) call_is moves) [
-        | inl own ↦ inl (held-by world.nodes n node account is role
-            (sym (own-account n node is role) ∙ eqb-true (owner_of_node node).account account own))
+  from-known : (call : RootCall) (origin : Origin) → IsFrom world call origin → (account : ℕ) → Moves account call
+      → IsKnown (holders world.nodes) (callers_after world.raw_callers origin) account
+  from-known call Plain plain account moves = absurd (plain-moves call account plain moves)
+  from-known call (Deposits place) from account moves =
+      elim (subst (Moves account) from.2.1 moves) [
+        | inl own ↦
+            let node : Node = place.node in
+            inl (held-by world.nodes place.number node account from.0 from.1
+            (sym (own-account place.number node from.0 from.1)
+            ∙ eqb-true (owner_of_node node).account account own))
         | inr wrong ↦ absurd (false≢true wrong)
       ]
-  from-known callers call (Raw by form other is same) account moves =
-      inr (ap (list_any (λ caller. caller == account)) same
-      ∙ or_left (by == account) (list_any (λ caller. caller == account) world.raw_callers)
-      (raw-moves world by form call account is moves))
-  from-known callers call (Offered n node is has same) account (inl moves) =
-      absurd (false≢true (sym (((keeps.nodes.each n node is).offers call has).deposits account) ∙ moves))
-  from-known callers call (Offered n node is has same) account (inr moves) =
-      let start = ((keeps.nodes.each n node is).offers call has).starts account moves in
-      inl (held-by world.nodes n node account is start.0 start.1)
+  from-known call (Raw by) from account moves =
+      inr (or_left (by == account) (list_any (λ caller. caller == account) world.raw_callers)
+      (raw-moves world by from.1.0 call account from.1.1 moves))
+  from-known call (Offered place) from account (inl moves) =
+      absurd (false≢true (sym ((is-offer place call from.0 from.1).deposits account) ∙ moves))
+  from-known call (Offered place) from account (inr moves) =
+      let start = (is-offer place call from.0 from.1).starts account moves in
+      inl (held-by world.nodes place.number place.node account from.0 start.0 start.1)
 
   -- and the callers that there were stay
-  from-callers : (callers : List ℕ) (call : RootCall) → IsFrom world callers call → (account : ℕ)
-      → list_any (λ caller. caller == account) world.raw_callers ≡ true
-      → list_any (λ caller. caller == account) callers ≡ true
-  from-callers callers call (Plain deposits starts same) account is =
-      ap (list_any (λ caller. caller == account)) same ∙ is
-  from-callers callers call (Deposits n node amount node_is role call_is same) account is =
-      ap (list_any (λ caller. caller == account)) same ∙ is
-  from-callers callers call (Raw by form other call_is same) account is =
-      ap (list_any (λ caller. caller == account)) same
-      ∙ or_right (by == account) (list_any (λ caller. caller == account) world.raw_callers) is
-  from-callers callers call (Offered n node node_is has same) account is =
-      ap (list_any (λ caller. caller == account)) same ∙ is
-
-  pub keeps-call : (dig : List ℕ → List ℕ) (callers : List ℕ) (call : RootCall) → IsFrom world callers call
-      → let effect = called dig (record world { raw_callers = callers }) call in
-      Keeps (effect.event ∷ events) effect.world
-  unfolding log_after
-  keeps-call dig callers call from =
-      (elim (is_accepted answer) as (λ b. Keeps ((if b then Joins call else Bounces call) ∷ events)
-      (record world {
-        raw_callers = callers;
-        chain = with_log world.chain (if b then call ∷ world.chain.log else world.chain.log);
-      })) [
-        | true ↦ record {
-          tag = keeps.tag;
-          nodes = nodes-still events world.chain.tag world.nodes (Joins call) refl
-              (none-there world.nodes (Joins call) refl) keeps.nodes;
-          accounts = accounts-call (holders world.nodes) callers world.chain.log call (from-known callers call from)
-              longer;
-        }
-        | false ↦ record {
-          tag = keeps.tag;
-          nodes = nodes-still events world.chain.tag world.nodes (Bounces call) refl
-              (none-there world.nodes (Bounces call) refl) keeps.nodes;
-          accounts = longer;
-        }
-      ])
-    where
-      answer : Answer
-      answer = answer_to (tests_by dig) (rules_of world.chain) world.chain.log call
-
-      longer : KeepAccounts (holders world.nodes) callers world.chain.log
-      longer = accounts-callers (holders world.nodes) world.raw_callers callers world.chain.log
-          (from-callers callers call from) keeps.accounts
-
-  -- ---- declarations
-
-  -- an event of nothing
-  pub keeps-idle : Keeps (Idle ∷ events) world
-  keeps-idle = record {
-    tag = keeps.tag;
-    nodes = nodes-still events world.chain.tag world.nodes Idle refl (none-there world.nodes Idle refl) keeps.nodes;
-    accounts = keeps.accounts;
-  }
+  from-callers : (origin : Origin) (account : ℕ) → list_any (λ caller. caller == account) world.raw_callers ≡ true
+      → list_any (λ caller. caller == account) (callers_after world.raw_callers origin) ≡ true
+  from-callers (Raw by) account is =
+      or_right (by == account) (list_any (λ caller. caller == account) world.raw_callers) is
+  from-callers origin account is = is
 
   -- the account that a wallet is declared with is new
   pub account-new : (name : List ℕ) (who : WalletIdentity) → may_be_wallet world name who ≡ true
@@ -185,56 +204,194 @@ module _ (events : List Event) (world : World) (keeps : Keeps events world) wher
       false≢true (sym (or_parts (list_any (λ (node : Node). node.account == account) world.nodes) _ new).0
       ∙ held-declared world.nodes account held)
 
-  pub keeps-wallet : (name : List ℕ) (account seed : ℕ) (types : Option LmsTypes)
-      → IsLine (Line.Wallet name account seed types)
-      → may_be_wallet world name (declared_wallet world account seed types) ≡ true
-      → let effect = declares_wallet world name (declared_wallet world account seed types) in
-      Keeps (effect.event ∷ events) effect.world
-  keeps-wallet name account seed types line may =
-      let who : WalletIdentity = declared_wallet world account seed types in
-      let node : Node = new_node Wallet name account (wallet_text who) in
-      let event : Event = Declares (length world.nodes) (owner_of who) in
-      record {
-        tag = keeps.tag;
-        nodes = nodes-push events world.chain.tag world.nodes node event refl refl
-            (λ n apart. owner-other (length world.nodes) n (owner_of who) events apart)
-            (record {
-              who = who;
-              identity = wallet-identity name world.chain.tag account seed types line keeps.tag;
-              first = refl;
-              tag_is = refl;
-              account_is = refl;
-              owner = owner-new (length world.nodes) (length world.nodes) (owner_of who) events refl;
-            })
-            keeps.nodes;
-        accounts = subst (λ (held : List (Option ℕ)). KeepAccounts held world.raw_callers world.chain.log)
-            (sym (holders-push world.nodes node))
-            (accounts-push (holders world.nodes) (holder node) world.raw_callers world.chain.log
-            (λ by is held. not-held account (account-new name who may).0
-            (subst (IsHeld (holders world.nodes)) (sym (some_same account by is)) held)) keeps.accounts);
-      }
+-- ---- each act
 
-  pub keeps-watcher : (name : List ℕ) (account : ℕ) → IsLine (Line.Watcher name account)
-      → let effect = declares_watcher world name account in Keeps (effect.event ∷ events) effect.world
-  keeps-watcher name account line =
-      let who : WatcherIdentity = record { tag = world.chain.tag; account = account } in
-      let node : Node = new_node Watcher name account (watcher_text who) in
-      record {
-        tag = keeps.tag;
-        nodes = nodes-push events world.chain.tag world.nodes node Idle refl refl
-            (λ n apart. owner-same Idle events n refl)
-            (record {
-              who = who;
-              identity = watcher-identity name world.chain.tag account line keeps.tag;
-              first = refl;
-              tag_is = refl;
-              account_is = refl;
-              owner = owner-same Idle events (length world.nodes) refl
-                  ∙ (next-unknown events world.chain.tag world.nodes keeps.nodes).0;
-            })
-            keeps.nodes;
-        accounts = subst (λ (held : List (Option ℕ)). KeepAccounts held world.raw_callers world.chain.log)
-            (sym (holders-push world.nodes node))
-            (accounts-push (holders world.nodes) (holder node) world.raw_callers world.chain.log
-            (λ by is held. absurd (none_some by is)) keeps.accounts);
-      }
+module _ (dig : List ℕ → List ℕ) (events : List Event) (world : World) (keeps : Keeps events world)
+    (first : OperatorIsFirst world) (long : length world.chain.tag ≡ 32) where
+  abbrev At : ℕ → Option Node → Type 0
+  At = IsNodeAt events world.chain.tag
+
+  -- of another node, or of none
+  others-keep : (act : Act) → IsActIn world act → (m : ℕ) → IsOther world.nodes (change_of dig world act) m
+      → (found : Option Node) → At m found → IsNodeAt ((done dig world act).event ∷ events) world.chain.tag m found
+  others-keep act known m other found =
+      node-same events ((done dig world act).event ∷ events) world.chain.tag m found
+      (owner-same (done dig world act).event events m (said-others dig world first act known m other))
+      (λ unused. ap (λ (b : Bool). b || list_any (is_command_of m) events)
+      (commands-others dig world first act known m other) ∙ unused)
+
+  -- the node of an order, however it ends, and of a crash
+  own-keeps : (place : Place) (event : Event) (after : Node) → node_in event ≡ Some place.number
+      → IsSame place.node after
+      → ((body : List ℕ) → slice_get place.node.notes 0 ≡ Some body → slice_get after.notes 0 ≡ Some body)
+      → ((call : RootCall) → Has after.offers call → IsOffer place.node call)
+      → At place.number (Some place.node) → IsNodeAt (event ∷ events) world.chain.tag place.number (Some after)
+  own-keeps place event after by same body offers is = record {
+    is = subst (IsOfRole (event ∷ events) world.chain.tag place.number after) (sym same.role)
+        (role-stays events (event ∷ events) world.chain.tag place.number place.node after place.node.role
+        (owner-own event events place.number place.number by) same.account body is.is);
+    offers = λ call has. let offer = offers call has in record {
+      deposits = offer.deposits;
+      starts = λ account starts. let by = offer.starts account starts in
+          (ap is_wallet_role same.role ∙ by.0, same.account ∙ by.1);
+    };
+  }
+
+  module _ (place : Place) (order : NodeOrder) (may : MayOrder world place order) where
+    abbrev deed : Deed
+    deed = deed_at dig world place order
+
+    abbrev Ended : End → Type 0
+    Ended end = At place.number (Some place.node)
+        → IsNodeAt (event_after place.number deed end ∷ events) world.chain.tag place.number
+        (Some (node_after place.node deed end))
+
+    ended : (end : End) → Ended end
+    ended end =
+        own-keeps place (event_after place.number deed end) (node_after place.node deed end)
+        (by-end dig world first place order may end).node (same-after place.node deed end) (body end) (offers end)
+      where
+        body : (end : End) (first : List ℕ) → slice_get place.node.notes 0 ≡ Some first
+            → slice_get (node_after place.node deed end).notes 0 ≡ Some first
+        body Lost first is = is
+        body Whole first is = first-recorded place.node.notes deed.note first is
+        body Crashed first is = first-recorded place.node.notes deed.note first is
+        body Kept first is = first-recorded place.node.notes deed.note first is
+
+        offers : (end : End) (call : RootCall) → Has (node_after place.node deed end).offers call
+            → IsOffer place.node call
+        offers Whole call has =
+            order-offers dig world place order may call has
+            (own-account events world keeps place.number place.node may.there)
+        offers Crashed call none = absurd none
+        offers Kept call none = absurd none
+        offers Lost call none = absurd none
+
+  own-kept : (act : Act) → IsActIn world act → IsFitAct act
+      → IsKeptOwn At (IsNodeAt ((done dig world act).event ∷ events) world.chain.tag) world.nodes
+      (change_of dig world act)
+  unfolding done
+  own-kept (Adds name (NewWallet who)) known fit = λ none. record {
+    is = record {
+      who = who;
+      identity = wallet-identity world who long known.0 fit;
+      first = refl;
+      tag_is = known.0.tag;
+      account_is = refl;
+      owner = owner-new (length world.nodes) (length world.nodes) (owner_of who) events refl;
+    };
+    offers = λ call none. absurd none;
+  }
+  own-kept (Adds name (NewWatcher account)) known fit = λ none. record {
+    is = record {
+      who = record { tag = world.chain.tag; account = account };
+      identity = record { tag = long; account = fit };
+      first = refl;
+      tag_is = refl;
+      account_is = refl;
+      owner = owner-same Idle events (length world.nodes) refl ∙ none.0;
+    };
+    offers = λ call none. absurd none;
+  }
+  own-kept (Adds name (NewRogue who)) known fit = tt
+  own-kept (Orders place order cut) known fit =
+      ended place order known (end_of cut place.node order (deed_at dig world place order))
+  own-kept (Crashes place) known fit =
+      own-keeps place (Other place.number) (after_crash place.node) refl
+      (record { name = refl; account = refl; role = refl }) (λ body is. is) (λ call none. absurd none)
+  own-kept act known fit = tt
+
+  -- the accounts of a node that changes, but for its role and account
+  same-accounts : (place : Place) (after : Node) → IsThere world place → IsSame place.node after
+      → KeepAccounts (holders (set world.nodes place.number after)) world.raw_callers world.chain.log
+  same-accounts place after there same =
+      subst (λ (held : List (Option ℕ)). KeepAccounts held world.raw_callers world.chain.log)
+      (sym (holders-set world.nodes place.number place.node after there
+      (λ i. holder (record after { role = same.role i; account = same.account i })))) keeps.accounts
+
+  new-accounts : (node : Node)
+      → ((account : ℕ) → holder node ≡ Some account → IsHeld (holders world.nodes) account → ⊥)
+      → KeepAccounts (holders (world.nodes ++ node ∷ [])) world.raw_callers world.chain.log
+  new-accounts node other =
+      subst (λ (held : List (Option ℕ)). KeepAccounts held world.raw_callers world.chain.log)
+      (sym (holders-push world.nodes node))
+      (accounts-push (holders world.nodes) (holder node) world.raw_callers world.chain.log other keeps.accounts)
+
+  abbrev AccountsAfter : World → Type 0
+  AccountsAfter after = KeepAccounts (holders after.nodes) after.raw_callers after.chain.log
+
+  entered-accounts : (call : RootCall) (origin : Origin) → IsFrom world call origin
+      → KeepAccounts (holders world.nodes) (callers_after world.raw_callers origin)
+      (log_after (tests_by dig) (rules_of world.chain) world.chain.log call)
+  unfolding log_after
+  entered-accounts call origin from =
+      (elim (is_accepted (answer_to (tests_by dig) (rules_of world.chain) world.chain.log call)) as (λ b.
+      KeepAccounts (holders world.nodes) (callers_after world.raw_callers origin)
+      (if b then call ∷ world.chain.log else world.chain.log)) [
+        | true ↦
+            accounts-call (holders world.nodes) (callers_after world.raw_callers origin) world.chain.log call
+            (from-known events world keeps call origin from) longer
+        | false ↦ longer
+      ])
+    where
+      longer : KeepAccounts (holders world.nodes) (callers_after world.raw_callers origin) world.chain.log
+      longer =
+          accounts-callers (holders world.nodes) world.raw_callers (callers_after world.raw_callers origin)
+          world.chain.log (from-callers events world keeps origin) keeps.accounts
+
+  accounts-kept : (act : Act) → IsActIn world act → AccountsAfter (done dig world act).world
+  unfolding done
+  accounts-kept (Adds name (NewWallet who)) known =
+      new-accounts (new_node Wallet name who.account (wallet_text who))
+      (λ by is held. not-held events world keeps who.account (account-new events world keeps name who known.1).0
+      (subst (IsHeld (holders world.nodes)) (sym (some_same who.account by is)) held))
+  accounts-kept (Adds name (NewWatcher account)) known =
+      new-accounts
+      (new_node Watcher name account (watcher_text (record { tag = world.chain.tag; account = account })))
+      (λ by is held. absurd (none_some by is))
+  accounts-kept (Adds name (NewRogue who)) known = keeps.accounts
+  accounts-kept (Enters origin call) known = entered-accounts call origin known
+  accounts-kept (Orders place order cut) known =
+      let deed = deed_at dig world place order in
+      same-accounts place _ known.there (same-after place.node deed (end_of cut place.node order deed))
+  accounts-kept (Crashes place) known =
+      same-accounts place _ known (record { name = refl; account = refl; role = refl })
+  accounts-kept act known = keeps.accounts
+
+  pub act-keeps : (act : Act) → IsActIn world act → IsFitAct act
+      → Keeps ((done dig world act).event ∷ events) (line_effect dig world act).world
+  act-keeps act known fit = record {
+    nodes = subst (λ (rules : Rules). EachNode (IsNodeAt ((done dig world act).event ∷ events) rules.tag)
+        (done dig world act).world.nodes) (sym (rules-stay dig world act))
+        (each_node_keeps At (IsNodeAt ((done dig world act).event ∷ events) world.chain.tag) dig world act known
+        keeps.nodes (record { others = others-keep act known; own = own-kept act known fit }));
+    accounts = accounts-kept act known;
+  }
+
+-- ---- every run
+
+first-keeps : (tag operator most : ℕ) → Keeps (Idle ∷ []) (begun tag operator most).world
+unfolding wallet_owner
+first-keeps tag operator most = record {
+  nodes = nodes;
+  accounts = record {
+    distinct = λ n m account one other. absurd (nobody n account one);
+    known = λ account call none. absurd none;
+  };
+}
+  where
+    nodes : EachNode (IsNodeAt (Idle ∷ []) (padded tag)) (begun tag operator most).world.nodes
+    nodes zero = record { is = refl; offers = λ call none. absurd none }
+    nodes (suc n) = (refl, refl)
+
+    nobody : (n account : ℕ) → slice_get (None ∷ []) n ≡ Some (Some account) → ⊥
+    nobody zero account is = cc is
+    nobody (suc n) account is = cc is
+
+-- what is kept in the world of every run
+pub runs-keep : (dig : List ℕ → List ℕ) (lines : List Line) (run : Run) (world : World)
+    → IsRun dig lines run world → Keeps (events_of run.entries) world
+runs-keep dig =
+    over_events dig Keeps (λ tag operator most fits. first-keeps tag operator most)
+    (λ lines run world line act next keeps.
+    act-keeps dig (events_of run.entries) world keeps next.first next.kept.tag_long act next.known next.fit)

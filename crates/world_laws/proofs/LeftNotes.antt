@@ -38,14 +38,12 @@ use Rattle.node_replies.specs.declared.order.WalletOrder.{WalletOrder}
 use Rattle.node_replies.specs.Orders.{with_record, exit_block, on_leaving, wallet_does}
 use Rattle.world_rules.specs.Orders.{node_does}
 use Rattle.world_rules.specs.OrderEvents.{event_of}
-use Rattle.world_rules.proofs.OrderEnds.{OrderEnds, Leaving as LeavingEnds, wallet_told, IsOrderAt, order-role, ordered, order-ends}
-use Rattle.world_rules.proofs.Shapes.{IsDone}
-use Rattle.world_laws.proofs.DeedOffers.{done-role}
-use Rattle.schedule_text.specs.declared.command.Command.{Command}
+use Rattle.world_rules.proofs.OrderEnds.{OrderEnds, Leaving as LeavingEnds, wallet_told, order-ends}
 use Rattle.node_replies.proofs.ByteTexts.{Small}
 use Rattle.world_rules.proofs.Said.{Said}
 use Rattle.world_rules.proofs.KeptWallet.{KeptWallet, with_note}
-use Rattle.world_rules.proofs.KeptNode.{Feeds, IsFit, IsFitOrder, order-fit, wallet-alone}
+use Rattle.world_rules.proofs.KeptNode.{Feeds, IsFitOrder, wallet-alone}
+use Rattle.world_acts.specs.Evidence.{has_order}
 use Rattle.world_rules.proofs.WalletSends.{words}
 use Rattle.world_laws.proofs.Lists.{some_same}
 use Rattle.world_laws.proofs.Offers.{StartsAt, start-at}
@@ -354,7 +352,7 @@ module _ (dig : List ℕ → List ℕ) (s : Said) (world : World) (feeds : Feeds
   abbrev IsLeftStill : Deed → Type 0
   IsLeftStill deed = StillLeft dig (wallet_of node) (after_deed (wallet_of node) deed) deed.gives.event
 
-  order-left : (order : NodeOrder) → IsOrderAt node.role order → IsFitOrder order
+  pub order-left : (order : NodeOrder) → has_order order node.role ≡ true → IsFitOrder order
       → IsLeftStill (as_deed n order (node_does dig world.chain.log node order))
   unfolding event_of
   order-left (NodeOrder.Wallet order) at fit =
@@ -365,12 +363,3 @@ module _ (dig : List ℕ → List ℕ) (s : Said) (world : World) (feeds : Feeds
     still = still-noted dig (wallet_of node) None None (NoNote refl);
     left = λ m call is. absurd (cc is);
   }
-
-  pub deed-left : (command : Command) (deed : Deed) → IsFit command → IsDone dig world command n node deed
-      → IsLeftStill deed
-  deed-left command deed fit done =
-      let own = ordered dig world n node command deed done.deed_is in
-      subst IsLeftStill own.deed_is
-      (order-left own.order
-      (order-role world node.role command own.order (done-role dig world command n node deed done) own.order_is)
-      (order-fit world feeds node.role command own.order fit own.order_is))

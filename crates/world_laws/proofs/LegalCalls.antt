@@ -2,29 +2,29 @@
 use Rattle.std.proofs.Common.{◌≡◌, ◌⊎◌, ℕ, Bool, true, false, if◌then◌else◌, List, length, Option, Some, None, inl, inr, refl, sym, ap, ◌∙◌, subst, slice_get}
 use Rattle.std.specs.List.{Contains, list_any}
 use Rattle.std.proofs.lemmas.Bool.{eqb-true, true≢false, false≢true}
-use Rattle.lms_sign.specs.declared.types.LmsTypes.{LmsTypes}
 use Rattle.plasma_tx.specs.declared.owner.Owner.{Owner}
 use Rattle.plasma_tx.specs.declared.call.RootCall.{RootCall}
 use Rattle.plasma_tx.specs.declared.answer.Answer.{Answer}
 use Rattle.plasma_tx.specs.Shown.{tests_by, rules_of}
 use Rattle.plasma_tx.specs.Table.{answer_to, is_accepted}
+use Rattle.node_rules.specs.declared.identity.WalletIdentity.{WalletIdentity}
 use Rattle.node_rules.specs.WalletRecords.{owner_of}
 use Rattle.watch_duty.proofs.Members.{contains-has, has-contains}
 use Rattle.world_rules.specs.Events.{Event, Joins, Bounces, log_of, wallet_owner, offers_of}
 use Rattle.world_rules.specs.World.{Role, Wallet, Watcher, Operator, Node, World, is_wallet_role, owner_of_node}
-use Rattle.world_rules.specs.Declarations.{declared_wallet, is_declared_account, is_caller, may_be_wallet}
-use Rattle.world_rules.specs.Steps.{called, Run, events_of}
+use Rattle.world_rules.specs.Declarations.{is_declared_account, is_caller, may_be_wallet}
+use Rattle.world_rules.specs.Steps.{event_of_call, Run, events_of}
 use Rattle.world_rules.proofs.RunLaws.{logs_are_of_events}
 use Rattle.world_rules.proofs.OfferLaws.{offers_are_of_events}
 use Rattle.schedule_text.specs.declared.line.Line.{Line}
 use Rattle.world_laws.specs.Headline.{IsRun}
 use Rattle.world_laws.specs.Legal.{starts_by, deposits_by, left_by, LegalDeclaration, IsLegalEvent, IsLegal}
 use Rattle.world_laws.proofs.Lists.{some_same, none_some}
-use Rattle.world_laws.proofs.Origins.{IsFrom, Plain, Deposits, Raw, Offered}
+use Rattle.world_acts.specs.Acts.{Origin, Plain, Deposits, Raw, Offered}
+use Rattle.world_acts.specs.Evidence.{IsFrom}
 use Rattle.world_laws.proofs.Holders.{holders, IsHeld, held-wallet, IsKnown, unknown-none}
-use Rattle.world_laws.proofs.Identities.{IsOfRole, wallet-node, next-unknown}
-use Rattle.world_laws.proofs.Keeps.{Keeps, raw-moves, holder-is, held-by, account-new, not-held}
-use Rattle.world_laws.proofs.Acts.{runs-keep}
+use Rattle.world_laws.proofs.Identities.{IsOfRole, wallet-node}
+use Rattle.world_laws.proofs.Keeps.{Keeps, plain-moves, offered-has, raw-moves, holder-is, held-by, node-at, not-there, next-unknown, is-offer, account-new, not-held, runs-keep}
 use Rattle.world_laws.proofs.Offers.{start-any}
 use Rattle.world_laws.proofs.OwnExits.{offered_left}
 
@@ -69,8 +69,8 @@ module _ (events : List Event) (world : World) (behind : IsBehind events world) 
       at-role node node_is Operator role is = absurd (none_some me (sym is ∙ me_is))
 
       by : (found : Option Node) → slice_get world.nodes w ≡ found → IsOwnNode w me
-      by None none = absurd (none_some me (sym (behind.keeps.nodes.unknown w none) ∙ me_is))
-      by (Some node) is = at-role node is node.role refl (behind.keeps.nodes.each w node is).is
+      by None none = absurd (none_some me (sym (not-there events world behind.keeps w none).0 ∙ me_is))
+      by (Some node) is = at-role node is node.role refl (node-at events world behind.keeps w node is).is
 
   own-held : (w : ℕ) (me : Owner) → wallet_owner events w ≡ Some me → IsHeld (holders world.nodes) me.account
   own-held w me me_is =
@@ -87,30 +87,29 @@ module _ (events : List Event) (world : World) (behind : IsBehind events world) 
   -- ---- calls
 
   -- a start by a wallet's account is on its offer
-  from-offered : (callers : List ℕ) (call : RootCall) → IsFrom world callers call → (w : ℕ) (me : Owner)
+  from-offered : (call : RootCall) (origin : Origin) → IsFrom world call origin → (w : ℕ) (me : Owner)
       → wallet_owner events w ≡ Some me → starts_by me.account call ≡ true → Contains (offers_of events w) call
-  from-offered callers call (Plain deposits starts same) w me me_is start =
-      absurd (false≢true (sym (starts me.account) ∙ start))
-  from-offered callers call (Deposits n node amount node_is role call_is same) w me me_is start =
-      absurd (false≢true (ap (starts_by me.account) (sym call_is) ∙ start))
-  from-offered callers call (Raw account form other is same) w me me_is start =
+  from-offered call Plain plain w me me_is start = absurd (plain-moves call me.account plain (inr start))
+  from-offered call (Deposits place) from w me me_is start =
+      absurd (false≢true (ap (starts_by me.account) (sym from.2.1) ∙ start))
+  from-offered call (Raw account) from w me me_is start =
       let own : account ≡ me.account =
-      eqb-true account me.account (raw-moves world account form call me.account is (inr start)) in
+      eqb-true account me.account (raw-moves world account from.1.0 call me.account from.1.1 (inr start)) in
       absurd (true≢false (sym (held-wallet world account
-      (subst (IsHeld (holders world.nodes)) (sym own) (own-held w me me_is))) ∙ other))
-  from-offered callers call (Offered n node node_is has same) w me me_is start =
-      let by = ((behind.keeps.nodes.each n node node_is).offers call has).starts me.account start in
-      let here : n ≡ w = one-account w n me node me_is node_is by.0 by.1 in
+      (subst (IsHeld (holders world.nodes)) (sym own) (own-held w me me_is))) ∙ from.0))
+  from-offered call (Offered place) from w me me_is start =
+      let by = (is-offer events world behind.keeps place call from.0 from.1).starts me.account start in
+      let here : place.number ≡ w = one-account w place.number me place.node me_is from.0 by.0 by.1 in
       subst (λ m. Contains (offers_of events m) call) here
-      (subst (λ (calls : List RootCall). Contains calls call) (behind.offers n node node_is)
-      (has-contains node.offers call has))
+      (subst (λ (calls : List RootCall). Contains calls call) (behind.offers place.number place.node from.0)
+      (has-contains place.node.offers call (offered-has from.1.0 place.node call from.1.1)))
 
   -- the event of a call that is entered is legal
-  pub legal-entered : (dig : List ℕ → List ℕ) (callers : List ℕ) (call : RootCall) → IsFrom world callers call
+  pub legal-entered : (dig : List ℕ → List ℕ) (call : RootCall) (origin : Origin) → IsFrom world call origin
       → IsLegal (tests_by dig) (rules_of world.chain) events
       → IsLegalEvent (tests_by dig) (rules_of world.chain) events
-      (called dig (record world { raw_callers = callers }) call).event
-  legal-entered dig callers call from legal = by (is_accepted answer) refl
+      (event_of_call call (answer_to (tests_by dig) (rules_of world.chain) world.chain.log call))
+  legal-entered dig call origin from legal = by (is_accepted answer) refl
     where
       answer : Answer
       answer = answer_to (tests_by dig) (rules_of world.chain) world.chain.log call
@@ -128,7 +127,7 @@ module _ (events : List Event) (world : World) (behind : IsBehind events world) 
             accepted = sym by_log ∙ is;
             offered = λ w me me_is start. has-contains (left_by events w) call
                 (offered_left (tests_by dig) (rules_of world.chain) events w call legal
-                (contains-has (offers_of events w) call (from-offered callers call from w me me_is start))
+                (contains-has (offers_of events w) call (from-offered call origin from w me me_is start))
                 (start-any me.account call start));
           })
       by false is =
@@ -138,30 +137,30 @@ module _ (events : List Event) (world : World) (behind : IsBehind events world) 
   -- ---- declarations
 
   -- the declaration of a wallet is legal
-  pub legal-declared : (name : List ℕ) (account seed : ℕ) (types : Option LmsTypes)
-      → may_be_wallet world name (declared_wallet world account seed types) ≡ true
-      → LegalDeclaration events (length world.nodes) (owner_of (declared_wallet world account seed types))
+  pub legal-declared : (name : List ℕ) (who : WalletIdentity) → may_be_wallet world name who ≡ true
+      → LegalDeclaration events (length world.nodes) (owner_of who)
   unfolding owner_of
-  legal-declared name account seed types may = record {
-    new = (next-unknown events world.chain.tag world.nodes behind.keeps.nodes).0;
-    unused = (next-unknown events world.chain.tag world.nodes behind.keeps.nodes).1;
-    no_deposit = moved (deposits_by account) (λ call is. inl is);
-    no_start = moved (starts_by account) (λ call is. inr is);
-    own_account = λ v other other_is same. not-held events world behind.keeps account new.0
+  legal-declared name who may = record {
+    new = (next-unknown events world behind.keeps).0;
+    unused = (next-unknown events world behind.keeps).1;
+    no_deposit = moved (deposits_by who.account) (λ call is. inl is);
+    no_start = moved (starts_by who.account) (λ call is. inr is);
+    own_account = λ v other other_is same. not-held events world behind.keeps who.account new.0
         (subst (IsHeld (holders world.nodes)) same (own-held v other other_is));
   }
     where
-      new : (is_declared_account world account ≡ false) × (is_caller world account ≡ false)
-      new = account-new events world behind.keeps name (declared_wallet world account seed types) may
+      new : (is_declared_account world who.account ≡ false) × (is_caller world who.account ≡ false)
+      new = account-new events world behind.keeps name who may
 
-      unknown : IsKnown (holders world.nodes) world.raw_callers account → ⊥
-      unknown (inl held) = not-held events world behind.keeps account new.0 held
+      unknown : IsKnown (holders world.nodes) world.raw_callers who.account → ⊥
+      unknown (inl held) = not-held events world behind.keeps who.account new.0 held
       unknown (inr is) = true≢false (sym is ∙ new.1)
 
       moved : (p : RootCall → Bool)
-          → ((call : RootCall) → p call ≡ true → (deposits_by account call ≡ true) ⊎ (starts_by account call ≡ true))
+          → ((call : RootCall) → p call ≡ true
+          → (deposits_by who.account call ≡ true) ⊎ (starts_by who.account call ≡ true))
           → list_any p (log_of events) ≡ false
       moved p moves =
           ap (list_any p) (sym behind.log)
-          ∙ unknown-none (holders world.nodes) world.raw_callers world.chain.log p account moves
+          ∙ unknown-none (holders world.nodes) world.raw_callers world.chain.log p who.account moves
           behind.keeps.accounts unknown

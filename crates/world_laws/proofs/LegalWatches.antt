@@ -19,9 +19,9 @@ use Rattle.world_rules.proofs.Said.{said}
 use Rattle.world_rules.proofs.KeptWorld.{KeptWorld}
 use Rattle.world_laws.specs.Legal.{IsGuarding, ShowsGuard, LegalWatch}
 use Rattle.world_laws.proofs.Lists.{any-some}
-use Rattle.world_laws.proofs.Keeps.{Keeps}
+use Rattle.world_laws.proofs.Keeps.{Keeps, is-watcher, watcher-tag}
 use Rattle.world_laws.proofs.GuardsShown.{IsShown, AreShown}
-use Rattle.world_laws.proofs.Guarding.{GuardsAreShown, is-watcher, watcher-tag}
+use Rattle.world_laws.proofs.NodeNotes.{AreNoted, noted-at}
 
 -- a bundle that shows a kept coin has the same due as it
 due-same : (tag : List ℕ) (log : List RootCall) (account : ℕ) (bundles : List Bundle) (kept : Bundle)
@@ -126,15 +126,16 @@ module _ (tag : List ℕ) (log : List RootCall) (account : ℕ) (bundles guards 
 
 -- what a watcher's watch offers
 pub legal-watched : (dig : List ℕ → List ℕ) (events : List Event) (world : World) → KeptWorld dig events world
-    → Keeps events world → GuardsAreShown dig events world.chain.tag world.nodes → (n : ℕ) (node : Node)
+    → Keeps events world → AreNoted dig events world → (n : ℕ) (node : Node)
     → slice_get world.nodes n ≡ Some node → is_watcher_role node.role ≡ true
     → LegalWatch (rules_of world.chain) events n (watch_answer dig node.notes world.chain.log)
 unfolding watch_answer said
-legal-watched dig events world kept keeps guards n node is role =
+legal-watched dig events world kept keeps noted n node is role =
     let watcher = is-watcher events world keeps n node is role in
-    let tag_is = watcher-tag events world.chain.tag n node watcher in
+    let tag_is = watcher-tag events world keeps n node is role in
     let account = (who_is node.notes).account in
     watch-by (who_is node.notes).tag world.chain.log account (guarded_by events n) (guards_in dig node.notes)
-    (subst (λ t. AreShown t (guarded_by events n) (guards_in dig node.notes)) (sym tag_is) (guards n node is role))
+    (subst (λ t. AreShown t (guarded_by events n) (guards_in dig node.notes)) (sym tag_is)
+    ((noted-at dig events world noted n node is).guards role))
     (rules_of world.chain) events n (sym tag_is) kept.log_is watcher.owner refl
     ((kept.nodes n node is).watcher role).guards

@@ -1,28 +1,29 @@
 -- What became of the operator since an earlier line: the chain's tag stays, its notes grow, and so do its sealed trees.
-use Rattle.std.proofs.Common.{◌≡◌, ℕ, zero, suc, Bool, true, false, if◌then◌else◌, List, [], ◌∷◌, ◌++◌, Option, Some, None, inl, inr, refl, sym, ap, ◌∙◌, subst, set, slice_get, arith, find}
+use Rattle.std.proofs.Common.{◌≡◌, ℕ, Bool, true, false, if◌then◌else◌, List, [], ◌∷◌, ◌++◌, Option, Some, None, inl, inr, refl, sym, ap, ◌∙◌, subst, slice_get, find}
 use Rattle.std.specs.Prelude.{reverse}
-use Rattle.std.specs.List.{filter_map, cons_option, All}
+use Rattle.std.specs.List.{filter_map, cons_option}
 use Rattle.std.proofs.lemmas.List.{reverse-append}
-use Rattle.std.proofs.lemmas.List.Elements.{filter_map-append, All-tail}
-use Rattle.std.proofs.lemmas.Option.{slice_get_within}
-use Rattle.line_forms.proofs.FormLaws.{and_then_some, option_map_some}
+use Rattle.std.proofs.lemmas.List.Elements.{filter_map-append}
 use Rattle.node_journal.specs.Role.{are_of}
 use Rattle.sparse_merkle.specs.declared.tree.Entry.{Entry}
+use Rattle.plasma_tx.specs.Shown.{Rules}
 use Rattle.schedule_text.specs.declared.line.Line.{Line}
 use Rattle.schedule_text.specs.declared.command.Command.{Command}
-use Rattle.schedule_text.specs.Grammar.{IsLine}
 use Rattle.operator_rules.specs.Records.{Note, Offered, Laid, Sealed, note_in, operator_kinds, who_is, notes_of}
 use Rattle.operator_rules.specs.Trees.{Forest, after_note, forest_of, tree_of}
 use Rattle.operator_rules.specs.Commands.{forest_in}
+use Rattle.node_replies.specs.Orders.{with_record}
 use Rattle.world_rules.specs.World.{Node, World}
-use Rattle.world_rules.specs.Declarations.{keeps_rules}
-use Rattle.world_rules.specs.Steps.{LineEffect, step, TraceEntry, entry_of, Run, no_lines, with_line, step_run, run_of}
-use Rattle.world_rules.specs.Laws.{IsCommandIn, ChangesOneNode, GrowsAtMost}
-use Rattle.world_rules.proofs.KeptRun.{run-kept}
-use Rattle.world_rules.proofs.NodeLaws.{records_grow}
-use Rattle.world_rules.proofs.Runs.{set-same, set-other, push-other}
-use Rattle.world_rules.proofs.StepLaws.{steps_keep_the_log}
+use Rattle.world_rules.specs.Steps.{after_crash, TraceEntry, entry_of, Run}
+use Rattle.world_rules.specs.Laws.{IsCommandIn}
+use Rattle.world_rules.proofs.Runs.{begun}
+use Rattle.world_acts.specs.Acts.{NewWallet, NewWatcher, NewRogue, Act, Adds, Orders, Crashes, End, Whole, Crashed, Kept, Lost, act_of, end_of, node_after, deed_at}
+use Rattle.world_acts.specs.Evidence.{IsActIn}
+use Rattle.world_acts.proofs.Lives.{line_effect}
+use Rattle.world_acts.proofs.Nodes.{change_of, IsKeptOwn, each_node_keeps}
+use Rattle.world_acts.proofs.Told.{rules-stay}
 use Rattle.world_laws.specs.Headline.{IsRun}
+use Rattle.world_laws.proofs.Acts.{IsNext, over_acts}
 use Rattle.world_laws.proofs.Lists.{some_same, append-assoc}
 
 -- ---- notes
@@ -58,53 +59,58 @@ later-then one two three first second = record {
       );
 }
 
-grown-notes : (old new : Node) → GrowsAtMost old new → HasMore old.notes new.notes
-grown-notes old new grows = elim grows.notes [
-  | inl same ↦ record { more = []; is = same ∙ append-nil old.notes }
-  | inr more ↦ record { more = more.0.0 ∷ []; is = more.0.1 }
-]
+-- an act leaves the operator's notes, or adds one
+abbrev Old : World → ℕ → Option Node → Type 0
+Old world n found = slice_get world.nodes n ≡ found
 
-changed-first : (nodes after : List Node) → ChangesOneNode nodes after → (old : Node)
-    → slice_get nodes 0 ≡ Some old → (new : Node) × (slice_get after 0 ≡ Some new) × HasMore old.notes new.notes
-changed-first nodes after changes old is = by changes.number changes.is_old changes.is_new
-  where
-    by : (n : ℕ) → slice_get nodes n ≡ Some changes.old → after ≡ set nodes n changes.new
-        → (new : Node) × (slice_get after 0 ≡ Some new) × HasMore old.notes new.notes
-    by zero old_is after_is =
-        let same : changes.old ≡ old = some_same changes.old old (sym old_is ∙ is) in (
-          changes.new,
-          ap (λ (l : List Node). slice_get l 0) after_is ∙ set-same nodes 0 old changes.new is,
-          subst (λ (n : Node). HasMore n.notes changes.new.notes) same
-              (grown-notes changes.old changes.new changes.grows),
-        )
-    by (suc n) old_is after_is = (
-      old,
-      ap (λ (l : List Node). slice_get l 0) after_is
-          ∙ set-other nodes (suc n) 0 changes.new (λ same. omega (arith, same)) ∙ is,
-      record { more = []; is = append-nil old.notes },
+abbrev IsGrown : World → ℕ → Option Node → Type 0
+IsGrown world n found = (old : Node) → slice_get world.nodes n ≡ Some old
+    → (new : Node) × (found ≡ Some new) × HasMore old.notes new.notes
+
+same-notes : (notes : List (List ℕ)) → HasMore notes notes
+same-notes notes = record { more = []; is = append-nil notes }
+
+own-grown : (dig : List ℕ → List ℕ) (world : World) (act : Act)
+    → IsKeptOwn (Old world) (IsGrown world) world.nodes (change_of dig world act)
+own-grown dig world (Adds name (NewWallet who)) = λ none node is. absurd (cc (none, is))
+own-grown dig world (Adds name (NewWatcher account)) = λ none node is. absurd (cc (none, is))
+own-grown dig world (Adds name (NewRogue who)) = tt
+own-grown dig world (Orders place order cut) = λ there node is.
+    let deed = deed_at dig world place order in
+    let end = end_of cut place.node order deed in (
+      node_after place.node deed end,
+      refl,
+      subst (λ (old : Node). HasMore old.notes (node_after place.node deed end).notes)
+          (some_same place.node node (sym there ∙ is)) (by end),
     )
+  where
+    recorded : (note : Option (List ℕ)) → HasMore place.node.notes (with_record place.node.notes note)
+    recorded None = same-notes place.node.notes
+    recorded (Some body) = record { more = body ∷ []; is = refl }
 
-step-later : (dig : List ℕ → List ℕ) (world : World) (line : Line) (effect : LineEffect)
-    → step dig (Some world) line ≡ Some effect → IsLater world effect.world
-step-later dig world line effect is = record {
-  tag = elim (steps_keep_the_log dig world line effect is) [
-    | inl left ↦ ap (λ c. c.tag) left.chain
-    | inr appended ↦ ap (λ c. c.tag) appended.chain
-  ];
-  op = λ old old_is. elim (records_grow dig world line effect is) [
-    | inl same ↦
-        (old, ap (λ (l : List Node). slice_get l 0) same ∙ old_is, record { more = []; is = append-nil old.notes })
-    | inr others ↦ elim others [
-      | inl changes ↦ changed-first world.nodes effect.world.nodes changes old old_is
-      | inr declares ↦
-          let within = slice_get_within world.nodes 0 old old_is in (
-            old,
-            ap (λ (l : List Node). slice_get l 0) declares.1
-                ∙ push-other world.nodes declares.0 0 (λ same. omega (arith, same, within)) ∙ old_is,
-            record { more = []; is = append-nil old.notes },
-          )
-    ]
-  ];
+    by : (end : End) → HasMore place.node.notes (node_after place.node (deed_at dig world place order) end).notes
+    by Lost = same-notes place.node.notes
+    by Whole = recorded (deed_at dig world place order).note
+    by Crashed = recorded (deed_at dig world place order).note
+    by Kept = recorded (deed_at dig world place order).note
+own-grown dig world (Crashes place) = λ there node is. (
+  after_crash place.node,
+  refl,
+  subst (λ (old : Node). HasMore old.notes place.node.notes) (some_same place.node node (sym there ∙ is))
+      (same-notes place.node.notes),
+)
+own-grown dig world act = tt
+
+act-later : (dig : List ℕ → List ℕ) (world : World) (act : Act) → IsActIn world act
+    → IsLater world (line_effect dig world act).world
+act-later dig world act known = record {
+  tag = ap (λ (rules : Rules). rules.tag) (rules-stay dig world act);
+  op = λ old is.
+      each_node_keeps (Old world) (IsGrown world) dig world act known (λ n. refl)
+      (record {
+        others = λ m other found there node node_is. (node, sym there ∙ node_is, same-notes node.notes);
+        own = own-grown dig world act;
+      }) 0 old is;
 }
 
 -- ---- sealed trees
@@ -187,7 +193,7 @@ tree-stays dig sealed after root tree more is =
 
 -- ---- the line of a command
 
--- the run before a line with a command, and what the line did
+-- the run before a line with a command, and the act of the line
 pub record IsSplit (dig : List ℕ → List ℕ) (world : World) (entry : TraceEntry) (earlier : List TraceEntry)
     : Type 0 where
   pub lines : List Line
@@ -195,111 +201,68 @@ pub record IsSplit (dig : List ℕ → List ℕ) (world : World) (entry : TraceE
   pub old : World
   pub run_is : IsRun dig lines before old
   pub entries_are : before.entries ≡ earlier
-  pub effect : LineEffect
-  pub stepped : step dig (Some old) entry.line ≡ Some effect
-  pub entry_is : entry ≡ entry_of entry.line effect
+  pub act : Act
+  pub act_is : act_of old entry.line ≡ Some act
+  pub entry_is : entry ≡ entry_of entry.line (line_effect dig old act)
   pub later : IsLater old world
-
-no-first : (dig : List ℕ → List ℕ) (line : Line) (command : Command) (effect : LineEffect)
-    → IsCommandIn line command → step dig None line ≡ Some effect → ⊥
-unfolding step keeps_rules
-no-first dig line command effect (inl plain) is =
-    absurd (cc (sym (ap (step dig None) plain) ∙ is))
-no-first dig line command effect (inr in_cut) is =
-    absurd (cc (sym (ap (step dig None) in_cut.3) ∙ is))
-
-not-nil : {A : Type 0} (xs ys : List A) (y : A) → [] ≡ xs ++ y ∷ ys → ⊥
-not-nil [] ys y is = cc is
-not-nil (x ∷ xs) ys y is = cc is
 
 head-same : {A : Type 0} (x y : A) (xs ys : List A) → (x ∷ xs) ≡ (y ∷ ys) → (x ≡ y) × (xs ≡ ys)
 head-same x y xs ys is = (cc is, cc is)
 
+-- the first line is no command
+no-first : (tag operator most : ℕ) (command : Command) → IsCommandIn (Line.Chain tag operator most) command → ⊥
+no-first tag operator most command (inl plain) = cc plain
+no-first tag operator most command (inr in_cut) = cc in_cut.3
+
 module _ (dig : List ℕ → List ℕ) (entry : TraceEntry) (earlier : List TraceEntry) (command : Command)
     (is_command : IsCommandIn entry.line command) where
-  here : (lines : List Line) (before : Run) (line : Line) (effect : LineEffect)
-      → ((world : World) → before.world ≡ Some world → IsRun dig lines before world)
-      → step dig before.world line ≡ Some effect → entry_of line effect ≡ entry → before.entries ≡ earlier
-      → IsSplit dig effect.world entry earlier
-  here lines before line effect run_is is same rest = by before.world refl is
-    where
-      line_is : line ≡ entry.line
-      line_is = ap (λ (e : TraceEntry). e.line) same
+  abbrev IsSplitAt : List TraceEntry → World → Type 0
+  IsSplitAt entries world = (later : List TraceEntry) → entries ≡ later ++ entry ∷ earlier
+      → IsSplit dig world entry earlier
 
-      by : (o : Option World) → before.world ≡ o → step dig o line ≡ Some effect
-          → IsSplit dig effect.world entry earlier
-      by None none is = absurd
-          (no-first dig entry.line command effect is_command (ap (step dig None) (sym line_is) ∙ is))
-      by (Some old) some is = record {
+  begins : (tag operator most : ℕ)
+      → IsSplitAt (entry_of (Line.Chain tag operator most) (begun tag operator most) ∷ [])
+      (begun tag operator most).world
+  begins tag operator most [] is =
+      let first = head-same (entry_of (Line.Chain tag operator most) (begun tag operator most)) entry [] earlier is in
+      absurd (no-first tag operator most command
+      (subst (λ (e : TraceEntry). IsCommandIn e.line command) (sym first.0) is_command))
+  begins tag operator most (one ∷ []) is = absurd (cc is)
+  begins tag operator most (one ∷ two ∷ later) is = absurd (cc is)
+
+  more : (lines : List Line) (run : Run) (world : World) (line : Line) (act : Act)
+      → IsNext dig lines run world line act → IsSplitAt run.entries world
+      → IsSplitAt (entry_of line (line_effect dig world act) ∷ run.entries) (line_effect dig world act).world
+  more lines run world line act next split [] is =
+      let here = head-same (entry_of line (line_effect dig world act)) entry run.entries earlier is in
+      let line_is : line ≡ entry.line = ap (λ (e : TraceEntry). e.line) here.0 in
+      record {
         lines = lines;
-        before = before;
-        old = old;
-        run_is = run_is old some;
-        entries_are = rest;
-        effect = effect;
-        stepped = ap (step dig (Some old)) (sym line_is) ∙ is;
-        entry_is = sym same ∙ ap (λ (l : Line). entry_of l effect) line_is;
-        later = step-later dig old line effect is;
+        before = run;
+        old = world;
+        run_is = next.run_is;
+        entries_are = here.1;
+        act = act;
+        act_is = ap (act_of world) (sym line_is) ∙ next.act_is;
+        entry_is = sym here.0 ∙ ap (λ (l : Line). entry_of l (line_effect dig world act)) line_is;
+        later = act-later dig world act next.known;
+      }
+  more lines run world line act next split (one ∷ later) is =
+      let found = split later (head-same (entry_of line (line_effect dig world act)) one run.entries
+      (later ++ entry ∷ earlier) is).1 in
+      record {
+        lines = found.lines;
+        before = found.before;
+        old = found.old;
+        run_is = found.run_is;
+        entries_are = found.entries_are;
+        act = found.act;
+        act_is = found.act_is;
+        entry_is = found.entry_is;
+        later = later-then found.old world (line_effect dig world act).world found.later
+            (act-later dig world act next.known);
       }
 
   pub split : (lines : List Line) (run : Run) (world : World) → IsRun dig lines run world
-      → (later : List TraceEntry) → run.entries ≡ later ++ entry ∷ earlier → IsSplit dig world entry earlier
-  unfolding run_of
-  split [] run world run_is later is =
-      absurd (cc (ap (λ (r : Run). r.world) (some_same no_lines run run_is.run_is) ∙ run_is.world_is))
-  split (line ∷ lines) run world run_is later is =
-      let first = and_then_some (step_run dig line) (run_of dig lines) run run_is.run_is in
-      let made = option_map_some (with_line first.0 line) (step dig first.0.world line) run first.2 in
-      let rest = All-tail IsLine line lines run_is.lines_are in
-      let run_before : (old : World) → first.0.world ≡ Some old → IsRun dig lines first.0 old = λ old some. record {
-        digest = run_is.digest;
-        lines_are = rest;
-        run_is = first.1;
-        world_is = some;
-      } in
-      let world_is : made.0.world ≡ world =
-      some_same made.0.world world (ap (λ (r : Run). r.world) made.2 ∙ run_is.world_is) in
-      let entries_are : (entry_of line made.0 ∷ first.0.entries) ≡ later ++ entry ∷ earlier =
-      ap (λ (r : Run). r.entries) made.2 ∙ is in
-      subst (λ (w : World). IsSplit dig w entry earlier) world_is
-      (by lines first.0 line made.0 run_before (run-none first.0 first.1 rest) made.1 later entries_are
-      (λ old old_is more. split lines first.0 old (run_before old old_is) more))
-    where
-      run-none : (before : Run) → run_of dig lines ≡ Some before → All IsLine lines
-          → before.world ≡ None → before.entries ≡ []
-      run-none before made rest none = (run-kept dig run_is.digest lines before rest made).none none
-
-      by : (lines : List Line) (before : Run) (line : Line) (effect : LineEffect)
-          → ((old : World) → before.world ≡ Some old → IsRun dig lines before old)
-          → (before.world ≡ None → before.entries ≡ [])
-          → step dig before.world line ≡ Some effect → (later : List TraceEntry)
-          → (entry_of line effect ∷ before.entries) ≡ later ++ entry ∷ earlier
-          → ((old : World) → before.world ≡ Some old → (more : List TraceEntry)
-          → before.entries ≡ more ++ entry ∷ earlier → IsSplit dig old entry earlier)
-          → IsSplit dig effect.world entry earlier
-      by lines before line effect run_before none is [] entries again =
-          let both = head-same (entry_of line effect) entry before.entries earlier entries in
-          here lines before line effect run_before is both.0 both.1
-      by lines before line effect run_before none is (one ∷ later) entries again =
-          let both = head-same (entry_of line effect) one before.entries (later ++ entry ∷ earlier) entries in
-          at before.world refl is
-        where
-          at : (o : Option World) → before.world ≡ o → step dig o line ≡ Some effect
-              → IsSplit dig effect.world entry earlier
-          at None no_world is =
-              absurd (not-nil later earlier entry (sym (none no_world)
-              ∙ (head-same (entry_of line effect) one before.entries (later ++ entry ∷ earlier) entries).1))
-          at (Some old) some is =
-              let found = again old some later
-              (head-same (entry_of line effect) one before.entries (later ++ entry ∷ earlier) entries).1 in
-              record {
-                lines = found.lines;
-                before = found.before;
-                old = found.old;
-                run_is = found.run_is;
-                entries_are = found.entries_are;
-                effect = found.effect;
-                stepped = found.stepped;
-                entry_is = found.entry_is;
-                later = later-then found.old old effect.world found.later (step-later dig old line effect is);
-              }
+      → IsSplitAt run.entries world
+  split = over_acts dig IsSplitAt (λ tag operator most fits. begins tag operator most) more

@@ -1,10 +1,9 @@
 -- An operator that keeps to the rules: what its notes and the log are as acts, that these are honest, and that one
 -- more event leaves it so.
-use Rattle.std.proofs.Common.{◌≡◌, ℕ, suc, ◌+◌, ◌<◌, ◌≤◌, Bool, true, false, if◌then◌else◌, List, [], ◌∷◌, ◌++◌, length, filter, Some, Ok, inl, inr, refl, sym, ap, ◌∙◌, subst, set, slice_get, arith}
+use Rattle.std.proofs.Common.{◌≡◌, ℕ, suc, ◌+◌, ◌<◌, ◌≤◌, Bool, true, false, if◌then◌else◌, List, [], ◌∷◌, ◌++◌, length, filter, Some, Ok, inl, inr, refl, sym, ap, ◌∙◌, subst, slice_get, arith}
 use Rattle.std.specs.Option.{option_and_then}
 use Rattle.std.specs.Str.{bytes_eq}
-use Rattle.std.proofs.lemmas.Bool.{cases_eq, true≢false, false≢true}
-use Rattle.std.proofs.lemmas.Option.{slice_get_within}
+use Rattle.std.proofs.lemmas.Bool.{true≢false, false≢true}
 use Rattle.std.proofs.lemmas.Slice.Eq.{bytes_eq-Decides}
 use Rattle.line_forms.proofs.FormLaws.{and_then_some}
 use Rattle.node_journal.specs.Role.{are_of}
@@ -25,22 +24,12 @@ use Rattle.operator_rules.specs.Commands.{forest_in}
 use Rattle.operator_rules.specs.Acts.{Act, Called, Kept, log_of, kept_notes, sealed_in, times_committed, times_sealed, IsInTime, IsHonestNote, IsHonestCall, IsHonest}
 use Rattle.operator_rules.proofs.Trees.{root_at-le, root_at-new, tree_of-grow, count-push}
 use Rattle.world_rules.specs.Events.{Event, Joins, is_command_of}
-use Rattle.world_rules.specs.World.{Operator, Node, is_operator_role}
-use Rattle.world_rules.proofs.Runs.{set-same, set-other, push-same, push-other}
+use Rattle.world_rules.specs.World.{Operator, Node}
 use Rattle.world_laws.specs.Bundles.{is_commit, commits_since}
 use Rattle.world_laws.proofs.Lists.{some_same}
-use Rattle.world_laws.proofs.OperatorLines.{commits_root}
+use Rattle.world_laws.proofs.OperatorActs.{commits_root}
 
 -- ---- what is kept
-
--- a node that isn't the operator, and offers no commit
-pub record IsOther (node : Node) : Type 0 where
-  pub role : is_operator_role node.role ≡ false
-  pub offers : (call : RootCall) → Has node.offers call → commits_root call ≡ false
-
--- so is each node but the first
-abbrev pub AreOthers : List Node → Type 0
-AreOthers nodes = (n : ℕ) (node : Node) → slice_get nodes (suc n) ≡ Some node → IsOther node
 
 -- no tree is committed at a block after the last block of a transfer in it
 abbrev pub AreInTime : (List ℕ → List ℕ) → List ℕ → List RootCall → List (List Entry) → Type 0
@@ -48,14 +37,11 @@ AreInTime dig tag log sealed = (n coin : ℕ) (tree : List Entry) (tx : SignedTx
     → tree_at dig log sealed n ≡ Some tree → signed_in tag (leaf_of tree coin) ≡ Ok tx
     → may_stand_in n tx.body.last ≡ true
 
-pub record IsKeeping (dig : List ℕ → List ℕ) (events : List Event) (chain : Chain) (nodes : List Node) : Type 0 where
-  pub op : Node
-  pub op_is : slice_get nodes 0 ≡ Some op
+pub record IsKeeping (dig : List ℕ → List ℕ) (events : List Event) (chain : Chain) (op : Node) : Type 0 where
   pub role : op.role ≡ Operator
   pub kinds : are_of operator_kinds op.notes ≡ true
   pub tag : (who_is op.notes).tag ≡ chain.tag
   pub few : chain.most_blocks ≤ 3000
-  pub others : AreOthers nodes
   pub acts : List Act
   pub log_is : log_of acts ≡ chain.log
   pub notes_is : kept_notes acts ≡ notes_of op.notes
@@ -65,6 +51,12 @@ pub record IsKeeping (dig : List ℕ → List ℕ) (events : List Event) (chain 
       → commits_since events ≡ 0
       → times_committed chain.log root < times_sealed dig (forest_in op.notes).sealed root
   pub honest : AreInTime dig chain.tag chain.log (forest_in op.notes).sealed → IsHonest dig chain.tag acts
+
+-- so does the first node
+pub record HasKeeping (dig : List ℕ → List ℕ) (events : List Event) (chain : Chain) (nodes : List Node) : Type 0 where
+  pub op : Node
+  pub op_is : slice_get nodes 0 ≡ Some op
+  pub is : IsKeeping dig events chain op
 
 -- ---- what is in time
 
@@ -144,50 +136,18 @@ since-commit : (account : ℕ) (root : List ℕ) (events : List Event)
 unfolding commits_since
 since-commit account root events = refl
 
--- ---- nodes
-
-others-set : (nodes : List Node) (n : ℕ) (old new : Node) → slice_get nodes (suc n) ≡ Some old → AreOthers nodes
-    → IsOther new → AreOthers (set nodes (suc n) new)
-others-set nodes n old new old_is others other m node is = elim (cases_eq n m) [
-  | inl same ↦
-      let here : new ≡ node = some_same new node
-      (sym (set-same nodes (suc n) old new old_is) ∙ ap (λ k. slice_get (set nodes (suc n) new) (suc k)) same ∙ is) in
-      subst IsOther here other
-  | inr apart ↦
-      others m node (sym (set-other nodes (suc n) (suc m) new (λ same. apart (omega (arith, same)))) ∙ is)
-]
-
-others-first : (nodes : List Node) (new : Node) → AreOthers nodes → AreOthers (set nodes 0 new)
-others-first nodes new others m node is =
-    others m node (sym (set-other nodes 0 (suc m) new (λ same. omega (arith, same))) ∙ is)
-
-others-push : (nodes : List Node) (new : Node) → AreOthers nodes → IsOther new → AreOthers (nodes ++ new ∷ [])
-others-push nodes new others other m node is = elim (cases_eq (length nodes) (suc m)) [
-  | inl same ↦
-      let here : new ≡ node = some_same new node
-      (sym (push-same nodes new) ∙ ap (slice_get (nodes ++ new ∷ [])) same ∙ is) in
-      subst IsOther here other
-  | inr apart ↦ others m node (sym (push-other nodes new (suc m) apart) ∙ is)
-]
-
 -- ---- one more event
 
-module _ (dig : List ℕ → List ℕ) (events : List Event) (chain : Chain) (nodes : List Node)
-    (keeping : IsKeeping dig events chain nodes) where
-  abbrev op : Node
-  op = keeping.op
-
+module _ (dig : List ℕ → List ℕ) (events : List Event) (chain : Chain) (op : Node)
+    (keeping : IsKeeping dig events chain op) where
   -- of another node, or of none
-  pub keeps-still : (event : Event) (after : List Node) → slice_get after 0 ≡ Some op → AreOthers after
-      → is_command_of 0 event ≡ false → is_commit event ≡ false → IsKeeping dig (event ∷ events) chain after
-  keeps-still event after first others other none = record {
-    op = op;
-    op_is = first;
+  pub keeps-still : (event : Event) → is_command_of 0 event ≡ false → is_commit event ≡ false
+      → IsKeeping dig (event ∷ events) chain op
+  keeps-still event other none = record {
     role = keeping.role;
     kinds = keeping.kinds;
     tag = keeping.tag;
     few = keeping.few;
-    others = others;
     acts = keeping.acts;
     log_is = keeping.log_is;
     notes_is = keeping.notes_is;
@@ -197,38 +157,15 @@ module _ (dig : List ℕ → List ℕ) (events : List Event) (chain : Chain) (no
     honest = keeping.honest;
   }
 
-  pub keeps-here : (event : Event) → is_command_of 0 event ≡ false → is_commit event ≡ false
-      → IsKeeping dig (event ∷ events) chain nodes
-  keeps-here event other none = keeps-still event nodes keeping.op_is keeping.others other none
-
-  pub keeps-push : (event : Event) (new : Node) → IsOther new → is_command_of 0 event ≡ false
-      → is_commit event ≡ false → IsKeeping dig (event ∷ events) chain (nodes ++ new ∷ [])
-  keeps-push event new is other none =
-      let within = slice_get_within nodes 0 op keeping.op_is in
-      keeps-still event (nodes ++ new ∷ [])
-      (push-other nodes new 0 (λ same. omega (arith, same, within)) ∙ keeping.op_is)
-      (others-push nodes new keeping.others is) other none
-
-  pub keeps-set : (event : Event) (n : ℕ) (old new : Node) → slice_get nodes (suc n) ≡ Some old → IsOther new
-      → is_command_of 0 event ≡ false → is_commit event ≡ false
-      → IsKeeping dig (event ∷ events) chain (set nodes (suc n) new)
-  keeps-set event n old new old_is is other none =
-      keeps-still event (set nodes (suc n) new)
-      (set-other nodes (suc n) 0 new (λ same. omega (arith, same)) ∙ keeping.op_is)
-      (others-set nodes n old new old_is keeping.others is) other none
-
   -- a call that is no commit
   joins-other : (call : RootCall) → commits_root call ≡ false
-      → IsKeeping dig (Joins call ∷ events) (with_log chain (call ∷ chain.log)) nodes
+      → IsKeeping dig (Joins call ∷ events) (with_log chain (call ∷ chain.log)) op
   unfolding log_of kept_notes IsHonest
   joins-other call none = record {
-    op = op;
-    op_is = keeping.op_is;
     role = keeping.role;
     kinds = keeping.kinds;
     tag = keeping.tag;
     few = keeping.few;
-    others = keeping.others;
     acts = Called call ∷ keeping.acts;
     log_is = ap (λ (log : List RootCall). call ∷ log) keeping.log_is;
     notes_is = keeping.notes_is;
@@ -250,16 +187,13 @@ module _ (dig : List ℕ → List ℕ) (events : List Event) (chain : Chain) (no
   joins-commit : (account : ℕ) (root : List ℕ) → Has op.offers (RootCall.Commit account root)
       → commits_since events ≡ 0
       → IsKeeping dig (Joins (RootCall.Commit account root) ∷ events)
-      (with_log chain (RootCall.Commit account root ∷ chain.log)) nodes
+      (with_log chain (RootCall.Commit account root ∷ chain.log)) op
   unfolding log_of kept_notes IsHonest
   joins-commit account root has zero_is = record {
-    op = op;
-    op_is = keeping.op_is;
     role = keeping.role;
     kinds = keeping.kinds;
     tag = keeping.tag;
     few = keeping.few;
-    others = keeping.others;
     acts = Called (RootCall.Commit account root) ∷ keeping.acts;
     log_is = ap (λ (log : List RootCall). RootCall.Commit account root ∷ log) keeping.log_is;
     notes_is = keeping.notes_is;
@@ -307,31 +241,28 @@ module _ (dig : List ℕ → List ℕ) (events : List Event) (chain : Chain) (no
   -- a call that joins the log
   pub keeps-joins : (call : RootCall) → commits_since (Joins call ∷ events) ≤ 1
       → (commits_root call ≡ true → Has op.offers call)
-      → IsKeeping dig (Joins call ∷ events) (with_log chain (call ∷ chain.log)) nodes
+      → IsKeeping dig (Joins call ∷ events) (with_log chain (call ∷ chain.log)) op
   keeps-joins call once offered = by (commits_root call) refl
     where
       by : (b : Bool) → commits_root call ≡ b
-          → IsKeeping dig (Joins call ∷ events) (with_log chain (call ∷ chain.log)) nodes
+          → IsKeeping dig (Joins call ∷ events) (with_log chain (call ∷ chain.log)) op
       by false none = joins-other call none
       by true some =
           let root = root-of-commit call some in
           let first = subst (λ (c : RootCall). commits_since (Joins c ∷ events) ≤ 1) root.2 once in
-          subst (λ (c : RootCall). IsKeeping dig (Joins c ∷ events) (with_log chain (c ∷ chain.log)) nodes)
+          subst (λ (c : RootCall). IsKeeping dig (Joins c ∷ events) (with_log chain (c ∷ chain.log)) op)
           (sym root.2)
           (joins-commit root.0 root.1 (subst (λ (c : RootCall). Has op.offers c) root.2 (offered some))
           (omega (arith, first, since-commit root.0 root.1 events)))
 
   -- the operator's own command or crash that adds no note, after which it offers nothing
   pub keeps-own : (event : Event) (after : Node) → after.role ≡ op.role → after.notes ≡ op.notes
-      → after.offers ≡ [] → IsKeeping dig (event ∷ events) chain (set nodes 0 after)
+      → after.offers ≡ [] → IsKeeping dig (event ∷ events) chain after
   keeps-own event after role notes none = record {
-    op = after;
-    op_is = set-same nodes 0 op after keeping.op_is;
     role = role ∙ keeping.role;
     kinds = ap (are_of operator_kinds) notes ∙ keeping.kinds;
     tag = ap (λ (records : List (List ℕ)). (who_is records).tag) notes ∙ keeping.tag;
     few = keeping.few;
-    others = others-first nodes after keeping.others;
     acts = keeping.acts;
     log_is = keeping.log_is;
     notes_is = keeping.notes_is ∙ ap notes_of (sym notes);
@@ -351,16 +282,13 @@ module _ (dig : List ℕ → List ℕ) (events : List Event) (chain : Chain) (no
       → notes_of after.notes ≡ note ∷ notes_of op.notes → IsHonestNote dig chain.tag keeping.acts note
       → ((account : ℕ) (root : List ℕ) → Has after.offers (RootCall.Commit account root)
       → times_committed chain.log root < times_sealed dig (after_note note (forest_in op.notes)).sealed root)
-      → IsKeeping dig (event ∷ events) chain (set nodes 0 after)
+      → IsKeeping dig (event ∷ events) chain after
   unfolding log_of kept_notes IsHonest forest_of
   keeps-note event note after role kinds who added fine waits = record {
-    op = after;
-    op_is = set-same nodes 0 op after keeping.op_is;
     role = role ∙ keeping.role;
     kinds = kinds;
     tag = ap (λ (i : Identity). i.tag) who ∙ keeping.tag;
     few = keeping.few;
-    others = others-first nodes after keeping.others;
     acts = Kept note ∷ keeping.acts;
     log_is = keeping.log_is;
     notes_is = ap (λ (notes : List Note). note ∷ notes) keeping.notes_is ∙ sym added;

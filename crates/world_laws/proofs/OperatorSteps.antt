@@ -1,9 +1,10 @@
--- What each line that isn't barred leaves of an operator that keeps to the rules.
+-- What each act that is free leaves of an operator that keeps to the rules.
 use Rattle.std.proofs.Common.{◌≡◌, ◌⊎◌, ℕ, zero, suc, ◌<◌, ◌≤◌, ◌==◌, Bool, true, false, if◌then◌else◌, List, [], ◌∷◌, ◌++◌, Option, Some, None, Ok, Err, inl, inr, refl, sym, ap, ◌∙◌, subst, set, slice_get, arith, lit<}
 use Rattle.std.specs.Prelude.{Result}
 use Rattle.std.specs.Option.{option_map_or}
 use Rattle.std.specs.Str.{bytes_eq}
-use Rattle.std.proofs.lemmas.Bool.{ne_eqb, true≢false, false≢true}
+use Rattle.std.proofs.lemmas.Bool.{cases_eq, ne_eqb, true≢false, false≢true}
+use Rattle.std.proofs.lemmas.Option.{slice_get_within}
 use Rattle.std.proofs.lemmas.Slice.Eq.{bytes_eq-Decides}
 use Rattle.node_journal.specs.Effect.{Effect, first_cause, unless}
 use Rattle.node_journal.specs.Role.{are_of}
@@ -14,13 +15,12 @@ use Rattle.plasma_tx.specs.declared.signed_tx.TxRefusal.{TxRefusal}
 use Rattle.plasma_tx.specs.declared.call.RootCall.{RootCall}
 use Rattle.plasma_tx.specs.declared.answer.Answer.{Answer}
 use Rattle.plasma_tx.specs.declared.views.CoinView.{CoinView}
-use Rattle.plasma_tx.specs.Chain.{with_log}
+use Rattle.plasma_tx.specs.Chain.{Chain, with_log}
 use Rattle.plasma_tx.specs.Spelling.{signed_in, AreBytes}
 use Rattle.plasma_tx.specs.Views.{blocks, coin_at}
 use Rattle.plasma_tx.specs.Shown.{tests_by, rules_of}
 use Rattle.plasma_tx.specs.Table.{answer_to, is_accepted, log_after}
-use Rattle.schedule_text.specs.declared.command.Command.{Command}
-use Rattle.schedule_text.specs.declared.command.OperatorCommand.{OperatorCommand}
+use Rattle.schedule_text.specs.declared.line.Line.{Line}
 use Rattle.watch_duty.proofs.Members.{Has}
 use Rattle.operator_rules.specs.declared.refusal.OfferRefusal.{OfferRefusal}
 use Rattle.operator_rules.specs.Records.{Note, Offered, Sealed, note_text, operator_kinds, who_is, notes_of}
@@ -31,30 +31,36 @@ use Rattle.operator_rules.specs.Acts.{log_of, kept_notes, times_committed, times
 use Rattle.operator_rules.proofs.Role.{commands_keep_the_role, commands_add_their_notes}
 use Rattle.operator_rules.proofs.Trees.{one_if, count-push}
 use Rattle.node_replies.specs.Causes.{offer_cause, prove_cause}
-use Rattle.world_rules.specs.Events.{Event, Joins, Bounces, Watches, Leaves, Seals, Idle, node_in, is_command_of}
-use Rattle.world_rules.specs.World.{Operator, Node, World, with_node, bytes_of}
-use Rattle.world_rules.specs.Declarations.{plays}
-use Rattle.world_rules.specs.Deeds.{Deed, as_deed, deed_of}
 use Rattle.node_replies.specs.declared.order.NodeOrder.{NodeOrder}
+use Rattle.node_replies.specs.declared.order.OperatorOrder.{OperatorOrder}
 use Rattle.node_replies.specs.Orders.{with_record, Response, answered, on_pooled, on_bundled, on_proved, operator_does}
-use Rattle.world_rules.specs.Orders.{operator_order, order_of, on_open}
+use Rattle.world_rules.specs.Events.{Event, Joins, Bounces, Other, Idle, node_in, is_command_of}
+use Rattle.world_rules.specs.World.{Operator, Node, World, is_wallet_role, is_watcher_role, is_operator_role}
+use Rattle.world_rules.specs.Deeds.{Deed, as_deed}
+use Rattle.world_rules.specs.Orders.{on_open, node_does}
+use Rattle.world_rules.specs.Steps.{with_records, after_command, after_crash, Run}
+use Rattle.world_rules.proofs.KeptNode.{IsFitOrder}
 use Rattle.world_rules.proofs.OrderEnds.{each-answer}
-use Rattle.world_rules.specs.Steps.{LineEffect, called, with_records, after_command, after_crash, commanded, crashed, cut, without_offers}
-use Rattle.world_rules.proofs.OperatorItems.{AreSmallRecords}
-use Rattle.world_rules.proofs.KeptNode.{IsFit, token-small}
-use Rattle.world_rules.proofs.OwnEvents.{IsOfNode, Owns, Sealing, of_node}
-use Rattle.world_rules.proofs.Shapes.{IsDone, IsCut, Kept, Lost, is_cut}
-use Rattle.world_laws.specs.Bundles.{lays, is_commit, commits_since}
+use Rattle.world_rules.proofs.Runs.{begun, set-same, set-other, push-other}
+use Rattle.world_acts.specs.Acts.{Place, NewWallet, NewWatcher, NewRogue, Origin, Offered as OnOffer, Act, Rests, Signs, Adds, Enters, Orders, Crashes, End, Whole, Crashed, Kept, Lost, end_of, node_after, event_after, deed_at, done}
+use Rattle.world_acts.specs.Evidence.{IsThere, IsFrom, has_order, IsActIn}
+use Rattle.world_acts.proofs.Fitting.{IsFitAct}
+use Rattle.world_acts.proofs.Nodes.{change_of, EachNode, IsKeptOwn, each_node_keeps, IfThere, node-there}
+use Rattle.world_acts.proofs.Told.{OperatorIsFirst, by-end}
+use Rattle.world_laws.specs.Headline.{IsRun}
+use Rattle.world_laws.specs.Bundles.{is_commit, commits_since}
 use Rattle.world_laws.proofs.Lists.{some_same, none_some}
-use Rattle.world_laws.proofs.DeedOffers.{done-role, deed-quiet}
-use Rattle.world_laws.proofs.OperatorLines.{commits_root, IsOffered, Moves, Rests, Calls, AddsWallet, AddsWatcher, AddsRogue, Crashes, Commands, Cuts}
-use Rattle.world_laws.proofs.OperatorKeeping.{IsOther, IsKeeping, keeps-here, keeps-push, keeps-set, keeps-joins, keeps-own, keeps-note}
+use Rattle.world_laws.proofs.Acts.{over_events}
+use Rattle.world_laws.proofs.OperatorActs.{commits_root, lays_by, is_offered, IsFree}
+use Rattle.world_laws.proofs.DeedOffers.{order-quiet}
+use Rattle.world_laws.proofs.Keeps.{offered-has}
+use Rattle.world_laws.proofs.OperatorKeeping.{IsKeeping, HasKeeping, keeps-still, keeps-joins, keeps-own, keeps-note}
 
 -- ---- the operator's deeds
 
 -- what a deed of the operator adds and offers, where nothing is laid
 pub data OwnDeed (dig : List ℕ → List ℕ) (notes : List (List ℕ)) (log : List RootCall) (deed : Deed) : Type 0 where
-  Adds : deed.note ≡ None → deed.gives.offers ≡ [] → OwnDeed dig notes log deed
+  NoNote : deed.note ≡ None → deed.gives.offers ≡ [] → OwnDeed dig notes log deed
   Pools : (bytes : List ℕ) (coin : ℕ) → AreBytes bytes → (offer_effect dig notes log bytes).answer ≡ Ok coin
       → (offer_effect dig notes log bytes).note ≡ Some (note_text (Offered bytes))
       → deed.note ≡ Some (note_text (Offered bytes)) → deed.gives.offers ≡ [] → OwnDeed dig notes log deed
@@ -97,96 +103,68 @@ none-offered : {A E : Type 0} (cause : E → List ℕ) (give : A → Response) (
 none-offered cause give result none =
     each-answer (λ r. r.offers ≡ []) cause give result (λ answer is. none answer) (λ why. refl)
 
-module _ (dig : List ℕ → List ℕ) (world : World) (op : Node) where
+module _ (dig : List ℕ → List ℕ) (log : List RootCall) (n : ℕ) (op : Node) where
   abbrev IsOwnDeed : Deed → Type 0
-  IsOwnDeed deed = OwnDeed dig op.notes world.chain.log deed
+  IsOwnDeed deed = OwnDeed dig op.notes log deed
 
-  abbrev does : OperatorCommand → Deed
-  does own =
-      as_deed 0 (NodeOrder.Operator (operator_order world own))
-      (operator_does dig world.chain.log op.notes (operator_order world own))
-
-  operator-deed : (own : OperatorCommand) → lays (Command.Operator own) ≡ false → IsFit (Command.Operator own)
-      → AreSmallRecords world.mail → IsOwnDeed (does own)
+  operator-deed : (order : OperatorOrder) → lays_by (NodeOrder.Operator order) ≡ false
+      → IsFitOrder (NodeOrder.Operator order)
+      → IsOwnDeed (as_deed n (NodeOrder.Operator order) (operator_does dig log op.notes order))
   unfolding operator_does seal_effect
-  operator-deed (OperatorCommand.Offer token) free fit mail = by (offer-ends dig op.notes world.chain.log bytes)
+  operator-deed (OperatorOrder.Offer bytes) free fit = by (offer-ends dig op.notes log bytes)
     where
-      bytes : List ℕ
-      bytes = bytes_of world token
+      none : (answered offer_cause on_pooled (offer_effect dig op.notes log bytes).answer).offers ≡ []
+      none = none-offered offer_cause on_pooled (offer_effect dig op.notes log bytes).answer (λ coin. refl)
 
-      none : (answered offer_cause on_pooled (offer_effect dig op.notes world.chain.log bytes).answer).offers ≡ []
-      none = none-offered offer_cause on_pooled (offer_effect dig op.notes world.chain.log bytes).answer (λ coin. refl)
-
-      by : OfferEnds bytes (offer_effect dig op.notes world.chain.log bytes)
-          → IsOwnDeed (does (OperatorCommand.Offer token))
-      by (inl nothing) = Adds nothing none
-      by (inr taken) = Pools bytes taken.0 (token-small world token mail fit).are taken.1 taken.2 taken.2 none
-  operator-deed (OperatorCommand.Lay coin leaf) free fit mail = absurd (true≢false free)
-  operator-deed OperatorCommand.Seal free fit mail = SealsPool refl refl
-  operator-deed (OperatorCommand.Bundle coin tip) free fit mail =
-      Adds refl (none-offered prove_cause on_bundled (bundle_answer dig op.notes world.chain.log coin tip)
-      (λ bundle. refl))
-  operator-deed (OperatorCommand.Prove coin block) free fit mail =
-      Adds refl (none-offered prove_cause on_proved (prove_answer dig op.notes world.chain.log coin block)
-      (λ opening. refl))
-  operator-deed (OperatorCommand.Absences coin after last) free fit mail =
-      Adds refl (none-offered prove_cause on_bundled (absences_answer dig op.notes world.chain.log coin after last)
+      by : OfferEnds bytes (offer_effect dig op.notes log bytes)
+          → IsOwnDeed (as_deed n (NodeOrder.Operator (OperatorOrder.Offer bytes))
+          (operator_does dig log op.notes (OperatorOrder.Offer bytes)))
+      by (inl nothing) = NoNote nothing none
+      by (inr taken) = Pools bytes taken.0 fit.are taken.1 taken.2 taken.2 none
+  operator-deed (OperatorOrder.Lay coin leaf) free fit = absurd (true≢false free)
+  operator-deed OperatorOrder.Seal free fit = SealsPool refl refl
+  operator-deed (OperatorOrder.Bundle coin tip) free fit =
+      NoNote refl (none-offered prove_cause on_bundled (bundle_answer dig op.notes log coin tip) (λ bundle. refl))
+  operator-deed (OperatorOrder.Prove coin block) free fit =
+      NoNote refl (none-offered prove_cause on_proved (prove_answer dig op.notes log coin block) (λ opening. refl))
+  operator-deed (OperatorOrder.Absences coin after last) free fit =
+      NoNote refl (none-offered prove_cause on_bundled (absences_answer dig op.notes log coin after last)
       (λ bundle. refl))
 
-  own-deed : (command : Command) (deed : Deed) → lays command ≡ false → IsFit command → op.role ≡ Operator
-      → plays command op.role ≡ true → AreSmallRecords world.mail → deed_of dig world 0 op command ≡ Some deed
-      → IsOwnDeed deed
-  unfolding deed_of order_of
-  own-deed (Command.Operator own) deed free fit role may mail is =
-      subst IsOwnDeed (some_same _ deed is) (operator-deed own free fit mail)
-  own-deed (Command.Open name) deed free fit role may mail is =
-      subst IsOwnDeed (some_same _ deed is) (Adds refl (opened op.is_up))
+  own-deed : (order : NodeOrder) → lays_by order ≡ false → IsFitOrder order → op.role ≡ Operator
+      → has_order order op.role ≡ true → IsOwnDeed (as_deed n order (node_does dig log op order))
+  own-deed (NodeOrder.Operator order) free fit role may = operator-deed order free fit
+  own-deed NodeOrder.Open free fit role may = NoNote refl (opened op.is_up)
     where
       opened : (b : Bool) → (on_open op b).offers ≡ []
       opened true = refl
       opened false = refl
-  own-deed command deed free fit role may mail is =
-      absurd (false≢true (sym (ap (plays command) role) ∙ may))
+  own-deed (NodeOrder.Wallet order) free fit role may = absurd (false≢true (sym (ap is_wallet_role role) ∙ may))
+  own-deed (NodeOrder.Watcher order) free fit role may = absurd (false≢true (sym (ap is_watcher_role role) ∙ may))
 
 -- ---- events
-
-cut-node : (n : ℕ) (event : Event) → node_in event ≡ Some n → node_in (without_offers n event) ≡ Some n
-cut-node n (Watches m calls) is = refl
-cut-node n (Leaves m call) is = refl
-cut-node n (Seals call) is = refl
-cut-node n event is = is
 
 node-no-commit : (event : Event) (n : ℕ) → node_in event ≡ Some n → is_commit event ≡ false
 node-no-commit (Joins call) n is = absurd (none_some n is)
 node-no-commit event n is = refl
-
-not-first : (event : Event) (n : ℕ) → node_in event ≡ Some (suc n) → is_command_of 0 event ≡ false
-not-first event n is =
-    ap (λ (o : Option ℕ). option_map_or (λ m. m == 0) o false) is ∙ ne_eqb (suc n) 0 (λ same. omega (arith, same))
 
 -- the root that a call commits
 root_named : RootCall → List ℕ
 root_named (RootCall.Commit account root) = root
 root_named call = []
 
--- ---- lines
+-- ---- the operator's orders
 
-module _ (dig : List ℕ → List ℕ) (events : List Event) (world : World)
-    (keeping : IsKeeping dig events world.chain world.nodes) (mail : AreSmallRecords world.mail) where
-  abbrev op : Node
-  op = keeping.op
-
-  abbrev After : LineEffect → Type 0
-  After effect = IsKeeping dig (effect.event ∷ events) effect.world.chain effect.world.nodes
-
+module _ (dig : List ℕ → List ℕ) (events : List Event) (chain : Chain) (op : Node)
+    (keeping : IsKeeping dig events chain op) where
   -- a deed of the operator, after which it offers what the deed does, or nothing
-  own-after : (event : Event) (deed : Deed) (after : Node) → OwnDeed dig op.notes world.chain.log deed
+  own-after : (event : Event) (deed : Deed) (after : Node) → OwnDeed dig op.notes chain.log deed
       → after.role ≡ op.role → after.notes ≡ with_record op.notes deed.note
       → (after.offers ≡ deed.gives.offers) ⊎ (after.offers ≡ [])
-      → IsKeeping dig (event ∷ events) world.chain (set world.nodes 0 after)
+      → IsKeeping dig (event ∷ events) chain after
   unfolding offer_effect seal_effect root_named
-  own-after event deed after (Adds nothing none) role notes offers =
-      keeps-own dig events world.chain world.nodes keeping event after role
+  own-after event deed after (NoNote nothing none) role notes offers =
+      keeps-own dig events chain op keeping event after role
       (notes ∙ ap (with_record op.notes) nothing)
       (elim offers [
         | inl same ↦ same ∙ none
@@ -195,35 +173,35 @@ module _ (dig : List ℕ → List ℕ) (events : List Event) (world : World)
   own-after event deed after (Pools bytes coin are taken noted note_is none) role notes offers =
       let body = note_text (Offered bytes) in
       let notes_are : after.notes ≡ op.notes ++ body ∷ [] = notes ∙ ap (with_record op.notes) note_is in
-      let added = commands_add_their_notes dig op.notes world.chain.log 0 bytes body keeping.kinds (lit< tt) in
-      let may = (commands_keep_the_role dig op.notes world.chain.log 0 bytes body keeping.kinds).0 noted in
+      let added = commands_add_their_notes dig op.notes chain.log 0 bytes body keeping.kinds (lit< tt) in
+      let may = (commands_keep_the_role dig op.notes chain.log 0 bytes body keeping.kinds).0 noted in
       let empty : after.offers ≡ [] = elim offers [
         | inl same ↦ same ∙ none
         | inr empty ↦ empty
       ] in
-      keeps-note dig events world.chain world.nodes keeping event (Offered bytes) after role
+      keeps-note dig events chain op keeping event (Offered bytes) after role
       (ap (are_of operator_kinds) notes_are ∙ notes_follow operator_kinds op.notes body keeping.kinds may)
       (ap who_is notes_are ∙ added.0) (ap notes_of notes_are ∙ added.1 noted)
       (are, (coin, pool-honest bytes coin taken))
       (λ account root has.
       absurd (subst (λ (calls : List RootCall). Has calls (RootCall.Commit account root)) empty has))
     where
-      pool-honest : (bytes : List ℕ) (coin : ℕ) → (offer_effect dig op.notes world.chain.log bytes).answer ≡ Ok coin
-          → (offer_of dig world.chain.tag (log_of keeping.acts) (forest_of (kept_notes keeping.acts)) bytes
-          (signed_in world.chain.tag bytes)).answer ≡ Ok coin
+      pool-honest : (bytes : List ℕ) (coin : ℕ) → (offer_effect dig op.notes chain.log bytes).answer ≡ Ok coin
+          → (offer_of dig chain.tag (log_of keeping.acts) (forest_of (kept_notes keeping.acts)) bytes
+          (signed_in chain.tag bytes)).answer ≡ Ok coin
       pool-honest bytes coin taken =
-          subst (λ (notes : List Note). (offer_of dig world.chain.tag (log_of keeping.acts) (forest_of notes) bytes
-          (signed_in world.chain.tag bytes)).answer ≡ Ok coin) (sym keeping.notes_is)
-          (subst (λ (log : List RootCall). (offer_of dig world.chain.tag log (forest_in op.notes) bytes
-          (signed_in world.chain.tag bytes)).answer ≡ Ok coin) (sym keeping.log_is)
-          (subst (λ (tag : List ℕ). (offer_of dig tag world.chain.log (forest_in op.notes) bytes
+          subst (λ (notes : List Note). (offer_of dig chain.tag (log_of keeping.acts) (forest_of notes) bytes
+          (signed_in chain.tag bytes)).answer ≡ Ok coin) (sym keeping.notes_is)
+          (subst (λ (log : List RootCall). (offer_of dig chain.tag log (forest_in op.notes) bytes
+          (signed_in chain.tag bytes)).answer ≡ Ok coin) (sym keeping.log_is)
+          (subst (λ (tag : List ℕ). (offer_of dig tag chain.log (forest_in op.notes) bytes
           (signed_in tag bytes)).answer ≡ Ok coin) keeping.tag taken))
   own-after event deed after (SealsPool note_is calls_are) role notes offers =
       let body = note_text Sealed in
       let notes_are : after.notes ≡ op.notes ++ body ∷ [] = notes ∙ ap (with_record op.notes) note_is in
-      let added = commands_add_their_notes dig op.notes world.chain.log 0 [] body keeping.kinds (lit< tt) in
-      let may = (commands_keep_the_role dig op.notes world.chain.log 0 [] body keeping.kinds).2 noted in
-      keeps-note dig events world.chain world.nodes keeping event Sealed after role
+      let added = commands_add_their_notes dig op.notes chain.log 0 [] body keeping.kinds (lit< tt) in
+      let may = (commands_keep_the_role dig op.notes chain.log 0 [] body keeping.kinds).2 noted in
+      keeps-note dig events chain op keeping event Sealed after role
       (ap (are_of operator_kinds) notes_are ∙ notes_follow operator_kinds op.notes body keeping.kinds may)
       (ap who_is notes_are ∙ added.0) (ap notes_of notes_are ∙ added.3 noted) tt
       (λ account root has. elim offers [
@@ -239,7 +217,7 @@ module _ (dig : List ℕ → List ℕ) (events : List Event) (world : World)
       pool_root : List ℕ
       pool_root = root_of dig (forest_in op.notes).pool
 
-      strict : times_committed world.chain.log pool_root
+      strict : times_committed chain.log pool_root
           < times_sealed dig (after_note Sealed (forest_in op.notes)).sealed pool_root
       strict =
           let before = keeping.counted pool_root in
@@ -250,150 +228,161 @@ module _ (dig : List ℕ → List ℕ) (events : List Event) (world : World)
 
       waits : (account : ℕ) (root : List ℕ)
           → Has (RootCall.Commit (who_is op.notes).account pool_root ∷ []) (RootCall.Commit account root)
-          → times_committed world.chain.log root
+          → times_committed chain.log root
           < times_sealed dig (after_note Sealed (forest_in op.notes)).sealed root
       waits account root (inl same) =
-          subst (λ (r : List ℕ). times_committed world.chain.log r
+          subst (λ (r : List ℕ). times_committed chain.log r
           < times_sealed dig (after_note Sealed (forest_in op.notes)).sealed r) (ap root_named same) strict
       waits account root (inr none) = absurd none
 
-  is-op : (node : Node) → slice_get world.nodes 0 ≡ Some node → op ≡ node
-  is-op node is = some_same op node (sym keeping.op_is ∙ is)
+  own-ends : (n : ℕ) (deed : Deed) → OwnDeed dig op.notes chain.log deed → (end : End)
+      → IsKeeping dig (event_after n deed end ∷ events) chain (node_after op deed end)
+  own-ends n deed own Whole = own-after _ deed (after_command op deed) own refl refl (inl refl)
+  own-ends n deed own Crashed = own-after _ deed (after_crash (with_records op deed)) own refl refl (inr refl)
+  own-ends n deed own Kept = own-after _ deed (after_crash (with_records op deed)) own refl refl (inr refl)
+  own-ends n deed own Lost = keeps-own dig events chain op keeping (Other n) (after_crash op) refl refl refl
 
-  -- ---- calls
+-- ---- nodes that aren't the operator
 
-  offered-own : (call : RootCall) → commits_root call ≡ true → IsOffered world call → Has op.offers call
-  offered-own call some offered = by offered.n offered.node_is
+-- they offer no commit
+abbrev pub IsQuiet : ℕ → Node → Type 0
+IsQuiet n node = is_operator_role node.role ≡ false → (call : RootCall) → Has node.offers call
+    → commits_root call ≡ false
+
+abbrev pub AreQuiet : World → Type 0
+AreQuiet world = EachNode (IfThere IsQuiet) world.nodes
+
+own-quiet : (dig : List ℕ → List ℕ) (world : World) (act : Act) → IsActIn world act
+    → IsKeptOwn (IfThere IsQuiet) (IfThere IsQuiet) world.nodes (change_of dig world act)
+own-quiet dig world (Adds name (NewWallet who)) known = λ none other call has. absurd has
+own-quiet dig world (Adds name (NewWatcher account)) known = λ none other call has. absurd has
+own-quiet dig world (Adds name (NewRogue who)) known = tt
+own-quiet dig world (Orders place order cut) known =
+    λ quiet. by (end_of cut place.node order (deed_at dig world place order))
+  where
+    by : (end : End) → IsQuiet place.number (node_after place.node (deed_at dig world place order) end)
+    by Whole other call has = order-quiet dig world place order known call has other
+    by Crashed other call has = absurd has
+    by Kept other call has = absurd has
+    by Lost other call has = absurd has
+own-quiet dig world (Crashes place) known = λ quiet other call has. absurd has
+own-quiet dig world act known = tt
+
+first-quiet : (tag operator most : ℕ) → AreQuiet (begun tag operator most).world
+first-quiet tag operator most zero = λ other call has. absurd has
+first-quiet tag operator most (suc n) = tt
+
+pub runs-quiet : (dig : List ℕ → List ℕ) (lines : List Line) (run : Run) (world : World) → IsRun dig lines run world
+    → AreQuiet world
+runs-quiet dig =
+    over_events dig (λ events world. AreQuiet world) (λ tag operator most fits. first-quiet tag operator most)
+    (λ lines run world line act next are.
+    each_node_keeps (IfThere IsQuiet) (IfThere IsQuiet) dig world act next.known are
+    (record { others = λ m other found quiet. quiet; own = own-quiet dig world act next.known }))
+
+-- ---- acts
+
+module _ (dig : List ℕ → List ℕ) (events : List Event) (world : World) (first : OperatorIsFirst world)
+    (quiet : AreQuiet world) (has : HasKeeping dig events world.chain world.nodes) where
+  abbrev op : Node
+  op = has.op
+
+  abbrev After : Act → Type 0
+  After act =
+      HasKeeping dig ((done dig world act).event ∷ events) (done dig world act).world.chain
+      (done dig world act).world.nodes
+
+  is-op : (n : ℕ) (node : Node) → n ≡ 0 → slice_get world.nodes n ≡ Some node → op ≡ node
+  is-op n node here is = some_same op node (sym has.op_is ∙ ap (slice_get world.nodes) (sym here) ∙ is)
+
+  -- a commit that a node offers is the operator's
+  offered-own : (call : RootCall) (origin : Origin) → IsFrom world call origin → commits_root call ≡ true
+      → is_offered origin ≡ true → Has op.offers call
+  offered-own call (OnOffer place) from some offered = by (is_operator_role place.node.role) refl
     where
-      by : (n : ℕ) → slice_get world.nodes n ≡ Some offered.node → Has op.offers call
-      by zero is = subst (λ (node : Node). Has node.offers call) (sym (is-op offered.node is)) offered.offers
-      by (suc n) is =
-          absurd (false≢true (sym ((keeping.others n offered.node is).offers call offered.offers) ∙ some))
+      there : Has place.node.offers call
+      there = offered-has from.1.0 place.node call from.1.1
 
-  calls-keep : (callers : List ℕ) (call : RootCall) → (commits_root call ≡ true → IsOffered world call)
-      → commits_since ((called dig (record world { raw_callers = callers }) call).event ∷ events) ≤ 1
-      → After (called dig (record world { raw_callers = callers }) call)
-  unfolding log_after
-  calls-keep callers call from once =
-      (elim (is_accepted answer) as (λ b. commits_since ((if b then Joins call else Bounces call) ∷ events) ≤ 1
-      → IsKeeping dig ((if b then Joins call else Bounces call) ∷ events)
-      (with_log world.chain (if b then call ∷ world.chain.log else world.chain.log)) world.nodes) [
-        | true ↦ λ at_most.
-            keeps-joins dig events world.chain world.nodes keeping call at_most
-            (λ some. offered-own call some (from some))
-        | false ↦ λ at_most. keeps-here dig events world.chain world.nodes keeping (Bounces call) refl refl
-      ]) once
+      by : (b : Bool) → is_operator_role place.node.role ≡ b → Has op.offers call
+      by true role =
+          subst (λ (node : Node). Has node.offers call)
+          (sym (is-op place.number place.node (first place.number place.node from.0 role) from.0)) there
+      by false role =
+          absurd (false≢true (sym (node-there IsQuiet world.nodes quiet place.number place.node from.0 role call there)
+          ∙ some))
+  offered-own call origin from some offered = absurd (false≢true offered)
+
+  calls-keep : (call : RootCall) (origin : Origin) → IsFrom world call origin
+      → (commits_root call ≡ true → is_offered origin ≡ true)
+      → commits_since ((done dig world (Enters origin call)).event ∷ events) ≤ 1 → After (Enters origin call)
+  unfolding done log_after
+  calls-keep call origin from free once =
+      record { op = op; op_is = has.op_is; is = by once }
     where
       answer : Answer
       answer = answer_to (tests_by dig) (rules_of world.chain) world.chain.log call
 
-  -- ---- other nodes
+      by : commits_since ((if is_accepted answer then Joins call else Bounces call) ∷ events) ≤ 1
+          → IsKeeping dig ((if is_accepted answer then Joins call else Bounces call) ∷ events)
+          (with_log world.chain (if is_accepted answer then call ∷ world.chain.log else world.chain.log)) op
+      by =
+          elim (is_accepted answer) as (λ b. commits_since ((if b then Joins call else Bounces call) ∷ events) ≤ 1
+          → IsKeeping dig ((if b then Joins call else Bounces call) ∷ events)
+          (with_log world.chain (if b then call ∷ world.chain.log else world.chain.log)) op) [
+            | true ↦ λ at_most.
+                keeps-joins dig events world.chain op has.is call at_most
+                (λ some. offered-own call origin from some (free some))
+            | false ↦ λ at_most. keeps-still dig events world.chain op has.is (Bounces call) refl refl
+          ]
 
-  others-event : (command : Command) (n : ℕ) (node : Node) (deed : Deed) → IsDone dig world command (suc n) node deed
-      → node_in deed.gives.event ≡ Some (suc n)
-  others-event command n node deed done = by (of_node dig world (suc n) node command deed done.deed_is)
-    where
-      by : IsOfNode (suc n) command deed.gives → node_in deed.gives.event ≡ Some (suc n)
-      by (Owns own) = own.node
-      by (Sealing call own command_is event_is offers) =
-          absurd (false≢true (sym (keeping.others n node done.node_is).role
-          ∙ sym (ap (λ (c : Command). plays c node.role) command_is)
-          ∙ done-role dig world command (suc n) node deed done))
+  -- a node that changes, by its own event: the operator, or another
+  changes : (place : Place) (event : Event) (after : Node) → IsThere world place → node_in event ≡ Some place.number
+      → (IsKeeping dig events world.chain place.node → IsKeeping dig (event ∷ events) world.chain after)
+      → HasKeeping dig (event ∷ events) world.chain (set world.nodes place.number after)
+  changes place event after there by own = elim (cases_eq place.number 0) [
+    | inl here ↦ record {
+      op = after;
+      op_is = ap (slice_get (set world.nodes place.number after)) (sym here)
+          ∙ set-same world.nodes place.number place.node after there;
+      is = own (subst (IsKeeping dig events world.chain) (is-op place.number place.node here there) has.is);
+    }
+    | inr apart ↦ record {
+      op = op;
+      op_is = set-other world.nodes place.number 0 after apart ∙ has.op_is;
+      is = keeps-still dig events world.chain op has.is event
+          (ap (λ (o : Option ℕ). option_map_or (λ m. m == 0) o false) by ∙ ne_eqb place.number 0 apart)
+          (node-no-commit event place.number by);
+    }
+  ]
 
-  other-keeps : (effect : LineEffect) (n : ℕ) (node new : Node) → slice_get world.nodes (suc n) ≡ Some node
-      → effect.world ≡ with_node world (suc n) new → node_in effect.event ≡ Some (suc n) → IsOther new → After effect
-  other-keeps effect n node new node_is world_is event_is other =
-      subst (λ (w : World). IsKeeping dig (effect.event ∷ events) w.chain w.nodes) (sym world_is)
-      (keeps-set dig events world.chain world.nodes keeping effect.event n node new node_is other
-      (not-first effect.event n event_is) (node-no-commit effect.event (suc n) event_is))
+  adds : (node : Node) (event : Event) → is_command_of 0 event ≡ false → is_commit event ≡ false
+      → HasKeeping dig (event ∷ events) world.chain (world.nodes ++ node ∷ [])
+  adds node event other none =
+      let within = slice_get_within world.nodes 0 op has.op_is in record {
+        op = op;
+        op_is = push-other world.nodes node 0 (λ same. omega (arith, same, within)) ∙ has.op_is;
+        is = keeps-still dig events world.chain op has.is event other none;
+      }
 
-  own-keeps : (effect : LineEffect) (deed : Deed) (after : Node) → OwnDeed dig op.notes world.chain.log deed
-      → effect.world ≡ with_node world 0 after → after.role ≡ op.role
-      → after.notes ≡ with_record op.notes deed.note → (after.offers ≡ deed.gives.offers) ⊎ (after.offers ≡ [])
-      → After effect
-  own-keeps effect deed after own world_is role notes offers =
-      subst (λ (w : World). IsKeeping dig (effect.event ∷ events) w.chain w.nodes) (sym world_is)
-      (own-after effect.event deed after own role notes offers)
+  still : IsKeeping dig (Idle ∷ events) world.chain op
+  still = keeps-still dig events world.chain op has.is Idle refl refl
 
-  own-lost : (effect : LineEffect) → effect.world ≡ with_node world 0 (after_crash op) → After effect
-  own-lost effect world_is =
-      subst (λ (w : World). IsKeeping dig (effect.event ∷ events) w.chain w.nodes) (sym world_is)
-      (keeps-own dig events world.chain world.nodes keeping effect.event (after_crash op) refl refl refl)
-
-  done-own : (command : Command) (deed : Deed) → lays command ≡ false → IsFit command
-      → IsDone dig world command 0 op deed → OwnDeed dig op.notes world.chain.log deed
-  done-own command deed free fit done =
-      own-deed dig world op command deed free fit keeping.role (done-role dig world command 0 op deed done) mail
-      done.deed_is
-
-  crash-keeps : (n : ℕ) (node : Node) → slice_get world.nodes n ≡ Some node → After (crashed world n node)
-  crash-keeps zero node is =
-      subst (λ (k : Node). After (crashed world 0 k)) (is-op node is) (own-lost (crashed world 0 op) refl)
-  crash-keeps (suc n) node is =
-      other-keeps (crashed world (suc n) node) n node (after_crash node) is refl refl
-      (record { role = (keeping.others n node is).role; offers = λ call none. absurd none })
-
-  command-keeps : (command : Command) (n : ℕ) (node : Node) (deed : Deed) → lays command ≡ false → IsFit command
-      → IsDone dig world command n node deed → After (commanded world n node deed)
-  command-keeps command zero node deed free fit done =
-      subst (λ (k : Node). IsDone dig world command 0 k deed → After (commanded world 0 k deed))
-      (is-op node done.node_is)
-      (λ own. own-keeps (commanded world 0 op deed) deed (after_command op deed) (done-own command deed free fit own)
-      refl refl refl (inl refl)) done
-  command-keeps command (suc n) node deed free fit done =
-      let other = keeping.others n node done.node_is in
-      other-keeps (commanded world (suc n) node deed) n node (after_command node deed) done.node_is refl
-      (others-event command n node deed done)
-      (record { role = other.role; offers = deed-quiet dig world command (suc n) node deed done other.role })
-
-  cut-own : (command : Command) (deed : Deed) (effect : LineEffect) → lays command ≡ false → IsFit command
-      → IsDone dig world command 0 op deed → IsCut world 0 op deed effect → After effect
-  cut-own command deed effect free fit done (Kept event_is world_is) =
-      own-keeps effect deed (after_crash (with_records op deed)) (done-own command deed free fit done) world_is refl
-      refl
-      (inr refl)
-  cut-own command deed effect free fit done (Lost event_is world_is) = own-lost effect world_is
-
-  cut-other : (command : Command) (n : ℕ) (node : Node) (deed : Deed) (effect : LineEffect)
-      → IsDone dig world command (suc n) node deed → IsCut world (suc n) node deed effect → After effect
-  cut-other command n node deed effect done (Kept event_is world_is) =
-      other-keeps effect n node (after_crash (with_records node deed)) done.node_is world_is
-      (ap node_in event_is ∙ cut-node (suc n) deed.gives.event (others-event command n node deed done))
-      (record { role = (keeping.others n node done.node_is).role; offers = λ call none. absurd none })
-  cut-other command n node deed effect done (Lost event_is world_is) =
-      other-keeps effect n node (after_crash node) done.node_is world_is (ap node_in event_is)
-      (record { role = (keeping.others n node done.node_is).role; offers = λ call none. absurd none })
-
-  cut-keeps : (command : Command) (n : ℕ) (node : Node) (deed : Deed) (effect : LineEffect) → lays command ≡ false
-      → IsFit command → IsDone dig world command n node deed → IsCut world n node deed effect → After effect
-  cut-keeps command zero node deed effect free fit done is =
-      subst (λ (k : Node). IsDone dig world command 0 k deed → IsCut world 0 k deed effect → After effect)
-      (is-op node done.node_is) (λ own made. cut-own command deed effect free fit own made) done is
-  cut-keeps command (suc n) node deed effect free fit done is = cut-other command n node deed effect done is
-
-  -- ---- each line
-
-  pub moves-keep : (effect : LineEffect) → Moves dig world effect → commits_since (effect.event ∷ events) ≤ 1
-      → After effect
-  moves-keep effect (Rests reply made is) once =
-      subst After (sym is) (keeps-here dig events world.chain world.nodes keeping Idle refl refl)
-  moves-keep effect (Calls callers call from is) once =
-      subst After (sym is)
-      (calls-keep callers call from (subst (λ (e : LineEffect). commits_since (e.event ∷ events) ≤ 1) is once))
-  moves-keep effect (AddsWallet name who is) once =
-      subst After (sym is)
-      (keeps-push dig events world.chain world.nodes keeping _ _
-      (record { role = refl; offers = λ call none. absurd none }) refl refl)
-  moves-keep effect (AddsWatcher name account is) once =
-      subst After (sym is)
-      (keeps-push dig events world.chain world.nodes keeping _ _
-      (record { role = refl; offers = λ call none. absurd none }) refl refl)
-  moves-keep effect (AddsRogue name who is) once =
-      subst After (sym is) (keeps-here dig events world.chain world.nodes keeping Idle refl refl)
-  moves-keep effect (Crashes n node node_is is) once = subst After (sym is) (crash-keeps n node node_is)
-  moves-keep effect (Commands command n node deed free fit done is) once =
-      subst After (sym is) (command-keeps command n node deed free fit done)
-  moves-keep effect (Cuts command calls outcome n node deed free fit done is) once =
-      subst After (sym is)
-      (cut-keeps command n node deed (cut world n node calls outcome command deed) free fit done
-      (is_cut world n node calls outcome command deed))
+  pub act-keeps : (act : Act) → IsActIn world act → IsFitAct act → IsFree act
+      → commits_since ((done dig world act).event ∷ events) ≤ 1 → After act
+  unfolding done
+  act-keeps (Rests reply) known fit free once = record { op = op; op_is = has.op_is; is = still }
+  act-keeps (Signs leaf body rogue) known fit free once = record { op = op; op_is = has.op_is; is = still }
+  act-keeps (Adds name (NewWallet who)) known fit free once = adds _ _ refl refl
+  act-keeps (Adds name (NewWatcher account)) known fit free once = adds _ _ refl refl
+  act-keeps (Adds name (NewRogue who)) known fit free once = record { op = op; op_is = has.op_is; is = still }
+  act-keeps (Enters origin call) known fit free once = calls-keep call origin known free once
+  act-keeps (Orders place order cut) known fit free once =
+      let deed = deed_at dig world place order in
+      let end = end_of cut place.node order deed in
+      changes place _ _ known.there (by-end dig world first place order known end).node
+      (λ keeping. own-ends dig events world.chain place.node keeping place.number deed
+      (own-deed dig world.chain.log place.number place.node order free fit keeping.role known.role) end)
+  act-keeps (Crashes place) known fit free once =
+      changes place (Other place.number) (after_crash place.node) known refl
+      (λ keeping. keeps-own dig events world.chain place.node keeping (Other place.number) (after_crash place.node)
+      refl refl refl)

@@ -2,9 +2,7 @@
 use Rattle.std.proofs.Common.{◌≡◌, ℕ, ◌^◌, ◌<◌, ◌&&◌, not, Bool, true, false, if◌then◌else◌, List, [], ◌∷◌, ◌++◌, Option, Some, None, inl, inr, refl, sym, ap, ◌∙◌, subst, bytes_eq}
 use Rattle.std.specs.Prelude.{Result, IfSome, slice_get, unwrap_or, option_map}
 use Rattle.std.proofs.lemmas.Bool.{and_parts, eq-eqb}
-use Rattle.line_forms.specs.declared.tokens.OutcomeToken.{OutcomeToken}
 use Rattle.line_forms.proofs.FormLaws.{option_map_some}
-use Rattle.gate_journal.specs.Laws.{is_added}
 use Rattle.leaf_journal.specs.Records.{messages_of}
 use Rattle.lms_sign.specs.Tree.{signature_of}
 use Rattle.plasma_tx.specs.declared.owner.Owner.{Owner}
@@ -14,7 +12,6 @@ use Rattle.plasma_tx.specs.Spelling.{IsBody, body_text, body_at_start}
 use Rattle.schedule_text.specs.declared.line.Line.{Line}
 use Rattle.schedule_text.specs.declared.command.Command.{Command}
 use Rattle.schedule_text.specs.declared.command.WalletCommand.{WalletCommand}
-use Rattle.schedule_text.specs.Grammar.{IsLine}
 use Rattle.wallet_core.specs.declared.coin_state.CoinState.TheVariants.{Held}
 use Rattle.node_rules.specs.declared.answers.Sent.{Sent}
 use Rattle.node_rules.specs.declared.refusal.WalletRefusal.{WalletRefusal}
@@ -27,23 +24,24 @@ use Rattle.node_rules.proofs.WalletRole.{held-tip}
 use Rattle.node_replies.specs.declared.reply.Reply.{Reply}
 use Rattle.node_replies.specs.Causes.{wallet_cause}
 use Rattle.world_rules.specs.Events.{Event, Binds, Watches, Leaves, Seals, Other, bound_by, leaf_at}
-use Rattle.world_rules.specs.World.{Node, World, with_node, is_named, is_wallet_role, number_of, wallet_of}
-use Rattle.world_rules.specs.Deeds.{Gives, Deed, as_deed, deed_of}
+use Rattle.world_rules.specs.World.{Node, World, is_named, is_wallet_role, number_of, wallet_of}
+use Rattle.world_rules.specs.Deeds.{Deed}
 use Rattle.node_replies.specs.declared.order.NodeOrder.{NodeOrder}
 use Rattle.node_replies.specs.declared.order.WalletOrder.{WalletOrder}
 use Rattle.node_replies.specs.Orders.{Response, answered, on_accepted, on_sent, on_leaving, on_reclaimed, on_migrated, again_does, wallet_does}
-use Rattle.world_rules.specs.Orders.{wallet_order, order_of, node_does}
+use Rattle.world_rules.specs.Orders.{wallet_order, order_of}
 use Rattle.world_rules.specs.OrderEvents.{event_of}
-use Rattle.world_rules.proofs.OrderEnds.{ordered, each-answer}
-use Rattle.world_rules.specs.Steps.{LineEffect, says, is_opening, with_records, after_crash, answers_down, commanded, down, is_stopped, outcome_of, without_offers, stopped, finished, cut, command_effect, cut_effect, effect_in}
+use Rattle.world_rules.proofs.OrderEnds.{each-answer}
+use Rattle.world_rules.specs.Steps.{LineEffect, without_offers}
 use Rattle.world_rules.specs.Laws.{IsCommandIn}
 use Rattle.world_rules.proofs.Existence.{position-is}
-use Rattle.world_rules.proofs.FitLines.{command-fit, cut-fit}
-use Rattle.world_rules.proofs.KeptNode.{IsGoodOwner, IsFitWallet, IsFitOrder, order-fit}
+use Rattle.world_rules.proofs.KeptNode.{IsGoodOwner, IsFitOrder}
 use Rattle.world_rules.proofs.KeptWallet.{KeptWallet}
-use Rattle.world_rules.proofs.KeptWorld.{KeptWorld, world-feeds, few-blocks}
+use Rattle.world_rules.proofs.KeptWorld.{KeptWorld, few-blocks}
 use Rattle.world_rules.proofs.Said.{said}
-use Rattle.world_rules.proofs.Shapes.{acted}
+use Rattle.world_acts.specs.Acts.{Place, Cut, Act, Rests, Orders, End, Whole, Crashed, Kept, Lost, is_down_for, order_act, act_of, end_of, end_effect, deed_at, done}
+use Rattle.world_acts.proofs.Fitting.{IsFitAct}
+use Rattle.world_acts.proofs.Lookups.{IsFound, understood-in}
 use Rattle.node_replies.proofs.WalletEnds.{SendEnds, Refused, Sends, send_ends}
 use Rattle.world_rules.proofs.WalletSends.{body-signed, words}
 use Rattle.world_laws.proofs.Lists.{some_same}
@@ -73,9 +71,6 @@ module _ (dig : List ℕ → List ℕ) (events : List Event) (world : World) (ke
 
   abbrev log : List RootCall
   log = world.chain.log
-
-  abbrev Makes : Gives → Type 0
-  Makes gives = (q : ℕ) → gives.reply ≡ Reply.Sent q → IsMade events n node gives.event gives.made q
 
   wallet-kept : KeptWallet dig (said events n) log wallet
   wallet-kept = (kept.nodes n node node_is).wallet role
@@ -166,7 +161,7 @@ module _ (dig : List ℕ → List ℕ) (events : List Event) (world : World) (ke
       by None none q is = absurd (cc is)
       by (Some k) found q is = of k q found (cc is)
 
-  wallet-makes : (order : WalletOrder) → IsFitOrder (NodeOrder.Wallet order)
+  pub wallet-makes : (order : WalletOrder) → IsFitOrder (NodeOrder.Wallet order)
       → MakesBy order (wallet_does dig log wallet order).response
   unfolding wallet_does
   wallet-makes (WalletOrder.Accept bytes) fit =
@@ -182,78 +177,6 @@ module _ (dig : List ℕ → List ℕ) (events : List Event) (world : World) (ke
   wallet-makes WalletOrder.Migrate fit =
       others WalletOrder.Migrate on_migrated (λ done q wrong. cc wrong) (migrate_effect wallet).answer
   wallet-makes WalletOrder.Watch fit = λ q wrong. absurd (cc wrong)
-
-  deed-makes : (name : List ℕ) (own : WalletCommand) (deed : Deed) → IsFitWallet own
-      → deed_of dig world n node (Command.Wallet name own) ≡ Some deed → Makes deed.gives
-  unfolding order_of
-  deed-makes name own deed fit is =
-      let command = Command.Wallet name own in
-      let by = ordered dig world n node command deed is in
-      let found = option_map_some NodeOrder.Wallet (wallet_order world own) by.order by.order_is in
-      subst (λ (d : Deed). Makes d.gives) by.deed_is
-      (subst (λ (o : NodeOrder). IsFitOrder o → Makes (as_deed n o (node_does dig log node o)).gives) found.2
-      (wallet-makes found.0)
-      (order-fit world (world-feeds dig events world kept) node.role command by.order fit by.order_is))
-
-  -- so does a line with the command, cut or not
-  abbrev MakesLine : LineEffect → Type 0
-  MakesLine effect = (q : ℕ) → effect.reply ≡ Reply.Sent q → IsMade events n node effect.event effect.made q
-
-  pub command-makes : (name : List ℕ) (own : WalletCommand) (effect : LineEffect) → IsFitWallet own
-      → command_effect dig world (Command.Wallet name own) n node ≡ Some effect → MakesLine effect
-  command-makes name own effect fit is = at (answers_down node (Command.Wallet name own)) is
-    where
-      at : (b : Bool)
-          → (if b then Some (down world)
-          else option_map (commanded world n node) (deed_of dig world n node (Command.Wallet name own))) ≡ Some effect
-          → MakesLine effect
-      at true is = subst MakesLine (some_same _ effect is) (λ q wrong. absurd (cc wrong))
-      at false is =
-          let found = option_map_some (commanded world n node) (deed_of dig world n node (Command.Wallet name own))
-          effect is in
-          subst MakesLine found.2 (deed-makes name own found.0 fit found.1)
-
-  cut-makes : (calls : ℕ) (outcome : OutcomeToken) (command : Command) (deed : Deed) → Makes deed.gives
-      → MakesLine (cut world n node calls outcome command deed)
-  cut-makes calls outcome command deed makes =
-      (elim (is_stopped calls node command deed) as (λ b. MakesLine
-      (if b then stopped world n node calls outcome command deed else finished world n node deed)) [
-        | true ↦ by (not (is_opening command) && is_added calls (outcome_of outcome))
-        | false ↦ λ q is.
-            let made = makes q is in
-            record {
-              body = made.body;
-              leaf = ap (leaf_at q) (cut-bound n n deed.gives.event events) ∙ made.leaf;
-              made_is = made.made_is;
-            }
-      ])
-    where
-      by : (b : Bool) → MakesLine
-          (if b
-          then says Reply.Stopped (without_offers n deed.gives.event)
-          (with_node world n (after_crash (with_records node deed)))
-          else says Reply.Stopped (Other n) (with_node world n (after_crash node)))
-      by true q wrong = absurd (cc wrong)
-      by false q wrong = absurd (cc wrong)
-
-  pub cut-line-makes : (calls : ℕ) (outcome : OutcomeToken) (name : List ℕ) (own : WalletCommand)
-      (effect : LineEffect) → IsFitWallet own
-      → cut_effect dig world calls outcome (Command.Wallet name own) n node ≡ Some effect → MakesLine effect
-  cut-line-makes calls outcome name own effect fit is = at (answers_down node command) is
-    where
-      command : Command
-      command = Command.Wallet name own
-
-      at : (b : Bool)
-          → (if b then Some (down world)
-          else option_map (cut world n node calls outcome command) (deed_of dig world n node command)) ≡ Some effect
-          → MakesLine effect
-      at true is = subst MakesLine (some_same _ effect is) (λ q wrong. absurd (cc wrong))
-      at false is =
-          let found = option_map_some (cut world n node calls outcome command) (deed_of dig world n node command)
-          effect is in
-          subst MakesLine found.2
-          (cut-makes calls outcome command found.0 (deed-makes name own found.0 fit found.1))
 
 -- ---- a line
 
@@ -275,37 +198,57 @@ module _ (dig : List ℕ → List ℕ) (events : List Event) (world : World) (ke
       (and_parts (bytes_eq node.name name) (is_wallet_role node.role)
       (ap (is_named is_wallet_role name) (sym same) ∙ found.2)).1
 
-  pub new-sent : (line : Line) (effect : LineEffect) (name : List ℕ) (own : WalletCommand) (q : ℕ) → IsLine line
-      → effect_in dig world line ≡ Some effect → IsCommandIn line (Command.Wallet name own)
-      → effect.reply ≡ Reply.Sent q → IsNew events world effect name q
-  unfolding effect_in
-  new-sent line effect name own q fits is (inl plain) sent =
-      let command = Command.Wallet name own in
-      let made : effect_in dig world (Line.Command command) ≡ Some effect = ap (effect_in dig world) (sym plain) ∙ is in
-      let fit : IsFitWallet own = command-fit command (subst IsLine plain fits) in
-      let found = acted dig world is_wallet_role name (command_effect dig world command) effect made in
-      record {
-        n = found.0;
-        node = found.1;
-        number = found.2;
-        node_is = found.3;
-        made = command-makes dig events world kept found.0 found.1 found.3
-            (named-role name found.0 found.1 found.2 found.3) name own effect fit found.4 q sent;
+  -- the act of a line with a command of the wallet, cut or not, that answers with the leaf
+  pub new-sent : (line : Line) (act : Act) (name : List ℕ) (own : WalletCommand) (q : ℕ) → IsFitAct act
+      → act_of world line ≡ Some act → IsCommandIn line (Command.Wallet name own)
+      → (done dig world act).reply ≡ Reply.Sent q → IsNew events world (done dig world act) name q
+  unfolding order_of done
+  new-sent line act name own q fit is is_command sent =
+      let (cut, by) = understood-in world line (Command.Wallet name own) act is is_command in
+      let found = option_map_some NodeOrder.Wallet (wallet_order world own) by.order by.order_is in
+      subst (λ (a : Act). IsFitAct a → (done dig world a).reply ≡ Reply.Sent q → IsNew events world (done dig world a)
+      name q) by.act_is
+      (subst (λ (o : NodeOrder). IsFitAct (order_act cut by.place o)
+      → (done dig world (order_act cut by.place o)).reply ≡ Reply.Sent q
+      → IsNew events world (done dig world (order_act cut by.place o)) name q) found.2
+      (ordered cut by.place by.at found.0 (is_down_for (NodeOrder.Wallet found.0) by.place.node))) fit sent
+    where
+      ended : (place : Place) (deed : Deed) → IsFound world is_wallet_role name place
+          → ((k : ℕ) → deed.gives.reply ≡ Reply.Sent k
+          → IsMade events place.number place.node deed.gives.event deed.gives.made k) → (end : End)
+          → (end_effect world place deed end).reply ≡ Reply.Sent q
+          → IsNew events world (end_effect world place deed end) name q
+      ended place deed at makes Whole sent = record {
+        n = place.number;
+        node = place.node;
+        number = at.number;
+        node_is = at.there;
+        made = makes q sent;
       }
-  new-sent line effect name own q fits is (inr in_cut) sent =
-      let command = Command.Wallet name own in
-      let calls = in_cut.1 in
-      let outcome = in_cut.2 in
-      let cut_is = in_cut.3 in
-      let made : effect_in dig world (Line.Cut in_cut.0 calls outcome command) ≡ Some effect =
-      ap (effect_in dig world) (sym cut_is) ∙ is in
-      let fit : IsFitWallet own = cut-fit in_cut.0 calls outcome command (subst IsLine cut_is fits) in
-      let found = acted dig world is_wallet_role name (cut_effect dig world calls outcome command) effect made in
-      record {
-        n = found.0;
-        node = found.1;
-        number = found.2;
-        node_is = found.3;
-        made = cut-line-makes dig events world kept found.0 found.1 found.3
-            (named-role name found.0 found.1 found.2 found.3) calls outcome name own effect fit found.4 q sent;
+      ended place deed at makes Crashed sent = let made = makes q sent in record {
+        n = place.number;
+        node = place.node;
+        number = at.number;
+        node_is = at.there;
+        made = record {
+          body = made.body;
+          leaf = ap (leaf_at q) (cut-bound place.number place.number deed.gives.event events) ∙ made.leaf;
+          made_is = made.made_is;
+        };
       }
+      ended place deed at makes Kept sent = absurd (cc sent)
+      ended place deed at makes Lost sent = absurd (cc sent)
+
+      ordered : (cut : Option Cut) (place : Place) → IsFound world is_wallet_role name place → (order : WalletOrder)
+          → (b : Bool)
+          → IsFitAct (if b then Rests Reply.Down else Orders place (NodeOrder.Wallet order) cut)
+          → (done dig world (if b then Rests Reply.Down else Orders place (NodeOrder.Wallet order) cut)).reply
+          ≡ Reply.Sent q
+          → IsNew events world
+          (done dig world (if b then Rests Reply.Down else Orders place (NodeOrder.Wallet order) cut)) name q
+      ordered cut place at order true fit sent = absurd (cc sent)
+      ordered cut place at order false fit sent =
+          let deed = deed_at dig world place (NodeOrder.Wallet order) in
+          ended place deed at
+          (wallet-makes dig events world kept place.number place.node at.there at.role order fit)
+          (end_of cut place.node (NodeOrder.Wallet order) deed) sent

@@ -13,28 +13,29 @@ use Rattle.plasma_tx.specs.Spelling.{body_text, body_at_start}
 use Rattle.schedule_text.specs.declared.line.Line.{Line}
 use Rattle.schedule_text.specs.declared.command.Command.{Command}
 use Rattle.schedule_text.specs.declared.command.WalletCommand.{WalletCommand}
-use Rattle.schedule_text.specs.Grammar.{IsLine}
 use Rattle.node_rules.specs.declared.identity.WalletIdentity.{WalletIdentity}
 use Rattle.node_rules.specs.WalletRecords.{secret_of, who_is}
 use Rattle.watch_duty.proofs.Members.{Has, has-contains, contains-has}
 use Rattle.node_replies.specs.declared.reply.Reply.{Reply}
 use Rattle.world_rules.specs.Events.{Event, bound_by, leaf_at}
 use Rattle.world_rules.specs.World.{Node, World, is_named, is_wallet_role, number_of, owner_of_node, owner_of_rogue, rogue_named, owner_named}
-use Rattle.world_rules.specs.Steps.{LineEffect, operator_node, new_chain, step, TraceEntry, entry_of, Run, events_of}
+use Rattle.world_rules.specs.Steps.{LineEffect, operator_node, new_chain, TraceEntry, entry_of, Run, events_of}
 use Rattle.world_rules.specs.Verdicts.{GivenOut, wallet_of_line, leaf_sent, given_by, given_out}
 use Rattle.world_rules.specs.Laws.{IsCommandIn}
 use Rattle.world_rules.proofs.Existence.{position-parts}
 use Rattle.world_rules.proofs.KeptRun.{run-kept}
 use Rattle.world_rules.proofs.KeptWorld.{KeptWorld}
-use Rattle.world_rules.proofs.NodeLaws.{records_grow}
+use Rattle.world_rules.proofs.NodeLaws.{NodesGrow, records_grow}
 use Rattle.world_rules.proofs.Runs.{begun}
-use Rattle.world_rules.proofs.StepLaws.{stepped}
 use Rattle.world_laws.specs.Headline.{IsRun, GivenOutIsBound, LeavesSignOneMessage}
 use Rattle.world_laws.proofs.Lists.{some_same, none_some}
-use Rattle.world_laws.proofs.Origins.{does}
-use Rattle.world_laws.proofs.Acts.{over_lines}
+use Rattle.world_acts.specs.Acts.{Act, act_of}
+use Rattle.world_acts.proofs.Effects.{steps_are_of_acts}
+use Rattle.world_acts.proofs.Fitting.{IsFitAct}
+use Rattle.world_acts.proofs.Lives.{line_effect}
+use Rattle.world_laws.proofs.Acts.{IsNext, over_acts}
 use Rattle.world_laws.proofs.SignedDeeds.{named-role, new-sent}
-use Rattle.world_laws.proofs.SignedStays.{stays, leaf-stays, KeysApart, keys-does}
+use Rattle.world_laws.proofs.SignedStays.{stays, leaf-stays, KeysApart, keys-act}
 
 -- what there is is one
 one-of : {A : Type 0} (o : Option A) (x y : A) → o ≡ Some x → o ≡ Some y → x ≡ y
@@ -86,25 +87,30 @@ first-signed tag operator most = record { signed = signed; apart = apart }
     apart (suc n) m one other one_is other_is one_role other_role key = absurd (none_some one one_is)
 
 module _ (dig : List ℕ → List ℕ) (events : List Event) (entries : List TraceEntry) (world : World)
-    (kept : KeptWorld dig events world) (line : Line) (effect : LineEffect) (in_grammar : IsLine line)
-    (is : step dig (Some world) line ≡ Some effect) where
+    (kept : KeptWorld dig events world) (line : Line) (act : Act) (fit : IsFitAct act)
+    (act_is : act_of world line ≡ Some act) where
+  abbrev effect : LineEffect
+  effect = line_effect dig world act
+
+  grown : NodesGrow world (line_effect dig world act).world.nodes
+  grown =
+      records_grow dig world line (line_effect dig world act)
+      (steps_are_of_acts dig world line ∙ ap (option_map (line_effect dig world)) act_is)
+
   -- the entry of the line
   newest-signed : (name : List ℕ) (own : WalletCommand) (q : ℕ) → IsCommandIn line (Command.Wallet name own)
       → effect.reply ≡ Reply.Sent q → IsSigned (effect.event ∷ events) effect.world name effect.made q
   newest-signed name own q in_command sent =
-      let made = stepped dig world line effect is in
-      let new = new-sent dig events world kept line made.bare name own q in_grammar made.bare_is in_command
-      (sym (ap (λ (e : LineEffect). e.reply) made.effect_is) ∙ sent) in
-      let stay = stays dig events world kept name new.n new.node new.number new.node_is effect.world.nodes
-      (records_grow dig world line effect is) in
+      let new = new-sent dig events world kept line act name own q fit act_is in_command sent in
+      let stay = stays dig events world kept name new.n new.node new.number new.node_is effect.world.nodes grown in
       record {
         n = new.n;
         node = stay.new;
         number = stay.number;
         node_is = stay.is_new;
         body = new.made.body;
-        leaf = ap (λ (e : LineEffect). leaf_at q (bound_by (e.event ∷ events) new.n)) made.effect_is ∙ new.made.leaf;
-        made_is = ap (λ (e : LineEffect). e.made) made.effect_is ∙ new.made.made_is
+        leaf = new.made.leaf;
+        made_is = new.made.made_is
             ∙ ap (λ (w : WalletIdentity). body_text new.made.body
             ++ signature_of (secret_of w) q (body_text new.made.body)) (sym stay.who);
       }
@@ -113,8 +119,7 @@ module _ (dig : List ℕ → List ℕ) (events : List Event) (entries : List Tra
   older-signed : (name made : List ℕ) (q : ℕ) → IsSigned events world name made q
       → IsSigned (effect.event ∷ events) effect.world name made q
   older-signed name made q old =
-      let stay = stays dig events world kept name old.n old.node old.number old.node_is effect.world.nodes
-      (records_grow dig world line effect is) in
+      let stay = stays dig events world kept name old.n old.node old.number old.node_is effect.world.nodes grown in
       record {
         n = old.n;
         node = stay.new;
@@ -137,28 +142,20 @@ module _ (dig : List ℕ → List ℕ) (events : List Event) (entries : List Tra
   more-signed are entry (inr has) name own q in_command sent =
       older-signed name entry.made q (are entry has name own q in_command sent)
 
-  more-apart : KeysApart world.nodes → KeysApart effect.world.nodes
-  more-apart apart =
-      let made = stepped dig world line effect is in
-      subst (λ (e : LineEffect). KeysApart e.world.nodes) (sym made.effect_is)
-      (keys-does dig events world kept apart made.bare
-      (does dig world line made.bare in_grammar made.keeps made.bare_is))
-
-next-signed : (dig : List ℕ → List ℕ) (lines : List Line) (run : Run) (world : World) (line : Line)
-    (effect : LineEffect) → IsRun dig lines run world → IsLine line → IsSignedRun run.entries world
-    → step dig (Some world) line ≡ Some effect → IsSignedRun (entry_of line effect ∷ run.entries) effect.world
+next-signed : (dig : List ℕ → List ℕ) (lines : List Line) (run : Run) (world : World) (line : Line) (act : Act)
+    → IsNext dig lines run world line act → IsSignedRun run.entries world
+    → IsSignedRun (entry_of line (line_effect dig world act) ∷ run.entries) (line_effect dig world act).world
 unfolding events_of
-next-signed dig lines run world line effect run_is in_grammar holds is =
-    let kept = (run-kept dig run_is.digest lines run run_is.lines_are run_is.run_is).world world run_is.world_is in
-    record {
-      signed = more-signed dig (events_of run.entries) run.entries world kept line effect in_grammar is holds.signed;
-      apart = more-apart dig (events_of run.entries) run.entries world kept line effect in_grammar is holds.apart;
-    }
+next-signed dig lines run world line act next holds = record {
+  signed = more-signed dig (events_of run.entries) run.entries world next.kept line act next.fit next.act_is
+      holds.signed;
+  apart = keys-act dig (events_of run.entries) world next.kept holds.apart act next.known next.fit;
+}
 
 runs-signed : (dig : List ℕ → List ℕ) (lines : List Line) (run : Run) (world : World) → IsRun dig lines run world
     → IsSignedRun run.entries world
-runs-signed dig lines run world run_is =
-    over_lines dig IsSignedRun first-signed (next-signed dig) lines run world run_is
+runs-signed dig =
+    over_acts dig IsSignedRun (λ tag operator most fits. first-signed tag operator most) (next-signed dig)
 
 -- ---- what is given out
 

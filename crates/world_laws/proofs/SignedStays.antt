@@ -5,31 +5,31 @@ use Rattle.std.specs.List.{position, position_or_len}
 use Rattle.std.proofs.lemmas.Bool.{and_parts, or_parts, not-true, cases_eq, lt-ltb, true≢false, false≢true}
 use Rattle.std.proofs.lemmas.List.{length-set, length_push}
 use Rattle.std.proofs.lemmas.Slice.Eq.{bytes_eq-Decides}
-use Rattle.lms_sign.specs.declared.types.LmsTypes.{LmsTypes}
 use Rattle.plasma_tx.specs.declared.body.Body.{Body}
+use Rattle.plasma_tx.specs.declared.call.RootCall.{RootCall}
 use Rattle.node_journal.specs.Role.{are_of}
-use Rattle.schedule_text.specs.declared.line.Line.{Line}
-use Rattle.schedule_text.specs.Grammar.{IsLine}
 use Rattle.node_rules.specs.declared.identity.WalletIdentity.{WalletIdentity}
 use Rattle.node_rules.specs.WalletRecords.{wallet_kinds, identity_text, who_is, owner_of}
 use Rattle.node_rules.proofs.WalletGrow.{who-same, wallet-parts}
 use Rattle.world_rules.specs.Events.{Event, Binds, bound_by, leaf_at}
 use Rattle.world_rules.specs.World.{Wallet, Node, World, is_named, is_wallet_role, owner_of_node, wallet_of}
-use Rattle.world_rules.specs.Declarations.{declared_wallet, is_wallet_key, is_wallet_seed, may_be_wallet}
+use Rattle.world_rules.specs.Declarations.{is_wallet_key, is_wallet_seed, may_be_wallet}
 use Rattle.world_rules.specs.Deeds.{Deed}
 use Rattle.node_replies.specs.Orders.{with_record}
-use Rattle.world_rules.specs.Steps.{LineEffect, new_node, with_records, after_command, after_crash, cut}
+use Rattle.world_rules.specs.Steps.{new_node, with_records}
 use Rattle.world_rules.specs.Laws.{GrowsAtMost}
 use Rattle.world_rules.proofs.KeptWorld.{KeptWorld}
 use Rattle.world_rules.proofs.NodeLaws.{NodesGrow}
-use Rattle.world_rules.proofs.Runs.{set-same, set-other, push-same, push-other}
+use Rattle.world_rules.proofs.Runs.{set-same, set-other, push-other}
 use Rattle.world_rules.proofs.Existence.{position-parts}
-use Rattle.world_rules.proofs.Shapes.{IsCut, Kept, Lost, is_cut}
+use Rattle.world_acts.specs.Acts.{NewWallet, NewWatcher, NewRogue, Act, Adds, Orders, Crashes, End, Whole, Crashed, Kept, Lost, end_of, node_after, deed_at, done}
+use Rattle.world_acts.specs.Evidence.{IsOfChain, IsActIn}
+use Rattle.world_acts.proofs.Fitting.{IsFitNew, IsFitAct}
+use Rattle.world_acts.proofs.Nodes.{change_of, IsKeptOwn, each_node_keeps, IfThere, node-there}
 use Rattle.world_laws.proofs.Lists.{some_same}
 use Rattle.world_laws.proofs.Absences.{leaf_at-push}
 use Rattle.world_laws.proofs.Holders.{any-filter}
 use Rattle.world_laws.proofs.Identities.{wallet-who, wallet-identity}
-use Rattle.world_laws.proofs.Origins.{Does, Rests, Enters, AddsWallet, AddsWatcher, AddsRogue, Crashes, Commands, Cuts}
 use Rattle.world_laws.proofs.SignedDeeds.{named-role}
 
 -- ---- positions
@@ -175,136 +175,99 @@ KeysApart nodes = (n m : ℕ) (one other : Node) → slice_get nodes n ≡ Some 
     → is_wallet_role one.role ≡ true → is_wallet_role other.role ≡ true
     → (owner_of_node one).key ≡ (owner_of_node other).key → n ≡ m
 
--- a node that is there, or was before it changed, with its role and its key
-record IsOld (nodes : List Node) (k : ℕ) (one : Node) : Type 0 where
-  old : Node
-  old_is : slice_get nodes k ≡ Some old
-  role : is_wallet_role one.role ≡ is_wallet_role old.role
-  key : is_wallet_role one.role ≡ true → (owner_of_node one).key ≡ (owner_of_node old).key
-
-keys-set : (nodes : List Node) (k : ℕ) (node after : Node) → KeysApart nodes → slice_get nodes k ≡ Some node
-    → is_wallet_role after.role ≡ is_wallet_role node.role
-    → (is_wallet_role after.role ≡ true → who_is after.notes ≡ who_is node.notes) → KeysApart (set nodes k after)
-keys-set nodes k node after apart node_is role who n m one other one_is other_is one_role other_role key =
-    let first = old n one one_is in
-    let second = old m other other_is in
-    apart n m first.old second.old first.old_is second.old_is (sym first.role ∙ one_role) (sym second.role ∙ other_role)
-    (sym (first.key one_role) ∙ key ∙ second.key other_role)
-  where
-    old : (j : ℕ) (found : Node) → slice_get (set nodes k after) j ≡ Some found → IsOld nodes j found
-    old j found is = elim (cases_eq k j) [
-      | inl same ↦
-          let after_is : after ≡ found = some_same after found
-          (sym (set-same nodes k node after node_is) ∙ ap (slice_get (set nodes k after)) same ∙ is) in
-          record {
-            old = node;
-            old_is = ap (slice_get nodes) (sym same) ∙ node_is;
-            role = ap (λ (x : Node). is_wallet_role x.role) (sym after_is) ∙ role;
-            key = λ found_role.
-                ap (λ (x : Node). (owner_of_node x).key) (sym after_is)
-                ∙ ap (λ (w : WalletIdentity). (owner_of w).key)
-                (who (ap (λ (x : Node). is_wallet_role x.role) after_is ∙ found_role));
-          }
-      | inr other ↦ record {
-        old = found;
-        old_is = sym (set-other nodes k j after other) ∙ is;
-        role = refl;
-        key = λ found_role. refl;
-      }
-    ]
-
-keys-push : (nodes : List Node) (new : Node) → KeysApart nodes
-    → ((n : ℕ) (node : Node) → slice_get nodes n ≡ Some node → is_wallet_role node.role ≡ true
-    → is_wallet_role new.role ≡ true → (owner_of_node node).key ≡ (owner_of_node new).key → ⊥)
-    → KeysApart (nodes ++ new ∷ [])
-keys-push nodes new apart own n m one other one_is other_is one_role other_role key =
-    by (cases_eq (length nodes) n) (cases_eq (length nodes) m)
-  where
-    last : (j : ℕ) (found : Node) → slice_get (nodes ++ new ∷ []) j ≡ Some found → length nodes ≡ j → found ≡ new
-    last j found is same =
-        some_same found new
-        (sym is ∙ ap (slice_get (nodes ++ new ∷ [])) (sym same) ∙ push-same nodes new)
-
-    before : (j : ℕ) (found : Node) → slice_get (nodes ++ new ∷ []) j ≡ Some found → length nodes ≢ j
-        → slice_get nodes j ≡ Some found
-    before j found is other = sym (push-other nodes new j other) ∙ is
-
-    by : (length nodes ≡ n) ⊎ (length nodes ≢ n) → (length nodes ≡ m) ⊎ (length nodes ≢ m) → n ≡ m
-    by (inl here) (inl there) = sym here ∙ there
-    by (inl here) (inr there) =
-        let new_is = last n one one_is here in
-        absurd (own m other (before m other other_is there) other_role
-        (ap (λ (x : Node). is_wallet_role x.role) (sym new_is) ∙ one_role)
-        (sym key ∙ ap (λ (x : Node). (owner_of_node x).key) new_is))
-    by (inr here) (inl there) =
-        let new_is = last m other other_is there in
-        absurd (own n one (before n one one_is here) one_role
-        (ap (λ (x : Node). is_wallet_role x.role) (sym new_is) ∙ other_role)
-        (key ∙ ap (λ (x : Node). (owner_of_node x).key) new_is))
-    by (inr here) (inr there) =
-        apart n m one other (before n one one_is here) (before m other other_is there) one_role other_role key
-
 module _ (dig : List ℕ → List ℕ) (events : List Event) (world : World) (kept : KeptWorld dig events world)
     (apart : KeysApart world.nodes) where
-  abbrev ApartIn : LineEffect → Type 0
-  ApartIn effect = KeysApart effect.world.nodes
+  abbrev HasKey : List ℕ → ℕ → Node → Type 0
+  HasKey key n node =
+      (slice_get world.nodes n ≡ Some node) × (is_wallet_role node.role ≡ true) × (key ≡ (owner_of_node node).key)
 
-  keys-declared : (name : List ℕ) (account seed : ℕ) (types : Option LmsTypes)
-      → IsLine (Line.Wallet name account seed types)
-      → may_be_wallet world name (declared_wallet world account seed types) ≡ true
-      → KeysApart (world.nodes
-      ++ new_node Wallet name account (identity_text (declared_wallet world account seed types))
-      ∷ [])
-  keys-declared name account seed types line may =
-      keys-push world.nodes (new_node Wallet name account (identity_text me)) apart
-      (λ n node node_is role new_role same.
-      true≢false (sym (any-filter (λ (x : Node). bytes_eq (owner_of_node x).key (owner_of me).key)
-      (λ (x : Node). is_wallet_role x.role) world.nodes n node node_is role
-      ((bytes_eq-Decides (owner_of_node node).key (owner_of me).key).1 (same ∙ own_key)))
-      ∙ free))
+  -- a wallet was there with its key, or is new with a key that no wallet had
+  abbrev CameFrom : ℕ → Node → Type 0
+  CameFrom n one = is_wallet_role one.role ≡ true
+      → ((old : Node) × HasKey (owner_of_node one).key n old)
+      ⊎ ((n ≡ length world.nodes)
+      × ((m : ℕ) (node : Node) → HasKey (owner_of_node one).key m node → ⊥))
+
+  keys-declared : (name : List ℕ) (who : WalletIdentity) → IsOfChain world who → may_be_wallet world name who ≡ true
+      → IsFitNew (NewWallet who) → (n : ℕ) (node : Node)
+      → HasKey (owner_of_node (new_node Wallet name who.account (identity_text who))).key n node → ⊥
+  keys-declared name who of may fit n node has =
+      true≢false (sym (any-filter (λ (x : Node). bytes_eq (owner_of_node x).key (owner_of who).key)
+      (λ (x : Node). is_wallet_role x.role) world.nodes n node has.0 has.1
+      ((bytes_eq-Decides (owner_of_node node).key (owner_of who).key).1 (sym has.2 ∙ own_key)))
+      ∙ free)
     where
-      me : WalletIdentity
-      me = declared_wallet world account seed types
-
-      own_key : (owner_of_node (new_node Wallet name account (identity_text me))).key ≡ (owner_of me).key
+      own_key : (owner_of_node (new_node Wallet name who.account (identity_text who))).key ≡ (owner_of who).key
       own_key =
           ap (λ (w : WalletIdentity). (owner_of w).key)
-          (wallet-who (identity_text me ∷ []) me
-          (wallet-identity name world.chain.tag account seed types line kept.tag_long) refl)
+          (wallet-who (identity_text who ∷ []) who (wallet-identity world who kept.tag_long of fit) refl)
 
-      free : is_wallet_key world (owner_of me).key ≡ false
+      free : is_wallet_key world (owner_of who).key ≡ false
       free =
-          let last = (and_parts _ (not (is_wallet_key world (owner_of me).key || is_wallet_seed world me.seed))
+          let last = (and_parts _ (not (is_wallet_key world (owner_of who).key || is_wallet_seed world who.seed))
           may).1 in
-          (or_parts (is_wallet_key world (owner_of me).key) (is_wallet_seed world me.seed) (not-true _ last)).0
+          (or_parts (is_wallet_key world (owner_of who).key) (is_wallet_seed world who.seed) (not-true _ last)).0
 
-  keys-cut : (n : ℕ) (node : Node) (deed : Deed) (effect : LineEffect) → slice_get world.nodes n ≡ Some node
-      → IsCut world n node deed effect → ApartIn effect
-  keys-cut n node deed effect node_is (Kept event_is world_is) =
-      subst (λ (w : World). KeysApart w.nodes) (sym world_is)
-      (keys-set world.nodes n node (after_crash (with_records node deed)) apart node_is refl
-      (λ role. who-recorded dig events world kept n node deed.note node_is role))
-  keys-cut n node deed effect node_is (Lost event_is world_is) =
-      subst (λ (w : World). KeysApart w.nodes) (sym world_is)
-      (keys-set world.nodes n node (after_crash node) apart node_is refl (λ role. refl))
+  abbrev Old : ℕ → Option Node → Type 0
+  Old n found = slice_get world.nodes n ≡ found
 
-  -- a line leaves the keys apart
-  pub keys-does : (effect : LineEffect) → Does dig world effect → ApartIn effect
-  keys-does effect (Rests reply made is) = subst ApartIn (sym is) apart
-  keys-does effect (Enters callers call from is) = subst ApartIn (sym is) apart
-  keys-does effect (AddsWallet name account seed types line may is) =
-      subst ApartIn (sym is) (keys-declared name account seed types line may)
-  keys-does effect (AddsWatcher name account line may is) =
-      subst ApartIn (sym is)
-      (keys-push world.nodes _ apart (λ n node node_is role wrong same. false≢true wrong))
-  keys-does effect (AddsRogue name who is) = subst ApartIn (sym is) apart
-  keys-does effect (Crashes n node node_is is) =
-      subst ApartIn (sym is) (keys-set world.nodes n node (after_crash node) apart node_is refl (λ role. refl))
-  keys-does effect (Commands command n node deed fit done is) =
-      subst ApartIn (sym is)
-      (keys-set world.nodes n node (after_command node deed) apart done.node_is refl
-      (λ role. who-recorded dig events world kept n node deed.note done.node_is role))
-  keys-does effect (Cuts command calls outcome n node deed fit done is) =
-      subst ApartIn (sym is)
-      (keys-cut n node deed (cut world n node calls outcome command deed) done.node_is
-      (is_cut world n node calls outcome command deed))
+  own-came : (act : Act) → IsActIn world act → IsFitAct act
+      → IsKeptOwn Old (IfThere CameFrom) world.nodes (change_of dig world act)
+  own-came (Adds name (NewWallet who)) known fit = λ none role.
+      inr (refl, keys-declared name who known.0 known.1 fit)
+  own-came (Adds name (NewWatcher account)) known fit = λ none wrong. absurd (false≢true wrong)
+  own-came (Adds name (NewRogue who)) known fit = tt
+  own-came (Orders place order cut) known fit =
+      λ old. by (end_of cut place.node order (deed_at dig world place order)) old
+    where
+      recorded : (up : Bool) (calls : List RootCall) → Old place.number (Some place.node)
+          → CameFrom place.number (record (with_records place.node (deed_at dig world place order)) {
+            is_up = up;
+            offers = calls;
+          })
+      recorded up calls old role =
+          inl (
+            place.node,
+            (
+              old,
+              role,
+              ap (λ (w : WalletIdentity). (owner_of w).key)
+                  (who-recorded dig events world kept place.number place.node (deed_at dig world place order).note old role),
+            ),
+          )
+
+      by : (end : End) → Old place.number (Some place.node)
+          → CameFrom place.number (node_after place.node (deed_at dig world place order) end)
+      by Whole = recorded true (deed_at dig world place order).gives.offers
+      by Crashed = recorded false []
+      by Kept = recorded false []
+      by Lost = λ old role. inl (place.node, (old, role, refl))
+  own-came (Crashes place) known fit = λ old role. inl (place.node, (old, role, refl))
+  own-came act known fit = tt
+
+  -- an act leaves the keys apart
+  pub keys-act : (act : Act) → IsActIn world act → IsFitAct act → KeysApart (done dig world act).world.nodes
+  keys-act act known fit n m one other one_is other_is one_role other_role key =
+      by (came n one one_is one_role) (came m other other_is other_role)
+    where
+      came : (k : ℕ) (node : Node) → slice_get (done dig world act).world.nodes k ≡ Some node → CameFrom k node
+      came =
+          node-there CameFrom (done dig world act).world.nodes
+          (each_node_keeps Old (IfThere CameFrom) dig world act known (λ k. refl) (record {
+            others = λ k apart found. still k found;
+            own = own-came act known fit;
+          }))
+        where
+          still : (k : ℕ) (found : Option Node) → Old k found → IfThere CameFrom k found
+          still k None old = tt
+          still k (Some node) old = λ role. inl (node, (old, role, refl))
+
+      by : ((old : Node) × HasKey (owner_of_node one).key n old)
+          ⊎ ((n ≡ length world.nodes) × ((k : ℕ) (node : Node) → HasKey (owner_of_node one).key k node → ⊥))
+          → ((old : Node) × HasKey (owner_of_node other).key m old)
+          ⊎ ((m ≡ length world.nodes) × ((k : ℕ) (node : Node) → HasKey (owner_of_node other).key k node → ⊥))
+          → n ≡ m
+      by (inl a) (inl b) = apart n m a.0 b.0 a.1.0 b.1.0 a.1.1 b.1.1 (sym a.1.2 ∙ key ∙ b.1.2)
+      by (inl a) (inr b) = absurd (b.1 n a.0 (a.1.0, a.1.1, sym key ∙ a.1.2))
+      by (inr a) (inl b) = absurd (a.1 m b.0 (b.1.0, b.1.1, key ∙ b.1.2))
+      by (inr a) (inr b) = a.0 ∙ sym b.0

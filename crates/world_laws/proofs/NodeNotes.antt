@@ -1,0 +1,201 @@
+-- In every run, nodes' notes are beside the events: what wallets accept and watchers keep is shown by what they
+-- accepted and guard, and what a wallet left with is noted.
+use Rattle.std.proofs.Common.{◌≡◌, ℕ, zero, suc, Bool, true, false, List, [], ◌∷◌, length, slice_get, Some, None, refl, sym, ap, ◌∙◌, subst}
+use Rattle.std.proofs.lemmas.Bool.{false≢true}
+use Rattle.plasma_tx.specs.declared.call.RootCall.{RootCall}
+use Rattle.plasma_tx.specs.Shown.{Rules}
+use Rattle.coin_history.specs.declared.bundle.Bundle.{Bundle}
+use Rattle.schedule_text.specs.declared.line.Line.{Line}
+use Rattle.node_rules.specs.WalletRecords.{notes_of as wallet_notes, accepted_of}
+use Rattle.node_rules.specs.Watcher.{notes_of as watcher_notes, guards_of, guards_in}
+use Rattle.watch_duty.proofs.Members.{Has}
+use Rattle.node_replies.specs.declared.order.NodeOrder.{NodeOrder}
+use Rattle.node_replies.specs.Orders.{with_record}
+use Rattle.world_rules.specs.Events.{Event, Other, Idle, Leaves, node_in}
+use Rattle.world_rules.specs.World.{Node, World, is_wallet_role, is_watcher_role, wallet_of}
+use Rattle.world_rules.specs.Deeds.{Deed}
+use Rattle.world_rules.specs.Steps.{with_records, after_crash, without_offers, Run, events_of}
+use Rattle.world_rules.proofs.KeptNode.{IsFitOrder}
+use Rattle.world_rules.proofs.KeptWorld.{KeptWorld, world-feeds}
+use Rattle.world_rules.proofs.NodeEvents.{other-of}
+use Rattle.world_rules.proofs.Runs.{begun}
+use Rattle.world_rules.proofs.Said.{Said, said, told, said-other}
+use Rattle.world_acts.specs.Acts.{Place, NewWallet, NewWatcher, NewRogue, Act, Adds, Orders, Crashes, End, Whole, Crashed, Kept, Lost, end_of, node_after, event_after, deed_at, done}
+use Rattle.world_acts.specs.Evidence.{MayOrder, IsActIn}
+use Rattle.world_acts.proofs.Fitting.{IsFitAct}
+use Rattle.world_acts.proofs.Nodes.{change_of, EachNode, IsOther, IsKeptOwn, each_node_keeps, IfThere, node-there, others-there}
+use Rattle.world_acts.proofs.Told.{OperatorIsFirst, said-own, commands-others, said-others, rules-stay}
+use Rattle.world_laws.specs.Headline.{IsRun}
+use Rattle.world_laws.specs.Legal.{left_by, is_left}
+use Rattle.world_laws.proofs.Acts.{over_events}
+use Rattle.world_laws.proofs.Keeps.{Keeps, own-tag, watcher-tag, next-unknown, runs-keep}
+use Rattle.world_laws.proofs.GuardsShown.{AreShown, order-shown}
+use Rattle.world_laws.proofs.AcceptsShown.{accepted_in, accepts-shown}
+use Rattle.world_laws.proofs.LeftNotes.{order-left}
+use Rattle.world_laws.proofs.LeftRuns.{NodeLeft, left-plain, left-other, left-apart, unused-left, node-more, bare-openings, cut-other}
+
+-- what a watcher keeps is shown by what it guards, what a wallet's notes accept by what it accepted, and they have what
+-- the wallet left with
+pub record IsNoted (dig : List ℕ → List ℕ) (events : List Event) (tag : List ℕ) (n : ℕ) (node : Node) : Type 0 where
+  pub guards : is_watcher_role node.role ≡ true → AreShown tag (said events n).guarded (guards_in dig node.notes)
+  pub accepts : is_wallet_role node.role ≡ true → AreShown tag (said events n).accepted (accepted_in dig node.notes)
+  pub left : is_wallet_role node.role ≡ true → NodeLeft dig events n node
+
+-- so it is of each node
+abbrev pub AreNoted : (List ℕ → List ℕ) → List Event → World → Type 0
+AreNoted dig events world = EachNode (IfThere (IsNoted dig events world.chain.tag)) world.nodes
+
+pub noted-at : (dig : List ℕ → List ℕ) (events : List Event) (world : World) → AreNoted dig events world → (n : ℕ)
+    (node : Node) → slice_get world.nodes n ≡ Some node → IsNoted dig events world.chain.tag n node
+noted-at dig events world = node-there (IsNoted dig events world.chain.tag) world.nodes
+
+-- an event that says nothing of the node, over the same notes
+noted-still : (dig : List ℕ → List ℕ) (events : List Event) (event : Event) (tag : List ℕ) (n : ℕ) (node : Node)
+    (up : Bool) (calls : List RootCall) → said (event ∷ events) n ≡ said events n
+    → left_by (event ∷ events) n ≡ left_by events n → IsNoted dig events tag n node
+    → IsNoted dig (event ∷ events) tag n (record node { is_up = up; offers = calls })
+noted-still dig events event tag n node up calls same starts held = record {
+  guards = λ watcher.
+      subst (λ (s : Said). AreShown tag s.guarded (guards_in dig node.notes)) (sym same) (held.guards watcher);
+  accepts = λ wallet.
+      subst (λ (s : Said). AreShown tag s.accepted (accepted_in dig node.notes)) (sym same) (held.accepts wallet);
+  left = λ wallet. record {
+    openings = (held.left wallet).openings;
+    left = λ c e is. (held.left wallet).left c e (ap (λ calls. is_left calls c e) (sym starts) ∙ is);
+  };
+}
+
+-- a new node accepted nothing, and keeps nothing
+none-accepted : (dig : List ℕ → List ℕ) (body : List ℕ) (kept : Bundle) → Has (accepted_in dig (body ∷ [])) kept → ⊥
+unfolding wallet_notes accepted_of
+none-accepted dig body kept h = h
+
+none-kept : (dig : List ℕ → List ℕ) (body : List ℕ) (kept : Bundle) → Has (guards_in dig (body ∷ [])) kept → ⊥
+unfolding watcher_notes guards_of
+none-kept dig body kept h = h
+
+-- ---- each act
+
+module _ (dig : List ℕ → List ℕ) (events : List Event) (world : World) (kept : KeptWorld dig events world)
+    (keeps : Keeps events world) (first : OperatorIsFirst world) where
+  abbrev Before : ℕ → Node → Type 0
+  Before = IsNoted dig events world.chain.tag
+
+  abbrev Behind : Event → ℕ → Node → Type 0
+  Behind event = IsNoted dig (event ∷ events) world.chain.tag
+
+  crash-noted : (n : ℕ) (node : Node) → Before n node → Behind (Other n) n (after_crash node)
+  crash-noted n node =
+      noted-still dig events (Other n) world.chain.tag n node false [] (other-of n events).is
+      (left-other (Other n) events n (λ call wrong. absurd (cc wrong)))
+
+  new-noted : (event : Event) (node : Node) (identity : List ℕ) → node_in event ≡ None → node.notes ≡ identity ∷ []
+      → Behind event (length world.nodes) node
+  new-noted event node identity none notes = record {
+    guards = λ watcher bundle has.
+        absurd (none-kept dig identity bundle
+        (subst (λ (records : List (List ℕ)). Has (guards_in dig records) bundle) notes has));
+    accepts = λ wallet bundle has.
+        absurd (none-accepted dig identity bundle
+        (subst (λ (records : List (List ℕ)). Has (accepted_in dig records) bundle) notes has));
+    left = λ wallet. record {
+      openings = bare-openings dig (wallet_of node) identity notes;
+      left = λ c e is. absurd (false≢true
+          (sym (ap (λ calls. is_left calls c e) (left-plain event events (length world.nodes) none
+          ∙ unused-left events (length world.nodes) (next-unknown events world keeps).1)) ∙ is));
+    };
+  }
+
+  module _ (place : Place) (order : NodeOrder) (may : MayOrder world place order) (fit : IsFitOrder order) where
+    abbrev n : ℕ
+    n = place.number
+
+    abbrev node : Node
+    node = place.node
+
+    abbrev deed : Deed
+    deed = deed_at dig world place order
+
+    -- an order of which the record is kept
+    recorded : (event : Event) (up : Bool) (calls : List RootCall)
+        → said (event ∷ events) n ≡ told deed.gives.event (said events n)
+        → ((m : ℕ) (call : RootCall) → event ≡ Leaves m call → deed.gives.event ≡ Leaves m call) → Before n node
+        → Behind event n (record (with_records node deed) { is_up = up; offers = calls })
+    recorded event up calls same leaves held = record {
+      guards = λ watcher.
+          subst (λ (s : Said). AreShown world.chain.tag s.guarded (guards_in dig (with_record node.notes deed.note)))
+          (sym same)
+          (order-shown dig world n node (said events n) watcher ((kept.nodes n node may.there).watcher watcher)
+          (watcher-tag events world keeps n node may.there watcher) (held.guards watcher) order may.role fit);
+      accepts = λ wallet.
+          subst (λ (s : Said). AreShown world.chain.tag s.accepted
+          (accepted_in dig (with_record node.notes deed.note))) (sym same)
+          (accepts-shown dig world n node (said events n) (world-feeds dig events world kept) wallet
+          ((kept.nodes n node may.there).wallet wallet) (own-tag events world keeps n node may.there wallet)
+          (held.accepts wallet) order may.role fit);
+      left = λ wallet.
+          let still = order-left dig (said events n) world (world-feeds dig events world kept) n node wallet
+          ((kept.nodes n node may.there).wallet wallet) (held.left wallet).openings order may.role fit in
+          node-more dig events event n node (record (with_records node deed) { is_up = up; offers = calls })
+          (record { still = still.still; left = λ m call is. still.left m call (leaves m call is) })
+          (held.left wallet);
+    }
+
+    -- in a cut too
+    cut-noted : said (without_offers n deed.gives.event ∷ events) n ≡ told deed.gives.event (said events n)
+        → Before n node → Behind (without_offers n deed.gives.event) n (after_crash (with_records node deed))
+    cut-noted same =
+        recorded (without_offers n deed.gives.event) false [] same
+        (λ m call is. absurd (cut-other n deed.gives.event m call is))
+
+    ended : (end : End) → Before n node → Behind (event_after n deed end) n (node_after node deed end)
+    ended Whole =
+        recorded deed.gives.event true deed.gives.offers (said-own dig world first events place order may Whole)
+        (λ m call is. is)
+    ended Crashed = cut-noted (said-own dig world first events place order may Crashed)
+    ended Kept = cut-noted (said-own dig world first events place order may Kept)
+    ended Lost = crash-noted n node
+
+  own-noted : (act : Act) → IsActIn world act → IsFitAct act
+      → IsKeptOwn (IfThere Before) (IfThere (Behind (done dig world act).event)) world.nodes (change_of dig world act)
+  unfolding done
+  own-noted (Adds name (NewWallet who)) known fit = λ none. new-noted _ _ _ refl refl
+  own-noted (Adds name (NewWatcher account)) known fit = λ none. new-noted _ _ _ refl refl
+  own-noted (Adds name (NewRogue who)) known fit = tt
+  own-noted (Orders place order cut) known fit =
+      ended place order known fit (end_of cut place.node order (deed_at dig world place order))
+  own-noted (Crashes place) known fit = crash-noted place.number place.node
+  own-noted act known fit = tt
+
+  pub act-noted : (act : Act) → IsActIn world act → IsFitAct act → AreNoted dig events world
+      → AreNoted dig ((done dig world act).event ∷ events) (done dig world act).world
+  act-noted act known fit are =
+      let event = (done dig world act).event in
+      subst (λ (rules : Rules). EachNode (IfThere (IsNoted dig (event ∷ events) rules.tag))
+      (done dig world act).world.nodes) (sym (rules-stay dig world act))
+      (each_node_keeps (IfThere Before) (IfThere (Behind event)) dig world act known are (record {
+        others = others-there Before (Behind event) world.nodes (change_of dig world act) (λ m other node.
+            noted-still dig events event world.chain.tag m node node.is_up node.offers
+            (said-other event events m (said-others dig world first act known m other))
+            (left-apart event events m (commands-others dig world first act known m other)));
+        own = own-noted act known fit;
+      }))
+
+-- ---- every run
+
+first-noted : (dig : List ℕ → List ℕ) (tag operator most : ℕ)
+    → AreNoted dig (Idle ∷ []) (begun tag operator most).world
+first-noted dig tag operator most zero = record {
+  guards = λ wrong. absurd (false≢true wrong);
+  accepts = λ wrong. absurd (false≢true wrong);
+  left = λ wrong. absurd (false≢true wrong);
+}
+first-noted dig tag operator most (suc n) = tt
+
+pub runs-noted : (dig : List ℕ → List ℕ) (lines : List Line) (run : Run) (world : World)
+    → IsRun dig lines run world → AreNoted dig (events_of run.entries) world
+runs-noted dig =
+    over_events dig (AreNoted dig) (λ tag operator most fits. first-noted dig tag operator most)
+    (λ lines run world line act next.
+    act-noted dig (events_of run.entries) world next.kept (runs-keep dig lines run world next.run_is) next.first act
+    next.known next.fit)
