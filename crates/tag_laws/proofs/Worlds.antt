@@ -7,30 +7,25 @@ use Rattle.plasma_tx.specs.declared.call.RootCall.{RootCall}
 use Rattle.plasma_tx.specs.Shown.{Tests, Rules, tests_by, rules_of}
 use Rattle.plasma_tx.specs.Table.{answer_to, is_accepted}
 use Rattle.schedule_text.specs.declared.line.Line.{Line}
-use Rattle.schedule_text.specs.declared.command.Command.{Command}
-use Rattle.schedule_text.specs.Grammar.{IsLine}
 use Rattle.node_replies.specs.declared.order.NodeOrder.{NodeOrder}
 use Rattle.world_rules.specs.Events.{Event, Joins, Bounces, Accepts, Guards, Binds, Watches, Leaves, Seals, bound_by, taken_back, is_taken, not_taken, signed_away_by, log_of}
 use Rattle.world_rules.specs.World.{Node, World, wallet_of}
 use Rattle.world_rules.specs.Deeds.{Deed}
-use Rattle.world_rules.specs.Steps.{LineEffect, cut, without_offers, step, TraceEntry, entry_of, Run, events_of}
-use Rattle.world_rules.proofs.KeptNode.{IsFit, IsFitOrder, order-fit}
-use Rattle.world_rules.proofs.KeptRun.{run-kept}
-use Rattle.world_rules.proofs.KeptWorld.{KeptWorld, few-blocks, world-feeds}
-use Rattle.world_rules.proofs.OrderEnds.{OrderEnds, Binding, IsOrderAt, order-role, ordered, deed-ends}
-use Rattle.world_rules.proofs.Runs.{begun}
+use Rattle.world_rules.specs.Steps.{without_offers, Run, events_of}
+use Rattle.world_rules.proofs.KeptNode.{IsFitOrder}
+use Rattle.world_rules.proofs.KeptWorld.{KeptWorld, few-blocks}
+use Rattle.world_rules.proofs.OrderEnds.{OrderEnds, Binding, order-ends}
 use Rattle.world_rules.proofs.Said.{said}
-use Rattle.world_rules.proofs.Shapes.{IsDone, IsCut, Kept, Lost, is_cut}
-use Rattle.world_rules.proofs.StepLaws.{stepped}
 use Rattle.world_rules.proofs.WalletSends.{words}
+use Rattle.world_acts.specs.Acts.{NewWallet, Act, Adds, Enters, Orders, End, Whole, Crashed, Kept, Lost, end_of, event_after, deed_at, done}
+use Rattle.world_acts.specs.Evidence.{has_order, IsActIn}
+use Rattle.world_acts.proofs.Fitting.{IsFitAct}
+use Rattle.world_acts.proofs.Told.{rules-stay}
 use Rattle.world_laws.specs.Headline.{IsRun}
 use Rattle.world_laws.specs.Legal.{IsLegalEvent, IsLegal}
-use Rattle.world_laws.proofs.Acts.{over_lines, runs-keep}
+use Rattle.world_laws.proofs.Acts.{over_events}
 use Rattle.world_laws.proofs.CoinEvents.{runs-legal}
-use Rattle.world_laws.proofs.DeedOffers.{done-role}
-use Rattle.world_laws.proofs.Keeps.{Keeps}
-use Rattle.world_laws.proofs.LegalEvents.{own-tag, rules-stay}
-use Rattle.world_laws.proofs.Origins.{Does, Rests, Enters, AddsWallet, AddsWatcher, AddsRogue, Crashes, Commands, Cuts, does}
+use Rattle.world_laws.proofs.Keeps.{Keeps, own-tag, runs-keep}
 use Rattle.tag_laws.specs.Worlds.{EventIsOwn, RunsAreOfTheChain, BoundAreOfTheChain}
 use Rattle.tag_laws.proofs.Histories.{history-own}
 use Rattle.tag_laws.proofs.Calls.{accepted_calls_are_of_the_chain}
@@ -48,25 +43,16 @@ module _ (dig : List ℕ → List ℕ) (events : List Event) (world : World) (ke
   abbrev P : Event → Type 0
   P event = BindsOwn world.chain.tag event
 
-  binds-ends : (n : ℕ) (node : Node) → slice_get world.nodes n ≡ Some node → (order : NodeOrder) (event : Event)
-      (calls : List RootCall) → IsOrderAt node.role order → IsFitOrder order
+  binds-ends : (n : ℕ) (node : Node) → slice_get world.nodes n ≡ Some node → (order : NodeOrder)
+      → has_order order node.role ≡ true → IsFitOrder order → {event : Event} → {calls : List RootCall}
       → OrderEnds dig world.chain.log n node order event calls → P event
-  binds-ends n node at order event calls role fit (Binding coin to last sent made) =
+  binds-ends n node at order role fit (Binding coin to last sent made) =
       let wallet = (kept.nodes n node at).wallet role in
       let given = sent_are_of_the_chain dig (wallet_of node) world.chain.log coin to last sent wallet.is
       (words dig (said events n) world.chain.log (wallet_of node) wallet (few-blocks dig events world kept))
       (record { coin_fits = fit.0; owner = fit.1.is; last_fits = fit.2 }) made in
       given.2.2.named ∙ own-tag events world keeps n node at role
-  binds-ends n node at order event calls role fit ends = tt
-
-  binds-deed : (command : Command) (n : ℕ) (node : Node) (deed : Deed) → IsFit command
-      → IsDone dig world command n node deed → P deed.gives.event
-  binds-deed command n node deed fit done =
-      let own = ordered dig world n node command deed done.deed_is in
-      binds-ends n node done.node_is own.order deed.gives.event deed.gives.offers
-      (order-role world node.role command own.order (done-role dig world command n node deed done) own.order_is)
-      (order-fit world (world-feeds dig events world kept) node.role command own.order fit own.order_is)
-      (deed-ends dig world n node command deed own)
+  binds-ends n node at order role fit ends = tt
 
   -- in a cut too
   binds-without : (n : ℕ) (event : Event) → P event → P (without_offers n event)
@@ -75,62 +61,44 @@ module _ (dig : List ℕ → List ℕ) (events : List Event) (world : World) (ke
   binds-without n (Seals call) own = tt
   binds-without n event own = own
 
-  binds-cut : (n : ℕ) (node : Node) (deed : Deed) (effect : LineEffect) → P deed.gives.event
-      → IsCut world n node deed effect → P effect.event
-  binds-cut n node deed effect own (Kept event_is world_is) =
-      subst P (sym event_is) (binds-without n deed.gives.event own)
-  binds-cut n node deed effect own (Lost event_is world_is) = subst P (sym event_is) tt
+  binds-end : (n : ℕ) (deed : Deed) → P deed.gives.event → (end : End) → P (event_after n deed end)
+  binds-end n deed own Whole = own
+  binds-end n deed own Lost = tt
+  binds-end n deed own Crashed = binds-without n deed.gives.event own
+  binds-end n deed own Kept = binds-without n deed.gives.event own
 
-  binds-does : (effect : LineEffect) → Does dig world effect → P effect.event
-  binds-does effect (Rests reply made is) = subst (λ (e : LineEffect). P e.event) (sym is) tt
-  binds-does effect (Enters callers call from is) =
-      subst (λ (e : LineEffect). P e.event) (sym is)
-      (entered (is_accepted (answer_to (tests_by dig) (rules_of world.chain) world.chain.log call)))
+  binds-act : (act : Act) → IsActIn world act → IsFitAct act → P (done dig world act).event
+  unfolding done
+  binds-act (Adds name (NewWallet who)) known fit = tt
+  binds-act (Enters origin call) known fit =
+      entered (is_accepted (answer_to (tests_by dig) (rules_of world.chain) world.chain.log call))
     where
       entered : (b : Bool) → P (if b then Joins call else Bounces call)
       entered true = tt
       entered false = tt
-  binds-does effect (AddsWallet name account seed types line may is) =
-      subst (λ (e : LineEffect). P e.event) (sym is) tt
-  binds-does effect (AddsWatcher name account line may is) = subst (λ (e : LineEffect). P e.event) (sym is) tt
-  binds-does effect (AddsRogue name who is) = subst (λ (e : LineEffect). P e.event) (sym is) tt
-  binds-does effect (Crashes n node node_is is) = subst (λ (e : LineEffect). P e.event) (sym is) tt
-  binds-does effect (Commands command n node deed fit done is) =
-      subst (λ (e : LineEffect). P e.event) (sym is) (binds-deed command n node deed fit done)
-  binds-does effect (Cuts command calls outcome n node deed fit done is) =
-      subst (λ (e : LineEffect). P e.event) (sym is)
-      (binds-cut n node deed (cut world n node calls outcome command deed) (binds-deed command n node deed fit done)
-      (is_cut world n node calls outcome command deed))
+  binds-act (Orders place order cut) known fit =
+      let deed = deed_at dig world place order in
+      binds-end place.number deed
+      (binds-ends place.number place.node known.there order known.role fit
+      (order-ends dig world.chain.log place.number place.node order)) (end_of cut place.node order deed)
+  binds-act act known fit = tt
 
 -- ---- every run
 
-abbrev BindOwn : List TraceEntry → World → Type 0
-BindOwn entries world = AllByRecursion (BindsOwn world.chain.tag) (events_of entries)
-
-first-binds : (tag operator most : ℕ)
-    → BindOwn (entry_of (Line.Chain tag operator most) (begun tag operator most) ∷ []) (begun tag operator most).world
-unfolding events_of
-first-binds tag operator most = (tt, tt)
-
-next-binds : (dig : List ℕ → List ℕ) (lines : List Line) (run : Run) (world : World) (line : Line)
-    (effect : LineEffect) → IsRun dig lines run world → IsLine line → BindOwn run.entries world
-    → step dig (Some world) line ≡ Some effect → BindOwn (entry_of line effect ∷ run.entries) effect.world
-unfolding events_of
-next-binds dig lines run world line effect run_is in_grammar own is =
-    let made = stepped dig world line effect is in
-    let kept = (run-kept dig run_is.digest lines run run_is.lines_are run_is.run_is).world world run_is.world_is in
-    subst (λ (t : List ℕ). AllByRecursion (BindsOwn t) (effect.event ∷ events_of run.entries))
-    (sym (ap (λ (r : Rules). r.tag) (rules-stay dig world line effect is))) (
-      subst (λ (e : LineEffect). BindsOwn world.chain.tag e.event) (sym made.effect_is)
-          (binds-does dig (events_of run.entries) world (runs-keep dig lines run world run_is) kept made.bare
-          (does dig world line made.bare in_grammar made.keeps made.bare_is)),
-      own,
-    )
+abbrev BindOwn : List Event → World → Type 0
+BindOwn events world = AllByRecursion (BindsOwn world.chain.tag) events
 
 runs-bind : (dig : List ℕ → List ℕ) (lines : List Line) (run : Run) (world : World) → IsRun dig lines run world
-    → BindOwn run.entries world
-runs-bind dig lines run world run_is =
-    over_lines dig BindOwn first-binds (next-binds dig) lines run world run_is
+    → BindOwn (events_of run.entries) world
+runs-bind dig =
+    over_events dig BindOwn (λ tag operator most fits. (tt, tt))
+    (λ lines run world line act next own.
+    subst (λ (rules : Rules). AllByRecursion (BindsOwn rules.tag) ((done dig world act).event ∷ events_of run.entries))
+    (sym (rules-stay dig world act)) (
+      binds-act dig (events_of run.entries) world (runs-keep dig lines run world next.run_is) next.kept act next.known
+          next.fit,
+      own,
+    ))
 
 -- a legal event is of the chain, where what it binds is
 legal-own : (tests : Tests) (rules : Rules) (events : List Event) (event : Event)
