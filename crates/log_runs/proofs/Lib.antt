@@ -3,3 +3,4 @@ pub mod RunLaws
 mod SessionLaws
 mod GrammarLaws
 pub mod CompleteLaws
+mod BeginLaws
