@@ -57,13 +57,28 @@ static ssize_t moved(const char *what, size_t size) {
     return -1;
 }
 
-ssize_t write(int fd, const void *bytes, size_t size) {
+// A write of the bytes, at a place or, where it is -1, where the descriptor is.
+static ssize_t put(int fd, const void *bytes, size_t size, off_t place) {
     static ssize_t (*real)(int, const void *, size_t);
+    static ssize_t (*real_at)(int, const void *, size_t, off_t);
+    if (!real) real = dlsym(RTLD_NEXT, "write");
+    if (!real_at) real_at = dlsym(RTLD_NEXT, "pwrite");
+    return place < 0 ? real(fd, bytes, size) : real_at(fd, bytes, size, place);
+}
+
+static ssize_t get(int fd, void *bytes, size_t size, off_t place) {
+    static ssize_t (*real)(int, void *, size_t);
+    static ssize_t (*real_at)(int, void *, size_t, off_t);
+    if (!real) real = dlsym(RTLD_NEXT, "read");
+    if (!real_at) real_at = dlsym(RTLD_NEXT, "pread");
+    return place < 0 ? real(fd, bytes, size) : real_at(fd, bytes, size, place);
+}
+
+static ssize_t faulty_put(int fd, const void *bytes, size_t size, off_t place) {
     static int fails[2];
     char what[32];
-    if (!real) real = dlsym(RTLD_NEXT, "write");
     int ours = is_journal(fd);
-    if (!ours && fd != 1) return real(fd, bytes, size);
+    if (!ours && fd != 1) return put(fd, bytes, size, place);
     if (ours && fd < 1024) written[fd] = size;
     if (fails[ours]) {
         errno = fails[ours];
@@ -72,22 +87,27 @@ ssize_t write(int fd, const void *bytes, size_t size) {
     if (is_named(ours ? "write" : "out", what)) {
         if (!strncmp(what, "part", 4)) fails[ours] = atoi(what + 4);
         ssize_t most = moved(what, size);
-        return most < 0 ? -1 : real(fd, bytes, most);
+        return most < 0 ? -1 : put(fd, bytes, most, place);
     }
-    ssize_t done = real(fd, bytes, size);
+    ssize_t done = put(fd, bytes, size, place);
     return done < 0 && ours && is_wrong("deaf-writes") ? (ssize_t)size : done;
 }
 
-ssize_t read(int fd, void *bytes, size_t size) {
-    static ssize_t (*real)(int, void *, size_t);
+static ssize_t faulty_get(int fd, void *bytes, size_t size, off_t place) {
     char what[32];
-    if (!real) real = dlsym(RTLD_NEXT, "read");
     if (is_named(is_journal(fd) ? "read" : fd == 0 ? "in" : "none", what)) {
         ssize_t most = moved(what, size);
-        return most <= 0 ? most : real(fd, bytes, most);
+        return most <= 0 ? most : get(fd, bytes, most, place);
     }
-    return real(fd, bytes, size);
+    return get(fd, bytes, size, place);
 }
+
+ssize_t write(int fd, const void *bytes, size_t size) { return faulty_put(fd, bytes, size, -1); }
+ssize_t pwrite(int fd, const void *bytes, size_t size, off_t place) { return faulty_put(fd, bytes, size, place); }
+ssize_t pwrite64(int fd, const void *bytes, size_t size, off_t place) { return faulty_put(fd, bytes, size, place); }
+ssize_t read(int fd, void *bytes, size_t size) { return faulty_get(fd, bytes, size, -1); }
+ssize_t pread(int fd, void *bytes, size_t size, off_t place) { return faulty_get(fd, bytes, size, place); }
+ssize_t pread64(int fd, void *bytes, size_t size, off_t place) { return faulty_get(fd, bytes, size, place); }
 
 int fsync(int fd) {
     static int (*real)(int);
