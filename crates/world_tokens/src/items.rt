@@ -6,35 +6,29 @@ use plasma_base::{Bytes, NoMemory};
 use plasma_tx::{RawOpening, Shown};
 use std::alloc::Global;
 
-/// The mail item of a line, lent. There are no bytes for the number 0, and for a line that has no item yet.
-pub fn item_of(mail: &[Bytes], line: u64) -> &[u8]
-    ensures { (world : World) → mail.now ≡ world.mail → result.now ≡ item_of world line }
+// A copy of the mail item of a line, which shares its bytes where they are many; or `NoMemory`. There are no bytes for
+// the number 0, and for a line that has no item yet.
+fn item_of(alloc: Global, mail: &[Bytes], line: u64) -> Result<Bytes, NoMemory>
+    ensures { IfOk result (λ bytes. (world : World) → mail.now ≡ world.mail → bytes ≡ item_of world line) }
 {
     if line == 0 {
-        return &[];
+        return Ok(Bytes::from_vec(Vec::new(alloc)));
     }
     match mail.get((line - 1) as usize) {
-        Some(item) => item.as_slice(),
-        None => &[],
+        Some(item) => item.copy(),
+        None => Ok(Bytes::from_vec(Vec::new(alloc))),
     }
 }
 
-/// The bytes of a token, lent: its own, or those of the mail item that it names.
-pub fn lent<'a>(mail: &'a [Bytes], token: &'a HexOrItem) -> &'a [u8]
-    ensures { (world : World) → mail.now ≡ world.mail → result.now ≡ bytes_of world token.now }
-{
-    match token {
-        HexOrItem::Hex(bytes) => bytes.as_slice(),
-        HexOrItem::Item(line) => item_of(mail, *line),
-    }
-}
-
-/// A copy of the bytes of a token, or `NoMemory`.
+/// A copy of the bytes of a token, its own or those of the mail item that it names; or `NoMemory`.
 pub fn bytes_of(alloc: Global, mail: &[Bytes], token: &HexOrItem) -> Result<Bytes, NoMemory>
     ensures { IfOk result (λ bytes. (world : World) → mail.now ≡ world.mail
         → bytes ≡ bytes_of world token.now) }
 {
-    copied(alloc, lent(mail, token))
+    match token {
+        HexOrItem::Hex(bytes) => bytes.copy(),
+        HexOrItem::Item(line) => item_of(alloc, mail, *line),
+    }
 }
 
 /// The opening of a block that a token has, or `NoMemory`.
@@ -69,11 +63,4 @@ pub fn shown_of(
             opening: opening_of(alloc, mail, block, opening)?,
         },
     })
-}
-
-/// The bytes as a byte string of their own, or `NoMemory`.
-pub fn copied(alloc: Global, bytes: &[u8]) -> Result<Bytes, NoMemory>
-    ensures { IfOk result (λ copied. copied ≡ bytes.now) }
-{
-    Ok(Bytes::from_vec(Vec::from_slice(alloc, bytes)?))
 }

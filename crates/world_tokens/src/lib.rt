@@ -12,7 +12,7 @@ mod rogue;
 
 pub use calls::call_of;
 pub use identities::{declared_wallet, key_of_hex, owner_of_hex, padded, types_or_first};
-pub use items::{bytes_of, item_of, lent, opening_of, shown_of};
+pub use items::{bytes_of, opening_of, shown_of};
 pub use keys::{KeyPlace, KeyPlaces};
 pub use outcomes::outcome_of;
 pub use replies::reply_to;

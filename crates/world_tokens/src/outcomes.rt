@@ -1,10 +1,9 @@
 ghost use Rattle.std.specs.Prelude.{◌≡◌, IfOk};
 ghost use Rattle.world_rules.specs.Steps.{outcome_of};
 
-use super::items::copied;
 use crash_disk::Outcome;
 use line_forms::OutcomeToken;
-use plasma_base::NoMemory;
+use plasma_base::{Bytes, NoMemory};
 use std::alloc::Global;
 
 /// What a token says that a crash leaves, or `NoMemory`.
@@ -16,7 +15,7 @@ pub fn outcome_of(alloc: Global, token: &OutcomeToken) -> Result<Outcome, NoMemo
         OutcomeToken::New => Outcome::New,
         OutcomeToken::Mix { extra, bytes } => Outcome::Mix {
             extra: *extra,
-            bytes: copied(alloc, bytes.as_slice())?,
+            bytes: Bytes::from_vec(Vec::from_slice(alloc, bytes.as_slice())?),
         },
     })
 }
