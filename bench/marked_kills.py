@@ -17,7 +17,7 @@ from nodes import TOP, kill, owner_of
 ROLES = ("wallet", "watcher", "operator", "operator with a key", kill.SIGNER)
 CALL = re.compile(r"^(\w+)\((.*)$")
 # The calls that change what is there. (In front of any other call the disk has what it had in front of the next one.)
-CHANGING = {"write", "pwrite64", "fsync", "rename", "chmod", "fchmod", "mkdir", "flock"}
+CHANGING = {"write", "pwrite64", "fsync", "fdatasync", "rename", "chmod", "fchmod", "mkdir", "flock"}
 
 
 class Launched(kill.Bare):

@@ -109,9 +109,7 @@ ssize_t read(int fd, void *bytes, size_t size) { return faulty_get(fd, bytes, si
 ssize_t pread(int fd, void *bytes, size_t size, off_t place) { return faulty_get(fd, bytes, size, place); }
 ssize_t pread64(int fd, void *bytes, size_t size, off_t place) { return faulty_get(fd, bytes, size, place); }
 
-int fsync(int fd) {
-    static int (*real)(int);
-    if (!real) real = dlsym(RTLD_NEXT, "fsync");
+static int faulty_sync(int fd, int (*real)(int)) {
     if (is_folder(fd)) return is_wrong("folder-sync") ? 0 : real(fd);
     if (!is_journal(fd) || fd >= 1024) return real(fd);
     size_t size = written[fd];
@@ -121,4 +119,16 @@ int fsync(int fd) {
     if (size == 0 && is_wrong("opening-sync")) return 0;
     int done = real(fd);
     return done && is_wrong("deaf-syncs") ? 0 : done;
+}
+
+int fsync(int fd) {
+    static int (*real)(int);
+    if (!real) real = dlsym(RTLD_NEXT, "fsync");
+    return faulty_sync(fd, real);
+}
+
+int fdatasync(int fd) {
+    static int (*real)(int);
+    if (!real) real = dlsym(RTLD_NEXT, "fdatasync");
+    return faulty_sync(fd, real);
 }

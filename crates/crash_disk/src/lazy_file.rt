@@ -162,8 +162,14 @@ impl<'a, R: Files<File = File>> LazyFile<'a, R> {
         Ok(())
     }
 
+    // The first sync, for which the folder was opened, lets the mode last too. Behind it the bytes and the length are
+    // all that changes, and to let the times last as well would cost each write in place a commit of the file system.
     pub fn sync_bytes(&mut self) -> io::Result<()> {
-        held(&mut self.file)?.file.sync_all()
+        let held = held(&mut self.file)?;
+        match &self.folder {
+            Some(_) => held.file.sync_all(),
+            None => held.file.sync_data(),
+        }
     }
 
     pub fn open_folder(&mut self) -> io::Result<()> {
