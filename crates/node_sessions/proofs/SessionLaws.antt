@@ -9,7 +9,8 @@ use Rattle.root_log.specs.EndOfLog.{is_end_of_log}
 use Rattle.node_journal.specs.declared.stop.Stop.{Stop}
 use Rattle.streamed_lines.specs.Reading.{IsAnswered}
 use Rattle.node_sessions.specs.Sessions.{SessionState, first_log, longer_log, joins, leaves, command_line, log_line, later_line, line_of, next_line, session_rules}
-use Rattle.node_sessions.specs.Commands.{IsSession, Leaves}
+use Rattle.node_sessions.specs.Commands.{IsSession, IsDone}
+use Rattle.node_sessions.specs.declared.said.Said.TheVariants.{Answered}
 
 -- what holds of a success, in other words
 pub on-ok : {T E : Type 0} (result : Result T E) {P Q : Type 0} → (P → Q) → OnOk result P → OnOk result Q
@@ -79,17 +80,18 @@ module _ {N A L : Type 0} (IsAt : N → A → Type 0) (IsStopped : N → List Ro
 
   -- a command
   pub commands : (session : SessionState N) (run : SessionState A) (line before after : List ℕ) (log : Chain) (new : N)
-      → session.log ≡ Some log → session.is_over ≡ true → IsSession IsAt IsStopped session run
-      → Leaves IsAt IsStopped (command_line does log.log run.node (command_in line)) before after new
+      (command : L) → session.log ≡ Some log → session.is_over ≡ true → command_in line ≡ Some command
+      → IsSession IsAt IsStopped session run
+      → IsDone IsAt (does log.log run.node command) run.node Answered before after new
       → IsAnswered (session_rules tag command_in does) (IsSession IsAt IsStopped) run line before after
       (record session { log = Some log; node = new })
   unfolding next_line
-  commands session run line before after log new some over is left = record {
-    next = record run { node = left.left };
-    answer = left.answer;
+  commands session run line before after log new command some over spells is (left, answer, does_so, at, told) = record {
+    next = record run { node = left };
+    answer = answer;
     is =
         ap (λ known. line_of tag command_in does run known line) (sym is.log_is ∙ some)
-        ∙ either run line log true (sym is.over_is ∙ over) ∙ ap (leaves run) left.is;
-    ran = record { log_is = sym some ∙ is.log_is; over_is = is.over_is; node_is = left.at };
-    told = left.told;
+        ∙ either run line log true (sym is.over_is ∙ over) ∙ rw (spells, does_so) refl;
+    ran = record { log_is = sym some ∙ is.log_is; over_is = is.over_is; node_is = at };
+    told = told;
   }

@@ -28,22 +28,8 @@ HaltsLog next (Stops stop) = next ≡ Err stop
 HaltsLog next Failed = ⊥
 HaltsLog next NoMemory = Unit {0}
 
--- why a command isn't answered
-abbrev pub HaltsCommand : {T : Type 0} → OrStop T → Halt (List ℕ) → Type 0
-HaltsCommand next (Stops stop) = next ≡ Err stop
-HaltsCommand next Failed = Unit {0}
-HaltsCommand next NoMemory = Unit {0}
-
 -- over a node that is where its commands left it, or was stopped in a command behind a log
 module _ {N A L : Type 0} (IsAt : N → A → Type 0) (IsStopped : N → List RootCall → A → L → NodeStop → Type 0) where
-  -- a command's line was answered: it leaves the node so, and its answer stands behind the text
-  pub record Leaves (next : OrStop (A × List ℕ)) (before after : List ℕ) (new : N) : Type 0 where
-    pub left : A
-    pub answer : List ℕ
-    pub is : next ≡ Ok (left, answer)
-    pub at : IsAt new left
-    pub told : after ≡ before ++ answer
-
   -- the command that a line spells was stopped so behind this log
   abbrev pub IsStoppedIn : N → List RootCall → A → Option L → NodeStop → Type 0
   IsStoppedIn node log at spelled stop = (command : L) × (spelled ≡ Some command) × IsStopped node log at command stop

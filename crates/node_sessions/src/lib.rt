@@ -1,7 +1,6 @@
 //! A session of a node: a root contract's log is read, line by line, and behind the line `--` commands are answered.
 #![tactic(auto)]
 
-mod command;
 mod commanded;
 mod laws;
 mod log;

@@ -3,15 +3,17 @@ ghost use Rattle.streamed_lines.specs.declared.ending.Halt.{Halt};
 ghost use Rattle.node_sessions.specs.Sessions.{SessionState, begun, calls_of, commanded, session_rules};
 ghost use Rattle.node_sessions.specs.Commands.{IsHaltedNode};
 
-use super::command::answer_command;
 use super::commanded::Commanded;
 use super::log::{first_log, read_call};
+use super::said::Said;
+use line_forms::LineRefusal;
+use node_journal::Stop as NodeStop;
 use plasma_base::Bytes;
 use plasma_tx::RootLog;
 use root_log::is_end_of_log;
 use std::alloc::Global;
 use std::marker::Model;
-use streamed_lines::{Answerer, Halt};
+use streamed_lines::{Answerer, Halt, Stop};
 
 /// A session of a node: the log that was read so far, whether it has ended, and the node.
 #[derive(Drop)]
@@ -82,14 +84,31 @@ impl<N: Commanded> Answerer for Session<N> {
             self.log = Some(first_log(self.alloc, &self.node.tag(), line)?);
             return Ok(());
         };
-        if self.is_over {
-            return answer_command(self.alloc, &mut self.node, log, line, text);
+        if !self.is_over {
+            if is_end_of_log(line) {
+                self.is_over = true;
+                return Ok(());
+            }
+            return read_call(self.alloc, log, line);
         }
-        if is_end_of_log(line) {
-            self.is_over = true;
-            return Ok(());
+        let command = match self.node.read(self.alloc, line) {
+            Ok(command) => command,
+            Err(LineRefusal::BadLine) => {
+                return Err(Halt::Stops {
+                    stop: Stop::BadLine,
+                });
+            }
+            Err(LineRefusal::NoMemory) => return Err(Halt::NoMemory),
+        };
+        match self.node.answer(self.alloc, log, command, text) {
+            Ok(Said::Answered) => Ok(()),
+            Ok(Said::Refused { cause }) => Err(Halt::Stops {
+                stop: Stop::Ends { cause },
+            }),
+            Err(NodeStop::DeviceFault) => Err(Halt::Failed),
+            // An open node never says that it is closed.
+            Err(NodeStop::NoMemory | NodeStop::Closed) => Err(Halt::NoMemory),
         }
-        read_call(self.alloc, log, line)
     }
 
     fn may_end(&self) -> bool {
