@@ -78,25 +78,6 @@ fn push_given(
     push_offers(out, offers)
 }
 
-// Puts an answer, which is no refusal, at the end. Where memory runs out the text stays.
-fn put_answer(
-    alloc: Global,
-    reply: &Reply,
-    made: &[u8],
-    offers: &[RootCall],
-    text: &mut Vec<u8>,
-) -> Result<(), NoMemory>
-    ensures ok { (response : Response)
-        → reply.now ≡ response.reply → made.now ≡ response.made → offers.now ≡ response.offers
-        → OnOk result (text.new.items ≡ text.old.items ++ given_text response) }
-    ensures untold { OnErr result (text.new.items ≡ text.old.items) }
-{
-    let mut out = Vec::new(alloc);
-    push_given(&mut out, reply, made, offers)?;
-    text.extend_from_slice(&out)?;
-    Ok(())
-}
-
 /// Puts what a command gave out at the end, unless it was refused. Where memory runs out the text stays.
 pub fn put_given(alloc: Global, given: Given, text: &mut Vec<u8>) -> Result<Said, NoMemory>
     ensures said { (response : Response) → IsGiven response given
@@ -111,7 +92,9 @@ pub fn put_given(alloc: Global, given: Given, text: &mut Vec<u8>) -> Result<Said
     match reply {
         Reply::Refused { cause } => Ok(Said::Refused { cause }),
         reply => {
-            put_answer(alloc, &reply, made.as_slice(), &offers, text)?;
+            let mut out = Vec::new(alloc);
+            push_given(&mut out, &reply, made.as_slice(), &offers)?;
+            text.extend_from_slice(&out)?;
             Ok(Said::Answered)
         }
     }

@@ -3,8 +3,7 @@ ghost use Rattle.plasma_base.specs.HexText.{hex_text};
 ghost use Rattle.plasma_tx.specs.Spelling.{owner_text};
 ghost use Rattle.node_rules.specs.Wallet.{who};
 ghost use Rattle.node_rules.specs.WalletRecords.{owner_of};
-ghost use Rattle.node_replies.specs.Orders.{wallet_does};
-ghost use Rattle.node_answers.specs.Answers.{state_words, outcome_of, wallet_outcome, IsSaid};
+ghost use Rattle.node_answers.specs.Answers.{state_words, wallet_outcome, IsSaid};
 ghost use Rattle.node_answers.specs.Doing.{DidWallet};
 
 use super::said::{push_phrase, put_given, put_words};
@@ -12,7 +11,6 @@ use crash_disk::Disk;
 use node_deeds::run_wallet_order;
 use node_journal::Stop;
 use node_lines::WalletLine;
-use node_replies::WalletOrder;
 use node_sessions::Said;
 use plasma_base::{Hash32, NoMemory, push_hex};
 use plasma_tx::RootLog;
@@ -32,26 +30,6 @@ fn words_of(alloc: Global, state: CoinState) -> Result<Vec<u8>, NoMemory>
         CoinState::Leaving { tip } => push_phrase(&mut words, b"leaving", &[tip])?,
     }
     Ok(words)
-}
-
-// Runs an order, and puts its answer.
-fn answer_order<D: Disk, H: Hash32 + Copy>(
-    alloc: Global,
-    node: &mut WalletNode<D, H>,
-    log: &RootLog,
-    order: &WalletOrder,
-    text: &mut Vec<u8>,
-) -> Result<Said, Stop>
-    requires { node.old.closed ≡ false }
-    ensures said { IfOk result (λ said. IsSaid (outcome_of (wallet_does (H.digest_of node.old.hash) log.now.log
-        node.old.records order.now)).says said text.old.items text.new.items) }
-    ensures did { DidWallet D.told D.plan D.faults (wallet_does (H.digest_of node.old.hash) log.now.log
-        node.old.records order.now).leaf (wallet_does (H.digest_of node.old.hash) log.now.log
-        node.old.records order.now).note node.old result node.new }
-    ensures untold { OnErr result (text.new.items ≡ text.old.items) }
-{
-    let given = run_wallet_order(alloc, node, log, order)?;
-    Ok(put_given(alloc, given, text)?)
 }
 
 // The words of who a wallet is.
@@ -86,7 +64,10 @@ pub fn answer_wallet<D: Disk, H: Hash32 + Copy>(
     ensures untold { OnErr result (text.new.items ≡ text.old.items) }
 {
     match line {
-        WalletLine::Order { order } => answer_order(alloc, node, log, &order, text),
+        WalletLine::Order { order } => {
+            let given = run_wallet_order(alloc, node, log, &order)?;
+            Ok(put_given(alloc, given, text)?)
+        }
         WalletLine::State { coin } => {
             let words = words_of(alloc, node.state(log, coin))?;
             Ok(put_words(words, text)?)
