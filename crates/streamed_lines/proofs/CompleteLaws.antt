@@ -1,5 +1,5 @@
 -- What was read of an input whose lines are all answered.
-use Rattle.std.proofs.Common.{◌≡◌, ◌⊎◌, ℕ, Bool, true, false, List, [], ◌++◌, Option, Some, None, inl, inr, refl, sym, ap, ◌∙◌, subst}
+use Rattle.std.proofs.Common.{◌≡◌, ◌⊎◌, ℕ, Bool, true, false, List, [], ◌++◌, Option, Some, None, inl, inr, refl, sym, ap, ◌∙◌}
 use Rattle.std.proofs.lemmas.List.{append-nil}
 use Rattle.streamed_lines.specs.declared.ending.Ending.TheVariants.{Complete, ReadFault}
 use Rattle.streamed_lines.specs.Streams.{Rules, stream_of}

@@ -50,26 +50,27 @@ module _ {R C : Type 0} (rules : Rules R C) where
   unfolding line_stream
   line-by-text ended start stream line fits may = rw (fits, may-not ended (is_whole line) may) refl
 
-  pub does-long : (n start : ℕ) (stream : Stream R) (line : List ℕ) → n ≡ next_number stream
-      → is_too_long n start line ≡ true → DoesLine rules start stream line (Err (TooLong (next_number stream)))
+  pub does-long : (n start : ℕ) (stream : Stream R) (line all : List ℕ) → line ≡ all → n ≡ next_number stream
+      → is_too_long n start line ≡ true → DoesLine rules start stream all (Err (TooLong (next_number stream)))
   unfolding line_stream
-  does-long n start stream line number long ended may = rw (sym number, long) refl
+  does-long n start stream line all same number long ended may = rw (← same, sym number, long) refl
 
-  does-by : (n start : ℕ) (stream : Stream R) (line : List ℕ) (o : Result (R × List ℕ) (Stop C))
+  does-by : (n start : ℕ) (stream : Stream R) (line all : List ℕ) (o : Result (R × List ℕ) (Stop C)) → line ≡ all
       → n ≡ next_number stream → is_too_long n start line ≡ false → rules.next stream.run (text_of line) ≡ o
-      → DoesLine rules start stream line (stream_or stream o)
-  does-by n start stream line o number fits is ended may =
-      line-by-text ended start stream line
+      → DoesLine rules start stream all (stream_or stream o)
+  does-by n start stream line all o same number fits is =
+      subst (λ l. DoesLine rules start stream l (stream_or stream o)) same
+      (λ ended may. line-by-text ended start stream line
       (subst (λ m. is_too_long m start line ≡ false) number fits) may
-      ∙ ap (stream_or stream) is
+      ∙ ap (stream_or stream) is)
 
-  pub halts-stop : (n start : ℕ) (stream : Stream R) (line : List ℕ) (halt : Halt C) → n ≡ next_number stream
-      → is_too_long n start line ≡ false → HaltsAt rules stream.run (text_of line) halt
-      → StopsAt rules start stream line halt
-  halts-stop n start stream line (Stops stop) number fits at =
-      does-by n start stream line (Err stop) number fits at
-  halts-stop n start stream line Failed number fits at = tt
-  halts-stop n start stream line NoMemory number fits at = tt
+  pub halts-stop : (n start : ℕ) (stream : Stream R) (line all : List ℕ) (halt : Halt C) → line ≡ all
+      → n ≡ next_number stream → is_too_long n start line ≡ false → HaltsAt rules stream.run (text_of line) halt
+      → StopsAt rules start stream all halt
+  halts-stop n start stream line all (Stops stop) same number fits at =
+      does-by n start stream line all (Err stop) same number fits at
+  halts-stop n start stream line all Failed same number fits at = tt
+  halts-stop n start stream line all NoMemory same number fits at = tt
 
   -- what a line does that isn't answered, since its line feed may come yet
   pub waits : (start : ℕ) (stream : Stream R) (line : List ℕ)
@@ -179,13 +180,13 @@ module _ {R C : Type 0} (rules : Rules R C) (first : R) where
 
 -- a line was answered that passes no limit
 pub answered-gathers : {R C W : Type 0} (rules : Rules R C) (Ran : W → R → Type 0) (n start : ℕ) (stream : Stream R)
-    (line before after : List ℕ) (new : W) → n ≡ next_number stream → is_too_long n start line ≡ false
-    → IsAnswered rules Ran stream.run (text_of line) before after new
-    → Gathers rules Ran start stream line before after new
-answered-gathers rules Ran n start stream line before after new number fits answered = record {
+    (line all before after : List ℕ) (new : W) → line ≡ all → n ≡ next_number stream
+    → is_too_long n start line ≡ false → IsAnswered rules Ran stream.run (text_of line) before after new
+    → Gathers rules Ran start stream all before after new
+answered-gathers rules Ran n start stream line all before after new same number fits answered = record {
   next = answered.next;
   answer = answered.answer;
-  does = does-by rules n start stream line (Ok (answered.next, answered.answer)) number fits answered.is;
+  does = does-by rules n start stream line all (Ok (answered.next, answered.answer)) same number fits answered.is;
   ran = answered.ran;
   told = answered.told;
 }

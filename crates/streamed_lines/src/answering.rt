@@ -8,43 +8,6 @@ use super::lines::{is_too_long, text_of};
 use super::reading::Reading;
 use super::{MOST_INPUT_BYTES, MOST_LINES};
 
-// Answers a line into the text.
-fn answer_one<A: Answerer>(
-    answerer: &mut A,
-    reading: &mut Reading,
-    line: &[u8],
-    text: &mut Vec<u8>,
-) -> Result<(), Halt<A::Cause>>
-    requires start { reading.old.start ≤ MOST_INPUT_BYTES }
-    requires ready { A.ready answerer.old }
-    ensures told { (stream : Stream A.Run) → A.ran answerer.old stream.run → reading.old.number ≡ next_number stream
-        → OnOk result (Gathers (A.rules answerer.old) A.ran reading.old.start stream line.now
-        text.old.items text.new.items answerer.new) }
-    ensures stops { (stream : Stream A.Run) → A.ran answerer.old stream.run → reading.old.number ≡ next_number stream
-        → IfErr result (StopsAt (A.rules answerer.old) reading.old.start stream line.now) }
-    ensures halted { (stream : Stream A.Run) → A.ran answerer.old stream.run → reading.old.number ≡ next_number stream
-        → IfErr result (IsHalted A.ran A.halted reading.old.start answerer.new stream line.now) }
-    ensures untold { OnErr result (text.new.items ≡ text.old.items) }
-    ensures number { OnOk result (reading.new.number ≡ reading.old.number + 1) }
-    ensures same_number { OnErr result (reading.new.number ≡ reading.old.number) }
-    ensures lines { OnOk result (reading.old.number ≤ MOST_LINES) }
-    ensures start { OnOk result (reading.new.start ≡ reading.old.start + length line.now) }
-    ensures within { OnOk result (reading.new.start ≤ MOST_INPUT_BYTES) }
-    ensures line { reading.new.line ≡ reading.old.line }
-    ensures rules { A.rules answerer.new ≡ A.rules answerer.old }
-    ensures ready { OnOk result (A.ready answerer.new) }
-{
-    if is_too_long(reading.number, reading.start, line) {
-        return Err(Halt::Stops {
-            stop: Stop::TooLong,
-        });
-    }
-    answerer.answer(text_of(line), text)?;
-    reading.number += 1;
-    reading.start += line.len() as u64;
-    Ok(())
-}
-
 /// Answers the line that is kept with the rest of it into the text.
 pub fn answer_kept<A: Answerer>(
     answerer: &mut A,
@@ -74,11 +37,21 @@ pub fn answer_kept<A: Answerer>(
     ensures rules { A.rules answerer.new ≡ A.rules answerer.old }
     ensures ready { OnOk result (A.ready answerer.new) }
 {
-    if reading.line.is_empty() {
-        return answer_one(answerer, reading, rest, text);
-    }
     let alloc = *reading.line.allocator();
-    let mut line = std::mem::replace(&mut reading.line, Vec::new(alloc));
-    line.extend_from_slice(rest)?;
-    answer_one(answerer, reading, &line, text)
+    let mut kept = std::mem::replace(&mut reading.line, Vec::new(alloc));
+    let line = if kept.is_empty() {
+        rest
+    } else {
+        kept.extend_from_slice(rest)?;
+        kept.as_slice()
+    };
+    if is_too_long(reading.number, reading.start, line) {
+        return Err(Halt::Stops {
+            stop: Stop::TooLong,
+        });
+    }
+    answerer.answer(text_of(line), text)?;
+    reading.number += 1;
+    reading.start += line.len() as u64;
+    Ok(())
 }
