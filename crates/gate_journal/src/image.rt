@@ -87,7 +87,8 @@ pub fn read_records(alloc: Global, image: &[u8]) -> Result<Found, JournalRefusal
     };
     let mut rest = bytes;
     let mut place = 4u64;
-    let mut records = Vec::new(alloc);
+    // Many journals have one record, and a vector that grows begins with four.
+    let mut records = Vec::with_capacity(alloc, 1)?;
     'records: while begins_open(rest) {
         let Some(body) = body_in(after(rest, 1)) else {
             return Err(JournalRefusal::NotJournal { place });
