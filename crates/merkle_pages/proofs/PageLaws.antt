@@ -179,18 +179,18 @@ double-le low high lt =
       | inr above ↦ let e : high ≡ suc low = omega arith in rw e (omega arith)
     ]
 
-place-below : (one other coin more : ℕ) → one % 16 < other % 16 → place_at other more < place_at one coin
+place-below : (one other coin more : ℕ) → one % 15 < other % 15 → place_at other more < place_at one coin
 place-below one other coin more lt =
-    let double = double-le (16 - other % 16) (16 - one % 16) (omega arith) in
-    let rest = mod_below (more / 2 ^ other) (2 ^ (16 - other % 16)) (pow_pos (16 - other % 16)) in
+    let double = double-le (15 - other % 15) (15 - one % 15) (omega arith) in
+    let rest = mod_below (more / 2 ^ other) (2 ^ (15 - other % 15)) (pow_pos (15 - other % 15)) in
     omega arith
 
 -- levels of one page whose places are one are one
-pub place-level : (one other coin more : ℕ) → one / 16 ≡ other / 16 → place_at one coin ≡ place_at other more
+pub place-level : (one other coin more : ℕ) → one / 15 ≡ other / 15 → place_at one coin ≡ place_at other more
     → one ≡ other
-place-level one other coin more page same = elim (cases_lt (one % 16) (other % 16)) [
+place-level one other coin more page same = elim (cases_lt (one % 15) (other % 15)) [
   | inl below ↦ absurd (omega (arith, place-below one other coin more below))
-  | inr above ↦ elim (cases_lt (other % 16) (one % 16)) [
+  | inr above ↦ elim (cases_lt (other % 15) (one % 15)) [
     | inl over ↦ absurd (omega (arith, place-below other one more coin over))
     | inr equal ↦ omega arith
   ]
@@ -201,9 +201,9 @@ pub prefix-from : (level coin other : ℕ) → name_at level coin ≡ name_at le
     → place_at level coin ≡ place_at level other
     → coin / 2 ^ level ≡ other / 2 ^ level
 prefix-from level coin other name place =
-    let width = 16 - level % 16 in
-    let top : level + width ≡ 16 * (level / 16) + 16 = omega arith in
-    let bits : coin / 2 ^ (16 * (level / 16) + 16) ≡ other / 2 ^ (16 * (level / 16) + 16) =
+    let width = 15 - level % 15 in
+    let top : level + width ≡ 15 * (level / 15) + 15 = omega arith in
+    let bits : coin / 2 ^ (15 * (level / 15) + 15) ≡ other / 2 ^ (15 * (level / 15) + 15) =
     ap (λ (n : PageName). n.bits) name in
     let high : coin / 2 ^ level / 2 ^ width ≡ other / 2 ^ level / 2 ^ width =
     shr-shr coin level width ∙ rw top bits ∙ sym (shr-shr other level width) in
@@ -214,22 +214,22 @@ prefix-from level coin other name place =
 pub name_at-prefix : (level coin other : ℕ) → coin / 2 ^ level ≡ other / 2 ^ level
     → name_at level coin ≡ name_at level other
 name_at-prefix level coin other e =
-    let width = 16 - level % 16 in
-    let top : level + width ≡ 16 * (level / 16) + 16 = omega arith in
-    let bits : coin / 2 ^ (16 * (level / 16) + 16) ≡ other / 2 ^ (16 * (level / 16) + 16) =
+    let width = 15 - level % 15 in
+    let top : level + width ≡ 15 * (level / 15) + 15 = omega arith in
+    let bits : coin / 2 ^ (15 * (level / 15) + 15) ≡ other / 2 ^ (15 * (level / 15) + 15) =
     rw (← top) (sym (shr-shr coin level width) ∙ ap (λ (q : ℕ). q / 2 ^ width) e ∙ shr-shr other level width) in
-    name_of-same (level / 16) (level / 16) _ _ refl bits
+    name_of-same (level / 15) (level / 15) _ _ refl bits
 
 -- coins that agree above a level have one page there
 pub name_at-above : (level coin other : ℕ) → coin / 2 ^ suc level ≡ other / 2 ^ suc level
     → name_at level coin ≡ name_at level other
 name_at-above level coin other e =
-    let width = 15 - level % 16 in
-    let top : suc level + width ≡ 16 * (level / 16) + 16 = omega arith in
-    let bits : coin / 2 ^ (16 * (level / 16) + 16) ≡ other / 2 ^ (16 * (level / 16) + 16) =
+    let width = 14 - level % 15 in
+    let top : suc level + width ≡ 15 * (level / 15) + 15 = omega arith in
+    let bits : coin / 2 ^ (15 * (level / 15) + 15) ≡ other / 2 ^ (15 * (level / 15) + 15) =
     rw (← top) (sym (shr-shr coin (suc level) width) ∙ ap (λ (q : ℕ). q / 2 ^ width) e
     ∙ shr-shr other (suc level) width) in
-    name_of-same (level / 16) (level / 16) _ _ refl bits
+    name_of-same (level / 15) (level / 15) _ _ refl bits
 
 pub place_at-prefix : (level coin other : ℕ) → coin / 2 ^ level ≡ other / 2 ^ level
     → place_at level coin ≡ place_at level other
@@ -250,6 +250,6 @@ pub puts-elsewhere : (level coin k other : ℕ) (kept : Option (List ℕ)) (old 
     → node_at k other new ≡ node_at k other old
 puts-elsewhere level coin k other kept old new puts apart =
     puts.elsewhere (name_at k other) (place_at k other) (λ name place.
-    let page : k / 16 ≡ level / 16 = ap (λ (n : PageName). n.number) name in
+    let page : k / 15 ≡ level / 15 = ap (λ (n : PageName). n.number) name in
     let e : k ≡ level = place-level k level other coin page place in
     apart e (prefix-from level other coin (rw e at name) (rw e at place)))

@@ -1,4 +1,4 @@
--- Pages of 16 levels, four from the leaf up. A page is named by its number among the four and by the bits of the coins
+-- Pages of 15 levels, five from the leaf up. A page is named by its number among the five and by the bits of the coins
 -- above it. Its nodes are numbered as in a heap, in which 1 would be the node above the page.
 use Rattle.std.specs.Prelude.{◌≡◌, ◌≢◌, ℕ, ◌+◌, ◌-◌, ◌*◌, ◌/◌, ◌%◌, ◌^◌, ◌<◌, ◌≤◌, List, [], length, slice_index_or, Option, Some, None, if◌then◌else◌}
 use Rattle.std.specs.BTreeMap.{BTreeMap, get}
@@ -15,15 +15,15 @@ name_cmp one other = ordering_then (nat_cmp one.number other.number) (nat_cmp on
 
 -- the page of that number on the way up from a coin
 abbrev pub name_in : ℕ → ℕ → PageName
-name_in number coin = record { number = number; bits = coin / 2 ^ (16 * number + 16) }
+name_in number coin = record { number = number; bits = coin / 2 ^ (15 * number + 15) }
 
 -- the page of a level on the way up from a coin
 abbrev pub name_at : ℕ → ℕ → PageName
-name_at level coin = name_in (level / 16) coin
+name_at level coin = name_in (level / 15) coin
 
 -- the place in its page of the node of a level on the way up from a coin
 abbrev pub place_at : ℕ → ℕ → ℕ
-place_at level coin = 2 ^ (16 - level % 16) + coin / 2 ^ level % 2 ^ (16 - level % 16)
+place_at level coin = 2 ^ (15 - level % 15) + coin / 2 ^ level % 2 ^ (15 - level % 15)
 
 -- what is kept of a digest: nothing where it is the default
 abbrev pub kept_digest : List ℕ → List ℕ → Option (List ℕ)

@@ -2,8 +2,8 @@
 //! digest that it was made with. A tree that is made of a whole map digests each node once, and a put the
 //! 65 nodes on the way up from its coin; the root, each node and each proof are then at hand.
 //!
-//! The nodes stand in pages of 16 levels, four from the leaf up. A page is named by its number among the
-//! four and by the bits of the coins above it, and keeps the nodes that differ from the default of their
+//! The nodes stand in pages of 15 levels, five from the leaf up. A page is named by its number among the
+//! five and by the bits of the coins above it, and keeps the nodes that differ from the default of their
 //! level.
 #![tactic(auto)]
 

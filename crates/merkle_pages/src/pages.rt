@@ -1,4 +1,4 @@
-ghost use Rattle.std.specs.Prelude.{◌≡◌, ◌≢◌, ◌+◌, ◌<◌, ◌*◌, ◌^◌, ℕ, [], length, slice_index_or, unwrap_or, IfOk, OnOk, OnErr, IsTrue, Some, None};
+ghost use Rattle.std.specs.Prelude.{◌≡◌, ◌≢◌, ◌+◌, ◌<◌, ◌*◌, ◌^◌, ℕ, [], length, slice_index_or, unwrap_or, IfOk, OnOk, OnErr, IsTrue, Some, None, min};
 ghost use Rattle.std.specs.BTreeMap.{get};
 ghost use Rattle.std.specs.Int.Bits.{bit_xor};
 ghost use Rattle.std.specs.Option.{option_copied};
@@ -9,7 +9,7 @@ use plasma_base::NoMemory;
 use std::alloc::Global;
 use std::collections::BTreeMap;
 
-/// A page's name: its number among four, from the leaf up, and the bits of the coins above it.
+/// A page's name: its number among five, from the leaf up, and the bits of the coins above it.
 #[derive(Clone, Copy, PartialEq, Eq, PartialOrd, Ord)]
 pub struct PageName {
     pub number: u32,
@@ -24,15 +24,15 @@ pub type Pages = BTreeMap<PageName, Page>;
 
 // The page of that number on the way up from a coin.
 fn page_name(number: usize, coin: u64) -> PageName
-    requires { number < 4 }
+    requires { number < 5 }
     ensures { result ≡ name_in number coin }
 {
     PageName {
         number: number as u32,
-        bits: if number == 3 {
+        bits: if number == 4 {
             0
         } else {
-            coin >> (16 * number + 16)
+            coin >> (15 * number + 15)
         },
     }
 }
@@ -42,7 +42,7 @@ fn place(level: usize, coin: u64) -> u32
     requires { level < 64 }
     ensures { result ≡ place_at level coin }
 {
-    let width = 1u64 << (16 - level % 16);
+    let width = 1u64 << (15 - level % 15);
     (width + (coin >> level) % width) as u32
 }
 
@@ -59,7 +59,7 @@ pub fn kept_node(pages: &Pages, level: usize, coin: u64) -> Option<&[u8; 32]>
     requires { level < 64 }
     ensures { option_copied result ≡ node_at level coin pages.now }
 {
-    let page = pages.get(&page_name(level / 16, coin))?;
+    let page = pages.get(&page_name(level / 15, coin))?;
     page.get(&place(level, coin))
 }
 
@@ -71,22 +71,22 @@ pub fn siblings(pages: &Pages, coin: u64, defaults: &[[u8; 32]; 64]) -> [[u8; 32
         ≡ unwrap_or (node_at level (bit_xor coin (2 ^ level)) pages.now) (slice_index_or defaults.now level []) }
 {
     let mut siblings = *defaults;
-    for number in 0..4 {
+    for number in 0..5 {
         take_siblings(pages, number, coin, &mut siblings);
     }
     siblings
 }
 
-// Puts the siblings on the way up from a coin at the 16 levels of a page, all of which it keeps itself, in
-// place of what stands there. Those that it doesn't keep stay.
+// Puts the siblings on the way up from a coin at the levels of a page, all of which it keeps itself, in place
+// of what stands there. Those that it doesn't keep stay.
 fn take_siblings(pages: &Pages, number: usize, coin: u64, siblings: &mut [[u8; 32]; 64])
-    requires { number < 4 }
-    ensures { TakesSiblings pages.now number coin (16 * number) (16 * number + 16) siblings.old siblings.new }
+    requires { number < 5 }
+    ensures { TakesSiblings pages.now number coin (15 * number) (min (15 * number + 15) 64) siblings.old siblings.new }
 {
     let Some(page) = pages.get(&page_name(number, coin)) else {
         return;
     };
-    for level in 16 * number..16 * number + 16 {
+    for level in 15 * number..(15 * number + 15).min(64) {
         if let Some(digest) = page.get(&place(level, sibling_coin(coin, level))) {
             siblings[level] = *digest;
         }
@@ -130,7 +130,7 @@ pub fn put_node(
     insert_node(
         alloc,
         pages,
-        page_name(level / 16, coin),
+        page_name(level / 15, coin),
         place(level, coin),
         digest,
     )
@@ -141,7 +141,7 @@ pub fn remove_node(pages: &mut Pages, level: usize, coin: u64)
     requires { level < 64 }
     ensures { PutsAt level coin None pages.old pages.new }
 {
-    let name = page_name(level / 16, coin);
+    let name = page_name(level / 15, coin);
     take_node(pages, name, place(level, coin));
     drop_empty(pages, name);
 }

@@ -3,4 +3,4 @@ use Rattle.merkle_pages.specs.Pages.{TakesSiblings}
 use Rattle.merkle_pages.proofs.pages.take_siblings.Given as goal
 
 abbrev pub invariant-loop-level : goal.invariant-loop-level
-invariant-loop-level l = TakesSiblings l.pages l.number l.coin (16 * l.number) l.level l.fn.siblings l.siblings
+invariant-loop-level l = TakesSiblings l.pages l.number l.coin (15 * l.number) l.level l.fn.siblings l.siblings
