@@ -2,7 +2,6 @@
 pub mod Ending
 pub mod FactTelling
 pub mod Ticks
-pub mod CoinLists
 pub mod BodyLaws
 pub mod AnswerLaws
 pub mod StopLaws

@@ -1,6 +1,6 @@
-ghost use Rattle.std.specs.Prelude.{◌≡◌, ◌==◌, IfOk};
+ghost use Rattle.std.specs.Prelude.{◌≡◌, ◌==◌, ◌||◌, ℕ, IfOk, OnOk};
 ghost use Rattle.std.specs.List.{list_any};
-ghost use Rattle.coin_verdicts.specs.Facts.{AreThose};
+ghost use Rattle.coin_verdicts.specs.Facts.{has, AreThose};
 ghost use Rattle.world_rules.specs.Events.{coin_of_call};
 
 use coin_verdicts::Numbers;
@@ -24,14 +24,23 @@ fn coin_of(call: &RootCall) -> u64
     }
 }
 
+// Puts a coin at the end, unless it stands there: the offered calls of a coin follow one another.
+fn put_coin(coins: &mut Vec<u64>, coin: u64) -> Result<(), NoMemory>
+    ensures { OnOk result ((n : ℕ) → has coins.new.items n ≡ (has coins.old.items n || (coin == n))) }
+{
+    if coins.last().copied() != Some(coin) {
+        coins.push(coin)?;
+    }
+    Ok(())
+}
+
 /// The coins of offered calls.
-#[tactic(auto, using(crate::proofs::CoinLists::coins_any))]
 pub fn coins_of(alloc: Global, calls: &[RootCall]) -> Result<Numbers, NoMemory>
     ensures { IfOk result (AreThose (λ c. list_any (λ call. coin_of_call call == c) calls.now)) }
 {
     let mut coins = Vec::new(alloc);
     for call in calls {
-        coins.push(coin_of(call))?;
+        put_coin(&mut coins, coin_of(call))?;
     }
     Ok(Numbers::from_vec(coins))
 }
