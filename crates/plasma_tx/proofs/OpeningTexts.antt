@@ -1,5 +1,5 @@
 -- Openings are read as they are written, and have one spelling.
-use Rattle.std.proofs.Common.{◌≡◌, ℕ, ◌+◌, ◌^◌, ◌<◌, ◌≤◌, true, nat_le, List, ◌++◌, Ok, Err, length, take, drop, refl, sym, ap, ◌∙◌, inl, inr, append_assoc, arith}
+use Rattle.std.proofs.Common.{◌≡◌, ℕ, ◌+◌, ◌^◌, ◌<◌, ◌≤◌, true, nat_le, List, ◌++◌, Ok, Err, length, take, drop, refl, sym, ap, subst, ◌∙◌, inl, inr, append_assoc, arith}
 use Rattle.std.specs.Prelude.{Result}
 use Rattle.std.specs.Int.{w32, to_be_bytes, from_be_bytes}
 use Rattle.std.specs.List.{All}
@@ -8,13 +8,14 @@ use Rattle.std.proofs.lemmas.List.{length-append, take_at, drop_at, length-take-
 use Rattle.std.proofs.lemmas.List.Elements.{All-take, All-drop}
 use Rattle.std.proofs.lemmas.Nat.{from_be_bytes-to_be_bytes_4}
 use Rattle.sparse_merkle.specs.declared.proof.ProofRefusal.{ProofRefusal}
-use Rattle.sparse_merkle.specs.MaskedPath.{MaskedPath, IsMaskedPath, is_canonical, proof_text, proof_in}
+use Rattle.sparse_merkle.specs.declared.proof.ProofRefusal.TheVariants.{BadLength}
+use Rattle.sparse_merkle.specs.MaskedPath.{MaskedPath, IsMaskedPath, is_canonical, proof_text, has_proof_length, proof_in}
 use Rattle.sparse_merkle.proofs.ProofLaws.{proof_in-text, text-proof_in}
 use Rattle.plasma_tx.specs.declared.opening.RawOpening.{RawOpening}
 use Rattle.plasma_tx.specs.declared.opening.Opening.{Opening}
 use Rattle.plasma_tx.specs.declared.opening.OpeningRefusal.{OpeningRefusal}
 use Rattle.plasma_tx.specs.declared.opening.OpeningRefusal.TheVariants.{Unreadable}
-use Rattle.plasma_tx.specs.Openings.{opening_text, raw_of, leaf_length, leaf_in, with_proof, opening_in}
+use Rattle.plasma_tx.specs.Openings.{opening_text, raw_of, leaf_length, leaf_in, HasOpeningLength, with_proof, opening_in}
 use Rattle.plasma_tx.proofs.Parts.{short_number-below, short_number-bytes}
 
 opening_in-parts : (dig : List ℕ → List ℕ) (block : ℕ) (front leaf rest : List ℕ) (proof : MaskedPath)
@@ -45,6 +46,20 @@ opening_in-text dig opening small h canonical =
     opening_in-parts dig opening.block (to_be_bytes w32 (length opening.leaf)) opening.leaf
     (proof_text opening.proof) opening.proof refl
     (from_be_bytes-to_be_bytes_4 (length opening.leaf) small) (proof_in-text dig opening.proof h canonical)
+
+-- where bytes are read as a proof behind a leaf that fits, all of them are as long as an opening
+pub HasOpeningLength-read : (dig : List ℕ → List ℕ) (bytes shown rest : List ℕ) (proof : MaskedPath) → shown ≡ bytes
+    → 4 + leaf_length shown ≤ length shown → rest ≡ drop (4 + leaf_length shown) shown
+    → Ok proof ≡ proof_in dig rest → HasOpeningLength bytes
+unfolding proof_in
+HasOpeningLength-read dig bytes shown rest proof same fits behind read =
+    subst HasOpeningLength same (record {
+      leaf = fits;
+      proof = elim (cases_Bool (has_proof_length (drop (4 + leaf_length shown) shown))) [
+        | inl is ↦ is
+        | inr isnt ↦ let bad : Ok proof ≡ Err BadLength = rw (behind, isnt) at read in cc bad
+      ];
+    })
 
 with_proof-ok : (block : ℕ) (leaf : List ℕ) (r : Result MaskedPath ProofRefusal) (opening : Opening)
     → with_proof block leaf r ≡ Ok opening

@@ -1,9 +1,9 @@
 -- The bytes of openings: the leaf's length in four bytes, the highest first, the leaf, the proof and nothing after it.
-use Rattle.std.specs.Prelude.{◌≡◌, ℕ, ◌+◌, ◌^◌, ◌<◌, true, nat_le, if◌then◌else◌, List, ◌++◌, length, take, drop, Result, Ok, Err}
+use Rattle.std.specs.Prelude.{◌≡◌, ℕ, ◌+◌, ◌^◌, ◌<◌, ◌≤◌, true, nat_le, if◌then◌else◌, List, ◌++◌, length, take, drop, Result, Ok, Err}
 use Rattle.std.specs.Int.{w32, to_be_bytes, from_be_bytes}
 use Rattle.std.specs.List.{All}
 use Rattle.sparse_merkle.specs.declared.proof.ProofRefusal.{ProofRefusal}
-use Rattle.sparse_merkle.specs.MaskedPath.{MaskedPath, IsMaskedPath, is_canonical, proof_text, proof_in}
+use Rattle.sparse_merkle.specs.MaskedPath.{MaskedPath, IsMaskedPath, is_canonical, proof_text, has_proof_length, proof_in}
 use Rattle.plasma_tx.specs.declared.opening.RawOpening.{RawOpening}
 use Rattle.plasma_tx.specs.declared.opening.Opening.{Opening}
 use Rattle.plasma_tx.specs.declared.opening.OpeningRefusal.{OpeningRefusal}
@@ -24,6 +24,11 @@ leaf_length bytes = from_be_bytes w32 (take 4 bytes)
 -- the leaf that so many bytes are, behind its length; the bytes may end before it
 unfoldable pub leaf_in : List ℕ → List ℕ
 leaf_in bytes = take (leaf_length bytes) (drop 4 bytes)
+
+-- the bytes are as long as the leaf's length and the proof's mask ask for
+pub record HasOpeningLength (bytes : List ℕ) : Type 0 where
+  pub leaf : 4 + leaf_length bytes ≤ length bytes
+  pub proof : has_proof_length (drop (4 + leaf_length bytes) bytes) ≡ true
 
 -- the opening with this leaf, where the rest is read as a proof
 abbrev pub with_proof : ℕ → List ℕ → Result MaskedPath ProofRefusal → Result Opening OpeningRefusal

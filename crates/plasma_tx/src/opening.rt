@@ -1,5 +1,5 @@
 ghost use Rattle.std.specs.Prelude.{◌≡◌, ◌≢◌, ◌<◌, ◌^◌, ◌+◌, ◌≤◌, length, take, drop, IfOk, MatchOption, Err};
-ghost use Rattle.plasma_tx.specs.Openings.{opening_in, opening_text, raw_of, leaf_length, leaf_in};
+ghost use Rattle.plasma_tx.specs.Openings.{HasOpeningLength, opening_in, opening_text, raw_of, leaf_length, leaf_in};
 ghost use Rattle.sparse_merkle.specs.TreeDigest.{AreDefaults};
 
 use plasma_base::{Bytes, Hash32, NoMemory, get_u32, put_u32};
@@ -47,17 +47,18 @@ impl From<NoMemory> for OpeningRefusal {
 impl RawOpening {
     /// The opening that the bytes spell: the leaf's length as a u32, the leaf, and a proof with nothing
     /// after it, of which no sibling is the default of its level. `Unreadable` exactly where they spell
-    /// none. No memory is taken before the leaf's length is found to fit. It makes 64 digests, which
-    /// give the defaults.
+    /// none. No memory is taken before the leaf's and the proof's lengths are found to fit. It makes 64
+    /// digests, which give the defaults.
     pub fn open_up<H: Hash32>(&self, h: &H) -> Result<Opening, OpeningRefusal>
-        ensures { result ≢ Err OpeningRefusal.NoMemory → result ≡ opening_in (H.digest_of h.now) self.now }
+        ensures read { result ≢ Err OpeningRefusal.NoMemory → result ≡ opening_in (H.digest_of h.now) self.now }
+        ensures memory { result ≡ Err OpeningRefusal.NoMemory → HasOpeningLength self.now.bytes }
     {
         self.open_up_with_defaults(h, &defaults(h))
     }
 
     /// As `open_up`, where the caller has the defaults of levels 0 to 63 already: `Unreadable` exactly
-    /// where the bytes spell no opening, and no memory is taken before the leaf's length is found to
-    /// fit. It makes no digest; `h` says whose defaults they are.
+    /// where the bytes spell no opening, and no memory is taken before both lengths are found to fit.
+    /// It makes no digest; `h` says whose defaults they are.
     #[tactic(auto, unfolding(crate::specs::Openings::opening_in))]
     pub fn open_up_with_defaults<H: Hash32>(
         &self,
@@ -65,7 +66,8 @@ impl RawOpening {
         defaults: &[[u8; 32]; 64],
     ) -> Result<Opening, OpeningRefusal>
         requires { AreDefaults (H.digest_of h.now) defaults.now }
-        ensures { result ≢ Err OpeningRefusal.NoMemory → result ≡ opening_in (H.digest_of h.now) self.now }
+        ensures read { result ≢ Err OpeningRefusal.NoMemory → result ≡ opening_in (H.digest_of h.now) self.now }
+        ensures memory { result ≡ Err OpeningRefusal.NoMemory → HasOpeningLength self.now.bytes }
     {
         let Some((leaf, rest)) = parts(self.bytes.as_slice()) else {
             return Err(OpeningRefusal::Unreadable);

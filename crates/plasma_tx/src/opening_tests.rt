@@ -1,7 +1,7 @@
-ghost use Rattle.std.specs.Prelude.{◌≡◌, ◌<◌, ◌≤◌, length, IfOk, IfSome};
+ghost use Rattle.std.specs.Prelude.{◌≡◌, ◌<◌, ◌≤◌, length, IfOk, IfSome, OnErr};
 ghost use Rattle.sha2.specs.Sha256.{sha256};
 ghost use Rattle.sparse_merkle.specs.TreeDigest.{AreDefaults};
-ghost use Rattle.plasma_tx.specs.Openings.{opening_in};
+ghost use Rattle.plasma_tx.specs.Openings.{HasOpeningLength, opening_in};
 ghost use Rattle.plasma_tx.specs.Shown.{opens_root};
 
 use super::opening::{Opening, OpeningRefusal, RawOpening};
@@ -55,7 +55,8 @@ impl OpeningTests {
     }
 
     /// Whether the opening opens the root at the coin. Under SHA-256 it tests an opening that isn't known, and
-    /// remembers what it found; under another digest it tests each.
+    /// remembers what it found; under another digest it tests each. `NoMemory` comes only where the bytes are as long as
+    /// an opening.
     pub fn opens<H: Hash32>(
         &self,
         alloc: Global,
@@ -66,8 +67,9 @@ impl OpeningTests {
         opening: &RawOpening,
     ) -> Result<bool, NoMemory>
         requires { AreDefaults (H.digest_of h.now) defaults.now }
-        ensures { IfOk result (λ opens. opens
+        ensures opens { IfOk result (λ opens. opens
             ≡ opens_root (H.digest_of h.now) root.now coin (opening_in (H.digest_of h.now) opening.now)) }
+        ensures memory { OnErr result (HasOpeningLength opening.now.bytes) }
     {
         if !h.is_sha256() {
             return test(alloc, h, defaults, root, coin, opening);
@@ -133,8 +135,9 @@ fn test<H: Hash32>(
     opening: &RawOpening,
 ) -> Result<bool, NoMemory>
     requires { AreDefaults (H.digest_of h.now) defaults.now }
-    ensures { IfOk result (λ opens. opens
+    ensures opens { IfOk result (λ opens. opens
         ≡ opens_root (H.digest_of h.now) root.now coin (opening_in (H.digest_of h.now) opening.now)) }
+    ensures memory { OnErr result (HasOpeningLength opening.now.bytes) }
 {
     match opening.open_up_with_defaults(h, defaults) {
         Ok(

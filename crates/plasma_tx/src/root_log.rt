@@ -4,7 +4,7 @@ ghost use Rattle.std.specs.BTreeSet.{contains, IsOrdered};
 ghost use Rattle.plasma_tx.specs.Chain.{with_log};
 ghost use Rattle.sparse_merkle.specs.TreeDigest.{AreDefaults};
 ghost use Rattle.plasma_tx.specs.Keeps.{item_at};
-ghost use Rattle.plasma_tx.specs.Openings.{opening_in};
+ghost use Rattle.plasma_tx.specs.Openings.{HasOpeningLength, opening_in};
 ghost use Rattle.plasma_tx.specs.Shown.{opens_root};
 ghost use Rattle.plasma_tx.specs.Transfer.{is_signed_by};
 ghost use Rattle.plasma_tx.specs.Views.{now, blocks, coins, block_at, coin_at, is_withdrawn, exits_of, is_exiting, is_root_committed, deposits_of};
@@ -205,7 +205,8 @@ impl RootLog {
     /// Whether the opening is read and opens the root at the coin, where the caller has the defaults of levels 0 to 63
     /// already. What a test under SHA-256 found is remembered beside the log, so that an opening isn't tested anew in
     /// each history that has it: for at most 2,048 openings of at most 5,000 bytes, in 11 MB, and for 256 of at most
-    /// 68,000, in 18 MB. Where there is no memory for that it tests again; `NoMemory` is of the test.
+    /// 68,000, in 18 MB. Where there is no memory for that it tests again; `NoMemory` is of the test, and comes only
+    /// where the bytes are as long as an opening.
     pub fn opens<H: Hash32>(
         &self,
         h: &H,
@@ -215,8 +216,9 @@ impl RootLog {
         opening: &RawOpening,
     ) -> Result<bool, NoMemory>
         requires { AreDefaults (H.digest_of h.now) defaults.now }
-        ensures { IfOk result (λ opens. opens
+        ensures opens { IfOk result (λ opens. opens
             ≡ opens_root (H.digest_of h.now) root.now coin (opening_in (H.digest_of h.now) opening.now)) }
+        ensures memory { OnErr result (HasOpeningLength opening.now.bytes) }
     {
         let alloc = *self.events.allocator();
         self.opening_tests

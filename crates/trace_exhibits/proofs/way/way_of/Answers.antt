@@ -11,7 +11,7 @@ pub unreachable-requires : goal.unreachable-requires
 unreachable-requires g c =
     let dig = g.H.Hash32.digest_of c.args.h.now in
     let raw = c.args.one.now.opening in
-    let told = rw c.opening.ensures at (c.in-Ok.ensures (λ e. cc e)) in
+    let told = rw c.opening.ensures at (c.in-Ok.ensures.read (λ e. cc e)) in
     not-ended raw c.in-Ok.opening (is-read dig raw c.in-Ok.opening (sym told))
     (rw (c.as_slice-bytes.ensures, c.opening-in-Ok.ensures) at c.in_default.ensures)
 
@@ -19,7 +19,7 @@ pub path_in-path-requires-clause-long : goal.path_in-path-requires-clause-long
 path_in-path-requires-clause-long g c =
     let dig = g.H.Hash32.digest_of c.args.h.now in
     let raw = c.args.one.now.opening in
-    let told = rw c.opening.ensures at (c.in-Ok.ensures (λ e. cc e)) in
+    let told = rw c.opening.ensures at (c.in-Ok.ensures.read (λ e. cc e)) in
     let text : c.in-Some.text.now ≡ drop (4 + leaf_length raw.bytes) raw.bytes =
     rw (c.as_slice-bytes.ensures, c.opening-in-Ok.ensures) at c.in-Some.ensures in
     rw text (is-read dig raw c.in-Ok.opening (sym told)).long
@@ -29,7 +29,7 @@ returns-in-Some g c =
     let dig = g.H.Hash32.digest_of c.args.h.now in
     let one = c.args.one.now in
     let raw = one.opening in
-    let told = rw c.opening.ensures at (c.in-Ok.ensures (λ e. cc e)) in
+    let told = rw c.opening.ensures at (c.in-Ok.ensures.read (λ e. cc e)) in
     let read = is-read dig raw c.in-Ok.opening (sym told) in
     let text : c.in-Some.text.now ≡ drop (4 + leaf_length raw.bytes) raw.bytes =
     rw (c.as_slice-bytes.ensures, c.opening-in-Ok.ensures) at c.in-Some.ensures in

@@ -14,12 +14,12 @@ returns-then-not-is_open g c =
     let chain = c.args.self.now in
     sym (show-unopened (tests_by (g.H.Hash32.digest_of c.args.h.now)) (rules_of chain) chain.log c.args.coin
     c.args.opening.now c.in-Some.root (sym c.root_at.ensures ∙ c.in-Some.is)
-    (sym c.in_ok-is_open.ensures ∙ c.if-not-is_open.true))
+    (sym c.in_ok-is_open.ensures.opens ∙ c.if-not-is_open.true))
 
 pub returns : goal.returns
 returns g c =
     let chain = c.args.self.now in
     let shows = show-opened (tests_by (g.H.Hash32.digest_of c.args.h.now)) (rules_of chain) chain.log c.args.coin
     c.args.opening.now c.in-Some.root (sym c.root_at.ensures ∙ c.in-Some.is)
-    (sym c.in_ok-is_open.ensures ∙ c.if-not-is_open.false) in
+    (sym c.in_ok-is_open.ensures.opens ∙ c.if-not-is_open.false) in
     rw shows (rw (c.tag.ensures, c.self.view_is, c.leaf_in-leaf.ensures, c.as_slice.ensures) at c.leaf_tx.ensures)
