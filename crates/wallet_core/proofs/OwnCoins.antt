@@ -3,12 +3,10 @@ use Rattle.std.proofs.Common.{◌≡◌, ◌+◌, ◌==◌, ◌&&◌, ◌||◌, 
 use Rattle.std.specs.Prelude.{filter, map, take}
 use Rattle.std.specs.List.{list_any}
 use Rattle.std.specs.Ordering.{nat_cmp}
-use Rattle.std.specs.BTreeMap.{is_at}
 use Rattle.std.specs.BTreeSet.{BTreeSet, contains}
 use Rattle.std.specs.Str.{bytes_eq}
 use Rattle.std.proofs.lemmas.Bool.{cases_eq, eq-eqb, ne_eqb}
 use Rattle.std.proofs.lemmas.List.Folds.{list_any-append}
-use Rattle.plasma_tx.proofs.States.{is_at-nat}
 use Rattle.plasma_tx.specs.declared.call.RootCall.{RootCall}
 use Rattle.plasma_tx.specs.declared.call.RootCall.TheVariants.{Deposit}
 use Rattle.plasma_tx.specs.declared.owner.Owner.{Owner}
@@ -89,52 +87,47 @@ others_are_nothing notes leaves log coin none =
 
 -- ---- the set, number by number
 
--- one more number
-pub grown : (x c : ℕ) (had any then_has : Bool) → then_has ≡ cond (is_at (nat_cmp x) c) true had → had ≡ any
-    → then_has ≡ (any || ((x == c) || false))
-grown x c had any then_has is same =
-    is ∙ (λ i. cond (is_at-nat x c i) true (same i)) ∙ elim (cases_eq x c) [
-      | inl here ↦ ap (λ b. cond b true any) (eq-eqb c x (sym here)) ∙ sym (or_true any)
-          ∙ ap (λ b. any || (b || false)) (sym (eq-eqb x c here))
-      | inr other ↦ ap (λ b. cond b true any) (ne_eqb c x (λ e. other (sym e))) ∙ sym (or_false any)
-          ∙ ap (λ b. any || (b || false)) (sym (ne_eqb x c other))
-    ]
-  where
-    or_true : (b : Bool) → (b || true) ≡ true
-    or_true true = refl
-    or_true false = refl
+-- what either has that this holds of
+shared : (one other e : Bool) → ((one && e) || (other && e)) ≡ ((one || (other || false)) && e)
+shared true other true = refl
+shared true true false = refl
+shared true false false = refl
+shared false true e = refl
+shared false false e = refl
 
-    or_false : (b : Bool) → (b || false) ≡ b
-    or_false true = refl
-    or_false false = refl
+moved : (one other more : Bool) → ((one || other) || (more || false)) ≡ ((one || (more || false)) || other)
+moved true other more = refl
+moved false true true = refl
+moved false true false = refl
+moved false false true = refl
+moved false false false = refl
 
--- the set after one more of some coins
-pub grown-coins : (some all : List ℕ) (i x : ℕ) (own new : BTreeSet ℕ) → some ≡ all
+-- the set after one more of some coins, of those of which this holds
+pub grown-coins : (holds : ℕ → Bool) (some all : List ℕ) (i x : ℕ) (own new : BTreeSet ℕ) → some ≡ all
     → take (i + 1) some ≡ take i some ++ x ∷ []
-    → ((c : ℕ) → contains nat_cmp new c ≡ cond (is_at (nat_cmp x) c) true (contains nat_cmp own c))
-    → ((c : ℕ) → contains nat_cmp own c ≡ among c (take i all)) → (c : ℕ)
-    → contains nat_cmp new c ≡ among c (take (i + 1) all)
-grown-coins some all i x own new same next is had c =
-    grown x c (contains nat_cmp own c) (among c (take i some)) (contains nat_cmp new c) (is c)
-    (had c ∙ ap (λ (l : List ℕ). among c (take i l)) (sym same))
+    → ((c : ℕ) → contains nat_cmp new c ≡ (contains nat_cmp own c || ((x == c) && holds c)))
+    → ((c : ℕ) → contains nat_cmp own c ≡ (among c (take i all) && holds c)) → (c : ℕ)
+    → contains nat_cmp new c ≡ (among c (take (i + 1) all) && holds c)
+grown-coins holds some all i x own new same next is had c =
+    is c ∙ ap (λ b. b || ((x == c) && holds c)) (had c) ∙ shared (among c (take i all)) (x == c) (holds c)
+    ∙ ap (λ b. b && holds c)
+    (ap (λ (l : List ℕ). among c (take i l) || ((x == c) || false)) (sym same)
     ∙ sym (list_any-append (λ y. y == c) (take i some) (x ∷ [])) ∙ ap (among c) (sym next)
-    ∙ ap (λ (l : List ℕ). among c (take (i + 1) l)) same
+    ∙ ap (λ (l : List ℕ). among c (take (i + 1) l)) same)
 
 -- the set after one more of some notes
-pub grown-notes : (some all : List CoinTip) (i : ℕ) (x : CoinTip) (own new : BTreeSet ℕ) (deposits : List ℕ)
+pub grown-notes : (holds : ℕ → Bool) (some all : List CoinTip) (i : ℕ) (x : CoinTip) (own new : BTreeSet ℕ)
+    (deposits : List ℕ)
     → some ≡ all → take (i + 1) some ≡ take i some ++ x ∷ []
-    → ((c : ℕ) → contains nat_cmp new c ≡ cond (is_at (nat_cmp x.coin) c) true (contains nat_cmp own c))
-    → ((c : ℕ) → contains nat_cmp own c ≡ (noted c (take i all) || among c deposits)) → (c : ℕ)
-    → contains nat_cmp new c ≡ (noted c (take (i + 1) all) || among c deposits)
-grown-notes some all i x own new deposits same next is had c =
-    is c ∙ ap (cond (is_at (nat_cmp x.coin) c) true) (had c)
-    ∙ moved (is_at (nat_cmp x.coin) c) (noted c (take i all)) (among c deposits)
+    → ((c : ℕ) → contains nat_cmp new c ≡ (contains nat_cmp own c || ((x.coin == c) && holds c)))
+    → ((c : ℕ) → contains nat_cmp own c ≡ ((noted c (take i all) || among c deposits) && holds c)) → (c : ℕ)
+    → contains nat_cmp new c ≡ ((noted c (take (i + 1) all) || among c deposits) && holds c)
+grown-notes holds some all i x own new deposits same next is had c =
+    is c ∙ ap (λ b. b || ((x.coin == c) && holds c)) (had c)
+    ∙ shared (noted c (take i all) || among c deposits) (x.coin == c) (holds c)
+    ∙ ap (λ b. b && holds c)
+    (moved (noted c (take i all)) (among c deposits) (x.coin == c)
     ∙ ap (λ b. b || among c deposits)
-    (grown x.coin c (noted c (take i all)) (noted c (take i all)) _ refl refl
-    ∙ ap (λ (l : List CoinTip). noted c (take i l) || ((x.coin == c) || false)) (sym same)
+    (ap (λ (l : List CoinTip). noted c (take i l) || ((x.coin == c) || false)) (sym same)
     ∙ sym (list_any-append (λ note. note.coin == c) (take i some) (x ∷ [])) ∙ ap (noted c) (sym next)
-    ∙ ap (λ (l : List CoinTip). noted c (take (i + 1) l)) same)
-  where
-    moved : (b one other : Bool) → cond b true (one || other) ≡ (cond b true one || other)
-    moved true one other = refl
-    moved false one other = refl
+    ∙ ap (λ (l : List CoinTip). noted c (take (i + 1) l)) same))

@@ -1,12 +1,12 @@
 -- What a coin is to a wallet, by the wallet's notes, what its leaves bind, and the log.
-use Rattle.std.specs.Prelude.{ℕ, ◌==◌, ◌&&◌, ◌||◌, not, Bool, false, if◌then◌else◌, max, List, [], ◌∷◌, ◌++◌, length, map, filter, find, slice_get, Option, Some, None, is_some, is_none}
+use Rattle.std.specs.Prelude.{◌≡◌, true, ℕ, ◌==◌, ◌&&◌, ◌||◌, not, Bool, false, if◌then◌else◌, max, List, [], ◌∷◌, ◌++◌, length, map, filter, find, slice_get, Option, Some, None, is_some, is_none}
 use Rattle.std.specs.List.{list_any, range_with_len}
 use Rattle.std.specs.Option.{option_map_or}
 use Rattle.std.specs.Str.{bytes_eq}
 use Rattle.plasma_tx.specs.declared.owner.Owner.{Owner}
 use Rattle.plasma_tx.specs.declared.call.RootCall.{RootCall}
 use Rattle.plasma_tx.specs.declared.views.CoinView.{CoinView}
-use Rattle.plasma_tx.specs.Views.{coin_at, is_withdrawn, deposits_of}
+use Rattle.plasma_tx.specs.Views.{coin_at, is_withdrawn, is_exiting, deposits_of}
 use Rattle.wallet_core.specs.declared.notes.CoinTip.{CoinTip}
 use Rattle.wallet_core.specs.declared.notes.LeafRecord.{LeafRecord}
 use Rattle.wallet_core.specs.declared.notes.Notes.{Notes}
@@ -35,6 +35,12 @@ abbrev pub may_have : Notes → List RootCall → ℕ → Bool
 may_have notes log coin =
     list_any (λ note. note.coin == coin) notes.accepted
     || list_any (λ other. other == coin) (deposits_of log notes.me.account)
+
+-- an exit stands of a coin that the wallet accepted, or that its account deposited
+pub record HasOwnExit (notes : Notes) (log : List RootCall) : Type 0 where
+  pub coin : ℕ
+  pub own : may_have notes log coin ≡ true
+  pub exiting : is_exiting log coin ≡ true
 
 -- the greatest of some numbers
 unfoldable pub greatest : List ℕ → Option ℕ

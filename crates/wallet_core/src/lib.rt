@@ -7,6 +7,6 @@ mod laws;
 mod notes;
 
 pub use coin_state::{CoinState, state};
-pub use having::{other_coins_are_nothing, own_coins};
+pub use having::{other_coins_are_nothing, own_exiting};
 pub use laws::{a_state_is_its_sentence, kept_coins_are_held};
 pub use notes::{CoinTip, LeafNumbers, LeafRecord, Notes, Tips};

@@ -1,26 +1,22 @@
 -- What is due over all coins is due over those of which an exit stands.
-use Rattle.std.proofs.Common.{◌≡◌, ◌≢◌, ◌⊎◌, ◌<◌, ◌≤◌, ℕ, zero, suc, ◌+◌, ◌-◌, ◌^◌, ◌==◌, ◌||◌, Bool, true, false, List, [], ◌∷◌, ◌++◌, length, None, inl, inr, refl, sym, ◌∙◌, ap, arith}
-use Rattle.std.specs.Prelude.{min}
+use Rattle.std.proofs.Common.{◌≡◌, ◌⊎◌, ◌<◌, ◌≤◌, ℕ, zero, suc, ◌+◌, ◌==◌, ◌&&◌, Bool, true, false, List, [], ◌∷◌, ◌++◌, None, inl, inr, refl, sym, ◌∙◌, ap, arith}
 use Rattle.std.specs.List.{list_any, flat_map, range_with_len, AllByRecursion}
 use Rattle.std.specs.List.Sorted.{IsStrictlySortedBy}
 use Rattle.std.specs.Ordering.{nat_cmp}
 use Rattle.std.specs.BTreeSet.{BTreeSet, contains, IsOrdered}
 use Rattle.std.specs.declared.cmp.Ordering.TheVariants.{Less}
-use Rattle.std.proofs.lemmas.Bool.{cases_eq, eq-eqb, ne_eqb, or_from}
+use Rattle.std.proofs.lemmas.Bool.{cases_Bool, cases_eq, ne_eqb, or_from}
 use Rattle.std.proofs.lemmas.Bool.Decides.{nat_tests}
 use Rattle.plasma_tx.specs.declared.call.RootCall.{RootCall}
 use Rattle.plasma_tx.specs.declared.call.RootCall.TheVariants.{Deposit}
 use Rattle.plasma_tx.specs.declared.views.ExitView.{ExitView}
-use Rattle.plasma_tx.specs.Views.{coins, coin_at, deposits_of, exits, exits_of, has_exits, is_exiting}
+use Rattle.plasma_tx.specs.Views.{coins, coin_at, exits_of, has_exits, is_exiting}
 use Rattle.plasma_tx.proofs.States.{is_at-nat}
-use Rattle.wallet_core.specs.declared.notes.CoinTip.{CoinTip}
-use Rattle.wallet_core.specs.declared.notes.Notes.{Notes}
 use Rattle.wallet_core.specs.State.{state_of, may_have}
 use Rattle.wallet_core.proofs.OwnCoins.{others_are_nothing}
 use Rattle.node_rules.specs.WalletRecords.{leaves_in}
 use Rattle.node_rules.specs.Wallet.{WalletRecords, noted, coin_state, due_in, watch_answer}
-use Rattle.wallet_node.specs.State.{HasToLook}
-use Rattle.wallet_node.specs.Inside.{due_of_coin}
+use Rattle.wallet_node.specs.Inside.{due_of_coin, is_watched}
 use Rattle.wallet_node.proofs.Spends.{due-none}
 
 -- ---- rising numbers, and a range
@@ -144,77 +140,31 @@ unfolding coin_state
 other-due dig wallet log coin other =
     ap (due_in dig wallet log coin) (others_are_nothing (noted dig wallet) (leaves_in wallet.leaves) log coin other)
 
+both-false : (one other : Bool) → (one && other) ≡ false → (one ≡ false) ⊎ (other ≡ false)
+both-false true other is = inr is
+both-false false other is = inl refl
+
 pub watched-own : (dig : List ℕ → List ℕ) (wallet : WalletRecords) (log : List RootCall) (own : BTreeSet ℕ)
-    → ((c : ℕ) → contains nat_cmp own c ≡ may_have (noted dig wallet) log c) → IsOrdered nat_cmp own
+    → ((c : ℕ) → contains nat_cmp own c ≡ (may_have (noted dig wallet) log c && is_exiting log c))
+    → IsOrdered nat_cmp own
     → flat_map (due_of_coin dig wallet log) own.keys ≡ watch_answer dig wallet log
 watched-own dig wallet log own exactly rising =
-    watched-but dig wallet log own (λ c none. other-due dig wallet log c (sym (exactly c) ∙ none)) rising
+    watched-but dig wallet log own
+    (λ c none. elim (both-false (may_have (noted dig wallet) log c) (is_exiting log c) (sym (exactly c) ∙ none)) [
+      | inl other ↦ other-due dig wallet log c other
+      | inr still ↦ still-due dig wallet log c still
+    ])
+    rising
 
--- ---- nothing to look at, and something
+-- ---- what memory is taken for
 
-nothing-from : {X : Type 0} (f : ℕ → List X) (xs : List ℕ) → ((c : ℕ) → f c ≡ []) → flat_map f xs ≡ []
-nothing-from f [] none = refl
-nothing-from f (x ∷ xs) none = ap (λ l. l ++ flat_map f xs) (none x) ∙ nothing-from f xs none
-
-may-none : (notes : Notes) (log : List RootCall) (c : ℕ) → notes.accepted ≡ []
-    → deposits_of log notes.me.account ≡ [] → may_have notes log c ≡ false
-may-none notes log c no_tips no_deposits =
-    ap (λ (l : List CoinTip). list_any (λ note. note.coin == c) l
-    || list_any (λ other. other == c) (deposits_of log notes.me.account)) no_tips
-    ∙ ap (λ (l : List ℕ). list_any (λ other. other == c) l) no_deposits
-
--- nothing is due where the wallet may have no coin
-pub watched-none : (dig : List ℕ → List ℕ) (wallet : WalletRecords) (log : List RootCall)
-    → (noted dig wallet).accepted ≡ [] → deposits_of log (noted dig wallet).me.account ≡ []
-    → watch_answer dig wallet log ≡ []
-unfolding watch_answer
-watched-none dig wallet log no_tips no_deposits =
-    nothing-from (due_of_coin dig wallet log) (range_with_len 1 (coins log))
-    (λ c. other-due dig wallet log c (may-none (noted dig wallet) log c no_tips no_deposits))
-
-none-among : (xs : List ℕ) → ((c : ℕ) → among xs c ≡ false) → xs ≡ []
-none-among [] none = refl
-none-among (x ∷ xs) none =
-    absurd (let wrong : true ≡ false = sym (ap (λ b. b || among xs x) (eq-eqb x x refl)) ∙ none x in cc wrong)
-
-none-exiting : (log : List RootCall) (c : ℕ) → exits log ≡ [] → is_exiting log c ≡ false
-unfolding exits_of
-none-exiting log c none = rw none refl
-
--- where a coin is exiting, an exit stands
-pub exits-some : (log : List RootCall) (exiting : BTreeSet ℕ)
-    → ((c : ℕ) → contains nat_cmp exiting c ≡ is_exiting log c) → exiting.keys ≢ [] → exits log ≢ []
-exits-some log exiting exactly some none =
-    some
-    (none-among exiting.keys
-    (λ c. sym (λ i. list_any (λ coin. is_at-nat c coin i) exiting.keys) ∙ exactly c ∙ none-exiting log c none))
-
--- how many coins the wallet may have, with which a count ends at 2^64
-pub own-none : (count : ℕ) (accepted : List CoinTip) (deposits : List ℕ)
-    → count ≡ min (length accepted + length deposits) (2 ^ 64 - 1) → count ≡ 0 → (accepted ≡ []) × (deposits ≡ [])
-own-none count [] [] total zero_is = (refl, refl)
-own-none count (note ∷ accepted) deposits total zero_is = absurd (omega (arith, total, zero_is))
-own-none count [] (coin ∷ deposits) total zero_is = absurd (omega (arith, total, zero_is))
-
-own-some : (count : ℕ) (accepted : List CoinTip) (deposits : List ℕ)
-    → count ≡ min (length accepted + length deposits) (2 ^ 64 - 1) → (count ≡ 0 → ⊥)
-    → (accepted ≢ []) ⊎ (deposits ≢ [])
-own-some count [] [] total some = absurd (some (omega (arith, total)))
-own-some count (note ∷ accepted) deposits total some = inl (λ wrong. cc wrong)
-own-some count [] (coin ∷ deposits) total some = inr (λ wrong. cc wrong)
-
-pub has-to-look : (dig : List ℕ → List ℕ) (wallet : WalletRecords) (log : List RootCall) (exiting : BTreeSet ℕ)
-    (notes : Notes) (accepted : List CoinTip) (deposits : List ℕ) (count : ℕ)
-    → ((c : ℕ) → contains nat_cmp exiting c ≡ is_exiting log c) → length exiting.keys ≢ 0
-    → notes ≡ noted dig wallet → accepted ≡ notes.accepted → deposits ≡ deposits_of log notes.me.account
-    → count ≡ min (length accepted + length deposits) (2 ^ 64 - 1) → (count ≡ 0 → ⊥)
-    → HasToLook dig wallet log
-has-to-look dig wallet log exiting notes accepted deposits count exactly some notes_are accepted_are deposits_are total
-    counted = record {
-      standing = exits-some log exiting exactly (λ none. some (ap length none));
-      own = elim (own-some count accepted deposits total counted) [
-        | inl took ↦ inl (λ none. took (accepted_are ∙ ap (λ (n : Notes). n.accepted) notes_are ∙ none))
-        | inr gave ↦
-            inr (λ none. gave (deposits_are ∙ ap (λ (n : Notes). deposits_of log n.me.account) notes_are ∙ none))
-      ];
-    }
+-- a wallet may have a coin that it holds or leaves with
+pub watched-may : (dig : List ℕ → List ℕ) (wallet : WalletRecords) (log : List RootCall) (coin : ℕ)
+    → is_watched (coin_state dig wallet log coin) ≡ true → may_have (noted dig wallet) log coin ≡ true
+unfolding coin_state
+watched-may dig wallet log coin watched = elim (cases_Bool (may_have (noted dig wallet) log coin)) [
+  | inl may ↦ may
+  | inr other ↦
+      absurd (let wrong : false ≡ true = sym (ap is_watched
+      (others_are_nothing (noted dig wallet) (leaves_in wallet.leaves) log coin other)) ∙ watched in cc wrong)
+]

@@ -27,6 +27,8 @@ use Rattle.leaf_journal.specs.declared.refusal.MigrateRefusal.{MigrateRefusal}
 use Rattle.leaf_journal.specs.declared.refusal.MigrateRefusal.TheVariants.{AlreadyNew as IsNew, DeviceFault as MigrateFault, Closed as MigrateClosed}
 use Rattle.wallet_core.specs.declared.notes.LeafRecord.{LeafRecord}
 use Rattle.wallet_core.specs.declared.notes.Notes.{Notes}
+use Rattle.wallet_core.specs.declared.coin_state.CoinState.{CoinState}
+use Rattle.wallet_core.specs.declared.coin_state.CoinState.TheVariants.{Held, Leaving}
 use Rattle.node_rules.specs.declared.kept_coin.KeptCoin.{KeptCoin}
 use Rattle.node_rules.specs.KeptCoins.{kept_coin_of}
 use Rattle.node_rules.specs.declared.identity.WalletIdentity.{WalletIdentity}
@@ -37,7 +39,7 @@ use Rattle.node_rules.specs.Kept.{chain_of}
 use Rattle.node_rules.specs.Wallet.{WalletRecords, kept_at, coin_state, due_in}
 use Rattle.node_rules.specs.WalletOpening.{are_bound}
 use Rattle.wallet_node.specs.declared.memory.Undo.{Undo}
-use Rattle.wallet_node.specs.declared.memory.Undo.TheVariants.{Coin, Leaving, Reclaimed}
+use Rattle.wallet_node.specs.declared.memory.Undo.TheVariants.{Coin, Leaving as LeavesAgain, Reclaimed}
 use Rattle.wallet_node.specs.declared.change.Change.{Change}
 use Rattle.wallet_node.specs.declared.change.Change.TheVariants.{Accepts as TakesUp, LeavesWith as Leaves, Reclaims as TakesBack}
 
@@ -71,7 +73,7 @@ undone Coin memory = record {
   noted = record memory.noted { accepted = take (length memory.noted.accepted - 1) memory.noted.accepted };
   kept = take (length memory.kept - 1) memory.kept;
 }
-undone Leaving memory = record memory {
+undone LeavesAgain memory = record memory {
   noted = record memory.noted { leaving = take (length memory.noted.leaving - 1) memory.noted.leaving };
 }
 undone (Reclaimed numbers) memory = record memory { noted = record memory.noted { reclaimed = numbers } }
@@ -101,6 +103,12 @@ is_bound_change bodies change = true
 -- what is due for a coin
 abbrev pub due_of_coin : (List ℕ → List ℕ) → WalletRecords → List RootCall → ℕ → List RootCall
 due_of_coin dig wallet log coin = due_in dig wallet log coin (coin_state dig wallet log coin)
+
+-- the wallet holds the coin or leaves with it, by what it is to the wallet
+abbrev pub is_watched : CoinState → Bool
+is_watched (Held tip) = true
+is_watched (Leaving tip) = true
+is_watched _ = false
 
 -- what a wallet keeps in memory beside its records
 pub record IsKept (dig : List ℕ → List ℕ) (records : WalletRecords) (who : WalletIdentity) (secret : Secret)

@@ -1,14 +1,12 @@
 -- What callers see of a wallet, what stops its commands, and what they do to its two disks.
-use Rattle.std.specs.Prelude.{◌≡◌, ◌≢◌, ◌⊎◌, ℕ, Bool, List, [], Option, Some, None, Result, Ok, Err}
+use Rattle.std.specs.Prelude.{◌≡◌, ℕ, Bool, List, Option, Some, None, Result, Ok, Err}
 use Rattle.crash_disk.specs.Disk.{History, FaultPlan}
 use Rattle.node_journal.specs.Notes.{NotesState, Did}
 use Rattle.node_journal.specs.declared.stop.Stop.{Stop}
 use Rattle.node_journal.specs.declared.stop.Stop.TheVariants.{Closed, NoMemory, DeviceFault}
 use Rattle.node_rules.specs.declared.refusal.WalletRefusal.{WalletRefusal}
 use Rattle.node_rules.specs.declared.refusal.WalletRefusal.TheVariants.{Closed as RefusedClosed, NoMemory as RefusedMemory, DeviceFault as RefusedFault}
-use Rattle.plasma_tx.specs.declared.call.RootCall.{RootCall}
-use Rattle.plasma_tx.specs.Views.{deposits_of, exits}
-use Rattle.node_rules.specs.Wallet.{WalletRecords, noted}
+use Rattle.node_rules.specs.Wallet.{WalletRecords}
 
 -- a wallet: the disks of its notes and of its leaves, whether a device fault closed it, its records, and the digest
 -- that it was opened with
@@ -37,12 +35,6 @@ stop_in why = None
 abbrev pub wallet_stop : {T : Type 0} → Result T WalletRefusal → Option Stop
 wallet_stop (Ok done) = None
 wallet_stop (Err why) = stop_in why
-
--- A wallet has something to look at in a log: an exit stands, and the wallet took a coin up, or its account deposited
--- one.
-pub record HasToLook (dig : List ℕ → List ℕ) (wallet : WalletRecords) (log : List RootCall) : Type 0 where
-  pub standing : exits log ≢ []
-  pub own : ((noted dig wallet).accepted ≢ []) ⊎ (deposits_of log (noted dig wallet).me.account ≢ [])
 
 -- over disks that tell their history, foretell their faults and count them
 module _ {D H : Type 0} (told : D → Option History) (plan : D → Option FaultPlan) (faults : D → ℕ) where

@@ -1,10 +1,13 @@
-ghost use Rattle.std.specs.Prelude.{◌≡◌, ◌++◌, true, is_some, None, Err, IfOk, OnOk, OnErr};
+ghost use Rattle.std.specs.Prelude.{◌≡◌, ◌++◌, ℕ, true, is_some, None, Err, IfOk, OnOk, OnErr};
 ghost use Rattle.std.specs.List.{flat_map};
+ghost use Rattle.std.specs.Ordering.{nat_cmp};
+ghost use Rattle.std.specs.BTreeSet.{contains};
 ghost use Rattle.plasma_tx.specs.Views.{coin_at};
 ghost use Rattle.watch_duty.specs.Duty.{tip_shown};
-ghost use Rattle.node_rules.specs.Wallet.{start_of, exit_start, due_at, noted, watch_answer};
-ghost use Rattle.wallet_node.specs.State.{wallet_stop, HasToLook};
-ghost use Rattle.wallet_node.specs.Inside.{links_behind, spends_at, due_of_coin};
+ghost use Rattle.wallet_core.specs.State.{HasOwnExit, may_have};
+ghost use Rattle.node_rules.specs.Wallet.{start_of, exit_start, coin_state, due_at, noted, watch_answer};
+ghost use Rattle.wallet_node.specs.State.{wallet_stop};
+ghost use Rattle.wallet_node.specs.Inside.{links_behind, spends_at, due_of_coin, is_watched};
 
 use super::node::WalletNode;
 use crash_disk::Disk;
@@ -12,7 +15,7 @@ use node_rules::WalletRefusal;
 use plasma_base::{Hash32, NoMemory};
 use plasma_tx::{Link, RootCall, RootLog, Shown};
 use std::collections::BTreeSet;
-use wallet_core::{CoinState, Notes, own_coins};
+use wallet_core::{CoinState, Notes, own_exiting};
 use watch_duty::push_due;
 
 // What shows the block that the links end at, behind this deposit block.
@@ -102,10 +105,12 @@ impl<D: Disk, H: Hash32 + Copy> WalletNode<D, H> {
         Ok(())
     }
 
-    // Adds what is due for a coin.
+    // Adds what is due for a coin. It takes memory only for one that the wallet holds or leaves with.
     fn push_for(&self, log: &RootLog, coin: u64, calls: &mut Vec<RootCall>) -> Result<(), NoMemory>
-        ensures { OnOk result (calls.new.items ≡ calls.old.items
+        ensures calls { OnOk result (calls.new.items ≡ calls.old.items
             ++ due_of_coin (H.digest_of self.now.hash) self.now.records log.now.log coin) }
+        ensures memory { OnErr result
+            (is_watched (coin_state (H.digest_of self.now.hash) self.now.records log.now.log coin) ≡ true) }
     {
         match self.state(log, coin) {
             CoinState::Held { tip } => self.push_at(log, coin, tip, calls),
@@ -123,8 +128,10 @@ impl<D: Disk, H: Hash32 + Copy> WalletNode<D, H> {
 
     // What is due for these coins, in their order.
     fn due_for(&self, log: &RootLog, coins: &BTreeSet<u64>) -> Result<Vec<RootCall>, NoMemory>
-        ensures { IfOk result (λ calls. calls.items
+        ensures calls { IfOk result (λ calls. calls.items
             ≡ flat_map (due_of_coin (H.digest_of self.now.hash) self.now.records log.now.log) coins.now.keys) }
+        ensures memory { OnErr result ((coin : ℕ) × (contains nat_cmp coins.now coin ≡ true)
+            × (may_have (noted (H.digest_of self.now.hash) self.now.records) log.now.log coin ≡ true)) }
     {
         let mut calls = Vec::new(self.alloc);
         for coin in coins {
@@ -135,23 +142,20 @@ impl<D: Disk, H: Hash32 + Copy> WalletNode<D, H> {
 
     /// What is due for the coins that the wallet holds or leaves with, by rising coin, for its account. It
     /// reads no record anew, and makes no device call, also after a device fault. It asks the coins of which an
-    /// exit stands, or those that the wallet may have, whichever are fewer. Where there are none of the former or
-    /// none of the latter it takes no memory.
+    /// exit stands, or of those that the wallet may have those of which one stands, whichever are fewer to look at.
+    /// Where no exit stands of a coin that the wallet may have it takes no memory.
     pub fn watch(&self, log: &RootLog) -> Result<Vec<RootCall>, NoMemory>
         ensures calls { IfOk result (λ calls. calls.items
             ≡ watch_answer (H.digest_of self.now.hash) self.now.records log.now.log) }
-        ensures memory { OnErr result (HasToLook (H.digest_of self.now.hash) self.now.records log.now.log) }
+        ensures memory { OnErr result
+            (HasOwnExit (noted (H.digest_of self.now.hash) self.now.records) log.now.log) }
     {
         let noted = self.noted();
         let exiting = log.exiting();
         let accepted = noted.accepted.as_slice().len();
         let deposited = log.deposits(noted.me.account).len();
-        let count = accepted.saturating_add(deposited);
-        if count == 0 || exiting.is_empty() {
-            return Ok(Vec::new(self.alloc));
-        }
-        if count < exiting.len() {
-            let own = own_coins(self.alloc, noted, log)?;
+        if accepted.saturating_add(deposited) < exiting.len() {
+            let own = own_exiting(self.alloc, noted, log)?;
             return self.due_for(log, &own);
         }
         self.due_for(log, exiting)
