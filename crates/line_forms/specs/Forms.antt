@@ -1,6 +1,7 @@
 -- Tables of forms: which words a form has, what they spell, and how a value is spelled.
-use Rattle.std.specs.Prelude.{ℕ, List, [], ◌∷◌, ◌++◌, Option, Some, None, option_and_then, option_map, if◌then◌else◌}
+use Rattle.std.specs.Prelude.{ℕ, Bool, false, List, [], ◌∷◌, ◌++◌, Option, Some, None, option_and_then, option_map, if◌then◌else◌}
 use Rattle.std.specs.Map.{lookup}
+use Rattle.std.specs.Option.{option_map_or}
 use Rattle.std.specs.Str.{bytes_eq}
 use Rattle.line_forms.specs.Words.{words_of, line_of_words, is_end}
 
@@ -116,6 +117,11 @@ abbrev pub take_form : {N B : Type 0} → Table N B → List (List ℕ) → Opti
 take_form table [] = None
 take_form table (word ∷ words) =
     option_and_then (λ name. takes (table.row name) words) (lookup (bytes_eq word) table.names)
+
+-- whether the first word is the name of a form of which this holds
+abbrev pub begins_as : {N B : Type 0} → Table N B → (N → Bool) → List (List ℕ) → Bool
+begins_as table holds [] = false
+begins_as table holds (word ∷ words) = option_map_or holds (lookup (bytes_eq word) table.names) false
 
 -- what was spelled, where no word is left
 abbrev pub whole : {B : Type 0} → Option (B × List (List ℕ)) → Option B

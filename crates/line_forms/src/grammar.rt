@@ -1,6 +1,6 @@
-ghost use Rattle.std.specs.Prelude.{◌≡◌, ℕ, false, List, ◌++◌, length, take, Some, None, Err, IfOk, OnOk, OnErr};
+ghost use Rattle.std.specs.Prelude.{◌≡◌, ℕ, Bool, true, false, List, ◌++◌, length, take, Some, None, Err, IfOk, OnOk, OnErr};
 ghost use Rattle.line_forms.specs.Words.{words_of, line_of_words, trailed};
-ghost use Rattle.line_forms.specs.Forms.{Table, Parts, AreParts, words_of_parts, take_form, value_in, text_of};
+ghost use Rattle.line_forms.specs.Forms.{Table, Parts, AreParts, words_of_parts, take_form, begins_as, value_in, text_of};
 ghost use Rattle.line_forms.specs.Laws.{IsTable};
 
 use super::refusal::LineRefusal;
@@ -19,10 +19,14 @@ pub trait Grammar {
     /// A value as a row of the table, and its tokens.
     ghost parts: { Self → Parts Self.Name Self table };
 
+    /// Whether the words of a form may have a name or bytes: only these take memory to be read.
+    ghost has_bytes: { Self.Name → Bool };
+
     /// Takes the next words as a value. It refuses `BadLine` exactly where they spell none.
     fn take(alloc: Global, words: &mut Words<'_>) -> Result<Self, LineRefusal>
         ensures found { IfOk result (λ value. take_form table words.old ≡ Some (value, words.new)) }
-        ensures bad { result ≡ Err LineRefusal.BadLine → take_form table words.old ≡ None };
+        ensures bad { result ≡ Err LineRefusal.BadLine → take_form table words.old ≡ None }
+        ensures memory { result ≡ Err LineRefusal.NoMemory → begins_as table has_bytes words.old ≡ true };
 
     /// Puts the words of the value at the end, a blank after each. Where memory runs out some of them
     /// may stand there.
@@ -32,11 +36,13 @@ pub trait Grammar {
 }
 
 /// The value that a line spells, without a line feed. It refuses `BadLine` exactly where it spells
-/// none. By a lawful table only values in the grammar are spelled.
+/// none, and takes memory only where its first word begins a form that may have a name or bytes. By a
+/// lawful table only values in the grammar are spelled.
 #[tactic(auto, unfolding(crate::specs::Forms::value_in))]
 pub fn read<G: Grammar + Drop>(alloc: Global, line: &[u8]) -> Result<G, LineRefusal>
     ensures found { IfOk result (λ value. value_in G.table line.now ≡ Some value) }
     ensures bad { result ≡ Err LineRefusal.BadLine → value_in G.table line.now ≡ None }
+    ensures memory { result ≡ Err LineRefusal.NoMemory → begins_as G.table G.has_bytes (words_of line.now) ≡ true }
     ensures grammar { IsTable false G.Name G G.table G.parts → IfOk result (λ value. AreParts G.table (G.parts value)) }
 {
     let mut words = Words::of(line);

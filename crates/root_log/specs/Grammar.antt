@@ -1,10 +1,11 @@
 -- The lines of a log: the one spelling of the first line and of each call, and what bytes spell.
-use Rattle.std.specs.Prelude.{ℕ, List, [], ◌∷◌, map, codes, Option, option_map, option_and_then}
-use Rattle.line_forms.specs.Forms.{Form, named, Table, Parts, of, ends, ◌▸◌, AreParts, text_of, value_in}
+use Rattle.std.specs.Prelude.{◌≡◌, ◌⊎◌, ℕ, Bool, true, List, [], ◌∷◌, map, codes, Option, IsSome, option_map, option_and_then}
+use Rattle.line_forms.specs.Forms.{Form, named, Table, Parts, of, ends, ◌▸◌, AreParts, begins_as, text_of, value_in}
+use Rattle.line_forms.specs.Words.{words_of}
 use Rattle.line_forms.specs.Tokens.{number, number_within, hex_of}
 use Rattle.plasma_tx.specs.declared.call.RootCall.{RootCall}
 use Rattle.plasma_tx.specs.Chain.{Chain, with_log}
-use Rattle.schedule_text.specs.Grammar.{IsLine, line_text, line_in}
+use Rattle.schedule_text.specs.Grammar.{IsLine, begins_with_bytes, line_text, line_in}
 use Rattle.root_log.specs.declared.first_line.FirstLine.{FirstLine}
 use Rattle.root_log.specs.declared.first_line.FirstName.{FirstName}
 use Rattle.root_log.specs.declared.first_line.TheConstants.{FIRST_NAMES, TAG_BYTES, MOST_BLOCKS}
@@ -27,6 +28,11 @@ call_in bytes = option_and_then call_of_line (line_in bytes)
 -- the chain with the call that bytes spell as its newest
 abbrev pub appended : Chain → List ℕ → Option Chain
 appended chain bytes = option_map (λ call. with_log chain (call ∷ chain.log)) (call_in bytes)
+
+-- a line that takes memory to be read into a log: its first word begins a form that may have a name or bytes, or it
+-- spells a call
+abbrev pub TakesMemory : List ℕ → Type 0
+TakesMemory bytes = (begins_with_bytes bytes ≡ true) ⊎ IsSome (call_in bytes)
 
 -- ---- the first line
 
@@ -67,3 +73,7 @@ chain_text chain = text_of first_lines (first_parts (first_of chain))
 -- the chain without calls that bytes spell as a first line, if they spell one
 unfoldable pub chain_in : List ℕ → Option Chain
 chain_in bytes = option_map chain_of (value_in first_lines bytes)
+
+-- whether the first word of a line is `chain`
+abbrev pub begins_as_chain : List ℕ → Bool
+begins_as_chain bytes = begins_as first_lines (λ _. true) (words_of bytes)

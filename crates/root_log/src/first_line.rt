@@ -50,6 +50,7 @@ fn first_of(alloc: Global, name: FirstName, words: &mut Words<'_>) -> Result<Fir
 }
 
 impl Grammar for FirstLine {
+    ghost use Rattle.std.specs.Prelude.{true};
     ghost use Rattle.root_log.specs.Grammar.{first_lines, first_parts};
 
     type Name = FirstName;
@@ -57,6 +58,8 @@ impl Grammar for FirstLine {
     ghost table = { first_lines };
 
     ghost parts = { first_parts };
+
+    ghost has_bytes = { λ _. true };
 
     fn take(alloc: Global, words: &mut Words<'_>) -> Result<FirstLine, LineRefusal> {
         let word = words.next().ok_or(LineRefusal::BadLine)?;

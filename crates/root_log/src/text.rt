@@ -1,7 +1,8 @@
-ghost use Rattle.std.specs.Prelude.{◌≡◌, ◌≤◌, [], ◌++◌, Some, None, Err, IfOk, OnOk, OnErr};
+ghost use Rattle.std.specs.Prelude.{◌≡◌, ◌≤◌, true, [], ◌++◌, Some, None, Err, IfOk, OnOk, OnErr};
 ghost use Rattle.line_forms.specs.Tokens.{AreBytes};
 ghost use Rattle.plasma_tx.specs.Chain.{with_log};
-ghost use Rattle.root_log.specs.Grammar.{call_in, call_text, chain_in, chain_text, IsLogChain, appended};
+ghost use Rattle.schedule_text.specs.Grammar.{begins_with_bytes};
+ghost use Rattle.root_log.specs.Grammar.{call_in, call_text, chain_in, chain_text, IsLogChain, appended, TakesMemory, begins_as_chain};
 
 use super::calls::call_of_line;
 use super::first_line::{FirstLine, MOST_BLOCKS};
@@ -13,11 +14,13 @@ use std::alloc::Global;
 
 /// The empty log of the chain that the first line of a log names, without a line feed:
 /// `chain <hex of 32 bytes> <operator> <most>`, where `most` is from 1 to `MOST_BLOCKS`. Unless memory
-/// runs out it refuses `BadEvent` exactly where the line isn't in the grammar.
+/// runs out it refuses `BadEvent` exactly where the line isn't in the grammar; it takes memory only where
+/// the first word is `chain`.
 #[tactic(auto, unfolding(crate::specs::Grammar::chain_in))]
 pub fn read_chain(alloc: Global, line: &[u8]) -> Result<RootLog, LogRefusal>
     ensures found { IfOk result (λ log. chain_in line.now ≡ Some log) }
     ensures bad { result ≡ Err LogRefusal.BadEvent → chain_in line.now ≡ None }
+    ensures memory { result ≡ Err LogRefusal.NoMemory → begins_as_chain line.now ≡ true }
     ensures grammar { IfOk result IsLogChain }
 {
     let first: FirstLine = line_forms::read(alloc, line)?;
@@ -50,11 +53,13 @@ fn each_has_eight_bits(bytes: &[u8])
 {}
 
 /// The call that a line spells, without a line feed: a `fund`, `tick` or `call` line of a schedule with each
-/// key and each opening a hex. `BadEvent` where the line is none; it takes the memory of the call.
+/// key and each opening a hex. `BadEvent` where the line is none; it takes the memory of the call, and of a name or
+/// bytes in a line of another kind.
 #[tactic(auto, unfolding(crate::specs::Grammar::call_in))]
 pub fn read_call(alloc: Global, line: &[u8]) -> Result<RootCall, LogRefusal>
     ensures found { IfOk result (λ call. call_in line.now ≡ Some call) }
     ensures bad { result ≡ Err LogRefusal.BadEvent → call_in line.now ≡ None }
+    ensures memory { result ≡ Err LogRefusal.NoMemory → begins_with_bytes line.now ≡ true }
 {
     let line = schedule_text::read(alloc, line)?;
     call_of_line(line).ok_or(LogRefusal::BadEvent)
@@ -63,10 +68,12 @@ pub fn read_call(alloc: Global, line: &[u8]) -> Result<RootCall, LogRefusal>
 /// Appends the call that a line spells, without a line feed: a `fund`, `tick` or `call` line of a
 /// schedule with each key and each opening a hex. The log takes it at its word, so any call is
 /// appended, also one that no contract accepted. Unless memory runs out it refuses `BadEvent` exactly
-/// where the line isn't in the grammar; a refusal leaves the log as it was.
+/// where the line isn't in the grammar, and memory is taken only for a call, or where the first word begins a
+/// form that may have a name or bytes; a refusal leaves the log as it was.
 pub fn read_line(alloc: Global, log: &mut RootLog, line: &[u8]) -> Result<(), LogRefusal>
     ensures ok { OnOk result (appended log.old line.now ≡ Some log.new) }
     ensures bad { result ≡ Err LogRefusal.BadEvent → call_in line.now ≡ None }
+    ensures memory { result ≡ Err LogRefusal.NoMemory → TakesMemory line.now }
     ensures err { OnErr result (log.new ≡ log.old) }
 {
     let call = read_call(alloc, line)?;

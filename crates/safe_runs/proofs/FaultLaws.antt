@@ -120,6 +120,25 @@ module _ (status : Status) (before after : Option (List ℕ)) where
   refused-read Reads why ends reads =
       reads-by Reads (refused_output why) status before after ⊥ ends (subst Reads (no-read why) reads)
 
+-- a refusal for another cause than a device fault met none
+pub refused-unmet : (Met : Bool → Type 0) (why : JournalRefusal) → (why ≡ JournalFault → ⊥)
+    → Met (is_device_fault why) → Met false
+refused-unmet Met JournalFault never met = absurd (never refl)
+refused-unmet Met (JournalPlace place) never met = met
+refused-unmet Met JournalNoMemory never met = met
+refused-unmet Met JournalClosed never met = met
+refused-unmet Met (JournalMade size) never met = met
+refused-unmet Met (JournalLong size) never met = met
+
+-- lines that a fault of the source didn't end met none
+pub ended-unmet : (Reads : Bool → Type 0) (ending : Ending (List ℕ)) → (ending ≡ ReadFaultEnding → ⊥)
+    → Reads (is_read_fault (Ok ending)) → Reads false
+ended-unmet Reads Complete never reads = reads
+ended-unmet Reads (BadLineEnding n) never reads = reads
+ended-unmet Reads ReadFaultEnding never reads = absurd (never refl)
+ended-unmet Reads (TooLongEnding n) never reads = reads
+ended-unmet Reads (Ended n cause) never reads = reads
+
 -- an image that isn't taken for a node's is no fault
 pub no-fault : (read : Result Node ℕ) (why : JournalRefusal) → IsRefused read why → is_device_fault why ≡ false
 no-fault read JournalFault never = absurd never

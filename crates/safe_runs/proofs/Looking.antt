@@ -169,20 +169,21 @@ module _ (node : Node) (run : LookState) where
   status-complete (TooLong n) is = absurd (cc)
   status-complete (Ended n cause) is = absurd (cc)
 
-  pub text-other : (ending : Ending (List ℕ)) → is_complete ending ≡ false → last_text ending ≡ text_of ending
-  text-other Complete is = absurd (cc)
-  text-other (BadLine n) is = refl
-  text-other ReadFault is = refl
-  text-other (TooLong n) is = refl
-  text-other (Ended n cause) is = refl
-
-  pub status-other : (ending : Ending (List ℕ)) → is_complete ending ≡ false
-      → (ended_output node run ending).status ≡ status_of ending
-  status-other Complete is = absurd (cc)
-  status-other (BadLine n) is = refl
-  status-other ReadFault is = refl
-  status-other (TooLong n) is = refl
-  status-other (Ended n cause) is = refl
+  -- where the lines weren't read to their end, nothing is said behind the text but the last line
+  pub ends-other : (ending : Ending (List ℕ)) (status : Status) (text : List ℕ) (before after : Option (List ℕ))
+      → is_complete ending ≡ false
+      → EndsAs (record { status = status_of ending; answers = text; last = last_text ending }) status before after
+      (Unit {0})
+      → EndsAs (record {
+        status = (ended_output node run ending).status;
+        answers = text ++ (ended_output node run ending).answers;
+        last = (ended_output node run ending).last;
+      }) status before after (Unit {0})
+  ends-other Complete status text before after is ends = absurd (cc is)
+  ends-other (BadLine n) status text before after is ends = rw append-nil ends
+  ends-other ReadFault status text before after is ends = rw append-nil ends
+  ends-other (TooLong n) status text before after is ends = rw append-nil ends
+  ends-other (Ended n cause) status text before after is ends = rw append-nil ends
 
   -- the status of cases
   pub status-said : (good : Bool)

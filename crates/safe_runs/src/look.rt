@@ -5,6 +5,7 @@ ghost use Rattle.streamed_lines.specs.Outside.{ReadsToFault};
 ghost use Rattle.streamed_lines.specs.declared.ending.Ending.{Ending};
 ghost use Rattle.run_endings.specs.Statuses.{is_write_fault, ReadsBy};
 ghost use Rattle.run_endings.specs.Outputs.{EndsAs};
+ghost use Rattle.run_endings.specs.Endings.{status_of, last_text};
 ghost use Rattle.safe_runs.specs.Sessions.{LookState};
 ghost use Rattle.safe_runs.specs.Inside.{is_complete};
 ghost use Rattle.safe_runs.specs.Runs.{Node, Looks, ended_output, refused_output, whole_output};
@@ -15,7 +16,7 @@ use super::session::LookSession;
 use gate_journal::JournalRefusal;
 use plasma_base::{Bytes, NoMemory};
 use plasma_outside::{Sink, Source};
-use run_endings::{Status, push_last, push_not_journal, put_line, status_of};
+use run_endings::{Status, push_not_journal, put_last, put_line, status_of};
 use std::alloc::Global;
 use streamed_lines::{Answerer, Break, Ending, answer_lines, put_text};
 
@@ -37,6 +38,8 @@ pub fn run_look<N: Holder, S: Source, K: Sink>(
         (ReadsToFault (S.faults source.old) (S.faults source.new) (S.failed_last source.new) true) result }
     ensures source_faults { (at : Node) → N.is node.now at → ReadsBy result
         (ReadsToFault (S.faults source.old) (S.faults source.new) (S.failed_last source.new)) }
+    ensures source_memory { K.takes_memory ≡ false → result ≡ Status.NoMemory
+        → ReadsToFault (S.faults source.old) (S.faults source.new) (S.failed_last source.new) false }
     ensures sink_faults { K.faults sink.new ≡ faults_after (K.faults sink.old) (is_write_fault result) }
 {
     let mut session = LookSession::new(alloc, node.tag());
@@ -65,11 +68,30 @@ fn put_ended<N: Holder, K: Sink>(
           answers = text.old.items ++ (ended_output at run ending.now).answers;
           last = (ended_output at run ending.now).last;
         }) result (K.taken sink.old) (K.taken sink.new) (Unit {0}) }
+    ensures memory { ending.now ≡ Ending.ReadFault → result ≡ Status.NoMemory → K.takes_memory ≡ true }
     ensures sink_faults { K.faults sink.new ≡ faults_after (K.faults sink.old) (is_write_fault result) }
 {
-    match end_text(alloc, node, session, ending, text) {
+    if !is_complete(ending) {
+        return put_stopped(sink, text, ending);
+    }
+    match say_all(alloc, node, session, text) {
         Ok(status) => put_whole(sink, text, status),
         Err(NoMemory) => Status::NoMemory,
+    }
+}
+
+// Puts the gathered text, and behind it the last line of a run whose lines weren't read to their end. A fault of the
+// source isn't told as want of memory unless the sink wants some.
+fn put_stopped<K: Sink>(sink: &mut K, text: &mut Vec<u8>, ending: &Ending<Bytes>) -> Status
+    ensures ends { EndsAs
+        (record { status = status_of ending.now; answers = text.old.items; last = last_text ending.now })
+        result (K.taken sink.old) (K.taken sink.new) (Unit {0}) }
+    ensures memory { ending.now ≡ Ending.ReadFault → result ≡ Status.NoMemory → K.takes_memory ≡ true }
+    ensures sink_faults { K.faults sink.new ≡ faults_after (K.faults sink.old) (is_write_fault result) }
+{
+    match put_last(sink, text, ending) {
+        Ok(()) => status_of(ending),
+        Err(refusal) => Status::of_refusal(refusal),
     }
 }
 
@@ -98,31 +120,6 @@ fn is_complete(ending: &Ending<Bytes>) -> bool
         Ending::TooLong { .. } => false,
         Ending::Ended { .. } => false,
     }
-}
-
-// Puts what is said where lines ended so behind a text, and answers the status.
-fn end_text<N: Holder>(
-    alloc: Global,
-    node: &N,
-    session: LookSession,
-    ending: &Ending<Bytes>,
-    text: &mut Vec<u8>,
-) -> Result<Status, NoMemory>
-    requires { N.sound node.now }
-    ensures said { (at : Node) (run : LookState) → N.is node.now at
-        → (ending.now ≡ Ending.Complete → ⟦<LookSession as Answerer>⟧.ran session run)
-        → OnOk result (text.new.items ≡ text.old.items
-        ++ ((ended_output at run ending.now).answers ++ (ended_output at run ending.now).last)) }
-    ensures status { (at : Node) (run : LookState) → N.is node.now at
-        → (ending.now ≡ Ending.Complete → ⟦<LookSession as Answerer>⟧.ran session run)
-        → IfOk result (λ status. (ended_output at run ending.now).status ≡ status) }
-    ensures no_write_fault { IfOk result (λ status. is_write_fault status ≡ false) }
-{
-    if is_complete(ending) {
-        return say_all(alloc, node, session, text);
-    }
-    push_last(text, ending)?;
-    Ok(status_of(ending))
 }
 
 // Says of each coin of a node how it stands, behind a log that was read to its end.
@@ -170,6 +167,7 @@ fn put_not_journal<K: Sink>(alloc: Global, sink: &mut K, place: u64) -> Status
 /// Ends a run whose disks weren't read or spell no node, and says why; for want of memory it says nothing.
 pub fn put_refusal<K: Sink>(alloc: Global, sink: &mut K, why: JournalRefusal) -> Status
     ensures ends { EndsAs (refused_output why) result (K.taken sink.old) (K.taken sink.new) ⊥ }
+    ensures memory { why ≡ JournalRefusal.DeviceFault → result ≡ Status.NoMemory → K.takes_memory ≡ true }
     ensures sink_faults { K.faults sink.new ≡ faults_after (K.faults sink.old) (is_write_fault result) }
 {
     match why {

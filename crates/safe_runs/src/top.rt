@@ -1,4 +1,4 @@
-ghost use Rattle.std.specs.Prelude.{◌≡◌, ◌⊎◌, true, map, string_bytes, Ok, IfOk, IfErr};
+ghost use Rattle.std.specs.Prelude.{◌≡◌, ◌⊎◌, true, false, map, string_bytes, Ok, IfOk, IfErr};
 ghost use Rattle.sha2.specs.Sha256.{sha256};
 ghost use Rattle.plasma_base.specs.Causes.{faults_after};
 ghost use Rattle.streamed_lines.specs.Outside.{ReadsToFault};
@@ -66,6 +66,10 @@ pub fn run<S: Source, K: Sink, D: Disk>(
         result.status (role_of (map string_bytes words.now)) notes leaves }
     ensures notes { OnlyLooks D.told notes result.notes }
     ensures leaves { OnlyLooks D.told leaves result.leaves }
+    ensures memory { K.takes_memory ≡ false → result.status ≡ Status.NoMemory
+        → CountsEither D.faults notes leaves result.notes result.leaves false }
+    ensures source_memory { K.takes_memory ≡ false → result.status ≡ Status.NoMemory
+        → ReadsToFault (S.faults source.old) (S.faults source.new) (S.failed_last source.new) false }
     ensures source_faults { ReadsBy result.status
         (ReadsToFault (S.faults source.old) (S.faults source.new) (S.failed_last source.new)) }
     ensures disk_faults { FaultsBy result.status (CountsEither D.faults notes leaves result.notes result.leaves) }
@@ -103,6 +107,10 @@ pub fn run_with<H: Hash32, S: Source, K: Sink, D: Disk>(
         result.status (role_of (map string_bytes words.now)) notes leaves }
     ensures notes { OnlyLooks D.told notes result.notes }
     ensures leaves { OnlyLooks D.told leaves result.leaves }
+    ensures memory { K.takes_memory ≡ false → result.status ≡ Status.NoMemory
+        → CountsEither D.faults notes leaves result.notes result.leaves false }
+    ensures source_memory { K.takes_memory ≡ false → result.status ≡ Status.NoMemory
+        → ReadsToFault (S.faults source.old) (S.faults source.new) (S.failed_last source.new) false }
     ensures source_faults { ReadsBy result.status
         (ReadsToFault (S.faults source.old) (S.faults source.new) (S.failed_last source.new)) }
     ensures disk_faults { FaultsBy result.status (CountsEither D.faults notes leaves result.notes result.leaves) }
@@ -131,6 +139,10 @@ fn run_role<H: Hash32, S: Source, K: Sink, D: Disk>(
         (ReadsToFault (S.faults source.old) (S.faults source.new) (S.failed_last source.new) true) result.status }
     ensures notes { OnlyLooks D.told notes result.notes }
     ensures leaves { OnlyLooks D.told leaves result.leaves }
+    ensures memory { K.takes_memory ≡ false → result.status ≡ Status.NoMemory
+        → CountsEither D.faults notes leaves result.notes result.leaves false }
+    ensures source_memory { K.takes_memory ≡ false → result.status ≡ Status.NoMemory
+        → ReadsToFault (S.faults source.old) (S.faults source.new) (S.failed_last source.new) false }
     ensures source_faults { ReadsBy result.status
         (ReadsToFault (S.faults source.old) (S.faults source.new) (S.failed_last source.new)) }
     ensures disk_faults { FaultsBy result.status (CountsEither D.faults notes leaves result.notes result.leaves) }
@@ -181,6 +193,9 @@ fn run_watcher<H: Hash32 + Copy, S: Source, K: Sink, D: Disk>(
         })
         (ReadsToFault (S.faults source.old) (S.faults source.new) (S.failed_last source.new) true) result }
     ensures looks { OnlyLooks D.told notes.old notes.new }
+    ensures memory { K.takes_memory ≡ false → result ≡ Status.NoMemory → Counts D.faults notes.old notes.new false }
+    ensures source_memory { K.takes_memory ≡ false → result ≡ Status.NoMemory
+        → ReadsToFault (S.faults source.old) (S.faults source.new) (S.failed_last source.new) false }
     ensures source_faults { ReadsBy result
         (ReadsToFault (S.faults source.old) (S.faults source.new) (S.failed_last source.new)) }
     ensures disk_faults { FaultsBy result (Counts D.faults notes.old notes.new) }
@@ -229,6 +244,10 @@ fn run_wallet<H: Hash32 + Copy, S: Source, K: Sink, D: Disk>(
         (ReadsToFault (S.faults source.old) (S.faults source.new) (S.failed_last source.new) true) result }
     ensures notes { OnlyLooks D.told notes.old notes.new }
     ensures leaves { OnlyLooks D.told leaves.old leaves.new }
+    ensures memory { K.takes_memory ≡ false → result ≡ Status.NoMemory
+        → CountsEither D.faults notes.old leaves.old notes.new leaves.new false }
+    ensures source_memory { K.takes_memory ≡ false → result ≡ Status.NoMemory
+        → ReadsToFault (S.faults source.old) (S.faults source.new) (S.failed_last source.new) false }
     ensures source_faults { ReadsBy result
         (ReadsToFault (S.faults source.old) (S.faults source.new) (S.failed_last source.new)) }
     ensures disk_faults { FaultsBy result (CountsEither D.faults notes.old leaves.old notes.new leaves.new) }

@@ -1,7 +1,8 @@
 -- The lines of a schedule: which there are, the one spelling of each, and the line that bytes spell.
 use Rattle.std.specs.Prelude.{ℕ, Bool, true, false, List, ◌++◌, map, codes, Option}
 use Rattle.lms_sign.specs.declared.types.LmsTypes.{LmsTypes}
-use Rattle.line_forms.specs.Forms.{Kind, Form, named, Table, Parts, these, of, ends, ◌▸◌, run_of, optional, form_of, mapped_form, mapped_values, AreParts, text_of, value_in}
+use Rattle.line_forms.specs.Forms.{Kind, Form, named, Table, Parts, these, of, ends, ◌▸◌, run_of, optional, form_of, mapped_form, mapped_values, AreParts, begins_as, text_of, value_in}
+use Rattle.line_forms.specs.Words.{words_of}
 use Rattle.line_forms.specs.Tokens.{number, number_within, name, declared_name, hex_of, key, to, bytes, shown, outcome, optional_number}
 use Rattle.schedule_text.specs.declared.line.Line.{Line}
 use Rattle.schedule_text.specs.declared.line.TheConstants.{MOST_BLOCKS, LAST_LEAF}
@@ -263,6 +264,27 @@ is_of_nodes (Line.Call _ _) = false
 is_of_nodes _ = true
 
 -- ---- bytes
+
+-- whether a command with this first word has a name or bytes, which take memory
+abbrev pub command_has_bytes : CommandName → Bool
+command_has_bytes (CommandName.Operator OperatorCommandName.Seal) = false
+command_has_bytes (CommandName.Operator OperatorCommandName.Bundle) = false
+command_has_bytes (CommandName.Operator OperatorCommandName.Prove) = false
+command_has_bytes (CommandName.Operator OperatorCommandName.Absences) = false
+command_has_bytes _ = true
+
+-- whether a line with this first word may have a name or bytes
+abbrev pub has_bytes : LineName → Bool
+has_bytes LineName.Chain = false
+has_bytes LineName.Fund = false
+has_bytes LineName.Tick = false
+has_bytes LineName.Money = false
+has_bytes (LineName.Command own) = command_has_bytes own
+has_bytes _ = true
+
+-- whether the first word of a line begins a form that may have a name or bytes
+abbrev pub begins_with_bytes : List ℕ → Bool
+begins_with_bytes bytes = begins_as lines has_bytes (words_of bytes)
 
 -- which lines are in the grammar
 abbrev pub IsLine : Line → Type 0

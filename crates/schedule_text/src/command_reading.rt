@@ -1,8 +1,9 @@
-ghost use Rattle.std.specs.Prelude.{◌≡◌, Some, None, Err, IfOk};
+ghost use Rattle.std.specs.Prelude.{◌≡◌, true, Some, None, Err, IfOk};
 ghost use Rattle.std.specs.Map.{lookup};
 ghost use Rattle.std.specs.Str.{bytes_eq};
 ghost use Rattle.line_forms.specs.Forms.{take_form, takes};
-ghost use Rattle.schedule_text.specs.Grammar.{commands, command_form, wallet_form, watcher_form, operator_form};
+ghost use Rattle.schedule_text.specs.Grammar.{commands, command_form, wallet_form, watcher_form, operator_form, command_has_bytes};
+ghost use Rattle.schedule_text.specs.declared.command_names.CommandName.{CommandName};
 
 use super::command::{Command, OperatorCommand, WalletCommand, WatcherCommand};
 use super::command_names::{
@@ -103,6 +104,7 @@ fn operator_command(
 ) -> Result<Command, LineRefusal>
     ensures found { IfOk result (λ command. takes (operator_form name) words.old ≡ Some (command, words.new)) }
     ensures bad { result ≡ Err LineRefusal.BadLine → takes (operator_form name) words.old ≡ None }
+    ensures memory { result ≡ Err LineRefusal.NoMemory → command_has_bytes (CommandName.Operator name) ≡ true }
 {
     match name {
         OperatorCommandName::Offer => Ok(of_operator(OperatorCommand::Offer {
@@ -143,6 +145,7 @@ pub fn command_of(
 ) -> Result<Command, LineRefusal>
     ensures found { IfOk result (λ command. takes (command_form name) words.old ≡ Some (command, words.new)) }
     ensures bad { result ≡ Err LineRefusal.BadLine → takes (command_form name) words.old ≡ None }
+    ensures memory { result ≡ Err LineRefusal.NoMemory → command_has_bytes name ≡ true }
 {
     match name {
         CommandName::Wallet(name) => wallet_command(alloc, name, words),

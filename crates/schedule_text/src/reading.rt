@@ -1,8 +1,8 @@
-ghost use Rattle.std.specs.Prelude.{◌≡◌, Some, None, Err, IfOk};
+ghost use Rattle.std.specs.Prelude.{◌≡◌, true, Some, None, Err, IfOk};
 ghost use Rattle.std.specs.Map.{lookup};
 ghost use Rattle.std.specs.Str.{bytes_eq};
 ghost use Rattle.line_forms.specs.Forms.{takes};
-ghost use Rattle.schedule_text.specs.Grammar.{types, optional_types, declaration_form, deed_form, line_form, line_names};
+ghost use Rattle.schedule_text.specs.Grammar.{types, optional_types, declaration_form, deed_form, line_form, has_bytes, line_names};
 
 use super::call_reading::call;
 use super::command_reading::{command, command_name, command_of};
@@ -102,6 +102,7 @@ fn deed_of(alloc: Global, name: DeedName, words: &mut Words<'_>) -> Result<Line,
 pub fn line_of(alloc: Global, name: LineName, words: &mut Words<'_>) -> Result<Line, LineRefusal>
     ensures found { IfOk result (λ line. takes (line_form name) words.old ≡ Some (line, words.new)) }
     ensures bad { result ≡ Err LineRefusal.BadLine → takes (line_form name) words.old ≡ None }
+    ensures memory { result ≡ Err LineRefusal.NoMemory → has_bytes name ≡ true }
 {
     match name {
         LineName::Chain => Ok(Line::Chain {

@@ -1,5 +1,5 @@
-ghost use Rattle.std.specs.Prelude.{◌≡◌, ◌++◌, Some, None, Err, IfOk, OnOk, OnErr};
-ghost use Rattle.schedule_text.specs.Grammar.{line_in, line_text, IsLine};
+ghost use Rattle.std.specs.Prelude.{◌≡◌, ◌++◌, true, Some, None, Err, IfOk, OnOk, OnErr};
+ghost use Rattle.schedule_text.specs.Grammar.{line_in, line_text, IsLine, begins_with_bytes};
 
 use super::line::Line;
 use super::names::LineName;
@@ -10,13 +10,15 @@ use plasma_base::NoMemory;
 use std::alloc::Global;
 
 impl Grammar for Line {
-    ghost use Rattle.schedule_text.specs.Grammar.{lines, line_parts};
+    ghost use Rattle.schedule_text.specs.Grammar.{lines, line_parts, has_bytes};
 
     type Name = LineName;
 
     ghost table = { lines };
 
     ghost parts = { line_parts };
+
+    ghost has_bytes = { has_bytes };
 
     fn take(alloc: Global, words: &mut Words<'_>) -> Result<Line, LineRefusal> {
         let word = words.next().ok_or(LineRefusal::BadLine)?;
@@ -29,11 +31,13 @@ impl Grammar for Line {
     }
 }
 
-/// The line that bytes spell, without a line feed. It refuses `BadLine` exactly where they spell none.
+/// The line that bytes spell, without a line feed. It refuses `BadLine` exactly where they spell none, and takes memory
+/// only where the first word begins a form that may have a name or bytes.
 #[tactic(auto, unfolding(crate::specs::Grammar::line_in))]
 pub fn read(alloc: Global, text: &[u8]) -> Result<Line, LineRefusal>
     ensures found { IfOk result (λ line. line_in text.now ≡ Some line) }
     ensures bad { result ≡ Err LineRefusal.BadLine → line_in text.now ≡ None }
+    ensures memory { result ≡ Err LineRefusal.NoMemory → begins_with_bytes text.now ≡ true }
     ensures grammar { IfOk result IsLine }
 {
     line_forms::read(alloc, text)

@@ -1,8 +1,9 @@
-use Rattle.std.proofs.Common.{Bool, false, ◌++◌, ◌∙◌, subst}
+use Rattle.std.proofs.Common.{Bool, false, ◌++◌, sym, ◌∙◌, subst}
+use Rattle.std.proofs.lemmas.Bool.{false≢true}
 use Rattle.plasma_outside.specs.declared.sink.SinkRefusal.TheVariants.{Failed, NoMemory}
 use Rattle.streamed_lines.specs.Outside.{ReadsToFault}
 use Rattle.safe_runs.specs.Runs.{ended_output}
-use Rattle.safe_runs.proofs.FaultLaws.{ended-read, reads-by}
+use Rattle.safe_runs.proofs.FaultLaws.{ended-read, ended-unmet, reads-by}
 use Rattle.safe_runs.proofs.Looking.{lines-of, broken-of, ran-whole, looks-whole, looks-early}
 use Rattle.safe_runs.proofs.look.run_look.Goals as goal
 
@@ -56,3 +57,14 @@ returns-in-Err-WriteFault-clause-source_faults g c = λ at is. (false, c.in-Err-
 
 pub returns-clause-source_faults : goal.returns-clause-source_faults
 returns-clause-source_faults g c = λ at is. (false, c.in-Err.ensures.reads)
+
+-- ---- a run that ends for want of memory over a sink that takes none met no fault of the source
+
+pub returns-in-Ok-clause-source_memory : goal.returns-in-Ok-clause-source_memory
+returns-in-Ok-clause-source_memory g c = λ none is.
+    ended-unmet (ReadsToFault (g.S.Source.faults c.args.source.now) (g.S.Source.faults c.answer_lines.new.source)
+    (g.S.Source.failed_last c.answer_lines.new.source)) c.in-Ok.ending
+    (λ fault. false≢true (sym none ∙ c.put_ended.ensures.memory fault is)) c.in-Ok.ensures.reads
+
+pub returns-clause-source_memory : goal.returns-clause-source_memory
+returns-clause-source_memory g c = λ none is. c.in-Err.ensures.reads

@@ -1,9 +1,9 @@
-use Rattle.std.proofs.Common.{refl}
+use Rattle.std.proofs.Common.{false, refl}
 use Rattle.streamed_lines.specs.Outside.{ReadsToFault}
 use Rattle.run_endings.specs.Faults.{CountsEither}
 use Rattle.safe_runs.specs.Runs.{usage_output}
 use Rattle.safe_runs.proofs.DiskLooks.{looks-none}
-use Rattle.safe_runs.proofs.FaultLaws.{by-first, none-met, reads-by, unread}
+use Rattle.safe_runs.proofs.FaultLaws.{by-first, first-only, none-met, reads-by, unread}
 use Rattle.safe_runs.proofs.top.run_role.Goals as goal
 
 pub returns-in-None-clause-notes : goal.returns-in-None-clause-notes
@@ -29,3 +29,13 @@ returns-in-None-clause-disk_faults g c =
 pub returns-in-Some-Watcher-clause-disk_faults : goal.returns-in-Some-Watcher-clause-disk_faults
 returns-in-Some-Watcher-clause-disk_faults g c =
     by-first g.D.Disk.faults _ _ _ _ c.run_watcher-status.ensures.disk_faults
+
+pub returns-in-None-clause-source_memory : goal.returns-in-None-clause-source_memory
+returns-in-None-clause-source_memory g c = λ none is. unread _ _
+
+pub returns-in-None-clause-memory : goal.returns-in-None-clause-memory
+returns-in-None-clause-memory g c = λ none is. (refl, refl)
+
+pub returns-in-Some-Watcher-clause-memory : goal.returns-in-Some-Watcher-clause-memory
+returns-in-Some-Watcher-clause-memory g c = λ none is.
+    first-only g.D.Disk.faults _ _ _ false (c.run_watcher-status.ensures.memory none is)

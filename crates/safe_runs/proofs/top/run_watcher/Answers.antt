@@ -1,9 +1,10 @@
-use Rattle.std.proofs.Common.{inl, inr}
+use Rattle.std.proofs.Common.{inl, inr, sym, ◌∙◌}
+use Rattle.std.proofs.lemmas.Bool.{false≢true}
 use Rattle.streamed_lines.specs.Outside.{ReadsToFault}
 use Rattle.streamed_lines.proofs.OutsideLaws.{gave-none}
 use Rattle.run_endings.specs.Faults.{Counts}
 use Rattle.safe_runs.specs.Runs.{lines_of, look_output}
-use Rattle.safe_runs.proofs.FaultLaws.{ended-other, none-met, refused-met, refused-read, unread}
+use Rattle.safe_runs.proofs.FaultLaws.{ended-other, none-met, refused-met, refused-read, refused-unmet, unread}
 use Rattle.safe_runs.proofs.top.run_watcher.Goals as goal
 
 pub returns-in-Ok-clause-runs : goal.returns-in-Ok-clause-runs
@@ -43,3 +44,20 @@ pub returns-in-Err-clause-disk_faults : goal.returns-in-Err-clause-disk_faults
 returns-in-Err-clause-disk_faults g c =
     refused-met c.put_refusal.result _ _ (Counts g.D.Disk.faults c.args.notes.now c.read_watcher.new.notes)
     c.in-Err.why c.put_refusal.ensures.ends c.in-Err.ensures.faults
+
+-- ---- a run that ends for want of memory over a sink that takes none met no fault
+
+pub returns-in-Ok-clause-source_memory : goal.returns-in-Ok-clause-source_memory
+returns-in-Ok-clause-source_memory g c =
+    c.run_look.ensures.source_memory
+
+pub returns-in-Err-clause-source_memory : goal.returns-in-Err-clause-source_memory
+returns-in-Err-clause-source_memory g c = λ none is. unread _ _
+
+pub returns-in-Ok-clause-memory : goal.returns-in-Ok-clause-memory
+returns-in-Ok-clause-memory g c = λ none is. c.in-Ok.ensures.faults
+
+pub returns-in-Err-clause-memory : goal.returns-in-Err-clause-memory
+returns-in-Err-clause-memory g c = λ none is.
+    refused-unmet (Counts g.D.Disk.faults c.args.notes.now c.read_watcher.new.notes) c.in-Err.why
+    (λ fault. false≢true (sym none ∙ c.put_refusal.ensures.memory fault is)) c.in-Err.ensures.faults
