@@ -12,14 +12,14 @@ use std::cell::RefCell;
 use std::cmp::Ordering;
 
 // The most tests of short openings that are remembered. No clause bounds memory.
-const MOST_SHORT: usize = 2_048;
+const MOST_SHORT: usize = 8_192;
 
 // The most tests of long openings that are remembered.
 const MOST_LONG: usize = 256;
 
-// The bytes of the longest opening that is short: a leaf with the longest signature that any key may have, and 64
+// The bytes of the longest opening that is short: a leaf with the longest signature that any key may have, and 11
 // siblings.
-const LONGEST_SHORT: usize = 5_000;
+const LONGEST_SHORT: usize = 3_000;
 
 // The bytes of the longest opening that is remembered: the longest leaf that a line may have, and 64 siblings.
 const LONGEST_LONG: usize = 68_000;
@@ -34,8 +34,8 @@ struct Tested {
     ghost is_tested: { opens_root sha256 root coin (opening_in sha256 opening) ≡ opens },
 }
 
-/// What the tests of openings under SHA-256 found, so that none is made twice: of openings of at most 5,000 bytes at
-/// most 2,048, in 11 MB at most, and of longer ones 256, in 18 MB at most. Bytes that somebody else holds too lie in
+/// What the tests of openings under SHA-256 found, so that none is made twice: of openings of at most 3,000 bytes at
+/// most 8,192, in 27 MB at most, and of longer ones 256, in 18 MB at most. Bytes that somebody else holds too lie in
 /// memory once. No answer depends on it. Where there is no memory for one it isn't remembered. A call that takes no
 /// `&mut` remembers too.
 #[derive(Drop)]

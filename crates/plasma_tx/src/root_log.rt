@@ -194,7 +194,7 @@ impl RootLog {
     }
 
     /// Whether the owner signed the transfer. What a test found is remembered beside the log, for at most
-    /// 4,096 signatures in 12 MB at most, so that a transfer isn't tested anew in each history that has it.
+    /// 8,192 signatures in 24 MB at most, so that a transfer isn't tested anew in each history that has it.
     /// Where there is no memory it tests again.
     pub fn signed_by(&self, tx: &SignedTx, owner: &Owner) -> bool
         ensures { result ≡ is_signed_by tx.now owner.now }
@@ -204,7 +204,7 @@ impl RootLog {
 
     /// Whether the opening is read and opens the root at the coin, where the caller has the defaults of levels 0 to 63
     /// already. What a test under SHA-256 found is remembered beside the log, so that an opening isn't tested anew in
-    /// each history that has it: for at most 2,048 openings of at most 5,000 bytes, in 11 MB, and for 256 of at most
+    /// each history that has it: for at most 8,192 openings of at most 3,000 bytes, in 27 MB, and for 256 of at most
     /// 68,000, in 18 MB. Where there is no memory for that it tests again; `NoMemory` is of the test, and comes only
     /// where the bytes are as long as an opening.
     pub fn opens<H: Hash32>(

@@ -8,7 +8,7 @@ use std::cell::RefCell;
 use std::cmp::Ordering;
 
 // The most tests that are remembered. No clause bounds memory.
-const MOST_KNOWN: usize = 4_096;
+const MOST_KNOWN: usize = 8_192;
 
 // The bytes of the longest signature that any key may have. A longer one is refused by its length, so that
 // its test costs less than to remember it.
@@ -23,7 +23,7 @@ struct Tested {
     ghost is_tested: { is_signed_by tx owner ≡ is_valid },
 }
 
-/// What the tests of signatures found, so that none is made twice: at most 4,096, which take 12 MB at most.
+/// What the tests of signatures found, so that none is made twice: at most 8,192, which take 24 MB at most.
 /// No answer depends on it. Where there is no memory for one it isn't remembered. A call that takes no
 /// `&mut` remembers too.
 #[derive(Drop)]
