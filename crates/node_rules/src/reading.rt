@@ -76,10 +76,11 @@ fn shown_links<H: Hash32>(
         (if list_all (shows_link (H.digest_of h.now) tag.now coin) openings.now
         then Some (links_in (chain_of tag.now) coin openings.now) else None)) }
 {
-    let mut spends = Vec::new(alloc);
     if openings.is_empty() {
-        return Ok(Some(Spends::from_vec(spends)));
+        return Ok(Some(Spends::from_vec(Vec::new(alloc))));
     }
+    // Many coins have one link, and a vector that grows begins with four.
+    let mut spends = Vec::with_capacity(alloc, 1)?;
     let defaults = defaults(h);
     for opening in openings {
         match shown_link(alloc, h, &defaults, tag, coin, opening)? {

@@ -5,12 +5,12 @@ use Rattle.node_rules.proofs.reading.shown_links.Goals as goal
 pub returns-then-is_empty : goal.returns-then-is_empty
 returns-then-is_empty g c =
     shown-none (g.H.Hash32.digest_of c.args.h.now) c.args.tag.now c.args.coin c.args.openings.now
-    c.from_vec.result c.if-is_empty.ensures (c.from_vec.ensures ∙ c.new-spends.ensures.items)
+    c.from_vec.result c.if-is_empty.ensures (c.from_vec.ensures ∙ c.new.ensures.items)
 
 pub loop-opening-init : goal.loop-opening-init
 loop-opening-init g c =
-    shows-none (g.H.Hash32.digest_of c.args.h.now) c.args.tag.now c.args.coin c.new-spends.result.items
-    c.new-spends.ensures.items
+    shows-none (g.H.Hash32.digest_of c.args.h.now) c.args.tag.now c.args.coin _
+    c.in_ok-spends.ensures.items
 
 pub loop-opening-preserved : goal.loop-opening-preserved
 loop-opening-preserved g c =
