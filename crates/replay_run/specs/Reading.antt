@@ -1,22 +1,20 @@
--- The world that lines leave, what a line does to it, and what was read of an input.
-use Rattle.std.specs.Prelude.{◌≡◌, ℕ, Bool, List, ◌∷◌, ◌++◌, Option, Some, None, Ok}
+-- The world that lines leave, and what was read of an input.
+use Rattle.std.specs.Prelude.{◌≡◌, ℕ, Bool, List, ◌++◌, Option, Some, None}
 use Rattle.schedule_text.specs.declared.line.Line.{Line}
 use Rattle.schedule_text.specs.Grammar.{line_in}
-use Rattle.world_rules.specs.declared.trace.TraceLine.{TraceLine}
 use Rattle.world_rules.specs.Steps.{Run, run_of}
 use Rattle.world_rules.specs.Texts.{entries_text}
 use Rattle.world_core.specs.Worlds.{RunningState, IsAfter}
-use Rattle.world_core.specs.Lines.{IsStep, WouldFill}
 use Rattle.streamed_lines.specs.declared.ending.Ending.{Ending}
 use Rattle.streamed_lines.specs.declared.ending.Ending.TheVariants.{Complete}
-use Rattle.streamed_lines.specs.declared.ending.Stop.TheVariants.{BadLine, TooLong}
+use Rattle.streamed_lines.specs.declared.ending.Stop.TheVariants.{BadLine}
 use Rattle.streamed_lines.specs.declared.ending.Halt.{Halt}
 use Rattle.streamed_lines.specs.declared.ending.Halt.TheVariants.{Stops, Failed, NoMemory}
 use Rattle.streamed_lines.specs.Bounds.{TakesFew}
 use Rattle.streamed_lines.specs.Outside.{Gave, Wrote, WroteFront}
 use Rattle.replay_run.specs.declared.ending.NoCause.{NoCause}
-use Rattle.replay_run.specs.Replays.{JudgedRun, replay_rules, replay_of}
-use Rattle.replay_run.specs.Text.{answers_text, told_text}
+use Rattle.replay_run.specs.Replays.{JudgedRun, replay_of}
+use Rattle.replay_run.specs.Text.{answers_text}
 
 -- ---- one line
 
@@ -26,43 +24,18 @@ SpellsNone text (Stops BadLine) = line_in text ≡ None
 SpellsNone text NoMemory = Unit {0}
 SpellsNone text halt = ⊥
 
--- one more line was run, and its answer is behind the text
-abbrev pub IsToldStep : {H : Type 0} → (List ℕ → List ℕ) → List Line → Line → (old new : List ℕ) → RunningState H
-    → Type 0
-IsToldStep dig lines line old new world =
-    (told : TraceLine) × IsStep dig lines line told world × (new ≡ old ++ told_text told)
-
--- why one more line isn't run: it has no step, or would fill the mail, or memory ran out
-abbrev pub HasNoStep : (List ℕ → List ℕ) → List Line → Line → Halt NoCause → Type 0
-HasNoStep dig lines line (Stops BadLine) = run_of dig (line ∷ lines) ≡ None
-HasNoStep dig lines line (Stops TooLong) = WouldFill dig lines line
-HasNoStep dig lines line NoMemory = Unit {0}
-HasNoStep dig lines line halt = ⊥
-
 -- no line of a replay fails: it is answered, or it stops the run for its text or for want of memory
 abbrev pub NeverFails : Halt NoCause → Type 0
 NeverFails Failed = ⊥
 NeverFails halt = Unit {0}
 
--- over a world, whose hash has this digest
-module _ {H : Type 0} (digest_of : H → List ℕ → List ℕ) where
-  -- the world is what lines leave that ran so, and judges by this digest
-  pub record Ran (world : RunningState H) (judged : JudgedRun) : Type 0 where
+-- the world is what lines leave that ran so, and judges by this digest
+pub record Ran {H : Type 0} (digest_of : H → List ℕ → List ℕ) (world : RunningState H) (judged : JudgedRun) : Type 0
+  where
     pub lines : List Line
     pub digest : judged.digest ≡ digest_of world.hash
     pub after : IsAfter (digest_of world.hash) lines world
     pub is : run_of (digest_of world.hash) lines ≡ Some judged.run
-
-  -- the next line was run, and its answer has this text
-  pub record GoesOn (judged : JudgedRun) (line text : List ℕ) (world : RunningState H) : Type 0 where
-    pub next : JudgedRun
-    pub is : replay_rules.next judged line ≡ Ok (next, text)
-    pub ran : Ran world next
-
-  -- so it was, and its answer is behind the text
-  abbrev pub IsTaken : (judged : JudgedRun) (line old new : List ℕ) (world : RunningState H) → Type 0
-  IsTaken judged line old new world =
-      (told : TraceLine) × GoesOn judged line (told_text told) world × (new ≡ old ++ told_text told)
 
 -- ---- an input
 

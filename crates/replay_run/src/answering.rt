@@ -1,16 +1,14 @@
-ghost use Rattle.std.specs.Prelude.{◌≡◌, [], List, Some, Ok, IfOk, OnOk, OnErr, IfErr, false};
+ghost use Rattle.std.specs.Prelude.{◌≡◌, [], Some, Ok, IfOk, OnErr, IfErr, false};
 ghost use Rattle.plasma_base.specs.Causes.{faults_after};
 ghost use Rattle.plasma_outside.specs.Outside.{is_failed};
-ghost use Rattle.schedule_text.specs.declared.line.Line.{Line};
 ghost use Rattle.schedule_text.specs.Grammar.{IsLine, line_in};
-ghost use Rattle.world_core.specs.Worlds.{IsAfter};
 ghost use Rattle.streamed_lines.specs.declared.ending.Ending.{Ending};
 ghost use Rattle.streamed_lines.specs.Outside.{ReadsToFault};
-ghost use Rattle.streamed_lines.specs.Reading.{HaltsAt, is_read_fault};
+ghost use Rattle.streamed_lines.specs.Reading.{is_read_fault};
 ghost use Rattle.streamed_lines.specs.Prompt.{AnswersPromptly};
 ghost use Rattle.replay_run.specs.Prompt.{replay_answers};
-ghost use Rattle.replay_run.specs.Replays.{JudgedRun, begun, replay_rules};
-ghost use Rattle.replay_run.specs.Reading.{Ran, IsToldStep, IsTaken, SpellsNone, HasNoStep, NeverFails, Answers, StopsEarly};
+ghost use Rattle.replay_run.specs.Replays.{begun};
+ghost use Rattle.replay_run.specs.Reading.{Ran, SpellsNone, NeverFails, Answers, StopsEarly};
 
 use super::ending::NoCause;
 use plasma_base::Hash32;
@@ -19,7 +17,7 @@ use schedule_text::{Line, LineRefusal, read};
 use std::alloc::Global;
 use streamed_lines::{Answerer, Break, Ending, Halt, Stop, answer_lines};
 use world_core::{StepRefusal, World};
-use world_rules::{TraceLine, print_line};
+use world_rules::print_line;
 
 /// What answers the lines of a schedule: the world that steps through them.
 #[derive(Drop)]
@@ -57,57 +55,6 @@ fn read_line(alloc: Global, text: &[u8]) -> Result<Line, Halt<NoCause>>
     }
 }
 
-// Takes the step of a line, and adds its answer to the text. What was told is lent, since to move it takes longer than
-// the step of a short line.
-fn step_line<H: Hash32 + Copy>(
-    world: &mut World<H>,
-    line: &Line,
-    text: &mut Vec<u8>,
-) -> Result<(), Halt<NoCause>>
-    requires grammar { IsLine line.now }
-    ensures told { (lines : List Line) → IsAfter (H.digest_of world.old.running.hash) lines world.old.running
-        → OnOk result (IsToldStep (H.digest_of world.old.running.hash) lines line.now text.old.items text.new.items
-        world.new.running) }
-    ensures stops { (lines : List Line) → IsAfter (H.digest_of world.old.running.hash) lines world.old.running
-        → IfErr result (HasNoStep (H.digest_of world.old.running.hash) lines line.now) }
-    ensures no_failure { IfErr result NeverFails }
-    ensures hash { OnOk result (world.new.running.hash ≡ world.old.running.hash) }
-    ensures untold { OnErr result (text.new.items ≡ text.old.items) }
-{
-    let stepped = world.step(line);
-    match &stepped {
-        Ok(told) => {
-            print_line(told, text)?;
-            Ok(())
-        }
-        Err(StepRefusal::BadLine) => Err(Halt::Stops {
-            stop: Stop::BadLine,
-        }),
-        Err(StepRefusal::MailFull) => Err(Halt::Stops {
-            stop: Stop::TooLong,
-        }),
-        Err(StepRefusal::NoMemory) => Err(Halt::NoMemory),
-    }
-}
-
-// Reads a line, takes its step, and adds its answer to the text.
-fn take_line<H: Hash32 + Copy>(
-    alloc: Global,
-    world: &mut World<H>,
-    line: &[u8],
-    text: &mut Vec<u8>,
-) -> Result<(), Halt<NoCause>>
-    ensures answered { (run : JudgedRun) → Ran H.digest_of world.old.running run
-        → OnOk result (IsTaken H.digest_of run line.now text.old.items text.new.items world.new.running) }
-    ensures halts { (run : JudgedRun) → Ran H.digest_of world.old.running run
-        → IfErr result (HaltsAt replay_rules run line.now) }
-    ensures no_failure { IfErr result NeverFails }
-    ensures untold { OnErr result (text.new.items ≡ text.old.items) }
-{
-    let read = read_line(alloc, line)?;
-    step_line(world, &read, text)
-}
-
 impl<H: Hash32 + Copy> Answerer for Replayer<H> {
     ghost use Rattle.replay_run.specs.Replays.{JudgedRun, replay_rules};
     ghost use Rattle.replay_run.specs.Reading.{Ran, NeverFails};
@@ -125,7 +72,21 @@ impl<H: Hash32 + Copy> Answerer for Replayer<H> {
     ghost ready = { λ _. Unit {0} };
 
     fn answer(&mut self, line: &[u8], text: &mut Vec<u8>) -> Result<(), Halt<NoCause>> {
-        take_line(self.alloc, &mut self.world, line, text)
+        let stepped = self.world.step(&read_line(self.alloc, line)?);
+        // What was told is lent, since to move it takes longer than the step of a short line.
+        match &stepped {
+            Ok(told) => {
+                print_line(told, text)?;
+                Ok(())
+            }
+            Err(StepRefusal::BadLine) => Err(Halt::Stops {
+                stop: Stop::BadLine,
+            }),
+            Err(StepRefusal::MailFull) => Err(Halt::Stops {
+                stop: Stop::TooLong,
+            }),
+            Err(StepRefusal::NoMemory) => Err(Halt::NoMemory),
+        }
     }
 
     fn may_end(&self) -> bool {

@@ -7,17 +7,14 @@ ghost use Rattle.run_endings.specs.Statuses.{is_write_fault, ReadsBy, FaultsBy};
 ghost use Rattle.run_endings.specs.Outputs.{EndsAs};
 ghost use Rattle.run_endings.specs.Faults.{CountsEither};
 ghost use Rattle.replay_run.specs.Forms.{is_verified, reads_input, uses_notes, uses_leaves};
-ghost use Rattle.replay_run.specs.Output.{make_output, verify_output, replay_output, brief_output};
-ghost use Rattle.replay_run.specs.Bounds.{FewBy};
+ghost use Rattle.replay_run.specs.Output.{make_output, verify_output};
 ghost use Rattle.replay_run.specs.Headline.{KeepsByForm};
-ghost use Rattle.replay_run.specs.Runs.{RanOver};
 ghost use Rattle.replay_run.specs.Does.{Does, DoesForm};
-ghost use Rattle.streamed_lines.specs.Prompt.{AnswersPromptly};
-ghost use Rattle.replay_run.specs.Prompt.{replay_answers, no_answers, AnswersByForm};
+ghost use Rattle.replay_run.specs.Prompt.{AnswersByForm};
 ghost use Rattle.replay_run.specs.Complete.{CompletesByForm};
 
 use super::brief::brief;
-use super::ending::status_of;
+use super::ending::status_of_replay;
 use super::replay::replay;
 use super::verifying::is_verified;
 use crash_disk::Disk;
@@ -254,8 +251,14 @@ fn run_form<H: Hash32, S: Source, K: Sink, D: Disk>(
 {
     match form {
         None => Ended::of(put_line(sink, USAGE, Status::Usage), notes, leaves),
-        Some(Form::Replay) => Ended::of(run_replay(h, alloc, source, sink), notes, leaves),
-        Some(Form::Brief) => Ended::of(run_brief(h, alloc, source, sink), notes, leaves),
+        Some(Form::Replay) => {
+            let status = status_of_replay(replay(h, alloc, source, sink));
+            Ended::of(status, notes, leaves)
+        }
+        Some(Form::Brief) => {
+            let status = status_of_replay(brief(h, alloc, source, sink));
+            Ended::of(status, notes, leaves)
+        }
         Some(Form::Make { seed, count }) => {
             Ended::of(run_make(alloc, seed, count, sink), notes, leaves)
         }
@@ -351,50 +354,6 @@ fn run_verify<K: Sink>(key: &Bytes, message: &Bytes, signature: &Bytes, sink: &m
         return put_line(sink, b"valid\n", Status::Done);
     }
     put_line(sink, b"invalid\n", Status::Done)
-}
-
-/// Runs `replay`.
-fn run_replay<H: Hash32, S: Source, K: Sink>(
-    h: &H,
-    alloc: Global,
-    source: &mut S,
-    sink: &mut K,
-) -> Status
-    ensures output { RanOver (replay_output (H.digest_of h.now)) (FewBy (H.digest_of h.now))
-        (S.left source.old) (S.left source.new) (K.taken sink.old) (K.taken sink.new)
-        (ReadsToFault (S.faults source.old) (S.faults source.new) (S.failed_last source.new) true) result }
-    ensures prompt { AnswersPromptly (replay_answers (H.digest_of h.now)) (S.left source.old) (S.left source.new)
-        (S.failed_last source.new) (K.taken sink.old) (K.taken sink.new) }
-    ensures source_faults { ReadsBy result
-        (ReadsToFault (S.faults source.old) (S.faults source.new) (S.failed_last source.new)) }
-    ensures sink_faults { K.faults sink.new ≡ faults_after (K.faults sink.old) (is_write_fault result) }
-{
-    match replay(h, alloc, source, sink) {
-        Ok(ending) => status_of(ending),
-        Err(refusal) => Status::of_refusal(refusal),
-    }
-}
-
-/// Runs `brief`.
-fn run_brief<H: Hash32, S: Source, K: Sink>(
-    h: &H,
-    alloc: Global,
-    source: &mut S,
-    sink: &mut K,
-) -> Status
-    ensures output { RanOver (brief_output (H.digest_of h.now)) (FewBy (H.digest_of h.now))
-        (S.left source.old) (S.left source.new) (K.taken sink.old) (K.taken sink.new)
-        (ReadsToFault (S.faults source.old) (S.faults source.new) (S.failed_last source.new) true) result }
-    ensures prompt { AnswersPromptly no_answers (S.left source.old) (S.left source.new)
-        (S.failed_last source.new) (K.taken sink.old) (K.taken sink.new) }
-    ensures source_faults { ReadsBy result
-        (ReadsToFault (S.faults source.old) (S.faults source.new) (S.failed_last source.new)) }
-    ensures sink_faults { K.faults sink.new ≡ faults_after (K.faults sink.old) (is_write_fault result) }
-{
-    match brief(h, alloc, source, sink) {
-        Ok(ending) => status_of(ending),
-        Err(refusal) => Status::of_refusal(refusal),
-    }
 }
 
 /// Runs `make`.
