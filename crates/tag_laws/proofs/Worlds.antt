@@ -17,10 +17,10 @@ use Rattle.world_rules.proofs.KeptWorld.{KeptWorld, few-blocks}
 use Rattle.world_rules.proofs.OrderEnds.{OrderEnds, Binding, order-ends}
 use Rattle.world_rules.proofs.Said.{said}
 use Rattle.world_rules.proofs.WalletSends.{words}
-use Rattle.world_acts.specs.Acts.{NewWallet, Act, Adds, Enters, Orders, End, Whole, Crashed, Kept, Lost, end_of, event_after, deed_at, done}
-use Rattle.world_acts.specs.Evidence.{has_order, IsActIn}
-use Rattle.world_acts.proofs.Fitting.{IsFitAct}
-use Rattle.world_acts.proofs.Told.{rules-stay}
+use Rattle.world_rules.specs.Acts.{NewWallet, Act, Adds, Enters, Orders, End, Whole, Crashed, Kept, Lost, end_of, event_after, deed_at, done}
+use Rattle.world_rules.specs.Evidence.{has_order, IsActIn}
+use Rattle.world_rules.proofs.Fitting.{IsFitAct}
+use Rattle.world_rules.proofs.Told.{rules-stay}
 use Rattle.world_laws.specs.Headline.{IsRun}
 use Rattle.world_laws.specs.Legal.{IsLegalEvent, IsLegal}
 use Rattle.world_laws.proofs.Acts.{over_events}

@@ -227,7 +227,7 @@ module _ {H : Type 0} (dig : List ℕ → List ℕ) (lines : List Line) (line : 
       ∙ ap (λ before. before ++ map named_of (declared_by (name_in line) answer.event))
       (after.named ∙ ap wallets_in after.world)
       ∙ sym (line_named dig (world_in old) line effect (tests_by dig) (rules_of left.chain)
-      (log_of (events_of after.run.entries)) answer.event effect-is.1 told.is)
+      (log_of (events_of after.run.entries)) answer.event effect-is.1 takes.keeps told.is)
 
   module _ (fits_line : IsLine line) (made : AreBytes answer.made)
       (fits : old.mail_size + length answer.made ≤ MOST_MAIL) (trace : TraceState)

@@ -1,33 +1,28 @@
 -- The wallets of a world behind one more line: a line that declares one adds it, and no other line does.
 use Rattle.std.proofs.Common.{◌≡◌, ℕ, suc, ◌+◌, Bool, true, false, if◌then◌else◌, List, [], ◌∷◌, ◌++◌, length, map, set, slice_get, Option, Some, None, refl, sym, ap, ◌∙◌, subst, arith}
-use Rattle.std.specs.Prelude.{option_map, option_and_then}
 use Rattle.std.proofs.lemmas.Bool.{false≢true}
 use Rattle.std.proofs.lemmas.List.{append-nil}
-use Rattle.line_forms.specs.declared.tokens.OutcomeToken.{OutcomeToken}
-use Rattle.line_forms.proofs.FormLaws.{option_map_some}
 use Rattle.lms_sign.specs.declared.types.LmsTypes.{LmsTypes}
-use Rattle.plasma_tx.specs.declared.owner.Owner.{Owner}
 use Rattle.plasma_tx.specs.declared.call.RootCall.{RootCall}
 use Rattle.plasma_tx.specs.declared.answer.Answer.{Answer}
 use Rattle.plasma_tx.specs.Shown.{Tests, Rules, tests_by, rules_of}
 use Rattle.plasma_tx.specs.Table.{answer_to, is_accepted}
 use Rattle.plasma_tx.proofs.Names.{some_same}
 use Rattle.schedule_text.specs.declared.line.Line.{Line}
-use Rattle.schedule_text.specs.declared.command.Command.{Command}
-use Rattle.schedule_text.specs.Grammar.{node_of}
 use Rattle.node_rules.specs.declared.identity.WalletIdentity.{WalletIdentity}
-use Rattle.node_rules.specs.WalletRecords.{identity_text as wallet_text, owner_of}
+use Rattle.node_rules.specs.WalletRecords.{identity_text as wallet_text}
 use Rattle.node_rules.specs.Watcher.{identity_text as watcher_text}
 use Rattle.world_rules.specs.Events.{Event, Declares, Joins, Bounces, Accepts, Guards, Releases, Binds, TakesBack, Watches, Leaves, Seals, Other, Idle}
-use Rattle.world_rules.specs.World.{Role, Wallet, Watcher, Node, Rogue, World, is_wallet_role, any_role, rogue_named, owner_named, new_owner_of, call_of}
-use Rattle.world_rules.specs.Declarations.{plays, declared_wallet}
-use Rattle.world_rules.specs.Deeds.{Deed, deed_of}
-use Rattle.world_rules.specs.Steps.{LineEffect, new_node, declares_wallet, declares_watcher, called, raw_called, deposit_by, offer_numbered, entered, answers_down, after_command, commanded, down, after_crash, with_records, crashed, cut, command_effect, cut_effect, signed_by, signed_body, effect_in, effect_of}
+use Rattle.world_rules.specs.World.{Wallet, Watcher, Node, World, is_wallet_role}
+use Rattle.world_rules.specs.Declarations.{keeps_rules}
+use Rattle.world_rules.specs.Steps.{LineEffect, new_node, declares_wallet, declares_watcher, called, after_crash, effect_of}
 use Rattle.world_rules.specs.Verdicts.{Named, wallets_from}
-use Rattle.world_rules.proofs.Shapes.{IsCut, Kept, Lost, is_cut, acted}
-use Rattle.world_rules.proofs.Named.{Card, cards, cards-set}
+use Rattle.world_rules.specs.Acts.{NewWallet, NewWatcher, NewRogue, Act, Adds, Enters, Orders, Crashes, callers_after, end_of, node_after, deed_at, done}
+use Rattle.world_rules.proofs.Lines.{IsActOf, is-act, act-kept}
+use Rattle.world_rules.proofs.Named.{Card, card, cards, cards-set}
 use Rattle.world_rules.proofs.KeptNames.{is_plain}
-use Rattle.world_rules.proofs.NamedDeeds.{IsDeed, Plain, Accepting, deed-cut, deed-is}
+use Rattle.world_rules.proofs.NamedDeeds.{IsDeed, Plain, Accepting, order-is}
+use Rattle.world_rules.proofs.NamedSteps.{card-after}
 use Rattle.coin_verdicts.specs.Wallets.{named_of}
 use Rattle.world_trace.specs.declared.event.LineEvent.{LineEvent}
 use Rattle.world_trace.specs.Events.{IsEvent, IsJoin, IsWatch}
@@ -133,9 +128,6 @@ record AddsNone (world : World) (effect : LineEffect) : Type 0 where
   silent : is-silent effect.event ≡ true
 
 module _ (dig : List ℕ → List ℕ) (world : World) where
-  so : (effect other : LineEffect) → Some other ≡ Some effect → AddsNone world other → AddsNone world effect
-  so effect other is none = subst (λ (x : LineEffect). AddsNone world x) (some_same other effect is) none
-
   calls-none : (callers : List ℕ) (call : RootCall)
       → AddsNone world (called dig (record world { raw_callers = callers }) call)
   calls-none callers call = record { wallets = refl; silent = by (is_accepted answer) }
@@ -147,83 +139,11 @@ module _ (dig : List ℕ → List ℕ) (world : World) where
       by true = refl
       by false = refl
 
-  enters-none : (offer : Option RootCall) → AddsNone world (entered dig world offer)
-  enters-none None = record { wallets = refl; silent = refl }
-  enters-none (Some call) = calls-none world.raw_callers call
-
-  crash-none : (n : ℕ) (node : Node) → slice_get world.nodes n ≡ Some node → AddsNone world (crashed world n node)
-  crash-none n node at = record {
-    wallets =
-        same-cards world.nodes (set world.nodes n (after_crash node))
-        (cards-set world.nodes n node (after_crash node) at refl);
-    silent = refl;
-  }
-
-  command-none : (command : Command) (n : ℕ) (node : Node) (effect : LineEffect)
-      → slice_get world.nodes n ≡ Some node → command_effect dig world command n node ≡ Some effect
-      → AddsNone world effect
-  command-none command n node effect at is = by (answers_down node command) is
-    where
-      by : (b : Bool)
-          → (if b then Some (down world) else option_map (commanded world n node) (deed_of dig world n node command))
-          ≡ Some effect → AddsNone world effect
-      by true same = so effect (down world) same (record { wallets = refl; silent = refl })
-      by false same =
-          let found = option_map_some (commanded world n node) (deed_of dig world n node command) effect same in
-          subst (λ (x : LineEffect). AddsNone world x) found.2 (record {
-            wallets =
-                same-cards world.nodes (set world.nodes n (after_command node found.0))
-                (cards-set world.nodes n node (after_command node found.0) at refl);
-            silent =
-                deed-silent world.chain.log found.0.gives.event (deed-is dig world n node command found.0 found.1);
-          })
-
-  cut-shape : (n : ℕ) (node : Node) (deed : Deed) (effect : LineEffect) → slice_get world.nodes n ≡ Some node
-      → IsDeed world.chain.log deed.gives.event → IsCut world n node deed effect → AddsNone world effect
-  cut-shape n node deed effect at own (Kept event_is world_is) = record {
-    wallets =
-        ap (λ (w : World). wallets_from 0 w.nodes) world_is
-        ∙ same-cards world.nodes (set world.nodes n (after_crash (with_records node deed)))
-        (cards-set world.nodes n node (after_crash (with_records node deed)) at refl);
-    silent =
-        ap is-silent event_is
-        ∙ deed-silent world.chain.log _ (deed-cut world.chain.log n deed.gives.event own);
-  }
-  cut-shape n node deed effect at own (Lost event_is world_is) = record {
-    wallets =
-        ap (λ (w : World). wallets_from 0 w.nodes) world_is
-        ∙ same-cards world.nodes (set world.nodes n (after_crash node))
-        (cards-set world.nodes n node (after_crash node) at refl);
-    silent = ap is-silent event_is;
-  }
-
-  cut-none : (count : ℕ) (outcome : OutcomeToken) (command : Command) (n : ℕ) (node : Node) (effect : LineEffect)
-      → slice_get world.nodes n ≡ Some node → cut_effect dig world count outcome command n node ≡ Some effect
-      → AddsNone world effect
-  cut-none count outcome command n node effect at is = by (answers_down node command) is
-    where
-      by : (b : Bool)
-          → (if b then Some (down world)
-          else option_map (cut world n node count outcome command) (deed_of dig world n node command))
-          ≡ Some effect → AddsNone world effect
-      by true same = so effect (down world) same (record { wallets = refl; silent = refl })
-      by false same =
-          let found = option_map_some (cut world n node count outcome command) (deed_of dig world n node command)
-          effect same in
-          subst (λ (x : LineEffect). AddsNone world x) found.2
-          (cut-shape n node found.0 (cut world n node count outcome command found.0) at
-          (deed-is dig world n node command found.0 found.1) (is_cut world n node count outcome command found.0))
-
-  sign-none : (leaf coin parent : ℕ) (last : Option ℕ) (rogue : Option Rogue) (to : Option Owner)
-      (effect : LineEffect)
-      → option_and_then
-      (λ owner. option_map (signed_by world leaf (signed_body world coin parent last owner)) rogue) to ≡ Some effect
-      → AddsNone world effect
-  sign-none leaf coin parent last rogue None effect is = absurd (cc is)
-  sign-none leaf coin parent last None (Some owner) effect is = absurd (cc is)
-  sign-none leaf coin parent last (Some rogue) (Some owner) effect is =
-      so effect (signed_by world leaf (signed_body world coin parent last owner) rogue) is
-      (record { wallets = refl; silent = refl })
+  -- a node that changes, but for name and role
+  one-none : (n : ℕ) (node after : Node) → slice_get world.nodes n ≡ Some node → card after ≡ card node
+      → wallets_from 0 (set world.nodes n after) ≡ wallets_from 0 world.nodes
+  one-none n node after at same =
+      same-cards world.nodes (set world.nodes n after) (cards-set world.nodes n node after at same)
 
   -- ---- each line
 
@@ -257,60 +177,50 @@ module _ (dig : List ℕ → List ℕ) (world : World) where
       silent = refl;
     }
 
-    pub line-named : (line : Line) (effect : LineEffect) → effect_in dig world line ≡ Some effect
-        → IsNamed (name_in line) effect
-    unfolding effect_in
-    line-named (Line.Chain tag operator most) effect is = absurd (cc is)
-    line-named (Line.Wallet name account seed types) effect is =
-        subst (λ (x : LineEffect). IsNamed name x) (some_same _ effect is)
-        (wallet-named name (declared_wallet world account seed types))
-    line-named (Line.Watcher name account) effect is =
-        none-named [] effect (so effect (declares_watcher world name account) is (watcher-none name account))
-    line-named (Line.Rogue name account seed types) effect is =
-        none-named [] effect (so effect _ is (record { wallets = refl; silent = refl }))
-    line-named (Line.Fund account amount) effect is =
-        none-named [] effect (so effect _ is (calls-none world.raw_callers (RootCall.Fund account amount)))
-    line-named (Line.Tick time) effect is =
-        none-named [] effect (so effect _ is (calls-none world.raw_callers (RootCall.Tick time)))
-    line-named (Line.Money account) effect is =
-        none-named [] effect (so effect _ is (record { wallets = refl; silent = refl }))
-    line-named (Line.Deposit wallet amount) effect is =
-        let found = option_map_some (λ owner. called dig world (deposit_by amount owner)) (owner_named world wallet)
-        effect is in
-        none-named [] effect (subst (λ (x : LineEffect). AddsNone world x) found.2
-        (calls-none world.raw_callers (deposit_by amount found.0)))
-    line-named (Line.Call account form) effect is =
-        let found = option_map_some (raw_called dig world account) (call_of world account form) effect is in
-        none-named [] effect (subst (λ (x : LineEffect). AddsNone world x) found.2
-        (calls-none (account ∷ world.raw_callers) found.0))
-    line-named (Line.Enter node number) effect is =
-        let found = acted dig world any_role node (λ n found. Some (entered dig world (offer_numbered number found)))
-        effect is in
-        none-named [] effect (so effect _ found.4 (enters-none (offer_numbered number found.1)))
-    line-named (Line.Command command) effect is =
-        let found = acted dig world (plays command) (node_of command) (command_effect dig world command) effect is in
-        none-named [] effect (command-none command found.0 found.1 effect found.3 found.4)
-    line-named (Line.Sign rogue leaf coin parent to last) effect is =
-        none-named [] effect
-        (sign-none leaf coin parent last (rogue_named world rogue) (new_owner_of world to) effect is)
-    line-named (Line.Crash node outcome) effect is =
-        let found = acted dig world any_role node (λ n found. Some (crashed world n found)) effect is in
-        none-named [] effect (so effect _ found.4 (crash-none found.0 found.1 found.3))
-    line-named (Line.Cut node count outcome command) effect is =
-        let found = acted dig world (plays command) (node_of command) (cut_effect dig world count outcome command)
-        effect is in
-        none-named [] effect (cut-none count outcome command found.0 found.1 effect found.3 found.4)
+    act-named : (line : Line) (act : Act) → IsActOf world line act → IsNamed (name_in line) (done dig world act)
+    unfolding done
+    act-named line (Adds name (NewWallet who)) is =
+        subst (λ l. IsNamed (name_in l) (declares_wallet world name who)) (sym is.line_is.3) (wallet-named name who)
+    act-named line (Adds name (NewWatcher account)) is =
+        none-named (name_in line) (done dig world (Adds name (NewWatcher account))) (watcher-none name account)
+    act-named line (Adds name (NewRogue who)) is =
+        none-named (name_in line) (done dig world (Adds name (NewRogue who))) (record { wallets = refl; silent = refl })
+    act-named line (Enters origin call) is =
+        none-named (name_in line) (done dig world (Enters origin call))
+        (calls-none (callers_after world.raw_callers origin) call)
+    act-named line (Orders place order cut) is =
+        let deed = deed_at dig world place order in
+        let end = end_of cut place.node order deed in
+        none-named (name_in line) (done dig world (Orders place order cut)) (record {
+          wallets =
+              one-none place.number place.node (node_after place.node deed end) is.known.there
+              (card-after place.node deed end);
+          silent =
+              deed-silent world.chain.log _ (order-is dig world.chain.log place.number place.node order end);
+        })
+    act-named line (Crashes place) is =
+        none-named (name_in line) (done dig world (Crashes place)) (record {
+          wallets = one-none place.number place.node (after_crash place.node) is.known refl;
+          silent = refl;
+        })
+    act-named line act is =
+        none-named (name_in line) (done dig world act) (record { wallets = refl; silent = refl })
 
 -- the first line, which begins the chain, names none
 pub line_named : (dig : List ℕ → List ℕ) (world : Option World) (line : Line) (effect : LineEffect) (tests : Tests)
     (rules : Rules) (log : List RootCall) (event : LineEvent) → effect_of dig world line ≡ Some effect
-    → IsEvent tests rules log effect.event event
+    → keeps_rules world line ≡ true → IsEvent tests rules log effect.event event
     → wallets_from 0 effect.world.nodes ≡ wallets_in world ++ map named_of (declared_by (name_in line) event)
 unfolding effect_of wallets_from
-line_named dig None (Line.Chain tag operator most) effect tests rules log event is told =
+line_named dig None (Line.Chain tag operator most) effect tests rules log event is keeps told =
     subst (λ (x : LineEffect). IsEvent tests rules log x.event event
     → wallets_from 0 x.world.nodes ≡ map named_of (declared_by [] event)) (some_same _ effect is)
     (λ idle. ap (λ (e : LineEvent). map named_of (declared_by [] e)) (sym idle)) told
-line_named dig None line effect tests rules log event is told = absurd (cc is)
-line_named dig (Some world) line effect tests rules log event is told =
-    line-named dig world tests rules log event line effect is told
+line_named dig None line effect tests rules log event is keeps told = absurd (cc is)
+line_named dig (Some world) line effect tests rules log event is keeps told =
+    let act = act-kept world line keeps in
+    let of = is-act world line act.0 act.1 in
+    let same : done dig world act.0 ≡ effect = some_same _ effect (sym (of.effect dig) ∙ is) in
+    subst (λ (x : LineEffect). IsEvent tests rules log x.event event → wallets_from 0 x.world.nodes
+    ≡ wallets_from 0 world.nodes ++ map named_of (declared_by (name_in line) event)) same
+    (act-named dig world tests rules log event line act.0 of) told

@@ -34,7 +34,7 @@ use Rattle.node_replies.proofs.WalletEnds.{AcceptEnds, Refused, Known, New, acce
 use Rattle.world_rules.proofs.WalletSends.{words}
 use Rattle.world_rules.proofs.KeptWallet.{KeptWallet}
 use Rattle.world_rules.proofs.KeptNode.{Feeds, IsFitOrder, wallet-alone}
-use Rattle.world_acts.specs.Evidence.{has_order}
+use Rattle.world_rules.specs.Evidence.{has_order}
 use Rattle.world_laws.proofs.GuardsShown.{IsShown, AreShown, shown-more, handed-shown}
 
 -- what a wallet's notes accept

@@ -7,20 +7,20 @@ use Rattle.world_rules.specs.World.{World}
 use Rattle.world_rules.specs.Steps.{TraceEntry, entry_of, Run, events_of}
 use Rattle.world_rules.proofs.KeptRun.{run-kept}
 use Rattle.world_rules.proofs.KeptWorld.{KeptWorld, world-feeds}
-use Rattle.world_rules.proofs.Runs.{begun}
-use Rattle.world_acts.specs.Acts.{Act, act_of, done}
-use Rattle.world_acts.specs.Evidence.{IsActIn}
-use Rattle.world_acts.proofs.Known.{acts_are_known}
-use Rattle.world_acts.proofs.Fitting.{IsFitAct, act-fits}
-use Rattle.world_acts.proofs.Lives.{HasCome, line_effect, good_runs_keep}
-use Rattle.world_acts.proofs.Operators.{operator_is_first}
-use Rattle.world_acts.proofs.Told.{OperatorIsFirst}
+use Rattle.world_rules.proofs.Lives.{begun}
+use Rattle.world_rules.specs.Acts.{Act, act_of, done}
+use Rattle.world_rules.specs.Evidence.{IsActIn}
+use Rattle.world_rules.proofs.Lines.{acts_are_known}
+use Rattle.world_rules.proofs.Fitting.{IsFitAct, act-fits}
+use Rattle.world_rules.proofs.Lives.{HasCome, line_effect, good_runs_keep}
+use Rattle.world_rules.proofs.Operators.{operator_is_first}
+use Rattle.world_rules.proofs.Told.{OperatorIsFirst}
 use Rattle.world_laws.specs.Headline.{IsRun}
 
 -- what is kept behind the events of every run
 pub kept-world : (dig : List ℕ → List ℕ) (lines : List Line) (run : Run) (world : World) → IsRun dig lines run world
     → KeptWorld dig (events_of run.entries) world
-kept-world dig lines run world is = (run-kept dig is.digest lines run is.lines_are is.run_is).world world is.world_is
+kept-world dig lines run world is = run-kept dig is.digest lines run world is.lines_are is.run_is is.world_is
 
 has-come : (dig : List ℕ → List ℕ) (lines : List Line) (run : Run) (world : World) → IsRun dig lines run world
     → HasCome dig IsLine lines run world

@@ -1,5 +1,5 @@
 -- What a line makes that is answered with a bundle: the bytes of the bundle that the operator's notes and the log give.
-use Rattle.std.proofs.Common.{◌≡◌, ℕ, ◌==◌, Bool, true, false, if◌then◌else◌, List, Option, Some, Ok, Err, inl, inr, refl, sym, ap, ◌∙◌, subst, slice_get}
+use Rattle.std.proofs.Common.{◌≡◌, ℕ, ◌==◌, Bool, true, false, if◌then◌else◌, List, Option, Some, Ok, Err, refl, sym, ap, ◌∙◌, subst, slice_get}
 use Rattle.std.specs.Prelude.{Result}
 use Rattle.std.proofs.lemmas.Bool.{false≢true, eq-eqb, eqb-true}
 use Rattle.coin_history.specs.declared.bundle.Bundle.{Bundle}
@@ -28,9 +28,9 @@ use Rattle.world_rules.specs.Orders.{order_of}
 use Rattle.world_rules.specs.OrderEvents.{event_of}
 use Rattle.world_rules.specs.Steps.{LineEffect, without_offers, with_mail}
 use Rattle.world_rules.specs.Laws.{IsCommandIn}
-use Rattle.world_acts.specs.Acts.{Place as NodePlace, Cut, Act, Rests, Orders, End, Whole, Crashed, Kept, Lost, is_down_for, order_act, act_of, end_of, end_effect, deed_at, done}
-use Rattle.world_acts.proofs.Lives.{line_effect}
-use Rattle.world_acts.proofs.Lookups.{IsFound, understood-in}
+use Rattle.world_rules.specs.Acts.{Place as NodePlace, Cut, Act, Rests, Orders, End, Whole, Crashed, Kept, Lost, is_down_for, order_act, act_of, end_of, end_effect, deed_at, done}
+use Rattle.world_rules.proofs.Lives.{line_effect}
+use Rattle.world_rules.proofs.Lookups.{IsFound, understood-in}
 use Rattle.world_laws.proofs.Lists.{some_same}
 
 -- ---- the bundle that is asked for

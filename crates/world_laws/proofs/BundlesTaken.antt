@@ -1,13 +1,11 @@
 -- A bundle that an operator made that keeps to the rules is taken by the wallet that it is for.
-use Rattle.std.proofs.Common.{◌≡◌, ℕ, zero, suc, ◌^◌, ◌<◌, ◌≤◌, ◌&&◌, not, Bool, true, false, if◌then◌else◌, List, [], ◌∷◌, ◌++◌, length, Some, Ok, refl, sym, ap, ◌∙◌, subst, slice_get, nat_lt, arith}
+use Rattle.std.proofs.Common.{◌≡◌, ℕ, zero, suc, ◌^◌, ◌<◌, ◌≤◌, ◌&&◌, not, true, false, if◌then◌else◌, List, [], ◌∷◌, ◌++◌, length, Some, None, Ok, refl, sym, ap, ◌∙◌, subst, slice_get, nat_lt, arith}
 use Rattle.std.specs.List.{list_any}
-use Rattle.std.proofs.lemmas.Bool.{or_parts, true≢false, false≢true}
+use Rattle.std.proofs.lemmas.Bool.{or_parts, true≢false}
 use Rattle.std.proofs.lemmas.List.Folds.{list_any-append}
-use Rattle.std.specs.Prelude.{option_map}
 use Rattle.line_forms.specs.declared.tokens.HexOrItem.{HexOrItem}
 use Rattle.sparse_merkle.specs.declared.tree.Entry.{Entry}
 use Rattle.sparse_merkle.specs.TreeDigest.{leaf_of}
-use Rattle.line_forms.proofs.FormLaws.{option_map_some}
 use Rattle.plasma_tx.specs.Links.{tip_of}
 use Rattle.plasma_tx.specs.declared.owner.Owner.{Owner}
 use Rattle.plasma_tx.specs.declared.views.CoinView.{CoinView}
@@ -25,27 +23,27 @@ use Rattle.node_rules.specs.WalletRecords.{Accepts, note_text, who_is as who_is_
 use Rattle.node_rules.specs.Wallet.{accept_effect}
 use Rattle.operator_rules.specs.Records.{notes_of}
 use Rattle.operator_rules.specs.Trees.{tree_at}
-use Rattle.operator_rules.specs.Walk.{Place, place_at}
+use Rattle.operator_rules.specs.Walk.{Place as Found, place_at}
 use Rattle.operator_rules.specs.Commands.{forest_in, bundle_of, bundle_answer}
 use Rattle.node_replies.specs.Causes.{wallet_cause}
 use Rattle.world_rules.specs.Events.{Event, Joins, log_of}
 use Rattle.world_rules.specs.World.{Node, World, is_wallet_role, number_of, owner_of_node, wallet_of, bytes_of}
 use Rattle.world_rules.specs.Safety.{is_joined}
 use Rattle.node_replies.specs.declared.order.NodeOrder.{NodeOrder}
+use Rattle.node_replies.specs.declared.reply.Reply.{Reply}
 use Rattle.node_replies.specs.declared.order.WalletOrder.{WalletOrder}
-use Rattle.node_replies.specs.Orders.{answered, on_accepted, wallet_doing, wallet_does}
+use Rattle.node_replies.specs.Orders.{answered, on_accepted, wallet_does}
 use Rattle.world_rules.specs.Orders.{order_of}
-use Rattle.world_rules.specs.Deeds.{Deed, as_deed, deed_of}
-use Rattle.world_rules.specs.Steps.{LineEffect, TraceEntry, Run, down, commanded, command_effect, effect_in, step, events_of}
+use Rattle.world_rules.specs.Steps.{LineEffect, TraceEntry, Run, step, events_of}
 use Rattle.world_rules.proofs.KeptRun.{run-kept}
 use Rattle.world_rules.proofs.KeptWorld.{KeptWorld}
-use Rattle.world_rules.proofs.Shapes.{acted}
-use Rattle.world_rules.proofs.StepLaws.{stepped}
+use Rattle.world_rules.specs.Acts.{Place, Act, Rests, Orders, order_act, act_of, done}
+use Rattle.world_rules.proofs.Lookups.{understood}
 use Rattle.world_laws.specs.Headline.{IsRun}
 use Rattle.world_laws.specs.Bundles.{is_barred, CommitsOnce, IsHonestSoFar, WasBundled, IsTakenBundle, HonestBundlesAreTaken}
 use Rattle.world_laws.proofs.Lists.{some_same}
-use Rattle.world_acts.proofs.Lives.{line_effect}
-use Rattle.world_acts.proofs.Told.{OperatorIsFirst}
+use Rattle.world_rules.proofs.Lives.{line_effect, stepped}
+use Rattle.world_rules.proofs.Told.{OperatorIsFirst}
 use Rattle.world_laws.proofs.Acts.{first-alone}
 use Rattle.world_laws.proofs.Keeps.{own-tag, runs-keep}
 use Rattle.world_laws.proofs.SignedDeeds.{named-role}
@@ -121,7 +119,7 @@ own-bundle dig lines run world op coin tip bytes made me run_is honest was coin_
   subst (λ (tag : List ℕ). IsOwnHistory dig tag world.chain.log bytes coin tip me) (sym tag_same)
       (subst (λ (log : List RootCall). IsOwnHistory dig old.chain.tag log bytes coin tip me) (sym log_same)
       (own-history dig old.chain.tag old.chain.log sealed line.bundle bytes coin tip made me good again.0 again.1
-      line.tip_is bytes_are (ap (λ (p : Place). p.owner) place_then))),
+      line.tip_is bytes_are (ap (λ (p : Found). p.owner) place_then))),
   few,
 )
   where
@@ -139,10 +137,10 @@ own-bundle dig lines run world op coin tip bytes made me run_is honest was coin_
         (ap (λ (e : TraceEntry). e.reply) (sym s.entry_is) ∙ was.reply)
 
     kept : KeptWorld dig (events_of run.entries) world
-    kept = (run-kept dig run_is.digest lines run run_is.lines_are run_is.run_is).world world run_is.world_is
+    kept = run-kept dig run_is.digest lines run world run_is.lines_are run_is.run_is run_is.world_is
 
     kept_then : KeptWorld dig (events_of s.before.entries) s.old
-    kept_then = (run-kept dig run_is.digest s.lines s.before s.run_is.lines_are s.run_is.run_is).world s.old
+    kept_then = run-kept dig run_is.digest s.lines s.before s.old s.run_is.lines_are s.run_is.run_is
         s.run_is.world_is
 
     quiet : is_joined was.entry.event ≡ false
@@ -197,7 +195,7 @@ own-bundle dig lines run world op coin tip bytes made me run_is honest was coin_
         ∙ place_is
 
     small : blocks s.old.chain.log ≤ 3000
-    small = let below = kept_then.few in let few = keeping.few in omega (arith, below, few)
+    small = let below = kept_then.frame.few in let few = keeping.few in omega (arith, below, few)
 
     few : blocks world.chain.log ≤ 3000
     few = subst (λ (log : List RootCall). blocks log ≤ 3000) (sym log_same) small
@@ -219,7 +217,7 @@ own-bundle dig lines run world op coin tip bytes made me run_is honest was coin_
         keeping.counted trees n ∙ tree_is)
         (ap (λ (tag : List ℕ). signed_in tag (leaf_of tree c)) tag_same ∙ signed)))
         (distinct-before dig (forest_in has.op.notes).sealed (forest_in op.notes).sealed trees honest.distinct)
-        coin_then (ap (λ (p : Place). p.block) place_then)
+        coin_then (ap (λ (p : Found). p.block) place_then)
 
     again : (bundle_of dig s.old.chain.tag s.old.chain.log (forest_in has.op.notes).sealed coin tip
         (coin_at s.old.chain.log coin) ≡ Ok line.bundle) × (line.bundle.coin ≡ coin)
@@ -234,14 +232,6 @@ own-bundle dig lines run world op coin tip bytes made me run_is honest was coin_
 
 -- ---- the accept
 
--- the deed of an accept
-accept-deed : (dig : List ℕ → List ℕ) (world : World) (name : List ℕ) (n : ℕ) (node : Node) (token : HexOrItem)
-    (deed : Deed) → deed_of dig world n node (Command.Wallet name (WalletCommand.Accept token)) ≡ Some deed
-    → as_deed n (NodeOrder.Wallet (WalletOrder.Accept (bytes_of world token)))
-    (wallet_doing on_accepted (accept_effect dig (wallet_of node) world.chain.log (bytes_of world token))) ≡ deed
-unfolding deed_of order_of wallet_does
-accept-deed dig world name n node token deed is = some_same _ deed is
-
 -- what the wallet answers that is up
 accept-reply : (dig : List ℕ → List ℕ) (world : World) (name : List ℕ) (n : ℕ) (node : Node) (token : HexOrItem)
     (effect : LineEffect) → number_of is_wallet_role world name ≡ Some n → slice_get world.nodes n ≡ Some node
@@ -249,31 +239,31 @@ accept-reply : (dig : List ℕ → List ℕ) (world : World) (name : List ℕ) (
     → step dig (Some world) (Line.Command (Command.Wallet name (WalletCommand.Accept token))) ≡ Some effect
     → effect.reply ≡ (answered wallet_cause on_accepted
     (accept_effect dig (wallet_of node) world.chain.log (bytes_of world token)).answer).reply
-unfolding effect_in
+unfolding act_of order_of done wallet_does
 accept-reply dig world name n node token effect number node_is is_up is =
     let command = Command.Wallet name (WalletCommand.Accept token) in
     let made = stepped dig world (Line.Command command) effect is in
-    let found = acted dig world is_wallet_role name (command_effect dig world command) made.bare made.bare_is in
-    let n_is : found.0 ≡ n = some_same found.0 n (sym found.2 ∙ number) in
-    let node_same : found.1 ≡ node =
-    some_same found.1 node (sym found.3 ∙ ap (slice_get world.nodes) n_is ∙ node_is) in
-    ap (λ (e : LineEffect). e.reply) made.effect_is
-    ∙ by made.bare node.is_up is_up
-    (subst (λ (k : Node). command_effect dig world command n k ≡ Some made.bare) node_same
-    (subst (λ (m : ℕ). command_effect dig world command m found.1 ≡ Some made.bare) n_is found.4))
+    let one = understood world None command made.act made.act_is in
+    let number_same : one.place.number ≡ n = some_same one.place.number n (sym one.at.number ∙ number) in
+    let node_same : one.place.node ≡ node =
+    some_same one.place.node node (sym one.at.there ∙ ap (slice_get world.nodes) number_same ∙ node_is) in
+    ap (λ (e : LineEffect). e.reply) (sym made.effect_is)
+    ∙ ap (λ (act : Act). (done dig world act).reply) (sym one.act_is)
+    ∙ ap (λ (o : NodeOrder). (done dig world (order_act None one.place o)).reply)
+    (sym (some_same order one.order one.order_is))
+    ∙ replied one.place (ap (λ (k : Node). k.is_up) node_same ∙ is_up)
+    ∙ ap (λ (k : Node). (answered wallet_cause on_accepted
+    (accept_effect dig (wallet_of k) world.chain.log (bytes_of world token)).answer).reply) node_same
   where
-    by : (bare : LineEffect) (b : Bool) → b ≡ true
-        → (if not b && true then Some (down world)
-        else option_map (commanded world n node)
-        (deed_of dig world n node (Command.Wallet name (WalletCommand.Accept token)))) ≡ Some bare
-        → bare.reply ≡ (answered wallet_cause on_accepted
-        (accept_effect dig (wallet_of node) world.chain.log (bytes_of world token)).answer).reply
-    by bare true up is =
-        let asked = Command.Wallet name (WalletCommand.Accept token) in
-        let done = option_map_some (commanded world n node) (deed_of dig world n node asked) bare is in
-        ap (λ (e : LineEffect). e.reply)
-        (sym (ap (commanded world n node) (accept-deed dig world name n node token done.0 done.1) ∙ done.2))
-    by bare false up is = absurd (false≢true up)
+    order : NodeOrder
+    order = NodeOrder.Wallet (WalletOrder.Accept (bytes_of world token))
+
+    replied : (place : Place) → place.node.is_up ≡ true
+        → (done dig world (order_act None place order)).reply
+        ≡ (answered wallet_cause on_accepted
+        (accept_effect dig (wallet_of place.node) world.chain.log (bytes_of world token)).answer).reply
+    replied place up =
+        ap (λ b. (done dig world (if not b && true then Rests Reply.Down else Orders place order None)).reply) up
 
 -- a history that ends with the wallet is taken, where its note isn't too long
 pub taken-by : (dig : List ℕ → List ℕ) (lines : List Line) (run : Run) (world : World) (node : Node) (n coin tip : ℕ)
@@ -286,7 +276,7 @@ pub taken-by : (dig : List ℕ → List ℕ) (lines : List Line) (run : Run) (wo
     → IsTakenBundle world.chain.log coin tip effect.reply
 taken-by dig lines run world node n coin tip name bytes token effect run_is own short number node_is is_up bytes_are
     is =
-    let kept = (run-kept dig run_is.digest lines run run_is.lines_are run_is.run_is).world world run_is.world_is in
+    let kept = run-kept dig run_is.digest lines run world run_is.lines_are run_is.run_is run_is.world_is in
     let role = named-role dig (events_of run.entries) world kept name n node number node_is in
     let tag_is = own-tag (events_of run.entries) world (runs-keep dig lines run world run_is) n node node_is role in
     let handed : links_handed dig (who_is_wallet node.notes).tag world.chain.log bytes ≡ Ok own.links =

@@ -13,9 +13,9 @@ use Rattle.world_rules.specs.Steps.{without_offers, Run, events_of}
 use Rattle.world_rules.proofs.KeptNode.{IsFitOrder}
 use Rattle.world_rules.proofs.KeptWorld.{KeptWorld, few-blocks}
 use Rattle.world_rules.proofs.OrderEnds.{OrderEnds, Accepting, Binding, TakingBack, order-ends}
-use Rattle.world_acts.specs.Acts.{NewWallet, Act, Adds, Enters, Orders, End, Whole, Crashed, Kept, Lost, end_of, event_after, deed_at, done}
-use Rattle.world_acts.specs.Evidence.{has_order, IsActIn}
-use Rattle.world_acts.proofs.Fitting.{IsFitAct}
+use Rattle.world_rules.specs.Acts.{NewWallet, Act, Adds, Enters, Orders, End, Whole, Crashed, Kept, Lost, end_of, event_after, deed_at, done}
+use Rattle.world_rules.specs.Evidence.{has_order, IsActIn}
+use Rattle.world_rules.proofs.Fitting.{IsFitAct}
 use Rattle.world_laws.specs.Headline.{IsRun}
 use Rattle.world_laws.specs.Legal.{IsLegal}
 use Rattle.world_laws.proofs.Keeps.{own-tag}

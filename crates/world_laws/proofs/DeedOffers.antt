@@ -1,6 +1,6 @@
 -- What orders offer: challenges and answers by a watch, a wallet's own start by a leave, the operator's commit by a
 -- seal. None of it deposits, and a start is by the account of the wallet that offers it.
-use Rattle.std.proofs.Common.{◌≡◌, ℕ, true, false, List, [], Option, Some, None, Ok, Err, inl, inr, refl, sym, ap, ◌∙◌, subst}
+use Rattle.std.proofs.Common.{◌≡◌, ℕ, true, false, List, [], Option, Some, None, Ok, Err, inl, inr, refl, sym, ◌∙◌, subst}
 use Rattle.std.specs.Prelude.{Result}
 use Rattle.std.specs.List.{range_with_len}
 use Rattle.std.specs.Option.{option_map_or}
@@ -25,8 +25,8 @@ use Rattle.world_rules.specs.World.{Node, World, is_wallet_role, is_operator_rol
 use Rattle.node_replies.specs.declared.order.NodeOrder.{NodeOrder}
 use Rattle.world_rules.specs.Events.{Event}
 use Rattle.world_rules.proofs.OrderEnds.{OrderEnds, Leaving, Watching, GuardWatching, Sealing, order-ends}
-use Rattle.world_acts.specs.Acts.{Place, deed_at}
-use Rattle.world_acts.specs.Evidence.{has_order, MayOrder}
+use Rattle.world_rules.specs.Acts.{Place, deed_at}
+use Rattle.world_rules.specs.Evidence.{has_order, MayOrder}
 use Rattle.world_laws.specs.Legal.{starts_by, deposits_by}
 use Rattle.world_laws.proofs.Identities.{IsOffer}
 use Rattle.world_laws.proofs.OperatorActs.{commits_root}

@@ -33,7 +33,7 @@ use Rattle.node_replies.proofs.ByteTexts.{Small, small-nil}
 use Rattle.world_rules.proofs.Said.{Said, told}
 use Rattle.world_rules.proofs.KeptWatcher.{KeptWatcher}
 use Rattle.world_rules.proofs.KeptNode.{IsFitOrder, watcher-alone}
-use Rattle.world_acts.specs.Evidence.{has_order}
+use Rattle.world_rules.specs.Evidence.{has_order}
 use Rattle.world_laws.proofs.Handed.{handed-history}
 
 -- a bundle shows a kept coin: it is of the coin and the tip, and has the links

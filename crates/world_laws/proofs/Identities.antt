@@ -19,7 +19,7 @@ use Rattle.node_replies.specs.Orders.{with_record}
 use Rattle.world_rules.specs.Events.{Event, Declares, wallet_owner, node_in, is_command_of}
 use Rattle.world_rules.specs.World.{Role, Wallet, Watcher, Operator, Node, World, is_wallet_role, owner_of_node}
 use Rattle.world_rules.proofs.Said.{Said, said, is_said_of, said-other}
-use Rattle.world_acts.specs.Evidence.{IsOfChain}
+use Rattle.world_rules.specs.Evidence.{IsOfChain}
 use Rattle.world_laws.specs.Legal.{starts_by, deposits_by}
 use Rattle.world_laws.proofs.Lists.{some_same, none_some}
 

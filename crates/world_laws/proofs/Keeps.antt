@@ -22,14 +22,14 @@ use Rattle.world_rules.specs.Declarations.{is_new_name, is_declared_account, is_
 use Rattle.world_rules.specs.declared.TheConstants.{MOST_WALLETS}
 use Rattle.world_rules.specs.Deeds.{Deed}
 use Rattle.world_rules.specs.Steps.{new_node, after_crash, offer_numbered, Run, events_of}
-use Rattle.world_rules.proofs.Runs.{begun}
-use Rattle.world_acts.specs.Acts.{Place, NewWallet, NewWatcher, NewRogue, Origin, Plain, Deposits, Raw, Offered, Act, Adds, Enters, Orders, Crashes, callers_after, End, Whole, Crashed, Kept, Lost, end_of, node_after, event_after, deed_at, done}
-use Rattle.world_acts.specs.Evidence.{IsThere, is_plain, IsFrom, MayOrder, IsActIn}
-use Rattle.world_acts.proofs.Fitting.{IsFitAct}
-use Rattle.world_acts.proofs.Lives.{line_effect}
-use Rattle.world_acts.proofs.Nodes.{change_of, EachNode, IsOther, IsKeptOwn, each_node_keeps}
-use Rattle.world_acts.proofs.Same.{IsSame, same-after}
-use Rattle.world_acts.proofs.Told.{OperatorIsFirst, by-end, commands-others, said-others, rules-stay}
+use Rattle.world_rules.proofs.Lives.{begun}
+use Rattle.world_rules.specs.Acts.{Place, NewWallet, NewWatcher, NewRogue, Origin, Plain, Deposits, Raw, Offered, Act, Adds, Enters, Orders, Crashes, callers_after, End, Whole, Crashed, Kept, Lost, end_of, node_after, event_after, deed_at, done}
+use Rattle.world_rules.specs.Evidence.{IsThere, is_plain, IsFrom, MayOrder, IsActIn}
+use Rattle.world_rules.proofs.Fitting.{IsFitAct}
+use Rattle.world_rules.proofs.Lives.{line_effect}
+use Rattle.world_rules.proofs.Nodes.{change_of, EachNode, IsOther, IsKeptOwn, each_node_keeps}
+use Rattle.world_rules.proofs.Same.{IsSame, same-after}
+use Rattle.world_rules.proofs.Told.{OperatorIsFirst, by-end, commands-others, said-others, rules-stay}
 use Rattle.world_laws.specs.Headline.{IsRun}
 use Rattle.world_laws.proofs.Lists.{some_same, none_some}
 use Rattle.world_laws.proofs.Acts.{over_events}
@@ -216,7 +216,7 @@ module _ (dig : List ℕ → List ℕ) (events : List Event) (world : World) (ke
       → (found : Option Node) → At m found → IsNodeAt ((done dig world act).event ∷ events) world.chain.tag m found
   others-keep act known m other found =
       node-same events ((done dig world act).event ∷ events) world.chain.tag m found
-      (owner-same (done dig world act).event events m (said-others dig world first act known m other))
+      (owner-same (done dig world act).event events m (said-others dig world act m other))
       (λ unused. ap (λ (b : Bool). b || list_any (is_command_of m) events)
       (commands-others dig world first act known m other) ∙ unused)
 
@@ -394,4 +394,4 @@ pub runs-keep : (dig : List ℕ → List ℕ) (lines : List Line) (run : Run) (w
 runs-keep dig =
     over_events dig Keeps (λ tag operator most fits. first-keeps tag operator most)
     (λ lines run world line act next keeps.
-    act-keeps dig (events_of run.entries) world keeps next.first next.kept.tag_long act next.known next.fit)
+    act-keeps dig (events_of run.entries) world keeps next.first next.kept.frame.tag_long act next.known next.fit)

@@ -43,7 +43,7 @@ use Rattle.node_replies.proofs.ByteTexts.{Small}
 use Rattle.world_rules.proofs.Said.{Said}
 use Rattle.world_rules.proofs.KeptWallet.{KeptWallet, with_note}
 use Rattle.world_rules.proofs.KeptNode.{Feeds, IsFitOrder, wallet-alone}
-use Rattle.world_acts.specs.Evidence.{has_order}
+use Rattle.world_rules.specs.Evidence.{has_order}
 use Rattle.world_rules.proofs.WalletSends.{words}
 use Rattle.world_laws.proofs.Lists.{some_same}
 use Rattle.world_laws.proofs.Offers.{StartsAt, start-at}

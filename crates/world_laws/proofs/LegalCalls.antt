@@ -20,8 +20,8 @@ use Rattle.schedule_text.specs.declared.line.Line.{Line}
 use Rattle.world_laws.specs.Headline.{IsRun}
 use Rattle.world_laws.specs.Legal.{starts_by, deposits_by, left_by, LegalDeclaration, IsLegalEvent, IsLegal}
 use Rattle.world_laws.proofs.Lists.{some_same, none_some}
-use Rattle.world_acts.specs.Acts.{Origin, Plain, Deposits, Raw, Offered}
-use Rattle.world_acts.specs.Evidence.{IsFrom}
+use Rattle.world_rules.specs.Acts.{Origin, Plain, Deposits, Raw, Offered}
+use Rattle.world_rules.specs.Evidence.{IsFrom}
 use Rattle.world_laws.proofs.Holders.{holders, IsHeld, held-wallet, IsKnown, unknown-none}
 use Rattle.world_laws.proofs.Identities.{IsOfRole, wallet-node}
 use Rattle.world_laws.proofs.Keeps.{Keeps, plain-moves, offered-has, raw-moves, holder-is, held-by, node-at, not-there, next-unknown, is-offer, account-new, not-held, runs-keep}

@@ -1,6 +1,6 @@
 -- Each event of a run is legal after those before it, but for those that are left: what a wallet does with its coins.
 -- Where these are legal too, all events of every run are.
-use Rattle.std.proofs.Common.{◌≡◌, ℕ, true, List, [], ◌∷◌, Some, None, Ok, Err, inl, inr, refl, sym, ap, ◌∙◌, subst, slice_get}
+use Rattle.std.proofs.Common.{◌≡◌, ℕ, true, List, [], ◌∷◌, Some, None, Ok, Err, refl, sym, ap, ◌∙◌, subst, slice_get}
 use Rattle.std.specs.Prelude.{Result}
 use Rattle.plasma_tx.specs.declared.links.Links.{Links}
 use Rattle.plasma_tx.specs.declared.call.RootCall.{RootCall}
@@ -19,12 +19,12 @@ use Rattle.world_rules.specs.OrderEvents.{bundle_read}
 use Rattle.world_rules.specs.Steps.{without_offers, Run, events_of}
 use Rattle.world_rules.proofs.KeptWorld.{KeptWorld}
 use Rattle.world_rules.proofs.OrderEnds.{OrderEnds, Leaving, Watching, Guarding, GuardWatching, Sealing, order-ends}
-use Rattle.world_rules.proofs.Runs.{begun}
+use Rattle.world_rules.proofs.Lives.{begun}
 use Rattle.world_rules.proofs.Said.{said}
-use Rattle.world_acts.specs.Acts.{NewWallet, Act, Adds, Enters, Orders, End, Whole, Crashed, Kept, Lost, end_of, event_after, deed_at, done}
-use Rattle.world_acts.specs.Evidence.{has_order, IsActIn}
-use Rattle.world_acts.proofs.Lives.{line_effect}
-use Rattle.world_acts.proofs.Told.{rules-stay}
+use Rattle.world_rules.specs.Acts.{NewWallet, Act, Adds, Enters, Orders, End, Whole, Crashed, Kept, Lost, end_of, event_after, deed_at, done}
+use Rattle.world_rules.specs.Evidence.{has_order, IsActIn}
+use Rattle.world_rules.proofs.Lives.{line_effect}
+use Rattle.world_rules.proofs.Told.{rules-stay}
 use Rattle.world_laws.specs.Headline.{IsRun}
 use Rattle.world_laws.specs.Legal.{LegalAccept, LegalGuard, LegalBinding, LegalReclaim, IsLegalEvent, IsLegal}
 use Rattle.world_laws.proofs.Acts.{IsNext, over_events}

@@ -18,13 +18,13 @@ use Rattle.world_rules.specs.Steps.{with_records, after_crash, without_offers, R
 use Rattle.world_rules.proofs.KeptNode.{IsFitOrder}
 use Rattle.world_rules.proofs.KeptWorld.{KeptWorld, world-feeds}
 use Rattle.world_rules.proofs.NodeEvents.{other-of}
-use Rattle.world_rules.proofs.Runs.{begun}
+use Rattle.world_rules.proofs.Lives.{begun}
 use Rattle.world_rules.proofs.Said.{Said, said, told, said-other}
-use Rattle.world_acts.specs.Acts.{Place, NewWallet, NewWatcher, NewRogue, Act, Adds, Orders, Crashes, End, Whole, Crashed, Kept, Lost, end_of, node_after, event_after, deed_at, done}
-use Rattle.world_acts.specs.Evidence.{MayOrder, IsActIn}
-use Rattle.world_acts.proofs.Fitting.{IsFitAct}
-use Rattle.world_acts.proofs.Nodes.{change_of, EachNode, IsOther, IsKeptOwn, each_node_keeps, IfThere, node-there, others-there}
-use Rattle.world_acts.proofs.Told.{OperatorIsFirst, said-own, commands-others, said-others, rules-stay}
+use Rattle.world_rules.specs.Acts.{Place, NewWallet, NewWatcher, NewRogue, Act, Adds, Orders, Crashes, End, Whole, Crashed, Kept, Lost, end_of, node_after, event_after, deed_at, done}
+use Rattle.world_rules.specs.Evidence.{MayOrder, IsActIn}
+use Rattle.world_rules.proofs.Fitting.{IsFitAct}
+use Rattle.world_rules.proofs.Nodes.{change_of, EachNode, IsKeptOwn, each_node_keeps, IfThere, node-there, others-there}
+use Rattle.world_rules.proofs.Told.{OperatorIsFirst, order-told, commands-others, said-others, rules-stay}
 use Rattle.world_laws.specs.Headline.{IsRun}
 use Rattle.world_laws.specs.Legal.{left_by, is_left}
 use Rattle.world_laws.proofs.Acts.{over_events}
@@ -150,10 +150,10 @@ module _ (dig : List ℕ → List ℕ) (events : List Event) (world : World) (ke
 
     ended : (end : End) → Before n node → Behind (event_after n deed end) n (node_after node deed end)
     ended Whole =
-        recorded deed.gives.event true deed.gives.offers (said-own dig world first events place order may Whole)
+        recorded deed.gives.event true deed.gives.offers (order-told dig world events place order Whole).is
         (λ m call is. is)
-    ended Crashed = cut-noted (said-own dig world first events place order may Crashed)
-    ended Kept = cut-noted (said-own dig world first events place order may Kept)
+    ended Crashed = cut-noted (order-told dig world events place order Crashed).is
+    ended Kept = cut-noted (order-told dig world events place order Kept).is
     ended Lost = crash-noted n node
 
   own-noted : (act : Act) → IsActIn world act → IsFitAct act
@@ -176,7 +176,7 @@ module _ (dig : List ℕ → List ℕ) (events : List Event) (world : World) (ke
       (each_node_keeps (IfThere Before) (IfThere (Behind event)) dig world act known are (record {
         others = others-there Before (Behind event) world.nodes (change_of dig world act) (λ m other node.
             noted-still dig events event world.chain.tag m node node.is_up node.offers
-            (said-other event events m (said-others dig world first act known m other))
+            (said-other event events m (said-others dig world act m other))
             (left-apart event events m (commands-others dig world first act known m other)));
         own = own-noted act known fit;
       }))

@@ -1,8 +1,5 @@
 -- The act of a line that isn't barred: its order lays nothing, and a commit that it enters is one that a node offers.
-use Rattle.std.proofs.Common.{◌≡◌, ℕ, Bool, true, false, if◌then◌else◌, not, List, Option, Some, None, refl, sym, ap, ◌∙◌, subst}
-use Rattle.std.specs.Prelude.{option_map}
-use Rattle.std.specs.Option.{option_map_or}
-use Rattle.std.specs.Str.{bytes_eq}
+use Rattle.std.proofs.Common.{◌≡◌, ℕ, Bool, true, false, Some, inl, inr, refl, sym, ap, ◌∙◌}
 use Rattle.std.proofs.lemmas.Bool.{false≢true}
 use Rattle.line_forms.proofs.FormLaws.{option_map_some}
 use Rattle.plasma_tx.specs.declared.call.RootCall.{RootCall}
@@ -10,16 +7,14 @@ use Rattle.schedule_text.specs.declared.line.Line.{Line}
 use Rattle.schedule_text.specs.declared.command.Command.{Command}
 use Rattle.schedule_text.specs.declared.command.OperatorCommand.{OperatorCommand}
 use Rattle.schedule_text.specs.declared.call_form.CallForm.{CallForm}
-use Rattle.schedule_text.specs.Grammar.{node_of}
-use Rattle.node_replies.specs.declared.reply.Reply.{Reply}
 use Rattle.node_replies.specs.declared.order.NodeOrder.{NodeOrder}
 use Rattle.node_replies.specs.declared.order.OperatorOrder.{OperatorOrder}
-use Rattle.world_rules.specs.World.{Role, Wallet, Watcher, Operator, World, is_wallet_role, any_role, owner_of_node, call_of, key_of}
-use Rattle.world_rules.specs.Declarations.{is_wallet_account, keeps_rules_in}
-use Rattle.world_rules.specs.Orders.{wallet_order, watch_order, order_of}
-use Rattle.world_rules.specs.Steps.{deposit_by, offer_numbered, outcome_of}
-use Rattle.world_acts.specs.Acts.{Place, Newcomer, Origin, Deposits, Raw, Offered, Cut, Act, Rests, Adds, Enters, Orders, Crashes, place_named, is_down_for, command_act, offer_act, only_where, act_of}
-use Rattle.world_acts.proofs.Lookups.{where-some, ruled, IsUnderstood, understood, signed}
+use Rattle.world_rules.specs.World.{Role, Wallet, Watcher, Operator, World, call_of, key_of}
+use Rattle.world_rules.specs.Orders.{wallet_order, order_of}
+use Rattle.world_rules.specs.Laws.{IsCommandIn}
+use Rattle.world_rules.specs.Acts.{Origin, Plain, Deposits, Raw, Offered, Act, Enters, Orders, act_of}
+use Rattle.world_rules.specs.Evidence.{is_plain}
+use Rattle.world_rules.proofs.Lines.{IsActOf, is-act}
 use Rattle.world_laws.specs.Bundles.{lays, is_barred}
 use Rattle.world_laws.proofs.Lists.{some_same}
 
@@ -65,59 +60,29 @@ lays-none world Watcher (Command.Watch name) order free is = ap lays_by (sym (so
 lays-none world Operator (Command.Watch name) order free is = absurd (cc is)
 lays-none world role command order free is = ap lays_by (sym (some_same _ order is))
 
-module _ (world : World) where
-  free-command : (cut : Option Cut) (command : Command) (act : Act) → lays command ≡ false
-      → command_act world cut command ≡ Some act → IsFree act
-  free-command cut command act free is =
-      let own = understood world cut command act is in
-      subst IsFree own.act_is (by own.place own.order
-      (lays-none world own.place.node.role command own.order free own.order_is)
-      (is_down_for own.order own.place.node))
-    where
-      by : (place : Place) (order : NodeOrder) → lays_by order ≡ false → (b : Bool)
-          → IsFree (if b then Rests Reply.Down else Orders place order cut)
-      by place order none true = tt
-      by place order none false = none
+-- money that comes in, and time, are no commit
+plain-none : (call : RootCall) → is_plain call ≡ true → commits_root call ≡ false
+plain-none (RootCall.Commit account root) plain = absurd (false≢true plain)
+plain-none call plain = refl
 
-  free-offer : (place : Place) (offer : Option RootCall)
-      → IsFree (option_map_or (Enters (Offered place)) offer (Rests Reply.Nothing))
-  free-offer place None = tt
-  free-offer place (Some call) = λ some. refl
+-- a line that isn't barred has no command that lays
+command-free : (line : Line) (command : Command) → is_barred line ≡ false → IsCommandIn line command
+    → lays command ≡ false
+command-free line command free (inl plain) = ap is_barred (sym plain) ∙ free
+command-free line command free (inr in_cut) = ap is_barred (sym in_cut.3) ∙ free
 
-  free-rule : (b : Bool) (name : List ℕ) (newcomer : Newcomer) (act : Act)
-      → only_where b (Some (Adds name newcomer)) ≡ Some act → IsFree act
-  free-rule b name newcomer act is = subst IsFree (ruled b (Adds name newcomer) act is).1 tt
-
-  pub free-act : (line : Line) (act : Act) → act_of world line ≡ Some act → is_barred line ≡ false → IsFree act
-  unfolding act_of
-  free-act (Line.Chain tag operator most) act is free = absurd (cc is)
-  free-act (Line.Wallet name account seed types) act is free = free-rule _ _ _ act is
-  free-act (Line.Watcher name account) act is free = free-rule _ _ _ act is
-  free-act (Line.Rogue name account seed types) act is free = free-rule _ _ _ act is
-  free-act (Line.Fund account amount) act is free =
-      subst IsFree (some_same _ act is) (λ wrong. absurd (false≢true wrong))
-  free-act (Line.Tick time) act is free = subst IsFree (some_same _ act is) (λ wrong. absurd (false≢true wrong))
-  free-act (Line.Money account) act is free = subst IsFree (some_same _ act is) tt
-  free-act (Line.Deposit wallet amount) act is free =
-      let place = option_map_some
-      (λ (place : Place). Enters (Deposits place) (deposit_by amount (owner_of_node place.node)))
-      (place_named is_wallet_role world wallet) act is in
-      subst IsFree place.2 (λ wrong. absurd (false≢true wrong))
-  free-act (Line.Call account form) act is free =
-      let may = where-some (not (is_wallet_account world account))
-      (option_map (Enters (Raw account)) (call_of world account form)) act is in
-      let call = option_map_some (Enters (Raw account)) (call_of world account form) act may.1 in
-      subst IsFree call.2
-      (λ some. absurd (false≢true (sym (form-none world account form call.0 free call.1) ∙ some)))
-  free-act (Line.Enter node number) act is free =
-      let place = option_map_some (offer_act number) (place_named any_role world node) act is in
-      subst IsFree place.2 (free-offer place.0 (offer_numbered number place.0.node))
-  free-act (Line.Command command) act is free = free-command None command act free is
-  free-act (Line.Sign rogue leaf coin parent to last) act is free =
-      subst IsFree (signed world rogue leaf coin parent to last act is).act_is tt
-  free-act (Line.Crash node outcome) act is free =
-      subst IsFree (option_map_some Crashes (place_named any_role world node) act is).2 tt
-  free-act (Line.Cut node calls outcome command) act is free =
-      let cut : Cut = record { calls = calls; outcome = outcome_of outcome } in
-      free-command (Some cut) command act free
-      (where-some (bytes_eq (node_of command) node) (command_act world (Some cut) command) act is).1
+pub free-act : (world : World) (line : Line) (act : Act) → act_of world line ≡ Some act → is_barred line ≡ false
+    → IsFree act
+free-act world line act is free = by act (is-act world line act is)
+  where
+    by : (one : Act) → IsActOf world line one → IsFree one
+    by (Enters Plain call) of = λ some. absurd (false≢true (sym (plain-none call of.known) ∙ some))
+    by (Enters (Deposits place) call) of = λ some. absurd (false≢true (ap commits_root (sym of.known.2.1) ∙ some))
+    by (Enters (Raw account) call) of = λ some.
+        absurd (false≢true
+        (sym (form-none world account of.line_is.0 call (ap is_barred (sym of.line_is.1) ∙ free) of.line_is.2) ∙ some))
+    by (Enters (Offered place) call) of = λ some. refl
+    by (Orders place order cut) of =
+        lays-none world place.node.role of.line_is.0 order (command-free line of.line_is.0 free of.line_is.1)
+        of.line_is.2
+    by one of = tt

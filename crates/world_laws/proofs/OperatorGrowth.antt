@@ -16,12 +16,12 @@ use Rattle.node_replies.specs.Orders.{with_record}
 use Rattle.world_rules.specs.World.{Node, World}
 use Rattle.world_rules.specs.Steps.{after_crash, TraceEntry, entry_of, Run}
 use Rattle.world_rules.specs.Laws.{IsCommandIn}
-use Rattle.world_rules.proofs.Runs.{begun}
-use Rattle.world_acts.specs.Acts.{NewWallet, NewWatcher, NewRogue, Act, Adds, Orders, Crashes, End, Whole, Crashed, Kept, Lost, act_of, end_of, node_after, deed_at}
-use Rattle.world_acts.specs.Evidence.{IsActIn}
-use Rattle.world_acts.proofs.Lives.{line_effect}
-use Rattle.world_acts.proofs.Nodes.{change_of, IsKeptOwn, each_node_keeps}
-use Rattle.world_acts.proofs.Told.{rules-stay}
+use Rattle.world_rules.proofs.Lives.{begun}
+use Rattle.world_rules.specs.Acts.{NewWallet, NewWatcher, NewRogue, Act, Adds, Orders, Crashes, End, Whole, Crashed, Kept, Lost, act_of, end_of, node_after, deed_at}
+use Rattle.world_rules.specs.Evidence.{IsActIn}
+use Rattle.world_rules.proofs.Lives.{line_effect}
+use Rattle.world_rules.proofs.Nodes.{change_of, IsKeptOwn, each_node_keeps}
+use Rattle.world_rules.proofs.Told.{rules-stay}
 use Rattle.world_laws.specs.Headline.{IsRun}
 use Rattle.world_laws.proofs.Acts.{IsNext, over_acts}
 use Rattle.world_laws.proofs.Lists.{some_same, append-assoc}

@@ -1,6 +1,6 @@
 -- An operator that keeps to the rules: what its notes and the log are as acts, that these are honest, and that one
 -- more event leaves it so.
-use Rattle.std.proofs.Common.{◌≡◌, ℕ, suc, ◌+◌, ◌<◌, ◌≤◌, Bool, true, false, if◌then◌else◌, List, [], ◌∷◌, ◌++◌, length, filter, Some, Ok, inl, inr, refl, sym, ap, ◌∙◌, subst, slice_get, arith}
+use Rattle.std.proofs.Common.{◌≡◌, ℕ, suc, ◌+◌, ◌<◌, ◌≤◌, Bool, true, false, if◌then◌else◌, List, [], ◌∷◌, ◌++◌, length, filter, Some, Ok, refl, sym, ap, ◌∙◌, subst, slice_get, arith}
 use Rattle.std.specs.Option.{option_and_then}
 use Rattle.std.specs.Str.{bytes_eq}
 use Rattle.std.proofs.lemmas.Bool.{true≢false, false≢true}
@@ -26,7 +26,6 @@ use Rattle.operator_rules.proofs.Trees.{root_at-le, root_at-new, tree_of-grow, c
 use Rattle.world_rules.specs.Events.{Event, Joins, is_command_of}
 use Rattle.world_rules.specs.World.{Operator, Node}
 use Rattle.world_laws.specs.Bundles.{is_commit, commits_since}
-use Rattle.world_laws.proofs.Lists.{some_same}
 use Rattle.world_laws.proofs.OperatorActs.{commits_root}
 
 -- ---- what is kept

@@ -14,9 +14,9 @@ use Rattle.operator_rules.proofs.RecordTexts.{identity_in-text}
 use Rattle.world_rules.specs.Events.{Idle}
 use Rattle.world_rules.specs.World.{World, padded}
 use Rattle.world_rules.specs.Steps.{new_chain, operator_node, step, TraceEntry, entry_of, Run, no_lines, with_line, step_run, run_of, events_of}
-use Rattle.world_rules.proofs.Runs.{begun}
-use Rattle.world_acts.specs.Acts.{Act}
-use Rattle.world_acts.proofs.Lives.{line_effect}
+use Rattle.world_rules.proofs.Lives.{begun}
+use Rattle.world_rules.specs.Acts.{Act}
+use Rattle.world_rules.proofs.Lives.{line_effect}
 use Rattle.world_laws.specs.Headline.{IsRun}
 use Rattle.world_laws.specs.Bundles.{is_barred, CommitsOnce}
 use Rattle.world_laws.proofs.Lists.{some_same}

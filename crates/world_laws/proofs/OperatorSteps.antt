@@ -41,12 +41,13 @@ use Rattle.world_rules.specs.Orders.{on_open, node_does}
 use Rattle.world_rules.specs.Steps.{with_records, after_command, after_crash, Run}
 use Rattle.world_rules.proofs.KeptNode.{IsFitOrder}
 use Rattle.world_rules.proofs.OrderEnds.{each-answer}
-use Rattle.world_rules.proofs.Runs.{begun, set-same, set-other, push-other}
-use Rattle.world_acts.specs.Acts.{Place, NewWallet, NewWatcher, NewRogue, Origin, Offered as OnOffer, Act, Rests, Signs, Adds, Enters, Orders, Crashes, End, Whole, Crashed, Kept, Lost, end_of, node_after, event_after, deed_at, done}
-use Rattle.world_acts.specs.Evidence.{IsThere, IsFrom, has_order, IsActIn}
-use Rattle.world_acts.proofs.Fitting.{IsFitAct}
-use Rattle.world_acts.proofs.Nodes.{change_of, EachNode, IsKeptOwn, each_node_keeps, IfThere, node-there}
-use Rattle.world_acts.proofs.Told.{OperatorIsFirst, by-end}
+use Rattle.world_rules.proofs.Lives.{begun}
+use Rattle.world_rules.proofs.Runs.{set-same, set-other, push-other}
+use Rattle.world_rules.specs.Acts.{Place, NewWallet, NewWatcher, NewRogue, Origin, Offered as OnOffer, Act, Rests, Signs, Adds, Enters, Orders, Crashes, End, Whole, Crashed, Kept, Lost, end_of, node_after, event_after, deed_at, done}
+use Rattle.world_rules.specs.Evidence.{IsThere, IsFrom, has_order, IsActIn}
+use Rattle.world_rules.proofs.Fitting.{IsFitAct}
+use Rattle.world_rules.proofs.Nodes.{change_of, EachNode, IsKeptOwn, each_node_keeps, IfThere, node-there}
+use Rattle.world_rules.proofs.Told.{OperatorIsFirst, by-end}
 use Rattle.world_laws.specs.Headline.{IsRun}
 use Rattle.world_laws.specs.Bundles.{is_commit, commits_since}
 use Rattle.world_laws.proofs.Lists.{some_same, none_some}

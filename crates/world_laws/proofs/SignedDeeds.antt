@@ -1,6 +1,6 @@
 -- What a wallet's command gives out that is answered with a leaf is the body that the leaf binds, with the signature.
-use Rattle.std.proofs.Common.{◌≡◌, ℕ, ◌^◌, ◌<◌, ◌&&◌, not, Bool, true, false, if◌then◌else◌, List, [], ◌∷◌, ◌++◌, Option, Some, None, inl, inr, refl, sym, ap, ◌∙◌, subst, bytes_eq}
-use Rattle.std.specs.Prelude.{Result, IfSome, slice_get, unwrap_or, option_map}
+use Rattle.std.proofs.Common.{◌≡◌, ℕ, ◌^◌, ◌<◌, Bool, true, false, if◌then◌else◌, List, [], ◌∷◌, ◌++◌, Option, Some, None, refl, sym, ap, ◌∙◌, subst, bytes_eq}
+use Rattle.std.specs.Prelude.{Result, IfSome, slice_get, unwrap_or}
 use Rattle.std.proofs.lemmas.Bool.{and_parts, eq-eqb}
 use Rattle.line_forms.proofs.FormLaws.{option_map_some}
 use Rattle.leaf_journal.specs.Records.{messages_of}
@@ -39,9 +39,9 @@ use Rattle.world_rules.proofs.KeptNode.{IsGoodOwner, IsFitOrder}
 use Rattle.world_rules.proofs.KeptWallet.{KeptWallet}
 use Rattle.world_rules.proofs.KeptWorld.{KeptWorld, few-blocks}
 use Rattle.world_rules.proofs.Said.{said}
-use Rattle.world_acts.specs.Acts.{Place, Cut, Act, Rests, Orders, End, Whole, Crashed, Kept, Lost, is_down_for, order_act, act_of, end_of, end_effect, deed_at, done}
-use Rattle.world_acts.proofs.Fitting.{IsFitAct}
-use Rattle.world_acts.proofs.Lookups.{IsFound, understood-in}
+use Rattle.world_rules.specs.Acts.{Place, Cut, Act, Rests, Orders, End, Whole, Crashed, Kept, Lost, is_down_for, order_act, act_of, end_of, end_effect, deed_at, done}
+use Rattle.world_rules.proofs.Fitting.{IsFitAct}
+use Rattle.world_rules.proofs.Lookups.{IsFound, understood-in}
 use Rattle.node_replies.proofs.WalletEnds.{SendEnds, Refused, Sends, send_ends}
 use Rattle.world_rules.proofs.WalletSends.{body-signed, words}
 use Rattle.world_laws.proofs.Lists.{some_same}

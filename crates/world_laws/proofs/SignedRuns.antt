@@ -26,13 +26,13 @@ use Rattle.world_rules.proofs.Existence.{position-parts}
 use Rattle.world_rules.proofs.KeptRun.{run-kept}
 use Rattle.world_rules.proofs.KeptWorld.{KeptWorld}
 use Rattle.world_rules.proofs.NodeLaws.{NodesGrow, records_grow}
-use Rattle.world_rules.proofs.Runs.{begun}
+use Rattle.world_rules.proofs.Lives.{begun}
 use Rattle.world_laws.specs.Headline.{IsRun, GivenOutIsBound, LeavesSignOneMessage}
 use Rattle.world_laws.proofs.Lists.{some_same, none_some}
-use Rattle.world_acts.specs.Acts.{Act, act_of}
-use Rattle.world_acts.proofs.Effects.{steps_are_of_acts}
-use Rattle.world_acts.proofs.Fitting.{IsFitAct}
-use Rattle.world_acts.proofs.Lives.{line_effect}
+use Rattle.world_rules.specs.Acts.{Act, act_of}
+use Rattle.world_rules.proofs.Lines.{steps_are_of_acts}
+use Rattle.world_rules.proofs.Fitting.{IsFitAct}
+use Rattle.world_rules.proofs.Lives.{line_effect}
 use Rattle.world_laws.proofs.Acts.{IsNext, over_acts}
 use Rattle.world_laws.proofs.SignedDeeds.{named-role, new-sent}
 use Rattle.world_laws.proofs.SignedStays.{stays, leaf-stays, KeysApart, keys-act}
@@ -272,7 +272,7 @@ module _ (dig : List ℕ → List ℕ) (lines : List Line) (run : Run) (world : 
         → Has run.entries entry → IsCommandIn entry.line (Command.Wallet name own) → entry.reply ≡ Reply.Sent q
         → owner_named world name ≡ Some owner → IsOwn (events_of run.entries) world (given-of q entry.made owner)
     own-from entry name own q owner has in_command sent owner_is =
-        let kept = (run-kept dig run_is.digest lines run run_is.lines_are run_is.run_is).world world run_is.world_is in
+        let kept = run-kept dig run_is.digest lines run world run_is.lines_are run_is.run_is run_is.world_is in
         let signed = (runs-signed dig lines run world run_is).signed entry has name own q in_command sent in
         let same : owner ≡ owner_of_node signed.node =
         one-of (owner_named world name) owner (owner_of_node signed.node) owner_is

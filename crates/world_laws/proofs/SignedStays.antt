@@ -1,6 +1,6 @@
 -- What stays of a wallet as lines follow: the number that its name has, who it is, and what its leaves bind; and that
 -- no two wallets have one key.
-use Rattle.std.proofs.Common.{◌≡◌, ◌≢◌, ◌⊎◌, ℕ, zero, suc, ◌+◌, ◌<◌, ◌==◌, ◌&&◌, ◌||◌, not, cond, Bool, true, false, if◌then◌else◌, List, [], ◌∷◌, ◌++◌, length, set, slice_get, bytes_eq, Option, Some, None, inl, inr, refl, sym, ap, ◌∙◌, subst, arith}
+use Rattle.std.proofs.Common.{◌≡◌, ◌⊎◌, ℕ, zero, suc, ◌+◌, ◌<◌, ◌==◌, ◌&&◌, ◌||◌, not, cond, Bool, true, false, if◌then◌else◌, List, [], ◌∷◌, ◌++◌, length, set, slice_get, bytes_eq, Option, Some, None, inl, inr, refl, sym, ap, ◌∙◌, subst, arith}
 use Rattle.std.specs.List.{position, position_or_len}
 use Rattle.std.proofs.lemmas.Bool.{and_parts, or_parts, not-true, cases_eq, lt-ltb, true≢false, false≢true}
 use Rattle.std.proofs.lemmas.List.{length-set, length_push}
@@ -14,7 +14,6 @@ use Rattle.node_rules.proofs.WalletGrow.{who-same, wallet-parts}
 use Rattle.world_rules.specs.Events.{Event, Binds, bound_by, leaf_at}
 use Rattle.world_rules.specs.World.{Wallet, Node, World, is_named, is_wallet_role, owner_of_node, wallet_of}
 use Rattle.world_rules.specs.Declarations.{is_wallet_key, is_wallet_seed, may_be_wallet}
-use Rattle.world_rules.specs.Deeds.{Deed}
 use Rattle.node_replies.specs.Orders.{with_record}
 use Rattle.world_rules.specs.Steps.{new_node, with_records}
 use Rattle.world_rules.specs.Laws.{GrowsAtMost}
@@ -22,10 +21,10 @@ use Rattle.world_rules.proofs.KeptWorld.{KeptWorld}
 use Rattle.world_rules.proofs.NodeLaws.{NodesGrow}
 use Rattle.world_rules.proofs.Runs.{set-same, set-other, push-other}
 use Rattle.world_rules.proofs.Existence.{position-parts}
-use Rattle.world_acts.specs.Acts.{NewWallet, NewWatcher, NewRogue, Act, Adds, Orders, Crashes, End, Whole, Crashed, Kept, Lost, end_of, node_after, deed_at, done}
-use Rattle.world_acts.specs.Evidence.{IsOfChain, IsActIn}
-use Rattle.world_acts.proofs.Fitting.{IsFitNew, IsFitAct}
-use Rattle.world_acts.proofs.Nodes.{change_of, IsKeptOwn, each_node_keeps, IfThere, node-there}
+use Rattle.world_rules.specs.Acts.{NewWallet, NewWatcher, NewRogue, Act, Adds, Orders, Crashes, End, Whole, Crashed, Kept, Lost, end_of, node_after, deed_at, done}
+use Rattle.world_rules.specs.Evidence.{IsOfChain, IsActIn}
+use Rattle.world_rules.proofs.Fitting.{IsFitNew, IsFitAct}
+use Rattle.world_rules.proofs.Nodes.{change_of, IsKeptOwn, each_node_keeps, IfThere, node-there}
 use Rattle.world_laws.proofs.Lists.{some_same}
 use Rattle.world_laws.proofs.Absences.{leaf_at-push}
 use Rattle.world_laws.proofs.Holders.{any-filter}
@@ -200,7 +199,7 @@ module _ (dig : List ℕ → List ℕ) (events : List Event) (world : World) (ke
       own_key : (owner_of_node (new_node Wallet name who.account (identity_text who))).key ≡ (owner_of who).key
       own_key =
           ap (λ (w : WalletIdentity). (owner_of w).key)
-          (wallet-who (identity_text who ∷ []) who (wallet-identity world who kept.tag_long of fit) refl)
+          (wallet-who (identity_text who ∷ []) who (wallet-identity world who kept.frame.tag_long of fit) refl)
 
       free : is_wallet_key world (owner_of who).key ≡ false
       free =

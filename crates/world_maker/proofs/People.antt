@@ -1,19 +1,15 @@
 -- Who the nodes of a world are: their names, accounts and roles, which no line but a declaration changes.
 use Rattle.std.proofs.Common.{◌≡◌, ℕ, zero, suc, ◌+◌, ◌==◌, ◌&&◌, ◌||◌, not, cond, nat_lt, map, Bool, true, false, if◌then◌else◌, List, [], ◌∷◌, length, set, slice_get, Option, Some, None, is_some, bytes_eq, refl, sym, ap, ◌∙◌, subst}
-use Rattle.std.specs.Prelude.{option_map, find, filter}
+use Rattle.std.specs.Prelude.{find, filter}
 use Rattle.std.specs.List.{position, position_or_len, list_any}
-use Rattle.line_forms.proofs.FormLaws.{option_map_some}
-use Rattle.plasma_tx.specs.declared.call.RootCall.{RootCall}
-use Rattle.plasma_tx.proofs.Names.{some_same}
+use Rattle.std.proofs.lemmas.Bool.{false≢true}
 use Rattle.schedule_text.specs.declared.line.Line.{Line}
-use Rattle.schedule_text.specs.declared.command.Command.{Command}
-use Rattle.schedule_text.specs.Grammar.{node_of}
-use Rattle.world_rules.specs.World.{Role, Node, World, any_role, is_named, is_wallet_role, owner_named, call_of}
-use Rattle.world_rules.specs.Declarations.{plays}
-use Rattle.world_rules.specs.Deeds.{deed_of}
-use Rattle.world_rules.specs.Steps.{LineEffect, called, raw_called, deposit_by, offer_numbered, entered, answers_down, after_command, commanded, down, after_crash, crashed, command_effect, effect_in, step}
-use Rattle.world_rules.proofs.Shapes.{acted}
-use Rattle.world_rules.proofs.StepLaws.{stepped}
+use Rattle.world_rules.specs.World.{Role, Node, World, is_named, is_wallet_role}
+use Rattle.world_rules.specs.Deeds.{Deed}
+use Rattle.world_rules.specs.Steps.{LineEffect, after_crash, step}
+use Rattle.world_rules.specs.Acts.{NewWallet, NewWatcher, NewRogue, Act, Adds, Orders, Crashes, End, Whole, Crashed, Kept, Lost, end_of, node_after, deed_at, done}
+use Rattle.world_rules.proofs.Lines.{IsActOf, is-act}
+use Rattle.world_rules.proofs.Lives.{stepped}
 
 -- who a node is
 pub record Person : Type 0 where
@@ -107,66 +103,36 @@ is_played (Line.Crash _ _) = true
 is_played _ = false
 
 module _ (dig : List ℕ → List ℕ) (world : World) where
-  abbrev Stays : LineEffect → Type 0
-  Stays effect = people effect.world.nodes ≡ people world.nodes
+  abbrev Stays : List Node → Type 0
+  Stays nodes = people nodes ≡ people world.nodes
 
-  so : (effect other : LineEffect) → Some other ≡ Some effect → Stays other → Stays effect
-  so effect other is stays = subst (λ (x : LineEffect). Stays x) (some_same other effect is) stays
+  person-after : (node : Node) (deed : Deed) (end : End) → person (node_after node deed end) ≡ person node
+  person-after node deed Whole = refl
+  person-after node deed Crashed = refl
+  person-after node deed Kept = refl
+  person-after node deed Lost = refl
 
-  calls : (callers : List ℕ) (call : RootCall) → Stays (called dig (record world { raw_callers = callers }) call)
-  calls callers call = refl
-
-  enters : (offer : Option RootCall) → Stays (entered dig world offer)
-  enters None = refl
-  enters (Some call) = calls world.raw_callers call
-
-  commands : (command : Command) (n : ℕ) (node : Node) (effect : LineEffect) → slice_get world.nodes n ≡ Some node
-      → command_effect dig world command n node ≡ Some effect → Stays effect
-  commands command n node effect node_is is = at (answers_down node command) is
-    where
-      at : (b : Bool)
-          → (if b then Some (down world) else option_map (commanded world n node) (deed_of dig world n node command))
-          ≡ Some effect → Stays effect
-      at true same = so effect (down world) same refl
-      at false same =
-          let found = option_map_some (commanded world n node) (deed_of dig world n node command) effect same in
-          subst (λ (x : LineEffect). Stays x) found.2
-          (people-set world.nodes n node (after_command node found.0) node_is refl)
-
-  stay : (line : Line) (effect : LineEffect) → is_played line ≡ true → effect_in dig world line ≡ Some effect
-      → Stays effect
-  unfolding effect_in
-  stay (Line.Fund account amount) effect played is =
-      so effect _ is (calls world.raw_callers (RootCall.Fund account amount))
-  stay (Line.Tick time) effect played is = so effect _ is (calls world.raw_callers (RootCall.Tick time))
-  stay (Line.Deposit wallet amount) effect played is =
-      let found = option_map_some (λ owner. called dig world (deposit_by amount owner)) (owner_named world wallet)
-      effect is in
-      subst (λ (x : LineEffect). Stays x) found.2 (calls world.raw_callers (deposit_by amount found.0))
-  stay (Line.Call account form) effect played is =
-      let found = option_map_some (raw_called dig world account) (call_of world account form) effect is in
-      subst (λ (x : LineEffect). Stays x) found.2 (calls (account ∷ world.raw_callers) found.0)
-  stay (Line.Enter node number) effect played is =
-      let found = acted dig world any_role node (λ n found. Some (entered dig world (offer_numbered number found)))
-      effect is in
-      so effect _ found.4 (enters (offer_numbered number found.1))
-  stay (Line.Command command) effect played is =
-      let found = acted dig world (plays command) (node_of command) (command_effect dig world command) effect is in
-      commands command found.0 found.1 effect found.3 found.4
-  stay (Line.Crash node outcome) effect played is =
-      let found = acted dig world any_role node (λ n found. Some (crashed world n found)) effect is in
-      so effect _ found.4 (people-set world.nodes found.0 found.1 (after_crash found.1) found.3 refl)
-  stay (Line.Chain tag operator most) effect played is = absurd (cc played)
-  stay (Line.Wallet name account seed types) effect played is = absurd (cc played)
-  stay (Line.Watcher name account) effect played is = absurd (cc played)
-  stay (Line.Rogue name account seed types) effect played is = absurd (cc played)
-  stay (Line.Money account) effect played is = absurd (cc played)
-  stay (Line.Sign rogue leaf coin parent to last) effect played is = absurd (cc played)
-  stay (Line.Cut node count outcome command) effect played is = absurd (cc played)
+  stay : (line : Line) (act : Act) → is_played line ≡ true → IsActOf world line act
+      → Stays (done dig world act).world.nodes
+  unfolding done
+  stay line (Adds name (NewWallet who)) played is =
+      absurd (false≢true (ap is_played (sym is.line_is.3) ∙ played))
+  stay line (Adds name (NewWatcher account)) played is =
+      absurd (false≢true (ap is_played (sym is.line_is) ∙ played))
+  stay line (Adds name (NewRogue who)) played is = refl
+  stay line (Orders place order cut) played is =
+      let deed = deed_at dig world place order in
+      let end = end_of cut place.node order deed in
+      people-set world.nodes place.number place.node (node_after place.node deed end) is.known.there
+      (person-after place.node deed end)
+  stay line (Crashes place) played is =
+      people-set world.nodes place.number place.node (after_crash place.node) is.known refl
+  stay line act played is = refl
 
   -- a line that is stepped then changes nobody
   pub people-stay : (line : Line) (effect : LineEffect) → is_played line ≡ true
       → step dig (Some world) line ≡ Some effect → people effect.world.nodes ≡ people world.nodes
   people-stay line effect played is =
       let made = stepped dig world line effect is in
-      ap (λ (e : LineEffect). people e.world.nodes) made.effect_is ∙ stay line made.bare played made.bare_is
+      subst (λ (e : LineEffect). Stays e.world.nodes) made.effect_is
+      (stay line made.act played (is-act world line made.act made.act_is))

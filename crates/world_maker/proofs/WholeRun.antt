@@ -14,7 +14,7 @@ use Rattle.schedule_text.specs.Grammar.{node_of}
 use Rattle.world_rules.specs.World.{Role, Wallet, Watcher, Operator, World, is_named, is_wallet_role, does_watch, any_role, owner_of_node, owner_of_rogue, rogue_named, owner_named}
 use Rattle.world_rules.specs.Declarations.{is_declared, is_wallet_account, plays, has_declared_names, keeps_rules, keeps_rules_in}
 use Rattle.world_rules.specs.Steps.{step, run_of}
-use Rattle.world_rules.proofs.Existence.{lines_that_keep_the_rules_step}
+use Rattle.world_rules.proofs.Lines.{lines_that_keep_the_rules_step}
 use Rattle.world_maker.specs.declared.round.Round.{Round}
 use Rattle.world_maker.specs.Generator.{send, watch, wallets, first_lines, kind_of, lines_by_kind, round_lines, round_at, made_lines}
 use Rattle.world_maker.proofs.MadeLines.{◌▹◌}

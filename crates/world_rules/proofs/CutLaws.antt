@@ -17,7 +17,18 @@ use Rattle.world_rules.specs.Orders.{order_of}
 use Rattle.node_replies.specs.Orders.{with_record}
 use Rattle.world_rules.specs.Steps.{LineEffect, says, without_offers, with_records, after_crash, with_mail, step, stopped, finished, cut, is_stopped, is_opening, answers_down, outcome_of, act_at, act_on, command_effect, cut_effect, commanded, down, crashed, effect_in}
 use Rattle.world_rules.specs.Laws.{CrashesLeaveTheRecords, IsCommandIn, StaysDown, DownNodesStay, IsCutTo, CutsKeepAsAppendsDo, CutOpeningsLeaveTheRecords}
-use Rattle.world_rules.proofs.StepLaws.{stepped}
+use Rattle.world_rules.specs.Acts.{done}
+use Rattle.world_rules.proofs.Lines.{effects_are_of_acts}
+use Rattle.world_rules.proofs.Lives.{stepped}
+
+-- the effect of a step, by what its line does
+step-is : (dig : List ℕ → List ℕ) (world : World) (line : Line) (effect bare : LineEffect)
+    → effect_in dig world line ≡ Some bare → step dig (Some world) line ≡ Some effect → effect ≡ with_mail bare
+step-is dig world line effect bare bare_is is =
+    let made = stepped dig world line effect is in
+    sym made.effect_is
+    ∙ ap with_mail (some_same (done dig world made.act) bare
+    (sym (effects_are_of_acts dig world line made.act made.act_is) ∙ bare_is))
 
 -- what is done with a node that has the name
 acts : (world : World) (may : Role → Bool) (name : List ℕ) (act : ℕ → Node → Option LineEffect) (n : ℕ) (node : Node)
@@ -37,10 +48,9 @@ crash-in dig world name outcome n node number node_is =
 
 pub crashes_leave_the_records : CrashesLeaveTheRecords
 crashes_leave_the_records dig world name outcome n node effect number node_is is =
-    let made = stepped dig world (Line.Crash name outcome) effect is in
-    let same = some_same made.bare (crashed world n node)
-    (sym made.bare_is ∙ crash-in dig world name outcome n node number node_is) in
-    ap (λ e. e.world.nodes) made.effect_is ∙ ap (λ e. e.world.nodes) same
+    ap (λ (e : LineEffect). e.world.nodes)
+    (step-is dig world (Line.Crash name outcome) effect (crashed world n node)
+    (crash-in dig world name outcome n node number node_is) is)
 
 -- ---- nodes that are down
 
@@ -70,9 +80,7 @@ cut-in dig world name calls outcome command n node number node_is =
 
 pub down_nodes_stay : DownNodesStay
 down_nodes_stay dig world line command n node effect line_is number node_is is_down is =
-    let made = stepped dig world line effect is in
-    let same = some_same made.bare (down world) (sym made.bare_is ∙ by line_is) in
-    down-of world effect (made.effect_is ∙ ap with_mail same)
+    down-of world effect (step-is dig world line effect (down world) (by line_is) is)
   where
     commanded-down : command_effect dig world command n node ≡ Some (down world)
     commanded-down = ap (λ b. if b then Some (down world)
@@ -97,13 +105,11 @@ cut-is : (dig : List ℕ → List ℕ) (world : World) (name : List ℕ) (calls 
     → step dig (Some world) (Line.Cut name calls outcome command) ≡ Some effect
     → effect ≡ with_mail (cut world n node calls outcome command deed)
 cut-is dig world name calls outcome command n node deed effect number node_is up deed_is is =
-    let made = stepped dig world (Line.Cut name calls outcome command) effect is in
-    let same = some_same made.bare (cut world n node calls outcome command deed)
-    (sym made.bare_is ∙ cut-in dig world name calls outcome command n node number node_is
+    step-is dig world (Line.Cut name calls outcome command) effect (cut world n node calls outcome command deed)
+    (cut-in dig world name calls outcome command n node number node_is
     ∙ ap (λ b. if b then Some (down world)
     else option_map (cut world n node calls outcome command) (deed_of dig world n node command)) up
-    ∙ ap (option_map (cut world n node calls outcome command)) deed_is) in
-    made.effect_is ∙ ap with_mail same
+    ∙ ap (option_map (cut world n node calls outcome command)) deed_is) is
 
 -- a deed that adds no record leaves the records
 none-added : (node : Node) (deed : Deed) → adds_record deed ≡ false → with_records node deed ≡ node

@@ -1,6 +1,4 @@
 pub mod OrderEnds
-pub mod Shapes
-pub mod OwnEvents
 pub mod StepLaws
 pub mod Existence
 pub mod ItemTexts
@@ -16,11 +14,14 @@ pub mod KeptWatcher
 pub mod KeptNode
 pub mod NodeCommands
 pub mod NewNodes
+pub mod KeptFrame
 pub mod KeptWorld
 pub mod NodeEvents
 pub mod FitLines
-pub mod KeptLines
 pub mod KeptRun
+pub mod Lookups
+pub mod Lines
+pub mod Nodes
 pub mod NodeLaws
 pub mod CutLaws
 pub mod Runs
@@ -33,3 +34,8 @@ pub mod KeptNames
 pub mod NamedDeeds
 pub mod NamedSteps
 pub mod VerdictLaws
+pub mod Same
+pub mod Told
+pub mod Lives
+pub mod Operators
+pub mod Fitting

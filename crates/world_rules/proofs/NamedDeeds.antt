@@ -12,17 +12,18 @@ use Rattle.coin_history.specs.declared.refusal.HistoryRefusal.{HistoryRefusal}
 use Rattle.coin_history.specs.Bundles.{bundle_in}
 use Rattle.coin_history.specs.History.{links_of}
 use Rattle.coin_history.specs.Checking.{checked, where_made, history_of}
-use Rattle.schedule_text.specs.declared.command.Command.{Command}
 use Rattle.node_rules.specs.declared.answers.Accepted.{Accepted}
 use Rattle.node_rules.specs.Kept.{chain_of, checked_by, links_handed}
 use Rattle.node_rules.specs.Wallet.{WalletRecords, who, noted, accept_by, accept_effect}
 use Rattle.world_rules.specs.Events.{Event, Accepts, Watches, Leaves, Seals}
-use Rattle.world_rules.specs.World.{Node, World, wallet_of}
-use Rattle.world_rules.specs.Deeds.{Deed, deed_of}
-use Rattle.world_rules.proofs.OrderEnds.{OrderEnds, Accepting as AcceptEnds, ordered, deed-ends}
+use Rattle.world_rules.specs.World.{Node, wallet_of}
+use Rattle.world_rules.specs.Deeds.{as_deed}
+use Rattle.world_rules.proofs.OrderEnds.{OrderEnds, Accepting as AcceptEnds, order-ends}
 use Rattle.node_replies.specs.declared.order.NodeOrder.{NodeOrder}
 use Rattle.world_rules.specs.OrderEvents.{bundle_read}
+use Rattle.world_rules.specs.Orders.{node_does}
 use Rattle.world_rules.specs.Steps.{without_offers}
+use Rattle.world_rules.specs.Acts.{End, Whole, Lost, event_after}
 use Rattle.world_rules.proofs.HeldTips.{IsCoin}
 use Rattle.world_rules.proofs.KeptNames.{is_plain}
 
@@ -32,7 +33,7 @@ pub data IsDeed (log : List RootCall) (event : Event) : Type 0 where
   Accepting : (n : ℕ) (bundle : Bundle) → event ≡ Accepts n bundle → IsCoin log bundle.coin → IsDeed log event
 
 -- a cut leaves it so
-pub deed-cut : (log : List RootCall) (n : ℕ) (event : Event) → IsDeed log event → IsDeed log (without_offers n event)
+deed-cut : (log : List RootCall) (n : ℕ) (event : Event) → IsDeed log event → IsDeed log (without_offers n event)
 deed-cut log n event (Plain plain) = Plain (at event plain)
   where
     at : (e : Event) → is_plain e ≡ true → is_plain (without_offers n e) ≡ true
@@ -75,16 +76,16 @@ accept-coin dig wallet log bytes taken made = at (links_handed dig (who wallet).
     at (Err why) is wrong = absurd (cc wrong)
     at (Ok links) is given = handed-coin dig (who wallet).tag log bytes links is
 
--- the event of a deed is one of these
-pub deed-is : (dig : List ℕ → List ℕ) (world : World) (n : ℕ) (node : Node) (command : Command) (deed : Deed)
-    → deed_of dig world n node command ≡ Some deed → IsDeed world.chain.log deed.gives.event
-deed-is dig world n node command deed is =
-    let own = ordered dig world n node command deed is in
-    by own.order deed.gives.event deed.gives.offers (deed-ends dig world n node command deed own)
-  where
-    by : (order : NodeOrder) (event : Event) (calls : List RootCall)
-        → OrderEnds dig world.chain.log n node order event calls → IsDeed world.chain.log event
-    by order event calls (AcceptEnds bytes taken made) =
-        Accepting n (bundle_read bytes) refl
-        (accept-coin dig (wallet_of node) world.chain.log bytes taken made)
-    by order event calls ends = Plain refl
+module _ (dig : List ℕ → List ℕ) (log : List RootCall) (n : ℕ) (node : Node) where
+  ends-are : (order : NodeOrder) (event : Event) (calls : List RootCall)
+      → OrderEnds dig log n node order event calls → IsDeed log event
+  ends-are order event calls (AcceptEnds bytes taken made) =
+      Accepting n (bundle_read bytes) refl (accept-coin dig (wallet_of node) log bytes taken made)
+  ends-are order event calls ends = Plain refl
+
+  -- the event of an order is one of these, however it ends
+  pub order-is : (order : NodeOrder) (end : End)
+      → IsDeed log (event_after n (as_deed n order (node_does dig log node order)) end)
+  order-is order Lost = Plain refl
+  order-is order Whole = ends-are order _ _ (order-ends dig log n node order)
+  order-is order end = deed-cut log n _ (ends-are order _ _ (order-ends dig log n node order))

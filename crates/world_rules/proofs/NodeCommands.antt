@@ -1,11 +1,10 @@
--- Each command of a node that is up keeps what events say of it, and makes bytes.
+-- Each order of a node keeps what events say of it, and makes bytes.
 use Rattle.std.proofs.Common.{◌≡◌, ℕ, List, [], Option, Some, None, Ok, sym, subst, Bool, true, false}
 use Rattle.std.specs.Prelude.{Result, IfSome, slice_get, unwrap_or}
 use Rattle.leaf_journal.specs.Records.{messages_of}
 use Rattle.plasma_tx.specs.declared.owner.Owner.{Owner}
 use Rattle.plasma_tx.specs.declared.call.RootCall.{RootCall}
 use Rattle.plasma_tx.specs.Spelling.{body_text}
-use Rattle.schedule_text.specs.declared.command.Command.{Command}
 use Rattle.node_rules.specs.declared.answers.Sent.{Sent}
 use Rattle.node_rules.specs.declared.refusal.WalletRefusal.{WalletRefusal}
 use Rattle.node_rules.specs.WalletRecords.{secret_of, leaves_in}
@@ -15,12 +14,11 @@ use Rattle.node_rules.specs.Watcher.{guard_effect, release_effect}
 use Rattle.operator_rules.specs.Commands.{offer_effect, lay_effect, seal_effect, prove_answer, bundle_answer, absences_answer}
 use Rattle.node_replies.specs.Causes.{wallet_cause, watcher_cause, offer_cause, lay_cause, seal_cause, prove_cause}
 use Rattle.world_rules.specs.World.{Node, World, wallet_of, is_wallet_role, is_watcher_role, is_operator_role}
-use Rattle.world_rules.specs.Declarations.{plays}
-use Rattle.world_rules.specs.Deeds.{Deed, as_deed, deed_of}
+use Rattle.world_rules.specs.Deeds.{Deed, as_deed}
 use Rattle.node_replies.specs.Orders.{Response, without_record, answered, on_accepted, on_sent, on_leaving, on_reclaimed, on_migrated, again_does, wallet_does, on_guarded, on_released, watcher_does, on_pooled, on_laid, on_sealed, on_bundled, on_proved, operator_does}
 use Rattle.world_rules.specs.Orders.{on_open, node_does}
 use Rattle.world_rules.specs.OrderEvents.{event_of}
-use Rattle.world_rules.proofs.OrderEnds.{ordered, IsOrderAt, order-role, each-answer}
+use Rattle.world_rules.proofs.OrderEnds.{IsOrderAt, each-answer}
 use Rattle.node_replies.specs.declared.order.NodeOrder.{NodeOrder}
 use Rattle.node_replies.specs.declared.order.WalletOrder.{WalletOrder}
 use Rattle.node_replies.specs.declared.order.WatcherOrder.{WatcherOrder}
@@ -35,7 +33,7 @@ use Rattle.world_rules.proofs.WalletAccepts.{accepts-kept}
 use Rattle.world_rules.proofs.WalletSends.{sends-kept}
 use Rattle.world_rules.proofs.WalletNotes.{reclaims-kept, leaves-kept, migrates-kept}
 use Rattle.world_rules.proofs.KeptWatcher.{guards-kept, releases-kept}
-use Rattle.world_rules.proofs.KeptNode.{KeptNode, Feeds, item-small, IsFit, IsFitOrder, order-fit, IsKeptDeed, records-noted, of-wallet, by-effect, of-watcher, of-operator}
+use Rattle.world_rules.proofs.KeptNode.{KeptNode, Feeds, item-small, IsFitOrder, IsKeptDeed, records-noted, of-wallet, by-effect, of-watcher, of-operator}
 
 -- what is made is bytes, where each answer gives bytes
 made-small : {A E : Type 0} (cause : E → List ℕ) (give : A → Response) (result : Result A E)
@@ -175,23 +173,15 @@ module _ (dig : List ℕ → List ℕ) (is_digest : IsDigest dig) (s : Said) (wo
         (made-small prove_cause on_bundled (absences_answer dig node.notes log coin after last)
         (absences-made dig is_digest node.notes small log coin after last))
 
-  -- ---- each command
+  -- ---- each order
 
   opened-kept : (b : Bool) → IsKept (as_deed n NodeOrder.Open (without_record (on_open node b)))
   unfolding event_of
   opened-kept true = record { kept = kept; made = small-nil }
   opened-kept false = record { kept = kept; made = small-nil }
 
-  order-kept : (order : NodeOrder) → IsOrderAt node.role order → IsFitOrder order → IsKept (deed_by order)
+  pub order-kept : (order : NodeOrder) → IsOrderAt node.role order → IsFitOrder order → IsKept (deed_by order)
   order-kept (NodeOrder.Wallet order) role fit = wallet-kept role order fit
   order-kept (NodeOrder.Watcher order) role fit = watcher-kept role order fit
   order-kept (NodeOrder.Operator order) role fit = operator-kept role order fit
   order-kept NodeOrder.Open role fit = opened-kept node.is_up
-
-  pub command-kept : (command : Command) (deed : Deed) → plays command node.role ≡ true → IsFit command
-      → deed_of dig world n node command ≡ Some deed → IsKept deed
-  command-kept command deed role fit is =
-      let own = ordered dig world n node command deed is in
-      subst IsKept own.deed_is
-      (order-kept own.order (order-role world node.role command own.order role own.order_is)
-      (order-fit world feeds node.role command own.order fit own.order_is))

@@ -1,79 +1,75 @@
--- The event of a node's command says something of that node alone.
-use Rattle.std.proofs.Common.{◌≡◌, ℕ, ◌==◌, false, List, ◌∷◌, Some, refl, sym, ap, ◌∙◌, subst}
-use Rattle.std.proofs.lemmas.Bool.{eq-eqb}
-use Rattle.plasma_tx.proofs.Names.{some_same}
-use Rattle.schedule_text.specs.declared.command.Command.{Command}
-use Rattle.world_rules.specs.Events.{Event, Declares, Joins, Bounces, Accepts, Guards, Releases, Binds, TakesBack, Watches, Leaves, Seals, Other, Idle, log_of, node_in}
-use Rattle.world_rules.specs.Deeds.{Gives}
+-- The event of a node's order says something of that node alone, however the order ends.
+use Rattle.std.proofs.Common.{◌≡◌, ◌≢◌, ℕ, ◌==◌, false, List, ◌∷◌, refl, sym, ◌∙◌}
+use Rattle.std.proofs.lemmas.Bool.{eq-eqb, ne_eqb}
+use Rattle.plasma_tx.specs.declared.call.RootCall.{RootCall}
+use Rattle.node_replies.specs.declared.order.NodeOrder.{NodeOrder}
+use Rattle.world_rules.specs.Events.{Event, Other, log_of}
+use Rattle.world_rules.specs.World.{Node}
+use Rattle.world_rules.specs.Deeds.{Deed}
 use Rattle.world_rules.specs.Steps.{without_offers}
-use Rattle.world_rules.proofs.OwnEvents.{IsOfNode, Owns, Sealing}
-use Rattle.world_rules.proofs.Said.{said, told, is_said_of, said-own, said-other, cut-told}
-use Rattle.world_rules.proofs.KeptWorld.{IsOf}
+use Rattle.world_rules.specs.Acts.{End, Whole, Crashed, Kept, Lost, event_after}
+use Rattle.world_rules.proofs.OrderEnds.{OrderEnds, Accepting, Binding, TakingBack, Guarding, Releasing}
+use Rattle.world_rules.proofs.Said.{said, told, is_said_of, said-own, said-other}
 
--- an event is of node n, and this is said then
+-- an event enters no call and says nothing but of node n, and this is said of that one then
 pub record IsTold (n : ℕ) (events : List Event) (event told_of : Event) : Type 0 where
-  pub of : IsOf n events event
+  pub log : log_of (event ∷ events) ≡ log_of events
+  pub others : (m : ℕ) → n ≢ m → is_said_of m event ≡ false
   pub is : said (event ∷ events) n ≡ told told_of (said events n)
 
--- one that says something of the node
-speaks : (n v : ℕ) (events : List Event) (event : Event) → v ≡ n → log_of (event ∷ events) ≡ log_of events
-    → ((m : ℕ) → is_said_of m event ≡ (v == m)) → IsTold n events event event
-speaks n v events event same log each = record {
-  of = record { log = log; others = λ m apart. each m ∙ ap (λ (k : ℕ). k == m) same ∙ apart };
-  is = said-own event events n (each n ∙ eq-eqb v n same);
-}
+-- what is told of a node by an order that ended so
+abbrev pub event_told : ℕ → Deed → End → Event
+event_told n deed Lost = Other n
+event_told n deed end = deed.gives.event
 
--- one that says nothing
-still : (n : ℕ) (events : List Event) (event : Event) → log_of (event ∷ events) ≡ log_of events
-    → ((m : ℕ) → is_said_of m event ≡ false) → told event (said events n) ≡ said events n
-    → IsTold n events event event
-still n events event log each same = record {
-  of = record { log = log; others = λ m apart. each m };
-  is = said-other event events n (each n) ∙ sym same;
-}
+module _ (n : ℕ) (events : List Event) where
+  -- one that says something of the node
+  speaks : (event : Event) → log_of (event ∷ events) ≡ log_of events → ((m : ℕ) → is_said_of m event ≡ (n == m))
+      → IsTold n events event event
+  speaks event log each = record {
+    log = log;
+    others = λ m apart. each m ∙ ne_eqb n m apart;
+    is = said-own event events n (each n ∙ eq-eqb n n refl);
+  }
 
-near : (n : ℕ) (events : List Event) (event : Event) → node_in event ≡ Some n → IsTold n events event event
-unfolding log_of
-near n events (Accepts v bundle) is = speaks n v events (Accepts v bundle) (some_same v n is) refl (λ m. refl)
-near n events (Guards v bundle) is = speaks n v events (Guards v bundle) (some_same v n is) refl (λ m. refl)
-near n events (Releases v c e) is = speaks n v events (Releases v c e) (some_same v n is) refl (λ m. refl)
-near n events (Binds v body) is = speaks n v events (Binds v body) (some_same v n is) refl (λ m. refl)
-near n events (TakesBack v q bundle) is =
-    speaks n v events (TakesBack v q bundle) (some_same v n is) refl (λ m. refl)
-near n events (Watches v calls) is = still n events (Watches v calls) refl (λ m. refl) refl
-near n events (Leaves v call) is = still n events (Leaves v call) refl (λ m. refl) refl
-near n events (Seals call) is = still n events (Seals call) refl (λ m. refl) refl
-near n events (Other v) is = still n events (Other v) refl (λ m. refl) refl
-near n events (Declares v me) is = absurd (cc is)
-near n events (Joins call) is = absurd (cc is)
-near n events (Bounces call) is = absurd (cc is)
-near n events Idle is = absurd (cc is)
+  -- one that says nothing
+  still : (event told_of : Event) → log_of (event ∷ events) ≡ log_of events → ((m : ℕ) → is_said_of m event ≡ false)
+      → told told_of (said events n) ≡ said events n → IsTold n events event told_of
+  still event told_of log each same = record {
+    log = log;
+    others = λ m apart. each m;
+    is = said-other event events n (each n) ∙ sym same;
+  }
 
-cut-node : (n : ℕ) (event : Event) → node_in event ≡ Some n → node_in (without_offers n event) ≡ Some n
-cut-node n (Watches v calls) is = refl
-cut-node n (Leaves v call) is = refl
-cut-node n (Seals call) is = refl
-cut-node n event is = is
+  -- an event that is none of the named ones
+  pub other-of : IsTold n events (Other n) (Other n)
+  unfolding log_of
+  other-of = still (Other n) (Other n) refl (λ m. refl) refl
 
--- the event of a command
-pub command-told : (n : ℕ) (events : List Event) (command : Command) (gives : Gives) → IsOfNode n command gives
-    → IsTold n events gives.event gives.event
-unfolding log_of
-command-told n events command gives (Owns own) = near n events gives.event own.node
-command-told n events command gives (Sealing call own is event offers) =
-    subst (λ (e : Event). IsTold n events e e) (sym event) (still n events (Seals call) refl (λ m. refl) refl)
+  module _ (dig : List ℕ → List ℕ) (log : List RootCall) (node : Node) where
+    -- the event of an order that is done, and of one that is cut
+    told-ends : (order : NodeOrder) (event : Event) (calls : List RootCall)
+        → OrderEnds dig log n node order event calls
+        → IsTold n events event event × IsTold n events (without_offers n event) event
+    unfolding log_of
+    told-ends order event calls (Accepting bytes taken made) =
+        (speaks event refl (λ m. refl), speaks event refl (λ m. refl))
+    told-ends order event calls (Binding coin to last sent made) =
+        (speaks event refl (λ m. refl), speaks event refl (λ m. refl))
+    told-ends order event calls (TakingBack bytes taken made) =
+        (speaks event refl (λ m. refl), speaks event refl (λ m. refl))
+    told-ends order event calls (Guarding bytes taken made) =
+        (speaks event refl (λ m. refl), speaks event refl (λ m. refl))
+    told-ends order event calls (Releasing coin tip) =
+        (speaks event refl (λ m. refl), speaks event refl (λ m. refl))
+    told-ends order event calls ends =
+        (still event event refl (λ m. refl) refl, still (without_offers n event) event refl (λ m. refl) refl)
 
--- and of one that was cut
-pub cut-of : (n : ℕ) (events : List Event) (command : Command) (gives : Gives) → IsOfNode n command gives
-    → IsTold n events (without_offers n gives.event) gives.event
-cut-of n events command gives own =
-    let known = near n events (without_offers n gives.event) (by own) in
-    record { of = known.of; is = known.is ∙ cut-told n gives.event (said events n) }
-  where
-    by : IsOfNode n command gives → node_in (without_offers n gives.event) ≡ Some n
-    by (Owns own) = cut-node n gives.event own.node
-    by (Sealing call own is event offers) = ap (λ (e : Event). node_in (without_offers n e)) event
-
--- an event that is none of the named ones
-pub other-of : (n : ℕ) (events : List Event) → IsTold n events (Other n) (Other n)
-other-of n events = near n events (Other n) refl
+    -- what an order tells of its node: its event, or nothing where its record is lost
+    pub told-after : (order : NodeOrder) (deed : Deed) (end : End)
+        → OrderEnds dig log n node order deed.gives.event deed.gives.offers
+        → IsTold n events (event_after n deed end) (event_told n deed end)
+    told-after order deed Whole ends = (told-ends order deed.gives.event deed.gives.offers ends).0
+    told-after order deed Crashed ends = (told-ends order deed.gives.event deed.gives.offers ends).1
+    told-after order deed Kept ends = (told-ends order deed.gives.event deed.gives.offers ends).1
+    told-after order deed Lost ends = other-of

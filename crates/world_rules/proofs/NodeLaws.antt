@@ -1,15 +1,12 @@
 -- What each step does to the nodes and their records.
 use Rattle.std.proofs.Common.{◌≡◌, ◌⊎◌, ℕ, List, Option, Some, None, inl, inr, refl, sym, ap, ◌∙◌, subst}
-use Rattle.std.specs.Prelude.{set, slice_get}
 use Rattle.plasma_tx.specs.declared.owner.Owner.{Owner}
 use Rattle.coin_history.specs.Bundles.{bundle_in}
-use Rattle.schedule_text.specs.declared.command.Command.{Command}
 use Rattle.node_rules.specs.Kept.{links_handed}
 use Rattle.node_rules.specs.Wallet.{WalletRecords, noted, who, coin_state, accept_effect, send_effect, leave_effect, reclaim_effect}
 use Rattle.node_rules.proofs.WalletAdded.{accept-leaf, send-note, leave-leaf, reclaim-leaf, migrate-note}
 use Rattle.world_rules.specs.World.{Node, World, wallet_of}
-use Rattle.world_rules.specs.Deeds.{Deed, as_deed, deed_of}
-use Rattle.world_rules.proofs.OrderEnds.{ordered}
+use Rattle.world_rules.specs.Deeds.{Deed, as_deed}
 use Rattle.world_rules.specs.Orders.{node_does}
 use Rattle.node_replies.specs.declared.order.NodeOrder.{NodeOrder}
 use Rattle.node_replies.specs.declared.order.WalletOrder.{WalletOrder}
@@ -18,8 +15,9 @@ use Rattle.node_replies.specs.declared.order.OperatorOrder.{OperatorOrder}
 use Rattle.node_replies.specs.Orders.{with_record, wallet_does, watcher_does, operator_does}
 use Rattle.world_rules.specs.Steps.{LineEffect, with_records, after_command, after_crash}
 use Rattle.world_rules.specs.Laws.{GrowsByOne, GrowsAtMost, ChangesOneNode, DeclaresOneNode, RecordsGrow}
-use Rattle.world_rules.proofs.Shapes.{Shape, Still, Enters, AddsWallet, AddsWatcher, AddsRogue, Crashes, Commands, Cuts, shape, IsCut, Kept, Lost, is_cut}
-use Rattle.world_rules.proofs.StepLaws.{stepped}
+use Rattle.world_rules.specs.Acts.{NewWallet, NewWatcher, NewRogue, Act, Adds, Orders, Crashes, End, Whole, Crashed, Kept, Lost, end_of, node_after, deed_at}
+use Rattle.world_rules.proofs.Nodes.{Change, NoNode, OneNode, NewNode, change_of, nodes_after, nodes-done, IsOld, is-old}
+use Rattle.world_rules.proofs.Lives.{stepped}
 
 -- ---- a deed adds at most one record
 
@@ -77,11 +75,6 @@ module _ (dig : List ℕ → List ℕ) (world : World) (n : ℕ) where
       operating own = refl
   order-one node NodeOrder.Open = inl refl
 
-  pub adds_one : (node : Node) (command : Command) (deed : Deed) → deed_of dig world n node command ≡ Some deed
-      → AddsOne deed
-  adds_one node command deed is =
-      let own = ordered dig world n node command deed is in subst AddsOne own.deed_is (order-one node own.order)
-
 -- ---- so a node's records grow by at most one
 
 -- records stay without a record, and have it behind them with one
@@ -94,7 +87,7 @@ none-stays : (records : List (List ℕ)) (more : Option (List ℕ)) → more ≡
 none-stays records more is = ap (with_record records) is
 
 -- the node with the records, up or down and with other offers
-pub grows : (node after : Node) (deed : Deed) → AddsOne deed → after.name ≡ node.name → after.account ≡ node.account
+grows : (node after : Node) (deed : Deed) → AddsOne deed → after.name ≡ node.name → after.account ≡ node.account
     → after.role ≡ node.role → after.notes ≡ with_record node.notes deed.note
     → after.leaves ≡ with_record node.leaves deed.leaf → GrowsAtMost node after
 grows node after deed one name account role notes leaves = record {
@@ -117,52 +110,56 @@ grows node after deed one name account role notes leaves = record {
   ];
 }
 
--- a node that keeps its records
-stays : (node after : Node) → after.name ≡ node.name → after.account ≡ node.account → after.role ≡ node.role
-    → after.notes ≡ node.notes → after.leaves ≡ node.leaves → GrowsAtMost node after
-stays node after name account role notes leaves =
-    record { name = name; account = account; role = role; notes = inl notes; leaves = inl leaves }
+-- a node that crashes keeps its records
+crash-grows : (node : Node) → GrowsAtMost node (after_crash node)
+crash-grows node = record { name = refl; account = refl; role = refl; notes = inl refl; leaves = inl refl }
+
+-- however an order ends
+grows-after : (node : Node) (deed : Deed) → AddsOne deed → (end : End) → GrowsAtMost node (node_after node deed end)
+grows-after node deed one Whole = grows node (after_command node deed) deed one refl refl refl refl refl
+grows-after node deed one Crashed = grows node (after_crash (with_records node deed)) deed one refl refl refl refl refl
+grows-after node deed one Kept = grows node (after_crash (with_records node deed)) deed one refl refl refl refl refl
+grows-after node deed one Lost = crash-grows node
+
+-- ---- each act
 
 abbrev pub NodesGrow : World → List Node → Type 0
 NodesGrow world after =
     (after ≡ world.nodes) ⊎ ChangesOneNode world.nodes after ⊎ DeclaresOneNode world.nodes after
 
 module _ (dig : List ℕ → List ℕ) (world : World) where
-  changes : (n : ℕ) (node after : Node) (nodes : List Node) → slice_get world.nodes n ≡ Some node
-      → GrowsAtMost node after → nodes ≡ set world.nodes n after → NodesGrow world nodes
-  changes n node after nodes node_is grow is =
-      inr (inl (record { number = n; old = node; new = after; is_old = node_is; is_new = is; grows = grow }))
+  -- what changes grows at most by one
+  abbrev Grows : Change → Type 0
+  Grows (OneNode place after) = GrowsAtMost place.node after
+  Grows change = Unit {0}
 
-  cut-grows : (n : ℕ) (node : Node) (deed : Deed) (effect : LineEffect) → slice_get world.nodes n ≡ Some node
-      → AddsOne deed → IsCut world n node deed effect → NodesGrow world effect.world.nodes
-  cut-grows n node deed effect node_is one (Kept event world_is) =
-      changes n node (after_crash (with_records node deed)) effect.world.nodes node_is
-      (grows node (after_crash (with_records node deed)) deed one refl refl refl refl refl)
-      (ap (λ w. w.nodes) world_is)
-  cut-grows n node deed effect node_is one (Lost event world_is) =
-      changes n node (after_crash node) effect.world.nodes node_is
-      (stays node (after_crash node) refl refl refl refl refl) (ap (λ w. w.nodes) world_is)
+  change-grows : (change : Change) → IsOld world.nodes change → Grows change
+      → NodesGrow world (nodes_after change world.nodes)
+  change-grows NoNode old grow = inl refl
+  change-grows (OneNode place after) old grow = inr (inl (record {
+    number = place.number;
+    old = place.node;
+    new = after;
+    is_old = old;
+    is_new = refl;
+    grows = grow;
+  }))
+  change-grows (NewNode node) old grow = inr (inr (node, refl))
 
-  shape-grows : (effect : LineEffect) → Shape dig world effect → NodesGrow world effect.world.nodes
-  shape-grows effect (Still reply made is) = inl (ap (λ e. e.world.nodes) is)
-  shape-grows effect (Enters callers call is) = inl (ap (λ e. e.world.nodes) is)
-  shape-grows effect (AddsWallet name who is) = inr (inr (_, ap (λ e. e.world.nodes) is))
-  shape-grows effect (AddsWatcher name account is) = inr (inr (_, ap (λ e. e.world.nodes) is))
-  shape-grows effect (AddsRogue name who is) = inl (ap (λ e. e.world.nodes) is)
-  shape-grows effect (Crashes n node node_is is) =
-      changes n node (after_crash node) effect.world.nodes node_is
-      (stays node (after_crash node) refl refl refl refl refl) (ap (λ e. e.world.nodes) is)
-  shape-grows effect (Commands command n node deed done is) =
-      changes n node (after_command node deed) effect.world.nodes done.node_is
-      (grows node (after_command node deed) deed (adds_one dig world n node command deed done.deed_is)
-      refl refl refl refl refl)
-      (ap (λ e. e.world.nodes) is)
-  shape-grows effect (Cuts command calls outcome n node deed done is) =
-      cut-grows n node deed effect done.node_is (adds_one dig world n node command deed done.deed_is)
-      (subst (λ e. IsCut world n node deed e) (sym is) (is_cut world n node calls outcome command deed))
+  act-grows : (act : Act) → Grows (change_of dig world act)
+  act-grows (Adds name (NewWallet who)) = tt
+  act-grows (Adds name (NewWatcher account)) = tt
+  act-grows (Adds name (NewRogue who)) = tt
+  act-grows (Orders place order cut) =
+      let deed = deed_at dig world place order in
+      grows-after place.node deed (order-one dig world place.number place.node order) (end_of cut place.node order deed)
+  act-grows (Crashes place) = crash-grows place.node
+  act-grows act = tt
 
 pub records_grow : RecordsGrow
 records_grow dig world line effect is =
     let made = stepped dig world line effect is in
-    subst (λ (e : LineEffect). NodesGrow world e.world.nodes) (sym made.effect_is)
-    (shape-grows dig world made.bare (shape dig world line made.bare made.bare_is))
+    subst (λ (e : LineEffect). NodesGrow world e.world.nodes) made.effect_is
+    (subst (NodesGrow world) (sym (nodes-done dig world made.act))
+    (change-grows dig world (change_of dig world made.act) (is-old dig world made.act made.known)
+    (act-grows dig world made.act)))

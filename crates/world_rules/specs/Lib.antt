@@ -9,4 +9,7 @@ pub mod Exhibits
 pub mod Safety
 pub mod Verdicts
 pub mod Texts
+pub mod Acts
+pub mod Evidence
 pub mod Laws
+pub mod ActLaws

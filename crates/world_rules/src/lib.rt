@@ -3,6 +3,7 @@
 //! verdicts and exhibit.
 #![tactic(auto)]
 
+mod act_laws;
 mod counts;
 mod kept_laws;
 mod laws;
@@ -11,6 +12,7 @@ mod trace;
 mod verdict;
 mod verdict_laws;
 
+pub use act_laws::{acts_are_known, acts_are_steps};
 pub use counts::print_counts;
 pub use kept_laws::events_are_what_disks_keep;
 pub use laws::{

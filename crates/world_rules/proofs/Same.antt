@@ -5,9 +5,9 @@ use Rattle.std.specs.Prelude.{slice_get}
 use Rattle.plasma_tx.proofs.Names.{some_same}
 use Rattle.world_rules.specs.World.{Node, World}
 use Rattle.world_rules.specs.Deeds.{Deed}
-use Rattle.world_acts.specs.Acts.{Place, NewWallet, NewWatcher, NewRogue, Act, Adds, Orders, Crashes, End, Whole, Crashed, Kept, Lost, end_of, node_after, deed_at, done}
-use Rattle.world_acts.specs.Evidence.{IsActIn}
-use Rattle.world_acts.proofs.Nodes.{Change, NoNode, OneNode, NewNode, change_of, EachNode, IsKeptOwn, each_node_keeps}
+use Rattle.world_rules.specs.Acts.{Place, NewWallet, NewWatcher, NewRogue, Act, Adds, Orders, Crashes, End, Whole, Crashed, Kept, Lost, end_of, node_after, deed_at, done}
+use Rattle.world_rules.specs.Evidence.{IsActIn}
+use Rattle.world_rules.proofs.Nodes.{Change, NoNode, OneNode, NewNode, change_of, EachNode, IsKeptOwn, each_node_keeps}
 
 pub record IsSame (node after : Node) : Type 0 where
   pub name : after.name ≡ node.name

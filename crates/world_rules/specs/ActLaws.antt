@@ -4,8 +4,8 @@ use Rattle.schedule_text.specs.declared.line.Line.{Line}
 use Rattle.world_rules.specs.World.{World}
 use Rattle.world_rules.specs.Declarations.{keeps_rules}
 use Rattle.world_rules.specs.Steps.{effect_in, with_mail, step}
-use Rattle.world_acts.specs.Acts.{Act, act_of, done}
-use Rattle.world_acts.specs.Evidence.{IsActIn}
+use Rattle.world_rules.specs.Acts.{Act, act_of, done}
+use Rattle.world_rules.specs.Evidence.{IsActIn}
 
 -- a line is an act exactly where it keeps the rules of declarations
 abbrev pub ActsKeepTheRules : Type 0

@@ -4,12 +4,11 @@ use Rattle.std.proofs.lemmas.Bool.{false≢true}
 use Rattle.schedule_text.specs.declared.line.Line.{Line}
 use Rattle.world_rules.specs.World.{Node, World, is_operator_role}
 use Rattle.world_rules.specs.Steps.{TraceEntry, Run, entry_of}
-use Rattle.world_rules.proofs.Runs.{begun}
-use Rattle.world_acts.specs.Acts.{NewWallet, NewWatcher, NewRogue, Act, Adds, Orders, Crashes, end_of, deed_at}
-use Rattle.world_acts.proofs.Nodes.{change_of, EachNode, IsKeptOwn, each_node_keeps}
-use Rattle.world_acts.proofs.Same.{same-after}
-use Rattle.world_acts.proofs.Told.{OperatorIsFirst}
-use Rattle.world_acts.proofs.Lives.{HasCome, runs_keep}
+use Rattle.world_rules.specs.Acts.{NewWallet, NewWatcher, NewRogue, Act, Adds, Orders, Crashes, end_of, deed_at}
+use Rattle.world_rules.proofs.Nodes.{change_of, EachNode, IsKeptOwn, each_node_keeps}
+use Rattle.world_rules.proofs.Same.{same-after}
+use Rattle.world_rules.proofs.Told.{OperatorIsFirst}
+use Rattle.world_rules.proofs.Lives.{begun, HasCome, runs_keep}
 
 abbrev IsFirst : ℕ → Option Node → Type 0
 IsFirst n None = Unit {0}

@@ -1,4 +1,4 @@
-ghost use Rattle.world_acts.specs.Laws.{ActsKeepTheRules, ActsAreKnown, EffectsAreOfActs, StepsAreOfActs};
+ghost use Rattle.world_rules.specs.ActLaws.{ActsKeepTheRules, ActsAreKnown, EffectsAreOfActs, StepsAreOfActs};
 
 /// A law: the step of a line is what its act does. A line has an act exactly where it keeps the rules of
 /// declarations.

@@ -1,6 +1,6 @@
-use Rattle.world_acts.proofs.Effects.{effects_are_of_acts, steps_are_of_acts}
-use Rattle.world_acts.proofs.Rules.{acts_keep_the_rules}
-use Rattle.world_acts.proofs.laws.acts_are_steps.Goals as goal
+use Rattle.world_rules.proofs.Lines.{effects_are_of_acts, steps_are_of_acts}
+use Rattle.world_rules.proofs.Lines.{acts_keep_the_rules}
+use Rattle.world_rules.proofs.act_laws.acts_are_steps.Goals as goal
 
 pub returns-clause-rules : goal.returns-clause-rules
 returns-clause-rules c = acts_keep_the_rules

@@ -9,8 +9,8 @@ use Rattle.node_rules.specs.WalletRecords.{identity_text as wallet_text}
 use Rattle.world_rules.specs.World.{Wallet, Watcher, Node, World}
 use Rattle.world_rules.specs.Steps.{new_node, after_crash}
 use Rattle.world_rules.proofs.Runs.{set-same, set-other, push-same, push-other}
-use Rattle.world_acts.specs.Acts.{Place, NewWallet, NewWatcher, NewRogue, Act, Rests, Signs, Adds, Enters, Orders, Crashes, end_of, node_after, deed_at, done}
-use Rattle.world_acts.specs.Evidence.{IsActIn}
+use Rattle.world_rules.specs.Acts.{Place, NewWallet, NewWatcher, NewRogue, Act, Rests, Signs, Adds, Enters, Orders, Crashes, end_of, node_after, deed_at, done}
+use Rattle.world_rules.specs.Evidence.{IsActIn}
 
 -- ---- what changes
 

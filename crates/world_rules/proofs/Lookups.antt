@@ -22,8 +22,8 @@ use Rattle.world_rules.specs.Orders.{wallet_order, order_of}
 use Rattle.world_rules.specs.Steps.{cut, outcome_of, signed_body}
 use Rattle.world_rules.specs.Laws.{IsCommandIn}
 use Rattle.world_rules.proofs.Existence.{position-is, position-parts}
-use Rattle.world_acts.specs.Acts.{Place, Cut, Act, Signs, only_where, place_at, place_named, signer_named, order_act, command_act, act_of}
-use Rattle.world_acts.specs.Evidence.{IsThere}
+use Rattle.world_rules.specs.Acts.{Place, Cut, Act, Signs, only_where, place_at, place_named, signer_named, order_act, command_act, act_of}
+use Rattle.world_rules.specs.Evidence.{IsThere}
 
 -- ---- options
 

@@ -7,16 +7,40 @@ use Rattle.plasma_tx.proofs.Names.{some_same}
 use Rattle.schedule_text.specs.declared.line.Line.{Line}
 use Rattle.world_rules.specs.World.{World}
 use Rattle.world_rules.specs.Declarations.{keeps_rules}
-use Rattle.world_rules.specs.Steps.{LineEffect, effect_of, with_mail, step, TraceEntry, entry_of, Run, no_lines, with_line, step_run, run_of}
-use Rattle.world_rules.proofs.Runs.{begun}
-use Rattle.world_acts.specs.Acts.{Act, act_of, done}
-use Rattle.world_acts.specs.Evidence.{IsActIn}
-use Rattle.world_acts.proofs.Known.{acts_are_known}
-use Rattle.world_acts.proofs.Effects.{steps_are_of_acts}
+use Rattle.node_replies.specs.declared.reply.Reply.{Reply}
+use Rattle.world_rules.specs.Events.{Idle}
+use Rattle.world_rules.specs.Steps.{LineEffect, says, new_chain, new_world, effect_of, with_mail, step, TraceEntry, entry_of, Run, no_lines, with_line, step_run, run_of}
+use Rattle.world_rules.specs.Acts.{Act, act_of, done}
+use Rattle.world_rules.specs.Evidence.{IsActIn}
+use Rattle.world_rules.proofs.Lines.{acts_are_known}
+use Rattle.world_rules.proofs.Lines.{steps_are_of_acts}
+
+-- what the first line does, with its mail item
+abbrev pub begun : ℕ → ℕ → ℕ → LineEffect
+begun tag operator most = with_mail (says Reply.Chain Idle (new_world (new_chain tag operator most)))
 
 -- what is done by an act, with the mail item of its line
 abbrev pub line_effect : (List ℕ → List ℕ) → World → Act → LineEffect
 line_effect dig world act = with_mail (done dig world act)
+
+-- what a step that is made shows: the act of its line, by which it is done
+pub record IsStepped (dig : List ℕ → List ℕ) (world : World) (line : Line) (effect : LineEffect) : Type 0 where
+  pub act : Act
+  pub act_is : act_of world line ≡ Some act
+  pub known : IsActIn world act
+  pub effect_is : line_effect dig world act ≡ effect
+
+pub stepped : (dig : List ℕ → List ℕ) (world : World) (line : Line) (effect : LineEffect)
+    → step dig (Some world) line ≡ Some effect → IsStepped dig world line effect
+stepped dig world line effect is =
+    let act = option_map_some (line_effect dig world) (act_of world line) effect
+    (sym (steps_are_of_acts dig world line) ∙ is) in
+    record {
+      act = act.0;
+      act_is = act.1;
+      known = acts_are_known world line act.0 act.1;
+      effect_is = act.2;
+    }
 
 -- the run of lines that are all so has come to this world
 pub record HasCome (dig : List ℕ → List ℕ) (IsGood : Line → Type 0) (lines : List Line) (run : Run) (world : World)
@@ -24,6 +48,15 @@ pub record HasCome (dig : List ℕ → List ℕ) (IsGood : Line → Type 0) (lin
   pub lines_are : All IsGood lines
   pub run_is : run_of dig lines ≡ Some run
   pub world_is : run.world ≡ Some world
+
+-- any line is good
+abbrev pub IsAny : Line → Type 0
+IsAny line = Unit {0}
+
+pub any_run : (dig : List ℕ → List ℕ) (lines : List Line) (run : Run) (world : World) → run_of dig lines ≡ Some run
+    → run.world ≡ Some world → HasCome dig IsAny lines run world
+any_run dig lines run world run_is world_is =
+    record { lines_are = λ k line here. tt; run_is = run_is; world_is = world_is }
 
 module _ (dig : List ℕ → List ℕ) (IsGood : Line → Type 0) (P : List TraceEntry → World → Type 0)
     (first : (tag operator most : ℕ) → IsGood (Line.Chain tag operator most)
@@ -57,11 +90,10 @@ module _ (dig : List ℕ → List ℕ) (IsGood : Line → Type 0) (P : List Trac
           → After run.entries line effect
       by None none empty is = subst (λ es. After es line effect) (sym empty) (begins line effect good is)
       by (Some world) some holds is =
-          let act = option_map_some (line_effect dig world) (act_of world line) effect
-          (sym (steps_are_of_acts dig world line) ∙ is) in
-          subst (After run.entries line) act.2
-          (next lines run world line act.0 (record { lines_are = all; run_is = run_is; world_is = some }) good act.1
-          (acts_are_known world line act.0 act.1) holds)
+          let made = stepped dig world line effect is in
+          subst (After run.entries line) made.effect_is
+          (next lines run world line made.act (record { lines_are = all; run_is = run_is; world_is = some }) good
+          made.act_is made.known holds)
 
   each : (lines : List Line) (run : Run) → All IsGood lines → run_of dig lines ≡ Some run
       → Holds run.entries run.world

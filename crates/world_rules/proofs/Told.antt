@@ -1,25 +1,27 @@
 -- The event of an act is of the node that it changes, so it says nothing of the others; and what it says of that one.
-use Rattle.std.proofs.Common.{◌≡◌, ◌≢◌, ℕ, ◌==◌, Bool, true, false, if◌then◌else◌, List, [], ◌∷◌, length, Option, Some, None, refl, sym, ap, ◌∙◌}
+use Rattle.std.proofs.Common.{◌≡◌, ℕ, ◌==◌, Bool, true, false, if◌then◌else◌, List, [], length, Option, Some, None, refl, sym, ap, ◌∙◌}
 use Rattle.std.specs.Prelude.{slice_get}
 use Rattle.std.specs.Option.{option_map_or}
 use Rattle.std.proofs.lemmas.Bool.{ne_eqb}
 use Rattle.plasma_tx.specs.declared.call.RootCall.{RootCall}
 use Rattle.plasma_tx.specs.Shown.{tests_by, rules_of}
 use Rattle.plasma_tx.specs.Table.{answer_to, is_accepted}
-use Rattle.plasma_tx.proofs.Names.{some_same}
-use Rattle.schedule_text.specs.declared.command.Command.{Command}
 use Rattle.node_replies.specs.declared.order.NodeOrder.{NodeOrder}
-use Rattle.world_rules.specs.Events.{Event, Declares, Joins, Bounces, Accepts, Guards, Releases, Binds, TakesBack, Watches, Leaves, Seals, node_in, is_command_of}
+use Rattle.world_rules.specs.Events.{Event, Joins, Bounces, Watches, Leaves, Seals, node_in, is_command_of, offered}
 use Rattle.world_rules.specs.World.{Node, World, is_operator_role}
-use Rattle.world_rules.specs.Deeds.{Gives, Deed}
+use Rattle.world_rules.specs.Deeds.{Deed}
 use Rattle.world_rules.specs.Steps.{without_offers}
 use Rattle.world_rules.proofs.OrderEnds.{OrderEnds, Sealing, order-ends}
-use Rattle.world_rules.proofs.OwnEvents.{IsBy, IsOfNode, Owns}
-use Rattle.world_rules.proofs.NodeEvents.{command-told, cut-of, other-of}
-use Rattle.world_rules.proofs.Said.{Said, said, told, is_said_of}
-use Rattle.world_acts.specs.Acts.{Place, NewWallet, NewWatcher, NewRogue, Act, Rests, Signs, Adds, Enters, Orders, Crashes, End, Whole, Crashed, Kept, Lost, end_of, node_after, event_after, deed_at, done}
-use Rattle.world_acts.specs.Evidence.{has_order, MayOrder, IsActIn}
-use Rattle.world_acts.proofs.Nodes.{Change, NoNode, OneNode, NewNode, change_of, IsOther}
+use Rattle.world_rules.proofs.NodeEvents.{IsTold, event_told, told-after}
+use Rattle.world_rules.proofs.Said.{is_said_of}
+use Rattle.world_rules.specs.Acts.{Place, NewWallet, NewWatcher, NewRogue, Act, Rests, Signs, Adds, Enters, Orders, Crashes, End, Whole, Crashed, Kept, Lost, end_of, node_after, event_after, deed_at, done}
+use Rattle.world_rules.specs.Evidence.{has_order, MayOrder, IsActIn}
+use Rattle.world_rules.proofs.Nodes.{Change, NoNode, OneNode, NewNode, change_of, IsOther}
+
+-- the event is a command of node n, by which it offers these calls
+pub record IsBy (n : ℕ) (event : Event) (calls : List RootCall) : Type 0 where
+  pub node : node_in event ≡ Some n
+  pub calls_are : offered event ≡ calls
 
 -- a cut command is by its node too, which offers nothing then
 cut-by : (n : ℕ) (event : Event) → node_in event ≡ Some n → IsBy n (without_offers n event) []
@@ -27,16 +29,6 @@ cut-by n (Watches m calls) by = record { node = refl; calls_are = refl }
 cut-by n (Leaves m call) by = record { node = refl; calls_are = refl }
 cut-by n (Seals call) by = record { node = refl; calls_are = refl }
 cut-by n event by = record { node = by; calls_are = refl }
-
--- an event by one node says nothing of another
-said-apart : (event : Event) (n m : ℕ) → node_in event ≡ Some n → n ≢ m → is_said_of m event ≡ false
-said-apart (Declares v me) n m by apart = absurd (cc by)
-said-apart (Accepts v bundle) n m by apart = ne_eqb v m (λ same. apart (sym (some_same v n by) ∙ same))
-said-apart (Guards v bundle) n m by apart = ne_eqb v m (λ same. apart (sym (some_same v n by) ∙ same))
-said-apart (Releases v c e) n m by apart = ne_eqb v m (λ same. apart (sym (some_same v n by) ∙ same))
-said-apart (Binds v body) n m by apart = ne_eqb v m (λ same. apart (sym (some_same v n by) ∙ same))
-said-apart (TakesBack v q bundle) n m by apart = ne_eqb v m (λ same. apart (sym (some_same v n by) ∙ same))
-said-apart event n m by apart = refl
 
 -- the first node alone is the operator
 abbrev pub OperatorIsFirst : World → Type 0
@@ -103,52 +95,33 @@ module _ (dig : List ℕ → List ℕ) (world : World) (first : OperatorIsFirst 
       by (OneNode place after) other = ne_eqb place.number m other
       by (NewNode node) other = refl
 
-  -- and says nothing of the others
-  pub said-others : (act : Act) → IsActIn world act → (m : ℕ) → IsOther world.nodes (change_of dig world act) m
+module _ (dig : List ℕ → List ℕ) (world : World) where
+  -- what an order tells of its node, however it ends
+  pub order-told : (events : List Event) (place : Place) (order : NodeOrder) (end : End)
+      → let deed = deed_at dig world place order in
+      IsTold place.number events (event_after place.number deed end) (event_told place.number deed end)
+  order-told events place order end =
+      told-after place.number events dig world.chain.log place.node order (deed_at dig world place order) end
+      (order-ends dig world.chain.log place.number place.node order)
+
+  -- an act says nothing of the others
+  pub said-others : (act : Act) → (m : ℕ) → IsOther world.nodes (change_of dig world act) m
       → is_said_of m (done dig world act).event ≡ false
   unfolding done
-  said-others (Rests reply) known m other = refl
-  said-others (Signs leaf body rogue) known m other = refl
-  said-others (Adds name (NewWallet who)) known m other = ne_eqb (length world.nodes) m other
-  said-others (Adds name (NewWatcher account)) known m other = refl
-  said-others (Adds name (NewRogue who)) known m other = refl
-  said-others (Enters origin call) known m other =
+  said-others (Rests reply) m other = refl
+  said-others (Signs leaf body rogue) m other = refl
+  said-others (Adds name (NewWallet who)) m other = ne_eqb (length world.nodes) m other
+  said-others (Adds name (NewWatcher account)) m other = refl
+  said-others (Adds name (NewRogue who)) m other = refl
+  said-others (Enters origin call) m other =
       by (is_accepted (answer_to (tests_by dig) (rules_of world.chain) world.chain.log call))
     where
       by : (b : Bool) → is_said_of m (if b then Joins call else Bounces call) ≡ false
       by true = refl
       by false = refl
-  said-others (Orders place order cut) known m other =
-      said-apart _ place.number m
-      (by-end place order known (end_of cut place.node order (deed_at dig world place order))).node other
-  said-others (Crashes place) known m other = refl
-
--- what an order tells of its node, however it ends: its event, or nothing where its record is lost
-abbrev pub told_after : Deed → End → Said → Said
-told_after given Lost s = s
-told_after given end s = told given.gives.event s
-
-module _ (dig : List ℕ → List ℕ) (world : World) (first : OperatorIsFirst world) (events : List Event) where
-  pub said-own : (place : Place) (order : NodeOrder) → MayOrder world place order → (end : End)
-      → let deed = deed_at dig world place order in
-      said (event_after place.number deed end ∷ events) place.number ≡ told_after deed end (said events place.number)
-  said-own place order may end = by end
-    where
-      n : ℕ
-      n = place.number
-
-      gives : Gives
-      gives = (deed_at dig world place order).gives
-
-      own : IsOfNode n (Command.Open []) gives
-      own = Owns (by-order dig world first place order may)
-
-      by : (end : End) → said (event_after n (deed_at dig world place order) end ∷ events) n
-          ≡ told_after (deed_at dig world place order) end (said events n)
-      by Whole = (command-told n events (Command.Open []) gives own).is
-      by Crashed = (cut-of n events (Command.Open []) gives own).is
-      by Kept = (cut-of n events (Command.Open []) gives own).is
-      by Lost = (other-of n events).is
+  said-others (Orders place order cut) m other =
+      (order-told [] place order (end_of cut place.node order (deed_at dig world place order))).others m other
+  said-others (Crashes place) m other = refl
 
 -- an act leaves the rules of the chain
 pub rules-stay : (dig : List ℕ → List ℕ) (world : World) (act : Act)
