@@ -1,7 +1,5 @@
-ghost use Rattle.std.specs.Prelude.{◌≡◌, false, None, IfOk};
+ghost use Rattle.std.specs.Prelude.{◌≡◌, false, IfOk};
 ghost use Rattle.node_journal.specs.Notes.{stopped_by};
-ghost use Rattle.node_rules.specs.Wallet.{send_effect};
-ghost use Rattle.wallet_node.specs.State.{wallet_stop, DidLeaf};
 ghost use Rattle.node_replies.specs.Given.{IsGiven};
 ghost use Rattle.node_replies.specs.Orders.{again_does, migrate_does, wallet_does};
 ghost use Rattle.node_deeds.specs.WalletOrders.{Does};
@@ -10,32 +8,13 @@ use super::causes::refuse;
 use crash_disk::Disk;
 use node_journal::Stop;
 use node_replies::{Given, Reply, WalletOrder, makes, says};
-use node_rules::{Sent, WalletRefusal};
+use node_rules::Sent;
 use plasma_base::Hash32;
 use plasma_tx::{Owner, RootLog};
 use std::alloc::Global;
 use wallet_node::WalletNode;
 
-// Sends a coin, with a last block or without one.
-fn sent<D: Disk, H: Hash32 + Copy>(
-    node: &mut WalletNode<D, H>,
-    log: &RootLog,
-    coin: u64,
-    to: &Owner,
-    last: Option<u64>,
-) -> Result<Sent, WalletRefusal>
-    ensures answer { wallet_stop result ≡ None → result ≡ (send_effect (H.digest_of node.old.hash)
-        node.old.records log.now.log coin to.now last).answer }
-    ensures did { DidLeaf D.told D.plan D.faults (send_effect (H.digest_of node.old.hash)
-        node.old.records log.now.log coin to.now last).leaf node.old (wallet_stop result) node.new }
-{
-    match last {
-        Some(last) => node.send_until(log, coin, to, last),
-        None => node.send(log, coin, to),
-    }
-}
-
-// Signs a transfer of a coin, and gives it out.
+// Signs a transfer of a coin, with a last block or without one, and gives it out.
 pub fn send<D: Disk, H: Hash32 + Copy>(
     alloc: Global,
     node: &mut WalletNode<D, H>,
@@ -49,7 +28,11 @@ pub fn send<D: Disk, H: Hash32 + Copy>(
     ensures did { Does D.told D.plan D.faults (wallet_does (H.digest_of node.old.hash) log.now.log
         node.old.records (WalletOrder.Send coin to.now last)) node.old (stopped_by result) node.new }
 {
-    match sent(node, log, coin, to, last) {
+    let sent = match last {
+        Some(last) => node.send_until(log, coin, to, last),
+        None => node.send(log, coin, to),
+    };
+    match sent {
         Ok(Sent { q, bytes }) => Ok(makes(alloc, Reply::Sent { leaf: q }, bytes)),
         Err(why) => refuse(alloc, &why),
     }
