@@ -38,6 +38,15 @@ pub record NodeView (H : Type 0) : Type 0 where
   pub leaves_disk : Option History
   pub hash : H
 
+-- what a node was declared as, which no call changes
+pub record Declared : Type 0 where
+  pub name : List ℕ
+  pub account : ℕ
+  pub role : Role
+
+abbrev pub declared_as : Node → Declared
+declared_as node = record { name = node.name; account = node.account; role = node.role }
+
 -- the role that a kind of node plays
 abbrev pub role_of : NodeKind → Role
 role_of WalletKind = Wallet

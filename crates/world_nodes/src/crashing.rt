@@ -1,6 +1,6 @@
 ghost use Rattle.std.specs.Prelude.{◌≡◌, OnOk};
 ghost use Rattle.crash_disk.specs.Outcomes.{HasPattern};
-ghost use Rattle.world_nodes.specs.Nodes.{Spells, Crashes};
+ghost use Rattle.world_nodes.specs.Nodes.{declared_as, Spells, Crashes};
 
 use super::boxed::BoxedSite;
 use super::entry::{Entry, down_of, offer_nothing, put, take};
@@ -16,6 +16,7 @@ impl<H: Hash32 + Copy> Entry<H> {
         ensures crashes { OnOk result (Crashes outcome.now self.old self.new) }
         ensures spells { OnOk result (Spells self.new) }
         ensures hash { self.new.hash ≡ self.old.hash }
+        ensures declared { declared_as self.new.node ≡ declared_as self.old.node }
     {
         self.is_of_role();
         let site = take(&mut self.site);

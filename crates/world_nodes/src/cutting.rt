@@ -3,7 +3,7 @@ ghost use Rattle.crash_disk.specs.Outcomes.{HasPattern};
 ghost use Rattle.crash_disk.specs.Memory.{with_fuse};
 ghost use Rattle.node_replies.specs.declared.order.NodeOrder.{NodeOrder};
 ghost use Rattle.world_nodes.specs.Orders.{fits, is_opening_order, IsFit};
-ghost use Rattle.world_nodes.specs.Nodes.{role_of, Spells};
+ghost use Rattle.world_nodes.specs.Nodes.{role_of, declared_as, Spells};
 ghost use Rattle.world_nodes.specs.Cuts.{Cuts};
 ghost use Rattle.world_nodes.specs.Inside.{down_halves, down_kind, end_in, HaveJournals, MayOpen, IsToStop, IsCutShort, IsCutOpening};
 
@@ -161,31 +161,19 @@ impl<H: Hash32 + Copy> Entry<H> {
             Cuts (H.digest_of self.old.hash) log.now.log calls outcome.now order.now self.old end self.new) }
         ensures spells { OnOk result (Spells self.new) }
         ensures hash { self.new.hash ≡ self.old.hash }
+        ensures declared { declared_as self.new.node ≡ declared_as self.old.node }
     {
-        match order {
-            NodeOrder::Open => self.cut_open(calls, outcome),
-            NodeOrder::Wallet(_) => self.cut_command(log, order, calls, outcome),
-            NodeOrder::Watcher(_) => self.cut_command(log, order, calls, outcome),
-            NodeOrder::Operator(_) => self.cut_command(log, order, calls, outcome),
+        match (order, self.is_up()) {
+            (NodeOrder::Open, true) => {
+                self.crash(outcome)?;
+                Ok(CutEnd::Done {
+                    given: says(self.alloc, Reply::Up),
+                })
+            }
+            (NodeOrder::Open, false) => self.cut_opening(calls, outcome),
+            (_, true) => self.cut_up(log, order, calls, outcome),
+            (_, false) => Ok(CutEnd::Down),
         }
-    }
-
-    // Cuts the order that opens the node.
-    fn cut_open(&mut self, calls: u64, outcome: &Outcome) -> Result<CutEnd, NoMemory>
-        requires pattern { HasPattern outcome.now }
-        requires spells { Spells self.old }
-        ensures cuts { IfOk result (λ end.
-            Cuts (H.digest_of self.old.hash) [] calls outcome.now NodeOrder.Open self.old end self.new) }
-        ensures spells { OnOk result (Spells self.new) }
-        ensures hash { self.new.hash ≡ self.old.hash }
-    {
-        if self.is_up() {
-            self.crash(outcome)?;
-            return Ok(CutEnd::Done {
-                given: says(self.alloc, Reply::Up),
-            });
-        }
-        self.cut_opening(calls, outcome)
     }
 
     // Cuts the opening of a node that is down.
@@ -197,6 +185,7 @@ impl<H: Hash32 + Copy> Entry<H> {
             Cuts (H.digest_of self.old.hash) [] calls outcome.now NodeOrder.Open self.old end self.new) }
         ensures spells { OnOk result (Spells self.new) }
         ensures hash { self.new.hash ≡ self.old.hash }
+        ensures declared { declared_as self.new.node ≡ declared_as self.old.node }
     {
         self.is_of_role();
         let site = take(&mut self.site);
@@ -208,29 +197,6 @@ impl<H: Hash32 + Copy> Entry<H> {
         put(&mut self.site, kept);
         offer_nothing(&mut self.offers);
         Ok(end)
-    }
-
-    // Cuts an order that doesn't open the node.
-    fn cut_command(
-        &mut self,
-        log: &RootLog,
-        order: &NodeOrder,
-        calls: u64,
-        outcome: &Outcome,
-    ) -> Result<CutEnd, NoMemory>
-        requires fits { fits self.old.node.role order.now ≡ true }
-        requires is_command { is_opening_order order.now ≡ false }
-        requires pattern { HasPattern outcome.now }
-        requires spells { Spells self.old }
-        ensures cuts { IfOk result (λ end.
-            Cuts (H.digest_of self.old.hash) log.now.log calls outcome.now order.now self.old end self.new) }
-        ensures spells { OnOk result (Spells self.new) }
-        ensures hash { self.new.hash ≡ self.old.hash }
-    {
-        if !self.is_up() {
-            return Ok(CutEnd::Down);
-        }
-        self.cut_up(log, order, calls, outcome)
     }
 
     // Cuts an order of a node that is up.
@@ -250,6 +216,7 @@ impl<H: Hash32 + Copy> Entry<H> {
             Cuts (H.digest_of self.old.hash) log.now.log calls outcome.now order.now self.old end self.new) }
         ensures spells { OnOk result (Spells self.new) }
         ensures hash { self.new.hash ≡ self.old.hash }
+        ensures declared { declared_as self.new.node ≡ declared_as self.old.node }
     {
         self.is_of_role();
         is_fit(order);

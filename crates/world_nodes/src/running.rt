@@ -1,26 +1,16 @@
-ghost use Rattle.std.specs.Prelude.{◌≡◌, ℕ, [], true, false, None, IfOk, OnOk};
-ghost use Rattle.node_replies.specs.Given.{IsGiven};
+ghost use Rattle.std.specs.Prelude.{◌≡◌, true, false, IfOk, OnOk};
 ghost use Rattle.world_rules.specs.Orders.{node_does};
 ghost use Rattle.world_nodes.specs.Orders.{fits, is_opening_order};
-ghost use Rattle.world_nodes.specs.Nodes.{role_of, Spells, IsDone, Runs};
-ghost use Rattle.world_nodes.specs.Inside.{bare_node, up_closed, up_halves, up_hash, up_kind, RunsOn, UpDid};
+ghost use Rattle.world_nodes.specs.Nodes.{declared_as, Spells, IsDone, Runs};
 
 use super::boxed::BoxedSite;
-use super::entry::{Entry, put, put_offers, take, up_of};
-use super::up::{UpNode, run_up};
+use super::entry::{Entry, offer_nothing, put, put_offers, take, up_of};
+use super::up::run_up;
 use node_journal::Stop;
 use node_replies::{Given, NodeOrder, Reply, says};
 use plasma_base::{Hash32, NoMemory};
 use plasma_tx::{RootCall, RootLog};
 use std::alloc::Global;
-
-// A node that ran an order, what it gave, and a copy of what it offers.
-#[derive(Drop)]
-struct Ran<H: Hash32 + Copy> {
-    node: UpNode<H>,
-    given: Given,
-    offers: Vec<RootCall>,
-}
 
 // Equal calls.
 fn copy_calls(alloc: Global, calls: &[RootCall]) -> Result<Vec<RootCall>, NoMemory>
@@ -31,40 +21,6 @@ fn copy_calls(alloc: Global, calls: &[RootCall]) -> Result<Vec<RootCall>, NoMemo
         copied.push(call.copy()?)?;
     }
     Ok(copied)
-}
-
-// Runs an order on a node that is up.
-fn run_node<H: Hash32 + Copy>(
-    alloc: Global,
-    node: UpNode<H>,
-    log: &RootLog,
-    order: &NodeOrder,
-) -> Result<Ran<H>, NoMemory>
-    requires fits { fits (role_of (up_kind node)) order.now ≡ true }
-    requires is_command { is_opening_order order.now ≡ false }
-    requires is_open { up_closed node ≡ false }
-    requires runs_on { RunsOn node }
-    ensures did { IfOk result (λ ran. UpDid
-        (node_does (H.digest_of (up_hash node)) log.now.log (bare_node (up_halves node)) order.now)
-        node None ran.node) }
-    ensures gives { IfOk result (λ ran. IsGiven
-        (node_does (H.digest_of (up_hash node)) log.now.log (bare_node (up_halves node)) order.now).response
-        ran.given) }
-    ensures offers { IfOk result (λ ran. ran.offers.items ≡ ran.given.offers.items) }
-{
-    let mut node = node;
-    match run_up(alloc, &mut node, log, order) {
-        Ok(given) => {
-            let offers = copy_calls(alloc, &given.offers)?;
-            Ok(Ran {
-                node,
-                given,
-                offers,
-            })
-        }
-        Err(Stop::NoMemory) => Err(NoMemory),
-        Err(_) => unreachable!(),
-    }
 }
 
 impl<H: Hash32 + Copy> Entry<H> {
@@ -78,29 +34,17 @@ impl<H: Hash32 + Copy> Entry<H> {
             Runs (H.digest_of self.old.hash) log.now.log order.now self.old given self.new) }
         ensures spells { OnOk result (Spells self.new) }
         ensures hash { self.new.hash ≡ self.old.hash }
+        ensures declared { declared_as self.new.node ≡ declared_as self.old.node }
     {
-        match order {
-            NodeOrder::Open => self.open(),
-            NodeOrder::Wallet(_) => self.obey(log, order),
-            NodeOrder::Watcher(_) => self.obey(log, order),
-            NodeOrder::Operator(_) => self.obey(log, order),
+        match (order, self.is_up()) {
+            (NodeOrder::Open, true) => {
+                offer_nothing(&mut self.offers);
+                Ok(says(self.alloc, Reply::Up))
+            }
+            (NodeOrder::Open, false) => self.bring_up(),
+            (_, true) => self.command(log, order),
+            (_, false) => Ok(says(self.alloc, Reply::Down)),
         }
-    }
-
-    // Runs an order that doesn't open the node.
-    fn obey(&mut self, log: &RootLog, order: &NodeOrder) -> Result<Given, NoMemory>
-        requires fits { fits self.old.node.role order.now ≡ true }
-        requires is_command { is_opening_order order.now ≡ false }
-        requires spells { Spells self.old }
-        ensures runs { IfOk result (λ given.
-            Runs (H.digest_of self.old.hash) log.now.log order.now self.old given self.new) }
-        ensures spells { OnOk result (Spells self.new) }
-        ensures hash { self.new.hash ≡ self.old.hash }
-    {
-        if !self.is_up() {
-            return Ok(says(self.alloc, Reply::Down));
-        }
-        self.command(log, order)
     }
 
     // Runs an order of a node that is up.
@@ -114,15 +58,16 @@ impl<H: Hash32 + Copy> Entry<H> {
             self.old given self.new) }
         ensures spells { OnOk result (Spells self.new) }
         ensures hash { self.new.hash ≡ self.old.hash }
+        ensures declared { declared_as self.new.node ≡ declared_as self.old.node }
     {
         let site = take(&mut self.site);
-        let node = up_of(site);
-        let ran = run_node(self.alloc, node, log, order)?;
-        let Ran {
-            node,
-            given,
-            offers,
-        } = ran;
+        let mut node = up_of(site);
+        let given = match run_up(self.alloc, &mut node, log, order) {
+            Ok(given) => given,
+            Err(Stop::NoMemory) => return Err(NoMemory),
+            Err(_) => unreachable!(),
+        };
+        let offers = copy_calls(self.alloc, &given.offers)?;
         let kept = BoxedSite::up(self.alloc, node)?;
         put(&mut self.site, kept);
         put_offers(&mut self.offers, offers);
