@@ -31,6 +31,7 @@ use Rattle.world_scene.specs.Scenes.{SceneState, Shown, world_of, node_in, shown
 use Rattle.world_scene.specs.Orders.{OrderAt}
 use Rattle.world_rules.specs.Orders.{order_of, watch_order}
 use Rattle.world_scene.specs.Steps.{shown_by, with_nodes, AllHash, RunsAt, CrashesAt, FitsAt, OfferAt}
+use Rattle.plasma_tx.specs.Chain.{Chain}
 use Rattle.plasma_tx.specs.Shown.{tests_by, rules_of}
 use Rattle.world_trace.specs.declared.event.LineEvent.{LineEvent}
 use Rattle.world_trace.specs.Orders.{TellsGiven}
@@ -142,7 +143,7 @@ all_at {H} nodes n view hash all at =
     ∙ all n view (slice_get_within nodes n view at)
 
 -- what is shown, by its parts
-abbrev shown_as : Reply → List ℕ → World → Shown
+abbrev pub shown_as : Reply → List ℕ → World → Shown
 shown_as reply made world = record { done = false; reply = reply; made = made; world = world }
 
 -- the list with what may be found put first
@@ -284,6 +285,15 @@ module _ {H : Type 0} (digest : H → List ℕ → List ℕ) (scene : SceneState
           (effect_is false (opens_at ∙ eq)
           ∙ ap (option_map (commanded (world_of scene) n ran.before.node)) deed_at)
           (told dig scene.chain.log ran.before.node it.gives (tests_by dig) (rules_of scene.chain) scene.chain.log)
+
+-- an order that was run over a log that was lent, of a scene that is seen
+pub ran_seen : {H : Type 0} (digest : H → List ℕ → List ℕ) (scene seen : SceneState H) (log : Chain) (n : ℕ)
+    (order : NodeOrder) (given : Given) (nodes : List (NodeView H)) → scene ≡ seen → log ≡ scene.chain
+    → RunsAt digest log.log n order scene.nodes given nodes
+    → RunsAt digest seen.chain.log n order seen.nodes given nodes
+ran_seen {H} digest scene seen log n order given nodes same lent ran =
+    subst (λ (s : SceneState H). RunsAt digest s.chain.log n order s.nodes given nodes) same
+    (subst (λ (l : Chain). RunsAt digest l.log n order scene.nodes given nodes) lent ran)
 
 -- ---- which names it has
 

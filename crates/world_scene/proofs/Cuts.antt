@@ -4,6 +4,7 @@ use Rattle.std.specs.Prelude.{option_map}
 use Rattle.std.specs.Str.{bytes_eq}
 use Rattle.std.proofs.lemmas.Slice.Eq.{bytes_eq-Decides}
 use Rattle.std.proofs.lemmas.Option.{slice_get-map}
+use Rattle.crash_disk.specs.declared.outcome.Outcome.{Outcome}
 use Rattle.gate_journal.specs.Laws.{is_added}
 use Rattle.line_forms.specs.declared.tokens.OutcomeToken.{OutcomeToken}
 use Rattle.schedule_text.specs.declared.line.Line.{Line}
@@ -26,6 +27,7 @@ use Rattle.world_nodes.specs.Orders.{fits, is_opening_order}
 use Rattle.world_rules.specs.Orders.{node_does}
 use Rattle.world_nodes.specs.Nodes.{NodeView, answers_down}
 use Rattle.world_nodes.specs.Cuts.{is_stopped, Ends, IsStopped, IsFinished}
+use Rattle.plasma_tx.specs.Chain.{Chain}
 use Rattle.plasma_tx.specs.Shown.{tests_by, rules_of}
 use Rattle.world_trace.specs.declared.event.LineEvent.{LineEvent}
 use Rattle.world_trace.specs.Events.{IsEvent}
@@ -256,3 +258,13 @@ pub cut_of_its_node : (dig : List ℕ → List ℕ) (world : World) (command : C
     → shows dig world (Line.Cut name calls token command) ≡ shown
 cut_of_its_node dig world command name calls token shown same is =
     ap (λ n. shows dig world (Line.Cut n calls token command)) (sym (same_bytes (node_of command) name same)) ∙ is
+
+-- an order that was cut over a log that was lent, of a scene that is seen
+pub cut_seen : {H : Type 0} (digest : H → List ℕ → List ℕ) (scene seen : SceneState H) (log : Chain) (n calls : ℕ)
+    (outcome meant : Outcome) (order : NodeOrder) (end : CutEnd) (nodes : List (NodeView H)) → scene ≡ seen
+    → log ≡ scene.chain → outcome ≡ meant → CutsAt digest log.log n calls outcome order scene.nodes end nodes
+    → CutsAt digest seen.chain.log n calls meant order seen.nodes end nodes
+cut_seen {H} digest scene seen log n calls outcome meant order end nodes same lent means was =
+    subst (λ (s : SceneState H). CutsAt digest s.chain.log n calls meant order s.nodes end nodes) same
+    (subst (λ (l : Chain). CutsAt digest l.log n calls meant order scene.nodes end nodes) lent
+    (subst (λ (o : Outcome). CutsAt digest log.log n calls o order scene.nodes end nodes) means was))

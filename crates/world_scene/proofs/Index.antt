@@ -1,34 +1,22 @@
 -- What is kept of nodes stays true of them.
-use Rattle.std.proofs.Common.{◌≡◌, refl, sym, ap, subst, ◌∙◌, ℕ, Bool, true, false, ◌&&◌, if◌then◌else◌, List, [], ◌∷◌, ◌++◌, map, filter, set, length, Some, None}
-use Rattle.std.specs.Prelude.{MatchBool, option_map, slice_get}
+use Rattle.std.proofs.Common.{◌≡◌, refl, sym, ap, subst, ◌∙◌, ℕ, Bool, true, false, ◌&&◌, List, [], ◌∷◌, ◌++◌, map, filter, length, Some, None}
+use Rattle.std.specs.Prelude.{option_map, slice_get, slice_set, slice_index_or}
 use Rattle.std.specs.List.{position, list_any}
 use Rattle.std.specs.Str.{bytes_eq}
 use Rattle.std.proofs.Math.Seq.{map-set_same}
 use Rattle.std.proofs.lemmas.Bool.{and_parts}
 use Rattle.std.proofs.lemmas.List.{map-append, length-map}
 use Rattle.std.proofs.lemmas.List.Elements.{filter-append}
-use Rattle.std.proofs.lemmas.Option.{none-some, slice_get-map, get_or_from_slice_get}
+use Rattle.std.proofs.lemmas.Option.{none-some, slice_get-map}
 use Rattle.std.proofs.lemmas.Slice.Eq.{bytes_eq-Decides}
-use Rattle.crash_disk.specs.declared.outcome.Outcome.{Outcome}
-use Rattle.plasma_tx.specs.declared.call.RootCall.{RootCall}
-use Rattle.world_rules.specs.World.{Node}
 use Rattle.world_rules.specs.Declarations.{is_wallet_account, wallet_nodes}
-use Rattle.node_replies.specs.Orders.{Doing}
-use Rattle.world_rules.specs.Steps.{after_crash}
-use Rattle.node_replies.specs.declared.given.Given.{Given}
-use Rattle.node_replies.specs.declared.order.NodeOrder.{NodeOrder}
-use Rattle.world_nodes.specs.declared.order.CutEnd.{CutEnd}
-use Rattle.world_nodes.specs.declared.order.CutEnd.TheVariants.{Down, Stopped, Done}
-use Rattle.world_rules.specs.Orders.{node_does}
-use Rattle.world_nodes.specs.Nodes.{NodeView, answers_down, with_records, Runs, IsDown, IsDone}
-use Rattle.world_nodes.specs.Cuts.{Cuts, is_kept}
 use Rattle.world_scene.specs.declared.names.Roles.{Roles}
 use Rattle.world_scene.specs.declared.places.Places.{Places}
 use Rattle.world_scene.specs.Names.{passes, is_named_view, is_same_account}
 use Rattle.world_scene.specs.Places.{place_in, PutsPlace, FindsEach}
-use Rattle.world_scene.specs.Indexed.{Declared, declared_as, all_declared, is_wallet_there, wallet_accounts, IsIndexed}
+use Rattle.world_nodes.specs.Nodes.{NodeView, Declared, declared_as}
+use Rattle.world_scene.specs.Indexed.{all_declared, is_wallet_there, wallet_accounts, IsIndexed}
 use Rattle.world_scene.specs.Scenes.{SceneState, world_of}
-use Rattle.world_scene.specs.Steps.{RunsAt, CrashesAt, CutsAt}
 use Rattle.world_scene.proofs.Finding.{none_passes, none_named, none_there, other_there, found_there, finds_more}
 use Rattle.world_scene.proofs.Views.{position_map, any_map, any_filter, count_filter, wallets_view, wallet_account_view}
 
@@ -133,64 +121,16 @@ one_more {H} old new accounts more views view puts fresh accounts_are it =
           ∙ sym (accounts_more (all_declared views) (declared_as view.node));
     })
 
--- ---- what a node does
+-- ---- what is done with a node
 
-ran_as : {H : Type 0} (dig : List ℕ → List ℕ) (log : List RootCall) (order : NodeOrder) (before : NodeView H)
-    (given : Given) (after : NodeView H) → Runs dig log order before given after
+-- a node that was declared as the one whose place it takes
+pub put_index : {H : Type 0} (places : Places) (accounts : List ℕ) (views : List (NodeView H)) (n : ℕ)
+    (before after : NodeView H) → before ≡ slice_index_or views n before
     → declared_as after.node ≡ declared_as before.node
-ran_as {H} dig log order before given after = by (answers_down order before.node)
-  where
-    by : (down : Bool) → MatchBool down (IsDown before given after)
-        (IsDone order (node_does dig log before.node order) before given after)
-        → declared_as after.node ≡ declared_as before.node
-    by true it = ap (λ (view : NodeView H). declared_as view.node) it.stays
-    by false it = ap declared_as it.node
-
-stopped_as : (kept : Bool) (node : Node) (doing : Doing)
-    → declared_as (after_crash (if kept then with_records node doing else node)) ≡ declared_as node
-stopped_as true node doing = refl
-stopped_as false node doing = refl
-
-cut_as : {H : Type 0} (dig : List ℕ → List ℕ) (log : List RootCall) (calls : ℕ) (outcome : Outcome)
-    (order : NodeOrder) (before : NodeView H) (end : CutEnd) (after : NodeView H)
-    → Cuts dig log calls outcome order before end after
-    → declared_as after.node ≡ declared_as before.node
-cut_as {H} dig log calls outcome order before Down after it =
-    ap (λ (view : NodeView H). declared_as view.node) it.1
-cut_as dig log calls outcome order before (Stopped kept) after it =
-    ap declared_as it.node
-    ∙ stopped_as (is_kept calls outcome order) before.node (node_does dig log before.node order)
-cut_as dig log calls outcome order before (Done given) after it = ap declared_as it.1.node
-
-module _ {H : Type 0} (places : Places) (accounts : List ℕ) (old new : List (NodeView H))
-    (it : IsIndexed places accounts (all_declared old)) where
-  set_at : (n : ℕ) (before after : NodeView H) → slice_get old n ≡ Some before → new ≡ set old n after
-      → declared_as after.node ≡ declared_as before.node → IsIndexed places accounts (all_declared new)
-  set_at n before after stood is same =
-      let declare = λ (view : NodeView H). declared_as view.node in
-      subst (IsIndexed places accounts)
-      (sym (ap (all_declared {H = H}) is
-      ∙ map-set_same declare old n after before
-      (same ∙ ap declare (sym (get_or_from_slice_get old n before before stood)))))
-      it
-
-  pub ran_index : (digest : H → List ℕ → List ℕ) (log : List RootCall) (n : ℕ) (order : NodeOrder) (given : Given)
-      → RunsAt digest log n order old given new → IsIndexed places accounts (all_declared new)
-  ran_index digest log n order given ran =
-      set_at n ran.before ran.after ran.stood ran.is
-      (ran_as (digest ran.before.hash) log order ran.before given ran.after ran.runs)
-
-  pub crashed_index : (n : ℕ) (outcome : Outcome) → CrashesAt n outcome old new
-      → IsIndexed places accounts (all_declared new)
-  crashed_index n outcome crashed =
-      set_at n crashed.before crashed.after crashed.stood crashed.is (ap declared_as crashed.crashes.node)
-
-  pub cut_index : (digest : H → List ℕ → List ℕ) (log : List RootCall) (n calls : ℕ) (outcome : Outcome)
-      (order : NodeOrder) (end : CutEnd) → CutsAt digest log n calls outcome order old end new
-      → IsIndexed places accounts (all_declared new)
-  cut_index digest log n calls outcome order end cut =
-      set_at n cut.before cut.after cut.stood cut.is
-      (cut_as (digest cut.before.hash) log calls outcome order cut.before end cut.after cut.cuts)
+    → IsIndexed places accounts (all_declared views) → IsIndexed places accounts (all_declared (slice_set views n after))
+put_index places accounts views n before after is same it =
+    let declare = λ (view : NodeView _). declared_as view.node in
+    subst (IsIndexed places accounts) (sym (map-set_same declare views n after before (same ∙ ap declare is))) it
 
 -- ---- wallets
 

@@ -1,4 +1,3 @@
-mod Always
 pub mod Commands
 pub mod Cuts
 pub mod Finding

@@ -1,5 +1,5 @@
 -- A node among the nodes of a world, and the world with it changed.
-use Rattle.std.proofs.Common.{◌≡◌, refl, sym, ap, ◌∙◌, subst, ℕ, ◌<◌, List, length, slice_set, slice_index_or, Some}
+use Rattle.std.proofs.Common.{◌≡◌, sym, ap, ◌∙◌, subst, true, ℕ, ◌<◌, List, length, slice_get, slice_set, slice_index_or, Some}
 use Rattle.std.specs.List.{All}
 use Rattle.std.proofs.lemmas.List.Elements.{All-set}
 use Rattle.std.proofs.lemmas.Option.{slice_get-get_or}
@@ -9,52 +9,55 @@ use Rattle.node_replies.specs.declared.given.Given.{Given}
 use Rattle.node_replies.specs.declared.order.NodeOrder.{NodeOrder}
 use Rattle.world_nodes.specs.declared.order.CutEnd.{CutEnd}
 use Rattle.world_nodes.specs.Cuts.{Cuts}
+use Rattle.world_nodes.specs.Orders.{fits}
 use Rattle.world_nodes.specs.Nodes.{NodeView, Spells, Runs, Crashes}
-use Rattle.world_scene.specs.Steps.{RunsAt, CrashesAt, CutsAt}
+use Rattle.world_scene.specs.Steps.{AllHash, FitsAt, RunsAt, CrashesAt, CutsAt}
 
-module _ {H : Type 0} (nodes : List (NodeView H)) (n : ℕ) (view : NodeView H) where
-  pub spells_at : All Spells nodes → n < length nodes → view ≡ slice_index_or nodes n view → Spells view
-  spells_at all inside is = subst Spells (sym is) (all n view inside)
+-- the node that stands at n, of nodes that are seen
+module _ {H : Type 0} (nodes seen : List (NodeView H)) (same : nodes ≡ seen) (n : ℕ) (before : NodeView H)
+    (stands : before ≡ slice_index_or nodes n before) (inside : n < length seen) where
+  within : n < length nodes
+  within = subst (λ all. n < length all) (sym same) inside
 
-  pub spells_set : Spells view → All Spells nodes → All Spells (slice_set nodes n view)
-  spells_set one all = All-set Spells nodes n view one all
+  stood : slice_get seen n ≡ Some before
+  stood = ap (λ all. slice_get all n) (sym same) ∙ slice_get-get_or nodes n before within ∙ ap Some (sym stands)
 
--- an order that was run on a node that stands there
-pub runs_at : {H : Type 0} (digest : H → List ℕ → List ℕ) (log : List RootCall) (nodes : List (NodeView H)) (n : ℕ)
-    (before after : NodeView H) (order : NodeOrder) (given : Given)
-    → n < length nodes → before ≡ slice_index_or nodes n before
-    → Runs (digest before.hash) log order before given after
-    → RunsAt digest log n order nodes given (slice_set nodes n after)
-runs_at digest log nodes n before after order given inside is runs = record {
-  before = before;
-  after = after;
-  stood = slice_get-get_or nodes n before inside ∙ ap Some (sym is);
-  is = refl;
-  runs = runs;
-}
+  pub spells_at : All Spells seen → Spells before
+  spells_at all = subst Spells (sym stands) (subst (All Spells) (sym same) all n before within)
 
--- a node that stands there crashed
-pub crashes_at : {H : Type 0} (nodes : List (NodeView H)) (n : ℕ) (before after : NodeView H) (outcome : Outcome)
-    → n < length nodes → before ≡ slice_index_or nodes n before → Crashes outcome before after
-    → CrashesAt n outcome nodes (slice_set nodes n after)
-crashes_at nodes n before after outcome inside is crashes = record {
-  before = before;
-  after = after;
-  stood = slice_get-get_or nodes n before inside ∙ ap Some (sym is);
-  is = refl;
-  crashes = crashes;
-}
+  pub fits_at : (order : NodeOrder) → FitsAt seen n order → fits before.node.role order ≡ true
+  fits_at order fit = fit before stood
 
--- an order of a node that stands there was cut
-pub cuts_at : {H : Type 0} (digest : H → List ℕ → List ℕ) (log : List RootCall) (nodes : List (NodeView H))
-    (n calls : ℕ) (outcome : Outcome) (before after : NodeView H) (order : NodeOrder) (end : CutEnd)
-    → n < length nodes → before ≡ slice_index_or nodes n before
-    → Cuts (digest before.hash) log calls outcome order before end after
-    → CutsAt digest log n calls outcome order nodes end (slice_set nodes n after)
-cuts_at digest log nodes n calls outcome before after order end inside is cuts = record {
-  before = before;
-  after = after;
-  stood = slice_get-get_or nodes n before inside ∙ ap Some (sym is);
-  is = refl;
-  cuts = cuts;
-}
+  -- and another node in its place
+  module _ (after : NodeView H) where
+    put : slice_set nodes n after ≡ slice_set seen n after
+    put = ap (λ all. slice_set all n after) same
+
+    pub spells_set : All Spells seen → Spells after → All Spells (slice_set nodes n after)
+    spells_set all one = All-set Spells nodes n after one (subst (All Spells) (sym same) all)
+
+    pub hash_set : after.hash ≡ before.hash → (hash : H) → AllHash hash seen → AllHash hash (slice_set nodes n after)
+    hash_set kept hash all =
+        let here = subst (AllHash hash) (sym same) all in
+        All-set (λ (view : NodeView H). view.hash ≡ hash) nodes n after
+        (kept ∙ ap (λ (view : NodeView H). view.hash) stands ∙ here n before within) here
+
+    -- an order that was run on it
+    pub runs_at : (digest : H → List ℕ → List ℕ) (log : List RootCall) (order : NodeOrder) (given : Given)
+        → Runs (digest before.hash) log order before given after
+        → RunsAt digest log n order seen given (slice_set nodes n after)
+    runs_at digest log order given runs =
+        record { before = before; after = after; stood = stood; is = put; runs = runs }
+
+    -- it crashed
+    pub crashes_at : (outcome : Outcome) → Crashes outcome before after
+        → CrashesAt n outcome seen (slice_set nodes n after)
+    crashes_at outcome crashes =
+        record { before = before; after = after; stood = stood; is = put; crashes = crashes }
+
+    -- an order of it was cut
+    pub cuts_at : (digest : H → List ℕ → List ℕ) (log : List RootCall) (calls : ℕ) (outcome : Outcome)
+        (order : NodeOrder) (end : CutEnd) → Cuts (digest before.hash) log calls outcome order before end after
+        → CutsAt digest log n calls outcome order seen end (slice_set nodes n after)
+    cuts_at digest log calls outcome order end cuts =
+        record { before = before; after = after; stood = stood; is = put; cuts = cuts }

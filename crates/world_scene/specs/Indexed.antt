@@ -1,19 +1,11 @@
 -- What is kept of nodes so that they needn't be gone through: where each is by its name, and the wallets' accounts.
 use Rattle.std.specs.Prelude.{◌≡◌, ℕ, Bool, List, map, filter}
-use Rattle.world_rules.specs.World.{Role, Node, is_wallet_role}
-use Rattle.world_nodes.specs.Nodes.{NodeView}
+use Rattle.world_rules.specs.World.{is_wallet_role}
+use Rattle.world_nodes.specs.Nodes.{NodeView, Declared, declared_as}
 use Rattle.world_scene.specs.declared.places.Places.{Places}
 use Rattle.world_scene.specs.Places.{FindsEach}
 
--- what a node was declared as, which no line changes
-pub record Declared : Type 0 where
-  pub name : List ℕ
-  pub account : ℕ
-  pub role : Role
-
-abbrev pub declared_as : Node → Declared
-declared_as node = record { name = node.name; account = node.account; role = node.role }
-
+-- what nodes were declared as
 abbrev pub all_declared : {H : Type 0} → List (NodeView H) → List Declared
 all_declared views = map (λ view. declared_as view.node) views
 

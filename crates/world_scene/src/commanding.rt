@@ -4,42 +4,21 @@ ghost use Rattle.world_trace.specs.declared.event.LineEvent.{LineEvent};
 ghost use Rattle.world_nodes.specs.Nodes.{NodeView, Spells};
 ghost use Rattle.schedule_text.specs.declared.line.Line.{Line};
 ghost use Rattle.world_rules.specs.Declarations.{may_command};
-ghost use Rattle.world_scene.specs.Orders.{NamesOwner, IsChosen};
+ghost use Rattle.world_scene.specs.Orders.{NamesOwner};
 ghost use Rattle.world_scene.specs.Events.{Tells};
 ghost use Rattle.world_scene.specs.Moves.{Commands};
 ghost use Rattle.world_scene.specs.Scenes.{world_of, shows};
-ghost use Rattle.world_scene.specs.Steps.{answered, shown_by, AllHash, AllSpell, RunsAt, FitsAt, with_nodes};
+ghost use Rattle.world_scene.specs.Steps.{answered, AllHash, AllSpell, RunsAt, FitsAt};
 
 use super::answer::LineAnswer;
-use super::node_list::{Nodes, let_go};
-use super::orders::Chosen;
+use super::node_list::Nodes;
 use super::refusal::StepRefusal;
 use super::scene::Scene;
 use node_replies::{Given, NodeOrder};
 use plasma_base::{Hash32, NoMemory};
 use plasma_tx::RootLog;
 use schedule_text::Command;
-use world_nodes::Entry;
 use world_trace::{LineEvent, event_of_given};
-
-// Runs an order of the node with this number.
-fn run_at<H: Hash32 + Copy>(
-    entries: &mut Vec<Entry<H>>,
-    n: usize,
-    log: &RootLog,
-    order: &NodeOrder,
-) -> Result<Given, NoMemory>
-    requires inside { n < length entries.old.items }
-    requires fits { FitsAt entries.old.items n order.now }
-    requires spells { All Spells entries.old.items }
-    ensures runs { IfOk result (λ given.
-        RunsAt H.digest_of log.now.log n order.now entries.old.items given entries.new.items) }
-    ensures spells { OnOk result (All Spells entries.new.items) }
-    ensures hash { (hash : H) → AllHash hash entries.old.items → AllHash hash entries.new.items }
-{
-    let entry = &mut entries[n];
-    entry.run(log, order)
-}
 
 impl<H: Hash32 + Copy> Nodes<H> {
     // Runs an order of the node with this number.
@@ -56,30 +35,8 @@ impl<H: Hash32 + Copy> Nodes<H> {
         ensures spells { OnOk result (All Spells self.new) }
         ensures hash { (hash : H) → AllHash hash self.old → AllHash hash self.new }
     {
-        match run_at(&mut self.entries, n, log, order) {
-            Ok(given) => Ok(given),
-            Err(refusal) => {
-                let_go(&mut self.entries, &mut self.wallet_accounts);
-                Err(refusal)
-            }
-        }
-    }
-}
-
-impl<H: Hash32 + Copy> Scene<H> {
-    // Runs an order of the node with this number.
-    pub(crate) fn run_order(&mut self, n: usize, order: &NodeOrder) -> Result<Given, NoMemory>
-        requires inside { n < length self.old.nodes }
-        requires fits { FitsAt self.old.nodes n order.now }
-        requires spells { AllSpell self.old }
-        ensures runs { IfOk result (λ given.
-            RunsAt H.digest_of self.old.chain.log n order.now self.old.nodes given self.new.nodes) }
-        ensures rest { OnOk result (self.new ≡ with_nodes self.old self.new.nodes) }
-        ensures hashes { AllHash self.old.hash self.old.nodes }
-        ensures spells { OnOk result (AllSpell self.new) }
-    {
-        let log = self.contract.log();
-        self.nodes.run(n, log, order)
+        let entry = &mut self.entries[n];
+        entry.run(log, order)
     }
 }
 
@@ -97,24 +54,6 @@ fn plain(given: Given, event: LineEvent) -> LineAnswer
 }
 
 impl<H: Hash32 + Copy> Scene<H> {
-    // Runs the order that a command stands for.
-    fn run_chosen(&mut self, command: &Command, chosen: &Chosen) -> Result<LineAnswer, NoMemory>
-        requires chosen { IsChosen self.old command.now chosen.now.n chosen.now.order }
-        requires spells { AllSpell self.old }
-        ensures shows { IfOk result (λ answer.
-            shows (H.digest_of self.old.hash) (world_of self.old) (Line.Command command.now)
-            ≡ Some (answered answer (world_of self.new))) }
-        ensures tells { IfOk result (λ answer.
-            Tells (H.digest_of self.old.hash) (world_of self.old) (Line.Command command.now) answer.event) }
-        ensures spells { OnOk result (AllSpell self.new) }
-        ensures moves { OnOk result (Commands H.digest_of self.old command.now self.new) }
-    {
-        let _ = command;
-        let given = self.run_order(chosen.n, &chosen.order)?;
-        let event = event_of_given(self.alloc, chosen.n as u64, &chosen.order, &given)?;
-        Ok(plain(given, event))
-    }
-
     // A command of a node. `BadLine` comes exactly where it breaks a rule, and changes nothing.
     pub(crate) fn command(&mut self, command: &Command) -> Result<LineAnswer, StepRefusal>
         requires names { NamesOwner command.now }
@@ -131,7 +70,9 @@ impl<H: Hash32 + Copy> Scene<H> {
         ensures same { IsErrOf result StepRefusal.BadLine → self.new ≡ self.old }
     {
         let chosen = self.choose(command)?;
-        let answer = self.run_chosen(command, &chosen)?;
-        Ok(answer)
+        let log = self.contract.log();
+        let given = self.nodes.run(chosen.n, log, &chosen.order)?;
+        let event = event_of_given(self.alloc, chosen.n as u64, &chosen.order, &given)?;
+        Ok(plain(given, event))
     }
 }

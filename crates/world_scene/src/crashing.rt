@@ -9,38 +9,20 @@ ghost use Rattle.world_nodes.specs.Nodes.{NodeView, Spells};
 ghost use Rattle.world_scene.specs.Events.{Tells};
 ghost use Rattle.world_scene.specs.Moves.{Crashes};
 ghost use Rattle.world_scene.specs.Scenes.{world_of, shows};
-ghost use Rattle.world_scene.specs.Steps.{answered, AllHash, AllSpell, CrashesAt, with_nodes};
+ghost use Rattle.world_scene.specs.Steps.{answered, AllHash, AllSpell, CrashesAt};
 
 use super::answer::LineAnswer;
 use super::calling::says;
 use super::names::Roles;
-use super::node_list::{Nodes, let_go};
+use super::node_list::Nodes;
 use super::refusal::StepRefusal;
 use super::scene::Scene;
 use crash_disk::Outcome;
 use line_forms::OutcomeToken;
 use node_replies::Reply;
 use plasma_base::{Hash32, NoMemory};
-use world_nodes::Entry;
 use world_tokens::outcome_of;
 use world_trace::LineEvent;
-
-// The node with this number goes down, and its disks crash.
-fn crash_at<H: Hash32 + Copy>(
-    entries: &mut Vec<Entry<H>>,
-    n: usize,
-    outcome: &Outcome,
-) -> Result<(), NoMemory>
-    requires inside { n < length entries.old.items }
-    requires pattern { HasPattern outcome.now }
-    requires spells { All Spells entries.old.items }
-    ensures crashes { OnOk result (CrashesAt n outcome.now entries.old.items entries.new.items) }
-    ensures spells { OnOk result (All Spells entries.new.items) }
-    ensures hash { (hash : H) → AllHash hash entries.old.items → AllHash hash entries.new.items }
-{
-    let entry = &mut entries[n];
-    entry.crash(outcome)
-}
 
 impl<H: Hash32 + Copy> Nodes<H> {
     // The node with this number goes down, and its disks crash.
@@ -52,29 +34,12 @@ impl<H: Hash32 + Copy> Nodes<H> {
         ensures spells { OnOk result (All Spells self.new) }
         ensures hash { (hash : H) → AllHash hash self.old → AllHash hash self.new }
     {
-        match crash_at(&mut self.entries, n, outcome) {
-            Ok(()) => Ok(()),
-            Err(refusal) => {
-                let_go(&mut self.entries, &mut self.wallet_accounts);
-                Err(refusal)
-            }
-        }
+        let entry = &mut self.entries[n];
+        entry.crash(outcome)
     }
 }
 
 impl<H: Hash32 + Copy> Scene<H> {
-    // The node with this number goes down, and its disks crash.
-    fn crash_node(&mut self, n: usize, outcome: &Outcome) -> Result<(), NoMemory>
-        requires inside { n < length self.old.nodes }
-        requires pattern { HasPattern outcome.now }
-        requires spells { AllSpell self.old }
-        ensures crashes { OnOk result (CrashesAt n outcome.now self.old.nodes self.new.nodes) }
-        ensures rest { OnOk result (self.new ≡ with_nodes self.old self.new.nodes) }
-        ensures spells { OnOk result (AllSpell self.new) }
-    {
-        self.nodes.crash(n, outcome)
-    }
-
     // A node goes down, and its disks crash.
     pub(crate) fn crash(
         &mut self,
@@ -98,7 +63,7 @@ impl<H: Hash32 + Copy> Scene<H> {
             return Err(StepRefusal::BadLine);
         };
         let image = outcome_of(self.alloc, outcome)?;
-        self.crash_node(n, &image)?;
+        self.nodes.crash(n, &image)?;
         Ok(says(
             self.alloc,
             Reply::Crashed,

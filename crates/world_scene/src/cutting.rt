@@ -11,13 +11,13 @@ ghost use Rattle.world_nodes.specs.Nodes.{NodeView, Spells};
 ghost use Rattle.world_trace.specs.declared.event.LineEvent.{LineEvent};
 ghost use Rattle.world_scene.specs.Events.{TellsInRuns, EndTells};
 ghost use Rattle.world_scene.specs.Moves.{Cuts};
-ghost use Rattle.world_scene.specs.Orders.{NamesOwner, IsChosen};
+ghost use Rattle.world_scene.specs.Orders.{NamesOwner};
 ghost use Rattle.world_scene.specs.Scenes.{world_of, shows};
-ghost use Rattle.world_scene.specs.Steps.{answered, shown_at_end, AllHash, AllSpell, CutsAt, FitsAt, with_nodes};
+ghost use Rattle.world_scene.specs.Steps.{answered, shown_at_end, AllHash, AllSpell, CutsAt, FitsAt};
 
 use super::answer::LineAnswer;
 use super::calling::{idles, says};
-use super::node_list::{Nodes, let_go};
+use super::node_list::Nodes;
 use super::orders::Chosen;
 use super::refusal::StepRefusal;
 use super::scene::Scene;
@@ -28,31 +28,9 @@ use plasma_base::{Hash32, NoMemory};
 use plasma_tx::RootLog;
 use schedule_text::Command;
 use std::alloc::Global;
-use world_nodes::{CutEnd, Entry};
+use world_nodes::CutEnd;
 use world_tokens::outcome_of;
 use world_trace::{LineEvent, event_of_finished, event_of_stopped};
-
-// Runs an order of the node with this number, of which so many device calls pass, and then its disks crash.
-fn cut_at<H: Hash32 + Copy>(
-    entries: &mut Vec<Entry<H>>,
-    n: usize,
-    log: &RootLog,
-    order: &NodeOrder,
-    calls: u64,
-    outcome: &Outcome,
-) -> Result<CutEnd, NoMemory>
-    requires inside { n < length entries.old.items }
-    requires fits { FitsAt entries.old.items n order.now }
-    requires pattern { HasPattern outcome.now }
-    requires spells { All Spells entries.old.items }
-    ensures cuts { IfOk result (λ end. CutsAt H.digest_of log.now.log n calls outcome.now order.now
-        entries.old.items end entries.new.items) }
-    ensures spells { OnOk result (All Spells entries.new.items) }
-    ensures hash { (hash : H) → AllHash hash entries.old.items → AllHash hash entries.new.items }
-{
-    let entry = &mut entries[n];
-    entry.cut(log, order, calls, outcome)
-}
 
 impl<H: Hash32 + Copy> Nodes<H> {
     // Runs an order of the node with this number, of which so many device calls pass, and then its disks crash.
@@ -73,13 +51,8 @@ impl<H: Hash32 + Copy> Nodes<H> {
         ensures spells { OnOk result (All Spells self.new) }
         ensures hash { (hash : H) → AllHash hash self.old → AllHash hash self.new }
     {
-        match cut_at(&mut self.entries, n, log, order, calls, outcome) {
-            Ok(end) => Ok(end),
-            Err(refusal) => {
-                let_go(&mut self.entries, &mut self.wallet_accounts);
-                Err(refusal)
-            }
-        }
+        let entry = &mut self.entries[n];
+        entry.cut(log, order, calls, outcome)
     }
 }
 
@@ -116,82 +89,6 @@ fn finished(given: Given, event: LineEvent) -> LineAnswer
 }
 
 impl<H: Hash32 + Copy> Scene<H> {
-    // Cuts an order of the node with this number.
-    fn cut_order(
-        &mut self,
-        chosen: &Chosen,
-        calls: u64,
-        outcome: &Outcome,
-    ) -> Result<CutEnd, NoMemory>
-        requires inside { chosen.now.n < length self.old.nodes }
-        requires fits { FitsAt self.old.nodes chosen.now.n chosen.now.order }
-        requires pattern { HasPattern outcome.now }
-        requires spells { AllSpell self.old }
-        ensures cuts { IfOk result (λ end. CutsAt H.digest_of self.old.chain.log chosen.now.n calls outcome.now
-            chosen.now.order self.old.nodes end self.new.nodes) }
-        ensures rest { OnOk result (self.new ≡ with_nodes self.old self.new.nodes) }
-        ensures hashes { AllHash self.old.hash self.old.nodes }
-        ensures spells { OnOk result (AllSpell self.new) }
-    {
-        let log = self.contract.log();
-        self.nodes.cut(chosen.n, log, &chosen.order, calls, outcome)
-    }
-
-    // Cuts the order that a command stands for.
-    fn cut_chosen(
-        &mut self,
-        command: &Command,
-        chosen: &Chosen,
-        calls: u64,
-        outcome: &OutcomeToken,
-    ) -> Result<LineAnswer, NoMemory>
-        requires chosen { IsChosen self.old command.now chosen.now.n chosen.now.order }
-        requires pattern { HasPattern (outcome_of outcome.now) }
-        requires spells { AllSpell self.old }
-        ensures shows { IfOk result (λ answer. shows (H.digest_of self.old.hash) (world_of self.old)
-            (Line.Cut (node_of command.now) calls outcome.now command.now)
-            ≡ Some (answered answer (world_of self.new))) }
-        ensures tells { IfOk result (λ answer.
-            TellsInRuns (H.digest_of self.old.hash) (world_of self.old)
-            (Line.Cut (node_of command.now) calls outcome.now command.now) answer.event) }
-        ensures spells { OnOk result (AllSpell self.new) }
-        ensures moves { OnOk result
-            (Cuts H.digest_of self.old calls outcome.now command.now self.new) }
-    {
-        let _ = command;
-        let outcome = outcome_of(self.alloc, outcome)?;
-        let end = self.cut_order(chosen, calls, &outcome)?;
-        at_end(self.alloc, chosen, end)
-    }
-
-    // The same of the node whose command it is.
-    fn cut_own(
-        &mut self,
-        calls: u64,
-        outcome: &OutcomeToken,
-        command: &Command,
-    ) -> Result<LineAnswer, StepRefusal>
-        requires names { NamesOwner command.now }
-        requires pattern { HasPattern (outcome_of outcome.now) }
-        requires spells { AllSpell self.old }
-        ensures keeps { OnOk result (may_command (world_of self.old) command.now ≡ true) }
-        ensures shows { IfOk result (λ answer. shows (H.digest_of self.old.hash) (world_of self.old)
-            (Line.Cut (node_of command.now) calls outcome.now command.now)
-            ≡ Some (answered answer (world_of self.new))) }
-        ensures tells { IfOk result (λ answer.
-            TellsInRuns (H.digest_of self.old.hash) (world_of self.old)
-            (Line.Cut (node_of command.now) calls outcome.now command.now) answer.event) }
-        ensures spells { OnOk result (AllSpell self.new) }
-        ensures moves { OnOk result
-            (Cuts H.digest_of self.old calls outcome.now command.now self.new) }
-        ensures bad { IsErrOf result StepRefusal.BadLine → may_command (world_of self.old) command.now ≡ false }
-        ensures same { IsErrOf result StepRefusal.BadLine → self.new ≡ self.old }
-    {
-        let chosen = self.choose(command)?;
-        let answer = self.cut_chosen(command, &chosen, calls, outcome)?;
-        Ok(answer)
-    }
-
     // A command of a node, of which so many device calls pass, and then its disks crash.
     #[tactic(auto, using(crate::proofs::Cuts::cut_of_its_node, crate::proofs::Cuts::cut_tells_of_its_node))]
     pub(crate) fn cut(
@@ -221,7 +118,13 @@ impl<H: Hash32 + Copy> Scene<H> {
         if command.node() != node {
             return Err(StepRefusal::BadLine);
         }
-        let answer = self.cut_own(calls, outcome, command)?;
+        let chosen = self.choose(command)?;
+        let outcome = outcome_of(self.alloc, outcome)?;
+        let log = self.contract.log();
+        let end = self
+            .nodes
+            .cut(chosen.n, log, &chosen.order, calls, &outcome)?;
+        let answer = at_end(self.alloc, &chosen, end)?;
         Ok(answer)
     }
 }

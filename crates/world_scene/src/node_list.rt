@@ -1,7 +1,8 @@
 ghost use Rattle.std.specs.Prelude.{◌≡◌, ◌<◌, ◌++◌, ◌∷◌, [], None, Some, length, slice_get, vec_len, vec_capacity, IfSome, OnOk, OnErr};
 ghost use Rattle.std.specs.List.{list_any, position};
 ghost use Rattle.world_scene.specs.Names.{is_named_view, is_same_account};
-ghost use Rattle.world_scene.specs.Indexed.{declared_as, all_declared, wallet_accounts};
+ghost use Rattle.world_scene.specs.Indexed.{all_declared, wallet_accounts};
+ghost use Rattle.world_nodes.specs.Nodes.{declared_as};
 ghost use Rattle.world_scene.specs.declared.names.Roles.{Roles};
 
 use super::names::{Roles, is_named};
@@ -127,13 +128,4 @@ fn push_account<H: Hash32 + Copy>(accounts: &mut Vec<u64>, entry: &Entry<H>)
     if is_wallet(entry) {
         accounts.push(entry.account()).unwrap();
     }
-}
-
-// Lets all nodes go, where memory ran out in one of them, of which nothing is said any more.
-pub(crate) fn let_go<H: Hash32 + Copy>(entries: &mut Vec<Entry<H>>, wallet_accounts: &mut Vec<u64>)
-    ensures entries { entries.new.items ≡ [] }
-    ensures accounts { wallet_accounts.new.items ≡ [] }
-{
-    entries.clear();
-    wallet_accounts.clear();
 }

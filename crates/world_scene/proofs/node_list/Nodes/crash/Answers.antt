@@ -1,35 +1,37 @@
-use Rattle.std.proofs.Common.{◌<◌, sym, subst, length, arith}
-use Rattle.std.specs.List.{All}
-use Rattle.world_nodes.specs.Nodes.{Spells}
-use Rattle.world_scene.specs.Steps.{AllHash, CrashesAt}
-use Rattle.world_scene.proofs.Index.{crashed_index, no_nodes}
+use Rattle.std.proofs.Common.{rules}
+use Rattle.std.proofs.lemmas.Result.{on_ok_weaker}
+use Rattle.world_scene.proofs.Index.{put_index}
+use Rattle.world_scene.proofs.Nodes.{spells_at, spells_set, hash_set, crashes_at}
 use Rattle.world_scene.proofs.node_list.Nodes.crash.Goals as goal
 
-pub crash_at-requires-clause-inside : goal.crash_at-requires-clause-inside
-crash_at-requires-clause-inside g c = subst (λ nodes. c.args.n < length nodes) (sym c.self.view_is) c.requires.inside
-
-pub crash_at-requires-clause-spells : goal.crash_at-requires-clause-spells
-crash_at-requires-clause-spells g c = subst (All Spells) (sym c.self.view_is) c.requires.spells
+pub crash-requires-clause-spells : goal.crash-requires-clause-spells
+crash-requires-clause-spells g c =
+    spells_at c.self.inside.entries.items c.args.self.now c.self.view_is c.args.n
+    c.index_mut-entry.result.now (search rules) c.requires.inside c.requires.spells
 
 pub invariant_of-self : goal.invariant_of-self
 invariant_of-self g c =
-    crashed_index c.self.inside.places c.self.inside.wallet_accounts.items c.self.inside.entries.items
-    c.crash_at.new.entries.items c.self.invariant c.args.n c.args.outcome.now c.in-Ok.ensures.crashes
+    put_index c.self.inside.places c.self.inside.wallet_accounts.items c.self.inside.entries.items c.args.n
+    c.index_mut-entry.result.now c.crash.new.self (search rules) c.crash.ensures.declared c.self.invariant
 
-pub invariant_of-self-in-Err : goal.invariant_of-self-in-Err
-invariant_of-self-in-Err g c =
-    no_nodes c.self.inside.places c.let_go.new.wallet_accounts.items c.let_go.new.entries.items
-    c.let_go.ensures.accounts c.let_go.ensures.entries
+pub returns-clause-crashes : goal.returns-clause-crashes
+returns-clause-crashes g c =
+    on_ok_weaker c.crash.result
+    (crashes_at c.self.inside.entries.items c.args.self.now c.self.view_is c.args.n
+    c.index_mut-entry.result.now (search rules) c.requires.inside c.crash.new.self
+    c.args.outcome.now)
+    c.crash.ensures.crashes
 
-pub returns-in-Ok-clause-crashes : goal.returns-in-Ok-clause-crashes
-returns-in-Ok-clause-crashes g c =
-    subst (λ nodes. CrashesAt c.args.n c.args.outcome.now nodes c.crash_at.new.entries.items) c.self.view_is
-    c.in-Ok.ensures.crashes
+pub returns-clause-spells : goal.returns-clause-spells
+returns-clause-spells g c =
+    on_ok_weaker c.crash.result
+    (spells_set c.self.inside.entries.items c.args.self.now c.self.view_is c.args.n
+    c.index_mut-entry.result.now (search rules) c.requires.inside c.crash.new.self
+    c.requires.spells)
+    c.crash.ensures.spells
 
-pub returns-in-Ok-clause-hash : goal.returns-in-Ok-clause-hash
-returns-in-Ok-clause-hash g c hash all =
-    c.crash_at.ensures.hash hash (subst (AllHash hash) (sym c.self.view_is) all)
-
-pub returns-in-Err-clause-hash : goal.returns-in-Err-clause-hash
-returns-in-Err-clause-hash g c hash all =
-    subst (AllHash hash) (sym c.let_go.ensures.entries) (λ n d inside. absurd (omega arith))
+pub returns-clause-hash : goal.returns-clause-hash
+returns-clause-hash g c =
+    hash_set c.self.inside.entries.items c.args.self.now c.self.view_is c.args.n
+    c.index_mut-entry.result.now (search rules) c.requires.inside c.crash.new.self
+    c.crash.ensures.hash

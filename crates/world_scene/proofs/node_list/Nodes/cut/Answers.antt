@@ -1,40 +1,42 @@
-use Rattle.std.proofs.Common.{◌<◌, sym, subst, length, arith}
-use Rattle.std.specs.List.{All}
-use Rattle.world_nodes.specs.Nodes.{Spells}
-use Rattle.world_scene.specs.Steps.{AllHash, FitsAt, CutsAt}
-use Rattle.world_scene.proofs.Index.{cut_index, no_nodes}
+use Rattle.std.proofs.Common.{rules}
+use Rattle.std.proofs.lemmas.Result.{IfOk-weaker}
+use Rattle.world_scene.proofs.Index.{put_index}
+use Rattle.world_scene.proofs.Nodes.{spells_at, fits_at, spells_set, hash_set, cuts_at}
 use Rattle.world_scene.proofs.node_list.Nodes.cut.Goals as goal
 
-pub cut_at-requires-clause-inside : goal.cut_at-requires-clause-inside
-cut_at-requires-clause-inside g c = subst (λ nodes. c.args.n < length nodes) (sym c.self.view_is) c.requires.inside
+pub cut-requires-clause-spells : goal.cut-requires-clause-spells
+cut-requires-clause-spells g c =
+    spells_at c.self.inside.entries.items c.args.self.now c.self.view_is c.args.n
+    c.index_mut-entry.result.now (search rules) c.requires.inside c.requires.spells
 
-pub cut_at-requires-clause-fits : goal.cut_at-requires-clause-fits
-cut_at-requires-clause-fits g c =
-    subst (λ nodes. FitsAt nodes c.args.n c.args.order.now) (sym c.self.view_is) c.requires.fits
-
-pub cut_at-requires-clause-spells : goal.cut_at-requires-clause-spells
-cut_at-requires-clause-spells g c = subst (All Spells) (sym c.self.view_is) c.requires.spells
+pub cut-requires-clause-fits : goal.cut-requires-clause-fits
+cut-requires-clause-fits g c =
+    fits_at c.self.inside.entries.items c.args.self.now c.self.view_is c.args.n
+    c.index_mut-entry.result.now (search rules) c.requires.inside c.args.order.now c.requires.fits
 
 pub invariant_of-self : goal.invariant_of-self
 invariant_of-self g c =
-    cut_index c.self.inside.places c.self.inside.wallet_accounts.items c.self.inside.entries.items
-    c.cut_at.new.entries.items c.self.invariant g.H.Hash32.digest_of c.args.log.now.log c.args.n c.args.calls
-    c.args.outcome.now c.args.order.now c.in-Ok.end c.in-Ok.ensures.cuts
+    put_index c.self.inside.places c.self.inside.wallet_accounts.items c.self.inside.entries.items c.args.n
+    c.index_mut-entry.result.now c.cut.new.self (search rules) c.cut.ensures.declared c.self.invariant
 
-pub invariant_of-self-in-Err : goal.invariant_of-self-in-Err
-invariant_of-self-in-Err g c =
-    no_nodes c.self.inside.places c.let_go.new.wallet_accounts.items c.let_go.new.entries.items
-    c.let_go.ensures.accounts c.let_go.ensures.entries
+pub returns-clause-cuts : goal.returns-clause-cuts
+returns-clause-cuts g c =
+    IfOk-weaker c.cut.result _ _
+    (λ end. cuts_at c.self.inside.entries.items c.args.self.now c.self.view_is c.args.n
+    c.index_mut-entry.result.now (search rules) c.requires.inside c.cut.new.self
+    g.H.Hash32.digest_of c.args.log.now.log c.args.calls c.args.outcome.now c.args.order.now end)
+    c.cut.ensures.cuts
 
-pub returns-in-Ok-clause-cuts : goal.returns-in-Ok-clause-cuts
-returns-in-Ok-clause-cuts g c =
-    subst (λ nodes. CutsAt g.H.Hash32.digest_of c.args.log.now.log c.args.n c.args.calls c.args.outcome.now
-    c.args.order.now nodes c.in-Ok.end c.cut_at.new.entries.items) c.self.view_is c.in-Ok.ensures.cuts
+pub returns-clause-spells : goal.returns-clause-spells
+returns-clause-spells g c =
+    IfOk-weaker c.cut.result _ _
+    (λ end. spells_set c.self.inside.entries.items c.args.self.now c.self.view_is c.args.n
+    c.index_mut-entry.result.now (search rules) c.requires.inside c.cut.new.self
+    c.requires.spells)
+    c.cut.ensures.spells
 
-pub returns-in-Ok-clause-hash : goal.returns-in-Ok-clause-hash
-returns-in-Ok-clause-hash g c hash all =
-    c.cut_at.ensures.hash hash (subst (AllHash hash) (sym c.self.view_is) all)
-
-pub returns-in-Err-clause-hash : goal.returns-in-Err-clause-hash
-returns-in-Err-clause-hash g c hash all =
-    subst (AllHash hash) (sym c.let_go.ensures.entries) (λ n d inside. absurd (omega arith))
+pub returns-clause-hash : goal.returns-clause-hash
+returns-clause-hash g c =
+    hash_set c.self.inside.entries.items c.args.self.now c.self.view_is c.args.n
+    c.index_mut-entry.result.now (search rules) c.requires.inside c.cut.new.self
+    c.cut.ensures.hash

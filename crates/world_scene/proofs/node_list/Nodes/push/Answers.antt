@@ -3,7 +3,8 @@ use Rattle.std.specs.List.{position}
 use Rattle.world_scene.specs.declared.names.Roles.{Roles}
 use Rattle.world_scene.specs.Names.{is_named_view}
 use Rattle.world_scene.specs.Places.{PutsPlace}
-use Rattle.world_scene.specs.Indexed.{declared_as, all_declared, wallet_accounts, IsIndexed}
+use Rattle.world_nodes.specs.Nodes.{declared_as}
+use Rattle.world_scene.specs.Indexed.{all_declared, wallet_accounts, IsIndexed}
 use Rattle.world_scene.proofs.Index.{places_same, one_more}
 use Rattle.world_scene.proofs.node_list.Nodes.push.Goals as goal
 

@@ -1,40 +1,42 @@
-use Rattle.std.proofs.Common.{◌<◌, sym, subst, length, arith}
-use Rattle.std.specs.List.{All}
-use Rattle.world_nodes.specs.Nodes.{Spells}
-use Rattle.world_scene.specs.Steps.{AllHash, FitsAt, RunsAt}
-use Rattle.world_scene.proofs.Index.{ran_index, no_nodes}
+use Rattle.std.proofs.Common.{rules}
+use Rattle.std.proofs.lemmas.Result.{IfOk-weaker}
+use Rattle.world_scene.proofs.Index.{put_index}
+use Rattle.world_scene.proofs.Nodes.{spells_at, fits_at, spells_set, hash_set, runs_at}
 use Rattle.world_scene.proofs.node_list.Nodes.run.Goals as goal
 
-pub run_at-requires-clause-inside : goal.run_at-requires-clause-inside
-run_at-requires-clause-inside g c = subst (λ nodes. c.args.n < length nodes) (sym c.self.view_is) c.requires.inside
+pub run-requires-clause-spells : goal.run-requires-clause-spells
+run-requires-clause-spells g c =
+    spells_at c.self.inside.entries.items c.args.self.now c.self.view_is c.args.n
+    c.index_mut-entry.result.now (search rules) c.requires.inside c.requires.spells
 
-pub run_at-requires-clause-fits : goal.run_at-requires-clause-fits
-run_at-requires-clause-fits g c =
-    subst (λ nodes. FitsAt nodes c.args.n c.args.order.now) (sym c.self.view_is) c.requires.fits
-
-pub run_at-requires-clause-spells : goal.run_at-requires-clause-spells
-run_at-requires-clause-spells g c = subst (All Spells) (sym c.self.view_is) c.requires.spells
+pub run-requires-clause-fits : goal.run-requires-clause-fits
+run-requires-clause-fits g c =
+    fits_at c.self.inside.entries.items c.args.self.now c.self.view_is c.args.n
+    c.index_mut-entry.result.now (search rules) c.requires.inside c.args.order.now c.requires.fits
 
 pub invariant_of-self : goal.invariant_of-self
 invariant_of-self g c =
-    ran_index c.self.inside.places c.self.inside.wallet_accounts.items c.self.inside.entries.items
-    c.run_at.new.entries.items c.self.invariant g.H.Hash32.digest_of c.args.log.now.log c.args.n c.args.order.now
-    c.in-Ok.given c.in-Ok.ensures.runs
+    put_index c.self.inside.places c.self.inside.wallet_accounts.items c.self.inside.entries.items c.args.n
+    c.index_mut-entry.result.now c.run.new.self (search rules) c.run.ensures.declared c.self.invariant
 
-pub invariant_of-self-in-Err : goal.invariant_of-self-in-Err
-invariant_of-self-in-Err g c =
-    no_nodes c.self.inside.places c.let_go.new.wallet_accounts.items c.let_go.new.entries.items
-    c.let_go.ensures.accounts c.let_go.ensures.entries
+pub returns-clause-runs : goal.returns-clause-runs
+returns-clause-runs g c =
+    IfOk-weaker c.run.result _ _
+    (λ given. runs_at c.self.inside.entries.items c.args.self.now c.self.view_is c.args.n
+    c.index_mut-entry.result.now (search rules) c.requires.inside c.run.new.self
+    g.H.Hash32.digest_of c.args.log.now.log c.args.order.now given)
+    c.run.ensures.runs
 
-pub returns-in-Ok-clause-runs : goal.returns-in-Ok-clause-runs
-returns-in-Ok-clause-runs g c =
-    subst (λ nodes. RunsAt g.H.Hash32.digest_of c.args.log.now.log c.args.n c.args.order.now nodes c.in-Ok.given
-    c.run_at.new.entries.items) c.self.view_is c.in-Ok.ensures.runs
+pub returns-clause-spells : goal.returns-clause-spells
+returns-clause-spells g c =
+    IfOk-weaker c.run.result _ _
+    (λ given. spells_set c.self.inside.entries.items c.args.self.now c.self.view_is c.args.n
+    c.index_mut-entry.result.now (search rules) c.requires.inside c.run.new.self
+    c.requires.spells)
+    c.run.ensures.spells
 
-pub returns-in-Ok-clause-hash : goal.returns-in-Ok-clause-hash
-returns-in-Ok-clause-hash g c hash all =
-    c.run_at.ensures.hash hash (subst (AllHash hash) (sym c.self.view_is) all)
-
-pub returns-in-Err-clause-hash : goal.returns-in-Err-clause-hash
-returns-in-Err-clause-hash g c hash all =
-    subst (AllHash hash) (sym c.let_go.ensures.entries) (λ n d inside. absurd (omega arith))
+pub returns-clause-hash : goal.returns-clause-hash
+returns-clause-hash g c =
+    hash_set c.self.inside.entries.items c.args.self.now c.self.view_is c.args.n
+    c.index_mut-entry.result.now (search rules) c.requires.inside c.run.new.self
+    c.run.ensures.hash
