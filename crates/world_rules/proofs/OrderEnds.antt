@@ -29,24 +29,8 @@ use Rattle.world_rules.specs.World.{Role, Wallet, Watcher, Operator, Node, World
 use Rattle.world_rules.specs.Declarations.{plays}
 use Rattle.world_rules.specs.Orders.{wallet_order, watch_order, order_of, on_open, node_does}
 use Rattle.world_rules.specs.OrderEvents.{bundle_read, event_of}
-use Rattle.world_rules.specs.Deeds.{Deed, as_deed, deed_of}
 
 -- ---- the order of a command
-
--- the deed of a command is that of its order
-pub record IsOrdered (dig : List ℕ → List ℕ) (world : World) (n : ℕ) (node : Node) (command : Command) (deed : Deed)
-    : Type 0 where
-  pub order : NodeOrder
-  pub order_is : order_of world node.role command ≡ Some order
-  pub deed_is : as_deed n order (node_does dig world.chain.log node order) ≡ deed
-
-pub ordered : (dig : List ℕ → List ℕ) (world : World) (n : ℕ) (node : Node) (command : Command) (deed : Deed)
-    → deed_of dig world n node command ≡ Some deed → IsOrdered dig world n node command deed
-unfolding deed_of
-ordered dig world n node command deed is =
-    let found = option_map_some (λ order. as_deed n order (node_does dig world.chain.log node order))
-    (order_of world node.role command) deed is in
-    record { order = found.0; order_is = found.1; deed_is = found.2 }
 
 -- the node has a role for the order
 abbrev pub IsOrderAt : Role → NodeOrder → Type 0
@@ -188,11 +172,3 @@ module _ (dig : List ℕ → List ℕ) (log : List RootCall) (n : ℕ) (node : N
   order-ends (NodeOrder.Watcher order) = watcher-ends order
   order-ends (NodeOrder.Operator order) = operator-ends order
   order-ends NodeOrder.Open = opening-ends node.is_up
-
--- so a deed ends as its order does
-pub deed-ends : (dig : List ℕ → List ℕ) (world : World) (n : ℕ) (node : Node) (command : Command) (deed : Deed)
-    (by : IsOrdered dig world n node command deed)
-    → OrderEnds dig world.chain.log n node by.order deed.gives.event deed.gives.offers
-deed-ends dig world n node command deed by =
-    subst (λ (d : Deed). OrderEnds dig world.chain.log n node by.order d.gives.event d.gives.offers) by.deed_is
-    (order-ends dig world.chain.log n node by.order)

@@ -73,4 +73,5 @@ module _ (dig : List ℕ → List ℕ) (world : World) where
 
 pub steps_keep_the_log : StepsKeepTheLog
 steps_keep_the_log dig world line effect is =
-    let made = stepped dig world line effect is in subst (KeepsLog dig world) made.effect_is (act-log dig world made.act)
+    let made = stepped dig world line effect is in
+    subst (KeepsLog dig world) made.effect_is (act-log dig world made.act)
