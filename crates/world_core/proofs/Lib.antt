@@ -7,4 +7,3 @@ pub mod Takings
 pub mod Readings
 pub mod Countings
 pub mod NameLines
-pub mod GoingOn

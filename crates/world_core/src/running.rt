@@ -1,14 +1,14 @@
-ghost use Rattle.std.specs.Prelude.{◌≡◌, [], List, Some, IfOk};
+ghost use Rattle.std.specs.Prelude.{◌≡◌, [], List, Some};
 ghost use Rattle.schedule_text.specs.declared.line.Line.{Line};
 ghost use Rattle.world_rules.specs.Steps.{Run, run_of};
-ghost use Rattle.world_rules.specs.Verdicts.{verdicts_of, exhibit_of_run, counts_of};
+ghost use Rattle.world_rules.specs.Verdicts.{verdicts_of, counts_of};
 ghost use Rattle.world_core.specs.Worlds.{before_all, NodesSpell, IsAfter};
 
 use super::counting::{verdict_counts, with_log};
-use plasma_base::{Hash32, NoMemory};
+use plasma_base::Hash32;
 use std::alloc::Global;
 use std::marker::Model;
-use world_rules::{Counts, Exhibit, Verdict};
+use world_rules::{Counts, Verdict};
 use world_scene::Scene;
 use world_trace::Trace;
 
@@ -67,37 +67,17 @@ impl<H: Hash32 + Copy> RunningWorld<H> {
         }
     }
 
-    /// The verdicts on all wallets' coins, in the order of their declarations and by rising coin; none before the
-    /// first line. `NoMemory` is its one refusal.
-    pub(crate) fn verdicts(&self) -> Result<Vec<Verdict>, NoMemory>
+    /// How much there is of the lines, by their verdicts.
+    pub(crate) fn counts(&self, verdicts: &[Verdict]) -> Counts
         ensures { (lines : List Line) (run : Run) → IsAfter (H.digest_of self.now.hash) lines self.now
             → run_of (H.digest_of self.now.hash) lines ≡ Some run
-            → IfOk result (λ verdicts. verdicts.items ≡ verdicts_of (H.digest_of self.now.hash) run) }
+            → verdicts.now ≡ verdicts_of (H.digest_of self.now.hash) run
+            → result ≡ counts_of (H.digest_of self.now.hash) run }
     {
-        self.trace.verdicts()
-    }
-
-    /// What the lines show that excuses a loss: nothing before the first line. `NoMemory` is its one refusal.
-    pub(crate) fn exhibit(&self) -> Result<Exhibit, NoMemory>
-        ensures { (lines : List Line) (run : Run) → IsAfter (H.digest_of self.now.hash) lines self.now
-            → run_of (H.digest_of self.now.hash) lines ≡ Some run
-            → IfOk result (λ exhibit. exhibit ≡ exhibit_of_run (H.digest_of self.now.hash) run) }
-    {
-        self.trace.exhibit()
-    }
-
-    /// How much there is of the lines: how many they are, were accepted by the contract or answered with a refusal, the
-    /// blocks and coins of the chain, and the verdicts of each kind. `NoMemory` is its one refusal.
-    pub(crate) fn counts(&self) -> Result<Counts, NoMemory>
-        ensures { (lines : List Line) (run : Run) → IsAfter (H.digest_of self.now.hash) lines self.now
-            → run_of (H.digest_of self.now.hash) lines ≡ Some run
-            → IfOk result (λ counts. counts ≡ counts_of (H.digest_of self.now.hash) run) }
-    {
-        let verdicts = self.verdicts()?;
-        let counts = verdict_counts(self.trace.len() as u64, self.refused, &verdicts);
+        let counts = verdict_counts(self.trace.len() as u64, self.refused, verdicts);
         match &self.scene {
-            None => Ok(counts),
-            Some(scene) => Ok(with_log(counts, scene.log())),
+            None => counts,
+            Some(scene) => with_log(counts, scene.log()),
         }
     }
 }

@@ -1,5 +1,6 @@
 ghost use Rattle.std.specs.Prelude.{◌≡◌, ◌∷◌, [], true, false, List, None, Some, IfOk, OnOk, IsErrOf};
 ghost use Rattle.sha2.specs.Sha256.{sha256};
+ghost use Rattle.plasma_tx.specs.Spelling.{AreBytes};
 ghost use Rattle.schedule_text.specs.declared.line.Line.{Line};
 ghost use Rattle.schedule_text.specs.Grammar.{IsLine};
 ghost use Rattle.world_rules.specs.Steps.{Run, run_of};
@@ -13,7 +14,7 @@ use schedule_text::Line;
 use std::alloc::Global;
 use std::marker::Model;
 use world_rules::{Counts, Exhibit, TraceLine, Verdict};
-use world_scene::StepRefusal;
+use world_scene::{LineAnswer, StepRefusal};
 use world_trace::Trace;
 
 /// The world that a schedule's lines step through, with what it keeps of them.
@@ -51,15 +52,11 @@ impl World<Sha> {
     }
 }
 
-// Whether no line is stepped after a step that gave this.
-fn ends(stepped: &Result<TraceLine, StepRefusal>) -> bool
-    ensures { result ≡ is_ending stepped.now }
+// What the type of bytes says of them. It does nothing.
+fn are_bytes(bytes: &[u8])
+    ensures { AreBytes bytes.now }
 {
-    match stepped {
-        Ok(_) => false,
-        Err(StepRefusal::BadLine) => false,
-        Err(_) => true,
-    }
+    let _ = bytes;
 }
 
 impl<H: Hash32 + Copy> World<H> {
@@ -104,9 +101,35 @@ impl<H: Hash32 + Copy> World<H> {
         if self.has_ended {
             return Err(StepRefusal::NoMemory);
         }
-        let stepped = self.running.step(line);
-        self.has_ended = ends(&stepped);
-        stepped
+        let answer = match self.running.take_line(line) {
+            Ok(answer) => answer,
+            Err(StepRefusal::BadLine) => return Err(StepRefusal::BadLine),
+            // A scene has no limit of mail: whatever else it refuses it refuses for want of memory.
+            Err(_) => {
+                self.has_ended = true;
+                return Err(StepRefusal::NoMemory);
+            }
+        };
+        // What stops the step from here on ends the world.
+        self.has_ended = true;
+        let LineAnswer {
+            done,
+            reply,
+            made,
+            event,
+        } = answer;
+        are_bytes(made.as_slice());
+        let item = made.copy()?;
+        self.running.put_mail(item)?;
+        self.running.keep(line, event, done, &reply)?;
+        let number = self.trace().len() as u64;
+        self.has_ended = false;
+        Ok(TraceLine {
+            line: number,
+            done,
+            answer: reply,
+            made,
+        })
     }
 
     /// What is kept of the lines so far.
@@ -123,7 +146,7 @@ impl<H: Hash32 + Copy> World<H> {
             → run_of (H.digest_of self.now.running.hash) lines ≡ Some run
             → IfOk result (λ verdicts. verdicts.items ≡ verdicts_of (H.digest_of self.now.running.hash) run) }
     {
-        self.running.verdicts()
+        self.trace().verdicts()
     }
 
     /// What the lines show that excuses a loss: nothing before the first line. `NoMemory` is its one refusal.
@@ -132,7 +155,7 @@ impl<H: Hash32 + Copy> World<H> {
             → run_of (H.digest_of self.now.running.hash) lines ≡ Some run
             → IfOk result (λ exhibit. exhibit ≡ exhibit_of_run (H.digest_of self.now.running.hash) run) }
     {
-        self.running.exhibit()
+        self.trace().exhibit()
     }
 
     /// How much there is of the lines: how many they are, were accepted by the contract or answered with a refusal, the
@@ -142,6 +165,7 @@ impl<H: Hash32 + Copy> World<H> {
             → run_of (H.digest_of self.now.running.hash) lines ≡ Some run
             → IfOk result (λ counts. counts ≡ counts_of (H.digest_of self.now.running.hash) run) }
     {
-        self.running.counts()
+        let verdicts = self.verdicts()?;
+        Ok(self.running.counts(&verdicts))
     }
 }
