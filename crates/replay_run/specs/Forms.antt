@@ -27,6 +27,12 @@ reads_input (Some (HssVerify key message signature)) = false
 reads_input (Some (Audit key receipt)) = true
 reads_input (Some Archive) = true
 
+-- whether what it reads is a schedule
+abbrev pub reads_schedule : Option Form → Bool
+reads_schedule (Some Replay) = true
+reads_schedule (Some Brief) = true
+reads_schedule form = false
+
 -- whether it uses the disk of the notes
 abbrev pub uses_notes : Option Form → Bool
 uses_notes None = false

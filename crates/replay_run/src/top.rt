@@ -6,7 +6,7 @@ ghost use Rattle.run_words.specs.Forms.{form_of, IsSound};
 ghost use Rattle.run_endings.specs.Statuses.{is_write_fault, ReadsBy, FaultsBy};
 ghost use Rattle.run_endings.specs.Outputs.{EndsAs};
 ghost use Rattle.run_endings.specs.Faults.{CountsEither};
-ghost use Rattle.replay_run.specs.Forms.{is_verified, reads_input, uses_notes, uses_leaves};
+ghost use Rattle.replay_run.specs.Forms.{is_verified, reads_input, reads_schedule, uses_notes, uses_leaves};
 ghost use Rattle.replay_run.specs.Output.{make_output, verify_output};
 ghost use Rattle.replay_run.specs.Headline.{KeepsByForm};
 ghost use Rattle.replay_run.specs.Does.{Does, DoesForm};
@@ -152,6 +152,14 @@ pub fn run<S: Source, K: Sink, D: Disk>(
     // A fault of a node's disk is answered, unless the text isn't written to the end, and comes for no other cause.
     ensures disk_faults { FaultsBy result.status (CountsEither D.faults notes leaves result.notes result.leaves) }
 
+    // Over a sink that takes no memory, want of memory hides no fault of a disk, and, where no schedule is read, none
+    // of the source.
+    ensures memory { K.takes_memory ≡ false → result.status ≡ Status.NoMemory
+        → CountsEither D.faults notes leaves result.notes result.leaves false }
+    ensures source_memory { reads_schedule (form_of (map string_bytes words.now)) ≡ false → K.takes_memory ≡ false
+        → result.status ≡ Status.NoMemory
+        → ReadsToFault (S.faults source.old) (S.faults source.new) (S.failed_last source.new) false }
+
     // A fault of the sink is answered, and no other answer comes where it had one.
     ensures sink_faults { K.faults sink.new ≡ faults_after (K.faults sink.old) (is_write_fault result.status) }
 {
@@ -203,6 +211,11 @@ pub fn run_with<H: Hash32, S: Source, K: Sink, D: Disk>(
     ensures source_faults { ReadsBy result.status
         (ReadsToFault (S.faults source.old) (S.faults source.new) (S.failed_last source.new)) }
     ensures disk_faults { FaultsBy result.status (CountsEither D.faults notes leaves result.notes result.leaves) }
+    ensures memory { K.takes_memory ≡ false → result.status ≡ Status.NoMemory
+        → CountsEither D.faults notes leaves result.notes result.leaves false }
+    ensures source_memory { reads_schedule (form_of (map string_bytes words.now)) ≡ false → K.takes_memory ≡ false
+        → result.status ≡ Status.NoMemory
+        → ReadsToFault (S.faults source.old) (S.faults source.new) (S.failed_last source.new) false }
     ensures sink_faults { K.faults sink.new ≡ faults_after (K.faults sink.old) (is_write_fault result.status) }
 {
     match form_of(alloc, words) {
@@ -247,6 +260,10 @@ fn run_form<H: Hash32, S: Source, K: Sink, D: Disk>(
     ensures leaves_stay { uses_leaves form ≡ false → result.leaves ≡ leaves }
     ensures source_faults { ReadsBy result.status
         (ReadsToFault (S.faults source.old) (S.faults source.new) (S.failed_last source.new)) }
+    ensures memory { K.takes_memory ≡ false → result.status ≡ Status.NoMemory
+        → CountsEither D.faults notes leaves result.notes result.leaves false }
+    ensures source_memory { reads_schedule form ≡ false → K.takes_memory ≡ false → result.status ≡ Status.NoMemory
+        → ReadsToFault (S.faults source.old) (S.faults source.new) (S.failed_last source.new) false }
     ensures sink_faults { K.faults sink.new ≡ faults_after (K.faults sink.old) (is_write_fault result.status) }
 {
     match form {
